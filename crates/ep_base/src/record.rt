@@ -1,0 +1,16 @@
+//! Records of the history.
+
+use crate::answer::Answer;
+use crate::call::Event;
+use crate::ids::CallerId;
+use crate::lists::Picked;
+
+/// One step of the kernel: who asked, what was asked, and what was answered.
+#[derive(Debug, Drop)]
+pub struct Record {
+    pub caller: CallerId,
+    pub event: Event,
+    pub answer: Answer,
+    /// The registrations that the answer reports, in its order; else empty.
+    pub picked: Picked,
+}

@@ -1,0 +1,97 @@
+-- The six kinds of object. What an instance shows is judged in Readiness.
+use Rattle.std.specs.Prelude.{Bool, List, [], false, length, true, ℕ, ◌∷◌}
+use Rattle.ep_base.specs.declared.answer.Answer.TheVariants.{Bytes, Done, Num}
+use Rattle.ep_base.specs.declared.call.Call.{Call}
+use Rattle.ep_base.specs.declared.call.Call.TheVariants.{Read, Write}
+use Rattle.ep_base.specs.declared.errno.Errno.{Errno}
+use Rattle.ep_base.specs.declared.errno.Errno.TheVariants.{Einval}
+use Rattle.ep_base.specs.declared.object.End.{End}
+use Rattle.ep_base.specs.declared.object.Raised.{Raised}
+use Rattle.ep_machine.specs.Bits.{nothing}
+use Rattle.ep_machine.specs.Counters.{Counter, counter_present, counter_read, counter_read_refusals, counter_write, counter_write_refusals}
+use Rattle.ep_machine.specs.Effect.{Effect}
+use Rattle.ep_machine.specs.Pipe.{Pipe, pipe_close, pipe_present, pipe_read, pipe_read_refusals, pipe_write, pipe_write_refusals}
+use Rattle.ep_machine.specs.Sockets.{SocketPair, pair_close, pair_present, pair_read, pair_read_refusals, pair_write, pair_write_refusals}
+use Rattle.ep_machine.specs.Timer.{Timer, timer_advance, timer_present, timer_read, timer_read_refusals}
+
+pub data Object : Type 0 where
+  plain : Object
+  pipe : Pipe → Object
+  pair : SocketPair → Object
+  counter : Counter → Object
+  timer : Timer → Object
+  instance : Object
+
+abbrev pub is_plain : Object → Bool
+is_plain plain = true
+is_plain x = false
+
+abbrev pub is_instance : Object → Bool
+is_instance instance = true
+is_instance x = false
+
+-- the bits that hold now at an end
+abbrev pub object_present : Object → End → ℕ → ℕ
+object_present plain e now = 0
+object_present (pipe p) e now = pipe_present p e
+object_present (pair p) e now = pair_present p e
+object_present (counter c) e now = counter_present c
+object_present (timer t) e now = timer_present t now
+object_present instance e now = 0
+
+abbrev pub effect_on : {X : Type 0} → (X → Object) → Effect X → Effect Object
+effect_on wrap f = (f.0, wrap f.1, f.2)
+
+abbrev pub read_refusals : Object → End → ℕ → ℕ → List (Bool × Errno)
+read_refusals plain e n now = []
+read_refusals (pipe p) e n now = pipe_read_refusals p e n
+read_refusals (pair p) e n now = pair_read_refusals p e n
+read_refusals (counter c) e n now = counter_read_refusals c n
+read_refusals (timer t) e n now = timer_read_refusals t n now
+read_refusals instance e n now = (true, Einval) ∷ []
+
+abbrev pub read : Object → End → ℕ → ℕ → Effect Object
+read plain e n now = (Bytes [], plain, nothing)
+read (pipe p) e n now = effect_on pipe (pipe_read p n)
+read (pair p) e n now = effect_on pair (pair_read p e n)
+read (counter c) e n now = effect_on counter (counter_read c)
+read (timer t) e n now = effect_on timer (timer_read t now)
+read instance e n now = (Done, instance, nothing)
+
+abbrev pub write_refusals : Object → End → List ℕ → List (Bool × Errno)
+write_refusals plain e bytes = []
+write_refusals (pipe p) e bytes = pipe_write_refusals p e bytes
+write_refusals (pair p) e bytes = pair_write_refusals p e bytes
+write_refusals (counter c) e bytes = counter_write_refusals c bytes
+write_refusals (timer t) e bytes = (true, Einval) ∷ []
+write_refusals instance e bytes = (true, Einval) ∷ []
+
+abbrev pub write : Object → End → List ℕ → Effect Object
+write plain e bytes = (Num (length bytes), plain, nothing)
+write (pipe p) e bytes = effect_on pipe (pipe_write p bytes)
+write (pair p) e bytes = effect_on pair (pair_write p e bytes)
+write (counter c) e bytes = effect_on counter (counter_write c bytes)
+write (timer t) e bytes = (Done, timer t, nothing)
+write instance e bytes = (Done, instance, nothing)
+
+-- the refusals of a call on an end of an object, in order
+abbrev pub object_refusals : Object → End → ℕ → Call → List (Bool × Errno)
+object_refusals x e now (Read fd n) = read_refusals x e n now
+object_refusals x e now (Write fd bytes) = write_refusals x e bytes
+object_refusals x e now call = []
+
+-- what such a call does where it isn't refused; any other call does nothing here
+abbrev pub object_effect : Object → End → ℕ → Call → Effect Object
+object_effect x e now (Read fd n) = read x e n now
+object_effect x e now (Write fd bytes) = write x e bytes
+object_effect x e now call = (Done, x, nothing)
+
+-- what the clock's going on raises
+abbrev pub advance : Object → ℕ → ℕ → ℕ
+advance (timer t) old now = timer_advance t old now
+advance x old now = 0
+
+abbrev pub close_end : Object → End → Object × Raised
+close_end (pipe p) e = let closed = pipe_close p e in (pipe closed.0, closed.1)
+close_end (pair p) e = let closed = pair_close p e in (pair closed.0, closed.1)
+close_end x e = (x, nothing)

@@ -1,0 +1,70 @@
+-- Every refusal of every call, in order. The first that holds is answered.
+use Rattle.std.specs.Prelude.{Bool, List, [], false, is_none, length, nat_le, negsuc, not, pos, suc, true, zero, ℕ, ℤ, ◌&&◌, ◌==◌, ◌||◌, ◌∷◌}
+use Rattle.ep_base.specs.Limits.{Limits}
+use Rattle.ep_base.specs.declared.call.Call.{Call}
+use Rattle.ep_base.specs.declared.call.Call.TheVariants.{EpollCreate, EpollCtl, EpollWait, Pipe as PipeCall, Read, Write}
+use Rattle.ep_base.specs.declared.call.Event.{Event}
+use Rattle.ep_base.specs.declared.call.Event.TheVariants.{Call as CallOf}
+use Rattle.ep_base.specs.declared.errno.Errno.{Errno}
+use Rattle.ep_base.specs.declared.errno.Errno.TheVariants.{Ebadf, Ebusy, Eexist, Einval, Eloop, Enoent, Enospc, Eperm, Esrch}
+use Rattle.ep_machine.specs.Bits.{ET, EXCLUSIVE, ONESHOT, has_bit}
+use Rattle.ep_machine.specs.Files.{named_by, names_nothing, object_under, side_under, table_of}
+use Rattle.ep_machine.specs.Objects.{is_instance, is_plain, object_refusals}
+use Rattle.ep_machine.specs.State.{State}
+use Rattle.ep_machine.specs.Tables.{one_refusals, two_refusals}
+use Rattle.ep_machine.specs.Waits.{is_parked, is_positive}
+use Rattle.ep_machine.specs.Watches.{is_add, is_del, is_legal, is_mod, is_there, links, number_in}
+
+abbrev pub is_zero : ℤ → Bool
+is_zero (pos zero) = true
+is_zero (pos (suc k)) = false
+is_zero (negsuc k) = false
+
+-- What the calls of a later version will accept: until then it is refused.
+abbrev pub is_later_op : ℤ → Bool
+is_later_op op = is_del op || is_mod op
+
+abbrev pub is_later_mask : ℕ → Bool
+is_later_mask mask = has_bit mask ET || has_bit mask ONESHOT
+
+abbrev pub ctl_refusals : Limits → State → ℕ → ℤ → ℤ → ℤ → ℕ → List (Bool × Errno)
+ctl_refusals limits s p epfd op fd mask =
+    let e = named_by s.files p epfd in
+    let d = named_by s.files p fd in
+    let target = object_under s.files p fd in
+    let there = is_there s e (number_in fd) d in
+    (names_nothing s.files p epfd, Ebadf)
+    ∷ (names_nothing s.files p fd, Ebadf)
+    ∷ (is_plain target, Eperm)
+    ∷ (not (is_instance (object_under s.files p epfd)) || e == d, Einval)
+    ∷ (is_instance target, Einval)
+    ∷ (not (is_add op || is_del op || is_mod op), Einval)
+    ∷ (is_later_op op, Einval)
+    ∷ (not (is_del op) && has_bit mask EXCLUSIVE, Einval)
+    ∷ (is_add op && is_later_mask mask, Einval)
+    ∷ (not (is_add op) && not there, Enoent)
+    ∷ (is_add op && there, Eexist)
+    ∷ (is_add op && is_instance target && not (is_legal ((e, d) ∷ links s)), Eloop)
+    ∷ (is_add op && nat_le limits.watches (length s.watches), Enospc) ∷ []
+
+abbrev pub wait_refusals : State → ℕ → ℤ → ℤ → ℤ → List (Bool × Errno)
+wait_refusals s p epfd most timeout =
+    (not (is_positive most), Einval)
+    ∷ (not (is_zero timeout), Einval)
+    ∷ (names_nothing s.files p epfd, Ebadf)
+    ∷ (not (is_instance (object_under s.files p epfd)), Einval) ∷ []
+
+-- of a call on the object under a descriptor number
+abbrev pub on_object : State → ℕ → ℤ → Call → List (Bool × Errno)
+on_object s p fd call = (names_nothing s.files p fd, Ebadf) ∷ object_refusals (object_under s.files p fd) (side_under s.files p fd) s.now call
+
+abbrev pub call_refusals : Limits → State → ℕ → Call → List (Bool × Errno)
+call_refusals limits s p (PipeCall cloexec) = two_refusals limits s.files p
+call_refusals limits s p (EpollCreate cloexec) = one_refusals limits s.files p
+call_refusals limits s p (EpollCtl epfd op fd mask tag) = ctl_refusals limits s p epfd.0 op fd.0 mask.0
+call_refusals limits s p (EpollWait epfd most timeout) = wait_refusals s p epfd.0 most timeout
+call_refusals limits s p (Read fd n) = on_object s p fd.0 (Read fd n)
+call_refusals limits s p (Write fd bytes) = on_object s p fd.0 (Write fd bytes)
+
+abbrev pub refusals : Limits → State → ℕ → Event → List (Bool × Errno)
+refusals limits s caller (CallOf p call) = (is_none (table_of s.files p.0), Esrch) ∷ (is_parked s caller, Ebusy) ∷ call_refusals limits s p.0 call

@@ -1,0 +1,2 @@
+//! The abstract machine: definitions, and laws as contracts of functions that do nothing.
+#![tactic(auto)]

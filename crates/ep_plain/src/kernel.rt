@@ -1,0 +1,44 @@
+//! What every kernel promises.
+ghost use Rattle.std.specs.Prelude.{◌≡◌, List, Some};
+ghost use Rattle.ep_base.specs.Limits.{Limits as Numbers};
+ghost use Rattle.ep_base.specs.declared.record.Record.{Record as Entry};
+ghost use Rattle.ep_machine.specs.Run.{run};
+ghost use Rattle.ep_machine.specs.State.{State, opening};
+ghost use Rattle.ep_plain.specs.Acts.{Acts};
+
+use ep_base::{Answer, CallerId, Event, Limits, Record};
+use std::alloc::AllocError;
+
+/// A kernel that processes make calls on. Each event is one step of the abstract machine
+/// and leaves one record in the history; want of memory leaves all as it was.
+pub trait Kernel {
+    /// The state of the machine that it stands for.
+    ghost state: { Self → State };
+
+    /// The history.
+    ghost past: { Self → List Entry };
+
+    /// The limits that it was made with.
+    ghost bounds: { Self → Numbers };
+
+    /// One event. The answer is one that the machine allows here, and the history gains its record;
+    /// with ENOMEM, which is answered only where a growth was refused, nothing changes.
+    fn step(&mut self, caller: CallerId, event: Event) -> Answer
+        ensures limits { bounds self.new ≡ bounds self.old }
+        ensures acts { Acts (bounds self.old) caller event result (state self.old) (state self.new) (past self.old) (past self.new) };
+
+    /// Makes room for this many further records. State and history stay, also where it fails.
+    fn reserve(&mut self, additional: usize) -> Result<(), AllocError>
+        ensures limits { bounds self.new ≡ bounds self.old }
+        ensures state { state self.new ≡ state self.old }
+        ensures history { past self.new ≡ past self.old };
+
+    /// The records of all steps, in order: a run of the machine that leads to the present state.
+    fn history(&self) -> &[Record]
+        ensures past { result.now ≡ past self.now }
+        ensures replays { run (bounds self.now) opening result.now ≡ Some (state self.now) };
+
+    /// The limits that the kernel was made with.
+    fn limits(&self) -> &Limits
+        ensures { result.now ≡ bounds self.now };
+}

@@ -1,0 +1,6 @@
+//! What every kernel promises, and the kernel that scans.
+#![tactic(auto)]
+
+mod kernel;
+
+pub use crate::kernel::Kernel;
