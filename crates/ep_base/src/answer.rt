@@ -2,10 +2,11 @@
 ghost use Rattle.std.specs.Prelude.{◌≡◌, IfOk, IsOk};
 ghost use Rattle.ep_base.specs.Answer.{FitsInline};
 
+use crate::bytes::Bytes;
 use crate::errno::Errno;
 use crate::ids::Fd;
-use crate::lists::{Bytes, Reports};
 use crate::mask::Mask;
+use crate::reports::Reports;
 use std::alloc::AllocError;
 
 /// One registration in the answer of a wait: the bits that it shows, and its data.

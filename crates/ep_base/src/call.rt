@@ -1,8 +1,8 @@
 //! Calls and events.
 ghost use Rattle.std.specs.Prelude.{◌≡◌, IfOk};
 
+use crate::buffer::Buffer;
 use crate::ids::{Fd, Pid};
-use crate::lists::Buffer;
 use crate::mask::Mask;
 use std::alloc::AllocError;
 

@@ -1,6 +1,6 @@
 //! The limits of a kernel.
 ghost use Rattle.std.specs.Prelude.{◌≡◌, ◌↔◌, IsSome, IfSome};
-ghost use Rattle.ep_base.specs.Limits.{AreInRange};
+ghost use Rattle.ep_base.specs.Limits.{AreInRange, IsBetween};
 
 use std::marker::Model;
 
@@ -70,7 +70,8 @@ impl Limits {
 
     /// Descriptor numbers of a process, past which a call answers EMFILE.
     pub fn descriptors(&self) -> u32
-        ensures { result ≡ self.now.descriptors }
+        ensures value { result ≡ self.now.descriptors }
+        ensures in_range { IsBetween 3 65536 result }
     {
         self.descriptors
     }

@@ -3,7 +3,7 @@
 use crate::answer::Answer;
 use crate::call::Event;
 use crate::ids::CallerId;
-use crate::lists::Picked;
+use crate::picked::Picked;
 
 /// One step of the kernel: who asked, what was asked, and what was answered.
 #[derive(Debug, Drop)]

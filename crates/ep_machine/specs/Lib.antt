@@ -20,3 +20,11 @@ pub mod Settle
 pub mod Refusal
 pub mod Step
 pub mod Run
+pub mod Records
+pub mod LevelRun
+pub mod FullPipeRun
+pub mod FairRun
+pub mod RefusedRuns
+pub mod Sound
+pub mod Quiet
+pub mod Laws

@@ -1,2 +1,5 @@
-//! The abstract machine: definitions, and laws as contracts of functions that do nothing.
+//! The abstract machine: definitions, and what is proved of them as contracts of functions that do nothing.
 #![tactic(auto)]
+
+pub mod laws;
+pub mod runs;

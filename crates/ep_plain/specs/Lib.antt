@@ -1,1 +1,9 @@
 pub mod Acts
+pub mod Stands
+pub mod Moves
+pub mod Book
+pub mod Control
+pub mod Transfer
+pub mod Wait
+pub mod Reports
+pub mod Standing

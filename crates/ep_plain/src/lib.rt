@@ -1,6 +1,16 @@
 //! What every kernel promises, and the kernel that scans.
 #![tactic(auto)]
 
+mod act;
+mod acted;
+mod control;
+mod create;
 mod kernel;
+mod plain;
+mod runs;
+mod transfer;
+mod wait;
 
 pub use crate::kernel::Kernel;
+pub use crate::plain::PlainKernel;
+pub use crate::runs::run;

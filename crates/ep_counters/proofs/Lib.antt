@@ -1,0 +1,2 @@
+pub mod Expirations
+pub mod Arrivals

@@ -1,0 +1,2 @@
+pub mod Timer
+pub mod Law

@@ -1,0 +1,11 @@
+pub mod Found
+pub mod Ordered
+pub mod Held
+pub mod Indexed
+pub mod Sets
+pub mod Adding
+pub mod Noting
+pub mod Listing
+pub mod Removing
+pub mod Callers
+pub mod Purging

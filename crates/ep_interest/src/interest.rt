@@ -1,0 +1,252 @@
+//! All interest sets together.
+ghost use Rattle.std.specs.Prelude.{◌≡◌, ◌+◌, ◌<◌, ◌^◌, [], ◌∷◌, ◌++◌, false, IfOk, IfNone, IfSome, OnErr, IsSome, Some, is_some, All, filter, length, map, slice_index_or, slice_set, None, unwrap_or};
+ghost use Rattle.std.specs.Map.Iter.{ShowsInOrder};
+ghost use Rattle.std.specs.Option.{option_map};
+ghost use Rattle.ep_base.specs.declared.ids.EntryId.{EntryId};
+ghost use Rattle.ep_interest.specs.Listed.{shown};
+ghost use Rattle.std.specs.List.{find as first_where, list_any};
+ghost use Rattle.ep_interest.specs.Registrations.{GainsKey, IsSound, Touches, is_apart_from, left_number, has_key, id_of, ids, is_of, is_on, is_other, modified, new_entry, noted, number_under, numbered, with_ids};
+
+use crate::entries::{Entries, Watchers};
+use crate::entry::Entry;
+use crate::place::{Place, places_of};
+use ep_base::{Counts, DescId, EntryId, Fd, Mask};
+use indexmap::IndexMap;
+use slab::Slab;
+use std::alloc::{AllocError, Global};
+use std::collections::BTreeMap;
+use std::marker::Model;
+
+/// What no two registrations share: instance, descriptor number and description.
+#[derive(Clone, Copy, PartialEq, Eq, Hash)]
+struct Key {
+    instance: usize,
+    fd: i32,
+    desc: usize,
+}
+
+impl Key {
+    fn new(instance: DescId, fd: Fd, desc: DescId) -> Key
+        ensures { result ≡ record { instance = instance.0; fd = fd.0; desc = desc.0 } }
+    {
+        Key {
+            instance: instance.0,
+            fd: fd.0,
+            desc: desc.0,
+        }
+    }
+}
+
+/// The registrations of every instance. Contracts see them in order of registration, the number under each key, and how many
+/// were ever added.
+#[derive(Drop)]
+pub struct Interest {
+    slots: Slab<Entry>,
+    by_key: IndexMap<Key, EntryId>,
+    by_instance: BTreeMap<Place, EntryId>,
+    by_target: BTreeMap<Place, EntryId>,
+    added: u64,
+}
+
+impl Model for Interest {
+    ghost use Rattle.ep_interest.specs.Registrations.{Registrations};
+
+    ghost Value = { Registrations };
+
+    ghost use Rattle.ep_interest.specs.View.{registrations, IsInterest};
+
+    ghost view = { registrations };
+
+    ghost invariant = { IsInterest };
+}
+
+impl Interest {
+    /// No registrations, which takes no memory.
+    pub fn new(alloc: Global) -> Interest
+        ensures entries { result.entries ≡ [] }
+        ensures keys { result.keys ≡ [] }
+        ensures added { result.added ≡ 0 }
+    {
+        Interest {
+            slots: Slab::new(alloc),
+            by_key: IndexMap::new(alloc),
+            by_instance: BTreeMap::new(alloc),
+            by_target: BTreeMap::new(alloc),
+            added: 0,
+        }
+    }
+
+    /// The registrations of an instance with their keys, in order of registration. Only these are visited.
+    pub fn entries(&self, instance: DescId) -> Entries<'_>
+        ensures entries { map (λ p. p.1) result ≡ filter (is_of instance) self.now.entries }
+        ensures keys { All (λ p. number_under self.now p.0 ≡ Some p.1.number) result }
+        ensures exact { result ≡ with_ids self.now (filter (is_of instance) self.now.entries) }
+        ensures runs { ShowsInOrder shown }
+    {
+        Entries {
+            slots: &self.slots,
+            places: places_of(&self.by_instance, instance, self.added),
+        }
+    }
+
+    /// The keys of the registrations on a description, in order of registration. Only these are visited.
+    pub fn watchers(&self, desc: DescId) -> Watchers<'_>
+        ensures exact { result ≡ ids self.now (filter (is_on desc) self.now.entries) }
+        ensures runs { ShowsInOrder (λ (id : EntryId). id) }
+    {
+        Watchers {
+            places: places_of(&self.by_target, desc, self.added),
+        }
+    }
+
+    /// How many registrations there are.
+    pub fn count(&self) -> usize
+        ensures { result ≡ length self.now.entries }
+    {
+        self.slots.len()
+    }
+
+    /// Adds a registration with the next number, armed and never reported, as ADD of epoll_ctl(2) does, and answers its key.
+    /// `AllocError` where there is no memory, and then nothing has changed. No other call of this type takes memory.
+    pub fn add(
+        &mut self,
+        instance: DescId,
+        fd: Fd,
+        desc: DescId,
+        mask: Mask,
+        tag: u64,
+    ) -> Result<EntryId, AllocError>
+        requires absent { list_any (has_key instance fd desc) self.old.entries ≡ false }
+        requires room { self.old.added + 1 < 2 ^ 64 }
+        ensures entries { IfOk result (λ _. self.new.entries ≡ self.old.entries ++ new_entry (self.old.added + 1) instance fd desc mask tag ∷ []) }
+        ensures keys { IfOk result (λ id. GainsKey self.old self.new id (self.old.added + 1)) }
+        ensures added { IfOk result (λ _. self.new.added ≡ self.old.added + 1) }
+        ensures err { OnErr result (self.new ≡ self.old) }
+    {
+        self.slots.reserve(1)?;
+        self.by_key.reserve(1)?;
+        let id = EntryId(self.slots.vacant_key());
+        let number = self.added + 1;
+        let of_instance = Place::new(instance, number);
+        let on_target = Place::new(desc, number);
+        let key = Key::new(instance, fd, desc);
+        self.by_instance.insert(of_instance, id)?;
+        match self.by_target.insert(on_target, id) {
+            Ok(_) => {}
+            Err(full) => {
+                self.by_instance.remove(&of_instance);
+                return Err(full.into());
+            }
+        }
+        self.by_key.insert(key, id).unwrap();
+        let entry = Entry::new(number, instance, fd, desc, mask, tag);
+        self.slots.insert_reserved(entry);
+        self.added = number;
+        Ok(id)
+    }
+
+    /// The key of the registration with this instance, descriptor number and description, by a look-up of its hash; `None`
+    /// where there is none.
+    pub fn find(&self, instance: DescId, fd: Fd, desc: DescId) -> Option<EntryId>
+        ensures exact { result ≡ option_map (λ x. id_of self.now x.number) (first_where (has_key instance fd desc) self.now.entries) }
+        ensures there { is_some result ≡ list_any (has_key instance fd desc) self.now.entries }
+        ensures key { IfSome result (λ id. IsSome (number_under self.now id)) }
+        ensures entry { IfSome result (λ id. numbered self.now.entries (unwrap_or (number_under self.now id) 0) ≡ first_where (has_key instance fd desc) self.now.entries) }
+    {
+        self.by_key.get(&Key::new(instance, fd, desc)).copied()
+    }
+
+    /// The registration under a key.
+    pub fn entry(&self, id: EntryId) -> &Entry
+        requires { IsSome (number_under self.now id) }
+        ensures number { number_under self.now id ≡ Some result.now.number }
+        ensures entry { numbered self.now.entries result.now.number ≡ Some result.now }
+    {
+        &self.slots[id.0]
+    }
+
+    /// Sets four fields of the registration under a key: whether it is armed, and what its last report and its wait for
+    /// the next one left.
+    pub fn note(&mut self, id: EntryId, armed: bool, seen: Option<Counts>, rep: u64, from: u64)
+        requires { IsSome (number_under self.old id) }
+        ensures entries { self.new.entries ≡ map (noted (unwrap_or (number_under self.old id) 0) armed seen rep from) self.old.entries }
+        ensures keys { self.new.keys ≡ self.old.keys }
+        ensures added { self.new.added ≡ self.old.added }
+    {
+        let reported = &mut self.slots[id.0];
+        *reported = Entry {
+            armed,
+            seen,
+            rep,
+            from,
+            ..*reported
+        };
+    }
+
+    /// What MOD of epoll_ctl(2) does with the registration under a key: it gets this mask and this data, is armed again, and
+    /// counts as never reported. What its reports left for the order of reports stays.
+    pub fn modify(&mut self, id: EntryId, mask: Mask, tag: u64)
+        requires { IsSome (number_under self.old id) }
+        ensures entries { self.new.entries ≡ map (modified (unwrap_or (number_under self.old id) 0) mask tag) self.old.entries }
+        ensures keys { self.new.keys ≡ self.old.keys }
+        ensures added { self.new.added ≡ self.old.added }
+    {
+        let changed = &mut self.slots[id.0];
+        *changed = Entry {
+            mask,
+            tag,
+            armed: true,
+            seen: None,
+            ..*changed
+        };
+    }
+
+    /// Takes away the registration under a key, as DEL of epoll_ctl(2) does. The key may be given out again, the number is not.
+    pub fn remove(&mut self, id: EntryId)
+        requires { IsSome (number_under self.old id) }
+        ensures entries { self.new.entries ≡ filter (is_other (unwrap_or (number_under self.old id) 0)) self.old.entries }
+        ensures keys { self.new.keys ≡ slice_set self.old.keys id.0 None }
+        ensures added { self.new.added ≡ self.old.added }
+    {
+        let entry = self.slots.remove(id.0);
+        let key = Key::new(entry.instance, entry.fd, entry.desc);
+        let of_instance = Place::new(entry.instance, entry.number);
+        let on_target = Place::new(entry.desc, entry.number);
+        self.by_key.swap_remove(&key);
+        self.by_instance.remove(&of_instance);
+        self.by_target.remove(&on_target);
+    }
+
+    /// Takes away every registration in the set of a description and every one on it, as where the description dies.
+    pub fn purge(&mut self, desc: DescId)
+        ensures entries { self.new.entries ≡ filter (is_apart_from desc) self.old.entries }
+        ensures keys { (id : EntryId) → number_under self.new id ≡ left_number self.new.entries (number_under self.old id) }
+        ensures added { self.new.added ≡ self.old.added }
+    {
+        self.known();
+        while let Some(id) = self.first_touching(desc) {
+            self.remove(id);
+        }
+    }
+
+    /// The key of a registration in the set of a description or on it, `None` where there is none.
+    fn first_touching(&self, desc: DescId) -> Option<EntryId>
+        ensures none { IfNone result (filter (is_apart_from desc) self.now.entries ≡ self.now.entries) }
+        ensures some { IfSome result (λ id. Touches self.now desc id) }
+        ensures sound { IsSound self.now }
+    {
+        self.known();
+        match self.entries(desc).next() {
+            Some((id, _)) => Some(id),
+            None => self.watchers(desc).next(),
+        }
+    }
+
+    /// Does nothing. Its clause says what holds of every value: numbers rise and none is above the number of additions, keys and
+    /// registrations go one to one, and no two registrations share instance, descriptor number and description.
+    pub fn known(&self)
+        ensures { IsSound self.now }
+    {
+        let _slots = &self.slots;
+    }
+}

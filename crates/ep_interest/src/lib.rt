@@ -1,0 +1,13 @@
+//! The interest sets of every instance: the registrations of epoll_ctl(2).
+#![tactic(auto)]
+
+mod entries;
+mod entry;
+mod interest;
+mod place;
+#[cfg(test)]
+mod tests;
+
+pub use crate::entries::{Entries, Watchers};
+pub use crate::entry::Entry;
+pub use crate::interest::Interest;

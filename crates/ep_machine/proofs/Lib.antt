@@ -1,0 +1,13 @@
+pub mod Stepping
+pub mod Soundness
+pub mod Naming
+pub mod Quietness
+pub mod Settling
+pub mod Showing
+pub mod Picking
+pub mod Reporting
+pub mod Members
+pub mod Levels
+pub mod Least
+pub mod Distinct
+pub mod Rounds

@@ -1,0 +1,247 @@
+-- Each state that the six calls reach is quiet.
+use Rattle.std.proofs.Common.{◌≡◌, ℕ, zero, suc, ◌&&◌, ◌||◌, Bool, List, [], ◌∷◌, MatchOption, None, Option, Some, ℤ, pos, negsuc, true, false, not, ap, arith, cond, get_or, if◌then◌else◌, is_none, is_some, map, refl, subst, unwrap_or}
+use Rattle.std.specs.List.{AllByRecursion}
+use Rattle.std.proofs.lemmas.List.Elements.{All-map, All-push, All-weaker}
+use Rattle.ep_base.specs.Limits.{Limits}
+use Rattle.ep_base.specs.declared.answer.Answer.{Answer}
+use Rattle.ep_base.specs.declared.answer.Answer.TheVariants.{Events}
+use Rattle.ep_base.specs.declared.call.Call.{Call}
+use Rattle.ep_base.specs.declared.call.Call.TheVariants.{EpollCreate, EpollCtl, EpollWait, Pipe as PipeCall, Read, Write}
+use Rattle.ep_base.specs.declared.call.Event.{Event}
+use Rattle.ep_base.specs.declared.call.Event.TheVariants.{Call as CallOf}
+use Rattle.ep_base.specs.declared.errno.Errno.{Errno}
+use Rattle.ep_base.specs.declared.errno.Errno.TheVariants.{Esrch}
+use Rattle.ep_base.specs.declared.object.End.{End}
+use Rattle.ep_base.specs.declared.record.Record.{Record}
+use Rattle.ep_machine.specs.Run.{run}
+use Rattle.ep_machine.specs.Settle.{settle}
+use Rattle.ep_machine.proofs.Stepping.{run_keeps, step_changed}
+use Rattle.ep_machine.specs.Bits.{ET, ONESHOT, has_bit}
+use Rattle.ep_machine.specs.Effect.{first}
+use Rattle.ep_machine.specs.Files.{Files, Place, named_by, names_nothing, object_at, object_number, object_of, object_under, place_of, side_under}
+use Rattle.ep_machine.specs.Lists.{is_among}
+use Rattle.ep_machine.specs.Objects.{Object, counter, instance, is_instance, is_plain, object_effect, pair, pipe, plain, timer}
+use Rattle.ep_machine.specs.Pipe.{new_pipe}
+use Rattle.ep_machine.specs.Quiet.{IsSettled, IsSteady, Quiet, can_be_watched}
+use Rattle.ep_machine.specs.Readiness.{is_ready}
+use Rattle.ep_machine.specs.Refusal.{call_refusals, ctl_refusals, is_later_mask, is_zero, refusals}
+use Rattle.ep_machine.specs.Report.{is_pick, plainly, report, report_of, reported, watches_at}
+use Rattle.ep_machine.specs.State.{Change, State, Watch, counts_of, opening}
+use Rattle.ep_machine.specs.Step.{begun, call_change, change, object_change, refused_or, settled, step}
+use Rattle.ep_machine.specs.Waits.{wait, wait_for}
+use Rattle.ep_machine.specs.Watches.{add, ctl, delete, is_add, is_del, is_mod, modify, new_watch, number_in}
+use Rattle.ep_machine.proofs.Naming.{Extends, Filed, extends_one, extends_two, extends_with_object, filed_one, filed_opening, filed_two, filed_with_object, named_lives}
+use Rattle.ep_machine.proofs.Settling.{quiet_settled, settle_quiet}
+
+-- no test of a list that refuses nothing holds
+pub none_holds : (tests : List (Bool × Errno)) → first tests ≡ None → AllByRecursion (λ t. t.0 ≡ false) tests
+none_holds [] h = tt
+none_holds ((true, e) ∷ tests) h = cc
+none_holds ((false, e) ∷ tests) h = (refl, none_holds tests h)
+
+-- Bools.
+not_first : (a b : Bool) → (a || b) ≡ false → a ≡ false
+not_first true b h = h
+not_first false b h = refl
+
+not_second : (a b : Bool) → (a || b) ≡ false → b ≡ false
+not_second true b h = cc
+not_second false b h = h
+
+from_and : (a b : Bool) → a ≡ true → (a && b) ≡ false → b ≡ false
+from_and true b t h = h
+from_and false b t h = cc
+
+from_not : (a : Bool) → not a ≡ false → a ≡ true
+from_not true h = refl
+from_not false h = cc
+
+-- Other files under the same registrations.
+steady_in : (f g : Files) → Extends f g → (x : Watch) → IsSteady f x → IsSteady g x
+steady_in f g e x h = record { instance_lives = e.lives x.instance h.instance_lives; target_lives = e.lives x.target h.target_lives; target_shows = e.shows x.target h.target_shows; armed = h.armed; level = h.level; lasting = h.lasting }
+
+filed : (s : State) → Quiet s → Filed s.files
+filed s h = record { placed = h.placed; named = h.named }
+
+quiet_files : (s : State) (g : Files) → Quiet s → Filed g → Extends s.files g → Quiet (record s { files = g })
+quiet_files s g h k e = record { waiters = h.waiters; now = h.now; placed = k.placed; named = k.named; watches = All-weaker (IsSteady s.files) (IsSteady g) (steady_in s.files g e) s.watches h.watches }
+
+-- A call on an object keeps its kind.
+effect_shows : (x : Object) (e : End) (now : ℕ) (call : Call) → can_be_watched (Some x) ≡ true → can_be_watched (Some (object_effect x e now call).1) ≡ true
+effect_shows plain e now (Read fd n) h = h
+effect_shows (pipe p) e now (Read fd n) h = refl
+effect_shows (pair p) e now (Read fd n) h = refl
+effect_shows (counter c) e now (Read fd n) h = refl
+effect_shows (timer t) e now (Read fd n) h = refl
+effect_shows instance e now (Read fd n) h = h
+effect_shows plain e now (Write fd bytes) h = h
+effect_shows (pipe p) e now (Write fd bytes) h = refl
+effect_shows (pair p) e now (Write fd bytes) h = refl
+effect_shows (counter c) e now (Write fd bytes) h = refl
+effect_shows (timer t) e now (Write fd bytes) h = refl
+effect_shows instance e now (Write fd bytes) h = h
+effect_shows x e now call h = h
+
+watched_there : (o : Option Object) → can_be_watched o ≡ true → can_be_watched (Some (unwrap_or o plain)) ≡ true
+watched_there None h = cc
+watched_there (Some x) h = h
+
+watched_at : (f : Files) (p : Option Place) → is_none p ≡ false → can_be_watched (get_or f.objects (object_number p) None) ≡ true → can_be_watched (object_at f p) ≡ true
+watched_at f None live h = cc
+watched_at f (Some p) live h = h
+
+some_is_no_none : {X : Type 0} (o : Option X) → is_some o ≡ true → is_none o ≡ false
+some_is_no_none None h = cc
+some_is_no_none (Some x) h = refl
+
+quiet_object_change : (s : State) (p : ℕ) (fd : ℤ) (call : Call) → Quiet s → names_nothing s.files p fd ≡ false → Quiet (object_change s p fd call).1
+quiet_object_change s p fd call h there =
+    let d = named_by s.files p fd in
+    let k = object_number (place_of s.files d) in
+    let x = (object_effect (object_under s.files p fd) (side_under s.files p fd) s.now call).1 in
+    let live = some_is_no_none (place_of s.files d) (named_lives s.files p fd (filed s h) there) in
+    quiet_files s _ h (filed_with_object s.files k x (filed s h))
+    (extends_with_object s.files k x (λ shows. effect_shows _ (side_under s.files p fd) s.now call (watched_there (object_of s.files d) (watched_at s.files (place_of s.files d) live shows))))
+
+-- ADD.
+shows_from_tests : (o : Option Object) → is_plain (unwrap_or o plain) ≡ false → is_instance (unwrap_or o plain) ≡ false → can_be_watched o ≡ true
+shows_from_tests None p i = cc
+shows_from_tests (Some x) p i = both (is_plain x) (is_instance x) p i where
+  both : (a b : Bool) → a ≡ false → b ≡ false → (not a && not b) ≡ true
+  both true b h k = cc
+  both false true h k = cc
+  both false false h k = refl
+
+only_add : (a d m : Bool) → not (a || d || m) ≡ false → (d || m) ≡ false → a ≡ true
+only_add true d m h k = refl
+only_add false true m h k = cc
+only_add false false true h k = cc
+only_add false false false h k = cc
+
+quiet_add : (s : State) (e fd d mask tag : ℕ) → Quiet s → IsSteady s.files (new_watch s e fd d mask tag) → Quiet (add s e fd d mask tag).1
+quiet_add s e fd d mask tag h steady = record { waiters = h.waiters; now = h.now; placed = h.placed; named = h.named; watches = All-push (IsSteady s.files) s.watches (new_watch s e fd d mask tag) h.watches steady }
+
+quiet_first : (b : Bool) (c d : Change) → b ≡ true → Quiet c.1 → Quiet (cond b c d).1
+quiet_first true c d t h = h
+quiet_first false c d t h = cc
+
+quiet_ctl : (limits : Limits) (s : State) (p : ℕ) (epfd op fd : ℤ) (mask tag : ℕ) → Quiet s → AllByRecursion (λ t. t.0 ≡ false) (ctl_refusals limits s p epfd op fd mask) → Quiet (ctl s p epfd op fd mask tag).1
+quiet_ctl limits s p epfd op fd mask tag h tests =
+    let e = named_by s.files p epfd in
+    let d = named_by s.files p fd in
+    let k = number_in fd in
+    let added : is_add op ≡ true = only_add (is_add op) (is_del op) (is_mod op) tests.1.1.1.1.1.0 tests.1.1.1.1.1.1.0 in
+    let later : is_later_mask mask ≡ false = from_and (is_add op) (is_later_mask mask) added tests.1.1.1.1.1.1.1.1.0 in
+    let steady : IsSteady s.files (new_watch s e k d mask tag) = record {
+      instance_lives = named_lives s.files p epfd (filed s h) tests.0;
+      target_lives = named_lives s.files p fd (filed s h) tests.1.0;
+      target_shows = shows_from_tests (object_of s.files d) tests.1.1.0 tests.1.1.1.1.0;
+      armed = refl;
+      level = not_first (has_bit mask ET) (has_bit mask ONESHOT) later;
+      lasting = not_second (has_bit mask ET) (has_bit mask ONESHOT) later;
+    } in
+    quiet_first (is_add op) (add s e k d mask tag) (if is_del op then delete s e k d else modify s e k d mask tag) added (quiet_add s e k d mask tag h steady)
+
+-- A wait.
+reported_steady : (s : State) (ks : List ℕ) (x : Watch) → IsSteady s.files x → IsSteady s.files (reported s ks x)
+reported_steady s ks x h =
+    let y : Watch = record x { seen = Some (counts_of s x.target); rep = s.n; from = s.n; armed = x.armed && not (has_bit x.mask ONESHOT) } in
+    let armed : (x.armed && not (has_bit x.mask ONESHOT)) ≡ true = both x.armed (has_bit x.mask ONESHOT) h.armed h.lasting in
+    elim (is_among ks x.number) as (λ b. IsSteady s.files (cond b y x)) [
+      | true ↦ record { instance_lives = h.instance_lives; target_lives = h.target_lives; target_shows = h.target_shows; armed = armed; level = h.level; lasting = h.lasting }
+      | false ↦ h
+    ] where
+      both : (a b : Bool) → a ≡ true → b ≡ false → (a && not b) ≡ true
+      both true b t f = ap not f
+      both false b t f = t
+
+quiet_reported : (s : State) (ks : List ℕ) → Quiet s → Quiet (record s { watches = map (reported s ks) s.watches })
+quiet_reported s ks h = record { waiters = h.waiters; now = h.now; placed = h.placed; named = h.named; watches = All-map (IsSteady s.files) (reported s ks) s.watches (λ k d lt. reported_steady s ks (get_or s.watches k d) (h.watches k d lt)) }
+
+Fine : Option Change → Type 0
+Fine c = MatchOption c (Unit {0}) (λ o. Quiet o.1)
+
+fine_plainly : (ks : List ℕ) (c : Change) → Quiet c.1 → Fine (plainly ks c)
+unfolding Fine
+fine_plainly [] c h = h
+fine_plainly (k ∷ ks) c h = tt
+
+fine_option_if : (b : Bool) (c : Change) → Quiet c.1 → Fine (cond b (Some c) None)
+unfolding Fine
+fine_option_if true c h = h
+fine_option_if false c h = tt
+
+fine_if : (b : Bool) (c d : Option Change) → Fine c → Fine d → Fine (cond b c d)
+fine_if true c d h k = h
+fine_if false c d h k = k
+
+fine_report : (s : State) (e most : ℕ) (ks : List ℕ) → Quiet s → Fine (report s e most ks)
+fine_report s e most ks h =
+    let c : Change = (Events (map (report_of s) (watches_at s.watches ks)), record s { watches = map (reported s ks) s.watches }, []) in
+    fine_option_if (is_pick s e most ks) c (quiet_reported s ks h)
+
+quiet_wait_for : (s : State) (caller p e most : ℕ) (timeout : ℤ) → is_zero timeout ≡ true → Quiet s → Quiet (wait_for s caller p e most timeout).1
+quiet_wait_for s caller p e most (pos zero) z h = h
+quiet_wait_for s caller p e most (pos (suc k)) z h = cc
+quiet_wait_for s caller p e most (negsuc k) z h = cc
+
+fine_wait : (s : State) (caller p e most : ℕ) (timeout : ℤ) (ks : List ℕ) → is_zero timeout ≡ true → Quiet s → Fine (wait s caller p e most timeout ks)
+fine_wait s caller p e most timeout ks z h = fine_if (is_ready s e) _ _ (fine_report s e most ks h) (fine_plainly ks _ (quiet_wait_for s caller p e most timeout z h))
+
+-- The six calls.
+fine_call : (limits : Limits) (s : State) (caller p : ℕ) (call : Call) (ks : List ℕ) → Quiet s → Filed s.files → AllByRecursion (λ t. t.0 ≡ false) ((is_none (get_or s.files.tables p None), Esrch) ∷ call_refusals limits s p call) → Fine (call_change limits s caller p call ks)
+fine_call limits s caller p (PipeCall cloexec) ks h f tests =
+    fine_plainly ks _ (quiet_files s _ h (filed_two s.files p (pipe (new_pipe limits.pipe_bytes)) cloexec tests.0 f) (extends_two s.files p (pipe (new_pipe limits.pipe_bytes)) cloexec))
+fine_call limits s caller p (EpollCreate cloexec) ks h f tests =
+    fine_plainly ks _ (quiet_files s _ h (filed_one s.files p instance cloexec tests.0 f) (extends_one s.files p instance cloexec))
+fine_call limits s caller p (EpollCtl epfd op fd mask tag) ks h f tests = fine_plainly ks _ (quiet_ctl limits s p epfd.0 op fd.0 mask.0 tag h tests.1)
+fine_call limits s caller p (EpollWait epfd most timeout) ks h f tests = fine_wait s caller p (named_by s.files p epfd.0) (number_in most) timeout ks (from_not (is_zero timeout) tests.1.1.0) h
+fine_call limits s caller p (Read fd n) ks h f tests = fine_plainly ks _ (quiet_object_change s p fd.0 (Read fd n) h tests.1.0)
+fine_call limits s caller p (Write fd bytes) ks h f tests = fine_plainly ks _ (quiet_object_change s p fd.0 (Write fd bytes) h tests.1.0)
+
+fine_change : (limits : Limits) (s : State) (caller : ℕ) (event : Event) (ks : List ℕ) → Quiet s → first (refusals limits s caller event) ≡ None → Fine (change limits s caller event ks)
+fine_change limits s caller (CallOf p call) ks h allowed =
+    let tests = none_holds (refusals limits s caller (CallOf p call)) allowed in
+    fine_call limits s caller p.0 call ks h (filed s h) (tests.0, tests.1.1)
+
+-- a change that isn't refused
+pub quiet_change : (limits : Limits) (s : State) (caller : ℕ) (event : Event) (picked : List ℕ) (c : Change) → Quiet s → first (refusals limits s caller event) ≡ None → change limits s caller event picked ≡ Some c → Quiet c.1
+unfolding Fine
+quiet_change limits s caller event picked c h allowed e = subst Fine e (fine_change limits s caller event picked h allowed)
+
+IsStep : Option (Answer × State) → Type 0
+IsStep o = MatchOption o (Unit {0}) (λ c. Quiet c.1)
+
+fine_settled : (before : State) (c : Option Change) → Fine c → IsStep (settled before c)
+unfolding Fine IsStep
+fine_settled before None h = tt
+fine_settled before (Some c) h = quiet_settled c.1 _ h (settle_quiet before c.1 c.2 h)
+
+fine_refused : (e : Option Errno) (s : State) (ks : List ℕ) (c : Option Change) → Quiet s → (e ≡ None → Fine c) → IsStep (refused_or e s ks c)
+unfolding IsStep
+fine_refused None s ks c h k = fine_settled s c (k refl)
+fine_refused (Some e) s [] c h k = h
+fine_refused (Some e) s (x ∷ ks) c h k = tt
+
+pub quiet_begun : (s : State) → Quiet s → Quiet (begun s)
+quiet_begun s h = record { waiters = h.waiters; now = h.now; placed = h.placed; named = h.named; watches = h.watches }
+
+pub quiet_opening : Quiet opening
+quiet_opening = record { waiters = refl; now = refl; placed = filed_opening.placed; named = filed_opening.named; watches = λ k d lt. absurd (omega arith) }
+
+pub quiet_step : (limits : Limits) (s t : State) (caller : ℕ) (event : Event) (picked : List ℕ) (a : Answer) → Quiet s → step limits s caller event picked ≡ Some (a, t) → Quiet t
+unfolding IsStep
+quiet_step limits s t caller event picked a h e =
+    let now = begun s in
+    let start = quiet_begun s h in
+    subst IsStep e (fine_refused (first (refusals limits now caller event)) now picked (change limits now caller event picked) start (fine_change limits now caller event picked start))
+
+-- each state of a run
+pub quiet_run : (limits : Limits) (past : List Record) (s : State) → run limits opening past ≡ Some s → Quiet s
+quiet_run limits past s e = run_keeps Quiet limits (quiet_step limits) opening s past quiet_opening e
+
+-- a step that isn't refused, as far as registrations are kept
+pub step_quiet : (limits : Limits) (s : State) (caller : ℕ) (event : Event) (picked : List ℕ) (c : Change) → Quiet s → first (refusals limits (begun s) caller event) ≡ None → change limits (begun s) caller event picked ≡ Some c
+    → (t : State) × (step limits s caller event picked ≡ Some (c.0, t)) × IsSettled c.1 t
+step_quiet limits s caller event picked c h allowed e =
+    (settle (begun s) c.1 c.2, step_changed limits s caller event picked c allowed e, settle_quiet (begun s) c.1 c.2 (quiet_change limits (begun s) caller event picked c (quiet_begun s h) allowed e))

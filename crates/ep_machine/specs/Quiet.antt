@@ -1,0 +1,67 @@
+-- What holds in each state that the six calls reach: nothing dies, nobody waits, and each registration
+-- is armed, level-triggered and watches an end of an object that shows bits of its own.
+use Rattle.std.specs.Prelude.{All, Bool, List, None, Option, Some, false, if◌then◌else◌, is_some, length, map, nat_lt, not, true, unwrap_or, ℕ, ◌&&◌, ◌==◌, ◌≡◌, []}
+use Rattle.ep_base.specs.declared.answer.Report.{Report}
+use Rattle.ep_machine.specs.Bits.{ET, ONESHOT, asked, has_bit}
+use Rattle.ep_machine.specs.Deaths.{named_in_tables}
+use Rattle.ep_machine.specs.Files.{Files, is_live, object_at, object_of, side_of}
+use Rattle.ep_machine.specs.Lists.{is_among}
+use Rattle.ep_machine.specs.Objects.{Object, is_instance, is_plain, object_present, plain}
+use Rattle.ep_machine.specs.State.{State, Watch}
+
+-- what epoll_ctl accepts as a target
+abbrev pub can_be_watched : Option Object → Bool
+can_be_watched None = false
+can_be_watched (Some x) = not (is_plain x) && not (is_instance x)
+
+pub record IsSteady (files : Files) (x : Watch) : Type 0 where
+  pub instance_lives : is_live files x.instance ≡ true
+  pub target_lives : is_live files x.target ≡ true
+  pub target_shows : can_be_watched (object_of files x.target) ≡ true
+  pub armed : x.armed ≡ true
+  pub level : has_bit x.mask ET ≡ false
+  pub lasting : has_bit x.mask ONESHOT ≡ false
+
+pub record Quiet (s : State) : Type 0 where
+  pub waiters : s.waiters ≡ []
+  pub now : s.now ≡ 0
+  pub placed : All (λ p. is_some (object_at s.files p) ≡ true) s.files.descriptions  -- every description lives and has its object
+  pub named : (d : ℕ) → is_among (named_in_tables s.files.tables) d ≡ nat_lt d (length s.files.descriptions)  -- tables name what was made, and nothing else
+  pub watches : All (IsSteady s.files) s.watches
+
+-- a registration without what a settling changes: what it has seen, and since when it is reportable
+abbrev pub kept_of : Watch → Watch
+kept_of x = record x { seen = None; from = 0 }
+
+abbrev pub kept_all : List Watch → List Watch
+kept_all xs = map kept_of xs
+
+-- the same but for arrivals and for what a registration is kept without
+pub record IsSettled (after t : State) : Type 0 where
+  pub n : t.n ≡ after.n
+  pub now : t.now ≡ after.now
+  pub files : t.files ≡ after.files
+  pub watches : kept_all t.watches ≡ kept_all after.watches
+  pub added : t.added ≡ after.added
+  pub waiters : t.waiters ≡ after.waiters
+
+-- the bits that hold at a description, where no instance and no clock is asked
+abbrev pub present_at : Files → ℕ → ℕ
+present_at files d = object_present (unwrap_or (object_of files d) plain) (side_of files d) 0
+
+abbrev pub shown_at : Files → Watch → ℕ
+shown_at files x = asked x.mask (present_at files x.target)
+
+abbrev pub shows : Files → Watch → Bool
+shows files x = nat_lt 0 (shown_at files x)
+
+-- it belongs to this instance and shows something
+abbrev pub shows_in : Files → ℕ → Watch → Bool
+shows_in files e x = x.instance == e && shows files x
+
+abbrev pub report_at : Files → Watch → Report
+report_at files x = record { bits = record { 0 = shown_at files x }; tag = x.tag }
+
+-- reported in event n, where its number is among these
+abbrev pub reported_in : ℕ → List ℕ → Watch → Watch
+reported_in n ks x = if is_among ks x.number then record x { rep = n } else x

@@ -1,0 +1,66 @@
+-- Short forms for the records of worked runs. Each call is made by caller 0.
+use Rattle.std.specs.Prelude.{List, [], false, pos, ℕ, ℤ}
+use Rattle.ep_base.specs.Limits.{Limits}
+use Rattle.ep_base.specs.declared.answer.Answer.{Answer}
+use Rattle.ep_base.specs.declared.answer.Answer.TheVariants.{Events, Refused, Two}
+use Rattle.ep_base.specs.declared.answer.Report.{Report}
+use Rattle.ep_base.specs.declared.call.Call.{Call}
+use Rattle.ep_base.specs.declared.call.Call.TheVariants.{EpollCreate, EpollCtl, EpollWait, Pipe as PipeCall, Read, Write}
+use Rattle.ep_base.specs.declared.call.Event.TheVariants.{Call as CallOf}
+use Rattle.ep_base.specs.declared.errno.Errno.{Errno}
+use Rattle.ep_base.specs.declared.ids.Fd.{Fd}
+use Rattle.ep_base.specs.declared.record.Record.{Record}
+
+-- limits on descriptors, files and registrations; the others don't matter here
+abbrev pub small_limits : ℕ → ℕ → ℕ → Limits
+small_limits descriptors files watches = record { descriptors = descriptors; files = files; processes = 2; watches = watches; pipe_bytes = 4096; sock_bytes = 4096 }
+
+abbrev pub fd_of : ℤ → Fd
+fd_of k = record { 0 = k }
+
+abbrev pub pipe_call : Call
+pipe_call = PipeCall false
+
+abbrev pub create_call : Call
+create_call = EpollCreate false
+
+-- any operation, on any numbers
+abbrev pub ctl_call : ℤ → ℤ → ℤ → ℕ → ℕ → Call
+ctl_call epfd op fd mask tag = EpollCtl (fd_of epfd) op (fd_of fd) (record { 0 = mask }) tag
+
+abbrev pub add_call : ℕ → ℕ → ℕ → ℕ → Call
+add_call epfd fd mask tag = ctl_call (pos epfd) (pos 1) (pos fd) mask tag
+
+abbrev pub wait_call_for : ℤ → ℤ → ℤ → Call
+wait_call_for epfd most timeout = EpollWait (fd_of epfd) most timeout
+
+-- with a timeout of 0
+abbrev pub wait_call : ℕ → ℕ → Call
+wait_call epfd most = wait_call_for (pos epfd) (pos most) (pos 0)
+
+abbrev pub read_call : ℤ → ℕ → Call
+read_call fd n = Read (fd_of fd) n
+
+abbrev pub write_call : ℤ → List ℕ → Call
+write_call fd bytes = Write (fd_of fd) bytes
+
+abbrev pub two : ℕ → ℕ → Answer
+two a b = Two (fd_of (pos a)) (fd_of (pos b))
+
+abbrev pub report : ℕ → ℕ → Report
+report bits tag = record { bits = record { 0 = bits }; tag = tag }
+
+abbrev pub by_process : ℕ → Call → Answer → List ℕ → Record
+by_process pid call answer picked = record { caller = record { 0 = 0 }; event = CallOf (record { 0 = pid }) call; answer = answer; picked = picked }
+
+-- process 1 is answered, and nothing is reported
+abbrev pub answered : Call → Answer → Record
+answered call answer = by_process 1 call answer []
+
+-- process 1 is refused
+abbrev pub refused : Call → Errno → Record
+refused call errno = answered call (Refused errno)
+
+-- process 1 is given these reports, of the registrations of these numbers
+abbrev pub reporting : Call → List Report → List ℕ → Record
+reporting call reports picked = by_process 1 call (Events reports) picked

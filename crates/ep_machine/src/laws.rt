@@ -1,0 +1,39 @@
+//! Laws of the definitions. Each is the contract of a function that does nothing, so that it is proved.
+ghost use Rattle.ep_machine.specs.Laws.{Determined, EachSound, FairRounds, ReadyEquation, RefusalChangesNothing, SpreadEquation, SpreadLeast};
+
+/// An instance is ready exactly where one of its registrations is reportable: five levels are enough
+/// where the graph of instances is legal.
+pub fn ready_equation()
+    ensures law { ReadyEquation }
+{}
+
+/// What an event raises climbs through every armed registration that asks for it, where the graph is legal.
+pub fn spread_equation()
+    ensures law { SpreadEquation }
+{}
+
+/// The spread is within each family of sets that has what was raised and is closed under climbing.
+pub fn spread_least()
+    ensures law { SpreadLeast }
+{}
+
+/// A refusal changes the number of events alone.
+pub fn refusal_changes_nothing()
+    ensures law { RefusalChangesNothing }
+{}
+
+/// A run leads to one state.
+pub fn determined()
+    ensures law { Determined }
+{}
+
+/// In each state of a run the numbers of registrations are apart, from 1 to the number that was added,
+/// and each registration was last reported no later than the event since which it is reportable.
+pub fn each_sound()
+    ensures law { EachSound }
+{}
+
+/// While a registration stays reportable and unreported, no other registration of its instance is reported twice.
+pub fn fair_rounds()
+    ensures law { FairRounds }
+{}

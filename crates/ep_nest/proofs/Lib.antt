@@ -1,0 +1,14 @@
+pub mod Elements
+pub mod Chains
+pub mod Legality
+pub mod Addition
+pub mod Places
+pub mod Fill
+pub mod Lengthen
+pub mod Climb
+pub mod Gather
+pub mod Admit
+pub mod Kept
+pub mod Allowed
+pub mod Rule
+pub mod Renaming

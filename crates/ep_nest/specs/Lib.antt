@@ -1,0 +1,5 @@
+pub mod Links
+pub mod Chains
+pub mod Lengths
+pub mod Marks
+pub mod Scratch

@@ -1,0 +1,35 @@
+-- What a graph keeps beside its links.
+use Rattle.ep_machine.specs.Lists.{are_distinct}
+use Rattle.ep_machine.specs.Watches.{is_legal}
+use Rattle.ep_nest.specs.Lengths.{AreLengths, HasPlaces}
+use Rattle.ep_nest.specs.Links.{along, edges, entries}
+use Rattle.ep_nest.specs.declared.link.Link.{Link}
+use Rattle.ep_nest.specs.declared.link.Way.TheVariants.{Down, Up}
+use Rattle.ep_nest.specs.declared.scratch.Scratch.{Scratch}
+use Rattle.std.specs.Prelude.{List, length, replicate, true, vec_capacity, ℕ, ◌++◌, ◌<◌, ◌≡◌, ◌≤◌}
+
+-- the links are legal and of an entry each; the tables say the longest chains; there is room for a walk
+pub record IsKept (ls : List Link) (s : Scratch) : Type 0 where
+  pub legal : is_legal (edges ls) ≡ true
+  pub distinct : are_distinct (entries ls) ≡ true
+  pub heights : AreLengths (along Down ls) s.heights.items
+  pub depths : AreLengths (along Up ls) s.depths.items
+  pub marks : HasPlaces (along Down ls) (length s.marks.items)
+  pub admitted : length ls ≤ vec_capacity s.admitted
+  pub reached : length ls ≤ vec_capacity s.reached
+
+-- the tables have further places at most, and the lists more room
+pub record HasGrown (old new : Scratch) : Type 0 where
+  pub heights : (n : ℕ) × (new.heights.items ≡ old.heights.items ++ replicate n 0)
+  pub depths : (n : ℕ) × (new.depths.items ≡ old.depths.items ++ replicate n 0)
+  pub marks : length old.marks.items ≤ length new.marks.items
+  pub admitted : vec_capacity old.admitted ≤ vec_capacity new.admitted
+  pub reached : vec_capacity old.reached ≤ vec_capacity new.reached
+
+-- an instance has its places, and a walk over so many links its room
+pub record HasRoom (s : Scratch) (key many : ℕ) : Type 0 where
+  pub heights : key < length s.heights.items
+  pub depths : key < length s.depths.items
+  pub marks : key < length s.marks.items
+  pub admitted : many ≤ vec_capacity s.admitted
+  pub reached : many ≤ vec_capacity s.reached

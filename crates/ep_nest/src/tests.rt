@@ -1,0 +1,118 @@
+//! The graph of nested instances: worked runs, the limits of epoll_ctl(2), and refused memory.
+ghost use Rattle.std.specs.Prelude.{◌≡◌, ◌↔◌, ◌++◌, ◌∷◌, [], false, nat_lt, true, ℕ};
+ghost use Rattle.ep_machine.specs.Lists.{is_among};
+ghost use Rattle.ep_machine.specs.Watches.{is_legal};
+ghost use Rattle.ep_nest.specs.Chains.{IsAbove};
+ghost use Rattle.ep_nest.specs.Links.{admitted_by, edges, entries, keys};
+
+use crate::Graph;
+use ep_base::{DescId, EntryId, Errno};
+use std::process::Abort;
+use std::test::Fail;
+
+/// Adds a link. Where memory is refused the graph has to be as before, and the second request succeeds.
+fn add_allowed(rt: &impl Abort, graph: &mut Graph, outer: DescId, inner: DescId, entry: EntryId)
+    requires legal { is_legal ((outer.0, inner.0) ∷ edges graph.old) ≡ true }
+    requires fresh { is_among (entries graph.old) entry.0 ≡ false }
+    ensures { graph.new ≡ graph.old ++ record { outer = outer; inner = inner; entry = entry } ∷ [] }
+{
+    match graph.link(outer, inner, entry) {
+        Ok(()) => (),
+        Err(_) => {
+            assert!(rt; !graph.is_linked(entry), "linked though refused");
+            assert_eq!(rt; graph.may_add(outer, inner), Ok(()));
+            graph
+                .link(outer, inner, entry)
+                .expect(rt, "memory at the second request");
+        }
+    }
+}
+
+/// Adds a link where the graph allows it.
+fn add(
+    rt: &impl Abort,
+    graph: &mut Graph,
+    outer: usize,
+    inner: usize,
+    entry: usize,
+) -> Result<(), Errno> {
+    graph.may_add(DescId(outer), DescId(inner))?;
+    assert!(rt; !graph.is_linked(EntryId(entry)));
+    add_allowed(rt, graph, DescId(outer), DescId(inner), EntryId(entry));
+    assert!(rt; graph.is_linked(EntryId(entry)));
+    Ok(())
+}
+
+/// Adds a chain of links, from its outermost instance inward; each entry is the key of its inner instance.
+fn add_chain(rt: &impl Abort, graph: &mut Graph, chain: &[usize]) {
+    for pair in chain.windows(2) {
+        if let [outer, inner] = pair {
+            assert_eq!(rt; add(rt, graph, *outer, *inner, *inner), Ok(()));
+        }
+    }
+}
+
+/// A caller whose filter follows a rule: the instances above one through entries past a bound.
+fn above_past<'a>(graph: &'a mut Graph, inner: DescId, bound: usize) -> &'a [DescId]
+    ensures { (x : ℕ) → (is_among (keys result.now) x ≡ true) ↔ IsAbove (edges (admitted_by (λ e. nat_lt bound e) graph.old)) x inner.0 }
+{
+    graph.above(inner, &|entry: EntryId| entry.0 > bound)
+}
+
+/// Whether exactly these instances are above one, each once, through the entries of a list.
+fn is_above(graph: &mut Graph, inner: usize, entries: &[usize], wanted: &[usize]) -> bool {
+    let found = graph.above(DescId(inner), &|entry: EntryId| entries.contains(&entry.0));
+    found.len() == wanted.len() && wanted.iter().all(|key| found.contains(&DescId(*key)))
+}
+
+/// A chain of five instances takes no sixth, at either end, and no loop.
+#[test]
+fn nests_five_deep(rt: HostRuntime) -> Result<(), Fail> {
+    let mut graph = Graph::new(rt.alloc());
+    add_chain(&rt, &mut graph, &[3, 4, 5, 6, 7]);
+    assert_eq!(rt; add(&rt, &mut graph, 8, 3, 20), Err(Errno::Eloop));
+    assert_eq!(rt; add(&rt, &mut graph, 7, 8, 20), Err(Errno::Eloop));
+    assert_eq!(rt; add(&rt, &mut graph, 7, 3, 20), Err(Errno::Eloop));
+    assert_eq!(rt; add(&rt, &mut graph, 9, 9, 20), Err(Errno::Eloop));
+    assert_eq!(rt; add(&rt, &mut graph, 4, 3, 20), Err(Errno::Eloop));
+    // The link of 5 and 6 goes, and both ends have room again.
+    graph.unlink(EntryId(6));
+    assert!(rt; !graph.is_linked(EntryId(6)));
+    assert_eq!(rt; add(&rt, &mut graph, 8, 3, 20), Ok(()));
+    assert_eq!(rt; add(&rt, &mut graph, 7, 9, 21), Ok(()));
+    Ok(())
+}
+
+/// What stands above and what stands below count together.
+#[test]
+fn joins_chains(rt: HostRuntime) {
+    let mut graph = Graph::new(rt.alloc());
+    add_chain(&rt, &mut graph, &[1, 2, 3]);
+    add_chain(&rt, &mut graph, &[4, 5]);
+    add_chain(&rt, &mut graph, &[6, 7, 8]);
+    assert_eq!(rt; graph.may_add(DescId(3), DescId(6)), Err(Errno::Eloop));
+    assert_eq!(rt; graph.may_add(DescId(3), DescId(4)), Ok(()));
+    assert_eq!(rt; graph.may_add(DescId(2), DescId(6)), Ok(()));
+    assert_eq!(rt; graph.may_add(DescId(3), DescId(1)), Err(Errno::Eloop));
+}
+
+/// Only chains of admitted links count, and each instance is found once.
+#[test]
+fn finds_above(rt: HostRuntime) {
+    let mut graph = Graph::new(rt.alloc());
+    assert!(rt; is_above(&mut graph, 5, &[1, 2], &[]));
+    // 2 watches 3 and 4, and both watch 5.
+    for (outer, inner, entry) in [(3, 5, 1), (4, 5, 2), (2, 3, 3), (2, 4, 4)] {
+        assert_eq!(rt; add(&rt, &mut graph, outer, inner, entry), Ok(()));
+    }
+    assert!(rt; is_above(&mut graph, 5, &[1, 2, 3, 4], &[2, 3, 4]));
+    assert!(rt; is_above(&mut graph, 5, &[1, 3], &[2, 3]));
+    assert!(rt; is_above(&mut graph, 5, &[1, 4], &[3]));
+    assert!(rt; is_above(&mut graph, 5, &[3, 4], &[]));
+    assert!(rt; is_above(&mut graph, 3, &[1, 2, 3, 4], &[2]));
+    assert!(rt; is_above(&mut graph, 2, &[1, 2, 3, 4], &[]));
+    assert!(rt; is_above(&mut graph, 99, &[1, 2, 3, 4], &[]));
+    assert_eq!(rt; above_past(&mut graph, DescId(5), 1).len(), 2);
+    graph.unlink(EntryId(2));
+    assert!(rt; is_above(&mut graph, 5, &[1, 2, 3, 4], &[2, 3]));
+}

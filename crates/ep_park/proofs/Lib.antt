@@ -1,0 +1,4 @@
+pub mod Marks
+pub mod Tallied
+pub mod Turns
+pub mod Views

@@ -1,0 +1,11 @@
+use Rattle.std.proofs.Common.{ap, ◌∙◌}
+use Rattle.std.specs.List.{list_any}
+use Rattle.ep_park.proofs.Views.{present}
+use Rattle.ep_park.specs.Waiters.{is_caller}
+use Rattle.ep_park.proofs.park.Park.is_parked.Goals as goal
+
+pub returns : goal.returns
+returns c =
+    c.contains_key.ensures
+    ∙ (present c.args.caller.0 c.self.inside.waiters.entries
+    ∙ ap (list_any (is_caller c.args.caller.0)) c.self.view_is)

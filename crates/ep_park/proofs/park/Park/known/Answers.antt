@@ -1,0 +1,11 @@
+use Rattle.std.proofs.Common.{List, ap, map, nat_eq, subst, sym, ◌∙◌, ℕ}
+use Rattle.std.specs.List.{IsDistinct}
+use Rattle.ep_machine.specs.State.{Waiter as Parked}
+use Rattle.ep_park.proofs.Views.{callers}
+use Rattle.ep_park.proofs.park.Park.known.Goals as goal
+
+pub returns : goal.returns
+returns c =
+    subst (λ (ks : List ℕ). IsDistinct nat_eq ks)
+    (sym (callers c.self.inside.waiters.entries) ∙ ap (map (λ (w : Parked). w.caller)) c.self.view_is)
+    c.len-count.ensures.unique

@@ -1,0 +1,4 @@
+pub mod Changes
+pub mod Tallies
+pub mod Turns
+pub mod Waiters

@@ -1,0 +1,13 @@
+//! Callers that are parked in epoll_wait(2), in order of parking, and which of them are marked.
+#![tactic(auto)]
+
+pub mod laws;
+mod park;
+mod scan;
+mod tally;
+#[cfg(test)]
+mod tests;
+mod waiter;
+
+pub use crate::park::Park;
+pub use crate::waiter::Waiter;

@@ -1,0 +1,193 @@
+//! The list of waiters.
+//!
+//! Waiters stand in a map by caller, in order of parking, and each instance that has waiters has a tally: who waits longest there, and
+//! how many are marked. So what is asked of one caller or of one instance costs the same, however many are parked.
+ghost use Rattle.std.specs.Prelude.{◌≡◌, ◌++◌, ◌∷◌, ◌<◌, [], OnErr, OnOk, false, filter, length, map, nat_eq};
+ghost use Rattle.std.specs.List.{IsDistinct, find, list_any, position};
+ghost use Rattle.std.specs.Option.{option_map};
+ghost use Rattle.ep_machine.specs.Waits.{is_marked_at, marked_if_due, unmark, waits_at};
+ghost use Rattle.ep_park.specs.Changes.{changed_at, with_mark_of};
+ghost use Rattle.ep_park.specs.Waiters.{is_caller, is_marked_caller, is_of, longest_marked, parked, without};
+
+use crate::scan::{longest, waits_for};
+use crate::tally::{Tally, count, discount, recount};
+use crate::waiter::{Waiter, is_due};
+use ep_base::{CallerId, DescId, Pid};
+use indexmap::IndexMap;
+use std::alloc::{AllocError, Global};
+use std::marker::Model;
+
+/// The callers that are parked in epoll_wait(2). Contracts see the list of them in order of parking, each as the machine's waiter with the
+/// key of its instance in the place of the instance's number.
+#[derive(Drop)]
+pub struct Park {
+    waiters: IndexMap<u32, Waiter>,
+    tallies: IndexMap<usize, Tally>,
+}
+
+impl Model for Park {
+    ghost use Rattle.std.specs.Prelude.{List};
+    ghost use Rattle.ep_machine.specs.State.{Waiter as Parked};
+
+    ghost Value = { List Parked };
+
+    ghost use Rattle.ep_park.specs.Tallies.{IsTallied};
+    ghost use Rattle.ep_park.specs.Waiters.{listed};
+
+    ghost view = { λ p. listed p.waiters.entries };
+
+    ghost invariant = { λ p. IsTallied p.waiters.entries p.tallies.entries };
+}
+
+impl Park {
+    /// Nobody is parked. This takes no memory.
+    pub fn new(alloc: Global) -> Self
+        ensures { result ≡ [] }
+    {
+        Park {
+            waiters: IndexMap::new(alloc),
+            tallies: IndexMap::new(alloc),
+        }
+    }
+
+    /// Parks a caller that isn't parked behind all others. This is the one call that takes memory; an error says that memory was
+    /// refused, and leaves all as it was. The cost doesn't grow with the callers that are parked, but where a table grows.
+    pub fn park(&mut self, caller: CallerId, waiter: Waiter) -> Result<(), AllocError>
+        requires { list_any (is_caller caller.0) self.old ≡ false }
+        ensures parked { OnOk result (self.new ≡ self.old ++ parked caller.0 waiter ∷ []) }
+        ensures kept { OnErr result (self.new ≡ self.old) }
+    {
+        prove!(self.waiters.len() < usize::MAX);
+        self.waiters.reserve(1)?;
+        count(&mut self.tallies, caller, waiter)?;
+        self.waiters.insert(caller.0, waiter).unwrap();
+        Ok(())
+    }
+
+    /// Takes a caller's waiter out and answers it; the rest stay in order. `None` where the caller isn't parked: nothing changes.
+    /// The waiters that were parked later move up by one place, and the search for the next in line at the instance looks at waiters
+    /// up to it: the cost grows with the callers that are parked.
+    pub fn leave(&mut self, caller: CallerId) -> Option<Waiter>
+        ensures left { option_map (parked caller.0) result ≡ find (is_caller caller.0) self.old }
+        ensures rest { self.new ≡ without caller.0 self.old }
+    {
+        let waiter = self.waiters.shift_remove(&caller.0)?;
+        let tally = self.tallies[&waiter.instance.0];
+        let first = longest(&self.waiters, waiter.instance);
+        discount(&mut self.tallies, tally, waiter, first);
+        Some(waiter)
+    }
+
+    /// Marks the caller that waits longest at an instance, where none of that instance is marked, else changes nothing. That the longest
+    /// waiting one goes on is a rule of this kernel's own. The cost doesn't grow with the callers that are parked.
+    pub fn mark_longest(&mut self, instance: DescId)
+        ensures { self.new ≡ longest_marked instance.0 self.old }
+    {
+        let Some(tally) = self.tallies.get(&instance.0).copied() else {
+            return;
+        };
+        if tally.marked > 0 {
+            return;
+        }
+        if let Some(first) = self.waiters.get_index_of(&tally.first.0) {
+            self.set_mark(first, true);
+        }
+    }
+
+    /// Marks exactly the callers whose deadline, in the clock's unit, is at or below `now`; a mark that is there stays. The cost grows
+    /// with the callers that are parked.
+    pub fn mark_due(&mut self, now: u64)
+        ensures { self.new ≡ map (marked_if_due now) self.old }
+    {
+        for index in 0..self.waiters.len() {
+            self.mark_if_due(index, now);
+        }
+    }
+
+    /// Takes a caller's mark away; nothing changes where it isn't parked or not marked. The cost doesn't grow with the callers that are
+    /// parked.
+    pub fn unmark(&mut self, caller: CallerId)
+        ensures { self.new ≡ map (unmark caller.0) self.old }
+    {
+        if let Some(index) = self.waiters.get_index_of(&caller.0) {
+            self.set_mark(index, false);
+        }
+    }
+
+    /// Marks the waiter at a place if its deadline is at or below `now`.
+    fn mark_if_due(&mut self, index: usize, now: u64)
+        requires { index < length self.old }
+        ensures { self.new ≡ changed_at (marked_if_due now) index self.old }
+    {
+        if is_due(self.waiters[index], now) {
+            self.set_mark(index, true);
+        }
+    }
+
+    /// Sets or takes the mark of the waiter at a place.
+    fn set_mark(&mut self, index: usize, marked: bool)
+        requires { index < length self.old }
+        ensures { self.new ≡ changed_at (with_mark_of marked) index self.old }
+    {
+        prove!(index < self.waiters.len());
+        let waiter = self.waiters[index];
+        let tally = self.tallies[&waiter.instance.0];
+        self.waiters[index].marked = marked;
+        recount(&mut self.tallies, tally, waiter, marked);
+    }
+
+    /// No caller is parked twice: a fact for proofs, which costs nothing.
+    pub fn known(&self)
+        ensures { IsDistinct nat_eq (map (λ w. w.caller) self.now) }
+    {
+        let _count = self.waiters.len();
+    }
+
+    /// A caller's waiter, or `None` where it isn't parked. The cost doesn't grow with the callers that are parked.
+    pub fn waiter(&self, caller: CallerId) -> Option<Waiter>
+        ensures { option_map (parked caller.0) result ≡ find (is_caller caller.0) self.now }
+    {
+        self.waiters.get(&caller.0).copied()
+    }
+
+    /// Whether a process has a parked caller, which keeps it from exit and exec. The cost grows with the callers that are parked.
+    pub fn any_of(&self, process: Pid) -> bool
+        ensures { result ≡ list_any (is_of process.0) self.now }
+    {
+        waits_for(&self.waiters, process)
+    }
+
+    /// Whether a caller is parked. The cost doesn't grow with the callers that are parked.
+    pub fn is_parked(&self, caller: CallerId) -> bool
+        ensures { result ≡ list_any (is_caller caller.0) self.now }
+    {
+        self.waiters.contains_key(&caller.0)
+    }
+
+    /// Whether a caller is parked and marked. The cost doesn't grow with the callers that are parked.
+    pub fn is_marked(&self, caller: CallerId) -> bool
+        ensures { result ≡ list_any (is_marked_caller caller.0) self.now }
+    {
+        match self.waiters.get_index_of(&caller.0) {
+            Some(index) => self.waiters[index].marked,
+            None => false,
+        }
+    }
+
+    /// Whether somebody waits at an instance. The cost doesn't grow with the callers that are parked.
+    pub fn has_waiter(&self, instance: DescId) -> bool
+        ensures { result ≡ waits_at self.now instance.0 }
+    {
+        self.tallies.contains_key(&instance.0)
+    }
+
+    /// Whether somebody who waits at an instance is marked. The cost doesn't grow with the callers that are parked.
+    pub fn has_mark(&self, instance: DescId) -> bool
+        ensures { result ≡ is_marked_at self.now instance.0 }
+    {
+        match self.tallies.get(&instance.0) {
+            Some(tally) => tally.marked > 0,
+            None => false,
+        }
+    }
+}

@@ -1,0 +1,36 @@
+//! The questions that look at one waiter after another.
+ghost use Rattle.std.specs.Prelude.{◌≡◌, ◌==◌};
+ghost use Rattle.std.specs.List.{list_any, position};
+ghost use Rattle.std.specs.Option.{option_map};
+ghost use Rattle.indexmap.specs.IndexMap.{values};
+ghost use Rattle.ep_park.specs.Tallies.{first_at};
+ghost use Rattle.ep_park.specs.Waiters.{listed};
+
+use crate::waiter::Waiter;
+use ep_base::{CallerId, DescId, Pid};
+use indexmap::IndexMap;
+
+/// The caller that waits longest at an instance.
+pub fn longest(waiters: &IndexMap<u32, Waiter>, instance: DescId) -> Option<CallerId>
+    ensures { option_map (λ c. c.0) result ≡ first_at instance.0 (listed waiters.now.entries) }
+{
+    let place = first_place(waiters, instance)?;
+    let (caller, _) = waiters.get_index(place)?;
+    Some(CallerId(*caller))
+}
+
+/// The place of the waiter that waits longest at an instance.
+fn first_place(waiters: &IndexMap<u32, Waiter>, instance: DescId) -> Option<usize>
+    ensures { result ≡ position (λ w. w.instance.0 == instance.0) (values waiters.now) }
+{
+    waiters
+        .values()
+        .position(|waiter| waiter.instance.0 == instance.0)
+}
+
+/// Whether a process has a waiter.
+pub fn waits_for(waiters: &IndexMap<u32, Waiter>, process: Pid) -> bool
+    ensures { result ≡ list_any (λ w. w.process.0 == process.0) (values waiters.now) }
+{
+    waiters.values().any(|waiter| waiter.process.0 == process.0)
+}

@@ -1,0 +1,31 @@
+//! One parked wait.
+
+ghost use Rattle.std.specs.Prelude.{◌≡◌};
+ghost use Rattle.ep_machine.specs.Waits.{is_due as is_reached};
+
+use ep_base::{DescId, Pid};
+
+/// A wait that is parked: what epoll_wait(2) was asked for, and whether its caller is marked to go on.
+#[derive(Clone, Copy, Debug, PartialEq, Eq)]
+pub struct Waiter {
+    /// The process that called.
+    pub process: Pid,
+    /// The instance that is waited for.
+    pub instance: DescId,
+    /// How many reports the caller takes, at least 1.
+    pub max: i32,
+    /// The moment, on the kernel's clock, at which the wait ends with no report; `None` for a wait without end.
+    pub deadline: Option<u64>,
+    /// Whether the caller's next resumption may end the wait.
+    pub marked: bool,
+}
+
+/// Whether a waiter's deadline is at or below `now`.
+pub fn is_due(waiter: Waiter, now: u64) -> bool
+    ensures { result ≡ is_reached now waiter.deadline }
+{
+    match waiter.deadline {
+        Some(deadline) => deadline <= now,
+        None => false,
+    }
+}

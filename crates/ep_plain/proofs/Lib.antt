@@ -1,0 +1,12 @@
+pub mod Controlling
+pub mod Going
+pub mod Keys
+pub mod Linking
+pub mod Transferring
+pub mod Waiting
+pub mod Choosing
+pub mod Reported
+pub mod Waited
+pub mod Opening
+pub mod Stepped
+pub mod Next

@@ -1,0 +1,72 @@
+-- Registrations as the machine has them.
+use Rattle.std.proofs.Common.{◌≡◌, ◌==◌, ◌&&◌, ◌+◌, ◌<◌, ◌++◌, ℕ, ℤ, pos, negsuc, zero, suc, true, false, Bool, List, [], ◌∷◌, Option, Some, None, IsSome, All, length, map, slice_index_or, unwrap_or, refl, ap, sym, ◌∙◌, arith, subst, ◌↔◌}
+use Rattle.std.specs.List.{list_any}
+use Rattle.std.specs.Ordering.{int_eq}
+use Rattle.std.proofs.lemmas.Bool.Decides.{Decides-int_eq, Decides-eqb, same_from_decides}
+use Rattle.std.proofs.lemmas.List.{length-map, map-append}
+use Rattle.std.proofs.lemmas.List.Elements.{All-append, All-cons, All-head, All-nil, All-tail}
+use Rattle.ep_base.specs.declared.ids.DescId.{DescId}
+use Rattle.ep_base.specs.declared.ids.Fd.{Fd}
+use Rattle.ep_machine.specs.Quiet.{kept_all, kept_of}
+use Rattle.ep_machine.specs.State.{State, Watch}
+use Rattle.ep_machine.specs.Watches.{has_key as has_numbers, is_there, number_in}
+use Rattle.ep_interest.specs.Registrations.{Registrations, has_key}
+use Rattle.ep_plain.specs.Stands.{AreLinked, IsLinked, KeepsKeys, Stands, number_at, watch_at}
+use Rattle.ep_table.specs.Value.{Seen, Sound, number_under}
+use Rattle.ep_interest.specs.declared.entry.Entry.{Entry}
+use Rattle.ep_plain.proofs.Keys.{number_kept, same_keys, some_kept}
+
+-- the test of a key sees neither what a registration has seen nor since when it is reportable
+there_kept : (e fd d : ℕ) (xs : List Watch) → list_any (has_numbers e fd d) (kept_all xs) ≡ list_any (has_numbers e fd d) xs
+there_kept e fd d [] = refl
+there_kept e fd d (x ∷ xs) = rw (there_kept e fd d xs) refl
+
+same_descriptor : (x y : ℤ) → x ≡ pos (number_in x) → y ≡ pos (number_in y) → (number_in x == number_in y) ≡ int_eq x y
+same_descriptor x y h i =
+    let e = Decides-eqb (number_in x) (number_in y) in
+    same_from_decides (number_in x == number_in y) (int_eq x y)
+    (λ t. h ∙ (ap (λ (n : ℕ). pos n) (e.0 t) ∙ sym i), λ same. e.1 (ap number_in same)) (Decides-int_eq x y)
+
+-- the machine has a registration of these numbers where the interest sets have one of these keys
+there_linked : (v : Seen) (instance desc : DescId) (fd : ℤ) → Sound v → IsSome (number_under v instance) → IsSome (number_under v desc) → fd ≡ pos (number_in fd) → (xs : List Entry) → All (IsLinked v.keys) xs
+    → list_any (has_numbers (number_at v.keys instance) (number_in fd) (number_at v.keys desc)) (map (watch_at v.keys) xs) ≡ list_any (has_key instance (record { 0 = fd }) desc) xs
+there_linked v instance desc fd sound hi hd hf [] linked = refl
+there_linked v instance desc fd sound hi hd hf (x ∷ xs) linked =
+    let link = All-head (IsLinked v.keys) x xs linked in
+    let a = same_keys v x.instance instance sound link.instance hi in
+    let b = same_descriptor x.fd.0 fd link.fd hf in
+    let c = same_keys v x.desc desc sound link.desc hd in
+    let rest = there_linked v instance desc fd sound hi hd hf xs (All-tail (IsLinked v.keys) x xs linked) in cc
+
+pub there_is : (v : Seen) (r : Registrations) (s : State) (instance desc : DescId) (fd : ℤ) → Sound v → Stands v r s → AreLinked v r → IsSome (number_under v instance) → IsSome (number_under v desc) → fd ≡ pos (number_in fd)
+    → is_there s (number_at v.keys instance) (number_in fd) (number_at v.keys desc) ≡ list_any (has_key instance (record { 0 = fd }) desc) r.entries
+there_is v r s instance desc fd sound h linked hi hd hf =
+    let f = list_any (has_numbers (number_at v.keys instance) (number_in fd) (number_at v.keys desc)) in
+    sym (there_kept _ _ _ s.watches) ∙ (ap f h.watches ∙ there_linked v instance desc fd sound hi hd hf r.entries linked)
+
+-- as many registrations
+pub count_is : (v : Seen) (r : Registrations) (s : State) → Stands v r s → length s.watches ≡ length r.entries
+count_is v r s h = sym (length-map s.watches kept_of) ∙ (ap (λ (xs : List Watch). length xs) h.watches ∙ length-map r.entries (watch_at v.keys))
+
+watches_kept : (old new : Seen) → KeepsKeys old new → (xs : List Entry) → All (IsLinked old.keys) xs → map (watch_at new.keys) xs ≡ map (watch_at old.keys) xs
+watches_kept old new keeps [] linked = refl
+watches_kept old new keeps (x ∷ xs) linked =
+    let link = All-head (IsLinked old.keys) x xs linked in
+    let a = number_kept old new x.instance keeps link.instance in
+    let b = number_kept old new x.desc keeps link.desc in
+    let rest = watches_kept old new keeps xs (All-tail (IsLinked old.keys) x xs linked) in
+    λ i. record { number = x.number; instance = a i; fd = number_in x.fd.0; target = b i; mask = x.mask.0; tag = x.tag; armed = x.armed; seen = None; rep = x.rep; from = 0 } ∷ rest i
+
+link_kept : (old new : Seen) → KeepsKeys old new → (x : Entry) → IsLinked old.keys x → IsLinked new.keys x
+link_kept old new keeps x h = record { instance = some_kept old new x.instance keeps h.instance; desc = some_kept old new x.desc keeps h.desc; fd = h.fd; armed = h.armed }
+
+pub linked_kept : (old new : Seen) (r : Registrations) → KeepsKeys old new → AreLinked old r → AreLinked new r
+linked_kept old new r keeps h = λ k d lt. link_kept old new keeps _ (h k d lt)
+
+-- a call on the tables that keeps each key keeps the registrations
+pub stands_kept : (old new : Seen) (r : Registrations) (s t : State) → KeepsKeys old new → AreLinked old r → Stands old r s → t.files ≡ new.files → t.watches ≡ s.watches → t.added ≡ s.added → Stands new r t
+stands_kept old new r s t keeps linked h files watches added = record {
+  files = files;
+  watches = ap kept_all watches ∙ (h.watches ∙ sym (watches_kept old new keeps r.entries linked));
+  added = added ∙ h.added;
+}

@@ -1,0 +1,63 @@
+-- What a kernel keeps, over one step.
+use Rattle.std.proofs.Common.{◌≡◌, ◌+◌, ◌*◌, ◌<◌, ◌≤◌, ◌++◌, ℕ, List, [], ◌∷◌, Option, Some, length, unwrap_or, refl, ap, sym, ◌∙◌, arith, subst}
+use Rattle.std.proofs.lemmas.List.{length-append}
+use Rattle.ep_base.specs.Limits.{Limits}
+use Rattle.ep_base.specs.declared.answer.Answer.{Answer}
+use Rattle.ep_base.specs.declared.call.Event.{Event}
+use Rattle.ep_base.specs.declared.ids.CallerId.{CallerId}
+use Rattle.ep_base.specs.declared.record.Record.{Record}
+use Rattle.ep_machine.specs.Run.{run}
+use Rattle.ep_machine.specs.State.{State, opening}
+use Rattle.ep_machine.specs.Step.{step}
+use Rattle.ep_machine.proofs.Stepping.{run_next}
+use Rattle.ep_plain.specs.Acts.{Adds}
+use Rattle.ep_plain.specs.Book.{Book, state_of}
+use Rattle.ep_plain.specs.Moves.{Grows, Moves}
+use Rattle.ep_plain.specs.Standing.{IsStanding, book_of}
+use Rattle.ep_plain.specs.Stands.{AreLinked}
+use Rattle.ep_plain.specs.declared.plain.PlainKernel.TheInside.{Inside}
+use Rattle.ep_plain.proofs.Stepped.{Leads, leads}
+
+abbrev pub record_of : CallerId → Event → Answer → List ℕ → Record
+record_of caller event answer picked = record { caller = caller; event = event; answer = answer; picked = picked }
+
+module _ (old new : Inside) (standing : IsStanding old) (caller : CallerId) (event : Event) (answer : Answer) (picked : List ℕ)
+    (limits : new.limits ≡ old.limits) (kept : new.tables.limits ≡ old.tables.limits)
+    (history : new.history.items ≡ old.history.items ++ record_of caller event answer picked ∷ [])
+    (moves : (who : ℕ) → Moves old.limits (length old.history.items + 1) who event answer picked (record { tables = old.tables; interest = old.interest }) (record { tables = new.tables; interest = new.interest }))
+    (linked : AreLinked new.tables new.interest) (grows : Grows old.tables.files new.tables.files) (added : new.interest.added ≤ old.interest.added + 1) where
+  next : Leads old.limits standing.state caller.0 event answer picked (record { tables = new.tables; interest = new.interest })
+  next =
+      leads old.limits standing.state caller.0 event answer picked (record { tables = new.tables; interest = new.interest }) standing.sound standing.quiet (record { tables = old.tables; interest = old.interest }) standing.stands
+      (subst (λ (n : ℕ). Moves old.limits (n + 1) caller.0 event answer picked (record { tables = old.tables; interest = old.interest }) (record { tables = new.tables; interest = new.interest })) (sym standing.n) (moves caller.0))
+
+  leads_on : run old.limits opening new.history.items ≡ Some next.to
+  leads_on = ap (λ (rs : List Record). run old.limits opening rs) history ∙ run_next old.limits standing.state next.to old.history.items (record_of caller event answer picked) standing.leads next.goes
+
+  length_is : length new.history.items ≡ length old.history.items + 1
+  length_is = ap (λ (rs : List Record). length rs) history ∙ length-append old.history.items (record_of caller event answer picked ∷ [])
+
+  pub standing_next : IsStanding new
+  standing_next = record {
+    state = next.to;
+    leads = ap (λ (l : Limits). run l opening new.history.items) limits ∙ leads_on;
+    n = next.n ∙ (ap (λ (n : ℕ). n + 1) standing.n ∙ sym length_is);
+    sound = next.sound;
+    quiet = next.quiet;
+    stands = next.stands;
+    linked = linked;
+    limits = kept ∙ (standing.limits ∙ sym limits);
+    added = omega (arith, added, standing.added, length_is);
+    descriptions = omega (arith, grows.descriptions, standing.descriptions, length_is);
+    objects = omega (arith, grows.objects, standing.objects, length_is);
+  }
+
+  pub adds_next : Adds old.limits caller event answer (state_of (book_of old)) (state_of (book_of new)) old.history.items new.history.items
+  adds_next =
+      let before : state_of (book_of old) ≡ standing.state = ap (λ (o : Option State). unwrap_or o opening) standing.leads in
+      let after : state_of (book_of new) ≡ next.to = ap (λ (o : Option State). unwrap_or o opening) (ap (λ (l : Limits). run l opening new.history.items) limits ∙ leads_on) in
+      record {
+        picked = picked;
+        goes = ap (λ (s : State). step old.limits s caller.0 event picked) before ∙ (next.goes ∙ ap (λ (s : State). Some (answer, s)) (sym after));
+        added = history;
+      }

@@ -1,0 +1,176 @@
+-- A wait of the machine and one of the kernel.
+use Rattle.std.proofs.Common.{◌≡◌, ◌==◌, ◌&&◌, ◌||◌, ◌<◌, ◌≤◌, ◌++◌, ℕ, ℤ, zero, suc, pos, negsuc, Bool, false, true, List, [], ◌∷◌, Option, Some, None, IsSome, All, cond, filter, length, map, min, nat_lt, not, take, if◌then◌else◌, unwrap_or, refl, ap, sym, ◌∙◌, arith, subst, inl, inr}
+use Rattle.std.specs.List.{list_any}
+use Rattle.std.specs.List.Sorted.{IsNonDecreasingBy, IsPermutation}
+use Rattle.std.proofs.lemmas.Bool.{cases_Bool, false≢true}
+use Rattle.std.proofs.lemmas.List.{get_or-map, length-map, length-take, nil_from_length, take-map}
+use Rattle.std.proofs.lemmas.List.Elements.{All-cons, All-head, All-tail}
+use Rattle.std.proofs.lemmas.List.Sorted.{IsPermutation-map, length_permutation}
+use Rattle.ep_base.specs.Limits.{Limits}
+use Rattle.ep_base.specs.declared.answer.Answer.{Answer}
+use Rattle.ep_base.specs.declared.answer.Answer.TheVariants.{Events}
+use Rattle.ep_base.specs.declared.answer.Report.{Report}
+use Rattle.ep_base.specs.declared.ids.DescId.{DescId}
+use Rattle.ep_base.specs.declared.mask.Mask.{Mask}
+use Rattle.ep_interest.specs.Registrations.{Registrations, is_of}
+use Rattle.ep_interest.specs.declared.entry.Entry.{Entry}
+use Rattle.ep_machine.specs.Effect.{first}
+use Rattle.ep_machine.specs.Files.{Files, named_by}
+use Rattle.ep_machine.specs.Lists.{is_among}
+use Rattle.ep_machine.specs.Quiet.{Quiet, kept_all, report_at, reported_in, shows, shows_in}
+use Rattle.ep_machine.specs.Readiness.{is_ready}
+use Rattle.ep_machine.specs.Refusal.{is_zero}
+use Rattle.ep_machine.specs.Report.{plainly, report, reported}
+use Rattle.ep_machine.specs.Sound.{Sound}
+use Rattle.ep_machine.specs.State.{Change, State, Watch}
+use Rattle.ep_machine.specs.Waits.{wait, wait_for}
+use Rattle.ep_machine.specs.Watches.{number_in}
+use Rattle.ep_machine.proofs.Picking.{numbers}
+use Rattle.ep_machine.proofs.Reporting.{report_kept}
+use Rattle.ep_machine.proofs.Settling.{reported_kept}
+use Rattle.ep_machine.proofs.Showing.{ready_kept}
+use Rattle.ep_plain.specs.Moves.{Makes, Parts}
+use Rattle.ep_plain.specs.Stands.{AreLinked, IsLinked, Stands, number_at, watch_at}
+use Rattle.ep_plain.specs.Wait.{AreKeyed, IsChosen, IsKeyed, entry_bits, entry_shows, noted_in, numbers_of, report_of}
+use Rattle.ep_plain.specs.declared.wait.Reportable.{Reportable}
+use Rattle.ep_plain.proofs.Choosing.{noted_none}
+use Rattle.ep_plain.proofs.Keys.{same_keys}
+use Rattle.ep_plain.proofs.Waiting.{entries_in}
+use Rattle.ep_table.specs.Value.{Seen, Sound as SoundTables, number_under}
+
+-- what the machine scans is what the interest set gives
+module _ (v : Seen) (instance : DescId) (sound : SoundTables v) (lives : IsSome (number_under v instance)) where
+  cond_map : (d : Bool) (x : Entry) (xs : List Entry) (ys : List Watch) → map (watch_at v.keys) xs ≡ ys → cond d (watch_at v.keys x ∷ ys) ys ≡ map (watch_at v.keys) (cond d (x ∷ xs) xs)
+  cond_map true x xs ys h = ap (λ (zs : List Watch). watch_at v.keys x ∷ zs) (sym h)
+  cond_map false x xs ys h = sym h
+
+  filter_twice : (b c : Bool) (x : Entry) (xs : List Entry) (ys : List Watch) → map (watch_at v.keys) (filter (entry_shows v) xs) ≡ ys
+      → c ≡ entry_shows v x → cond (b && c) (watch_at v.keys x ∷ ys) ys ≡ map (watch_at v.keys) (filter (entry_shows v) (cond b (x ∷ xs) xs))
+  filter_twice true c x xs ys h e = ap (λ (b : Bool). cond b (watch_at v.keys x ∷ ys) ys) e ∙ cond_map (entry_shows v x) x (filter (entry_shows v) xs) ys h
+  filter_twice false c x xs ys h e = sym h
+
+  pub scanned : (xs : List Entry) → All (IsLinked v.keys) xs → filter (shows_in v.files (number_at v.keys instance)) (map (watch_at v.keys) xs) ≡ map (watch_at v.keys) (filter (entry_shows v) (filter (is_of instance) xs))
+  scanned [] h = refl
+  scanned (x ∷ xs) h =
+      let rest = scanned xs (All-tail (IsLinked v.keys) x xs h) in
+      let link = All-head (IsLinked v.keys) x xs h in
+      let same : (number_at v.keys x.instance == number_at v.keys instance) ≡ is_of instance x = same_keys v x.instance instance sound link.instance lives in
+      ap (λ (b : Bool). cond (b && entry_shows v x) (watch_at v.keys x ∷ filter (shows_in v.files (number_at v.keys instance)) (map (watch_at v.keys) xs)) (filter (shows_in v.files (number_at v.keys instance)) (map (watch_at v.keys) xs))) same
+      ∙ filter_twice (is_of instance x) (entry_shows v x) x (filter (is_of instance) xs) _ (sym rest) refl
+
+get_rep : (keys : List (Option ℕ)) (xs : List Entry) → IsNonDecreasingBy (λ (x : Entry). x.rep) xs → IsNonDecreasingBy (λ (x : Watch). x.rep) (map (watch_at keys) xs)
+get_rep keys xs h = λ i j d le lt.
+    let none : Entry = record { number = 0; instance = record { 0 = 0 }; fd = record { 0 = pos 0 }; desc = record { 0 = 0 }; mask = record { 0 = 0 }; tag = 0; armed = false; seen = None; rep = 0; from = 0 } in
+    let l : j < length xs = omega (arith, length-map xs (watch_at keys), lt) in
+    let x = h i j none le l in
+    omega (arith, x, ap (λ (w : Watch). w.rep) (get_or-map (watch_at keys) xs i none d (omega arith)), ap (λ (w : Watch). w.rep) (get_or-map (watch_at keys) xs j none d l))
+
+numbers_are : (keys : List (Option ℕ)) (xs : List Reportable) → numbers (map (watch_at keys) (entries_in xs)) ≡ numbers_of xs
+numbers_are keys [] = refl
+numbers_are keys (x ∷ xs) = ap (λ (ks : List ℕ). x.entry.number ∷ ks) (numbers_are keys xs)
+
+reports_are : (v : Seen) (r : Registrations) (xs : List Reportable) → AreKeyed v r xs → map (report_at v.files) (map (watch_at v.keys) (entries_in xs)) ≡ map report_of xs
+reports_are v r [] h = refl
+reports_are v r (x ∷ xs) h =
+    let one = All-head (IsKeyed v r) x xs h in
+    let rest = reports_are v r xs (All-tail (IsKeyed v r) x xs h) in
+    λ i. record { bits = record { 0 = sym one.bits i }; tag = x.entry.tag } ∷ rest i
+
+-- a registration that is armed is noted as the machine reports it
+noted_is : (keys : List (Option ℕ)) (n : ℕ) (b : Bool) (x : Entry) → x.armed ≡ true
+    → (if b then record (watch_at keys x) { rep = n } else watch_at keys x) ≡ watch_at keys (if b then record x { armed = true; seen = None; rep = n; from = 0 } else x)
+noted_is keys n true x h = λ i. record { number = x.number; instance = number_at keys x.instance; fd = number_in x.fd.0; target = number_at keys x.desc; mask = x.mask.0; tag = x.tag; armed = h i; seen = None; rep = n; from = 0 }
+noted_is keys n false x h = refl
+
+pub noted_all : (keys : List (Option ℕ)) (n : ℕ) (ks : List ℕ) (xs : List Entry) → All (IsLinked keys) xs → map (reported_in n ks) (map (watch_at keys) xs) ≡ map (watch_at keys) (map (noted_in n ks) xs)
+noted_all keys n ks [] h = refl
+noted_all keys n ks (x ∷ xs) h =
+    let one = noted_is keys n (is_among ks x.number) x (All-head (IsLinked keys) x xs h).armed in
+    let rest = noted_all keys n ks xs (All-tail (IsLinked keys) x xs h) in λ i. one i ∷ rest i
+
+link_noted : (keys : List (Option ℕ)) (n : ℕ) (b : Bool) (x : Entry) → IsLinked keys x → IsLinked keys (if b then record x { armed = true; seen = None; rep = n; from = 0 } else x)
+link_noted keys n true x h = record { instance = h.instance; desc = h.desc; fd = h.fd; armed = refl }
+link_noted keys n false x h = h
+
+pub linked_noted : (keys : List (Option ℕ)) (n : ℕ) (ks : List ℕ) (xs : List Entry) → All (IsLinked keys) xs → All (IsLinked keys) (map (noted_in n ks) xs)
+linked_noted keys n ks [] h = h
+linked_noted keys n ks (x ∷ xs) h =
+    All-cons (IsLinked keys) (noted_in n ks x) (map (noted_in n ks) xs) (link_noted keys n (is_among ks x.number) x (All-head (IsLinked keys) x xs h)) (linked_noted keys n ks xs (All-tail (IsLinked keys) x xs h))
+
+-- where nothing passes a test the filter is empty
+none_any : (p : Watch → Bool) (xs : List Watch) → list_any p xs ≡ false → filter p xs ≡ []
+none_any p [] h = refl
+none_any p (x ∷ xs) h = elim (p x) as (λ b. (b || list_any p xs) ≡ false → cond b (x ∷ filter p xs) (filter p xs) ≡ []) [ true ↦ λ e. absurd (false≢true (sym e)) | false ↦ λ e. none_any p xs e ] h
+
+module _ (v : Seen) (r new : Registrations) (s : State) (n : ℕ) (instance : DescId) (most : ℕ) (chosen : List Reportable)
+    (at : s.n ≡ n) (steady : Sound s) (quiet : Quiet s) (stands : Stands v r s) (linked : AreLinked v r)
+    (sound : SoundTables v) (lives : IsSome (number_under v instance)) (is : IsChosen v r instance most chosen)
+    (entries : new.entries ≡ map (noted_in n (numbers_of chosen)) r.entries) (added : new.added ≡ r.added) where
+  abbrev e : ℕ
+  e = number_at v.keys instance
+
+  scan : filter (shows_in s.files e) (kept_all s.watches) ≡ map (watch_at v.keys) (filter (entry_shows v) (filter (is_of instance) r.entries))
+  scan = (λ i. filter (shows_in (stands.files i) e) (stands.watches i)) ∙ scanned v instance sound lives r.entries linked
+
+  abbrev found : List Watch
+  found = map (watch_at v.keys) is.found
+
+  told : take most found ≡ map (watch_at v.keys) (entries_in chosen)
+  told = take-map (watch_at v.keys) most is.found ∙ ap (map (watch_at v.keys)) (sym is.taken)
+
+  moved : IsPermutation (filter (shows_in s.files e) (kept_all s.watches)) found
+  moved = subst (λ (xs : List Watch). IsPermutation xs found) (sym scan) (IsPermutation-map (watch_at v.keys) _ is.found is.moved)
+
+  -- the report of the machine that picks these
+  reports : report s e most (numbers_of chosen) ≡ Some (Events (map report_of chosen), record s { watches = map (reported s (numbers_of chosen)) s.watches }, [])
+  reports =
+      let P : List ℕ → List Report → Type 0 = λ ks rs. report s e most ks ≡ Some (Events rs, record s { watches = map (reported s ks) s.watches }, []) in
+      let ks : numbers (take most found) ≡ numbers_of chosen = ap numbers told ∙ numbers_are v.keys chosen in
+      let rs : map (report_at s.files) (take most found) ≡ map report_of chosen = (λ i. map (report_at (stands.files i)) (told i)) ∙ reports_are v r chosen is.keyed in
+      subst (λ (xs : List ℕ). P xs (map report_of chosen)) ks (subst (λ (ys : List Report). P (numbers (take most found)) ys) rs (report_kept s e most found steady quiet moved (get_rep v.keys is.found is.sorted)))
+
+  after : Stands v new (record s { watches = map (reported s (numbers_of chosen)) s.watches })
+  after = record {
+    files = stands.files;
+    watches =
+        reported_kept s (numbers_of chosen) quiet
+        ∙ ((λ i. map (reported_in (at i) (numbers_of chosen)) (stands.watches i))
+        ∙ (noted_all v.keys n (numbers_of chosen) r.entries linked ∙ ap (map (watch_at v.keys)) (sym entries)));
+    added = stands.added ∙ sym added;
+  }
+
+  quiet_found : is_ready s e ≡ false → chosen ≡ []
+  quiet_found h =
+      let none : filter (shows_in s.files e) (kept_all s.watches) ≡ [] = none_any (shows_in s.files e) (kept_all s.watches) (sym (ready_kept s e quiet) ∙ h) in
+      let same : length found ≡ 0 = length_permutation (filter (shows_in s.files e) (kept_all s.watches)) found moved ∙ ap (λ (xs : List Watch). length xs) none in
+      let few : length (map (watch_at v.keys) (entries_in chosen)) ≡ min most (length found) = ap (λ (xs : List Watch). length xs) (sym told) ∙ length-take most found in
+      nil_from_length chosen (omega (arith, same, few, length-map (entries_in chosen) (watch_at v.keys), length-map chosen (λ (x : Reportable). x.entry)))
+
+  zero_waits : (caller p : ℕ) (timeout : ℤ) → is_zero timeout ≡ true → wait_for s caller p e most timeout ≡ (Events [], s, [])
+  zero_waits caller p (pos zero) h = refl
+  zero_waits caller p (pos (suc k)) h = absurd (false≢true h)
+  zero_waits caller p (negsuc k) h = absurd (false≢true h)
+
+  pub waited : (caller p : ℕ) (timeout : ℤ) → is_zero timeout ≡ true → Makes (wait s caller p e most timeout (numbers_of chosen)) (Events (map report_of chosen)) (record { tables = v; interest = new })
+  waited caller p timeout zero_timeout = elim (cases_Bool (is_ready s e)) [
+    | inl ready ↦ record {
+      made = (Events (map report_of chosen), record s { watches = map (reported s (numbers_of chosen)) s.watches }, []);
+      is = ap (λ (b : Bool). if b then report s e most (numbers_of chosen) else plainly (numbers_of chosen) (wait_for s caller p e most timeout)) ready ∙ reports;
+      answers = refl;
+      stands = after;
+    }
+    | inr idle ↦
+        let none = quiet_found idle in record {
+          made = (Events [], s, []);
+          is =
+              ap (λ (b : Bool). if b then report s e most (numbers_of chosen) else plainly (numbers_of chosen) (wait_for s caller p e most timeout)) idle
+              ∙ (ap (λ (xs : List Reportable). plainly (numbers_of xs) (wait_for s caller p e most timeout)) none
+              ∙ ap (λ (c : Change). Some c) (zero_waits caller p timeout zero_timeout));
+          answers = ap (λ (xs : List Reportable). Events (map report_of xs)) (sym none);
+          stands = record {
+            files = stands.files;
+            watches = stands.watches ∙ ap (map (watch_at v.keys)) (sym (entries ∙ (ap (λ (xs : List Reportable). map (noted_in n (numbers_of xs)) r.entries) none ∙ noted_none n r.entries)));
+            added = stands.added ∙ sym added;
+          };
+        }
+  ]

@@ -1,0 +1,128 @@
+-- An event of the kernel as a step of the machine.
+use Rattle.std.proofs.Common.{◌≡◌, ◌+◌, ◌*◌, ◌≤◌, ◌++◌, ℕ, ℤ, zero, suc, pos, negsuc, Bool, true, false, List, [], ◌∷◌, Option, Some, None, length, if◌then◌else◌, unwrap_or, refl, ap, sym, ◌∙◌, arith, subst}
+use Rattle.std.specs.Prelude.{MatchOption}
+use Rattle.std.proofs.lemmas.List.{length-append}
+use Rattle.std.proofs.lemmas.Option.{none-some}
+use Rattle.ep_base.specs.Limits.{Limits}
+use Rattle.ep_base.specs.declared.answer.Answer.{Answer}
+use Rattle.ep_base.specs.declared.answer.Answer.TheVariants.{Refused}
+use Rattle.ep_base.specs.declared.call.Call.{Call}
+use Rattle.ep_base.specs.declared.call.Call.TheVariants.{EpollCreate, EpollCtl, EpollWait, Pipe as PipeCall, Read, Write}
+use Rattle.ep_base.specs.declared.call.Event.{Event}
+use Rattle.ep_base.specs.declared.call.Event.TheVariants.{Call as CallOf}
+use Rattle.ep_base.specs.declared.errno.Errno.{Errno}
+use Rattle.ep_base.specs.declared.ids.CallerId.{CallerId}
+use Rattle.ep_base.specs.declared.record.Record.{Record}
+use Rattle.ep_machine.specs.Effect.{first}
+use Rattle.ep_machine.specs.Files.{named_by}
+use Rattle.ep_machine.specs.Quiet.{IsSettled, Quiet}
+use Rattle.ep_machine.specs.Readiness.{is_ready}
+use Rattle.ep_machine.specs.Refusal.{refusals}
+use Rattle.ep_machine.specs.Report.{is_pick, plainly, report}
+use Rattle.ep_machine.specs.Run.{run}
+use Rattle.ep_machine.specs.Settle.{settle}
+use Rattle.ep_machine.specs.Sound.{Sound}
+use Rattle.ep_machine.specs.State.{Change, State, opening}
+use Rattle.ep_machine.specs.Step.{begun, change, step}
+use Rattle.ep_machine.specs.Waits.{wait_for}
+use Rattle.ep_machine.specs.Watches.{is_add, is_del, number_in}
+use Rattle.ep_machine.proofs.Quietness.{quiet_begun, quiet_change, quiet_step}
+use Rattle.ep_machine.proofs.Settling.{settle_quiet}
+use Rattle.ep_machine.proofs.Soundness.{sound_begun, sound_step}
+use Rattle.ep_machine.proofs.Stepping.{refused_step, run_next, step_changed}
+use Rattle.ep_plain.specs.Acts.{Adds}
+use Rattle.ep_plain.specs.Moves.{Goes, Makes, Moves, Parts, Refuses, StandFor}
+use Rattle.ep_plain.specs.Stands.{Stands}
+
+-- A change leaves the number of events.
+n_of : Option Change → ℕ
+n_of None = 0
+n_of (Some c) = c.1.n
+
+abbrev Keeps : ℕ → Option Change → Type 0
+Keeps m o = (made : Change) → o ≡ Some made → made.1.n ≡ m
+
+keeps_some : (m : ℕ) (c : Change) → c.1.n ≡ m → Keeps m (Some c)
+unfolding n_of
+keeps_some m c h = λ made e. ap n_of (sym e) ∙ h
+
+keeps_none : (m : ℕ) → Keeps m None
+keeps_none m = λ made e. absurd (none-some made e)
+
+keeps_plainly : (m : ℕ) (ks : List ℕ) (c : Change) → c.1.n ≡ m → Keeps m (plainly ks c)
+keeps_plainly m [] c h = keeps_some m c h
+keeps_plainly m (k ∷ ks) c h = keeps_none m
+
+keeps_if : (m : ℕ) (b : Bool) (x y : Option Change) → Keeps m x → Keeps m y → Keeps m (if b then x else y)
+keeps_if m true x y h i = h
+keeps_if m false x y h i = i
+
+same_if : (m : ℕ) (a b : Bool) (x y z : Change) → x.1.n ≡ m → y.1.n ≡ m → z.1.n ≡ m → (if a then x else if b then y else z).1.n ≡ m
+same_if m true b x y z h i j = h
+same_if m false true x y z h i j = i
+same_if m false false x y z h i j = j
+
+wait_for_n : (s : State) (caller p e most : ℕ) (timeout : ℤ) → (wait_for s caller p e most timeout).1.n ≡ s.n
+wait_for_n s caller p e most (pos zero) = refl
+wait_for_n s caller p e most (pos (suc k)) = refl
+wait_for_n s caller p e most (negsuc k) = refl
+
+change_n : (limits : Limits) (s : State) (caller : ℕ) (event : Event) (ks : List ℕ) → Keeps s.n (change limits s caller event ks)
+change_n limits s caller (CallOf p (PipeCall cloexec)) ks = keeps_plainly s.n ks _ refl
+change_n limits s caller (CallOf p (EpollCreate cloexec)) ks = keeps_plainly s.n ks _ refl
+change_n limits s caller (CallOf p (EpollCtl epfd op fd mask tag)) ks = keeps_plainly s.n ks _ (same_if s.n (is_add op) (is_del op) _ _ _ refl refl refl)
+change_n limits s caller (CallOf p (EpollWait epfd most timeout)) ks =
+    let e = named_by s.files p.0 epfd.0 in
+    keeps_if s.n (is_ready s e) (report s e (number_in most) ks) (plainly ks (wait_for s caller p.0 e (number_in most) timeout))
+    (keeps_if s.n (is_pick s e (number_in most) ks) _ None (keeps_some s.n _ refl) (keeps_none s.n))
+    (keeps_plainly s.n ks _ (wait_for_n s caller p.0 e (number_in most) timeout))
+change_n limits s caller (CallOf p (Read fd n)) ks = keeps_plainly s.n ks _ refl
+change_n limits s caller (CallOf p (Write fd bytes)) ks = keeps_plainly s.n ks _ refl
+
+settle_n : (before after : State) (raised : List (ℕ × ℕ)) → (settle before after raised).n ≡ after.n
+settle_n before after raised = refl
+
+-- what a step of the kernel leads to
+pub record Leads (limits : Limits) (s : State) (caller : ℕ) (event : Event) (answer : Answer) (picked : List ℕ) (new : Parts) : Type 0 where
+  pub to : State
+  pub goes : step limits s caller event picked ≡ Some (answer, to)
+  pub n : to.n ≡ s.n + 1
+  pub sound : Sound to
+  pub quiet : Quiet to
+  pub stands : StandFor new to
+
+module _ (limits : Limits) (s : State) (caller : ℕ) (event : Event) (answer : Answer) (picked : List ℕ) (new : Parts) (sound : Sound s) (quiet : Quiet s) where
+  by_refusal : (e : Errno) → first (refusals limits (begun s) caller event) ≡ Some e → Refuses (begun s) e answer picked new → Leads limits s caller event answer picked new
+  by_refusal e h r =
+      let P : Answer → List ℕ → Type 0 = λ a ks. step limits s caller event ks ≡ Some (a, begun s) in
+      record {
+        to = begun s;
+        goes = subst (λ (a : Answer). P a picked) (sym r.answers) (subst (P (Refused e)) (sym r.unpicked) (refused_step limits s caller event e h));
+        n = refl;
+        sound = sound_begun s sound;
+        quiet = quiet_begun s quiet;
+        stands = r.stands;
+      }
+
+  by_change : first (refusals limits (begun s) caller event) ≡ None → Makes (change limits (begun s) caller event picked) answer new → Leads limits s caller event answer picked new
+  by_change h m =
+      let t = settle (begun s) m.made.1 m.made.2 in
+      let same = settle_quiet (begun s) m.made.1 m.made.2 (quiet_change limits (begun s) caller event picked m.made (quiet_begun s quiet) h m.is) in
+      let goes : step limits s caller event picked ≡ Some (answer, t) = step_changed limits s caller event picked m.made h m.is ∙ ap (λ (a : Answer). Some (a, t)) m.answers in
+      record {
+        to = t;
+        goes = goes;
+        n = settle_n (begun s) m.made.1 m.made.2 ∙ change_n limits (begun s) caller event picked m.made m.is;
+        sound = sound_step limits s t caller event picked answer sound goes;
+        quiet = quiet_step limits s t caller event picked answer quiet goes;
+        stands = record { files = same.files ∙ m.stands.files; watches = same.watches ∙ m.stands.watches; added = same.added ∙ m.stands.added };
+      }
+
+  by_cases : (o : Option Errno) → first (refusals limits (begun s) caller event) ≡ o → MatchOption o (Makes (change limits (begun s) caller event picked) answer new) (λ e. Refuses (begun s) e answer picked new) → Leads limits s caller event answer picked new
+  by_cases None h m = by_change h m
+  by_cases (Some e) h r = by_refusal e h r
+
+  pub leads : (old : Parts) → StandFor old s → Moves limits (s.n + 1) caller event answer picked old new → Leads limits s caller event answer picked new
+  leads old stands moves =
+      let there : StandFor old (begun s) = record { files = stands.files; watches = stands.watches; added = stands.added } in
+      by_cases (first (refusals limits (begun s) caller event)) refl (moves (begun s) refl (sound_begun s sound) (quiet_begun s quiet) there)

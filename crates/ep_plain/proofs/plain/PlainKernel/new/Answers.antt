@@ -1,0 +1,39 @@
+use Rattle.std.proofs.Common.{◌≡◌, ◌+◌, ◌*◌, ◌≤◌, ℕ, List, [], ◌∷◌, Option, Some, length, map, refl, ap, sym, ◌∙◌, arith, subst}
+use Rattle.std.proofs.lemmas.List.Elements.{All-nil}
+use Rattle.ep_base.specs.declared.record.Record.{Record}
+use Rattle.ep_interest.specs.declared.entry.Entry.{Entry}
+use Rattle.ep_machine.specs.Files.{Files, opening_files}
+use Rattle.ep_machine.specs.Run.{run}
+use Rattle.ep_machine.specs.State.{State, opening}
+use Rattle.ep_machine.proofs.Quietness.{quiet_opening}
+use Rattle.ep_machine.proofs.Soundness.{sound_opening}
+use Rattle.ep_plain.specs.Stands.{AreLinked, IsLinked, watch_at}
+use Rattle.std.specs.Prelude.{All}
+use Rattle.ep_plain.proofs.plain.PlainKernel.new.Goals as goal
+
+pub invariant_of-result : goal.invariant_of-result
+invariant_of-result c =
+    let v = c.in_ok-new.field-0 in
+    let files : v.files ≡ opening_files = c.in_ok-new.ensures.files in
+    let none : c.new-2.result.entries ≡ [] = c.new-2.ensures.entries in
+    let past : c.new-3.result.items ≡ [] = c.new-3.ensures.items in
+    let count : length c.new-3.result.items ≡ 0 = ap (λ (rs : List Record). length rs) past in
+    let places : length v.files.descriptions ≡ 1 = ap (λ (f : Files). length f.descriptions) files in
+    let things : length v.files.objects ≡ 1 = ap (λ (f : Files). length f.objects) files in
+    record {
+      state = opening;
+      leads = ap (λ (rs : List Record). run c.args.limits opening rs) past;
+      n = sym count;
+      sound = sound_opening;
+      quiet = quiet_opening;
+      stands = record {
+        files = sym files;
+        watches = ap (λ (xs : List Entry). map (watch_at v.keys) xs) (sym none);
+        added = sym c.new-2.ensures.added;
+      };
+      linked = subst (λ (xs : List Entry). All (IsLinked v.keys) xs) (sym none) (All-nil (IsLinked v.keys));
+      limits = c.in_ok-new.ensures.limits;
+      added = omega (arith, c.new-2.ensures.added);
+      descriptions = omega (arith, places);
+      objects = omega (arith, things);
+    }

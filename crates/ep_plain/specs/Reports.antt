@@ -1,0 +1,19 @@
+-- What a wait that isn't refused does.
+use Rattle.std.specs.Prelude.{◌≡◌, List, map, ℕ}
+use Rattle.ep_base.specs.declared.answer.Answer.{Answer}
+use Rattle.ep_base.specs.declared.answer.Answer.TheVariants.{Events}
+use Rattle.ep_base.specs.declared.ids.DescId.{DescId}
+use Rattle.ep_interest.specs.Registrations.{Registrations}
+use Rattle.ep_plain.specs.Wait.{IsChosen, noted_in, numbers_of, report_of}
+use Rattle.ep_plain.specs.declared.wait.Reportable.{Reportable}
+use Rattle.ep_table.specs.Value.{Seen}
+
+-- it reports what was chosen, and notes that it did
+pub record Reports (tables : Seen) (old new : Registrations) (step : ℕ) (instance : DescId) (most : ℕ) (answer : Answer) (picked : List ℕ) : Type 0 where
+  pub chosen : List Reportable
+  pub is_chosen : IsChosen tables old instance most chosen
+  pub answers : answer ≡ Events (map report_of chosen)
+  pub picks : picked ≡ numbers_of chosen
+  pub entries : new.entries ≡ map (noted_in step (numbers_of chosen)) old.entries
+  pub keys : new.keys ≡ old.keys
+  pub added : new.added ≡ old.added

@@ -1,0 +1,26 @@
+-- What a kernel keeps.
+use Rattle.std.specs.Prelude.{◌≡◌, ◌*◌, ◌+◌, ◌≤◌, Some, length}
+use Rattle.ep_machine.specs.Quiet.{Quiet}
+use Rattle.ep_machine.specs.Run.{run}
+use Rattle.ep_machine.specs.Sound.{Sound}
+use Rattle.ep_machine.specs.State.{State, opening}
+use Rattle.ep_plain.specs.Book.{Book}
+use Rattle.ep_plain.specs.Stands.{AreLinked, Stands}
+use Rattle.ep_plain.specs.declared.plain.PlainKernel.TheInside.{Inside}
+
+abbrev pub book_of : Inside → Book
+book_of k = record { limits = k.limits; past = k.history.items }
+
+-- the history leads to a state for which the parts stand
+pub record IsStanding (k : Inside) : Type 0 where
+  pub state : State
+  pub leads : run k.limits opening k.history.items ≡ Some state
+  pub n : state.n ≡ length k.history.items
+  pub sound : Sound state
+  pub quiet : Quiet state
+  pub stands : Stands k.tables k.interest state
+  pub linked : AreLinked k.tables k.interest
+  pub limits : k.tables.limits ≡ k.limits
+  pub added : k.interest.added ≤ length k.history.items
+  pub descriptions : length k.tables.files.descriptions ≤ 2 * length k.history.items + 1
+  pub objects : length k.tables.files.objects ≤ length k.history.items + 1

@@ -1,0 +1,40 @@
+-- Which states of the machine the parts of a kernel stand for.
+use Rattle.std.specs.Prelude.{◌≡◌, All, IsSome, List, None, Option, Some, [], map, pos, slice_index_or, true, unwrap_or, ℕ}
+use Rattle.ep_base.specs.declared.ids.DescId.{DescId}
+use Rattle.ep_machine.specs.Quiet.{kept_all}
+use Rattle.ep_machine.specs.State.{State, Watch}
+use Rattle.ep_machine.specs.Watches.{number_in}
+use Rattle.ep_interest.specs.declared.entry.Entry.{Entry}
+use Rattle.ep_interest.specs.Registrations.{Registrations}
+use Rattle.ep_table.specs.Value.{Seen}
+
+-- the number of the description under a key
+abbrev pub number_at : List (Option ℕ) → DescId → ℕ
+number_at keys key = unwrap_or (slice_index_or keys key.0 None) 0
+
+-- the machine's registration: numbers of descriptions stand in place of their keys
+abbrev pub watch_at : List (Option ℕ) → Entry → Watch
+watch_at keys x = record { number = x.number; instance = number_at keys x.instance; fd = number_in x.fd.0; target = number_at keys x.desc; mask = x.mask.0; tag = x.tag; armed = x.armed; seen = None; rep = x.rep; from = 0 }
+
+-- its keys have descriptions, it stands under a descriptor number, and it is armed
+pub record IsLinked (keys : List (Option ℕ)) (x : Entry) : Type 0 where
+  pub instance : IsSome (slice_index_or keys x.instance.0 None)
+  pub desc : IsSome (slice_index_or keys x.desc.0 None)
+  pub fd : x.fd.0 ≡ pos (number_in x.fd.0)
+  pub armed : x.armed ≡ true
+
+abbrev pub AreLinked : Seen → Registrations → Type 0
+AreLinked tables interest = All (IsLinked tables.keys) interest.entries
+
+pub record Stands (tables : Seen) (interest : Registrations) (s : State) : Type 0 where
+  pub files : s.files ≡ tables.files
+  pub watches : kept_all s.watches ≡ map (watch_at tables.keys) interest.entries
+  pub added : s.added ≡ interest.added
+
+-- one of the states that these parts stand for
+abbrev pub state_at : Seen → Registrations → State
+state_at tables interest = record { n = 0; now = 0; files = tables.files; arrivals = []; watches = map (watch_at tables.keys) interest.entries; added = interest.added; waiters = [] }
+
+-- each key keeps its number
+abbrev pub KeepsKeys : Seen → Seen → Type 0
+KeepsKeys old new = (key : DescId) (d : ℕ) → slice_index_or old.keys key.0 None ≡ Some d → slice_index_or new.keys key.0 None ≡ Some d

@@ -1,0 +1,71 @@
+-- epoll_wait over the parts of a kernel.
+use Rattle.std.specs.Prelude.{◌≡◌, All, Bool, IsSome, List, None, Option, Some, [], filter, if◌then◌else◌, is_none, map, nat_lt, not, take, true, unwrap_or, ℕ, ◌∷◌}
+use Rattle.std.specs.List.Sorted.{IsNonDecreasingBy, IsPermutation}
+use Rattle.ep_base.specs.declared.answer.Report.{Report}
+use Rattle.ep_base.specs.declared.call.Call.{Call}
+use Rattle.ep_base.specs.declared.call.Call.TheVariants.{EpollWait}
+use Rattle.ep_base.specs.declared.errno.Errno.{Errno}
+use Rattle.ep_base.specs.declared.errno.Errno.TheVariants.{Ebadf, Einval}
+use Rattle.ep_base.specs.declared.ids.DescId.{DescId}
+use Rattle.ep_interest.specs.Registrations.{Registrations, is_of, number_under as number_of_entry}
+use Rattle.ep_interest.specs.declared.entry.Entry.{Entry}
+use Rattle.ep_machine.specs.Bits.{asked}
+use Rattle.ep_machine.specs.Effect.{first}
+use Rattle.ep_machine.specs.Files.{Files, names_nothing, object_under, side_of, under}
+use Rattle.ep_machine.specs.Lists.{is_among}
+use Rattle.ep_machine.specs.Objects.{is_instance, object_present}
+use Rattle.ep_machine.specs.Refusal.{is_zero}
+use Rattle.ep_machine.specs.Waits.{is_positive}
+use Rattle.ep_table.specs.Value.{Seen, content_of, number_of, number_under}
+use Rattle.ep_plain.specs.declared.wait.Reportable.{Reportable}
+use Rattle.ep_plain.specs.declared.wait.Wait.{Wait}
+
+-- the call with these arguments
+abbrev pub wait_call : Wait → Call
+wait_call args = EpollWait args.epfd args.max args.timeout
+
+abbrev pub wait_tests : Files → ℕ → Wait → List (Bool × Errno)
+wait_tests files p args =
+    (not (is_positive args.max), Einval)
+    ∷ (not (is_zero args.timeout), Einval)
+    ∷ (names_nothing files p args.epfd.0, Ebadf)
+    ∷ (not (is_instance (object_under files p args.epfd.0)), Einval) ∷ []
+
+-- the key of the instance that is waited for, and no refusal
+pub record Waits (tables : Seen) (p : ℕ) (args : Wait) (desc : DescId) : Type 0 where
+  pub accepted : first (wait_tests tables.files p args) ≡ None
+  pub named : number_under tables desc ≡ under tables.files p args.epfd.0
+  pub lives : IsSome (number_under tables desc)
+
+-- the bits that a registration shows
+abbrev pub entry_bits : Seen → Entry → ℕ
+entry_bits tables x = let d = number_of tables x.desc in asked x.mask.0 (object_present (content_of tables.files d) (side_of tables.files d) 0)
+
+abbrev pub entry_shows : Seen → Entry → Bool
+entry_shows tables x = nat_lt 0 (entry_bits tables x)
+
+-- it has the key of its registration and the bits that this shows
+pub record IsKeyed (tables : Seen) (interest : Registrations) (x : Reportable) : Type 0 where
+  pub key : number_of_entry interest x.id ≡ Some x.entry.number
+  pub bits : x.bits.0 ≡ entry_bits tables x.entry
+
+abbrev pub AreKeyed : Seen → Registrations → List Reportable → Type 0
+AreKeyed tables interest xs = All (IsKeyed tables interest) xs
+
+-- the longest unreported of those that show something, at most so many
+pub record IsChosen (tables : Seen) (interest : Registrations) (instance : DescId) (most : ℕ) (chosen : List Reportable) : Type 0 where
+  pub found : List Entry
+  pub moved : IsPermutation (filter (entry_shows tables) (filter (is_of instance) interest.entries)) found
+  pub sorted : IsNonDecreasingBy (λ x. x.rep) found
+  pub taken : map (λ x. x.entry) chosen ≡ take most found
+  pub keyed : AreKeyed tables interest chosen
+
+abbrev pub numbers_of : List Reportable → List ℕ
+numbers_of xs = map (λ x. x.entry.number) xs
+
+abbrev pub report_of : Reportable → Report
+report_of x = record { bits = x.bits; tag = x.entry.tag }
+
+-- those that are reported in event n
+abbrev pub noted_in : ℕ → List ℕ → Entry → Entry
+noted_in n ks x = if is_among ks x.number then record x { armed = true; seen = None; rep = n; from = 0 } else x

@@ -1,0 +1,114 @@
+//! One event.
+ghost use Rattle.std.specs.Prelude.{◌≡◌, ◌+◌, ◌<◌, ◌≤◌, ◌^◌, ℕ, IfOk, OnErr, false, is_some, length, true};
+ghost use Rattle.ep_machine.specs.Files.{table_of};
+ghost use Rattle.ep_plain.specs.Acts.{is_no_memory};
+ghost use Rattle.ep_plain.specs.Moves.{Grows, Moves, MovesCall};
+ghost use Rattle.ep_plain.specs.Stands.{AreLinked};
+
+use crate::acted::Acted;
+use crate::control::{Control, epoll_ctl};
+use crate::create::{create_instance, create_pipe};
+use crate::transfer::transfer;
+use crate::wait::{Wait, epoll_wait};
+use ep_base::{Call, Errno, Event, Limits, Pid};
+use ep_interest::Interest;
+use ep_table::Tables;
+use std::alloc::{AllocError, Global};
+
+/// A call of a process that is there.
+fn act_call(
+    alloc: Global,
+    limits: &Limits,
+    tables: &mut Tables,
+    interest: &mut Interest,
+    step: u64,
+    pid: Pid,
+    call: &Call,
+) -> Result<Acted, AllocError>
+    requires process { is_some (table_of tables.old.files pid.0) ≡ true }
+    requires limits { tables.old.limits ≡ limits.now }
+    requires linked { AreLinked tables.old interest.old }
+    requires room { interest.old.added + 1 < 2 ^ 64 }
+    requires descriptions { length tables.old.files.descriptions + 2 < 2 ^ 64 }
+    requires objects { length tables.old.files.objects + 2 < 2 ^ 64 }
+    ensures ok { IfOk result (λ acted. (caller : ℕ) → MovesCall limits.now step caller pid.0 call.now acted.answer acted.picked (record { tables = tables.old; interest = interest.old }) (record { tables = tables.new; interest = interest.new })) }
+    ensures copy { IfOk result (λ acted. acted.copy ≡ acted.answer) }
+    ensures real { IfOk result (λ acted. is_no_memory acted.answer ≡ false) }
+    ensures kept { tables.new.limits ≡ tables.old.limits }
+    ensures linked { AreLinked tables.new interest.new }
+    ensures grows { Grows tables.old.files tables.new.files }
+    ensures added { interest.new.added ≤ interest.old.added + 1 }
+    ensures err { OnErr result ((tables.new ≡ tables.old) × (interest.new ≡ interest.old)) }
+{
+    match call {
+        Call::Pipe { cloexec } => {
+            let acted = create_pipe(alloc, tables, pid, *cloexec, limits.pipe_bytes())?;
+            Ok(acted)
+        }
+        Call::EpollCreate { cloexec } => {
+            let acted = create_instance(alloc, tables, pid, *cloexec)?;
+            Ok(acted)
+        }
+        Call::EpollCtl {
+            epfd,
+            op,
+            fd,
+            mask,
+            tag,
+        } => {
+            let args = Control {
+                epfd: *epfd,
+                op: *op,
+                fd: *fd,
+                mask: *mask,
+                tag: *tag,
+            };
+            let answer = epoll_ctl(limits, tables, interest, pid, args)?;
+            Ok(Acted::settled(alloc, answer))
+        }
+        Call::EpollWait { epfd, max, timeout } => {
+            let args = Wait {
+                epfd: *epfd,
+                max: *max,
+                timeout: *timeout,
+            };
+            let acted = epoll_wait(alloc, tables, interest, step, pid, args)?;
+            Ok(acted)
+        }
+        Call::Read { fd, .. } | Call::Write { fd, .. } => {
+            let acted = transfer(alloc, tables, pid, *fd, call)?;
+            Ok(acted)
+        }
+    }
+}
+
+/// One event: its refusal, or its change. An `AllocError` has changed nothing.
+pub fn act(
+    alloc: Global,
+    limits: &Limits,
+    tables: &mut Tables,
+    interest: &mut Interest,
+    step: u64,
+    event: &Event,
+) -> Result<Acted, AllocError>
+    requires limits { tables.old.limits ≡ limits.now }
+    requires linked { AreLinked tables.old interest.old }
+    requires room { interest.old.added + 1 < 2 ^ 64 }
+    requires descriptions { length tables.old.files.descriptions + 2 < 2 ^ 64 }
+    requires objects { length tables.old.files.objects + 2 < 2 ^ 64 }
+    ensures ok { IfOk result (λ acted. (caller : ℕ) → Moves limits.now step caller event.now acted.answer acted.picked (record { tables = tables.old; interest = interest.old }) (record { tables = tables.new; interest = interest.new })) }
+    ensures copy { IfOk result (λ acted. acted.copy ≡ acted.answer) }
+    ensures real { IfOk result (λ acted. is_no_memory acted.answer ≡ false) }
+    ensures kept { tables.new.limits ≡ tables.old.limits }
+    ensures linked { AreLinked tables.new interest.new }
+    ensures grows { Grows tables.old.files tables.new.files }
+    ensures added { interest.new.added ≤ interest.old.added + 1 }
+    ensures err { OnErr result ((tables.new ≡ tables.old) × (interest.new ≡ interest.old)) }
+{
+    let Event::Call { pid, call } = event;
+    if !tables.has_process(*pid) {
+        return Ok(Acted::refused(alloc, Errno::Esrch));
+    }
+    let acted = act_call(alloc, limits, tables, interest, step, *pid, call)?;
+    Ok(acted)
+}

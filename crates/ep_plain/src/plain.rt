@@ -1,0 +1,109 @@
+//! The kernel that scans.
+ghost use Rattle.std.specs.Prelude.{◌≡◌, [], IfOk, OnErr, false};
+ghost use Rattle.ep_plain.specs.Acts.{Adds, is_no_memory};
+ghost use Rattle.ep_plain.specs.Book.{state_of};
+
+use crate::Kernel;
+use crate::act::act;
+use crate::acted::Acted;
+use ep_base::{Answer, CallerId, Errno, Event, Limits, Record};
+use ep_interest::Interest;
+use ep_table::Tables;
+use std::alloc::{AllocError, Global};
+use std::marker::Model;
+
+/// A kernel that keeps no ready list: a wait looks at each registration of its instance.
+/// Contracts see its limits and its history.
+#[derive(Drop)]
+pub struct PlainKernel {
+    alloc: Global,
+    limits: Limits,
+    tables: Tables,
+    interest: Interest,
+    history: Vec<Record>,
+}
+
+impl Model for PlainKernel {
+    ghost use Rattle.ep_plain.specs.Book.{Book};
+
+    ghost Value = { Book };
+
+    ghost use Rattle.ep_plain.specs.Standing.{book_of, IsStanding};
+
+    ghost view = { book_of };
+
+    ghost invariant = { IsStanding };
+}
+
+impl PlainKernel {
+    /// A kernel in the opening state: process 1, whose descriptors 0, 1 and 2 name one plain object,
+    /// and an empty history.
+    pub fn new(alloc: Global, limits: Limits) -> Result<PlainKernel, AllocError>
+        ensures { IfOk result (λ kernel. kernel ≡ record { limits = limits; past = [] }) }
+    {
+        Ok(PlainKernel {
+            alloc,
+            limits,
+            tables: Tables::new(alloc, limits)?,
+            interest: Interest::new(alloc),
+            history: Vec::new(alloc),
+        })
+    }
+
+    /// One event. An `AllocError` has changed nothing.
+    fn try_step(&mut self, caller: CallerId, event: Event) -> Result<Answer, AllocError>
+        ensures limits { self.new.limits ≡ self.old.limits }
+        ensures ok { IfOk result (λ answer. Adds self.old.limits caller event answer (state_of self.old) (state_of self.new) self.old.past self.new.past) }
+        ensures real { IfOk result (λ answer. is_no_memory answer ≡ false) }
+        ensures err { OnErr result (self.new ≡ self.old) }
+    {
+        self.history.reserve(1)?;
+        let step = self.history.len() as u64 + 1;
+        let Acted {
+            answer,
+            copy,
+            picked,
+        } = act(
+            self.alloc,
+            &self.limits,
+            &mut self.tables,
+            &mut self.interest,
+            step,
+            &event,
+        )?;
+        self.history.push_reserved(Record {
+            caller,
+            event,
+            answer: copy,
+            picked,
+        });
+        Ok(answer)
+    }
+}
+
+impl Kernel for PlainKernel {
+    ghost state = { state_of };
+
+    ghost past = { λ book. book.past };
+
+    ghost bounds = { λ book. book.limits };
+
+    fn step(&mut self, caller: CallerId, event: Event) -> Answer {
+        match self.try_step(caller, event) {
+            Ok(answer) => answer,
+            Err(_) => Answer::Refused(Errno::Enomem),
+        }
+    }
+
+    fn reserve(&mut self, additional: usize) -> Result<(), AllocError> {
+        self.history.reserve(additional)
+    }
+
+    fn history(&self) -> &[Record] {
+        &self.history
+    }
+
+    fn limits(&self) -> &Limits {
+        &self.limits
+    }
+}

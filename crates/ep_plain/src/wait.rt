@@ -1,0 +1,220 @@
+//! epoll_wait.
+ghost use Rattle.std.specs.Prelude.{◌≡◌, ◌<◌, ◌^◌, ℕ, All, IfOk, IfSome, IsNone, IsSome, MatchOption, MatchResult, None, OnErr, Some, false, filter, true, length, map, min, nat_lt, pos, take};
+ghost use Rattle.ep_machine.specs.Bits.{asked};
+ghost use Rattle.ep_machine.specs.Effect.{first};
+ghost use Rattle.ep_machine.specs.Files.{under};
+ghost use Rattle.ep_plain.specs.Acts.{is_no_memory};
+ghost use Rattle.ep_plain.specs.Moves.{MovesCall};
+ghost use Rattle.ep_plain.specs.Stands.{AreLinked};
+ghost use Rattle.ep_plain.specs.Wait.{AreKeyed, IsChosen, Waits, entry_bits, entry_shows, noted_in, numbers_of, report_of, wait_call, wait_tests};
+ghost use Rattle.ep_plain.specs.Reports.{Reports};
+ghost use Rattle.ep_base.specs.declared.answer.Answer.TheVariants.{Events};
+ghost use Rattle.ep_machine.specs.Waits.{is_positive};
+ghost use Rattle.ep_machine.specs.Watches.{number_in};
+ghost use Rattle.ep_interest.specs.Registrations.{is_of, number_under as number_of_entry};
+ghost use Rattle.ep_base.specs.Limits.{Limits as Numbers};
+ghost use Rattle.ep_table.specs.Value.{number_under};
+
+use crate::acted::Acted;
+use bitflags::Flags;
+use ep_base::{
+    Answer, DescId, EntryId, Errno, Fd, Mask, Picked, Pid, Report, Reports as ReportList,
+};
+use ep_interest::{Entry, Interest};
+use ep_table::Tables;
+use smallvec::SmallVec;
+use std::alloc::{AllocError, Global};
+
+/// The arguments of an epoll_wait.
+#[derive(Clone, Copy)]
+pub struct Wait {
+    pub epfd: Fd,
+    pub max: i32,
+    pub timeout: i64,
+}
+
+/// A registration that is reportable, with its key and what it shows.
+#[derive(Clone, Copy)]
+pub struct Reportable {
+    pub id: EntryId,
+    pub entry: Entry,
+    pub bits: Mask,
+}
+
+/// The instance that is waited for, or the refusal that comes first.
+fn find_instance(tables: &Tables, pid: Pid, args: Wait) -> Result<DescId, Errno>
+    ensures { MatchResult result (λ desc. Waits tables.now pid.0 args desc) (λ e. first (wait_tests tables.now.files pid.0 args) ≡ Some e) }
+{
+    if args.max <= 0 {
+        return Err(Errno::Einval);
+    }
+    if args.timeout != 0 {
+        return Err(Errno::Einval);
+    }
+    let Some(desc) = tables.lookup(pid, args.epfd) else {
+        return Err(Errno::Ebadf);
+    };
+    if !tables.object(desc).is_instance() {
+        return Err(Errno::Einval);
+    }
+    Ok(desc)
+}
+
+/// The bits that a registration shows: those of its target that its mask asks for, ERR and HUP unasked.
+fn shown(tables: &Tables, entry: &Entry) -> Mask
+    requires { IsSome (number_under tables.now entry.now.desc) }
+    ensures { result.0 ≡ entry_bits tables.now entry.now }
+{
+    let present = tables.present(entry.desc, 0);
+    present.intersection(entry.mask.union(Mask::ERR.union(Mask::HUP)))
+}
+
+/// The registrations of an instance that show something, in order of registration.
+fn reportables(
+    alloc: Global,
+    tables: &Tables,
+    interest: &Interest,
+    instance: DescId,
+) -> Result<Vec<Reportable>, AllocError>
+    requires { AreLinked tables.now interest.now }
+    ensures entries { IfOk result (λ found. map (λ x. x.entry) found.items ≡ filter (entry_shows tables.now) (filter (is_of instance) interest.now.entries)) }
+    ensures keyed { IfOk result (λ found. AreKeyed tables.now interest.now found.items) }
+{
+    let mut found = Vec::new(alloc);
+    for (id, entry) in interest.entries(instance) {
+        let bits = shown(tables, entry);
+        if !bits.is_empty() {
+            found.push(Reportable {
+                id,
+                entry: *entry,
+                bits,
+            })?;
+        }
+    }
+    Ok(found)
+}
+
+/// How many reports are asked for.
+fn most(args: Wait) -> usize
+    requires { is_positive args.max ≡ true }
+    ensures { result ≡ number_in args.max }
+{
+    args.max as usize
+}
+
+/// At most `max` of them, the longest unreported first, so that none is passed over for ever.
+fn choose(
+    alloc: Global,
+    tables: &Tables,
+    interest: &Interest,
+    instance: DescId,
+    args: Wait,
+) -> Result<Vec<Reportable>, AllocError>
+    requires linked { AreLinked tables.now interest.now }
+    requires positive { is_positive args.max ≡ true }
+    ensures { IfOk result (λ chosen. IsChosen tables.now interest.now instance (number_in args.max) chosen.items) }
+{
+    let mut chosen = reportables(alloc, tables, interest, instance)?;
+    chosen.sort_by_key(|x| x.entry.rep)?;
+    chosen.truncate(most(args));
+    Ok(chosen)
+}
+
+/// What is reported of them.
+fn reports_of(alloc: Global, chosen: &[Reportable]) -> Result<ReportList, AllocError>
+    ensures { IfOk result (λ reports. reports ≡ map report_of chosen.now) }
+{
+    let mut reports = SmallVec::new(alloc);
+    for x in chosen {
+        reports.push(Report {
+            bits: x.bits,
+            tag: x.entry.tag,
+        })?;
+    }
+    Ok(ReportList::new(reports))
+}
+
+/// Their numbers.
+fn picked_of(alloc: Global, chosen: &[Reportable]) -> Result<Picked, AllocError>
+    ensures { IfOk result (λ picked. picked ≡ numbers_of chosen.now) }
+{
+    let mut picked = SmallVec::new(alloc);
+    for x in chosen {
+        picked.push(x.entry.number)?;
+    }
+    Ok(Picked::new(picked))
+}
+
+/// Notes that they are reported in this step. Each is level-triggered, and so stays armed.
+fn note(interest: &mut Interest, step: u64, chosen: &[Reportable])
+    requires { All (λ x. number_of_entry interest.old x.id ≡ Some x.entry.number) chosen.now }
+    ensures entries { interest.new.entries ≡ map (noted_in step (numbers_of chosen.now)) interest.old.entries }
+    ensures keys { interest.new.keys ≡ interest.old.keys }
+    ensures added { interest.new.added ≡ interest.old.added }
+{
+    for x in chosen {
+        interest.note(x.id, true, None, step, 0);
+    }
+}
+
+/// The answer that reports them.
+fn reported(alloc: Global, chosen: &[Reportable]) -> Result<Acted, AllocError>
+    ensures answer { IfOk result (λ acted. acted.answer ≡ Events (map report_of chosen.now)) }
+    ensures copy { IfOk result (λ acted. acted.copy ≡ acted.answer) }
+    ensures picked { IfOk result (λ acted. acted.picked ≡ numbers_of chosen.now) }
+{
+    let answer = Answer::Events(reports_of(alloc, chosen)?);
+    let copy = Answer::Events(reports_of(alloc, chosen)?);
+    Ok(Acted {
+        answer,
+        copy,
+        picked: picked_of(alloc, chosen)?,
+    })
+}
+
+/// Reports what is reportable at an instance.
+fn report(
+    alloc: Global,
+    tables: &Tables,
+    interest: &mut Interest,
+    step: u64,
+    instance: DescId,
+    args: Wait,
+) -> Result<Acted, AllocError>
+    requires linked { AreLinked tables.now interest.old }
+    requires positive { is_positive args.max ≡ true }
+    ensures ok { IfOk result (λ acted. Reports tables.now interest.old interest.new step instance (number_in args.max) acted.answer acted.picked) }
+    ensures copy { IfOk result (λ acted. acted.copy ≡ acted.answer) }
+    ensures err { OnErr result (interest.new ≡ interest.old) }
+{
+    let chosen = choose(alloc, tables, interest, instance, args)?;
+    let acted = reported(alloc, &chosen)?;
+    note(interest, step, &chosen);
+    Ok(acted)
+}
+
+/// At most `max` reports of what is reportable at an instance now, the longest unreported first.
+pub fn epoll_wait(
+    alloc: Global,
+    tables: &Tables,
+    interest: &mut Interest,
+    step: u64,
+    pid: Pid,
+    args: Wait,
+) -> Result<Acted, AllocError>
+    requires { AreLinked tables.now interest.old }
+    ensures ok { IfOk result (λ acted. (limits : Numbers) (caller : ℕ) → MovesCall limits step caller pid.0 (wait_call args) acted.answer acted.picked (record { tables = tables.now; interest = interest.old }) (record { tables = tables.now; interest = interest.new })) }
+    ensures copy { IfOk result (λ acted. acted.copy ≡ acted.answer) }
+    ensures real { IfOk result (λ acted. is_no_memory acted.answer ≡ false) }
+    ensures linked { AreLinked tables.now interest.new }
+    ensures added { interest.new.added ≡ interest.old.added }
+    ensures err { OnErr result (interest.new ≡ interest.old) }
+{
+    tables.known();
+    let instance = match find_instance(tables, pid, args) {
+        Ok(instance) => instance,
+        Err(errno) => return Ok(Acted::refused(alloc, errno)),
+    };
+    let acted = report(alloc, tables, interest, step, instance, args)?;
+    Ok(acted)
+}

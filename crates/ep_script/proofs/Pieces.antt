@@ -1,0 +1,74 @@
+-- A line that is read piece by piece, where the reader's bytes are known.
+use Rattle.std.proofs.Common.{List, None, Option, Some, IfSome, [], ap, append-nil, append_assoc, inl, inr, sym, ℕ, ◌++◌, ◌≡◌, ◌≢◌, ◌∙◌, ◌∷◌}
+use Rattle.std.specs.Io.KnownBytes.{prepend_known}
+use Rattle.ep_script.specs.Known.{Leads}
+use Rattle.ep_script.specs.Lines.{IsPlain}
+use Rattle.ep_script.specs.Steps.{IsTooLong, TakesLine}
+
+pub starts : (k : Option (List ℕ)) (line : List ℕ) → line ≡ [] → Leads k k (λ xs ys. xs ≡ line ++ ys)
+starts None line e = tt
+starts (Some xs) line e = ap (λ l. l ++ xs) (sym e)
+
+-- a piece that ends the line
+pub ends : (k l m : Option (List ℕ)) (line u line' v : List ℕ) → Leads k l (λ xs ys. xs ≡ line ++ ys) → Leads l (prepend_known u m) (λ xs ys. xs ≡ ys)
+    → line ++ u ≡ line' ++ 10 ∷ v → IsPlain line' → Leads k (prepend_known v m) (λ xs ys. TakesLine xs line' ys)
+ends None l m line u line' v p q e plain = tt
+ends (Some xs) None m line u line' v p q e plain = absurd p
+ends (Some xs) (Some ys) None line u line' v p q e plain = q
+ends (Some xs) (Some ys) (Some zs) line u line' v p q e plain = record {
+  plain = plain;
+  cut = inl (p ∙ ap (λ y. line ++ y) q ∙ sym (append_assoc line u zs) ∙ ap (λ y. y ++ zs) e ∙ append_assoc line' (10 ∷ v) zs);
+}
+
+-- a piece that does not
+pub goes_on : (k l m : Option (List ℕ)) (line u line' v : List ℕ) → Leads k l (λ xs ys. xs ≡ line ++ ys) → Leads l (prepend_known u m) (λ xs ys. xs ≡ ys)
+    → line' ≡ line ++ u → v ≡ [] → Leads k (prepend_known v m) (λ xs ys. xs ≡ line' ++ ys)
+goes_on None l m line u line' v p q e n = tt
+goes_on (Some xs) None m line u line' v p q e n = absurd p
+goes_on (Some xs) (Some ys) None line u line' v p q e n = q
+goes_on (Some xs) (Some ys) (Some zs) line u line' v p q e n =
+    p ∙ ap (λ y. line ++ y) q ∙ sym (append_assoc line u zs) ∙ ap (λ y. y ++ zs) (sym e) ∙ ap (λ y. line' ++ (y ++ zs)) (sym n)
+
+-- the end of the input, behind a line that lacks its last byte
+pub ends_open : (k l m : Option (List ℕ)) (line : List ℕ) → Leads k l (λ xs ys. xs ≡ line ++ ys) → Leads l m (λ xs ys. (xs ≡ []) × (ys ≡ [])) → IsPlain line → line ≢ []
+    → Leads k m (λ xs ys. TakesLine xs line ys)
+ends_open None l m line p q plain some = tt
+ends_open (Some xs) None m line p q plain some = absurd p
+ends_open (Some xs) (Some ys) None line p q plain some = q
+ends_open (Some xs) (Some ys) (Some zs) line p q plain some = record {
+  plain = plain;
+  cut = inr (p ∙ ap (λ y. line ++ y) q.0 ∙ append-nil line, q.1, some);
+}
+
+-- the end of the input, and no line
+pub ends_empty : (k l m : Option (List ℕ)) (line : List ℕ) → Leads k l (λ xs ys. xs ≡ line ++ ys) → Leads l m (λ xs ys. (xs ≡ []) × (ys ≡ [])) → line ≡ []
+    → Leads k m (λ xs ys. (xs ≡ []) × (ys ≡ []))
+ends_empty None l m line p q e = tt
+ends_empty (Some xs) None m line p q e = absurd p
+ends_empty (Some xs) (Some ys) None line p q e = q
+ends_empty (Some xs) (Some ys) (Some zs) line p q e = (p ∙ ap (λ y. line ++ y) q.0 ∙ ap (λ l. l ++ []) e, q.1)
+
+-- a read that failed
+pub breaks : (k l m : Option (List ℕ)) (line : List ℕ) → Leads k l (λ xs ys. xs ≡ line ++ ys) → Leads l m (λ xs ys. xs ≡ ys) → IsPlain line
+    → Leads k m (λ xs ys. (part : List ℕ) × IsPlain part × (xs ≡ part ++ ys))
+breaks None l m line p q plain = tt
+breaks (Some xs) None m line p q plain = absurd p
+breaks (Some xs) (Some ys) None line p q plain = q
+breaks (Some xs) (Some ys) (Some zs) line p q plain = (line, plain, p ∙ ap (λ y. line ++ y) q)
+
+too_long : (xs us zs : List ℕ) → IsTooLong us → xs ≡ us ++ zs → IsTooLong xs
+too_long xs us zs h e = record {
+  front = h.front;
+  rest = h.rest ++ zs;
+  plain = h.plain;
+  long = h.long;
+  cut = e ∙ ap (λ u. u ++ zs) h.cut ∙ append_assoc h.front h.rest zs;
+}
+
+-- a piece that is too long
+pub overflows : (k l m : Option (List ℕ)) (line u : List ℕ) → Leads k l (λ xs ys. xs ≡ line ++ ys) → Leads l (prepend_known u m) (λ xs ys. xs ≡ ys) → IsTooLong (line ++ u)
+    → IfSome k (λ xs. IsTooLong xs)
+overflows None l m line u p q h = tt
+overflows (Some xs) None m line u p q h = absurd p
+overflows (Some xs) (Some ys) None line u p q h = absurd q
+overflows (Some xs) (Some ys) (Some zs) line u p q h = too_long xs (line ++ u) zs h (p ∙ ap (λ y. line ++ y) q ∙ sym (append_assoc line u zs))

@@ -1,0 +1,14 @@
+pub mod Values
+pub mod Keys
+pub mod Mask
+pub mod Bytes
+pub mod Event
+pub mod Ops
+pub mod Line
+pub mod Lines
+pub mod Transcript
+pub mod Known
+pub mod Outcome
+pub mod Unread
+pub mod Steps
+pub mod Tally

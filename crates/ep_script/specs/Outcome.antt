@@ -1,0 +1,72 @@
+-- How the run of a script ends, and what then stands written and in the history.
+use Rattle.std.specs.Prelude.{List, [], length, map, ℕ, ◌+◌, ◌++◌, ◌<◌, ◌≡◌, ◌≤◌, ◌⊎◌, ◌∷◌}
+use Rattle.ep_base.specs.declared.record.Record.{Record}
+use Rattle.ep_script.specs.declared.fault.ScriptFault.{ScriptFault}
+use Rattle.ep_script.specs.declared.fault.ScriptFault.TheVariants as fault
+use Rattle.ep_script.specs.declared.summary.Summary.{Summary}
+use Rattle.ep_script.specs.Lines.{AllFit, IsPlain, joined, lines_of, longest_line, most_lines}
+use Rattle.ep_script.specs.Transcript.{AreOf, Grows, Outcome, bad_line_count, records, said, told, transcript}
+
+pub record Tallies (summary : Summary) (outcomes : List Outcome) : Type 0 where
+  pub lines : summary.lines ≡ length outcomes
+  pub records : summary.records ≡ length (records outcomes)
+  pub bad : summary.bad ≡ bad_line_count outcomes
+
+-- the transcript of the whole input was written, and nothing else
+pub record Whole (input before written : List ℕ) (start history : List Record) (summary : Summary) : Type 0 where
+  pub outcomes : List Outcome
+  pub of_lines : AreOf outcomes (lines_of input)
+  pub text : written ≡ before ++ transcript 1 outcomes
+  pub grows : Grows start history outcomes
+  pub tally : Tallies summary outcomes
+  pub fit : AllFit (lines_of input)
+
+-- the history gained the records of these lines, and so many more at most
+pub record GrowsBeyond (start history : List Record) (outcomes : List Outcome) (most : ℕ) : Type 0 where
+  pub gained : List Record
+  pub unanswered : List Record
+  pub history_is : history ≡ start ++ (gained ++ unanswered)
+  pub of_lines : map told gained ≡ records outcomes
+  pub few : length unanswered ≤ most
+
+-- the transcript of the first lines was written and nothing else, and these lines are left
+pub record Stopped (input before written : List ℕ) (start history : List Record) (most : ℕ) (left : List (List ℕ)) : Type 0 where
+  pub lines : List (List ℕ)
+  pub outcomes : List Outcome
+  pub cut : lines_of input ≡ lines ++ left
+  pub of_lines : AreOf outcomes lines
+  pub text : written ≡ before ++ transcript 1 outcomes
+  pub grows : GrowsBeyond start history outcomes most
+  pub fit : AllFit lines
+
+-- the transcript of the first lines was written, and a part of the next line's
+pub record Broken (input before written : List ℕ) (start history : List Record) : Type 0 where
+  pub lines : List (List ℕ)
+  pub left : List (List ℕ)
+  pub outcomes : List Outcome
+  pub last : Outcome
+  pub cut : lines_of input ≡ lines ++ left
+  pub of_lines : AreOf (outcomes ++ last ∷ []) lines
+  pub part : List ℕ
+  pub unwritten : List ℕ
+  pub said_is : said (length outcomes + 1) last ≡ part ++ unwritten
+  pub text : written ≡ before ++ (transcript 1 outcomes ++ part)
+  pub grows : Grows start history (outcomes ++ last ∷ [])
+
+-- Only after a want of memory has the history a record that nothing was written of.
+abbrev pub Faulted : ScriptFault → List ℕ → List ℕ → List ℕ → List Record → List Record → Type 0
+Faulted fault.Read input before written start history = (left : List (List ℕ)) × Stopped input before written start history 0 left
+Faulted fault.Memory input before written start history = (left : List (List ℕ)) × Stopped input before written start history 1 left
+Faulted (fault.Line number) input before written start history =
+    (long : List ℕ) × (left : List (List ℕ)) × (stopped : Stopped input before written start history 0 (long ∷ left))
+    × (number ≡ length stopped.lines + 1) × (longest_line < length long)
+Faulted fault.Lines input before written start history =
+    (next : List ℕ) × (left : List (List ℕ)) × (stopped : Stopped input before written start history 0 (next ∷ left))
+    × (length stopped.lines ≡ most_lines)
+Faulted fault.Write input before written start history = Broken input before written start history
+
+-- every line that was read to its end is answered: what was read behind them, before the rest, is the front of a line
+pub record Cut (input rest before written : List ℕ) (start history : List Record) : Type 0 where
+  pub left : List (List ℕ)
+  pub stopped : Stopped input before written start history 0 left
+  pub all : ((part : List ℕ) × IsPlain part × (input ≡ joined stopped.lines ++ (part ++ rest))) ⊎ (left ≡ [])

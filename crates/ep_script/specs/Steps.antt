@@ -1,0 +1,50 @@
+-- What the steps of a run do: words for contracts inside this crate.
+use Rattle.std.specs.Io.KnownBytes.{Appends, Keeps}
+use Rattle.std.specs.Prelude.{List, None, Option, Some, [], if◌then◌else◌, length, take, ℕ, ◌++◌, ◌<◌, ◌≡◌, ◌≢◌, ◌≤◌, ◌⊎◌, ◌∷◌}
+use Rattle.ep_base.specs.declared.record.Record.{Record}
+use Rattle.ep_plain.specs.Acts.{is_no_memory}
+use Rattle.ep_script.specs.declared.fault.ScriptFault.{ScriptFault}
+use Rattle.ep_script.specs.declared.fault.ScriptFault.TheVariants as fault
+use Rattle.ep_script.specs.declared.summary.LineKind.{LineKind}
+use Rattle.ep_script.specs.declared.summary.LineKind.TheVariants as kind
+use Rattle.ep_script.specs.Event.{Command}
+use Rattle.ep_script.specs.Lines.{IsPlain, longest_line}
+use Rattle.ep_script.specs.Transcript.{Grows, Outcome, command_in, said}
+
+-- the first line of xs, and what is behind it
+pub record TakesLine (xs line ys : List ℕ) : Type 0 where
+  pub plain : IsPlain line
+  pub cut : (xs ≡ line ++ 10 ∷ ys) ⊎ ((xs ≡ line) × (ys ≡ []) × (line ≢ []))
+
+-- xs begins with too many bytes that end no line
+pub record IsTooLong (xs : List ℕ) : Type 0 where
+  pub front : List ℕ
+  pub rest : List ℕ
+  pub plain : IsPlain front
+  pub long : longest_line < length front
+  pub cut : xs ≡ front ++ rest
+
+abbrev pub kind_of : Outcome → LineKind
+kind_of None = kind.Bad
+kind_of (Some x) = if is_no_memory x.answer then kind.Unrecorded else kind.Recorded
+
+-- what became of a line, and the text that tells it
+pub record Tells (command : Option Command) (number : ℕ) (kind : LineKind) (text : List ℕ) (before after : List Record) : Type 0 where
+  pub outcome : Outcome
+  pub of_line : command_in outcome ≡ command
+  pub text_is : text ≡ said number outcome
+  pub grows : Grows before after (outcome ∷ [])
+  pub kind_is : kind ≡ kind_of outcome
+
+-- a record more at most
+abbrev pub MayGain : List Record → List Record → Type 0
+MayGain before after = (gained : List Record) × (after ≡ before ++ gained) × (length gained ≤ 1)
+
+-- how the answer to a line failed
+abbrev pub AnswerFault : ScriptFault → Option Command → ℕ → Option (List ℕ) → Option (List ℕ) → List Record → List Record → Type 0
+AnswerFault fault.Memory command number old new before after = Keeps old new × MayGain before after
+AnswerFault fault.Write command number old new before after =
+    (kind : LineKind) × (text : List ℕ) × Tells command number kind text before after × ((n : ℕ) × Appends old new (take n text))
+AnswerFault fault.Read command number old new before after = ⊥
+AnswerFault fault.Lines command number old new before after = ⊥
+AnswerFault (fault.Line k) command number old new before after = ⊥

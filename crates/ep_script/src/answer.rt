@@ -1,0 +1,79 @@
+//! Answers one line of a script.
+ghost use Rattle.std.specs.Io.KnownBytes.{Appends};
+ghost use Rattle.std.specs.Prelude.{◌≡◌, IfErr, IfOk, IsErrOf, List, OnErr, OnOk, ℕ, if◌then◌else◌, string_bytes, true};
+ghost use Rattle.ep_plain.specs.Acts.{is_no_memory};
+ghost use Rattle.ep_script.specs.Event.{event};
+ghost use Rattle.ep_script.specs.Steps.{AnswerFault, MayGain, Tells};
+ghost use Rattle.ep_script.specs.declared.summary.LineKind.TheVariants as kind;
+
+use crate::emit::emit;
+use crate::fault::ScriptFault;
+use crate::print::{push_answer, push_bad};
+use crate::read::read_line;
+use crate::summary::LineKind;
+use crate::watched::Watched;
+use ep_base::{Answer, Errno};
+use ep_plain::Kernel;
+use std::alloc::{AllocError, Global};
+use std::io::Write;
+
+fn kind_of_answer(answer: &Answer) -> LineKind
+    ensures { result ≡ (if is_no_memory answer.now then kind.Unrecorded else kind.Recorded) }
+{
+    match answer {
+        Answer::Refused(Errno::Enomem) => LineKind::Unrecorded,
+        _ => LineKind::Recorded,
+    }
+}
+
+/// Hands what the line asks for to the kernel, and puts the line that tells the answer into `text`.
+fn ask<K: Kernel>(
+    alloc: Global,
+    kernel: &mut K,
+    line: &[u8],
+    number: u64,
+    text: &mut String,
+) -> Result<LineKind, AllocError>
+    ensures limits { K.bounds kernel.new ≡ K.bounds kernel.old }
+    ensures ok { IfOk result (λ kind. Tells (event line.now) number kind (string_bytes text.new) (K.past kernel.old) (K.past kernel.new)) }
+    ensures err { OnErr result (MayGain (K.past kernel.old) (K.past kernel.new)) }
+{
+    text.clear();
+    match read_line(alloc, line)? {
+        None => {
+            push_bad(text, number)?;
+            Ok(LineKind::Bad)
+        }
+        Some((caller, event)) => {
+            let answer = kernel.step(caller, event);
+            push_answer(alloc, text, &answer)?;
+            Ok(kind_of_answer(&answer))
+        }
+    }
+}
+
+/// Answers a line, and says what became of it. `text` is room for the answer.
+pub(crate) fn answer_line<K: Kernel, W: Write>(
+    alloc: Global,
+    kernel: &mut K,
+    writer: &mut Watched<W>,
+    line: &[u8],
+    number: u64,
+    text: &mut String,
+) -> Result<LineKind, ScriptFault>
+    ensures limits { K.bounds kernel.new ≡ K.bounds kernel.old }
+    ensures ok { IfOk result (λ kind. (words : List ℕ) × Tells (event line.now) number kind words (K.past kernel.old) (K.past kernel.new)
+        × Appends (W.contents writer.old.inner) (W.contents writer.new.inner) words) }
+    ensures flag { OnOk result (writer.new.failed ≡ writer.old.failed) }
+    ensures err { IfErr result (λ e. AnswerFault e (event line.now) number
+        (W.contents writer.old.inner) (W.contents writer.new.inner) (K.past kernel.old) (K.past kernel.new)) }
+    ensures err_flag { IsErrOf result ScriptFault.Write → writer.new.failed ≡ true }
+{
+    let Ok(kind) = ask(alloc, kernel, line, number, text) else {
+        return Err(ScriptFault::Memory);
+    };
+    match emit(writer, text.as_bytes()) {
+        Ok(()) => Ok(kind),
+        Err(fault) => Err(fault),
+    }
+}

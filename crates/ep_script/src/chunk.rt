@@ -1,0 +1,13 @@
+//! The bytes that were read and not yet used.
+ghost use Rattle.std.specs.Prelude.{◌<◌, ◌≤◌, vec_len};
+
+/// A chunk of the input, of which the bytes from `start` to `end` are not yet used.
+#[derive(Drop)]
+pub(crate) struct Input {
+    pub(crate) chunk: Vec<u8>,
+    pub(crate) start: usize,
+    pub(crate) end: usize,
+    ghost ordered: { start ≤ end },
+    ghost within: { end ≤ vec_len chunk },
+    ghost has_room: { 0 < vec_len chunk },
+}

@@ -1,0 +1,136 @@
+//! Reads chunks of the input, and cuts lines from them.
+ghost use Rattle.std.specs.Io.KnownBytes.{prepend_known};
+ghost use Rattle.std.specs.Prelude.{◌≡◌, ◌+◌, ◌++◌, ◌<◌, ◌≤◌, ◌⊎◌, ◌∷◌, IfErr, IfOk, IsErrOf, OnErr, OnOk, [], drop, false, length, take, true};
+ghost use Rattle.ep_script.specs.Known.{Leads};
+ghost use Rattle.ep_script.specs.Lines.{IsPlain, longest_line};
+ghost use Rattle.ep_script.specs.Steps.{IsTooLong};
+ghost use Rattle.ep_script.specs.Unread.{unread};
+
+use crate::chunk::Input;
+use crate::fault::ScriptFault;
+use crate::watched::Watched;
+use std::alloc::{AllocError, Global};
+use std::io::Read;
+
+/// How many bytes a read asks for at most.
+const CHUNK: usize = 65_536;
+
+/// The most bytes of a line, without the byte that ends it.
+const LONGEST_LINE: usize = 65_536;
+
+/// How many bytes stand before the first byte 10, or how many there are where there is none.
+fn plain_front(bytes: &[u8]) -> usize
+    ensures within { result ≤ length bytes.now }
+    ensures plain { IsPlain (take result bytes.now) }
+    ensures cut { result < length bytes.now → bytes.now ≡ take result bytes.now ++ 10 ∷ drop (result + 1) bytes.now }
+{
+    for (i, byte) in bytes.iter().enumerate() {
+        if *byte == b'\n' {
+            return i;
+        }
+    }
+    bytes.len()
+}
+
+impl Input {
+    /// No bytes yet.
+    pub(crate) fn new(alloc: Global) -> Result<Input, AllocError>
+        ensures { IfOk result (λ input. unread input ≡ []) }
+    {
+        let chunk = vec![in alloc; 0; CHUNK]?;
+        Ok(Input {
+            chunk,
+            start: 0,
+            end: 0,
+        })
+    }
+
+    /// The bytes that were read and not yet used.
+    fn unread(&self) -> &[u8]
+        ensures { result.now ≡ unread self.now }
+    {
+        &self.chunk[self.start..self.end]
+    }
+
+    /// Uses the first of them.
+    fn skip(&mut self, count: usize)
+        requires { count ≤ length (unread self.old) }
+        ensures { unread self.new ≡ drop count (unread self.old) }
+    {
+        self.start += count;
+    }
+
+    /// Reads on, in place of what was read before.
+    fn fill<R: Read>(&mut self, reader: &mut Watched<R>) -> Result<(), ScriptFault>
+        ensures ok { OnOk result (Leads (R.remaining reader.old.inner) (prepend_known (unread self.new) (R.remaining reader.new.inner)) (λ xs ys. xs ≡ ys)) }
+        ensures end { OnOk result (unread self.new ≡ [] → Leads (R.remaining reader.old.inner) (R.remaining reader.new.inner) (λ xs ys. ys ≡ [])) }
+        ensures flag { OnOk result (reader.new.failed ≡ reader.old.failed) }
+        ensures err { IfErr result (λ e. (e ≡ ScriptFault.Read) × (reader.new.failed ≡ true)) }
+        ensures kept { OnErr result (Leads (R.remaining reader.old.inner) (R.remaining reader.new.inner) (λ xs ys. xs ≡ ys)) }
+    {
+        self.start = 0;
+        self.end = 0;
+        match reader.read(self.chunk.as_mut_slice()) {
+            Ok(count) => {
+                self.end = count;
+                Ok(())
+            }
+            Err(_) => Err(ScriptFault::Read),
+        }
+    }
+
+    /// Whether a byte is left. It reads on only where none is at hand.
+    pub(crate) fn has_more<R: Read>(&mut self, reader: &mut Watched<R>) -> Result<bool, ScriptFault>
+        ensures ok { OnOk result (Leads
+            (prepend_known (unread self.old) (R.remaining reader.old.inner))
+            (prepend_known (unread self.new) (R.remaining reader.new.inner))
+            (λ xs ys. xs ≡ ys)) }
+        ensures some { IfOk result (λ more. more ≡ true → 0 < length (unread self.new)) }
+        ensures none { IfOk result (λ more. more ≡ false → Leads
+            (prepend_known (unread self.old) (R.remaining reader.old.inner))
+            (prepend_known (unread self.new) (R.remaining reader.new.inner))
+            (λ xs ys. (xs ≡ []) × (ys ≡ []))) }
+        ensures flag { OnOk result (reader.new.failed ≡ reader.old.failed) }
+        ensures err { IfErr result (λ e. (e ≡ ScriptFault.Read) × (reader.new.failed ≡ true)) }
+        ensures kept { OnErr result (Leads
+            (prepend_known (unread self.old) (R.remaining reader.old.inner))
+            (R.remaining reader.new.inner)
+            (λ xs ys. xs ≡ ys)) }
+    {
+        if !self.unread().is_empty() {
+            return Ok(true);
+        }
+        match self.fill(reader) {
+            Ok(()) => Ok(!self.unread().is_empty()),
+            Err(fault) => Err(fault),
+        }
+    }
+
+    /// Moves bytes at hand behind the line, up to the byte that ends it, and says whether there was one.
+    pub(crate) fn take_piece(
+        &mut self,
+        line: &mut Vec<u8>,
+        number: u64,
+    ) -> Result<bool, ScriptFault>
+        requires plain { IsPlain line.old.items }
+        requires short { length line.old.items ≤ longest_line }
+        ensures ended { IfOk result (λ is_whole. is_whole ≡ true → line.old.items ++ unread self.old ≡ line.new.items ++ 10 ∷ unread self.new) }
+        ensures open { IfOk result (λ is_whole. is_whole ≡ false → (line.new.items ≡ line.old.items ++ unread self.old) × (unread self.new ≡ [])) }
+        ensures plain { OnOk result (IsPlain line.new.items) }
+        ensures short { OnOk result (length line.new.items ≤ longest_line) }
+        ensures long { IsErrOf result (ScriptFault.Line number) → IsTooLong (line.old.items ++ unread self.old) }
+        ensures err { IfErr result (λ e. (e ≡ ScriptFault.Memory) ⊎ (e ≡ ScriptFault.Line number)) }
+    {
+        let unread = self.unread();
+        let count = plain_front(unread);
+        let is_whole = count < unread.len();
+        if count > LONGEST_LINE - line.len() {
+            return Err(ScriptFault::Line(number));
+        }
+        if line.extend_from_slice(&unread[..count]).is_err() {
+            return Err(ScriptFault::Memory);
+        }
+        self.skip(if is_whole { count + 1 } else { count });
+        Ok(is_whole)
+    }
+}

@@ -1,0 +1,208 @@
+//! Whole scripts, over a kernel without memory.
+
+use crate::tests::stand_ins::{Narrow, NoMemory, Pieces, Unflushed};
+use crate::{ScriptFault, Summary, Watched, run_script};
+use ep_base::Limits;
+use std::alloc::Global;
+use std::test::Fail;
+
+const NO_MEMORY: &[u8] = b"{\"err\":[12,\"ENOMEM\"]}\n";
+
+const SCRIPT: &[u8] =
+    b"{\"op\":\"pipe\"}\n\n{\"op\":\"epoll\"}\n{\"op\":\"read\",\"fd\":3,\"n\":1}";
+
+const ANSWERS: &[u8] =
+    b"{\"err\":[12,\"ENOMEM\"]}\n{\"bad\":2}\n{\"err\":[12,\"ENOMEM\"]}\n{\"err\":[12,\"ENOMEM\"]}\n";
+
+/// Where each line of `ANSWERS` ends.
+const ANSWER_ENDS: [usize; 5] = [0, 22, 32, 54, 76];
+
+#[derive(Drop)]
+struct Ran {
+    outcome: Result<Summary, ScriptFault>,
+    written: Vec<u8>,
+    reader_failed: bool,
+    writer_failed: bool,
+}
+
+fn run(alloc: Global, reader: Pieces<'_>, writer: Narrow) -> Ran {
+    let mut kernel = NoMemory {
+        limits: Limits::default(),
+    };
+    let mut reader = Watched::new(reader);
+    let mut writer = Watched::new(writer);
+    let outcome = run_script(alloc, &mut kernel, &mut reader, &mut writer);
+    Ran {
+        outcome,
+        reader_failed: reader.failed(),
+        writer_failed: writer.failed(),
+        written: writer.into_inner().taken,
+    }
+}
+
+fn wide(alloc: Global) -> Narrow {
+    Narrow {
+        taken: Vec::new(alloc),
+        piece: usize::MAX,
+        room: usize::MAX,
+        fails: false,
+    }
+}
+
+fn whole(text: &[u8]) -> Pieces<'_> {
+    Pieces {
+        text,
+        piece: usize::MAX,
+        fails: false,
+    }
+}
+
+fn summary(lines: u64, bad: u64) -> Result<Summary, ScriptFault> {
+    Ok(Summary {
+        lines,
+        records: 0,
+        bad,
+    })
+}
+
+#[test]
+fn answers_each_line(rt: HostRuntime) {
+    let ran = run(rt.alloc(), whole(SCRIPT), wide(rt.alloc()));
+    assert_eq!(rt; ran.outcome, summary(4, 1));
+    assert_eq!(rt; ran.written.as_slice(), ANSWERS);
+    assert!(rt; !ran.reader_failed && !ran.writer_failed);
+    let ran = run(rt.alloc(), whole(b""), wide(rt.alloc()));
+    assert_eq!(rt; ran.outcome, summary(0, 0));
+    assert!(rt; ran.written.is_empty());
+    let ran = run(rt.alloc(), whole(b"\n"), wide(rt.alloc()));
+    assert_eq!(rt; ran.outcome, summary(1, 1));
+    assert_eq!(rt; ran.written.as_slice(), b"{\"bad\":1}\n".as_slice());
+}
+
+#[test]
+fn reads_and_writes_single_bytes(rt: HostRuntime) {
+    let reader = Pieces {
+        text: SCRIPT,
+        piece: 1,
+        fails: false,
+    };
+    let writer = Narrow {
+        taken: Vec::new(rt.alloc()),
+        piece: 1,
+        room: usize::MAX,
+        fails: false,
+    };
+    let ran = run(rt.alloc(), reader, writer);
+    assert_eq!(rt; ran.outcome, summary(4, 1));
+    assert_eq!(rt; ran.written.as_slice(), ANSWERS);
+}
+
+#[test]
+fn ends_at_a_failed_read(rt: HostRuntime) {
+    for count in 0..=SCRIPT.len() {
+        let text = &SCRIPT[..count];
+        let reader = Pieces {
+            text,
+            piece: 7,
+            fails: true,
+        };
+        let ran = run(rt.alloc(), reader, wide(rt.alloc()));
+        assert_eq!(rt; ran.outcome, Err(ScriptFault::Read), "after {count} bytes");
+        assert!(rt; ran.reader_failed && !ran.writer_failed);
+        let lines = text.iter().filter(|byte| **byte == b'\n').count();
+        let end = ANSWER_ENDS.get(lines).copied().unwrap_or(0);
+        assert_eq!(rt;
+            Some(ran.written.as_slice()),
+            ANSWERS.get(..end),
+            "after {count} bytes"
+        );
+    }
+}
+
+#[test]
+fn ends_at_a_failed_write(rt: HostRuntime) {
+    for room in 0..ANSWERS.len() {
+        for fails in [false, true] {
+            let writer = Narrow {
+                taken: Vec::new(rt.alloc()),
+                piece: 5,
+                room,
+                fails,
+            };
+            let ran = run(rt.alloc(), whole(SCRIPT), writer);
+            assert_eq!(rt; ran.outcome, Err(ScriptFault::Write), "after {room} bytes");
+            assert!(rt; ran.writer_failed && !ran.reader_failed);
+            assert_eq!(rt;
+                ran.written.as_slice(),
+                &ANSWERS[..room],
+                "after {room} bytes"
+            );
+        }
+    }
+}
+
+// Each answer is passed on before the next line is asked for.
+#[test]
+fn ends_at_a_failed_flush(rt: HostRuntime) {
+    let alloc = rt.alloc();
+    let mut kernel = NoMemory {
+        limits: Limits::default(),
+    };
+    let mut reader = Watched::new(SCRIPT);
+    let mut writer = Watched::new(Unflushed {
+        taken: Vec::new(alloc),
+    });
+    let outcome = run_script(alloc, &mut kernel, &mut reader, &mut writer);
+    assert_eq!(rt; outcome, Err(ScriptFault::Write));
+    assert!(rt; writer.failed());
+    assert_eq!(rt; writer.into_inner().taken.as_slice(), NO_MEMORY);
+}
+
+#[test]
+fn limits_the_bytes_of_a_line(rt: HostRuntime) -> Result<(), Fail> {
+    let alloc = rt.alloc();
+    let longest = vec![in alloc; b'x'; 65_536]?;
+    let ran = run(alloc, whole(longest.as_slice()), wide(alloc));
+    assert_eq!(rt; ran.outcome, summary(1, 1));
+    assert_eq!(rt; ran.written.as_slice(), b"{\"bad\":1}\n".as_slice());
+    let longer = vec![in alloc; b'x'; 65_537]?;
+    let ran = run(alloc, whole(longer.as_slice()), wide(alloc));
+    assert_eq!(rt; ran.outcome, Err(ScriptFault::Line(1)));
+    assert!(rt; ran.written.is_empty());
+    let mut second = Vec::from_slice(alloc, b"{\"op\":\"pipe\"}\n")?;
+    second.extend_from_slice(longer.as_slice())?;
+    let ran = run(alloc, whole(second.as_slice()), wide(alloc));
+    assert_eq!(rt; ran.outcome, Err(ScriptFault::Line(2)));
+    assert_eq!(rt; ran.written.as_slice(), NO_MEMORY);
+    Ok(())
+}
+
+#[test]
+fn limits_the_number_of_lines(rt: HostRuntime) -> Result<(), Fail> {
+    let alloc = rt.alloc();
+    let mut text = vec![in alloc; b'\n'; 100_000]?;
+    let ran = run(alloc, whole(text.as_slice()), wide(alloc));
+    assert_eq!(rt; ran.outcome, summary(100_000, 100_000));
+    let all = ran.written.len();
+    assert!(rt; ran.written.ends_with(b"{\"bad\":100000}\n"));
+    text.push(b'x')?;
+    let ran = run(alloc, whole(text.as_slice()), wide(alloc));
+    assert_eq!(rt; ran.outcome, Err(ScriptFault::Lines));
+    assert_eq!(rt; ran.written.len(), all);
+    Ok(())
+}
+
+#[test]
+fn tells_its_faults(rt: HostRuntime) -> Result<(), Fail> {
+    let alloc = rt.alloc();
+    for (fault, wanted) in [
+        (ScriptFault::Read, "cannot read the script"),
+        (ScriptFault::Write, "cannot write the answers"),
+        (ScriptFault::Line(7), "line 7 is longer than 65536 bytes"),
+        (ScriptFault::Lines, "more than 100000 lines"),
+        (ScriptFault::Memory, "out of memory"),
+    ] {
+        assert_eq!(rt; format!(in alloc; "{fault}")?.as_str(), wanted);
+    }
+    Ok(())
+}

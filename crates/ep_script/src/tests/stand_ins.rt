@@ -1,0 +1,101 @@
+//! A kernel without memory, and readers and writers that fail.
+ghost use Rattle.std.specs.Prelude.{[]};
+ghost use Rattle.ep_machine.specs.State.{opening};
+
+use ep_base::{Answer, CallerId, Errno, Event, Limits, Record};
+use ep_plain::Kernel;
+use std::alloc::AllocError;
+use std::io::{self, ErrorKind, Read, Write};
+
+/// A kernel that never has memory.
+#[derive(Drop)]
+pub(crate) struct NoMemory {
+    pub(crate) limits: Limits,
+}
+
+impl Kernel for NoMemory {
+    ghost state = { λ _. opening };
+
+    ghost past = { λ _. [] };
+
+    ghost bounds = { λ kernel. kernel.limits };
+
+    fn step(&mut self, _caller: CallerId, _event: Event) -> Answer {
+        Answer::Refused(Errno::Enomem)
+    }
+
+    fn reserve(&mut self, _additional: usize) -> Result<(), AllocError> {
+        Err(AllocError)
+    }
+
+    fn history(&self) -> &[Record] {
+        &[]
+    }
+
+    fn limits(&self) -> &Limits {
+        &self.limits
+    }
+}
+
+/// Gives a text in pieces, and then fails or ends.
+#[derive(Drop)]
+pub(crate) struct Pieces<'a> {
+    pub(crate) text: &'a [u8],
+    pub(crate) piece: usize,
+    pub(crate) fails: bool,
+}
+
+impl Read for Pieces<'_> {
+    fn read(&mut self, buf: &mut [u8]) -> io::Result<usize> {
+        if self.fails && self.text.is_empty() {
+            return Err(io::Error::from(ErrorKind::Interrupted));
+        }
+        let most = self.piece.min(buf.len());
+        let mut from = self.text.take(most as u64);
+        let count = from.read(buf)?;
+        self.text = from.into_inner();
+        Ok(count)
+    }
+}
+
+/// Takes so many bytes, so many at once, and then fails or takes none.
+#[derive(Drop)]
+pub(crate) struct Narrow {
+    pub(crate) taken: Vec<u8>,
+    pub(crate) piece: usize,
+    pub(crate) room: usize,
+    pub(crate) fails: bool,
+}
+
+impl Write for Narrow {
+    fn write(&mut self, buf: &[u8]) -> io::Result<usize> {
+        let left = self.room.saturating_sub(self.taken.len());
+        if left == 0 && self.fails {
+            return Err(io::Error::from(ErrorKind::Interrupted));
+        }
+        let count = left.min(self.piece).min(buf.len());
+        self.taken.extend_from_slice(&buf[..count])?;
+        Ok(count)
+    }
+
+    fn flush(&mut self) -> io::Result<()> {
+        Ok(())
+    }
+}
+
+/// Takes every byte, and fails to pass them on.
+#[derive(Drop)]
+pub(crate) struct Unflushed {
+    pub(crate) taken: Vec<u8>,
+}
+
+impl Write for Unflushed {
+    fn write(&mut self, buf: &[u8]) -> io::Result<usize> {
+        self.taken.extend_from_slice(buf)?;
+        Ok(buf.len())
+    }
+
+    fn flush(&mut self) -> io::Result<()> {
+        Err(io::Error::from(ErrorKind::Other))
+    }
+}

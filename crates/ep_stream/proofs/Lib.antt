@@ -1,0 +1,7 @@
+mod Arrivals
+mod Laws
+mod PairArrivals
+mod Peers
+mod Prefixes
+mod Truths
+mod Unions

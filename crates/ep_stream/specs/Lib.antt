@@ -1,0 +1,4 @@
+pub mod Ends
+pub mod Waiting
+pub mod Socket
+pub mod Law

@@ -1,0 +1,37 @@
+//! Bytes that wait to be read, in a circular buffer.
+ghost use Rattle.std.specs.Prelude.{◌≡◌, ◌≤◌, drop, length, min, take, IfOk, IsOk, OnErr, OnOk};
+ghost use Rattle.circular_buffer.specs.Buffer.{buffer};
+
+use circular_buffer::HeapCircularBuffer;
+use ep_base::Bytes;
+use smallvec::SmallVec;
+use std::alloc::AllocError;
+
+/// The first `count` bytes, which stay. At most 16 of them take no memory.
+#[tactic(auto, using(crate::proofs::Prefixes::take_parts))]
+fn first_bytes(queue: &HeapCircularBuffer<u8>, count: usize) -> Result<SmallVec<u8, 16>, AllocError>
+    requires { count ≤ length queue.now.items }
+    ensures ok { IfOk result (λ bytes. bytes.items ≡ take count queue.now.items) }
+    ensures inline { count ≤ 16 → IsOk result }
+{
+    let (front, back) = queue.as_slices();
+    let from_front = front.len().min(count);
+    let mut bytes = SmallVec::with_capacity(*queue.allocator(), count)?;
+    bytes.extend_from_slice(&front[..from_front])?;
+    bytes.extend_from_slice(&back[..count - from_front])?;
+    Ok(bytes)
+}
+
+/// Takes the first bytes out, at most `n` of them. At most 16 take no memory; where there is none
+/// all bytes stay.
+pub(crate) fn take_front(queue: &mut HeapCircularBuffer<u8>, n: u32) -> Result<Bytes, AllocError>
+    ensures ok { IfOk result (λ bytes. bytes ≡ take n queue.old.items) }
+    ensures rest { OnOk result (queue.new ≡ buffer (drop n queue.old.items) queue.old.capacity) }
+    ensures err { OnErr result (queue.new ≡ queue.old) }
+    ensures inline { min n (length queue.old.items) ≤ 16 → IsOk result }
+{
+    let count = queue.len().min(n as usize);
+    let bytes = first_bytes(queue, count)?;
+    queue.truncate_front(queue.len() - count);
+    Ok(Bytes::new(bytes))
+}

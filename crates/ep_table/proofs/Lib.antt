@@ -1,0 +1,16 @@
+pub mod Places
+pub mod Numbers
+pub mod Storing
+pub mod Inserting
+pub mod Applying
+pub mod Writing
+pub mod Seeing
+pub mod Finding
+pub mod Creating
+pub mod Refusing
+pub mod Closing
+pub mod Dying
+pub mod Naming
+pub mod Dropping
+pub mod Others
+pub mod Forking

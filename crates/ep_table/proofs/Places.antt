@@ -1,0 +1,77 @@
+-- The lowest free number.
+use Rattle.std.proofs.Common.{None, Option, Some, [], add-one, ap, arith, drop, get_or, length, refl, slice_set, suc, zero, List, ℕ, ◌+◌, ◌<◌, ◌≡◌, ◌≤◌, ◌∷◌, ◌++◌, is_some, true, false}
+use Rattle.ep_machine.specs.Lists.{enter, lowest_free}
+
+pub lowest_within : {X : Type 0} (xs : List (Option X)) → lowest_free xs ≤ length xs
+lowest_within [] = omega arith
+lowest_within (None ∷ xs) = omega arith
+lowest_within (Some x ∷ xs) = omega (arith, lowest_within xs)
+
+pub enter_set : {X : Type 0} (xs : List (Option X)) (x : X) → lowest_free xs < length xs → enter xs x ≡ slice_set xs (lowest_free xs) (Some x)
+enter_set [] x h = absurd (omega arith)
+enter_set (None ∷ xs) x h = refl
+enter_set (Some y ∷ xs) x h = rw (add-one) (ap (λ r. Some y ∷ r) (enter_set xs x (omega arith)))
+
+pub enter_end : {X : Type 0} (xs : List (Option X)) (x : X) → length xs ≤ lowest_free xs → enter xs x ≡ xs ++ Some x ∷ []
+enter_end [] x h = refl
+enter_end (None ∷ xs) x h = absurd (omega arith)
+enter_end (Some y ∷ xs) x h = ap (λ r. Some y ∷ r) (enter_end xs x (omega arith))
+
+pub low_enter : {X : Type 0} (xs : List (Option X)) (x : X) → lowest_free xs + 1 ≤ lowest_free (enter xs x)
+low_enter [] x = omega arith
+low_enter (None ∷ xs) x = omega arith
+low_enter (Some y ∷ xs) x = omega (arith, low_enter xs x)
+
+-- from a number below which none is free
+pub lowest_from : {X : Type 0} (xs : List (Option X)) (i : ℕ) → i ≤ lowest_free xs → i + lowest_free (drop i xs) ≡ lowest_free xs
+lowest_from xs zero h = omega arith
+lowest_from [] (suc i) h = absurd (omega arith)
+lowest_from (None ∷ xs) (suc i) h = absurd (omega arith)
+lowest_from (Some x ∷ xs) (suc i) h = omega (arith, lowest_from xs i (omega arith))
+
+-- from the number after the lowest free one
+pub second_from : {X : Type 0} (xs : List (Option X)) (x : X) (i : ℕ) → i ≡ lowest_free xs + 1 → i + lowest_free (drop i xs) ≡ lowest_free (enter xs x)
+second_from [] x zero h = absurd (omega arith)
+second_from [] x (suc zero) h = omega arith
+second_from [] x (suc (suc i)) h = absurd (omega arith)
+second_from (y ∷ xs) x zero h = absurd (omega arith)
+second_from (None ∷ xs) x (suc zero) h = omega arith
+second_from (None ∷ xs) x (suc (suc i)) h = absurd (omega arith)
+second_from (Some y ∷ xs) x (suc i) h = omega (arith, second_from xs x i (omega arith))
+
+-- one number further
+pub next_some : {X : Type 0} (xs : List (Option X)) (i j : ℕ) → j ≡ i + 1 → i < length xs → is_some (get_or xs i None) ≡ true → i + lowest_free (drop i xs) ≡ j + lowest_free (drop j xs)
+next_some [] i j f h e = absurd (omega arith)
+next_some (x ∷ xs) i zero f h e = absurd (omega arith)
+next_some (None ∷ xs) zero (suc j) f h e = absurd cc
+next_some (Some x ∷ xs) zero (suc zero) f h e = omega arith
+next_some (Some x ∷ xs) zero (suc (suc j)) f h e = absurd (omega arith)
+next_some (x ∷ xs) (suc i) (suc j) f h e = omega (arith, next_some xs i j (omega arith) (omega arith) e)
+
+-- it is free
+pub next_none : {X : Type 0} (xs : List (Option X)) (i : ℕ) → is_some (get_or xs i None) ≡ false → lowest_free (drop i xs) ≡ 0
+next_none [] zero e = refl
+next_none [] (suc i) e = refl
+next_none (None ∷ xs) zero e = refl
+next_none (Some x ∷ xs) zero e = absurd cc
+next_none (x ∷ xs) (suc i) e = next_none xs i e
+
+-- or past the end
+pub next_end : {X : Type 0} (xs : List (Option X)) (i : ℕ) → length xs ≤ i → lowest_free (drop i xs) ≡ 0
+next_end [] zero h = refl
+next_end [] (suc i) h = refl
+next_end (x ∷ xs) zero h = absurd (omega arith)
+next_end (x ∷ xs) (suc i) h = next_end xs i (omega arith)
+
+pub low_set : {X : Type 0} (xs : List (Option X)) (i m : ℕ) → m ≤ i → m ≤ lowest_free xs → m ≤ lowest_free (slice_set xs i None)
+low_set [] i m a b = b
+low_set (None ∷ xs) zero m a b = b
+low_set (None ∷ xs) (suc i) m a b = b
+low_set (Some y ∷ xs) zero m a b = omega arith
+low_set (Some y ∷ xs) (suc i) zero a b = omega arith
+low_set (Some y ∷ xs) (suc i) (suc m) a b = omega (arith, low_set xs i m (omega arith) (omega arith))
+
+pub set_past : {A : Type 0} (xs : List A) (i : ℕ) (x : A) → length xs ≤ i → slice_set xs i x ≡ xs
+set_past [] i x h = refl
+set_past (y ∷ xs) zero x h = absurd (omega arith)
+set_past (y ∷ xs) (suc i) x h = ap (λ r. y ∷ r) (set_past xs i x (omega arith))

@@ -1,0 +1,66 @@
+use Rattle.std.proofs.Common.{ap, sym, ◌≡◌, slice_set, Some}
+use Rattle.ep_machine.specs.Files.{object_number, place_of}
+use Rattle.ep_machine.specs.Objects.{Object}
+use Rattle.ep_table.specs.Value.{Things, files_in, thing_number}
+use Rattle.ep_table.proofs.Applying.{backed_same, effect_is, err_same, numbered_same, ok_answer, ok_content, ok_raised, owned_same, things_applied, things_kept}
+use Rattle.ep_table.proofs.Storing.{object_found, object_there, side_is}
+use Rattle.std.proofs.Common.{min, subst, ℕ, ◌≤◌}
+use Rattle.ep_object.specs.Memory.{asked_of, object_waiting}
+use Rattle.ep_table.specs.Value.{unwrapped, waiting_at}
+use Rattle.ep_table.proofs.store.Store.apply.Goals as goal
+
+pub index_mut-shared-requires : goal.index_mut-shared-requires
+index_mut-shared-requires c = object_there c.self.inside c.args.self.now c.self.invariant c.self.view_is c.args.key c.index-description.result.now c.index-description.ensures
+
+pub invariant_of-self : goal.invariant_of-self
+invariant_of-self c =
+    let k = c.self.inside in
+    let s = c.index_mut-shared.result.now in
+    let at = c.index-description.result.now.object in
+    let is = c.index_mut-shared.ensures.value in
+    let y = c.apply.new.self in
+    record {
+      descriptions = c.self.invariant.descriptions;
+      objects = numbered_same k.descriptions.slots k.objects.slots k.made at s is c.self.invariant.objects y;
+      backed = backed_same k.descriptions.slots k.objects.slots k.made at s is c.self.invariant.objects y c.self.invariant.backed;
+      owned = owned_same k.descriptions.slots k.objects.slots k.made at s is c.self.invariant.objects y c.self.invariant.owned;
+      counted = c.self.invariant.counted;
+      room = c.self.invariant.room;
+    }
+
+pub returns-clause-answer : goal.returns-clause-answer
+returns-clause-answer c =
+    let e = effect_is c.self.inside c.args.self.now c.self.invariant c.self.view_is c.args.key c.index-description.result.now c.index-description.ensures c.index_mut-shared.result.now c.index_mut-shared.ensures.value c.args.now c.args.call.now in
+    ok_answer c.apply.result c.apply.new.self _ _ e c.apply.ensures.ok
+
+pub returns-clause-raised : goal.returns-clause-raised
+returns-clause-raised c =
+    let e = effect_is c.self.inside c.args.self.now c.self.invariant c.self.view_is c.args.key c.index-description.result.now c.index-description.ensures c.index_mut-shared.result.now c.index_mut-shared.ensures.value c.args.now c.args.call.now in
+    ok_raised c.apply.result c.apply.new.self _ _ e c.apply.ensures.ok
+
+pub returns-clause-objects : goal.returns-clause-objects
+returns-clause-objects c =
+    let v = c.args.self.now in
+    let d = c.index-description.result.now in
+    let s = c.index_mut-shared.result.now in
+    let e = effect_is c.self.inside v c.self.invariant c.self.view_is c.args.key d c.index-description.ensures s c.index_mut-shared.ensures.value c.args.now c.args.call.now in
+    let t = things_applied c.self.inside v c.self.invariant c.self.view_is c.args.key d c.index-description.ensures s c.index_mut-shared.ensures.value c.apply.new.self in
+    let u : Object → Things = λ y. record v { objects = slice_set v.objects (object_number (place_of (files_in v) (thing_number v c.args.key))) (Some y) } in
+    ok_content c.apply.result c.apply.new.self _ _ Things _ u t e c.apply.ensures.ok
+
+pub returns-clause-err : goal.returns-clause-err
+returns-clause-err c =
+    let v = c.args.self.now in
+    let d = c.index-description.result.now in
+    let s = c.index_mut-shared.result.now in
+    err_same c.apply.result _ _ (λ (e : c.apply.new.self ≡ s.object). things_kept c.self.inside v c.self.invariant c.self.view_is c.args.key d c.index-description.ensures s c.index_mut-shared.ensures.value c.apply.new.self e) c.apply.ensures.err
+
+pub returns-clause-inline : goal.returns-clause-inline
+returns-clause-inline c =
+    let v = c.args.self.now in
+    let d = c.index-description.result.now in
+    let s = c.index_mut-shared.result.now in
+    let o = object_found c.self.inside v c.self.invariant c.self.view_is c.args.key d c.index-description.ensures s c.index_mut-shared.ensures.value in
+    let e = side_is c.self.inside v c.self.invariant c.self.view_is c.args.key d c.index-description.ensures in
+    let w : object_waiting s.object d.end ≡ waiting_at (files_in v) (thing_number v c.args.key) = λ i. object_waiting (ap unwrapped o i) (sym e i) in
+    λ h. c.apply.ensures.inline (subst (λ (n : ℕ). min (asked_of c.args.call.now) n ≤ 16) (sym w) h)

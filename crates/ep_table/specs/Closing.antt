@@ -1,0 +1,98 @@
+-- An end of an object closes.
+use Rattle.std.specs.Prelude.{List, None, Option, Some, [], false, slice_set, true, ℕ, ◌++◌, ◌∷◌, ◌≡◌, ◌≢◌}
+use Rattle.ep_base.specs.declared.ids.DescId.{DescId}
+use Rattle.ep_base.specs.declared.object.End.{End}
+use Rattle.ep_base.specs.declared.object.End.TheVariants.{First, Second}
+use Rattle.ep_base.specs.declared.object.Raised.{Raised}
+use Rattle.ep_machine.specs.Bits.{nothing}
+use Rattle.ep_machine.specs.Deaths.{die, named_in_tables}
+use Rattle.ep_machine.specs.Files.{Files, Place, place_of}
+use Rattle.ep_machine.specs.Lists.{is_among}
+use Rattle.ep_machine.specs.Objects.{close_end}
+use Rattle.ep_table.specs.Value.{Seen, Things, content_of, files_in, number_at, number_under, thing_number}
+use Rattle.ep_table.specs.declared.words.Dead.{Dead}
+use Rattle.ep_table.specs.declared.words.Shared.{Shared}
+
+abbrev pub opposite : End → End
+opposite First = Second
+opposite Second = First
+
+-- where the other end of a place is
+abbrev pub across : Option Place → Place
+across None = record { object = 0; side = First }
+across (Some p) = record { object = p.object; side = opposite p.side }
+
+-- the key of the description at a place, or that there is none
+pub record IsAt (files : Files) (keys : List (Option ℕ)) (p : Place) (o : Option DescId) : Type 0 where
+  pub some : (k : DescId) → o ≡ Some k → (d : ℕ) × (number_at keys k ≡ Some d) × (place_of files d ≡ Some p)
+  pub none : o ≡ None → (d : ℕ) → place_of files d ≢ Some p
+
+abbrev pub other_key : Shared → End → Option DescId
+other_key s First = s.second
+other_key s Second = s.first
+
+-- the object with this end closed and its key forgotten
+abbrev pub closed_in : Shared → End → Shared
+closed_in s First = record s { object = (close_end s.object First).0; first = None }
+closed_in s Second = record s { object = (close_end s.object Second).0; second = None }
+
+-- it goes where the other end has no description
+abbrev pub kept_with : Option DescId → Shared → Option Shared
+kept_with None s = None
+kept_with (Some key) s = Some s
+
+abbrev pub closed_slot : Option Shared → End → Option Shared
+closed_slot None e = None
+closed_slot (Some s) e = kept_with (other_key s e) (closed_in s e)
+
+abbrev pub raised_slot : Option Shared → End → Raised
+raised_slot None e = nothing
+raised_slot (Some s) e = (close_end s.object e).1
+
+abbrev pub other_slot : Option Shared → End → Option DescId
+other_slot None e = None
+other_slot (Some s) e = other_key s e
+
+-- the description under a key died
+pub record Dies (old new : Things) (key : DescId) : Type 0 where
+  pub place : Place
+  pub place_is : place_of (files_in old) (thing_number old key) ≡ Some place
+  pub files : files_in new ≡ (die (files_in old, []) (thing_number old key, place)).0
+  pub keys : new.keys ≡ slice_set old.keys key.0 None
+  pub entry : Dead
+  pub dead : new.dead ≡ old.dead ++ entry ∷ []
+  pub key_is : entry.key ≡ key
+  pub number_is : entry.number ≡ thing_number old key
+  pub end_is : entry.end ≡ place.side
+  pub raised_is : entry.raised ≡ (close_end (content_of (files_in old) (thing_number old key)) place.side).1
+  pub other : IsAt (files_in new) new.keys (across (Some place)) entry.other
+
+-- the description of this number died
+pub record Died (old new : Seen) (d : ℕ) : Type 0 where
+  pub key : DescId
+  pub is : number_under old key ≡ Some d
+  pub place : Place
+  pub place_is : place_of old.files d ≡ Some place
+  pub files : new.files ≡ (die (old.files, []) (d, place)).0
+  pub keys : new.keys ≡ slice_set old.keys key.0 None
+  pub limits : new.limits ≡ old.limits
+  pub entry : Dead
+  pub dead : new.dead ≡ old.dead ++ entry ∷ []
+  pub key_is : entry.key ≡ key
+  pub number_is : entry.number ≡ d
+  pub end_is : entry.end ≡ place.side
+  pub raised_is : entry.raised ≡ (close_end (content_of old.files d) place.side).1
+  pub other : IsAt new.files new.keys (across (Some place)) entry.other
+
+-- the description of this number died where no table names it
+pub record Drops (old new : Seen) (d : ℕ) : Type 0 where
+  pub named : is_among (named_in_tables old.files.tables) d ≡ true → new ≡ old
+  pub unnamed : is_among (named_in_tables old.files.tables) d ≡ false → Died old new d
+
+-- the first of those that died is taken
+pub record Takes (old new : Seen) (key : DescId) (raised : Raised) : Type 0 where
+  pub entry : Dead
+  pub dead : old.dead ≡ entry ∷ new.dead
+  pub key_is : entry.key ≡ key
+  pub raised_is : entry.raised ≡ raised
+  pub rest : new ≡ record old { dead = new.dead }

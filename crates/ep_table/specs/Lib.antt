@@ -1,0 +1,9 @@
+pub mod Low
+pub mod ByNumber
+pub mod Value
+pub mod Stored
+pub mod Processes
+pub mod View
+pub mod Closing
+pub mod Named
+pub mod Key

@@ -1,0 +1,77 @@
+-- How descriptions and objects are kept, and what always holds of them.
+use Rattle.std.specs.Prelude.{List, None, Option, Some, length, map, slice_index_or, vec_capacity, ℕ, ◌+◌, ◌≡◌, ◌≤◌}
+use Rattle.slab.specs.Slab.{slab_len}
+use Rattle.ep_base.specs.declared.ids.DescId.{DescId}
+use Rattle.ep_base.specs.declared.object.End.{End}
+use Rattle.ep_base.specs.declared.object.End.TheVariants.{First, Second}
+use Rattle.ep_machine.specs.Files.{Place}
+use Rattle.ep_machine.specs.Lists.{numbered}
+use Rattle.ep_machine.specs.Objects.{Object}
+use Rattle.ep_table.specs.ByNumber.{NumberedBy, contents_by}
+use Rattle.ep_table.specs.Value.{Things}
+use Rattle.ep_table.specs.declared.store.Store.TheInside.{Inside}
+use Rattle.ep_table.specs.declared.words.Description.{Description}
+use Rattle.ep_table.specs.declared.words.Shared.{Shared}
+
+abbrev pub place_in : Description → Place
+place_in d = record { object = d.object_number; side = d.end }
+
+abbrev pub number_in : Description → ℕ
+number_in d = d.number
+
+abbrev pub object_number_in : Shared → ℕ
+object_number_in s = s.number
+
+abbrev pub object_in : Shared → Object
+object_in s = s.object
+
+-- the key of the description of an end
+abbrev pub key_at : Shared → End → Option DescId
+key_at s First = s.first
+key_at s Second = s.second
+
+abbrev pub key_number : Option Description → Option ℕ
+key_number None = None
+key_number (Some d) = Some d.number
+
+abbrev pub places : List (Option Description) → ℕ → List (Option Place)
+places slots n = contents_by number_in place_in slots n
+
+abbrev pub objects : List (Option Shared) → ℕ → List (Option Object)
+objects slots n = contents_by object_number_in object_in slots n
+
+abbrev pub things : Inside → Things
+things k = record {
+  descriptions = places k.descriptions.slots k.described;
+  objects = objects k.objects.slots k.made;
+  keys = map key_number k.descriptions.slots;
+  dead = k.dead.items;
+}
+
+-- the object of a description is there, and has its key at its end
+pub record Backs (os : List (Option Shared)) (key : ℕ) (d : Description) : Type 0 where
+  pub it : Shared
+  pub is : slice_index_or os d.object None ≡ Some it
+  pub number : it.number ≡ d.object_number
+  pub key_is : key_at it d.end ≡ Some (record { 0 = key })
+
+-- the description under a key is one of this end of this object
+pub record Owns (ds : List (Option Description)) (at : ℕ) (e : End) (key : DescId) : Type 0 where
+  pub it : Description
+  pub is : slice_index_or ds key.0 None ≡ Some it
+  pub object : it.object ≡ at
+  pub end : it.end ≡ e
+
+abbrev pub AllBacked : List (Option Description) → List (Option Shared) → Type 0
+AllBacked ds os = (key : ℕ) (d : Description) → slice_index_or ds key None ≡ Some d → Backs os key d
+
+abbrev pub AllOwned : List (Option Description) → List (Option Shared) → Type 0
+AllOwned ds os = (at : ℕ) (s : Shared) (e : End) (key : DescId) → slice_index_or os at None ≡ Some s → key_at s e ≡ Some key → Owns ds at e key
+
+pub record IsStore (k : Inside) : Type 0 where
+  pub descriptions : NumberedBy number_in k.descriptions.slots k.described
+  pub objects : NumberedBy object_number_in k.objects.slots k.made
+  pub backed : AllBacked k.descriptions.slots k.objects.slots
+  pub owned : AllOwned k.descriptions.slots k.objects.slots
+  pub counted : slab_len k.descriptions ≡ length (numbered 0 (places k.descriptions.slots k.described))
+  pub room : length k.dead.items + slab_len k.descriptions ≤ vec_capacity k.dead

@@ -1,0 +1,154 @@
+-- What contracts see of the tables.
+use Rattle.ep_base.specs.declared.object.End.TheVariants.{First, Second}
+use Rattle.std.specs.Prelude.{Bool, IsSome, List, None, Option, Some, is_none, nat_le, negsuc, pos, slice_index_or, unwrap_or, ℕ, ℤ, ◌+◌, ◌≡◌, ◌≢◌, ◌∷◌, [], length, ◌++◌}
+use Rattle.ep_base.specs.Limits.{Limits}
+use Rattle.ep_base.specs.declared.call.Call.{Call}
+use Rattle.ep_base.specs.declared.errno.Errno.{Errno}
+use Rattle.ep_base.specs.declared.errno.Errno.TheVariants.{Eagain, Ebadf, Emfile, Esrch}
+use Rattle.ep_base.specs.declared.ids.DescId.{DescId}
+use Rattle.ep_machine.specs.Effect.{Effect, attempt, first}
+use Rattle.ep_machine.specs.Files.{Files, Place, names_nothing, numbers_of, object_of, place_of, side_of, table_of, under}
+use Rattle.ep_machine.specs.Lists.{numbered}
+use Rattle.ep_machine.specs.Objects.{Object, object_effect, object_refusals, plain}
+use Rattle.ep_machine.specs.Tables.{create_one, create_two, one_free, one_refusals, two_refusals}
+use Rattle.ep_object.specs.Memory.{object_waiting}
+use Rattle.ep_table.specs.declared.words.Dead.{Dead}
+
+pub record Seen : Type 0 where
+  pub limits : Limits
+  pub files : Files  -- the machine's tables, descriptions and objects
+  pub keys : List (Option ℕ)  -- the number of the description under each key
+  pub dead : List Dead  -- those that died and were not taken yet, in order
+
+-- the number under a key in a list of keys
+abbrev pub number_at : List (Option ℕ) → DescId → Option ℕ
+number_at keys key = slice_index_or keys key.0 None
+
+abbrev pub number_under : Seen → DescId → Option ℕ
+number_under v key = number_at v.keys key
+
+-- where the key is live
+abbrev pub number_of : Seen → DescId → ℕ
+number_of v key = unwrap_or (number_under v key) 0
+
+-- the number under a key that was found, or none
+abbrev pub number_found : Seen → Option DescId → Option ℕ
+number_found v None = None
+number_found v (Some key) = number_under v key
+
+abbrev pub natural : ℤ → Option ℕ
+natural (pos k) = Some k
+natural (negsuc k) = None
+
+-- one key more, which was free
+pub record AddsKey (old new : List (Option ℕ)) (key : DescId) (number : ℕ) : Type 0 where
+  pub free : number_at old key ≡ None
+  pub here : number_at new key ≡ Some number
+  pub others : (k : DescId) → k.0 ≢ key.0 → number_at new k ≡ number_at old k
+
+-- one key more, for this number
+pub record Gains (old new : List (Option ℕ)) (number : ℕ) : Type 0 where
+  pub key : DescId
+  pub adds : AddsKey old new key number
+
+-- two keys more, for this number and the next
+pub record GainsTwo (old new : List (Option ℕ)) (number : ℕ) : Type 0 where
+  pub middle : List (Option ℕ)
+  pub first : Gains old middle number
+  pub second : Gains middle new (number + 1)
+
+-- what creating one description is refused with, if anything
+abbrev pub one_refusal : Seen → ℕ → Option Errno
+one_refusal v p = first ((is_none (table_of v.files p), Esrch) ∷ one_refusals v.limits v.files p)
+
+-- the same for two
+abbrev pub two_refusal : Seen → ℕ → Option Errno
+two_refusal v p = first ((is_none (table_of v.files p), Esrch) ∷ two_refusals v.limits v.files p)
+
+-- what dup is refused with, if anything
+abbrev pub dup_refusal : Seen → ℕ → ℤ → Option Errno
+dup_refusal v p fd =
+    first ((is_none (table_of v.files p), Esrch)
+    ∷ (names_nothing v.files p fd, Ebadf)
+    ∷ (nat_le v.limits.descriptors (one_free (numbers_of v.files p)), Emfile) ∷ [])
+
+-- what fork is refused with, if anything
+abbrev pub fork_refusal : Seen → ℕ → Option Errno
+fork_refusal v p = first ((is_none (table_of v.files p), Esrch) ∷ (nat_le v.limits.processes (length (numbered 0 v.files.tables)), Eagain) ∷ [])
+
+-- what close is refused with, if anything
+abbrev pub close_refusal : Seen → ℕ → ℤ → Option Errno
+close_refusal v p fd = first ((is_none (table_of v.files p), Esrch) ∷ (names_nothing v.files p fd, Ebadf) ∷ [])
+
+-- an object with one description more
+pub record CreatesOne (old new : Seen) (p : ℕ) (x : Object) (cloexec : Bool) : Type 0 where
+  pub files : new.files ≡ create_one old.files p x cloexec
+  pub keys : Gains old.keys new.keys (length old.files.descriptions)
+  pub limits : new.limits ≡ old.limits
+  pub dead : new.dead ≡ old.dead
+
+-- an object with two descriptions more
+pub record CreatesTwo (old new : Seen) (p : ℕ) (x : Object) (cloexec : Bool) : Type 0 where
+  pub files : new.files ≡ create_two old.files p x cloexec
+  pub keys : GainsTwo old.keys new.keys (length old.files.descriptions)
+  pub limits : new.limits ≡ old.limits
+  pub dead : new.dead ≡ old.dead
+
+abbrev pub unwrapped : Option Object → Object
+unwrapped x = unwrap_or x plain
+
+-- the object of a description that is live
+abbrev pub content_of : Files → ℕ → Object
+content_of s d = unwrapped (object_of s d)
+
+-- what a call on the object of a description gives, at the description's end
+abbrev pub effect_at : Files → ℕ → ℕ → Call → Effect Object
+effect_at s d now call =
+    let x = content_of s d in let e = side_of s d in
+    attempt (object_refusals x e now call) x (object_effect x e now call)
+
+-- how many bytes a read could give there
+abbrev pub waiting_at : Files → ℕ → ℕ
+waiting_at s d = object_waiting (content_of s d) (side_of s d)
+
+-- what holds of every value
+pub record Sound (v : Seen) : Type 0 where
+  pub one : (j k : DescId) (d : ℕ) → number_under v j ≡ Some d → number_under v k ≡ Some d → j.0 ≡ k.0
+  pub place : (k : DescId) (d : ℕ) → number_under v k ≡ Some d → IsSome (place_of v.files d)
+  pub object : (k : DescId) (d : ℕ) → number_under v k ≡ Some d → IsSome (object_of v.files d)
+  pub named : (p d : ℕ) (fd : ℤ) → under v.files p fd ≡ Some d → (key : DescId) × (number_under v key ≡ Some d)
+
+-- descriptions and objects, without tables
+pub record Things : Type 0 where
+  pub descriptions : List (Option Place)
+  pub objects : List (Option Object)
+  pub keys : List (Option ℕ)
+  pub dead : List Dead
+
+abbrev pub files_in : Things → Files
+files_in v = record { tables = []; descriptions = v.descriptions; objects = v.objects }
+
+abbrev pub thing_number : Things → DescId → ℕ
+thing_number v key = unwrap_or (number_at v.keys key) 0
+
+-- what holds of every value without tables
+pub record SoundThings (v : Things) : Type 0 where
+  pub one : (j k : DescId) (d : ℕ) → number_at v.keys j ≡ Some d → number_at v.keys k ≡ Some d → j.0 ≡ k.0
+  pub place : (k : DescId) (d : ℕ) → number_at v.keys k ≡ Some d → IsSome (place_of (files_in v) d)
+  pub object : (k : DescId) (d : ℕ) → number_at v.keys k ≡ Some d → IsSome (object_of (files_in v) d)
+
+-- an object with one description more, under this key
+pub record InsertsOne (old new : Things) (key : DescId) (x : Object) : Type 0 where
+  pub descriptions : new.descriptions ≡ old.descriptions ++ Some (record { object = length old.objects; side = First }) ∷ []
+  pub objects : new.objects ≡ old.objects ++ Some x ∷ []
+  pub keys : AddsKey old.keys new.keys key (length old.descriptions)
+  pub dead : new.dead ≡ old.dead
+
+-- an object with two, under these
+pub record InsertsTwo (old new : Things) (first second : DescId) (x : Object) : Type 0 where
+  pub descriptions : new.descriptions ≡ (old.descriptions ++ Some (record { object = length old.objects; side = First }) ∷ []) ++ Some (record { object = length old.objects; side = Second }) ∷ []
+  pub objects : new.objects ≡ old.objects ++ Some x ∷ []
+  pub middle : List (Option ℕ)
+  pub first_key : AddsKey old.keys middle first (length old.descriptions)
+  pub second_key : AddsKey middle new.keys second (length old.descriptions + 1)
+  pub dead : new.dead ≡ old.dead

@@ -1,0 +1,159 @@
+//! The descriptor tables of all processes, by process number. A process that has ended has none.
+ghost use Rattle.std.specs.Prelude.{◌≡◌, None, OnOk, count_by, is_some, option_copied, slice_index_or, slice_set};
+ghost use Rattle.std.specs.List.{list_any};
+ghost use Rattle.ep_table.specs.Named.{has_key_in};
+ghost use Rattle.ep_machine.specs.Lists.{enter as entered_at, lowest_free};
+ghost use Rattle.ep_table.specs.Processes.{HasRoom, entered, items_of, left, lists, process_of, slots_of};
+ghost use Rattle.ep_table.specs.declared.words.Descriptor.{Descriptor as the_descriptor};
+
+use crate::table::Table;
+use crate::words::Descriptor;
+use ep_base::{DescId, Pid};
+use std::alloc::AllocError;
+
+/// The table of a process.
+pub fn table_at(processes: &[Option<Table>], pid: Pid) -> Option<&Table>
+    ensures { option_copied result ≡ slice_index_or processes.now pid.0 None }
+{
+    match processes.get(pid.0 as usize) {
+        Some(Some(table)) => Some(table),
+        _ => None,
+    }
+}
+
+/// The lowest free number of a process.
+pub fn lowest(processes: &[Option<Table>], pid: Pid) -> usize
+    ensures { result ≡ lowest_free (slots_of (process_of processes.now pid.0)) }
+{
+    match table_at(processes, pid) {
+        Some(table) => table.lowest(),
+        None => 0,
+    }
+}
+
+/// The lowest free number of a process once the lowest one is taken.
+pub fn second(processes: &[Option<Table>], pid: Pid) -> usize
+    ensures { (x : the_descriptor) → result ≡ lowest_free (entered_at (slots_of (process_of processes.now pid.0)) x) }
+{
+    match table_at(processes, pid) {
+        Some(table) => table.second(),
+        None => 1,
+    }
+}
+
+/// What a number of a process names.
+pub fn descriptor_at(processes: &[Option<Table>], pid: Pid, number: usize) -> Option<Descriptor>
+    ensures { result ≡ slice_index_or (slots_of (process_of processes.now pid.0)) number None }
+{
+    match table_at(processes, pid) {
+        Some(table) => table.get(number),
+        None => None,
+    }
+}
+
+fn reserve_in(process: &mut Option<Table>, additional: usize) -> Result<(), AllocError>
+    ensures items { items_of process.new ≡ items_of process.old }
+    ensures room { OnOk result (HasRoom process.new additional) }
+{
+    match process {
+        Some(table) => table.reserve(additional),
+        None => Ok(()),
+    }
+}
+
+fn enter_in(process: &mut Option<Table>, descriptor: Descriptor)
+    requires { HasRoom process.old 1 }
+    ensures { items_of process.new ≡ entered (items_of process.old) descriptor }
+{
+    if let Some(table) = process {
+        table.enter(descriptor);
+    }
+}
+
+fn enter_two_in(process: &mut Option<Table>, first: Descriptor, second: Descriptor)
+    requires { HasRoom process.old 2 }
+    ensures { items_of process.new ≡ entered (entered (items_of process.old) first) second }
+{
+    if let Some(table) = process {
+        table.enter(first);
+        table.enter(second);
+    }
+}
+
+/// Makes room for so many more numbers of a process.
+pub fn reserve(
+    processes: &mut Vec<Option<Table>>,
+    pid: Pid,
+    additional: usize,
+) -> Result<(), AllocError>
+    ensures lists { lists processes.new.items ≡ lists processes.old.items }
+    ensures room { OnOk result (HasRoom (slice_index_or processes.new.items pid.0 None) additional) }
+{
+    let at = pid.0 as usize;
+    if at < processes.len() {
+        reserve_in(&mut processes[at], additional)?;
+    }
+    Ok(())
+}
+
+/// Puts a descriptor at the lowest free number of a process.
+pub fn enter(processes: &mut Vec<Option<Table>>, pid: Pid, descriptor: Descriptor)
+    requires { HasRoom (slice_index_or processes.old.items pid.0 None) 1 }
+    ensures { lists processes.new.items ≡ slice_set (lists processes.old.items) pid.0 (entered (process_of processes.old.items pid.0) descriptor) }
+{
+    let at = pid.0 as usize;
+    if at < processes.len() {
+        enter_in(&mut processes[at], descriptor);
+    }
+}
+
+/// Puts two descriptors at the lowest free numbers of a process, the first at the lower one.
+pub fn enter_two(
+    processes: &mut Vec<Option<Table>>,
+    pid: Pid,
+    first: Descriptor,
+    second: Descriptor,
+)
+    requires { HasRoom (slice_index_or processes.old.items pid.0 None) 2 }
+    ensures { lists processes.new.items ≡ slice_set (lists processes.old.items) pid.0 (entered (entered (process_of processes.old.items pid.0) first) second) }
+{
+    let at = pid.0 as usize;
+    if at < processes.len() {
+        enter_two_in(&mut processes[at], first, second);
+    }
+}
+
+fn leave_in(process: &mut Option<Table>, number: usize)
+    ensures { items_of process.new ≡ left (items_of process.old) number }
+{
+    if let Some(table) = process {
+        table.leave(number);
+    }
+}
+
+/// Frees a number of a process.
+pub fn leave(processes: &mut Vec<Option<Table>>, pid: Pid, number: usize)
+    ensures { lists processes.new.items ≡ slice_set (lists processes.old.items) pid.0 (left (process_of processes.old.items pid.0) number) }
+{
+    let at = pid.0 as usize;
+    if at < processes.len() {
+        leave_in(&mut processes[at], number);
+    }
+}
+
+/// Whether any number of any process names this description.
+pub fn names(processes: &[Option<Table>], description: DescId) -> bool
+    ensures { result ≡ list_any (has_key_in description) processes.now }
+{
+    processes.iter().any(|process| match process {
+        Some(table) => table.names(description),
+        None => false,
+    })
+}
+
+/// How many processes are there.
+pub fn living(processes: &[Option<Table>]) -> usize
+    ensures { result ≡ count_by is_some processes.now }
+{
+    processes.iter().filter(|process| process.is_some()).count()
+}

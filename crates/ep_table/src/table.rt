@@ -1,0 +1,154 @@
+//! The descriptor table of a process.
+ghost use Rattle.std.specs.Prelude.{◌≡◌, ◌<◌, ◌≤◌, ◌+◌, ◌∷◌, [], IfOk, None, OnOk, Some, drop, false, slice_index_or, slice_set, vec_capacity, vec_len};
+ghost use Rattle.std.specs.List.{list_any};
+ghost use Rattle.ep_machine.specs.Lists.{lowest_free, enter};
+ghost use Rattle.ep_table.specs.Key.{is_key};
+ghost use Rattle.ep_table.specs.Low.{IsLow};
+ghost use Rattle.ep_table.specs.declared.words.Descriptor.{Descriptor as the_descriptor};
+
+use crate::words::Descriptor;
+use ep_base::DescId;
+use std::alloc::{AllocError, Global};
+
+/// Descriptors by number. No number below `low` is free.
+#[derive(Drop)]
+pub struct Table {
+    pub slots: Vec<Option<Descriptor>>,
+    pub low: usize,
+    pub ghost is_low: { IsLow low slots.items },
+}
+
+/// The first free number from this one on.
+fn next_free(slots: &[Option<Descriptor>], from: usize) -> usize
+    ensures { result ≡ from + lowest_free (drop from slots.now) }
+{
+    let mut at = from;
+    while at < slots.len() && slots[at].is_some() {
+        at += 1;
+    }
+    at
+}
+
+/// Puts a descriptor at the lowest free number.
+fn place(slots: &mut Vec<Option<Descriptor>>, number: usize, descriptor: Descriptor)
+    requires number { number ≡ lowest_free slots.old.items }
+    requires room { vec_len slots.old + 1 ≤ vec_capacity slots.old }
+    ensures slots { slots.new.items ≡ enter slots.old.items descriptor }
+    ensures len { vec_len slots.new ≤ vec_len slots.old + 1 }
+    ensures capacity { vec_capacity slots.new ≡ vec_capacity slots.old }
+{
+    if number < slots.len() {
+        slots[number] = Some(descriptor);
+    } else {
+        slots.push_reserved(Some(descriptor));
+    }
+}
+
+fn free(slots: &mut Vec<Option<Descriptor>>, number: usize)
+    requires { number < vec_len slots.old }
+    ensures { slots.new.items ≡ slice_set slots.old.items number None }
+{
+    slots[number] = None;
+}
+
+fn copy_slots(
+    alloc: Global,
+    slots: &[Option<Descriptor>],
+) -> Result<Vec<Option<Descriptor>>, AllocError>
+    ensures { IfOk result (λ copy. copy.items ≡ slots.now) }
+{
+    let mut copy = Vec::new(alloc);
+    for slot in slots {
+        copy.push(*slot)?;
+    }
+    Ok(copy)
+}
+
+impl Table {
+    /// The table with which the first process starts: 0, 1 and 2 name one description.
+    pub fn opening(alloc: Global, description: DescId) -> Result<Table, AllocError>
+        ensures { IfOk result (λ table. let x = Some (record { description = description; cloexec = false }) in table.slots.items ≡ x ∷ x ∷ x ∷ []) }
+    {
+        let descriptor = Descriptor {
+            description,
+            cloexec: false,
+        };
+        let mut slots = Vec::new(alloc);
+        slots.push(Some(descriptor))?;
+        slots.push(Some(descriptor))?;
+        slots.push(Some(descriptor))?;
+        Ok(Table { slots, low: 0 })
+    }
+
+    /// The lowest free number.
+    pub fn lowest(&self) -> usize
+        ensures { result ≡ lowest_free self.now.slots.items }
+    {
+        next_free(&self.slots, self.low)
+    }
+
+    /// The lowest free number once the lowest one is taken.
+    pub fn second(&self) -> usize
+        ensures { (x : the_descriptor) → result ≡ lowest_free (enter self.now.slots.items x) }
+    {
+        next_free(&self.slots, self.lowest() + 1)
+    }
+
+    /// What a number names.
+    pub fn get(&self, number: usize) -> Option<Descriptor>
+        ensures { result ≡ slice_index_or self.now.slots.items number None }
+    {
+        match self.slots.get(number) {
+            Some(slot) => *slot,
+            None => None,
+        }
+    }
+
+    /// Makes room for so many more descriptors.
+    pub fn reserve(&mut self, additional: usize) -> Result<(), AllocError>
+        ensures slots { self.new.slots.items ≡ self.old.slots.items }
+        ensures room { OnOk result (vec_len self.new.slots + additional ≤ vec_capacity self.new.slots) }
+    {
+        self.slots.reserve(additional)
+    }
+
+    /// Puts a descriptor at the lowest free number.
+    pub fn enter(&mut self, descriptor: Descriptor)
+        requires { vec_len self.old.slots + 1 ≤ vec_capacity self.old.slots }
+        ensures slots { self.new.slots.items ≡ enter self.old.slots.items descriptor }
+        ensures len { vec_len self.new.slots ≤ vec_len self.old.slots + 1 }
+        ensures capacity { vec_capacity self.new.slots ≡ vec_capacity self.old.slots }
+    {
+        let number = self.lowest();
+        place(&mut self.slots, number, descriptor);
+        self.low = number;
+    }
+
+    /// Frees a number.
+    pub fn leave(&mut self, number: usize)
+        ensures { self.new.slots.items ≡ slice_set self.old.slots.items number None }
+    {
+        if number < self.slots.len() {
+            free(&mut self.slots, number);
+            self.low = self.low.min(number);
+        }
+    }
+
+    /// Whether a number names this description.
+    pub fn names(&self, description: DescId) -> bool
+        ensures { result ≡ list_any (is_key description) self.now.slots.items }
+    {
+        self.slots.iter().any(|slot| match slot {
+            Some(descriptor) => descriptor.description.0 == description.0,
+            None => false,
+        })
+    }
+
+    /// The same descriptors in another table.
+    pub fn copy(&self) -> Result<Table, AllocError>
+        ensures { IfOk result (λ copy. copy.slots.items ≡ self.now.slots.items) }
+    {
+        let slots = copy_slots(*self.slots.allocator(), &self.slots)?;
+        Ok(Table { slots, low: 0 })
+    }
+}
