@@ -82,7 +82,7 @@ fn act_call(
     }
 }
 
-/// One event: its refusal, or its change. An `AllocError` has changed nothing.
+/// One event: its refusal, ESRCH first, or its change. An `AllocError` has changed nothing.
 pub fn act(
     alloc: Global,
     limits: &Limits,

@@ -77,7 +77,10 @@ fn is_refused(args: Control) -> bool
         || args.mask.intersects(Mask::ONESHOT)
 }
 
-/// Adds a registration, or answers the refusal that comes first. Nothing else is accepted in this version.
+/// epoll_ctl(2): adds a registration, or answers the refusal that comes first, in this order: EBADF where a descriptor
+/// names nothing, EPERM for a target that can't be polled, EINVAL where `epfd` is no instance or the target is one,
+/// EINVAL for an operation or a mask that this version doesn't accept, EEXIST, and ENOSPC past `watches`.
+/// A refusal and an `Err`, which is want of memory, leave the registrations.
 pub fn epoll_ctl(
     limits: &Limits,
     tables: &Tables,

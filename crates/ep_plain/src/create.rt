@@ -13,7 +13,8 @@ use ep_object::Object;
 use ep_table::Tables;
 use std::alloc::{AllocError, Global};
 
-/// A pipe at the two lowest free numbers. The refusals are answered before memory is asked for.
+/// pipe2(2): a pipe of this many bytes at the two lowest free numbers, or EMFILE or ENFILE.
+/// The refusals are answered before memory is asked for. An `Err` is want of memory and leaves the tables.
 pub fn create_pipe(
     alloc: Global,
     tables: &mut Tables,
@@ -39,7 +40,8 @@ pub fn create_pipe(
     Ok(Acted::settled(alloc, answer))
 }
 
-/// An instance at the lowest free number.
+/// epoll_create1(2): an instance at the lowest free number, or EMFILE or ENFILE.
+/// An `Err` is want of memory and leaves the tables.
 pub fn create_instance(
     alloc: Global,
     tables: &mut Tables,

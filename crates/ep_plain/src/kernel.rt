@@ -21,13 +21,13 @@ pub trait Kernel {
     /// The limits that it was made with.
     ghost bounds: { Self → Numbers };
 
-    /// One event. The answer is one that the machine allows here, and the history gains its record;
-    /// with ENOMEM, which is answered only where a growth was refused, nothing changes.
+    /// One event. The answer is one that the machine allows here, a refusal too, and the history gains its record.
+    /// ENOMEM is answered only where a growth was refused: then nothing changes, and there is no record.
     fn step(&mut self, caller: CallerId, event: Event) -> Answer
         ensures limits { bounds self.new ≡ bounds self.old }
         ensures acts { Acts (bounds self.old) caller event result (state self.old) (state self.new) (past self.old) (past self.new) };
 
-    /// Makes room for this many further records. State and history stay, also where it fails.
+    /// Makes room for this many further records, or fails where memory is refused. State and history stay in both cases.
     fn reserve(&mut self, additional: usize) -> Result<(), AllocError>
         ensures limits { bounds self.new ≡ bounds self.old }
         ensures state { state self.new ≡ state self.old }

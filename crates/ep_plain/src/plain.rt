@@ -37,7 +37,7 @@ impl Model for PlainKernel {
 
 impl PlainKernel {
     /// A kernel in the opening state: process 1, whose descriptors 0, 1 and 2 name one plain object,
-    /// and an empty history.
+    /// and an empty history. An `Err` is want of memory.
     pub fn new(alloc: Global, limits: Limits) -> Result<PlainKernel, AllocError>
         ensures { IfOk result (λ kernel. kernel ≡ record { limits = limits; past = [] }) }
     {

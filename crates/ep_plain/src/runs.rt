@@ -6,7 +6,8 @@ use crate::Kernel;
 use ep_base::{Answer, CallerId, Event};
 use std::alloc::AllocError;
 
-/// One answer for each event, in order. An `Err` has made no step.
+/// One answer for each event, in order. An `Err`, for want of memory for the answers, has made no step;
+/// an event that is answered ENOMEM has changed nothing, and the later ones are still asked.
 pub fn run<K: Kernel>(
     kernel: &mut K,
     events: Vec<(CallerId, Event)>,

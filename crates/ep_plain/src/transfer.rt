@@ -54,7 +54,8 @@ fn answer_copy(answer: &Answer, mut room: SmallVec<u8, 16>) -> Answer
     }
 }
 
-/// A read or a write of what a descriptor names, at the end that it names.
+/// read(2) or write(2) of what a descriptor names, at the end that it names: EBADF where it names nothing,
+/// else what the object answers. An `Err` is want of memory and leaves the tables.
 pub fn transfer(
     alloc: Global,
     tables: &mut Tables,

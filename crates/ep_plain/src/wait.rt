@@ -193,7 +193,9 @@ fn report(
     Ok(acted)
 }
 
-/// At most `max` reports of what is reportable at an instance now, the longest unreported first.
+/// epoll_wait(2): at most `max` reports of what is reportable at an instance now, the longest unreported first.
+/// Refused with EINVAL for a `max` below 1, a `timeout` other than 0 or no instance, and with EBADF where `epfd` names nothing.
+/// A refusal and an `Err`, which is want of memory, leave the registrations.
 pub fn epoll_wait(
     alloc: Global,
     tables: &Tables,
