@@ -38,10 +38,10 @@ pub record IsIndex {K : Type 0} (key : Entry → K) (slots : List (Option Entry)
   pub kept : (k : ℕ) (x : Entry) → slice_index_or slots k None ≡ Some x → get (key x) ≡ Some (record { 0 = k })
   pub live : (q : K) (id : EntryId) → get q ≡ Some id → (x : Entry) × (slice_index_or slots id.0 None ≡ Some x) × (key x ≡ q)
 
-abbrev pub registrations : Inside → Registrations
+abbrev pub registrations : {A : Type 0} → Inside A → Registrations
 registrations k = record { entries = in_order k.slots.slots k.added; keys = map number_in k.slots.slots; added = k.added }
 
-pub record IsInterest (k : Inside) : Type 0 where
+pub record IsInterest {A : Type 0} (k : Inside A) : Type 0 where
   pub numbered : NumberedBy k.slots.slots k.added
   pub by_key : IsIndex key_of k.slots.slots (hash.get same_key k.by_key)
   pub by_instance : IsIndex (place_of instance_of) k.slots.slots (tree.get place_cmp k.by_instance)

@@ -13,8 +13,9 @@ use crate::place::{Place, places_of};
 use ep_base::{Counts, DescId, EntryId, Fd, Mask};
 use indexmap::IndexMap;
 use slab::Slab;
-use std::alloc::{AllocError, Global};
+use std::alloc::{AllocError, Allocator, Global};
 use std::collections::BTreeMap;
+use std::hash::{BuildHasherDefault, FoldHasher};
 use std::marker::Model;
 
 /// What no two registrations share: instance, descriptor number and description.
@@ -38,17 +39,18 @@ impl Key {
 }
 
 /// The registrations of every instance. Contracts see them in order of registration, the number under each key, and how many
-/// were ever added.
+/// were ever added. Adding n of them and removing them again takes time that grows as n log n, however they are spread over
+/// instances and descriptions. Memory comes from `A`.
 #[derive(Drop)]
-pub struct Interest {
-    slots: Slab<Entry>,
-    by_key: IndexMap<Key, EntryId>,
-    by_instance: BTreeMap<Place, EntryId>,
-    by_target: BTreeMap<Place, EntryId>,
+pub struct Interest<A: Allocator = Global> {
+    slots: Slab<Entry, A>,
+    by_key: IndexMap<Key, EntryId, BuildHasherDefault<FoldHasher>, A>,
+    by_instance: BTreeMap<Place, EntryId, A>,
+    by_target: BTreeMap<Place, EntryId, A>,
     added: u64,
 }
 
-impl Model for Interest {
+impl<A: Allocator> Model for Interest<A> {
     ghost use Rattle.ep_interest.specs.Registrations.{Registrations};
 
     ghost Value = { Registrations };
@@ -60,9 +62,11 @@ impl Model for Interest {
     ghost invariant = { IsInterest };
 }
 
-impl Interest {
+impl<A: Allocator> Interest<A> {
     /// No registrations, which takes no memory.
-    pub fn new(alloc: Global) -> Interest
+    pub fn new(alloc: A) -> Interest<A>
+    where
+        A: Copy,
         ensures entries { result.entries ≡ [] }
         ensures keys { result.keys ≡ [] }
         ensures added { result.added ≡ 0 }
@@ -76,8 +80,9 @@ impl Interest {
         }
     }
 
-    /// The registrations of an instance with their keys, in order of registration. Only these are visited.
-    pub fn entries(&self, instance: DescId) -> Entries<'_>
+    /// The registrations of an instance with their keys, in order of registration. Only these are visited; the cost of finding the
+    /// first grows as the logarithm of the number of registrations.
+    pub fn entries(&self, instance: DescId) -> Entries<'_, A>
         ensures entries { map (λ p. p.1) result ≡ filter (is_of instance) self.now.entries }
         ensures keys { All (λ p. number_under self.now p.0 ≡ Some p.1.number) result }
         ensures exact { result ≡ with_ids self.now (filter (is_of instance) self.now.entries) }
@@ -89,7 +94,8 @@ impl Interest {
         }
     }
 
-    /// The keys of the registrations on a description, in order of registration. Only these are visited.
+    /// The keys of the registrations on a description, in order of registration. Only these are visited; the cost of finding the
+    /// first grows as the logarithm of the number of registrations.
     pub fn watchers(&self, desc: DescId) -> Watchers<'_>
         ensures exact { result ≡ ids self.now (filter (is_on desc) self.now.entries) }
         ensures runs { ShowsInOrder (λ (id : EntryId). id) }
@@ -99,7 +105,7 @@ impl Interest {
         }
     }
 
-    /// How many registrations there are.
+    /// How many registrations there are, which is kept and not counted.
     pub fn count(&self) -> usize
         ensures { result ≡ length self.now.entries }
     {
@@ -107,7 +113,8 @@ impl Interest {
     }
 
     /// Adds a registration with the next number, armed and never reported, as ADD of epoll_ctl(2) does, and answers its key.
-    /// `AllocError` where there is no memory, and then nothing has changed. No other call of this type takes memory.
+    /// `AllocError` where there is no memory, and then nothing has changed. No other call of this type takes memory. The cost grows as
+    /// the logarithm of the number of registrations, but where a table grows.
     pub fn add(
         &mut self,
         instance: DescId,
@@ -116,6 +123,8 @@ impl Interest {
         mask: Mask,
         tag: u64,
     ) -> Result<EntryId, AllocError>
+    where
+        A: Clone,
         requires absent { list_any (has_key instance fd desc) self.old.entries ≡ false }
         requires room { self.old.added + 1 < 2 ^ 64 }
         ensures entries { IfOk result (λ _. self.new.entries ≡ self.old.entries ++ new_entry (self.old.added + 1) instance fd desc mask tag ∷ []) }
@@ -146,7 +155,7 @@ impl Interest {
     }
 
     /// The key of the registration with this instance, descriptor number and description, by a look-up of its hash; `None`
-    /// where there is none.
+    /// where there is none. The cost doesn't grow with the registrations.
     pub fn find(&self, instance: DescId, fd: Fd, desc: DescId) -> Option<EntryId>
         ensures exact { result ≡ option_map (λ x. id_of self.now x.number) (first_where (has_key instance fd desc) self.now.entries) }
         ensures there { is_some result ≡ list_any (has_key instance fd desc) self.now.entries }
@@ -156,7 +165,7 @@ impl Interest {
         self.by_key.get(&Key::new(instance, fd, desc)).copied()
     }
 
-    /// The registration under a key.
+    /// The registration under a key. The cost doesn't grow with the registrations.
     pub fn entry(&self, id: EntryId) -> &Entry
         requires { IsSome (number_under self.now id) }
         ensures number { number_under self.now id ≡ Some result.now.number }
@@ -166,7 +175,7 @@ impl Interest {
     }
 
     /// Sets four fields of the registration under a key: whether it is armed, and what its last report and its wait for
-    /// the next one left.
+    /// the next one left. The cost doesn't grow with the registrations.
     pub fn note(&mut self, id: EntryId, armed: bool, seen: Option<Counts>, rep: u64, from: u64)
         requires { IsSome (number_under self.old id) }
         ensures entries { self.new.entries ≡ map (noted (unwrap_or (number_under self.old id) 0) armed seen rep from) self.old.entries }
@@ -184,7 +193,7 @@ impl Interest {
     }
 
     /// What MOD of epoll_ctl(2) does with the registration under a key: it gets this mask and this data, is armed again, and
-    /// counts as never reported. What its reports left for the order of reports stays.
+    /// counts as never reported. What its reports left for the order of reports stays. The cost doesn't grow with the registrations.
     pub fn modify(&mut self, id: EntryId, mask: Mask, tag: u64)
         requires { IsSome (number_under self.old id) }
         ensures entries { self.new.entries ≡ map (modified (unwrap_or (number_under self.old id) 0) mask tag) self.old.entries }
@@ -202,6 +211,7 @@ impl Interest {
     }
 
     /// Takes away the registration under a key, as DEL of epoll_ctl(2) does. The key may be given out again, the number is not.
+    /// The cost grows as the logarithm of the number of registrations.
     pub fn remove(&mut self, id: EntryId)
         requires { IsSome (number_under self.old id) }
         ensures entries { self.new.entries ≡ filter (is_other (unwrap_or (number_under self.old id) 0)) self.old.entries }
@@ -218,6 +228,7 @@ impl Interest {
     }
 
     /// Takes away every registration in the set of a description and every one on it, as where the description dies.
+    /// Only these are visited, and each costs what `remove` does.
     pub fn purge(&mut self, desc: DescId)
         ensures entries { self.new.entries ≡ filter (is_apart_from desc) self.old.entries }
         ensures keys { (id : EntryId) → number_under self.new id ≡ left_number self.new.entries (number_under self.old id) }

@@ -53,7 +53,7 @@ of_entry (l ∷ ls) entry =
     let rest = of_entry ls entry in
     rw (here, rest) refl
 
-module _ (ls : List Link) (s : Scratch) (kept : IsKept ls s) (outer inner : ℕ) where
+module _ {A : Type 0} (ls : List Link) (s : Scratch A) (kept : IsKept ls s) (outer inner : ℕ) where
   pub legal_if_fits : Fits (edges ls) outer inner (slice_index s.heights.items outer) (slice_index s.depths.items inner) → is_legal ((outer, inner) ∷ edges ls) ≡ true
   legal_if_fits fits =
       let up : (n x : ℕ) → LeadsBy (edges ls) n x outer → n ≤ slice_index s.heights.items outer = λ n x p. kept.heights.longest n n x outer (omega arith) p in

@@ -136,7 +136,7 @@ lengths_grown es old new n e h =
       longest = λ n m x y le p. let known = h.longest n m x y le p in let s = same y in omega arith;
     }
 
-pub kept_grown : (ls : List Link) (old new : Scratch) → IsKept ls old → HasGrown old new → IsKept ls new
+pub kept_grown : {A : Type 0} (ls : List Link) (old new : Scratch A) → IsKept ls old → HasGrown old new → IsKept ls new
 kept_grown ls old new kept grown = record {
   legal = kept.legal;
   distinct = kept.distinct;
@@ -159,7 +159,7 @@ none_lengths = record {
     no_chain zero x y p = omega arith
     no_chain (suc m) x y p = absurd (Contains-nil (x, p.0) p.1)
 
-pub kept_none : (ls : List Link) (s : Scratch) → ls ≡ [] → s.heights.items ≡ [] → s.depths.items ≡ [] → IsKept ls s
+pub kept_none : {A : Type 0} (ls : List Link) (s : Scratch A) → ls ≡ [] → s.heights.items ≡ [] → s.depths.items ≡ [] → IsKept ls s
 kept_none ls s e eh ed = record {
   legal = ap (λ (ls : List Link). is_legal (edges ls)) e;
   distinct = ap (λ (ls : List Link). are_distinct (entries ls)) e;

@@ -9,7 +9,7 @@ use Rattle.ep_nest.specs.declared.scratch.Scratch.{Scratch}
 use Rattle.std.specs.Prelude.{List, length, replicate, true, vec_capacity, ℕ, ◌++◌, ◌<◌, ◌≡◌, ◌≤◌}
 
 -- the links are legal and of an entry each; the tables say the longest chains; there is room for a walk
-pub record IsKept (ls : List Link) (s : Scratch) : Type 0 where
+pub record IsKept {A : Type 0} (ls : List Link) (s : Scratch A) : Type 0 where
   pub legal : is_legal (edges ls) ≡ true
   pub distinct : are_distinct (entries ls) ≡ true
   pub heights : AreLengths (along Down ls) s.heights.items
@@ -19,7 +19,7 @@ pub record IsKept (ls : List Link) (s : Scratch) : Type 0 where
   pub reached : length ls ≤ vec_capacity s.reached
 
 -- the tables have further places at most, and the lists more room
-pub record HasGrown (old new : Scratch) : Type 0 where
+pub record HasGrown {A : Type 0} (old new : Scratch A) : Type 0 where
   pub heights : (n : ℕ) × (new.heights.items ≡ old.heights.items ++ replicate n 0)
   pub depths : (n : ℕ) × (new.depths.items ≡ old.depths.items ++ replicate n 0)
   pub marks : length old.marks.items ≤ length new.marks.items
@@ -27,7 +27,7 @@ pub record HasGrown (old new : Scratch) : Type 0 where
   pub reached : vec_capacity old.reached ≤ vec_capacity new.reached
 
 -- an instance has its places, and a walk over so many links its room
-pub record HasRoom (s : Scratch) (key many : ℕ) : Type 0 where
+pub record HasRoom {A : Type 0} (s : Scratch A) (key many : ℕ) : Type 0 where
   pub heights : key < length s.heights.items
   pub depths : key < length s.depths.items
   pub marks : key < length s.marks.items

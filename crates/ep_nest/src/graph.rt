@@ -14,19 +14,19 @@ use crate::link::{Link, has_link, watches};
 use crate::scratch::Scratch;
 use crate::walk::{admit, collect_above};
 use ep_base::{DescId, EntryId, Errno};
-use std::alloc::{AllocError, Global};
+use std::alloc::{AllocError, Allocator, Global};
 use std::marker::Model;
 
 /// Which instances watch which, by which registrations, as epoll(7) lets instances be nested.
 /// Contracts see the links in the order in which they were made.
-/// The graph is legal at any time, and no two links are of one registration.
+/// The graph is legal at any time, and no two links are of one registration. Memory comes from `A`.
 #[derive(Drop)]
-pub struct Graph {
-    links: Vec<Link>,
-    scratch: Scratch,
+pub struct Graph<A: Allocator = Global> {
+    links: Vec<Link, A>,
+    scratch: Scratch<A>,
 }
 
-impl Model for Graph {
+impl<A: Allocator> Model for Graph<A> {
     ghost use Rattle.std.specs.Prelude.{List};
     ghost use Rattle.ep_nest.specs.declared.link.Link.{Link};
     ghost use Rattle.ep_nest.specs.Scratch.{IsKept};
@@ -38,9 +38,11 @@ impl Model for Graph {
     ghost invariant = { λ g. IsKept g.links.items g.scratch };
 }
 
-impl Graph {
+impl<A: Allocator> Graph<A> {
     /// A graph without links, which takes no memory.
-    pub fn new(alloc: Global) -> Self
+    pub fn new(alloc: A) -> Self
+    where
+        A: Copy,
         ensures { result ≡ [] }
     {
         Graph {
@@ -116,7 +118,7 @@ impl Graph {
     /// and as the greatest key of an instance.
     pub fn above<F: Fn(EntryId) -> bool>(&mut self, inner: DescId, passes: &F) -> &[DescId]
         requires { F.IsAlwaysCallable passes.now }
-        ensures* stays { sem 𝓛 (follows_so the_row the_row self.entry.ghost_name none (λ _ _. ⊤) (λ v. v ≡ self.old)) }
+        ensures* stays { sem 𝓛 (follows_so (the_row A.row A.Allocator) (the_row A.row A.Allocator) self.entry.ghost_name none (λ _ _. ⊤) (λ v. v ≡ self.old)) }
         ensures exact { (admits : ℕ → Bool) × All (λ l. F.post passes.now l.entry (admits l.entry.0)) self.old × ((x : ℕ) → (is_among (keys result.now) x ≡ true) ↔ IsAbove (edges (admitted_by admits self.old)) x inner.0) }
         ensures once { are_distinct (keys result.now) ≡ true }
     {

@@ -6,7 +6,7 @@ ghost use Rattle.ep_nest.specs.Links.{along};
 
 use crate::link::{Link, Way};
 use ep_base::DescId;
-use std::alloc::AllocError;
+use std::alloc::{AllocError, Allocator};
 
 /// How many links a chain may have: they join five instances.
 pub const LONGEST: u8 = 4;
@@ -19,7 +19,11 @@ pub fn length_at(lengths: &[u8], desc: DescId) -> u8
 }
 
 /// Gives an instance a place in a table, which may grow also where memory ends.
-pub fn widen<T: Copy + Drop>(table: &mut Vec<T>, key: usize, value: T) -> Result<(), AllocError>
+pub fn widen<T: Copy + Drop, A: Allocator>(
+    table: &mut Vec<T, A>,
+    key: usize,
+    value: T,
+) -> Result<(), AllocError>
     ensures grown { (n : ℕ) × (table.new.items ≡ table.old.items ++ replicate n value) }
     ensures placed { OnOk result (key < vec_len table.new) }
 {

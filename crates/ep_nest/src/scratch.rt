@@ -9,26 +9,28 @@ ghost use Rattle.ep_nest.specs.declared.link.Way.TheVariants.{Down, Up};
 use crate::lengths::{measure, widen};
 use crate::link::{Link, Way};
 use ep_base::DescId;
-use std::alloc::{AllocError, Global};
+use std::alloc::{AllocError, Allocator};
 
 /// Tables with a place for each instance, and lists that a walk fills.
 #[derive(Drop)]
-pub struct Scratch {
+pub struct Scratch<A: Allocator> {
     /// How many links the longest chain has that leads down to the instance.
-    pub heights: Vec<u8>,
+    pub heights: Vec<u8, A>,
     /// How many links the longest chain has that leads down from the instance.
-    pub depths: Vec<u8>,
+    pub depths: Vec<u8, A>,
     /// Whether a walk has reached the instance.
-    pub marks: Vec<bool>,
+    pub marks: Vec<bool, A>,
     /// The links that a walk may follow.
-    pub admitted: Vec<Link>,
+    pub admitted: Vec<Link, A>,
     /// The instances that a walk found.
-    pub reached: Vec<DescId>,
+    pub reached: Vec<DescId, A>,
 }
 
-impl Scratch {
+impl<A: Allocator> Scratch<A> {
     /// No places and no room, which takes no memory.
-    pub fn new(alloc: Global) -> Scratch
+    pub fn new(alloc: A) -> Scratch<A>
+    where
+        A: Copy,
         ensures heights { result.heights.items ≡ [] }
         ensures depths { result.depths.items ≡ [] }
         ensures marks { result.marks.items ≡ [] }

@@ -1,32 +1,15 @@
 //! The graph of nested instances: worked runs, the limits of epoll_ctl(2), and refused memory.
-ghost use Rattle.std.specs.Prelude.{◌≡◌, ◌↔◌, ◌++◌, ◌∷◌, [], false, nat_lt, true, ℕ};
+ghost use Rattle.std.specs.Prelude.{◌≡◌, ◌↔◌, nat_lt, true, ℕ};
 ghost use Rattle.ep_machine.specs.Lists.{is_among};
-ghost use Rattle.ep_machine.specs.Watches.{is_legal};
 ghost use Rattle.ep_nest.specs.Chains.{IsAbove};
-ghost use Rattle.ep_nest.specs.Links.{admitted_by, edges, entries, keys};
+ghost use Rattle.ep_nest.specs.Links.{admitted_by, edges, keys};
 
 use crate::Graph;
 use ep_base::{DescId, EntryId, Errno};
+use linked_list_allocator::LocalHeap;
+use std::alloc::AllocError;
 use std::process::Abort;
 use std::test::Fail;
-
-/// Adds a link. Where memory is refused the graph has to be as before, and the second request succeeds.
-fn add_allowed(rt: &impl Abort, graph: &mut Graph, outer: DescId, inner: DescId, entry: EntryId)
-    requires legal { is_legal ((outer.0, inner.0) ∷ edges graph.old) ≡ true }
-    requires fresh { is_among (entries graph.old) entry.0 ≡ false }
-    ensures { graph.new ≡ graph.old ++ record { outer = outer; inner = inner; entry = entry } ∷ [] }
-{
-    match graph.link(outer, inner, entry) {
-        Ok(()) => (),
-        Err(_) => {
-            assert!(rt; !graph.is_linked(entry), "linked though refused");
-            assert_eq!(rt; graph.may_add(outer, inner), Ok(()));
-            graph
-                .link(outer, inner, entry)
-                .expect(rt, "memory at the second request");
-        }
-    }
-}
 
 /// Adds a link where the graph allows it.
 fn add(
@@ -38,7 +21,9 @@ fn add(
 ) -> Result<(), Errno> {
     graph.may_add(DescId(outer), DescId(inner))?;
     assert!(rt; !graph.is_linked(EntryId(entry)));
-    add_allowed(rt, graph, DescId(outer), DescId(inner), EntryId(entry));
+    graph
+        .link(DescId(outer), DescId(inner), EntryId(entry))
+        .expect(rt, "memory for a link");
     assert!(rt; graph.is_linked(EntryId(entry)));
     Ok(())
 }
@@ -115,4 +100,25 @@ fn finds_above(rt: HostRuntime) {
     assert_eq!(rt; above_past(&mut graph, DescId(5), 1).len(), 2);
     graph.unlink(EntryId(2));
     assert!(rt; is_above(&mut graph, 5, &[1, 2, 3, 4], &[2, 3]));
+}
+
+/// Whether a link is refused over a heap of so many bytes. A refused link leaves the graph as it was.
+fn is_refused(rt: &(impl Abort + AllocGlobal), bytes: usize) -> Result<bool, AllocError> {
+    let heap = LocalHeap::new(rt.alloc(), bytes)?;
+    let mut graph = Graph::new(&heap);
+    let is_refused = graph.link(DescId(1), DescId(2), EntryId(3)).is_err();
+    assert!(rt; graph.is_linked(EntryId(3)) != is_refused);
+    assert!(rt; graph.above(DescId(2), &|_entry: EntryId| true).is_empty() == is_refused);
+    Ok(is_refused)
+}
+
+/// Over heaps of rising size each request for memory is refused in turn, and none where there is enough.
+#[test]
+fn keeps_the_graph_where_memory_is_refused(rt: HostRuntime) -> Result<(), Fail> {
+    for units in 2..32 {
+        is_refused(&rt, 16 * units)?;
+    }
+    assert!(rt; is_refused(&rt, 16)?);
+    assert!(rt; !is_refused(&rt, 1_024)?);
+    Ok(())
 }

@@ -10,9 +10,14 @@ ghost use Rattle.ep_nest.specs.Marks.{AreAbove, AreAllTo, IsMarked};
 use crate::lengths::LONGEST;
 use crate::link::Link;
 use ep_base::{DescId, EntryId};
+use std::alloc::Allocator;
 
 /// Takes the links that a filter admits, which it asks about each link once.
-pub fn admit<F: Fn(EntryId) -> bool>(links: &[Link], passes: &F, admitted: &mut Vec<Link>)
+pub fn admit<F: Fn(EntryId) -> bool, A: Allocator>(
+    links: &[Link],
+    passes: &F,
+    admitted: &mut Vec<Link, A>,
+)
     requires callable { F.IsAlwaysCallable passes.now }
     requires distinct { are_distinct (entries links.now) ≡ true }
     requires fits { length links.now ≤ vec_capacity admitted.old }
@@ -28,7 +33,7 @@ pub fn admit<F: Fn(EntryId) -> bool>(links: &[Link], passes: &F, admitted: &mut 
 }
 
 /// Puts a value at the end, in room that is there.
-fn put<T: Copy + Drop>(values: &mut Vec<T>, value: T)
+fn put<T: Copy + Drop, A: Allocator>(values: &mut Vec<T, A>, value: T)
     requires { vec_len values.old < vec_capacity values.old }
     ensures items { values.new.items ≡ values.old.items ++ value ∷ [] }
     ensures len { vec_len values.new ≡ vec_len values.old + 1 }
@@ -65,7 +70,7 @@ fn mark_above(links: &[Link], below: DescId, marks: &mut [bool])
 }
 
 /// Takes each marked instance that watches another, once.
-fn gather(links: &[Link], marks: &mut [bool], reached: &mut Vec<DescId>)
+fn gather<A: Allocator>(links: &[Link], marks: &mut [bool], reached: &mut Vec<DescId, A>)
     requires places { HasPlaces (edges links.now) (length marks.old) }
     requires fits { length links.now ≤ vec_capacity reached.old }
     ensures exact { (x : ℕ) → (is_among (keys reached.new.items) x ≡ true) ↔ (IsMarked marks.old x × ((y : ℕ) × Contains (edges links.now) (x, y))) }
@@ -82,7 +87,12 @@ fn gather(links: &[Link], marks: &mut [bool], reached: &mut Vec<DescId>)
 }
 
 /// Takes each instance from which a chain of links leads down to one, once. It looks at each link five times.
-pub fn collect_above(links: &[Link], below: DescId, marks: &mut [bool], reached: &mut Vec<DescId>)
+pub fn collect_above<A: Allocator>(
+    links: &[Link],
+    below: DescId,
+    marks: &mut [bool],
+    reached: &mut Vec<DescId, A>,
+)
     requires short { IsShort (edges links.now) }
     requires places { HasPlaces (edges links.now) (length marks.old) }
     requires fits { length links.now ≤ vec_capacity reached.old }

@@ -10,22 +10,22 @@ ghost use Rattle.ep_park.specs.Changes.{changed_at, with_mark_of};
 ghost use Rattle.ep_park.specs.Waiters.{is_caller, is_marked_caller, is_of, longest_marked, parked, without};
 
 use crate::scan::{longest, waits_for};
-use crate::tally::{Tally, count, discount, recount};
-use crate::waiter::{Waiter, is_due};
+use crate::tally::{Tallies, count, discount, recount};
+use crate::waiter::{Waiter, Waiters, is_due};
 use ep_base::{CallerId, DescId, Pid};
 use indexmap::IndexMap;
-use std::alloc::{AllocError, Global};
+use std::alloc::{AllocError, Allocator, Global};
 use std::marker::Model;
 
 /// The callers that are parked in epoll_wait(2). Contracts see the list of them in order of parking, each as the machine's waiter with the
-/// key of its instance in the place of the instance's number.
+/// key of its instance in the place of the instance's number. Memory comes from `A`.
 #[derive(Drop)]
-pub struct Park {
-    waiters: IndexMap<u32, Waiter>,
-    tallies: IndexMap<usize, Tally>,
+pub struct Park<A: Allocator = Global> {
+    waiters: Waiters<A>,
+    tallies: Tallies<A>,
 }
 
-impl Model for Park {
+impl<A: Allocator> Model for Park<A> {
     ghost use Rattle.std.specs.Prelude.{List};
     ghost use Rattle.ep_machine.specs.State.{Waiter as Parked};
 
@@ -39,9 +39,11 @@ impl Model for Park {
     ghost invariant = { λ p. IsTallied p.waiters.entries p.tallies.entries };
 }
 
-impl Park {
+impl<A: Allocator> Park<A> {
     /// Nobody is parked. This takes no memory.
-    pub fn new(alloc: Global) -> Self
+    pub fn new(alloc: A) -> Self
+    where
+        A: Copy,
         ensures { result ≡ [] }
     {
         Park {

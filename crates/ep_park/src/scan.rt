@@ -6,12 +6,12 @@ ghost use Rattle.indexmap.specs.IndexMap.{values};
 ghost use Rattle.ep_park.specs.Tallies.{first_at};
 ghost use Rattle.ep_park.specs.Waiters.{listed};
 
-use crate::waiter::Waiter;
+use crate::waiter::Waiters;
 use ep_base::{CallerId, DescId, Pid};
-use indexmap::IndexMap;
+use std::alloc::Allocator;
 
 /// The caller that waits longest at an instance.
-pub fn longest(waiters: &IndexMap<u32, Waiter>, instance: DescId) -> Option<CallerId>
+pub fn longest<A: Allocator>(waiters: &Waiters<A>, instance: DescId) -> Option<CallerId>
     ensures { option_map (λ c. c.0) result ≡ first_at instance.0 (listed waiters.now.entries) }
 {
     let place = first_place(waiters, instance)?;
@@ -20,7 +20,7 @@ pub fn longest(waiters: &IndexMap<u32, Waiter>, instance: DescId) -> Option<Call
 }
 
 /// The place of the waiter that waits longest at an instance.
-fn first_place(waiters: &IndexMap<u32, Waiter>, instance: DescId) -> Option<usize>
+fn first_place<A: Allocator>(waiters: &Waiters<A>, instance: DescId) -> Option<usize>
     ensures { result ≡ position (λ w. w.instance.0 == instance.0) (values waiters.now) }
 {
     waiters
@@ -29,7 +29,7 @@ fn first_place(waiters: &IndexMap<u32, Waiter>, instance: DescId) -> Option<usiz
 }
 
 /// Whether a process has a waiter.
-pub fn waits_for(waiters: &IndexMap<u32, Waiter>, process: Pid) -> bool
+pub fn waits_for<A: Allocator>(waiters: &Waiters<A>, process: Pid) -> bool
     ensures { result ≡ list_any (λ w. w.process.0 == process.0) (values waiters.now) }
 {
     waiters.values().any(|waiter| waiter.process.0 == process.0)

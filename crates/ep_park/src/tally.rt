@@ -6,7 +6,8 @@ ghost use Rattle.ep_park.specs.Tallies.{Rewrites, bit, joined, left, remarked};
 use crate::waiter::Waiter;
 use ep_base::{CallerId, DescId};
 use indexmap::IndexMap;
-use std::alloc::AllocError;
+use std::alloc::{AllocError, Allocator};
+use std::hash::{BuildHasherDefault, FoldHasher};
 
 /// The caller that waits longest, and how many of the instance's callers are marked.
 #[derive(Clone, Copy)]
@@ -15,9 +16,12 @@ pub struct Tally {
     pub marked: usize,
 }
 
+/// Tallies by the key of the instance.
+pub type Tallies<A> = IndexMap<usize, Tally, BuildHasherDefault<FoldHasher>, A>;
+
 /// Counts a waiter that is parked behind all others. An error leaves the tallies as they were.
-pub fn count(
-    tallies: &mut IndexMap<usize, Tally>,
+pub fn count<A: Allocator>(
+    tallies: &mut Tallies<A>,
     caller: CallerId,
     waiter: Waiter,
 ) -> Result<(), AllocError>
@@ -41,7 +45,7 @@ pub fn count(
 }
 
 /// Counts another mark in the place of a waiter's own.
-pub fn recount(tallies: &mut IndexMap<usize, Tally>, tally: Tally, waiter: Waiter, marked: bool)
+pub fn recount<A: Allocator>(tallies: &mut Tallies<A>, tally: Tally, waiter: Waiter, marked: bool)
     requires there { get nat_eq tallies.old waiter.instance.0 ≡ Some tally }
     requires least { bit waiter.marked ≤ tally.marked }
     requires most { tally.marked < usize.MAX }
@@ -56,8 +60,8 @@ pub fn recount(tallies: &mut IndexMap<usize, Tally>, tally: Tally, waiter: Waite
 }
 
 /// Counts a waiter no more, `first` being the caller that waits longest at its instance now.
-pub fn discount(
-    tallies: &mut IndexMap<usize, Tally>,
+pub fn discount<A: Allocator>(
+    tallies: &mut Tallies<A>,
     tally: Tally,
     waiter: Waiter,
     first: Option<CallerId>,
@@ -78,7 +82,7 @@ pub fn discount(
 }
 
 /// Writes the tally of an instance that has one.
-fn rewrite(tallies: &mut IndexMap<usize, Tally>, instance: DescId, tally: Tally)
+fn rewrite<A: Allocator>(tallies: &mut Tallies<A>, instance: DescId, tally: Tally)
     requires { ContainsKey nat_eq tallies.old instance.0 }
     ensures { Rewrites tallies.old.entries tallies.new.entries instance.0 (Some tally) }
 {

@@ -1,10 +1,7 @@
 //! What no clause says: that a call succeeds where there is memory, and the marks of whole runs of waits.
-ghost use Rattle.std.specs.Prelude.{◌≡◌, ◌++◌, ◌∷◌, [], OnOk, false};
-ghost use Rattle.std.specs.List.{list_any};
-ghost use Rattle.ep_park.specs.Waiters.{is_caller, parked};
-
 use crate::{Park, Waiter};
 use ep_base::{CallerId, DescId, Pid};
+use linked_list_allocator::LocalHeap;
 use std::alloc::AllocError;
 use std::process::Abort;
 use std::test::Fail;
@@ -22,34 +19,15 @@ fn waiting(deadline: Option<u64>) -> Waiter {
     }
 }
 
-/// Parks a caller. Where memory is refused, nothing has changed, and a second call parks it.
-fn park(
-    rt: &impl Abort,
-    park: &mut Park,
-    caller: CallerId,
-    waiter: Waiter,
-) -> Result<(), AllocError>
-    requires { list_any (is_caller caller.0) park.old ≡ false }
-    ensures { OnOk result (park.new ≡ park.old ++ parked caller.0 waiter ∷ []) }
-{
-    let had = park.has_waiter(waiter.instance);
-    if park.park(caller, waiter).is_ok() {
-        return Ok(());
-    }
-    assert!(rt; !park.is_parked(caller));
-    assert!(rt; park.has_waiter(waiter.instance) == had);
-    park.park(caller, waiter)
-}
-
 /// Two callers wait for one instance: the first is marked and goes on, then the second.
 #[test]
 fn one_after_the_other(rt: HostRuntime) -> Result<(), Fail> {
     let mut waits = Park::new(rt.alloc());
     let first = CallerId(1);
     let second = CallerId(2);
-    park(&rt, &mut waits, first, waiting(None))?;
+    waits.park(first, waiting(None))?;
     assert!(rt; !waits.is_parked(second));
-    park(&rt, &mut waits, second, waiting(None))?;
+    waits.park(second, waiting(None))?;
     waits.mark_longest(INSTANCE);
     waits.mark_longest(INSTANCE);
     assert!(rt; !waits.is_marked(second));
@@ -57,13 +35,13 @@ fn one_after_the_other(rt: HostRuntime) -> Result<(), Fail> {
         marked: true,
         ..waiting(None)
     };
-    assert_eq!(rt; waits.leave(first), Some(gone));
+    assert!(rt; waits.leave(first) == Some(gone));
     assert!(rt; !waits.has_mark(INSTANCE));
     waits.mark_longest(INSTANCE);
     assert!(rt; waits.is_marked(second));
     waits.unmark(second);
-    assert_eq!(rt; waits.waiter(second), Some(waiting(None)));
-    assert_eq!(rt; waits.leave(second), Some(waiting(None)));
+    assert!(rt; waits.waiter(second) == Some(waiting(None)));
+    assert!(rt; waits.leave(second) == Some(waiting(None)));
     assert!(rt; !waits.has_waiter(INSTANCE));
     Ok(())
 }
@@ -73,7 +51,7 @@ fn one_after_the_other(rt: HostRuntime) -> Result<(), Fail> {
 fn until_the_deadline(rt: HostRuntime) -> Result<(), Fail> {
     let mut waits = Park::new(rt.alloc());
     let caller = CallerId(1);
-    park(&rt, &mut waits, caller, waiting(Some(5)))?;
+    waits.park(caller, waiting(Some(5)))?;
     assert!(rt; waits.any_of(Pid(1)));
     waits.mark_due(4);
     assert!(rt; !waits.is_marked(caller));
@@ -90,14 +68,37 @@ fn a_thousand_in_turn(rt: HostRuntime) -> Result<(), Fail> {
     let mut waits = Park::new(rt.alloc());
     for number in 0..1_000 {
         if !waits.is_parked(CallerId(number)) {
-            park(&rt, &mut waits, CallerId(number), waiting(None))?;
+            waits.park(CallerId(number), waiting(None))?;
         }
     }
     for number in 0..1_000 {
         waits.mark_longest(INSTANCE);
-        assert!(rt; waits.is_marked(CallerId(number)), "caller {number}");
+        assert!(rt; waits.is_marked(CallerId(number)));
         waits.leave(CallerId(number));
     }
     assert!(rt; !waits.has_waiter(INSTANCE));
+    Ok(())
+}
+
+/// Whether parking is refused over a heap of so many bytes. A refused caller isn't parked, and nobody waits.
+fn is_refused(rt: &(impl Abort + AllocGlobal), bytes: usize) -> Result<bool, AllocError> {
+    let heap = LocalHeap::new(rt.alloc(), bytes)?;
+    let mut waits = Park::new(&heap);
+    let caller = CallerId(1);
+    let is_refused = waits.park(caller, waiting(None)).is_err();
+    assert!(rt; waits.is_parked(caller) != is_refused);
+    assert!(rt; waits.has_waiter(INSTANCE) != is_refused);
+    assert!(rt; waits.any_of(Pid(1)) != is_refused);
+    Ok(is_refused)
+}
+
+/// Over heaps of rising size each request for memory is refused in turn, and none where there is enough.
+#[test]
+fn keeps_the_waiters_where_memory_is_refused(rt: HostRuntime) -> Result<(), Fail> {
+    for units in 2..64 {
+        is_refused(&rt, 16 * units)?;
+    }
+    assert!(rt; is_refused(&rt, 16)?);
+    assert!(rt; !is_refused(&rt, 2_048)?);
     Ok(())
 }

@@ -13,13 +13,13 @@ use Rattle.ep_nest.specs.Marks.{IsMarked}
 use Rattle.ep_base.specs.declared.ids.DescId.{DescId}
 
 pub bounds-marks-link : goal.bounds-marks-link
-bounds-marks-link c =
+bounds-marks-link g c =
     let at = get_or c.args.links.now c.loop-link.link-index nowhere in
     let places = placed Down c.args.links.now c.loop-link.link-index c.loop-link-test.true (length c.args.marks.now) at.outer.0 at.inner.0 c.requires.places refl refl in
     omega (arith, places.0)
 
 pub loop-link-preserved : goal.loop-link-preserved
-loop-link-preserved c =
+loop-link-preserved g c =
     let ls = c.args.links.now in
     let es = edges ls in
     let first = c.args.marks.now in
@@ -67,7 +67,7 @@ loop-link-preserved c =
     ]
 
 pub returns-clause-exact : goal.returns-clause-exact
-returns-clause-exact c =
+returns-clause-exact g c =
     let es = edges c.args.links.now in
     let whole : take c.loop-link.link-index es ≡ es = take_all c.loop-link.link-index es (omega (arith, length-map c.args.links.now (ends_of Down), c.loop-link-test.false)) in
     let done = All-same (λ e. get_or c.loop-link.marks e.0 false ≡ false) es (take c.loop-link.link-index es) (sym whole) c.loop-link.invariant.done in

@@ -6,7 +6,7 @@ use Rattle.ep_nest.specs.Marks.{IsMarked}
 use Rattle.ep_nest.proofs.walk.gather.Given as goal
 
 abbrev pub invariant-loop-link : goal.invariant-loop-link
-invariant-loop-link l = record {
+invariant-loop-link g l = record {
   taken : (x : ℕ) → is_among (keys l.reached.items) x ≡ true → IsMarked l.initial.marks x × ((y : ℕ) × Contains (edges l.links) (x, y)) × (slice_index_or l.marks x false ≡ false);
   some : (x : ℕ) → IsMarked l.marks x → IsMarked l.initial.marks x;
   left : (x : ℕ) → IsMarked l.initial.marks x → (is_among (keys l.reached.items) x ≡ true) ⊎ IsMarked l.marks x;

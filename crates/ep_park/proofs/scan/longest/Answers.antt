@@ -6,11 +6,11 @@ use Rattle.ep_park.specs.declared.waiter.Waiter.{Waiter}
 use Rattle.ep_park.proofs.scan.longest.Goals as goal
 
 pub returns-in_err-place : goal.returns-in_err-place
-returns-in_err-place c =
+returns-in_err-place g c =
     ap (option_map (λ (k : CallerId). k.0)) c.from_residual.ensures
     ∙ first_none c.args.instance.0 c.args.waiters.now.entries c.in_err-place.ensures
 
 pub returns : goal.returns
-returns c =
+returns g c =
     ap (option_map (λ (e : ℕ × Waiter). e.0)) c.in_ok-caller.ensures.entry
     ∙ first_some c.args.instance.0 c.in_ok-place.place c.args.waiters.now.entries c.in_ok-place.ensures

@@ -14,59 +14,60 @@ use Rattle.ep_interest.specs.declared.place.Place.{Place}
 use Rattle.ep_interest.proofs.Adding.{Inserted, put_back, same_place_exact, entries_more, fresh_place, inserted, key_more, keys_more, numbers_more, on_ok, place_more}
 use Rattle.ep_interest.proofs.Indexed.{index_same}
 use Rattle.ep_interest.proofs.Sets.{find_none}
+use Rattle.ep_interest.proofs.interest.Interest.add.Given.{Over}
 use Rattle.ep_interest.proofs.interest.Interest.add.Goals as goal
 
-abbrev one : (c : goal.After-self-1) → Entry
-one c = new_entry (c.self.inside.added + 1) c.args.instance c.args.fd c.args.desc c.args.mask c.args.tag
+abbrev one : (g : Over) (c : goal.After-self-1 g) → Entry
+one g c = new_entry (c.self.inside.added + 1) c.args.instance c.args.fd c.args.desc c.args.mask c.args.tag
 
-in_slots : (c : goal.After-self-1) → Inserted c.self.inside.slots.slots c.insert_reserved.new.self.slots c.vacant_key.result (one c)
-in_slots c = inserted c.self.inside.slots.slots c.reserve.new.self c.insert_reserved.new.self c.insert_reserved.result c.vacant_key.result (one c) (ap (λ (s : Slab Entry). s.slots) c.reserve.ensures.rest_kept) (c.vacant_key.ensures.value ∙ sym c.insert_reserved.ensures.key) c.insert_reserved.ensures.was_vacant (subst (λ (x : Entry). Updates c.reserve.new.self c.insert_reserved.new.self c.insert_reserved.result (Some x)) c.new-entry.ensures c.insert_reserved.ensures.updates)
+in_slots : (g : Over) (c : goal.After-self-1 g) → Inserted c.self.inside.slots.slots c.insert_reserved.new.self.slots c.vacant_key.result (one g c)
+in_slots g c = inserted c.self.inside.slots.slots c.reserve.new.self c.insert_reserved.new.self c.insert_reserved.result c.vacant_key.result (one g c) (ap (λ (s : Slab Entry). s.slots) c.reserve.ensures.rest_kept) (c.vacant_key.ensures.value ∙ sym c.insert_reserved.ensures.key) c.insert_reserved.ensures.was_vacant (subst (λ (x : Entry). Updates c.reserve.new.self c.insert_reserved.new.self c.insert_reserved.result (Some x)) c.new-entry.ensures c.insert_reserved.ensures.updates)
 
-by_key : (c : goal.After-self-1) → IsIndex key_of c.insert_reserved.new.self.slots (hash.get same_key c.insert-3.new.self)
-by_key c =
+by_key : (g : Over) (c : goal.After-self-1 g) → IsIndex key_of c.insert_reserved.new.self.slots (hash.get same_key c.insert-3.new.self)
+by_key g c =
     let k = c.self.inside in
     let absent = subst (λ (r : Registrations). list_any (has_key c.args.instance c.args.fd c.args.desc) r.entries ≡ false) (sym c.self.view_is) c.requires.absent in
     let fresh = find_none k.slots.slots k.added c.self.invariant.numbered (hash.get same_key k.by_key) c.self.invariant.by_key c.args.instance c.args.fd c.args.desc absent in
     let u = on_ok c.insert-3.result (c.insert-3.ensures.succeeds (omega (arith, c.in_ok-reserve-2.ensures.ok))) c.insert-3.ensures.updates in
-    key_more k.slots.slots c.insert_reserved.new.self.slots c.vacant_key.result (one c) (in_slots c) (hash.get same_key k.by_key) (hash.get same_key c.insert-3.new.self) fresh
+    key_more k.slots.slots c.insert_reserved.new.self.slots c.vacant_key.result (one g c) (in_slots g c) (hash.get same_key k.by_key) (hash.get same_key c.insert-3.new.self) fresh
     (λ q. u.0 q ∙ (λ i. cond (same_key (c.new-key.ensures i) q) (Some (record { 0 = c.vacant_key.result })) (lookup (same_key q) (c.reserve-2.ensures.entries i))))
     c.self.invariant.by_key
 
-by_instance : (c : goal.After-self-1) → IsIndex (place_of instance_of) c.insert_reserved.new.self.slots (tree.get place_cmp c.insert.new.self)
-by_instance c =
+by_instance : (g : Over) (c : goal.After-self-1 g) → IsIndex (place_of instance_of) c.insert_reserved.new.self.slots (tree.get place_cmp c.insert.new.self)
+by_instance g c =
     let k = c.self.inside in
-    let fresh = fresh_place instance_of k.slots.slots k.added c.self.invariant.numbered (tree.get place_cmp k.by_instance) c.self.invariant.by_instance (place_of instance_of (one c)) (omega arith) in
-    place_more k.slots.slots c.insert_reserved.new.self.slots c.vacant_key.result (one c) (in_slots c) instance_of (tree.get place_cmp k.by_instance) (tree.get place_cmp c.insert.new.self) fresh
+    let fresh = fresh_place instance_of k.slots.slots k.added c.self.invariant.numbered (tree.get place_cmp k.by_instance) c.self.invariant.by_instance (place_of instance_of (one g c)) (omega arith) in
+    place_more k.slots.slots c.insert_reserved.new.self.slots c.vacant_key.result (one g c) (in_slots g c) instance_of (tree.get place_cmp k.by_instance) (tree.get place_cmp c.insert.new.self) fresh
     (λ q. c.in_ok-insert.ensures.updates.0 q ∙ (λ i. cond (is_eq (place_cmp (c.new-of_instance.ensures i) q)) (Some (record { 0 = c.vacant_key.result })) (tree.get place_cmp k.by_instance q)))
     c.self.invariant.by_instance
 
-by_target : (c : goal.After-self-1) → IsIndex (place_of target_of) c.insert_reserved.new.self.slots (tree.get place_cmp c.insert-2.new.self)
-by_target c =
+by_target : (g : Over) (c : goal.After-self-1 g) → IsIndex (place_of target_of) c.insert_reserved.new.self.slots (tree.get place_cmp c.insert-2.new.self)
+by_target g c =
     let k = c.self.inside in
-    let fresh = fresh_place target_of k.slots.slots k.added c.self.invariant.numbered (tree.get place_cmp k.by_target) c.self.invariant.by_target (place_of target_of (one c)) (omega arith) in
-    place_more k.slots.slots c.insert_reserved.new.self.slots c.vacant_key.result (one c) (in_slots c) target_of (tree.get place_cmp k.by_target) (tree.get place_cmp c.insert-2.new.self) fresh
+    let fresh = fresh_place target_of k.slots.slots k.added c.self.invariant.numbered (tree.get place_cmp k.by_target) c.self.invariant.by_target (place_of target_of (one g c)) (omega arith) in
+    place_more k.slots.slots c.insert_reserved.new.self.slots c.vacant_key.result (one g c) (in_slots g c) target_of (tree.get place_cmp k.by_target) (tree.get place_cmp c.insert-2.new.self) fresh
     (λ q. c.in-Ok.ensures.updates.0 q ∙ (λ i. cond (is_eq (place_cmp (c.new-on_target.ensures i) q)) (Some (record { 0 = c.vacant_key.result })) (tree.get place_cmp k.by_target q)))
     c.self.invariant.by_target
 
 pub invariant_of-self-2 : goal.invariant_of-self-2
-invariant_of-self-2 c = record {
-  numbered = numbers_more c.self.inside.slots.slots c.insert_reserved.new.self.slots c.vacant_key.result (one c) (in_slots c) c.self.inside.added refl c.self.invariant.numbered;
-  by_key = by_key c;
-  by_instance = by_instance c;
-  by_target = by_target c;
+invariant_of-self-2 g c = record {
+  numbered = numbers_more c.self.inside.slots.slots c.insert_reserved.new.self.slots c.vacant_key.result (one g c) (in_slots g c) c.self.inside.added refl c.self.invariant.numbered;
+  by_key = by_key g c;
+  by_instance = by_instance g c;
+  by_target = by_target g c;
 }
 
 pub returns-clause-entries : goal.returns-clause-entries
-returns-clause-entries c = subst (λ (r : Registrations). in_order c.insert_reserved.new.self.slots (c.self.inside.added + 1) ≡ r.entries ++ new_entry (r.added + 1) c.args.instance c.args.fd c.args.desc c.args.mask c.args.tag ∷ []) c.self.view_is
-    (entries_more c.self.inside.slots.slots c.insert_reserved.new.self.slots c.vacant_key.result (one c) (in_slots c) c.self.inside.added refl c.self.invariant.numbered)
+returns-clause-entries g c = subst (λ (r : Registrations). in_order c.insert_reserved.new.self.slots (c.self.inside.added + 1) ≡ r.entries ++ new_entry (r.added + 1) c.args.instance c.args.fd c.args.desc c.args.mask c.args.tag ∷ []) c.self.view_is
+    (entries_more c.self.inside.slots.slots c.insert_reserved.new.self.slots c.vacant_key.result (one g c) (in_slots g c) c.self.inside.added refl c.self.invariant.numbered)
 
 pub returns-clause-keys : goal.returns-clause-keys
-returns-clause-keys c = subst (λ (r : Registrations). GainsKey r (registrations (record { slots = c.insert_reserved.new.self; by_key = c.insert-3.new.self; by_instance = c.insert.new.self; by_target = c.insert-2.new.self; added = c.self.inside.added + 1 })) (record { 0 = c.vacant_key.result }) (r.added + 1)) c.self.view_is
-    (keys_more c.self.inside.slots.slots c.insert_reserved.new.self.slots c.vacant_key.result (one c) (in_slots c) c.self.inside.added refl c.self.invariant.numbered)
+returns-clause-keys g c = subst (λ (r : Registrations). GainsKey r (registrations {A = g.row.A.Denot} (record { slots = c.insert_reserved.new.self; by_key = c.insert-3.new.self; by_instance = c.insert.new.self; by_target = c.insert-2.new.self; added = c.self.inside.added + 1 })) (record { 0 = c.vacant_key.result }) (r.added + 1)) c.self.view_is
+    (keys_more c.self.inside.slots.slots c.insert_reserved.new.self.slots c.vacant_key.result (one g c) (in_slots g c) c.self.inside.added refl c.self.invariant.numbered)
 
 -- what was put at one place and taken away leaves no trace
 pub invariant_of-self-in-Err : goal.invariant_of-self-in-Err
-invariant_of-self-in-Err c =
+invariant_of-self-in-Err g c =
     let k = c.self.inside in
     let p = c.new-of_instance.result in
     let fresh = fresh_place instance_of k.slots.slots k.added c.self.invariant.numbered (tree.get place_cmp k.by_instance) c.self.invariant.by_instance p (ap (λ (q : Place). q.number) c.new-of_instance.ensures ∙ omega arith) in

@@ -9,32 +9,33 @@ use Rattle.ep_interest.specs.declared.entry.Entry.{Entry}
 use Rattle.ep_interest.proofs.Held.{held_next, numbered_next}
 use Rattle.ep_interest.proofs.Indexed.{index_next}
 use Rattle.ep_interest.proofs.Noting.{Replaced, keys_same, modified_other, modified_this, number_is, replaced}
+use Rattle.ep_interest.proofs.interest.Interest.modify.Given.{Over}
 use Rattle.ep_interest.proofs.interest.Interest.modify.Goals as goal
 
-abbrev next : (c : goal.After-self-1) → Entry
-next c = record c.index_mut-changed.result.now { mask = c.args.mask; tag = c.args.tag; armed = true; seen = None }
+abbrev next : (g : Over) (c : goal.After-self-1 g) → Entry
+next g c = record c.index_mut-changed.result.now { mask = c.args.mask; tag = c.args.tag; armed = true; seen = None }
 
-in_slots : (c : goal.After-self-1) → Replaced c.self.inside.slots.slots (set c.self.inside.slots.slots c.args.id.0 (Some (next c))) c.args.id.0 c.index_mut-changed.result.now (next c)
-in_slots c = replaced c.self.inside.slots.slots c.args.id.0 c.index_mut-changed.result.now (next c) c.index_mut-changed.ensures.value
+in_slots : (g : Over) (c : goal.After-self-1 g) → Replaced c.self.inside.slots.slots (set c.self.inside.slots.slots c.args.id.0 (Some (next g c))) c.args.id.0 c.index_mut-changed.result.now (next g c)
+in_slots g c = replaced c.self.inside.slots.slots c.args.id.0 c.index_mut-changed.result.now (next g c) c.index_mut-changed.ensures.value
 
 pub invariant_of-self : goal.invariant_of-self
-invariant_of-self c =
-    let k = c.self.inside in let x = c.index_mut-changed.result.now in let s = in_slots c in
-    let after = set k.slots.slots c.args.id.0 (Some (next c)) in
+invariant_of-self g c =
+    let k = c.self.inside in let x = c.index_mut-changed.result.now in let s = in_slots g c in
+    let after = set k.slots.slots c.args.id.0 (Some (next g c)) in
     record {
-      numbered = numbered_next k.slots.slots after c.args.id.0 x (next c) s.was s.here s.others refl k.added c.self.invariant.numbered;
-      by_key = index_next key_of k.slots.slots after c.args.id.0 x (next c) s.was s.here s.others refl (hash.get same_key k.by_key) c.self.invariant.by_key;
-      by_instance = index_next (place_of instance_of) k.slots.slots after c.args.id.0 x (next c) s.was s.here s.others refl (tree.get place_cmp k.by_instance) c.self.invariant.by_instance;
-      by_target = index_next (place_of target_of) k.slots.slots after c.args.id.0 x (next c) s.was s.here s.others refl (tree.get place_cmp k.by_target) c.self.invariant.by_target;
+      numbered = numbered_next k.slots.slots after c.args.id.0 x (next g c) s.was s.here s.others refl k.added c.self.invariant.numbered;
+      by_key = index_next key_of k.slots.slots after c.args.id.0 x (next g c) s.was s.here s.others refl (hash.get same_key k.by_key) c.self.invariant.by_key;
+      by_instance = index_next (place_of instance_of) k.slots.slots after c.args.id.0 x (next g c) s.was s.here s.others refl (tree.get place_cmp k.by_instance) c.self.invariant.by_instance;
+      by_target = index_next (place_of target_of) k.slots.slots after c.args.id.0 x (next g c) s.was s.here s.others refl (tree.get place_cmp k.by_target) c.self.invariant.by_target;
     }
 
 pub returns-clause-entries : goal.returns-clause-entries
-returns-clause-entries c =
-    let k = c.self.inside in let x = c.index_mut-changed.result.now in let s = in_slots c in
-    let after = set k.slots.slots c.args.id.0 (Some (next c)) in
-    let h = held_next k.slots.slots after c.args.id.0 x (next c) s.was s.here s.others refl k.added c.self.invariant.numbered (modified x.number c.args.mask c.args.tag) (modified_this x c.args.mask c.args.tag) (λ z ne. modified_other x.number z c.args.mask c.args.tag ne) in
+returns-clause-entries g c =
+    let k = c.self.inside in let x = c.index_mut-changed.result.now in let s = in_slots g c in
+    let after = set k.slots.slots c.args.id.0 (Some (next g c)) in
+    let h = held_next k.slots.slots after c.args.id.0 x (next g c) s.was s.here s.others refl k.added c.self.invariant.numbered (modified x.number c.args.mask c.args.tag) (modified_this x c.args.mask c.args.tag) (λ z ne. modified_other x.number z c.args.mask c.args.tag ne) in
     subst (λ (r : Registrations). in_order after k.added ≡ map (modified (unwrap_or (number_under r c.args.id) 0) c.args.mask c.args.tag) r.entries) c.self.view_is
     (h ∙ ap (λ (n : ℕ). map (modified n c.args.mask c.args.tag) (in_order k.slots.slots k.added)) (sym (number_is k.slots.slots c.args.id.0 x s.was)))
 
 pub returns-clause-keys : goal.returns-clause-keys
-returns-clause-keys c = keys_same c.self.inside.slots.slots c.args.id.0 c.index_mut-changed.result.now (next c) c.index_mut-changed.ensures.value refl ∙ ap (λ (r : Registrations). r.keys) c.self.view_is
+returns-clause-keys g c = keys_same c.self.inside.slots.slots c.args.id.0 c.index_mut-changed.result.now (next g c) c.index_mut-changed.ensures.value refl ∙ ap (λ (r : Registrations). r.keys) c.self.view_is

@@ -12,42 +12,43 @@ use Rattle.ep_interest.proofs.Indexed.{index_less}
 use Rattle.ep_interest.proofs.Noting.{number_is}
 use Rattle.ep_interest.proofs.Removing.{Emptied, held_less, keys_less, numbered_less}
 use Rattle.ep_interest.proofs.Sets.{same_key_exact, same_key_self}
+use Rattle.ep_interest.proofs.interest.Interest.remove.Given.{Over}
 use Rattle.ep_interest.proofs.interest.Interest.remove.Goals as goal
 
-in_slots : (c : goal.After-remove-2) → Emptied c.self.inside.slots.slots c.remove-entry.new.self.slots c.args.id.0 c.remove-entry.result
-in_slots c = record { was = c.remove-entry.ensures.value; gone = c.remove-entry.ensures.updates.changed; others = c.remove-entry.ensures.updates.others }
+in_slots : (g : Over) (c : goal.After-remove-2 g) → Emptied c.self.inside.slots.slots c.remove-entry.new.self.slots c.args.id.0 c.remove-entry.result
+in_slots g c = record { was = c.remove-entry.ensures.value; gone = c.remove-entry.ensures.updates.changed; others = c.remove-entry.ensures.updates.others }
 
-by_key : (c : goal.After-remove-2) → IsIndex key_of c.remove-entry.new.self.slots (hash.get same_key c.swap_remove.new.self)
-by_key c =
-    let k = c.self.inside in let x = c.remove-entry.result in let s = in_slots c in
+by_key : (g : Over) (c : goal.After-remove-2 g) → IsIndex key_of c.remove-entry.new.self.slots (hash.get same_key c.swap_remove.new.self)
+by_key g c =
+    let k = c.self.inside in let x = c.remove-entry.result in let s = in_slots g c in
     index_less key_of k.slots.slots c.remove-entry.new.self.slots c.args.id.0 x s.was s.gone s.others (hash.get same_key k.by_key) (hash.get same_key c.swap_remove.new.self) (same_key (key_of x)) (same_key_self (key_of x)) (same_key_exact (key_of x))
     (λ q. c.swap_remove.ensures.updates.0 q ∙ (λ i. cond (same_key (c.new-key.ensures i) q) None (hash.get same_key k.by_key q))) c.self.invariant.by_key
 
-by_instance : (c : goal.After-remove-2) → IsIndex (place_of instance_of) c.remove-entry.new.self.slots (tree.get place_cmp c.remove.new.self)
-by_instance c =
-    let k = c.self.inside in let x = c.remove-entry.result in let s = in_slots c in let p = place_of instance_of x in
+by_instance : (g : Over) (c : goal.After-remove-2 g) → IsIndex (place_of instance_of) c.remove-entry.new.self.slots (tree.get place_cmp c.remove.new.self)
+by_instance g c =
+    let k = c.self.inside in let x = c.remove-entry.result in let s = in_slots g c in let p = place_of instance_of x in
     index_less (place_of instance_of) k.slots.slots c.remove-entry.new.self.slots c.args.id.0 x s.was s.gone s.others (tree.get place_cmp k.by_instance) (tree.get place_cmp c.remove.new.self) (λ q. is_eq (place_cmp p q)) (same_place_self p) (same_place_exact p)
     (λ q. c.remove.ensures.updates.0 q ∙ (λ i. cond (is_eq (place_cmp (c.new-of_instance.ensures i) q)) None (tree.get place_cmp k.by_instance q))) c.self.invariant.by_instance
 
-by_target : (c : goal.After-remove-2) → IsIndex (place_of target_of) c.remove-entry.new.self.slots (tree.get place_cmp c.remove-2.new.self)
-by_target c =
-    let k = c.self.inside in let x = c.remove-entry.result in let s = in_slots c in let p = place_of target_of x in
+by_target : (g : Over) (c : goal.After-remove-2 g) → IsIndex (place_of target_of) c.remove-entry.new.self.slots (tree.get place_cmp c.remove-2.new.self)
+by_target g c =
+    let k = c.self.inside in let x = c.remove-entry.result in let s = in_slots g c in let p = place_of target_of x in
     index_less (place_of target_of) k.slots.slots c.remove-entry.new.self.slots c.args.id.0 x s.was s.gone s.others (tree.get place_cmp k.by_target) (tree.get place_cmp c.remove-2.new.self) (λ q. is_eq (place_cmp p q)) (same_place_self p) (same_place_exact p)
     (λ q. c.remove-2.ensures.updates.0 q ∙ (λ i. cond (is_eq (place_cmp (c.new-on_target.ensures i) q)) None (tree.get place_cmp k.by_target q))) c.self.invariant.by_target
 
 pub invariant_of-self : goal.invariant_of-self
-invariant_of-self c = record {
-  numbered = numbered_less c.self.inside.slots.slots c.remove-entry.new.self.slots c.args.id.0 c.remove-entry.result (in_slots c) c.self.inside.added c.self.invariant.numbered;
-  by_key = by_key c;
-  by_instance = by_instance c;
-  by_target = by_target c;
+invariant_of-self g c = record {
+  numbered = numbered_less c.self.inside.slots.slots c.remove-entry.new.self.slots c.args.id.0 c.remove-entry.result (in_slots g c) c.self.inside.added c.self.invariant.numbered;
+  by_key = by_key g c;
+  by_instance = by_instance g c;
+  by_target = by_target g c;
 }
 
 pub returns-clause-entries : goal.returns-clause-entries
-returns-clause-entries c =
-    let k = c.self.inside in let x = c.remove-entry.result in let s = in_slots c in
+returns-clause-entries g c =
+    let k = c.self.inside in let x = c.remove-entry.result in let s = in_slots g c in
     subst (λ (r : Registrations). in_order c.remove-entry.new.self.slots k.added ≡ filter (is_other (unwrap_or (number_under r c.args.id) 0)) r.entries) c.self.view_is
     (held_less k.slots.slots c.remove-entry.new.self.slots c.args.id.0 x s k.added c.self.invariant.numbered ∙ ap (λ (n : ℕ). filter (is_other n) (in_order k.slots.slots k.added)) (sym (number_is k.slots.slots c.args.id.0 x s.was)))
 
 pub returns-clause-keys : goal.returns-clause-keys
-returns-clause-keys c = ap (λ (xs : List (Option Entry)). map number_in xs) c.remove-entry.ensures.slots ∙ (keys_less c.self.inside.slots.slots c.args.id.0 ∙ ap (λ (r : Registrations). slice_set r.keys c.args.id.0 None) c.self.view_is)
+returns-clause-keys g c = ap (λ (xs : List (Option Entry)). map number_in xs) c.remove-entry.ensures.slots ∙ (keys_less c.self.inside.slots.slots c.args.id.0 ∙ ap (λ (r : Registrations). slice_set r.keys c.args.id.0 None) c.self.view_is)

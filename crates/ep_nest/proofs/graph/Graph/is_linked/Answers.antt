@@ -7,6 +7,6 @@ use Rattle.ep_nest.specs.declared.link.Link.{Link}
 use Rattle.ep_nest.proofs.graph.Graph.is_linked.Goals as goal
 
 pub returns : goal.returns
-returns c =
+returns g c =
     let entry = c.args.entry.0 in
     c.has_link.ensures ∙ (ap (λ (ls : List Link). list_any (is_of entry) ls) c.deref.ensures.value ∙ (of_entry c.self.inside.links.items entry ∙ ap (λ (ls : List Link). is_among (entries ls) entry) c.self.view_is))

@@ -11,14 +11,14 @@ use Rattle.ep_nest.specs.declared.link.Way.TheVariants.{Down, Up}
 use Rattle.ep_nest.proofs.graph.Graph.link.Goals as goal
 
 pub invariant_of-self : goal.invariant_of-self
-invariant_of-self c = kept_grown c.self.inside.links.items c.self.inside.scratch c.make_room.new.self c.self.invariant c.make_room.ensures.grown
+invariant_of-self g c = kept_grown c.self.inside.links.items c.self.inside.scratch c.make_room.new.self c.self.invariant c.make_room.ensures.grown
 
 pub invariant_of-self-in_err-push : goal.invariant_of-self-in_err-push
-invariant_of-self-in_err-push c =
+invariant_of-self-in_err-push g c =
     subst (λ (ls : List Link). IsKept ls c.make_room.new.self) (sym c.in_err-push.ensures.items) (kept_grown c.self.inside.links.items c.self.inside.scratch c.make_room.new.self c.self.invariant c.make_room.ensures.grown)
 
 pub measure-requires-clause-legal : goal.measure-requires-clause-legal
-measure-requires-clause-legal c =
+measure-requires-clause-legal g c =
     let ls = c.self.inside.links.items in
     let l : Link = record { outer = c.args.outer; inner = c.args.inner; entry = c.args.entry } in
     let same : c.deref.result.now ≡ ls ++ l ∷ [] = c.deref.ensures.value ∙ c.in_ok-push.ensures.items in
@@ -26,7 +26,7 @@ measure-requires-clause-legal c =
     ap (λ (ls : List Link). is_legal (edges ls)) same ∙ legal_pushed ls l old
 
 pub measure-requires-clause-heights_fit : goal.measure-requires-clause-heights_fit
-measure-requires-clause-heights_fit c =
+measure-requires-clause-heights_fit g c =
     let ls = c.self.inside.links.items in
     let s = c.make_room.new.self in
     let l : Link = record { outer = c.args.outer; inner = c.args.inner; entry = c.args.entry } in
@@ -37,7 +37,7 @@ measure-requires-clause-heights_fit c =
     subst (λ (ls : List Link). HasPlaces (edges ls) (length s.heights.items)) (sym same) places
 
 pub measure-requires-clause-depths_fit : goal.measure-requires-clause-depths_fit
-measure-requires-clause-depths_fit c =
+measure-requires-clause-depths_fit g c =
     let ls = c.self.inside.links.items in
     let s = c.make_room.new.self in
     let l : Link = record { outer = c.args.outer; inner = c.args.inner; entry = c.args.entry } in
@@ -48,7 +48,7 @@ measure-requires-clause-depths_fit c =
     subst (λ (ls : List Link). HasPlaces (edges ls) (length s.depths.items)) (sym same) places
 
 pub invariant_of-self-2 : goal.invariant_of-self-2
-invariant_of-self-2 c =
+invariant_of-self-2 g c =
     let ls = c.self.inside.links.items in
     let s = c.make_room.new.self in
     let new = c.measure.new.self in

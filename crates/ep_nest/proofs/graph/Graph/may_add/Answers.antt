@@ -5,11 +5,12 @@ use Rattle.ep_nest.proofs.Allowed.{between, fits_if_legal, legal_if_fits, machin
 use Rattle.ep_nest.specs.Links.{edges, is_between}
 use Rattle.ep_nest.specs.declared.link.Link.{Link}
 use Rattle.std.specs.List.{list_any}
+use Rattle.ep_nest.proofs.graph.Graph.may_add.Given.{Over}
 use Rattle.ep_nest.proofs.graph.Graph.may_add.Goals as goal
 use Rattle.ep_nest.proofs.graph.Graph.may_add.Goals.{then-eq-via-then-eq, then-eq-via-else-eq+then-is_too_deep, then-eq-via-else-eq+else-is_too_deep+then-watches}
 
-refused : (c : goal.Joined-then-eq) → is_legal ((c.args.outer.0, c.args.inner.0) ∷ edges c.args.self.now) ≡ true → ⊥
-refused c h =
+refused : (g : Over) (c : goal.Joined-then-eq g) → is_legal ((c.args.outer.0, c.args.inner.0) ∷ edges c.args.self.now) ≡ true → ⊥
+refused g c h =
     let ls = c.self.inside.links.items in
     let s = c.self.inside.scratch in
     let outer = c.args.outer.0 in
@@ -26,14 +27,14 @@ refused c h =
     ]
 
 pub returns-then-eq-clause-machine : goal.returns-then-eq-clause-machine
-returns-then-eq-clause-machine c = (λ e. absurd (cc), λ h. absurd (refused c h))
+returns-then-eq-clause-machine g c = (λ e. absurd (cc), λ h. absurd (refused g c h))
 
 pub returns-then-eq-clause-legal : goal.returns-then-eq-clause-legal
-returns-then-eq-clause-legal c =
-    (λ e. absurd (cc), λ h. absurd (refused c (machine_from_words ((c.args.outer.0, c.args.inner.0) ∷ edges c.args.self.now) h)))
+returns-then-eq-clause-legal g c =
+    (λ e. absurd (cc), λ h. absurd (refused g c (machine_from_words ((c.args.outer.0, c.args.inner.0) ∷ edges c.args.self.now) h)))
 
 pub returns-clause-machine : goal.returns-clause-machine
-returns-clause-machine c =
+returns-clause-machine g c =
     let ls = c.self.inside.links.items in
     let s = c.self.inside.scratch in
     let outer = c.args.outer.0 in
@@ -47,6 +48,6 @@ returns-clause-machine c =
     (λ e. ap (λ (ls : List Link). is_legal ((outer, inner) ∷ edges ls)) (sym c.self.view_is) ∙ legal, λ h. refl)
 
 pub returns-clause-legal : goal.returns-clause-legal
-returns-clause-legal c =
-    let machine = returns-clause-machine c in
+returns-clause-legal g c =
+    let machine = returns-clause-machine g c in
     (λ e. words_from_machine ((c.args.outer.0, c.args.inner.0) ∷ edges c.args.self.now) (machine.0 refl), λ h. refl)

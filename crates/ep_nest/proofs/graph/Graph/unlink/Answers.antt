@@ -10,7 +10,7 @@ use Rattle.ep_nest.specs.declared.link.Way.TheVariants.{Down, Up}
 use Rattle.ep_nest.proofs.graph.Graph.unlink.Goals as goal
 
 pub measure-requires-clause-legal : goal.measure-requires-clause-legal
-measure-requires-clause-legal c =
+measure-requires-clause-legal g c =
     let ls = c.self.inside.links.items in
     let entry = c.args.entry.0 in
     let left : c.retain.new.self.items ≡ without entry ls = filter_same _ (λ l. not (is_of entry l)) _ (λ x b f' k. search rules) _ _ c.retain.ensures.filtered in
@@ -18,7 +18,7 @@ measure-requires-clause-legal c =
     ap (λ (ls : List Link). is_legal (edges ls)) same ∙ legal_part (λ l. not (is_of entry l)) ls c.self.invariant.legal
 
 pub measure-requires-clause-heights_fit : goal.measure-requires-clause-heights_fit
-measure-requires-clause-heights_fit c =
+measure-requires-clause-heights_fit g c =
     let ls = c.self.inside.links.items in
     let entry = c.args.entry.0 in
     let room = length c.self.inside.scratch.heights.items in
@@ -27,7 +27,7 @@ measure-requires-clause-heights_fit c =
     subst (λ (ls : List Link). HasPlaces (edges ls) room) (sym same) (places_part (edges (without entry ls)) (edges ls) room (kept_edge (λ l. not (is_of entry l)) ls) c.self.invariant.heights.places)
 
 pub measure-requires-clause-depths_fit : goal.measure-requires-clause-depths_fit
-measure-requires-clause-depths_fit c =
+measure-requires-clause-depths_fit g c =
     let ls = c.self.inside.links.items in
     let entry = c.args.entry.0 in
     let room = length c.self.inside.scratch.depths.items in
@@ -36,7 +36,7 @@ measure-requires-clause-depths_fit c =
     subst (λ (ls : List Link). HasPlaces (edges ls) room) (sym same) (places_part (edges (without entry ls)) (edges ls) room (kept_edge (λ l. not (is_of entry l)) ls) (places_down ls room c.self.invariant.depths.places))
 
 pub invariant_of-self : goal.invariant_of-self
-invariant_of-self c =
+invariant_of-self g c =
     let ls = c.self.inside.links.items in
     let kept = c.self.invariant in
     let entry = c.args.entry.0 in
@@ -58,7 +58,7 @@ invariant_of-self c =
     subst (λ (ls : List Link). IsKept ls new) (sym left) all
 
 pub returns : goal.returns
-returns c =
+returns g c =
     let entry = c.args.entry.0 in
     let left : c.retain.new.self.items ≡ without entry c.self.inside.links.items = filter_same _ (λ l. not (is_of entry l)) _ (λ x b f' k. search rules) _ _ c.retain.ensures.filtered in
     left ∙ ap (λ (ls : List Link). without entry ls) c.self.view_is

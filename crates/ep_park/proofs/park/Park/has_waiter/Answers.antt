@@ -5,7 +5,7 @@ use Rattle.ep_park.specs.Waiters.{listed}
 use Rattle.ep_park.proofs.park.Park.has_waiter.Goals as goal
 
 pub returns : goal.returns
-returns c =
+returns g c =
     c.contains_key.ensures
     ∙ (ap is_some (c.self.invariant.of c.args.instance.0)
     ∙ (any_tally c.args.instance.0 (listed c.self.inside.waiters.entries)

@@ -5,7 +5,7 @@ use Rattle.ep_park.specs.Waiters.{is_caller}
 use Rattle.ep_park.proofs.park.Park.is_parked.Goals as goal
 
 pub returns : goal.returns
-returns c =
+returns g c =
     c.contains_key.ensures
     ∙ (present c.args.caller.0 c.self.inside.waiters.entries
     ∙ ap (list_any (is_caller c.args.caller.0)) c.self.view_is)

@@ -9,26 +9,26 @@ use Rattle.ep_park.specs.Waiters.{is_caller, listed, parked, without}
 use Rattle.ep_park.proofs.park.Park.leave.Goals as goal
 
 pub returns-in_err-waiter-clause-left : goal.returns-in_err-waiter-clause-left
-returns-in_err-waiter-clause-left c =
+returns-in_err-waiter-clause-left g c =
     ap (option_map (parked c.args.caller.0)) (c.from_residual.ensures ∙ c.in_err-waiter.ensures.value)
     ∙ (found c.args.caller.0 c.self.inside.waiters.entries ∙ ap (find (is_caller c.args.caller.0)) c.self.view_is)
 
 pub returns-in_err-waiter-clause-rest : goal.returns-in_err-waiter-clause-rest
-returns-in_err-waiter-clause-rest c =
+returns-in_err-waiter-clause-rest g c =
     let e = c.shift_remove.ensures in
     ap listed e.entries
     ∙ (removed c.args.caller.0 c.self.inside.waiters.entries (ap (lookup (nat_eq c.args.caller.0)) (sym e.entries) ∙ e.updates.1)
     ∙ ap (without c.args.caller.0) c.self.view_is)
 
 pub index-tally-requires : goal.index-tally-requires
-index-tally-requires c = tally_found c.args.caller.0 c.in_ok-waiter.waiter c.self.inside.waiters.entries c.self.inside.tallies.entries c.self.invariant (sym c.in_ok-waiter.ensures.value)
+index-tally-requires g c = tally_found c.args.caller.0 c.in_ok-waiter.waiter c.self.inside.waiters.entries c.self.inside.tallies.entries c.self.invariant (sym c.in_ok-waiter.ensures.value)
 
 pub discount-requires-clause-least : goal.discount-requires-clause-least
-discount-requires-clause-least c =
+discount-requires-clause-least g c =
     omega (arith, least_marked c.args.caller.0 c.in_ok-waiter.waiter c.index-tally.result.now c.self.inside.waiters.entries c.self.inside.tallies.entries c.self.invariant (sym c.in_ok-waiter.ensures.value) c.index-tally.ensures)
 
 pub invariant_of-self-2 : goal.invariant_of-self-2
-invariant_of-self-2 c =
+invariant_of-self-2 g c =
     let e = c.shift_remove.ensures in
     rw e.entries
     (tallied_less c.self.inside.waiters.entries c.self.inside.tallies.entries c.discount.new.tallies.entries c.args.caller.0 c.in_ok-waiter.waiter c.index-tally.result.now c.longest-first.result c.self.invariant (sym c.in_ok-waiter.ensures.value) c.index-tally.ensures
@@ -36,12 +36,12 @@ invariant_of-self-2 c =
     c.discount.ensures)
 
 pub returns-clause-left : goal.returns-clause-left
-returns-clause-left c =
+returns-clause-left g c =
     ap (option_map (parked c.args.caller.0)) c.in_ok-waiter.ensures.value
     ∙ (found c.args.caller.0 c.self.inside.waiters.entries ∙ ap (find (is_caller c.args.caller.0)) c.self.view_is)
 
 pub returns-clause-rest : goal.returns-clause-rest
-returns-clause-rest c =
+returns-clause-rest g c =
     let e = c.shift_remove.ensures in
     ap listed e.entries
     ∙ (removed c.args.caller.0 c.self.inside.waiters.entries (ap (lookup (nat_eq c.args.caller.0)) (sym e.entries) ∙ e.updates.1)

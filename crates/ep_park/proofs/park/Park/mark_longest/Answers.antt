@@ -8,21 +8,21 @@ use Rattle.std.specs.Map.{keys_of}
 use Rattle.ep_park.proofs.park.Park.mark_longest.Goals as goal
 
 pub returns-in_default : goal.returns-in_default
-returns-in_default c =
+returns-in_default g c =
     let n = c.args.instance.0 in
     sym c.self.view_is
     ∙ (longest_nobody n (listed c.self.inside.waiters.entries) (sym c.in_default.is ∙ (c.copied.ensures ∙ (c.get.ensures.value ∙ c.self.invariant.of n)))
     ∙ ap (longest_marked n) c.self.view_is)
 
 pub returns-then-tally-gt0 : goal.returns-then-tally-gt0
-returns-then-tally-gt0 c =
+returns-then-tally-gt0 g c =
     let n = c.args.instance.0 in
     sym c.self.view_is
     ∙ (longest_kept n c.in-Some.tally (listed c.self.inside.waiters.entries) (sym c.in-Some.is ∙ (c.copied.ensures ∙ (c.get.ensures.value ∙ c.self.invariant.of n))) c.if-tally-gt0.true
     ∙ ap (longest_marked n) c.self.view_is)
 
 pub returns-in-Some-get_index_of : goal.returns-in-Some-get_index_of
-returns-in-Some-get_index_of c =
+returns-in-Some-get_index_of g c =
     let n = c.args.instance.0 in
     let es = c.self.inside.waiters.entries in
     let i = c.in-Some-get_index_of.first in
@@ -34,7 +34,7 @@ returns-in-Some-get_index_of c =
     ∙ ap (longest_marked n) c.self.view_is))
 
 pub returns-in_default-get_index_of : goal.returns-in_default-get_index_of
-returns-in_default-get_index_of c =
+returns-in_default-get_index_of g c =
     let n = c.args.instance.0 in
     let es = c.self.inside.waiters.entries in
     let has : Some c.in-Some.tally ≡ tally_of n (listed es) = sym c.in-Some.is ∙ (c.copied.ensures ∙ (c.get.ensures.value ∙ c.self.invariant.of n)) in

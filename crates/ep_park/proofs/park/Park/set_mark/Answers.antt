@@ -5,22 +5,22 @@ use Rattle.ep_park.specs.Changes.{changed_at, with_mark_of}
 use Rattle.ep_park.proofs.park.Park.set_mark.Goals as goal
 
 pub index-tally-requires : goal.index-tally-requires
-index-tally-requires c = tally_placed c.args.index c.index.result.now c.self.inside.waiters.entries c.self.inside.tallies.entries c.self.invariant c.index.ensures
+index-tally-requires g c = tally_placed c.args.index c.index.result.now c.self.inside.waiters.entries c.self.inside.tallies.entries c.self.invariant c.index.ensures
 
 pub recount-requires-clause-least : goal.recount-requires-clause-least
-recount-requires-clause-least c = least_placed c.args.index c.index.result.now c.index-tally.result.now c.self.inside.waiters.entries c.self.inside.tallies.entries c.self.invariant c.index.ensures c.index-tally.ensures
+recount-requires-clause-least g c = least_placed c.args.index c.index.result.now c.index-tally.result.now c.self.inside.waiters.entries c.self.inside.tallies.entries c.self.invariant c.index.ensures c.index-tally.ensures
 
 pub recount-requires-clause-most : goal.recount-requires-clause-most
-recount-requires-clause-most c =
+recount-requires-clause-most g c =
     few_marked c.index.result.now.instance.0 _ c.self.inside.waiters.entries (Some c.index-tally.result.now) (sym c.index-tally.ensures ∙ c.self.invariant.of c.index.result.now.instance.0)
     (omega (arith, c.len.ensures.len, c.len.ensures.small))
 
 pub invariant_of-self : goal.invariant_of-self
-invariant_of-self c =
+invariant_of-self g c =
     let same : c.index_mut.result.now ≡ c.index.result.now = cc in
     rw same (tallied_placed c.args.index c.index.result.now c.args.marked c.index-tally.result.now c.self.inside.waiters.entries c.self.inside.tallies.entries c.recount.new.tallies.entries c.self.invariant c.index.ensures c.index-tally.ensures c.recount.ensures)
 
 pub returns : goal.returns
-returns c =
+returns g c =
     changed (with_mark_of c.args.marked) c.index_mut.result.now (record c.index_mut.result.now { marked = c.args.marked }) c.self.inside.waiters.entries c.args.index c.index_mut.ensures.value (λ k. refl)
     ∙ ap (changed_at (with_mark_of c.args.marked) c.args.index) c.self.view_is

@@ -6,7 +6,7 @@ use Rattle.ep_park.specs.Changes.{changed_at, with_mark_of}
 use Rattle.ep_park.proofs.park.Park.unmark.Goals as goal
 
 pub returns-in-Some : goal.returns-in-Some
-returns-in-Some c =
+returns-in-Some g c =
     let es = c.self.inside.waiters.entries in
     c.set_mark.ensures
     ∙ (ap (changed_at (with_mark_of false) c.in-Some.index) (sym c.self.view_is)
@@ -14,7 +14,7 @@ returns-in-Some c =
     ∙ ap (map (unmark c.args.caller.0)) c.self.view_is))
 
 pub returns-in_default : goal.returns-in_default
-returns-in_default c =
+returns-in_default g c =
     sym c.self.view_is
     ∙ (kept_absent c.args.caller.0 c.self.inside.waiters.entries (no_entry _ c.in_default.ensures.found)
     ∙ ap (map (unmark c.args.caller.0)) c.self.view_is)

@@ -1,0 +1,44 @@
+//! Registrations come and go.
+ghost use Rattle.std.specs.Prelude.{◌+◌, ◌<◌, ◌≤◌, ◌^◌};
+
+use ep_base::{DescId, Fd, Mask};
+use ep_interest::Interest;
+use std::alloc::{AllocError, Global};
+
+/// The instance that all registrations are of.
+const INSTANCE: DescId = DescId(usize::MAX);
+
+/// Adds a registration on a description that has none.
+fn add(sets: &mut Interest, desc: DescId) -> Result<(), AllocError>
+    requires { sets.old.added + 1 < 2 ^ 64 }
+    ensures { sets.new.added ≤ sets.old.added + 1 }
+{
+    if sets.find(INSTANCE, Fd(3), desc).is_none() {
+        sets.add(INSTANCE, Fd(3), desc, Mask(1), 0)?;
+    }
+    Ok(())
+}
+
+/// Takes the registration on a description away, by its key or with the description.
+fn take(sets: &mut Interest, desc: DescId, by_key: bool) {
+    if !by_key {
+        sets.purge(desc);
+    } else if let Some(id) = sets.find(INSTANCE, Fd(3), desc) {
+        sets.remove(id);
+    }
+}
+
+/// Adds so many registrations, each on a description of its own. Every other one is removed by its key, the rest die with their
+/// descriptions. The answer is how many there were, and how many are
+/// left.
+pub fn add_and_remove(alloc: Global, count: u32) -> Result<(usize, usize), AllocError> {
+    let mut sets = Interest::new(alloc);
+    for number in 0..count {
+        add(&mut sets, DescId(number as usize))?;
+    }
+    let most = sets.count();
+    for number in 0..count {
+        take(&mut sets, DescId(number as usize), number % 2 == 0);
+    }
+    Ok((most, sets.count()))
+}
