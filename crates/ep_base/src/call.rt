@@ -13,6 +13,25 @@ pub enum Call {
     Pipe {
         cloexec: bool,
     },
+    /// eventfd(2): a counter that starts at `init`, in semaphore mode or not.
+    EventFd {
+        init: u32,
+        semaphore: bool,
+        cloexec: bool,
+    },
+    /// timerfd_create(2): a disarmed timer. Clocks 0 and 1 are both the one simulated clock.
+    TimerFd {
+        clock: i32,
+        cloexec: bool,
+    },
+    /// socketpair(2) of Unix stream sockets.
+    SocketPair {
+        cloexec: bool,
+    },
+    /// A file that can't be polled: a read gives no bytes, and a write keeps none.
+    Plain {
+        cloexec: bool,
+    },
     /// epoll_create1(2): a new instance.
     EpollCreate {
         cloexec: bool,
@@ -41,6 +60,22 @@ pub enum Call {
         fd: Fd,
         bytes: Buffer,
     },
+    /// shutdown(2) with SHUT_WR.
+    Shutdown {
+        fd: Fd,
+    },
+    /// timerfd_settime(2): the first expiration at the moment `value` with `absolute`, else `value`
+    /// milliseconds from now, and then one after each `interval` milliseconds.
+    SetTime {
+        fd: Fd,
+        absolute: bool,
+        value: u64,
+        interval: u64,
+    },
+    /// timerfd_gettime(2).
+    GetTime {
+        fd: Fd,
+    },
 }
 
 impl Call {
@@ -48,9 +83,21 @@ impl Call {
     pub fn copy(&self) -> Result<Call, AllocError>
         ensures { IfOk result (λ copy. copy ≡ self.now) }
     {
-        Ok(match self {
-            Call::Pipe { cloexec } => Call::Pipe { cloexec: *cloexec },
-            Call::EpollCreate { cloexec } => Call::EpollCreate { cloexec: *cloexec },
+        Ok(match *self {
+            Call::Pipe { cloexec } => Call::Pipe { cloexec },
+            Call::EventFd {
+                init,
+                semaphore,
+                cloexec,
+            } => Call::EventFd {
+                init,
+                semaphore,
+                cloexec,
+            },
+            Call::TimerFd { clock, cloexec } => Call::TimerFd { clock, cloexec },
+            Call::SocketPair { cloexec } => Call::SocketPair { cloexec },
+            Call::Plain { cloexec } => Call::Plain { cloexec },
+            Call::EpollCreate { cloexec } => Call::EpollCreate { cloexec },
             Call::EpollCtl {
                 epfd,
                 op,
@@ -58,22 +105,31 @@ impl Call {
                 mask,
                 tag,
             } => Call::EpollCtl {
-                epfd: *epfd,
-                op: *op,
-                fd: *fd,
-                mask: *mask,
-                tag: *tag,
+                epfd,
+                op,
+                fd,
+                mask,
+                tag,
             },
-            Call::EpollWait { epfd, max, timeout } => Call::EpollWait {
-                epfd: *epfd,
-                max: *max,
-                timeout: *timeout,
-            },
-            Call::Read { fd, n } => Call::Read { fd: *fd, n: *n },
-            Call::Write { fd, bytes } => Call::Write {
-                fd: *fd,
+            Call::EpollWait { epfd, max, timeout } => Call::EpollWait { epfd, max, timeout },
+            Call::Read { fd, n } => Call::Read { fd, n },
+            Call::Write { fd, ref bytes } => Call::Write {
+                fd,
                 bytes: bytes.copy()?,
             },
+            Call::Shutdown { fd } => Call::Shutdown { fd },
+            Call::SetTime {
+                fd,
+                absolute,
+                value,
+                interval,
+            } => Call::SetTime {
+                fd,
+                absolute,
+                value,
+                interval,
+            },
+            Call::GetTime { fd } => Call::GetTime { fd },
         })
     }
 }
@@ -83,6 +139,8 @@ impl Call {
 pub enum Event {
     /// A call of a process.
     Call { pid: Pid, call: Call },
+    /// The clock goes on by `n` milliseconds.
+    Tick { n: u64 },
 }
 
 impl Event {
@@ -90,11 +148,12 @@ impl Event {
     pub fn copy(&self) -> Result<Event, AllocError>
         ensures { IfOk result (λ copy. copy ≡ self.now) }
     {
-        match self {
-            Event::Call { pid, call } => Ok(Event::Call {
+        Ok(match self {
+            Event::Call { pid, call } => Event::Call {
                 pid: *pid,
                 call: call.copy()?,
-            }),
-        }
+            },
+            Event::Tick { n } => Event::Tick { n: *n },
+        })
     }
 }

@@ -2,11 +2,11 @@
 use Rattle.std.specs.Prelude.{Bool, Option, None, Some, bit_and, false, nat_le, true, ℕ, ◌≡◌, ◌≤◌, List}
 use Rattle.ep_base.specs.declared.object.End.TheVariants.{First}
 use Rattle.ep_base.specs.declared.object.Raised.{Raised}
-use Rattle.ep_counters.specs.Timer.{IsNextArrival, timer_settime_refusals}
+use Rattle.ep_counters.specs.Timer.{IsNextArrival}
 use Rattle.ep_machine.specs.Bits.{IN, at_end, beginning, when}
 use Rattle.ep_machine.specs.Counters.{Counter, counter_present, counter_read, counter_read_refusals, counter_write, counter_write_refusals}
 use Rattle.ep_machine.specs.Effect.{attempt}
-use Rattle.ep_machine.specs.Timer.{Timer, timer_advance, timer_present, timer_read, timer_read_refusals, timer_settime}
+use Rattle.ep_machine.specs.Timer.{Timer, timer_advance, timer_present, timer_read, timer_read_refusals, timer_set_refusals, timer_settime}
 
 -- each bit that begins to hold is among those that are raised
 abbrev pub IsCovered : ℕ → ℕ → ℕ → Type 0
@@ -26,7 +26,7 @@ abbrev pub TimerReadLaw : Type 0
 TimerReadLaw = (t : Timer) (now n : ℕ) → let effect = attempt (timer_read_refusals t n now) t (timer_read t now) in RaisesArrivals (timer_present t now) (timer_present effect.1 now) effect.2
 
 abbrev pub TimerSettimeLaw : Type 0
-TimerSettimeLaw = (t : Timer) (absolute : Bool) (value interval now : ℕ) → let effect = attempt (timer_settime_refusals value interval) t (timer_settime t absolute value interval now) in RaisesArrivals (timer_present t now) (timer_present effect.1 now) effect.2
+TimerSettimeLaw = (t : Timer) (absolute : Bool) (value interval now : ℕ) → let effect = attempt (timer_set_refusals value interval) t (timer_settime t absolute value interval now) in RaisesArrivals (timer_present t now) (timer_present effect.1 now) effect.2
 
 -- as the clock goes on
 abbrev pub TimerAdvanceLaw : Type 0

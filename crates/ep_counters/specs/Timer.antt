@@ -1,11 +1,6 @@
--- What a timer refuses, and when it next becomes readable.
-use Rattle.std.specs.Prelude.{Bool, List, None, Option, Some, [], if◌then◌else◌, nat_lt, ℕ, ◌&&◌, ◌*◌, ◌+◌, ◌-◌, ◌<◌, ◌==◌, ◌||◌, ◌∷◌, ◌≡◌, ◌≤◌}
-use Rattle.ep_base.specs.declared.errno.Errno.{Errno}
-use Rattle.ep_base.specs.declared.errno.Errno.TheVariants.{Einval}
+-- When a timer next becomes readable.
+use Rattle.std.specs.Prelude.{None, Option, Some, if◌then◌else◌, nat_lt, ℕ, ◌&&◌, ◌*◌, ◌+◌, ◌-◌, ◌<◌, ◌==◌, ◌≡◌, ◌≤◌}
 use Rattle.ep_machine.specs.Timer.{Timer, last_moment, unread}
-
-abbrev pub timer_settime_refusals : ℕ → ℕ → List (Bool × Errno)
-timer_settime_refusals value interval = (nat_lt last_moment value || nat_lt last_moment interval, Einval) ∷ []
 
 -- IN arrives: unread goes from 0 to more at this moment
 abbrev pub Arrives : Timer → ℕ → Type 0

@@ -1,8 +1,8 @@
 //! Timers over the simulated clock, as timerfd_create(2) has them. Times are whole milliseconds.
 ghost use Rattle.std.specs.Prelude.{◌≡◌, ◌≤◌, None};
-ghost use Rattle.ep_counters.specs.Timer.{IsInRange, IsNextArrival, expiration_after, timer_settime_refusals};
+ghost use Rattle.ep_counters.specs.Timer.{IsInRange, IsNextArrival, expiration_after};
 ghost use Rattle.ep_machine.specs.Effect.{attempt};
-ghost use Rattle.ep_machine.specs.Timer.{expirations, last_moment, new_timer, timer_advance, timer_present, timer_read, timer_read_refusals, timer_settime, timer_setting, unread};
+ghost use Rattle.ep_machine.specs.Timer.{expirations, last_moment, new_timer, timer_advance, timer_present, timer_read, timer_read_refusals, timer_set_refusals, timer_settime, timer_setting, unread};
 
 use crate::outcome::{raised, refused, value_bytes};
 use ep_base::{Answer, Errno, Mask, Raised};
@@ -66,7 +66,7 @@ impl Timer {
         interval: u64,
     ) -> (Answer, Raised)
         requires { now ≤ last_moment }
-        ensures { (result.0, self.new, result.1) ≡ attempt (timer_settime_refusals value interval) self.old (timer_settime self.old absolute value interval now) }
+        ensures { (result.0, self.new, result.1) ≡ attempt (timer_set_refusals value interval) self.old (timer_settime self.old absolute value interval now) }
     {
         if value > LAST_MOMENT || interval > LAST_MOMENT {
             return refused(Errno::Einval);

@@ -1,5 +1,7 @@
 pub mod Stepping
 pub mod Soundness
+pub mod Dying
+pub mod Living
 pub mod Naming
 pub mod Quietness
 pub mod Settling

@@ -1,14 +1,15 @@
--- Each state that the six calls reach is quiet.
-use Rattle.std.proofs.Common.{◌≡◌, ℕ, zero, suc, ◌&&◌, ◌||◌, Bool, List, [], ◌∷◌, MatchOption, None, Option, Some, ℤ, pos, negsuc, true, false, not, ap, arith, cond, get_or, if◌then◌else◌, is_none, is_some, map, refl, subst, unwrap_or}
+-- Each state that the calls of this version reach is quiet.
+use Rattle.std.proofs.Common.{◌≡◌, ℕ, zero, suc, ◌+◌, ◌≤◌, ◌&&◌, ◌||◌, Bool, List, [], ◌∷◌, MatchOption, None, Option, Some, ℤ, pos, negsuc, true, false, not, ap, arith, cond, get_or, if◌then◌else◌, is_none, is_some, map, nat_lt, refl, subst, unwrap_or}
 use Rattle.std.specs.List.{AllByRecursion}
+use Rattle.std.proofs.lemmas.Bool.Decides.{nat_tests}
 use Rattle.std.proofs.lemmas.List.Elements.{All-map, All-push, All-weaker}
 use Rattle.ep_base.specs.Limits.{Limits}
 use Rattle.ep_base.specs.declared.answer.Answer.{Answer}
 use Rattle.ep_base.specs.declared.answer.Answer.TheVariants.{Events}
 use Rattle.ep_base.specs.declared.call.Call.{Call}
-use Rattle.ep_base.specs.declared.call.Call.TheVariants.{EpollCreate, EpollCtl, EpollWait, Pipe as PipeCall, Read, Write}
+use Rattle.ep_base.specs.declared.call.Call.TheVariants.{EpollCreate, EpollCtl, EpollWait, EventFd, GetTime, Pipe as PipeCall, Plain, Read, SetTime, Shutdown, SocketPair, TimerFd, Write}
 use Rattle.ep_base.specs.declared.call.Event.{Event}
-use Rattle.ep_base.specs.declared.call.Event.TheVariants.{Call as CallOf}
+use Rattle.ep_base.specs.declared.call.Event.TheVariants.{Call as CallOf, Tick}
 use Rattle.ep_base.specs.declared.errno.Errno.{Errno}
 use Rattle.ep_base.specs.declared.errno.Errno.TheVariants.{Esrch}
 use Rattle.ep_base.specs.declared.object.End.{End}
@@ -27,8 +28,10 @@ use Rattle.ep_machine.specs.Readiness.{is_ready}
 use Rattle.ep_machine.specs.Refusal.{call_refusals, ctl_refusals, is_later_mask, is_zero, refusals}
 use Rattle.ep_machine.specs.Report.{is_pick, plainly, report, report_of, reported, watches_at}
 use Rattle.ep_machine.specs.State.{Change, State, Watch, counts_of, opening}
-use Rattle.ep_machine.specs.Step.{begun, call_change, change, object_change, refused_or, settled, step}
-use Rattle.ep_machine.specs.Waits.{wait, wait_for}
+use Rattle.ep_machine.specs.Sockets.{new_pair}
+use Rattle.ep_machine.specs.Step.{begun, call_change, change, object_change, one_change, refused_or, settled, step, two_change}
+use Rattle.ep_machine.specs.Timer.{last_moment, new_timer}
+use Rattle.ep_machine.specs.Waits.{tick, wait, wait_for}
 use Rattle.ep_machine.specs.Watches.{add, ctl, delete, is_add, is_del, is_mod, modify, new_watch, number_in}
 use Rattle.ep_machine.proofs.Naming.{Extends, Filed, extends_one, extends_two, extends_with_object, filed_one, filed_opening, filed_two, filed_with_object, named_lives}
 use Rattle.ep_machine.proofs.Settling.{quiet_settled, settle_quiet}
@@ -80,6 +83,24 @@ effect_shows (pair p) e now (Write fd bytes) h = refl
 effect_shows (counter c) e now (Write fd bytes) h = refl
 effect_shows (timer t) e now (Write fd bytes) h = refl
 effect_shows instance e now (Write fd bytes) h = h
+effect_shows plain e now (Shutdown fd) h = h
+effect_shows (pipe p) e now (Shutdown fd) h = refl
+effect_shows (pair p) e now (Shutdown fd) h = refl
+effect_shows (counter c) e now (Shutdown fd) h = refl
+effect_shows (timer t) e now (Shutdown fd) h = refl
+effect_shows instance e now (Shutdown fd) h = h
+effect_shows plain e now (SetTime fd absolute value interval) h = h
+effect_shows (pipe p) e now (SetTime fd absolute value interval) h = refl
+effect_shows (pair p) e now (SetTime fd absolute value interval) h = refl
+effect_shows (counter c) e now (SetTime fd absolute value interval) h = refl
+effect_shows (timer t) e now (SetTime fd absolute value interval) h = refl
+effect_shows instance e now (SetTime fd absolute value interval) h = h
+effect_shows plain e now (GetTime fd) h = h
+effect_shows (pipe p) e now (GetTime fd) h = refl
+effect_shows (pair p) e now (GetTime fd) h = refl
+effect_shows (counter c) e now (GetTime fd) h = refl
+effect_shows (timer t) e now (GetTime fd) h = refl
+effect_shows instance e now (GetTime fd) h = h
 effect_shows x e now call h = h
 
 watched_there : (o : Option Object) → can_be_watched o ≡ true → can_be_watched (Some (unwrap_or o plain)) ≡ true
@@ -188,21 +209,42 @@ quiet_wait_for s caller p e most (negsuc k) z h = cc
 fine_wait : (s : State) (caller p e most : ℕ) (timeout : ℤ) (ks : List ℕ) → is_zero timeout ≡ true → Quiet s → Fine (wait s caller p e most timeout ks)
 fine_wait s caller p e most timeout ks z h = fine_if (is_ready s e) _ _ (fine_report s e most ks h) (fine_plainly ks _ (quiet_wait_for s caller p e most timeout z h))
 
--- The six calls.
+-- A creation.
+fine_one : (s : State) (p : ℕ) (x : Object) (cloexec : Bool) (ks : List ℕ) → is_none (get_or s.files.tables p None) ≡ false → Quiet s → Filed s.files → Fine (plainly ks (one_change s p x cloexec))
+fine_one s p x cloexec ks there h f = fine_plainly ks _ (quiet_files s _ h (filed_one s.files p x cloexec there f) (extends_one s.files p x cloexec))
+
+fine_two : (s : State) (p : ℕ) (x : Object) (cloexec : Bool) (ks : List ℕ) → is_none (get_or s.files.tables p None) ≡ false → Quiet s → Filed s.files → Fine (plainly ks (two_change s p x cloexec))
+fine_two s p x cloexec ks there h f = fine_plainly ks _ (quiet_files s _ h (filed_two s.files p x cloexec there f) (extends_two s.files p x cloexec))
+
+-- The calls.
 fine_call : (limits : Limits) (s : State) (caller p : ℕ) (call : Call) (ks : List ℕ) → Quiet s → Filed s.files → AllByRecursion (λ t. t.0 ≡ false) ((is_none (get_or s.files.tables p None), Esrch) ∷ call_refusals limits s p call) → Fine (call_change limits s caller p call ks)
-fine_call limits s caller p (PipeCall cloexec) ks h f tests =
-    fine_plainly ks _ (quiet_files s _ h (filed_two s.files p (pipe (new_pipe limits.pipe_bytes)) cloexec tests.0 f) (extends_two s.files p (pipe (new_pipe limits.pipe_bytes)) cloexec))
-fine_call limits s caller p (EpollCreate cloexec) ks h f tests =
-    fine_plainly ks _ (quiet_files s _ h (filed_one s.files p instance cloexec tests.0 f) (extends_one s.files p instance cloexec))
+fine_call limits s caller p (PipeCall cloexec) ks h f tests = fine_two s p (pipe (new_pipe limits.pipe_bytes)) cloexec ks tests.0 h f
+fine_call limits s caller p (EventFd init semaphore cloexec) ks h f tests = fine_one s p (counter (record { count = init; is_semaphore = semaphore })) cloexec ks tests.0 h f
+fine_call limits s caller p (TimerFd clock cloexec) ks h f tests = fine_one s p (timer new_timer) cloexec ks tests.0 h f
+fine_call limits s caller p (SocketPair cloexec) ks h f tests = fine_two s p (pair (new_pair limits.sock_bytes)) cloexec ks tests.0 h f
+fine_call limits s caller p (Plain cloexec) ks h f tests = fine_one s p plain cloexec ks tests.0 h f
+fine_call limits s caller p (EpollCreate cloexec) ks h f tests = fine_one s p instance cloexec ks tests.0 h f
 fine_call limits s caller p (EpollCtl epfd op fd mask tag) ks h f tests = fine_plainly ks _ (quiet_ctl limits s p epfd.0 op fd.0 mask.0 tag h tests.1)
 fine_call limits s caller p (EpollWait epfd most timeout) ks h f tests = fine_wait s caller p (named_by s.files p epfd.0) (number_in most) timeout ks (from_not (is_zero timeout) tests.1.1.0) h
 fine_call limits s caller p (Read fd n) ks h f tests = fine_plainly ks _ (quiet_object_change s p fd.0 (Read fd n) h tests.1.0)
 fine_call limits s caller p (Write fd bytes) ks h f tests = fine_plainly ks _ (quiet_object_change s p fd.0 (Write fd bytes) h tests.1.0)
+fine_call limits s caller p (Shutdown fd) ks h f tests = fine_plainly ks _ (quiet_object_change s p fd.0 (Shutdown fd) h tests.1.0)
+fine_call limits s caller p (SetTime fd absolute value interval) ks h f tests = fine_plainly ks _ (quiet_object_change s p fd.0 (SetTime fd absolute value interval) h tests.1.0)
+fine_call limits s caller p (GetTime fd) ks h f tests = fine_plainly ks _ (quiet_object_change s p fd.0 (GetTime fd) h tests.1.0)
+
+-- The clock goes on within its range.
+not_above : (a b : ℕ) → nat_lt a b ≡ false → b ≤ a
+not_above a b h = grind (arith, nat_tests)
+
+fine_tick : (s : State) (k : ℕ) (ks : List ℕ) → Quiet s → nat_lt last_moment (s.now + k) ≡ false → Fine (plainly ks (tick s k))
+fine_tick s k ks h allowed =
+    fine_plainly ks (tick s k) (record { waiters = h.waiters; now = not_above last_moment (s.now + k) allowed; placed = h.placed; named = h.named; watches = h.watches })
 
 fine_change : (limits : Limits) (s : State) (caller : ℕ) (event : Event) (ks : List ℕ) → Quiet s → first (refusals limits s caller event) ≡ None → Fine (change limits s caller event ks)
 fine_change limits s caller (CallOf p call) ks h allowed =
     let tests = none_holds (refusals limits s caller (CallOf p call)) allowed in
     fine_call limits s caller p.0 call ks h (filed s h) (tests.0, tests.1.1)
+fine_change limits s caller (Tick k) ks h allowed = fine_tick s k ks h (none_holds (refusals limits s caller (Tick k)) allowed).0
 
 -- a change that isn't refused
 pub quiet_change : (limits : Limits) (s : State) (caller : ℕ) (event : Event) (picked : List ℕ) (c : Change) → Quiet s → first (refusals limits s caller event) ≡ None → change limits s caller event picked ≡ Some c → Quiet c.1
@@ -227,7 +269,7 @@ pub quiet_begun : (s : State) → Quiet s → Quiet (begun s)
 quiet_begun s h = record { waiters = h.waiters; now = h.now; placed = h.placed; named = h.named; watches = h.watches }
 
 pub quiet_opening : Quiet opening
-quiet_opening = record { waiters = refl; now = refl; placed = filed_opening.placed; named = filed_opening.named; watches = λ k d lt. absurd (omega arith) }
+quiet_opening = record { waiters = refl; now = omega arith; placed = filed_opening.placed; named = filed_opening.named; watches = λ k d lt. absurd (omega arith) }
 
 pub quiet_step : (limits : Limits) (s t : State) (caller : ℕ) (event : Event) (picked : List ℕ) (a : Answer) → Quiet s → step limits s caller event picked ≡ Some (a, t) → Quiet t
 unfolding IsStep

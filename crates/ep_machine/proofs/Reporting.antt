@@ -45,9 +45,9 @@ kept_numbers : (xs : List Watch) → numbers (kept_all xs) ≡ numbers xs
 kept_numbers [] = refl
 kept_numbers (x ∷ xs) = ap (λ (ks : List ℕ). x.number ∷ ks) (kept_numbers xs)
 
-kept_reports : (s : State) (xs : List Watch) → s.now ≡ 0 → All (IsSteady s.files) xs → map (report_of s) xs ≡ map (report_at s.files) (kept_all xs)
-kept_reports s [] now h = refl
-kept_reports s (x ∷ xs) now h = let one = report_quiet s x now (h 0 x (omega arith)) in let rest = kept_reports s xs now (λ k d lt. h (suc k) d (omega arith)) in λ i. one i ∷ rest i
+kept_reports : (s : State) (xs : List Watch) → All (IsSteady s.files) xs → map (report_of s) xs ≡ map (report_at s.files s.now) (kept_all xs)
+kept_reports s [] h = refl
+kept_reports s (x ∷ xs) h = let one = report_quiet s x (h 0 x (omega arith)) in let rest = kept_reports s xs (λ k d lt. h (suc k) d (omega arith)) in λ i. one i ∷ rest i
 
 kept_sorted : (ys : List Watch) → IsNonDecreasingBy (λ x. x.rep) (kept_all ys) → IsNonDecreasingBy (λ x. x.rep) ys
 kept_sorted ys h i j d le lt =
@@ -55,8 +55,8 @@ kept_sorted ys h i j d le lt =
     let sorted = h i j (kept_of d) le (omega (arith, lt, length-map ys kept_of)) in
     omega (arith, sorted, at i, at j)
 
-pub report_kept : (s : State) (e most : ℕ) (found : List Watch) → Sound s → Quiet s → IsPermutation (filter (shows_in s.files e) (kept_all s.watches)) found → IsNonDecreasingBy (λ x. x.rep) found
-    → report s e most (numbers (take most found)) ≡ Some (Events (map (report_at s.files) (take most found)), record s { watches = map (reported s (numbers (take most found))) s.watches }, [])
+pub report_kept : (s : State) (e most : ℕ) (found : List Watch) → Sound s → Quiet s → IsPermutation (filter (shows_in s.files s.now e) (kept_all s.watches)) found → IsNonDecreasingBy (λ x. x.rep) found
+    → report s e most (numbers (take most found)) ≡ Some (Events (map (report_at s.files s.now) (take most found)), record s { watches = map (reported s (numbers (take most found))) s.watches }, [])
 report_kept s e most found sound quiet moved sorted =
     let real = lifted (reportables s e) found (subst (λ (xs : List Watch). IsPermutation xs found) (sym (reportables_kept s e quiet)) moved) in
     let ys = real.0 in
@@ -65,7 +65,7 @@ report_kept s e most found sound quiet moved sorted =
     let same : kept_all (take most ys) ≡ take most found = sym (take-map kept_of most ys) ∙ ap (take most) real.2 in
     let told : numbers (take most found) ≡ numbers (take most ys) = ap numbers (sym same) ∙ kept_numbers (take most ys) in
     let out : List ℕ → List Report → Change = λ ks rs. (Events rs, record s { watches = map (reported s ks) s.watches }, []) in
-    let reports : map (report_of s) (take most ys) ≡ map (report_at s.files) (take most found) = kept_reports s (take most ys) quiet.now steady ∙ ap (map (report_at s.files)) same in
+    let reports : map (report_of s) (take most ys) ≡ map (report_at s.files s.now) (take most found) = kept_reports s (take most ys) steady ∙ ap (map (report_at s.files s.now)) same in
     ap (report s e most) told ∙ (base ∙ λ i. Some (out (sym told i) (reports i)))
 
 none_any : (p : Watch → Bool) (xs : List Watch) → list_any p xs ≡ false → filter p xs ≡ []
@@ -94,15 +94,15 @@ nothing_told s caller p e most (pos (suc k)) z = cc
 nothing_told s caller p e most (negsuc k) z = cc
 
 -- a wait that doesn't park, with something to report or without
-pub wait_kept : (s : State) (caller p e most : ℕ) (timeout : ℤ) (found : List Watch) → Sound s → Quiet s → is_zero timeout ≡ true → IsPermutation (filter (shows_in s.files e) (kept_all s.watches)) found → IsNonDecreasingBy (λ x. x.rep) found
-    → wait s caller p e most timeout (numbers (take most found)) ≡ Some (Events (map (report_at s.files) (take most found)), record s { watches = map (reported s (numbers (take most found))) s.watches }, [])
+pub wait_kept : (s : State) (caller p e most : ℕ) (timeout : ℤ) (found : List Watch) → Sound s → Quiet s → is_zero timeout ≡ true → IsPermutation (filter (shows_in s.files s.now e) (kept_all s.watches)) found → IsNonDecreasingBy (λ x. x.rep) found
+    → wait s caller p e most timeout (numbers (take most found)) ≡ Some (Events (map (report_at s.files s.now) (take most found)), record s { watches = map (reported s (numbers (take most found))) s.watches }, [])
 wait_kept s caller p e most timeout found sound quiet z moved sorted =
-    let out : List Watch → Option Change = λ xs. Some (Events (map (report_at s.files) xs), record s { watches = map (reported s (numbers xs)) s.watches }, []) in
+    let out : List Watch → Option Change = λ xs. Some (Events (map (report_at s.files s.now) xs), record s { watches = map (reported s (numbers xs)) s.watches }, []) in
     let told : Option Change = report s e most (numbers (take most found)) in
     let rest : List Watch → Option Change = λ xs. plainly (numbers xs) (wait_for s caller p e most timeout) in
     let when_ready : is_ready s e ≡ true → cond (is_ready s e) told (rest (take most found)) ≡ out (take most found) = λ r. ap (λ (b : Bool). cond b told (rest (take most found))) r ∙ report_kept s e most found sound quiet moved sorted in
     let otherwise : is_ready s e ≡ false → cond (is_ready s e) told (rest (take most found)) ≡ out (take most found) = λ r.
-    let none : filter (shows_in s.files e) (kept_all s.watches) ≡ [] = none_any (shows_in s.files e) (kept_all s.watches) (sym (ready_kept s e quiet) ∙ r) in
+    let none : filter (shows_in s.files s.now e) (kept_all s.watches) ≡ [] = none_any (shows_in s.files s.now e) (kept_all s.watches) (sym (ready_kept s e quiet) ∙ r) in
     let empty : take most found ≡ [] = take_none most found (no_elements found (length_permutation _ found moved ∙ ap length none)) in
     ap (λ (b : Bool). cond b told (rest (take most found))) r
     ∙ (ap rest empty

@@ -9,9 +9,9 @@ use Rattle.ep_base.specs.Limits.{Limits}
 use Rattle.ep_base.specs.declared.answer.Answer.{Answer}
 use Rattle.ep_base.specs.declared.answer.Answer.TheVariants.{Events}
 use Rattle.ep_base.specs.declared.call.Call.{Call}
-use Rattle.ep_base.specs.declared.call.Call.TheVariants.{EpollCreate, EpollCtl, EpollWait, Pipe as PipeCall, Read, Write}
+use Rattle.ep_base.specs.declared.call.Call.TheVariants.{EpollCreate, EpollCtl, EpollWait, EventFd, GetTime, Pipe as PipeCall, Plain, Read, SetTime, Shutdown, SocketPair, TimerFd, Write}
 use Rattle.ep_base.specs.declared.call.Event.{Event}
-use Rattle.ep_base.specs.declared.call.Event.TheVariants.{Call as CallOf}
+use Rattle.ep_base.specs.declared.call.Event.TheVariants.{Call as CallOf, Tick}
 use Rattle.ep_base.specs.declared.errno.Errno.{Errno}
 use Rattle.ep_base.specs.declared.record.Record.{Record}
 use Rattle.ep_machine.specs.Bits.{ONESHOT, has_bit}
@@ -29,7 +29,7 @@ use Rattle.ep_machine.specs.Sound.{Sound}
 use Rattle.ep_machine.specs.Spread.{arrived}
 use Rattle.ep_machine.specs.State.{Change, State, Watch, counts_of}
 use Rattle.ep_machine.specs.Step.{begun, call_change, change, refused_or, settled, step}
-use Rattle.ep_machine.specs.Waits.{wait_for}
+use Rattle.ep_machine.specs.Waits.{tick, wait_for}
 use Rattle.ep_machine.specs.Watches.{ctl, has_key, is_add, is_del, modified, new_watch, number_in, with_watch}
 use Rattle.ep_machine.proofs.Distinct.{all_member, among_member, among_split, distinct_append, distinct_filtered, each_found, filtered_member, filtered_passes, find_member, found_member, list_all_member, mapped_member, one_number}
 use Rattle.ep_machine.proofs.Members.{among, any_member, first_of_and, member_filter, member_map, second_of_and, test_same}
@@ -289,6 +289,10 @@ module _ (limits : Limits) (e k m : ℕ) (told : List ℕ) (s : State) (sound : 
 
   fine_call : (caller p : ℕ) (call : Call) (ks : List ℕ) → is_among ks k ≡ false → Fine ks (call_change limits s caller p call ks)
   fine_call caller p (PipeCall cloexec) ks left = fine_plainly ks _ (same_watches k m told s _ refl refl refl h)
+  fine_call caller p (EventFd init semaphore cloexec) ks left = fine_plainly ks _ (same_watches k m told s _ refl refl refl h)
+  fine_call caller p (TimerFd clock cloexec) ks left = fine_plainly ks _ (same_watches k m told s _ refl refl refl h)
+  fine_call caller p (SocketPair cloexec) ks left = fine_plainly ks _ (same_watches k m told s _ refl refl refl h)
+  fine_call caller p (Plain cloexec) ks left = fine_plainly ks _ (same_watches k m told s _ refl refl refl h)
   fine_call caller p (EpollCreate cloexec) ks left = fine_plainly ks _ (same_watches k m told s _ refl refl refl h)
   fine_call caller p (EpollCtl epfd op fd mask tag) ks left = fine_plainly ks _ (tracks_ctl p epfd.0 op fd.0 mask.0 tag)
   fine_call caller p (EpollWait epfd most timeout) ks left =
@@ -296,6 +300,9 @@ module _ (limits : Limits) (e k m : ℕ) (told : List ℕ) (s : State) (sound : 
       fine_if ks (is_ready s i) _ _ (fine_report i (number_in most) ks left) (fine_plainly ks _ (tracks_wait_for caller p i (number_in most) timeout))
   fine_call caller p (Read fd n) ks left = fine_plainly ks _ (same_watches k m told s _ refl refl refl h)
   fine_call caller p (Write fd bytes) ks left = fine_plainly ks _ (same_watches k m told s _ refl refl refl h)
+  fine_call caller p (Shutdown fd) ks left = fine_plainly ks _ (same_watches k m told s _ refl refl refl h)
+  fine_call caller p (SetTime fd absolute value interval) ks left = fine_plainly ks _ (same_watches k m told s _ refl refl refl h)
+  fine_call caller p (GetTime fd) ks left = fine_plainly ks _ (same_watches k m told s _ refl refl refl h)
 
   IsStep : List ℕ → Option (Answer × State) → Type 0
   IsStep ks o = MatchOption o (Unit {0}) (λ c. Good ks c.1)
@@ -313,6 +320,7 @@ module _ (limits : Limits) (e k m : ℕ) (told : List ℕ) (s : State) (sound : 
 
   fine_event : (caller : ℕ) (event : Event) (ks : List ℕ) → is_among ks k ≡ false → IsStep ks (refused_or (first (refusals limits s caller event)) s ks (change limits s caller event ks))
   fine_event caller (CallOf p call) ks left = fine_refused (first (refusals limits s caller (CallOf p call))) ks (call_change limits s caller p.0 call ks) (fine_call caller p.0 call ks left)
+  fine_event caller (Tick n) ks left = fine_refused (first (refusals limits s caller (Tick n))) ks (plainly ks (tick s n)) (fine_plainly ks _ (same_watches k m told s _ refl refl refl h))
 
   told_step : (t : State) (caller : ℕ) (event : Event) (ks : List ℕ) (a : Answer) → is_among ks k ≡ false → refused_or (first (refusals limits s caller event)) s ks (change limits s caller event ks) ≡ Some (a, t)
       → Tracks k m (told ++ filter (is_in s e) ks) t × (are_distinct (told ++ filter (is_in s e) ks) ≡ true)

@@ -1,5 +1,5 @@
 -- What a settling leaves where nothing dies and nobody waits.
-use Rattle.std.proofs.Common.{◌≡◌, ℕ, zero, suc, ◌+◌, ◌<◌, ◌==◌, ◌&&◌, ◌||◌, ◌++◌, ◌∙◌, All, Bool, List, [], ◌∷◌, None, Option, Some, true, false, not, ap, arith, cond, filter, get_or, is_some, length, map, nat_lt, refl, subst, sym}
+use Rattle.std.proofs.Common.{◌≡◌, ℕ, zero, suc, ◌+◌, ◌<◌, ◌≤◌, ◌==◌, ◌&&◌, ◌||◌, ◌++◌, ◌∙◌, All, Bool, List, [], ◌∷◌, None, Option, Some, true, false, not, ap, arith, cond, filter, get_or, is_some, length, map, nat_lt, refl, subst, sym}
 use Rattle.std.proofs.lemmas.List.Elements.{All-map}
 use Rattle.std.proofs.lemmas.Bool.Decides.{nat_tests}
 use Rattle.ep_machine.specs.Bits.{ONESHOT, has_bit}
@@ -12,6 +12,7 @@ use Rattle.ep_machine.specs.Report.{reported}
 use Rattle.ep_machine.specs.Settle.{came, settle, with_from}
 use Rattle.ep_machine.specs.Spread.{arrived}
 use Rattle.ep_machine.specs.State.{State, Waiter, Watch, counts_of}
+use Rattle.ep_machine.specs.Timer.{last_moment}
 use Rattle.ep_machine.specs.Waits.{marked_first, marked_if_due, with_due, with_marks}
 
 pub among_left : (xs ys : List ℕ) (d : ℕ) → is_among xs d ≡ true → is_among (xs ++ ys) d ≡ true
@@ -89,7 +90,7 @@ quiet_settled after t h same =
     let files : (P : Files → Type 0) → P after.files → P t.files = λ P. subst P (sym same.files) in
     record {
       waiters = same.waiters ∙ h.waiters;
-      now = same.now ∙ h.now;
+      now = subst (λ (k : ℕ). k ≤ last_moment) (sym same.now) h.now;
       placed = files (λ f. All (λ p. is_some (object_at f p) ≡ true) f.descriptions) h.placed;
       named = files (λ f. (d : ℕ) → is_among (named_in_tables f.tables) d ≡ nat_lt d (length f.descriptions)) h.named;
       watches = all_from_kept t.files t.watches (subst (λ (xs : List Watch). All (IsSteady t.files) xs) (sym same.watches) (all_to_kept t.files after.watches (files (λ f. All (IsSteady f) after.watches) h.watches)));

@@ -11,33 +11,33 @@ use Rattle.ep_machine.specs.Readiness.{is_fresh, is_ready, is_ready_within, is_r
 use Rattle.ep_machine.specs.Report.{report_of}
 use Rattle.ep_machine.specs.State.{State, Watch}
 
-present_quiet : (r : ℕ → Bool) (d : ℕ) (o : Option Object) (e : End) (now : ℕ) → now ≡ 0 → can_be_watched o ≡ true → present_of r d o e now ≡ object_present (unwrap_or o plain) e 0
-present_quiet r d None e now z h = cc
-present_quiet r d (Some plain) e now z h = cc
-present_quiet r d (Some (pipe p)) e now z h = refl
-present_quiet r d (Some (pair p)) e now z h = refl
-present_quiet r d (Some (counter c)) e now z h = refl
-present_quiet r d (Some (timer t)) e now z h = ap (object_present (timer t) e) z
-present_quiet r d (Some instance) e now z h = cc
+present_quiet : (r : ℕ → Bool) (d : ℕ) (o : Option Object) (e : End) (now : ℕ) → can_be_watched o ≡ true → present_of r d o e now ≡ object_present (unwrap_or o plain) e now
+present_quiet r d None e now h = cc
+present_quiet r d (Some plain) e now h = cc
+present_quiet r d (Some (pipe p)) e now h = refl
+present_quiet r d (Some (pair p)) e now h = refl
+present_quiet r d (Some (counter c)) e now h = refl
+present_quiet r d (Some (timer t)) e now h = refl
+present_quiet r d (Some instance) e now h = cc
 
-shown_by_quiet : (r : ℕ → Bool) (s : State) (x : Watch) → s.now ≡ 0 → IsSteady s.files x → shown_by r s x ≡ shown_at s.files x
-shown_by_quiet r s x now h =
+shown_by_quiet : (r : ℕ → Bool) (s : State) (x : Watch) → IsSteady s.files x → shown_by r s x ≡ shown_at s.files s.now x
+shown_by_quiet r s x h =
     ap (λ (b : Bool). when b (asked x.mask (present_of r x.target (object_of s.files x.target) (side_of s.files x.target) s.now))) h.armed
-    ∙ ap (asked x.mask) (present_quiet r x.target (object_of s.files x.target) (side_of s.files x.target) s.now now h.target_shows)
+    ∙ ap (asked x.mask) (present_quiet r x.target (object_of s.files x.target) (side_of s.files x.target) s.now h.target_shows)
 
 and_true : (a b : Bool) → b ≡ false → (c : Bool) → (a && (not b || c)) ≡ a
 and_true true b h c = ap (λ (x : Bool). not x || c) h
 and_true false b h c = refl
 
-reportable_by_quiet : (r : ℕ → Bool) (s : State) (x : Watch) → s.now ≡ 0 → IsSteady s.files x → is_reportable_by r s x ≡ shows s.files x
-reportable_by_quiet r s x now h =
-    and_true (nat_lt 0 (shown_by r s x)) (has_bit x.mask ET) h.level (is_fresh s x) ∙ ap (nat_lt 0) (shown_by_quiet r s x now h)
+reportable_by_quiet : (r : ℕ → Bool) (s : State) (x : Watch) → IsSteady s.files x → is_reportable_by r s x ≡ shows s.files s.now x
+reportable_by_quiet r s x h =
+    and_true (nat_lt 0 (shown_by r s x)) (has_bit x.mask ET) h.level (is_fresh s x) ∙ ap (nat_lt 0) (shown_by_quiet r s x h)
 
-pub shown_quiet : (s : State) (x : Watch) → s.now ≡ 0 → IsSteady s.files x → shown s x ≡ shown_at s.files x
-shown_quiet s x now h = shown_by_quiet (is_ready s) s x now h
+pub shown_quiet : (s : State) (x : Watch) → IsSteady s.files x → shown s x ≡ shown_at s.files s.now x
+shown_quiet s x h = shown_by_quiet (is_ready s) s x h
 
-pub reportable_quiet : (s : State) (x : Watch) → s.now ≡ 0 → IsSteady s.files x → is_reportable s x ≡ shows s.files x
-reportable_quiet s x now h = reportable_by_quiet (is_ready s) s x now h
+pub reportable_quiet : (s : State) (x : Watch) → IsSteady s.files x → is_reportable s x ≡ shows s.files s.now x
+reportable_quiet s x h = reportable_by_quiet (is_ready s) s x h
 
 pub filter_same : {X : Type 0} (p q : X → Bool) (xs : List X) → All (λ x. p x ≡ q x) xs → filter p xs ≡ filter q xs
 filter_same p q [] h = refl
@@ -50,15 +50,15 @@ any_same p q (x ∷ xs) h = let one : p x ≡ q x = h 0 x (omega arith) in let r
 in_instance : {a b : Bool} (e : ℕ) (x : Watch) → a ≡ b → (x.instance == e && a) ≡ (x.instance == e && b)
 in_instance e x h = ap (λ (b : Bool). x.instance == e && b) h
 
-pub reportables_quiet : (s : State) (e : ℕ) → Quiet s → reportables s e ≡ filter (shows_in s.files e) s.watches
-reportables_quiet s e h = filter_same _ (shows_in s.files e) s.watches (λ k d lt. in_instance e (get_or s.watches k d) (reportable_quiet s (get_or s.watches k d) h.now (h.watches k d lt)))
+pub reportables_quiet : (s : State) (e : ℕ) → Quiet s → reportables s e ≡ filter (shows_in s.files s.now e) s.watches
+reportables_quiet s e h = filter_same _ (shows_in s.files s.now e) s.watches (λ k d lt. in_instance e (get_or s.watches k d) (reportable_quiet s (get_or s.watches k d) (h.watches k d lt)))
 
-pub ready_quiet : (s : State) (e : ℕ) → Quiet s → is_ready s e ≡ list_any (shows_in s.files e) s.watches
+pub ready_quiet : (s : State) (e : ℕ) → Quiet s → is_ready s e ≡ list_any (shows_in s.files s.now e) s.watches
 unfolding is_ready
-ready_quiet s e h = any_same _ (shows_in s.files e) s.watches (λ k d lt. in_instance e (get_or s.watches k d) (reportable_by_quiet (is_ready_within 4 s) s (get_or s.watches k d) h.now (h.watches k d lt)))
+ready_quiet s e h = any_same _ (shows_in s.files s.now e) s.watches (λ k d lt. in_instance e (get_or s.watches k d) (reportable_by_quiet (is_ready_within 4 s) s (get_or s.watches k d) (h.watches k d lt)))
 
-pub report_quiet : (s : State) (x : Watch) → s.now ≡ 0 → IsSteady s.files x → report_of s x ≡ report_at s.files x
-report_quiet s x now h = ap (λ (k : ℕ). let r : Report = record { bits = record { 0 = k }; tag = x.tag } in r) (shown_quiet s x now h)
+pub report_quiet : (s : State) (x : Watch) → IsSteady s.files x → report_of s x ≡ report_at s.files s.now x
+report_quiet s x h = ap (λ (k : ℕ). let r : Report = record { bits = record { 0 = k }; tag = x.tag } in r) (shown_quiet s x h)
 
 -- The same of registrations as they are kept.
 kept_filter : (p : Watch → Bool) (xs : List Watch) → kept_all (filter (λ x. p (kept_of x)) xs) ≡ filter p (kept_all xs)
@@ -74,8 +74,8 @@ kept_any : (p : Watch → Bool) (xs : List Watch) → list_any (λ x. p (kept_of
 kept_any p [] = refl
 kept_any p (x ∷ xs) = ap (λ (b : Bool). p (kept_of x) || b) (kept_any p xs)
 
-pub reportables_kept : (s : State) (e : ℕ) → Quiet s → kept_all (reportables s e) ≡ filter (shows_in s.files e) (kept_all s.watches)
-reportables_kept s e h = ap kept_all (reportables_quiet s e h) ∙ kept_filter (shows_in s.files e) s.watches
+pub reportables_kept : (s : State) (e : ℕ) → Quiet s → kept_all (reportables s e) ≡ filter (shows_in s.files s.now e) (kept_all s.watches)
+reportables_kept s e h = ap kept_all (reportables_quiet s e h) ∙ kept_filter (shows_in s.files s.now e) s.watches
 
-pub ready_kept : (s : State) (e : ℕ) → Quiet s → is_ready s e ≡ list_any (shows_in s.files e) (kept_all s.watches)
-ready_kept s e h = ready_quiet s e h ∙ kept_any (shows_in s.files e) s.watches
+pub ready_kept : (s : State) (e : ℕ) → Quiet s → is_ready s e ≡ list_any (shows_in s.files s.now e) (kept_all s.watches)
+ready_kept s e h = ready_quiet s e h ∙ kept_any (shows_in s.files s.now e) s.watches

@@ -7,9 +7,9 @@ use Rattle.ep_base.specs.Limits.{Limits}
 use Rattle.ep_base.specs.declared.answer.Answer.{Answer}
 use Rattle.ep_base.specs.declared.answer.Answer.TheVariants.{Events}
 use Rattle.ep_base.specs.declared.call.Call.{Call}
-use Rattle.ep_base.specs.declared.call.Call.TheVariants.{EpollCreate, EpollCtl, EpollWait, Pipe as PipeCall, Read, Write}
+use Rattle.ep_base.specs.declared.call.Call.TheVariants.{EpollCreate, EpollCtl, EpollWait, EventFd, GetTime, Pipe as PipeCall, Plain, Read, SetTime, Shutdown, SocketPair, TimerFd, Write}
 use Rattle.ep_base.specs.declared.call.Event.{Event}
-use Rattle.ep_base.specs.declared.call.Event.TheVariants.{Call as CallOf}
+use Rattle.ep_base.specs.declared.call.Event.TheVariants.{Call as CallOf, Tick}
 use Rattle.ep_base.specs.declared.errno.Errno.{Errno}
 use Rattle.ep_base.specs.declared.record.Record.{Record}
 use Rattle.ep_machine.specs.Run.{run}
@@ -156,14 +156,22 @@ sound_ctl s p epfd op fd mask tag h =
 
 fine_call : (limits : Limits) (s : State) (caller p : ℕ) (call : Call) (ks : List ℕ) → Sound s → Fine (call_change limits s caller p call ks)
 fine_call limits s caller p (PipeCall cloexec) ks h = fine_plainly ks _ (same_watches s _ refl refl refl h)
+fine_call limits s caller p (EventFd init semaphore cloexec) ks h = fine_plainly ks _ (same_watches s _ refl refl refl h)
+fine_call limits s caller p (TimerFd clock cloexec) ks h = fine_plainly ks _ (same_watches s _ refl refl refl h)
+fine_call limits s caller p (SocketPair cloexec) ks h = fine_plainly ks _ (same_watches s _ refl refl refl h)
+fine_call limits s caller p (Plain cloexec) ks h = fine_plainly ks _ (same_watches s _ refl refl refl h)
 fine_call limits s caller p (EpollCreate cloexec) ks h = fine_plainly ks _ (same_watches s _ refl refl refl h)
 fine_call limits s caller p (EpollCtl epfd op fd mask tag) ks h = fine_plainly ks _ (sound_ctl s p epfd.0 op fd.0 mask.0 tag h)
 fine_call limits s caller p (EpollWait epfd most timeout) ks h = fine_wait s caller p (named_by s.files p epfd.0) (number_in most) timeout ks h
 fine_call limits s caller p (Read fd n) ks h = fine_plainly ks _ (same_watches s _ refl refl refl h)
 fine_call limits s caller p (Write fd bytes) ks h = fine_plainly ks _ (same_watches s _ refl refl refl h)
+fine_call limits s caller p (Shutdown fd) ks h = fine_plainly ks _ (same_watches s _ refl refl refl h)
+fine_call limits s caller p (SetTime fd absolute value interval) ks h = fine_plainly ks _ (same_watches s _ refl refl refl h)
+fine_call limits s caller p (GetTime fd) ks h = fine_plainly ks _ (same_watches s _ refl refl refl h)
 
 fine_change : (limits : Limits) (s : State) (caller : ℕ) (event : Event) (ks : List ℕ) → Sound s → Fine (change limits s caller event ks)
 fine_change limits s caller (CallOf p call) ks h = fine_call limits s caller p.0 call ks h
+fine_change limits s caller (Tick k) ks h = fine_plainly ks _ (same_watches s _ refl refl refl h)
 
 pub sound_settle : (before after : State) (raised : List (ℕ × ℕ)) → Sound after → Sound (settle before after raised)
 sound_settle before after raised h =

@@ -9,8 +9,8 @@ use Rattle.ep_base.specs.declared.answer.Answer.TheVariants.{Done, Num, Two, Byt
 use Rattle.ep_base.specs.declared.call.Event.{Event}
 use Rattle.ep_base.specs.declared.record.Record.{Record}
 use Rattle.ep_machine.specs.Effect.{first}
-use Rattle.ep_base.specs.declared.call.Call.TheVariants.{EpollCreate, EpollCtl, EpollWait, Pipe as PipeCall, Read, Write}
-use Rattle.ep_base.specs.declared.call.Event.TheVariants.{Call as CallOf}
+use Rattle.ep_base.specs.declared.call.Call.TheVariants.{EpollCreate, EpollCtl, EpollWait, EventFd, GetTime, Pipe as PipeCall, Plain, Read, SetTime, Shutdown, SocketPair, TimerFd, Write}
+use Rattle.ep_base.specs.declared.call.Event.TheVariants.{Call as CallOf, Tick}
 use Rattle.ep_machine.specs.Settle.{settle}
 use Rattle.ep_machine.specs.State.{Change, State, opening}
 use Rattle.ep_machine.specs.Tables.{same_number}
@@ -68,11 +68,19 @@ step_changed limits s caller event picked c allowed e =
 -- no refusal looks at the number of events
 pub refusals_begun : (limits : Limits) (s : State) (caller : ℕ) (event : Event) → refusals limits (begun s) caller event ≡ refusals limits s caller event
 refusals_begun limits s caller (CallOf p (PipeCall cloexec)) = refl
+refusals_begun limits s caller (CallOf p (EventFd init semaphore cloexec)) = refl
+refusals_begun limits s caller (CallOf p (TimerFd clock cloexec)) = refl
+refusals_begun limits s caller (CallOf p (SocketPair cloexec)) = refl
+refusals_begun limits s caller (CallOf p (Plain cloexec)) = refl
 refusals_begun limits s caller (CallOf p (EpollCreate cloexec)) = refl
 refusals_begun limits s caller (CallOf p (EpollCtl epfd op fd mask tag)) = refl
 refusals_begun limits s caller (CallOf p (EpollWait epfd most timeout)) = refl
 refusals_begun limits s caller (CallOf p (Read fd n)) = refl
 refusals_begun limits s caller (CallOf p (Write fd bytes)) = refl
+refusals_begun limits s caller (CallOf p (Shutdown fd)) = refl
+refusals_begun limits s caller (CallOf p (SetTime fd absolute value interval)) = refl
+refusals_begun limits s caller (CallOf p (GetTime fd)) = refl
+refusals_begun limits s caller (Tick k) = refl
 
 -- What each step keeps holds in each state of a run.
 module _ (P : State → Type 0) (limits : Limits) (keeps : (s t : State) (caller : ℕ) (event : Event) (picked : List ℕ) (a : Answer) → P s → step limits s caller event picked ≡ Some (a, t) → P t) where

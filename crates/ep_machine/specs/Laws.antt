@@ -1,5 +1,5 @@
 -- What holds of the definitions.
-use Rattle.std.specs.List.{list_any}
+use Rattle.std.specs.List.{AllByRecursion, list_any}
 use Rattle.std.specs.Prelude.{Bool, List, None, Option, Some, [], bit_or, false, filter, is_some, map, nat_lt, not, true, ℕ, ◌&&◌, ◌++◌, ◌==◌, ◌≡◌, ◌⊎◌, ◌∷◌}
 use Rattle.ep_base.specs.Limits.{Limits}
 use Rattle.ep_base.specs.declared.answer.Answer.TheVariants.{Refused}
@@ -7,7 +7,9 @@ use Rattle.ep_base.specs.declared.call.Event.{Event}
 use Rattle.ep_base.specs.declared.errno.Errno.{Errno}
 use Rattle.ep_base.specs.declared.record.Record.{Record}
 use Rattle.ep_machine.specs.Bits.{IN, asked}
+use Rattle.ep_machine.specs.Deaths.{buried, die_all, named}
 use Rattle.ep_machine.specs.Effect.{first}
+use Rattle.ep_machine.specs.Files.{Files, Place, is_live, place_of}
 use Rattle.ep_machine.specs.Lists.{are_distinct, is_among}
 use Rattle.ep_machine.specs.Readiness.{is_ready, is_reportable, reportables}
 use Rattle.ep_machine.specs.Refusal.{refusals}
@@ -52,6 +54,15 @@ Determined = (limits : Limits) (past : List Record) (s t : State) → run limits
 -- in each state of a run registrations have numbers of their own, and none was reported after it came to be reportable
 abbrev pub EachSound : Type 0
 EachSound = (limits : Limits) (past : List Record) (s : State) → run limits opening past ≡ Some s → Sound s
+
+-- at the end of an event a description lives exactly where a table or a waiter names it
+abbrev pub NamedLives : Type 0
+NamedLives = (s : State) (raised : List (ℕ × ℕ)) → ((d : ℕ) → is_among (named s) d ≡ true → is_live s.files d ≡ true) → (d : ℕ) → is_live (buried s raised).0.files d ≡ is_among (named s) d
+
+-- which description dies first plays no part in the files that are left
+abbrev pub DeathsInAnyOrder : Type 0
+DeathsInAnyOrder = (files : Files) (xs ys : List (ℕ × Place)) → are_distinct (map (λ x. x.0) xs) ≡ true → are_distinct (map (λ y. y.0) ys) ≡ true → AllByRecursion (λ x. place_of files x.0 ≡ Some x.1) xs → AllByRecursion (λ y. place_of files y.0 ≡ Some y.1) ys
+    → ((d : ℕ) → is_among (map (λ x. x.0) xs) d ≡ is_among (map (λ y. y.0) ys) d) → (die_all (files, []) xs).0 ≡ (die_all (files, []) ys).0
 
 -- a registration of this number is there, in this instance
 abbrev pub is_in : State → ℕ → ℕ → Bool

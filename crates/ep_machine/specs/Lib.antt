@@ -25,6 +25,9 @@ pub mod LevelRun
 pub mod FullPipeRun
 pub mod FairRun
 pub mod RefusedRuns
+pub mod CounterRuns
+pub mod TimerRuns
+pub mod SocketRuns
 pub mod Sound
 pub mod Quiet
 pub mod Laws

@@ -1,18 +1,18 @@
 -- The six kinds of object. What an instance shows is judged in Readiness.
-use Rattle.std.specs.Prelude.{Bool, List, [], false, length, true, ℕ, ◌∷◌}
+use Rattle.std.specs.Prelude.{Bool, List, [], false, length, nat_lt, not, true, ℕ, ◌||◌, ◌∷◌}
 use Rattle.ep_base.specs.declared.answer.Answer.TheVariants.{Bytes, Done, Num}
 use Rattle.ep_base.specs.declared.call.Call.{Call}
-use Rattle.ep_base.specs.declared.call.Call.TheVariants.{Read, Write}
+use Rattle.ep_base.specs.declared.call.Call.TheVariants.{GetTime, Read, SetTime, Shutdown, Write}
 use Rattle.ep_base.specs.declared.errno.Errno.{Errno}
-use Rattle.ep_base.specs.declared.errno.Errno.TheVariants.{Einval}
+use Rattle.ep_base.specs.declared.errno.Errno.TheVariants.{Einval, Enotsock}
 use Rattle.ep_base.specs.declared.object.End.{End}
 use Rattle.ep_base.specs.declared.object.Raised.{Raised}
 use Rattle.ep_machine.specs.Bits.{nothing}
 use Rattle.ep_machine.specs.Counters.{Counter, counter_present, counter_read, counter_read_refusals, counter_write, counter_write_refusals}
 use Rattle.ep_machine.specs.Effect.{Effect}
 use Rattle.ep_machine.specs.Pipe.{Pipe, pipe_close, pipe_present, pipe_read, pipe_read_refusals, pipe_write, pipe_write_refusals}
-use Rattle.ep_machine.specs.Sockets.{SocketPair, pair_close, pair_present, pair_read, pair_read_refusals, pair_write, pair_write_refusals}
-use Rattle.ep_machine.specs.Timer.{Timer, timer_advance, timer_present, timer_read, timer_read_refusals}
+use Rattle.ep_machine.specs.Sockets.{SocketPair, pair_close, pair_present, pair_read, pair_read_refusals, pair_shutdown, pair_write, pair_write_refusals}
+use Rattle.ep_machine.specs.Timer.{Timer, timer_advance, timer_present, timer_read, timer_read_refusals, timer_set_refusals, timer_setting, timer_settime}
 
 pub data Object : Type 0 where
   plain : Object
@@ -29,6 +29,14 @@ is_plain x = false
 abbrev pub is_instance : Object → Bool
 is_instance instance = true
 is_instance x = false
+
+abbrev pub is_pair : Object → Bool
+is_pair (pair p) = true
+is_pair x = false
+
+abbrev pub is_timer : Object → Bool
+is_timer (timer t) = true
+is_timer x = false
 
 -- the bits that hold now at an end
 abbrev pub object_present : Object → End → ℕ → ℕ
@@ -74,16 +82,35 @@ write (counter c) e bytes = effect_on counter (counter_write c bytes)
 write (timer t) e bytes = (Done, timer t, nothing)
 write instance e bytes = (Done, instance, nothing)
 
+-- shutdown(2), timerfd_settime(2) and timerfd_gettime(2): what another kind of object does is never asked
+abbrev pub shutdown : Object → End → Effect Object
+shutdown (pair p) e = effect_on pair (pair_shutdown p e)
+shutdown x e = (Done, x, nothing)
+
+abbrev pub settime : Object → Bool → ℕ → ℕ → ℕ → Effect Object
+settime (timer t) absolute value interval now = effect_on timer (timer_settime t absolute value interval now)
+settime x absolute value interval now = (Done, x, nothing)
+
+abbrev pub gettime : Object → ℕ → Effect Object
+gettime (timer t) now = (timer_setting t now, timer t, nothing)
+gettime x now = (Done, x, nothing)
+
 -- the refusals of a call on an end of an object, in order
 abbrev pub object_refusals : Object → End → ℕ → Call → List (Bool × Errno)
 object_refusals x e now (Read fd n) = read_refusals x e n now
 object_refusals x e now (Write fd bytes) = write_refusals x e bytes
+object_refusals x e now (Shutdown fd) = (not (is_pair x), Enotsock) ∷ []
+object_refusals x e now (SetTime fd absolute value interval) = (not (is_timer x), Einval) ∷ timer_set_refusals value interval
+object_refusals x e now (GetTime fd) = (not (is_timer x), Einval) ∷ []
 object_refusals x e now call = []
 
 -- what such a call does where it isn't refused; any other call does nothing here
 abbrev pub object_effect : Object → End → ℕ → Call → Effect Object
 object_effect x e now (Read fd n) = read x e n now
 object_effect x e now (Write fd bytes) = write x e bytes
+object_effect x e now (Shutdown fd) = shutdown x e
+object_effect x e now (SetTime fd absolute value interval) = settime x absolute value interval now
+object_effect x e now (GetTime fd) = gettime x now
 object_effect x e now call = (Done, x, nothing)
 
 -- what the clock's going on raises

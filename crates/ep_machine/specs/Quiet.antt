@@ -1,6 +1,6 @@
--- What holds in each state that the six calls reach: nothing dies, nobody waits, and each registration
+-- What holds in each state that the calls of this version reach: nothing dies, nobody waits, and each registration
 -- is armed, level-triggered and watches an end of an object that shows bits of its own.
-use Rattle.std.specs.Prelude.{All, Bool, List, None, Option, Some, false, if◌then◌else◌, is_some, length, map, nat_lt, not, true, unwrap_or, ℕ, ◌&&◌, ◌==◌, ◌≡◌, []}
+use Rattle.std.specs.Prelude.{All, Bool, List, None, Option, Some, false, if◌then◌else◌, is_some, length, map, nat_lt, not, true, unwrap_or, ℕ, ◌&&◌, ◌==◌, ◌≡◌, ◌≤◌, []}
 use Rattle.ep_base.specs.declared.answer.Report.{Report}
 use Rattle.ep_machine.specs.Bits.{ET, ONESHOT, asked, has_bit}
 use Rattle.ep_machine.specs.Deaths.{named_in_tables}
@@ -8,6 +8,7 @@ use Rattle.ep_machine.specs.Files.{Files, is_live, object_at, object_of, side_of
 use Rattle.ep_machine.specs.Lists.{is_among}
 use Rattle.ep_machine.specs.Objects.{Object, is_instance, is_plain, object_present, plain}
 use Rattle.ep_machine.specs.State.{State, Watch}
+use Rattle.ep_machine.specs.Timer.{last_moment}
 
 -- what epoll_ctl accepts as a target
 abbrev pub can_be_watched : Option Object → Bool
@@ -24,7 +25,7 @@ pub record IsSteady (files : Files) (x : Watch) : Type 0 where
 
 pub record Quiet (s : State) : Type 0 where
   pub waiters : s.waiters ≡ []
-  pub now : s.now ≡ 0
+  pub now : s.now ≤ last_moment
   pub placed : All (λ p. is_some (object_at s.files p) ≡ true) s.files.descriptions  -- every description lives and has its object
   pub named : (d : ℕ) → is_among (named_in_tables s.files.tables) d ≡ nat_lt d (length s.files.descriptions)  -- tables name what was made, and nothing else
   pub watches : All (IsSteady s.files) s.watches
@@ -45,22 +46,22 @@ pub record IsSettled (after t : State) : Type 0 where
   pub added : t.added ≡ after.added
   pub waiters : t.waiters ≡ after.waiters
 
--- the bits that hold at a description, where no instance and no clock is asked
-abbrev pub present_at : Files → ℕ → ℕ
-present_at files d = object_present (unwrap_or (object_of files d) plain) (side_of files d) 0
+-- the bits that hold at a description at a moment, where no instance is asked
+abbrev pub present_at : Files → ℕ → ℕ → ℕ
+present_at files now d = object_present (unwrap_or (object_of files d) plain) (side_of files d) now
 
-abbrev pub shown_at : Files → Watch → ℕ
-shown_at files x = asked x.mask (present_at files x.target)
+abbrev pub shown_at : Files → ℕ → Watch → ℕ
+shown_at files now x = asked x.mask (present_at files now x.target)
 
-abbrev pub shows : Files → Watch → Bool
-shows files x = nat_lt 0 (shown_at files x)
+abbrev pub shows : Files → ℕ → Watch → Bool
+shows files now x = nat_lt 0 (shown_at files now x)
 
 -- it belongs to this instance and shows something
-abbrev pub shows_in : Files → ℕ → Watch → Bool
-shows_in files e x = x.instance == e && shows files x
+abbrev pub shows_in : Files → ℕ → ℕ → Watch → Bool
+shows_in files now e x = x.instance == e && shows files now x
 
-abbrev pub report_at : Files → Watch → Report
-report_at files x = record { bits = record { 0 = shown_at files x }; tag = x.tag }
+abbrev pub report_at : Files → ℕ → Watch → Report
+report_at files now x = record { bits = record { 0 = shown_at files now x }; tag = x.tag }
 
 -- reported in event n, where its number is among these
 abbrev pub reported_in : ℕ → List ℕ → Watch → Watch

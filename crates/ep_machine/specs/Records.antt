@@ -1,12 +1,13 @@
 -- Short forms for the records of worked runs. Each call is made by caller 0.
-use Rattle.std.specs.Prelude.{List, [], false, pos, ℕ, ℤ}
+use Rattle.std.specs.Prelude.{Bool, List, [], false, pos, ℕ, ℤ}
 use Rattle.ep_base.specs.Limits.{Limits}
 use Rattle.ep_base.specs.declared.answer.Answer.{Answer}
-use Rattle.ep_base.specs.declared.answer.Answer.TheVariants.{Events, Refused, Two}
+use Rattle.ep_base.specs.declared.answer.Answer.TheVariants.{Done, Events, Refused, Time, Two}
 use Rattle.ep_base.specs.declared.answer.Report.{Report}
 use Rattle.ep_base.specs.declared.call.Call.{Call}
-use Rattle.ep_base.specs.declared.call.Call.TheVariants.{EpollCreate, EpollCtl, EpollWait, Pipe as PipeCall, Read, Write}
-use Rattle.ep_base.specs.declared.call.Event.TheVariants.{Call as CallOf}
+use Rattle.ep_base.specs.declared.call.Call.TheVariants.{EpollCreate, EpollCtl, EpollWait, EventFd, GetTime, Pipe as PipeCall, Plain, Read, SetTime, Shutdown, SocketPair, TimerFd, Write}
+use Rattle.ep_base.specs.declared.call.Event.{Event}
+use Rattle.ep_base.specs.declared.call.Event.TheVariants.{Call as CallOf, Tick}
 use Rattle.ep_base.specs.declared.errno.Errno.{Errno}
 use Rattle.ep_base.specs.declared.ids.Fd.{Fd}
 use Rattle.ep_base.specs.declared.record.Record.{Record}
@@ -14,6 +15,10 @@ use Rattle.ep_base.specs.declared.record.Record.{Record}
 -- limits on descriptors, files and registrations; the others don't matter here
 abbrev pub small_limits : ℕ → ℕ → ℕ → Limits
 small_limits descriptors files watches = record { descriptors = descriptors; files = files; processes = 2; watches = watches; pipe_bytes = 4096; sock_bytes = 4096 }
+
+-- so many bytes wait in one direction of a socket pair
+abbrev pub socket_limits : ℕ → Limits
+socket_limits sock_bytes = record (small_limits 16 16 8) { sock_bytes = sock_bytes }
 
 abbrev pub fd_of : ℤ → Fd
 fd_of k = record { 0 = k }
@@ -23,6 +28,18 @@ pipe_call = PipeCall false
 
 abbrev pub create_call : Call
 create_call = EpollCreate false
+
+abbrev pub counter_call : ℕ → Bool → Call
+counter_call init semaphore = EventFd init semaphore false
+
+abbrev pub timer_call : ℕ → Call
+timer_call clock = TimerFd (pos clock) false
+
+abbrev pub pair_call : Call
+pair_call = SocketPair false
+
+abbrev pub plain_call : Call
+plain_call = Plain false
 
 -- any operation, on any numbers
 abbrev pub ctl_call : ℤ → ℤ → ℤ → ℕ → ℕ → Call
@@ -44,14 +61,33 @@ read_call fd n = Read (fd_of fd) n
 abbrev pub write_call : ℤ → List ℕ → Call
 write_call fd bytes = Write (fd_of fd) bytes
 
+abbrev pub shutdown_call : ℤ → Call
+shutdown_call fd = Shutdown (fd_of fd)
+
+abbrev pub settime_call : ℤ → Bool → ℕ → ℕ → Call
+settime_call fd absolute value interval = SetTime (fd_of fd) absolute value interval
+
+abbrev pub gettime_call : ℤ → Call
+gettime_call fd = GetTime (fd_of fd)
+
 abbrev pub two : ℕ → ℕ → Answer
 two a b = Two (fd_of (pos a)) (fd_of (pos b))
 
 abbrev pub report : ℕ → ℕ → Report
 report bits tag = record { bits = record { 0 = bits }; tag = tag }
 
+abbrev pub of_event : Event → Answer → List ℕ → Record
+of_event event answer picked = record { caller = record { 0 = 0 }; event = event; answer = answer; picked = picked }
+
 abbrev pub by_process : ℕ → Call → Answer → List ℕ → Record
-by_process pid call answer picked = record { caller = record { 0 = 0 }; event = CallOf (record { 0 = pid }) call; answer = answer; picked = picked }
+by_process pid call answer picked = of_event (CallOf (record { 0 = pid }) call) answer picked
+
+-- the clock goes on by so many milliseconds, or is refused to
+abbrev pub ticked : ℕ → Record
+ticked k = of_event (Tick k) Done []
+
+abbrev pub tick_refused : ℕ → Errno → Record
+tick_refused k errno = of_event (Tick k) (Refused errno) []
 
 -- process 1 is answered, and nothing is reported
 abbrev pub answered : Call → Answer → Record

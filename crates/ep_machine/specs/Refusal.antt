@@ -1,10 +1,10 @@
 -- Every refusal of every call, in order. The first that holds is answered.
-use Rattle.std.specs.Prelude.{Bool, List, [], false, is_none, length, nat_le, negsuc, not, pos, suc, true, zero, ℕ, ℤ, ◌&&◌, ◌==◌, ◌||◌, ◌∷◌}
+use Rattle.std.specs.Prelude.{Bool, List, [], false, is_none, length, nat_le, nat_lt, negsuc, not, pos, suc, true, zero, ℕ, ℤ, ◌&&◌, ◌+◌, ◌==◌, ◌||◌, ◌∷◌}
 use Rattle.ep_base.specs.Limits.{Limits}
 use Rattle.ep_base.specs.declared.call.Call.{Call}
-use Rattle.ep_base.specs.declared.call.Call.TheVariants.{EpollCreate, EpollCtl, EpollWait, Pipe as PipeCall, Read, Write}
+use Rattle.ep_base.specs.declared.call.Call.TheVariants.{EpollCreate, EpollCtl, EpollWait, EventFd, GetTime, Pipe as PipeCall, Plain, Read, SetTime, Shutdown, SocketPair, TimerFd, Write}
 use Rattle.ep_base.specs.declared.call.Event.{Event}
-use Rattle.ep_base.specs.declared.call.Event.TheVariants.{Call as CallOf}
+use Rattle.ep_base.specs.declared.call.Event.TheVariants.{Call as CallOf, Tick}
 use Rattle.ep_base.specs.declared.errno.Errno.{Errno}
 use Rattle.ep_base.specs.declared.errno.Errno.TheVariants.{Ebadf, Ebusy, Eexist, Einval, Eloop, Enoent, Enospc, Eperm, Esrch}
 use Rattle.ep_machine.specs.Bits.{ET, EXCLUSIVE, ONESHOT, has_bit}
@@ -12,8 +12,9 @@ use Rattle.ep_machine.specs.Files.{named_by, names_nothing, object_under, side_u
 use Rattle.ep_machine.specs.Objects.{is_instance, is_plain, object_refusals}
 use Rattle.ep_machine.specs.State.{State}
 use Rattle.ep_machine.specs.Tables.{one_refusals, two_refusals}
+use Rattle.ep_machine.specs.Timer.{last_moment}
 use Rattle.ep_machine.specs.Waits.{is_parked, is_positive}
-use Rattle.ep_machine.specs.Watches.{is_add, is_del, is_legal, is_mod, is_there, links, number_in}
+use Rattle.ep_machine.specs.Watches.{is_add, is_del, is_legal, is_mod, is_op, is_there, links, number_in}
 
 abbrev pub is_zero : ℤ → Bool
 is_zero (pos zero) = true
@@ -54,17 +55,29 @@ wait_refusals s p epfd most timeout =
     ∷ (names_nothing s.files p epfd, Ebadf)
     ∷ (not (is_instance (object_under s.files p epfd)), Einval) ∷ []
 
+-- both clocks are the one simulated clock
+abbrev pub is_clock : ℤ → Bool
+is_clock clock = is_op 0 clock || is_op 1 clock
+
 -- of a call on the object under a descriptor number
 abbrev pub on_object : State → ℕ → ℤ → Call → List (Bool × Errno)
 on_object s p fd call = (names_nothing s.files p fd, Ebadf) ∷ object_refusals (object_under s.files p fd) (side_under s.files p fd) s.now call
 
 abbrev pub call_refusals : Limits → State → ℕ → Call → List (Bool × Errno)
 call_refusals limits s p (PipeCall cloexec) = two_refusals limits s.files p
+call_refusals limits s p (EventFd init semaphore cloexec) = one_refusals limits s.files p
+call_refusals limits s p (TimerFd clock cloexec) = (not (is_clock clock), Einval) ∷ one_refusals limits s.files p
+call_refusals limits s p (SocketPair cloexec) = two_refusals limits s.files p
+call_refusals limits s p (Plain cloexec) = one_refusals limits s.files p
 call_refusals limits s p (EpollCreate cloexec) = one_refusals limits s.files p
 call_refusals limits s p (EpollCtl epfd op fd mask tag) = ctl_refusals limits s p epfd.0 op fd.0 mask.0
 call_refusals limits s p (EpollWait epfd most timeout) = wait_refusals s p epfd.0 most timeout
 call_refusals limits s p (Read fd n) = on_object s p fd.0 (Read fd n)
 call_refusals limits s p (Write fd bytes) = on_object s p fd.0 (Write fd bytes)
+call_refusals limits s p (Shutdown fd) = on_object s p fd.0 (Shutdown fd)
+call_refusals limits s p (SetTime fd absolute value interval) = on_object s p fd.0 (SetTime fd absolute value interval)
+call_refusals limits s p (GetTime fd) = on_object s p fd.0 (GetTime fd)
 
 abbrev pub refusals : Limits → State → ℕ → Event → List (Bool × Errno)
 refusals limits s caller (CallOf p call) = (is_none (table_of s.files p.0), Esrch) ∷ (is_parked s caller, Ebusy) ∷ call_refusals limits s p.0 call
+refusals limits s caller (Tick k) = (nat_lt last_moment (s.now + k), Einval) ∷ []

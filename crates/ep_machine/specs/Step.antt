@@ -1,23 +1,25 @@
 -- One step: a refusal, or a change and then its settling. Once the picked registrations are given nothing is free.
-use Rattle.std.specs.Prelude.{List, None, Option, Some, [], ℕ, ℤ, ◌+◌}
+use Rattle.std.specs.Prelude.{Bool, List, None, Option, Some, [], ℕ, ℤ, ◌+◌}
 use Rattle.ep_base.specs.Limits.{Limits}
 use Rattle.ep_base.specs.declared.answer.Answer.{Answer}
 use Rattle.ep_base.specs.declared.answer.Answer.TheVariants.{Refused}
 use Rattle.ep_base.specs.declared.call.Call.{Call}
-use Rattle.ep_base.specs.declared.call.Call.TheVariants.{EpollCreate, EpollCtl, EpollWait, Pipe as PipeCall, Read, Write}
+use Rattle.ep_base.specs.declared.call.Call.TheVariants.{EpollCreate, EpollCtl, EpollWait, EventFd, GetTime, Pipe as PipeCall, Plain, Read, SetTime, Shutdown, SocketPair, TimerFd, Write}
 use Rattle.ep_base.specs.declared.call.Event.{Event}
-use Rattle.ep_base.specs.declared.call.Event.TheVariants.{Call as CallOf}
+use Rattle.ep_base.specs.declared.call.Event.TheVariants.{Call as CallOf, Tick}
 use Rattle.ep_base.specs.declared.errno.Errno.{Errno}
 use Rattle.ep_machine.specs.Files.{named_by, object_under, side_under}
-use Rattle.ep_machine.specs.Objects.{instance, object_effect, pipe}
+use Rattle.ep_machine.specs.Objects.{Object, counter, instance, object_effect, pair, pipe, plain, timer}
 use Rattle.ep_machine.specs.Pipe.{new_pipe}
 use Rattle.ep_machine.specs.Effect.{first}
 use Rattle.ep_machine.specs.Refusal.{refusals}
 use Rattle.ep_machine.specs.Report.{plainly}
 use Rattle.ep_machine.specs.Settle.{settle}
+use Rattle.ep_machine.specs.Sockets.{new_pair}
 use Rattle.ep_machine.specs.State.{Change, State}
 use Rattle.ep_machine.specs.Tables.{affected, affected_raises, answer_one, answer_two, create_one, create_two}
-use Rattle.ep_machine.specs.Waits.{wait}
+use Rattle.ep_machine.specs.Timer.{new_timer}
+use Rattle.ep_machine.specs.Waits.{tick, wait}
 use Rattle.ep_machine.specs.Watches.{ctl, number_in}
 
 -- of a call on the object under a descriptor number
@@ -27,18 +29,32 @@ object_change s p fd call =
     let f = object_effect (object_under s.files p fd) (side_under s.files p fd) s.now call in
     (f.0, record s { files = affected s.files d f }, affected_raises s.files d f)
 
+-- of a call that makes an object with one description, or with two
+abbrev pub one_change : State → ℕ → Object → Bool → Change
+one_change s p x cloexec = (answer_one s.files p, record s { files = create_one s.files p x cloexec }, [])
+
+abbrev pub two_change : State → ℕ → Object → Bool → Change
+two_change s p x cloexec = (answer_two s.files p, record s { files = create_two s.files p x cloexec }, [])
+
 -- of a call that isn't refused
 abbrev pub call_change : Limits → State → ℕ → ℕ → Call → List ℕ → Option Change
-call_change limits s caller p (PipeCall cloexec) picked =
-    plainly picked (answer_two s.files p, record s { files = create_two s.files p (pipe (new_pipe limits.pipe_bytes)) cloexec }, [])
-call_change limits s caller p (EpollCreate cloexec) picked = plainly picked (answer_one s.files p, record s { files = create_one s.files p instance cloexec }, [])
+call_change limits s caller p (PipeCall cloexec) picked = plainly picked (two_change s p (pipe (new_pipe limits.pipe_bytes)) cloexec)
+call_change limits s caller p (EventFd init semaphore cloexec) picked = plainly picked (one_change s p (counter (record { count = init; is_semaphore = semaphore })) cloexec)
+call_change limits s caller p (TimerFd clock cloexec) picked = plainly picked (one_change s p (timer new_timer) cloexec)
+call_change limits s caller p (SocketPair cloexec) picked = plainly picked (two_change s p (pair (new_pair limits.sock_bytes)) cloexec)
+call_change limits s caller p (Plain cloexec) picked = plainly picked (one_change s p plain cloexec)
+call_change limits s caller p (EpollCreate cloexec) picked = plainly picked (one_change s p instance cloexec)
 call_change limits s caller p (EpollCtl epfd op fd mask tag) picked = plainly picked (ctl s p epfd.0 op fd.0 mask.0 tag)
 call_change limits s caller p (EpollWait epfd most timeout) picked = wait s caller p (named_by s.files p epfd.0) (number_in most) timeout picked
 call_change limits s caller p (Read fd n) picked = plainly picked (object_change s p fd.0 (Read fd n))
 call_change limits s caller p (Write fd bytes) picked = plainly picked (object_change s p fd.0 (Write fd bytes))
+call_change limits s caller p (Shutdown fd) picked = plainly picked (object_change s p fd.0 (Shutdown fd))
+call_change limits s caller p (SetTime fd absolute value interval) picked = plainly picked (object_change s p fd.0 (SetTime fd absolute value interval))
+call_change limits s caller p (GetTime fd) picked = plainly picked (object_change s p fd.0 (GetTime fd))
 
 abbrev pub change : Limits → State → ℕ → Event → List ℕ → Option Change
 change limits s caller (CallOf p call) picked = call_change limits s caller p.0 call picked
+change limits s caller (Tick k) picked = plainly picked (tick s k)
 
 abbrev pub settled : State → Option Change → Option (Answer × State)
 settled before None = None

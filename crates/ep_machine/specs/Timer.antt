@@ -1,5 +1,5 @@
 -- Timers over the simulated clock.
-use Rattle.std.specs.Prelude.{Bool, List, None, Option, Some, [], if◌then◌else◌, nat_lt, ℕ, ◌&&◌, ◌*◌, ◌+◌, ◌-◌, ◌/◌, ◌==◌, ◌∷◌}
+use Rattle.std.specs.Prelude.{Bool, List, None, Option, Some, [], if◌then◌else◌, nat_lt, ℕ, ◌&&◌, ◌*◌, ◌+◌, ◌-◌, ◌/◌, ◌==◌, ◌||◌, ◌∷◌}
 use Rattle.ep_base.specs.declared.answer.Answer.{Answer}
 use Rattle.ep_base.specs.declared.answer.Answer.TheVariants.{Bytes, Time}
 use Rattle.ep_base.specs.declared.errno.Errno.{Errno}
@@ -46,6 +46,9 @@ moment_of absolute value now = if value == 0 then None else Some (if absolute th
 
 abbrev pub timer_set : Bool → ℕ → ℕ → ℕ → Timer
 timer_set absolute value interval now = record { first_moment = moment_of absolute value now; interval = interval; taken = 0 }
+
+abbrev pub timer_set_refusals : ℕ → ℕ → List (Bool × Errno)
+timer_set_refusals value interval = (nat_lt last_moment value || nat_lt last_moment interval, Einval) ∷ []
 
 abbrev pub timer_settime : Timer → Bool → ℕ → ℕ → ℕ → Effect Timer
 timer_settime t absolute value interval now =

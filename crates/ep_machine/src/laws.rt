@@ -1,5 +1,5 @@
 //! Laws of the definitions. Each is the contract of a function that does nothing, so that it is proved.
-ghost use Rattle.ep_machine.specs.Laws.{Determined, EachSound, FairRounds, ReadyEquation, RefusalChangesNothing, SpreadEquation, SpreadLeast};
+ghost use Rattle.ep_machine.specs.Laws.{DeathsInAnyOrder, Determined, EachSound, FairRounds, NamedLives, ReadyEquation, RefusalChangesNothing, SpreadEquation, SpreadLeast};
 
 /// An instance is ready exactly where one of its registrations is reportable: five levels are enough
 /// where the graph of instances is legal.
@@ -36,4 +36,14 @@ pub fn each_sound()
 /// While a registration stays reportable and unreported, no other registration of its instance is reported twice.
 pub fn fair_rounds()
     ensures law { FairRounds }
+{}
+
+/// close(2) and exit(2): the order in which descriptions die plays no part in what is left.
+pub fn deaths_in_any_order()
+    ensures law { DeathsInAnyOrder }
+{}
+
+/// A description dies where the last descriptor that names it is closed and no parked waiter holds it, and only then.
+pub fn named_lives()
+    ensures law { NamedLives }
 {}

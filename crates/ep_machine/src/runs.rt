@@ -3,14 +3,17 @@
 ghost use Rattle.std.specs.Prelude.{◌≡◌, ◌∷◌, ◌++◌, [], true, false, Some};
 ghost use Rattle.ep_base.specs.Limits.{default_limits};
 ghost use Rattle.ep_base.specs.declared.answer.Answer.TheVariants.{Done, Num, Refused};
-ghost use Rattle.ep_base.specs.declared.errno.Errno.TheVariants.{Eagain, Ebadf, Eexist, Einval, Emfile, Enfile, Enospc, Eperm, Esrch};
+ghost use Rattle.ep_base.specs.declared.errno.Errno.TheVariants.{Eagain, Ebadf, Eexist, Einval, Emfile, Enfile, Enospc, Enotsock, Eperm, Epipe, Esrch};
+ghost use Rattle.ep_machine.specs.CounterRuns.{greatest_run, semaphore_run};
 ghost use Rattle.ep_machine.specs.FairRun.{both_readable, first_told, second_told};
 ghost use Rattle.ep_machine.specs.FullPipeRun.{full_pipe_run};
 ghost use Rattle.ep_machine.specs.LevelRun.{level_run};
-ghost use Rattle.ep_machine.specs.Records.{answered, create_call, pipe_call, report, small_limits, two};
+ghost use Rattle.ep_machine.specs.Records.{answered, create_call, pipe_call, report, small_limits, socket_limits, two};
 ghost use Rattle.ep_machine.specs.RefusedRuns.{ctl_run, descriptors_first_run, descriptors_run, files_run, masks_run, process_run, read_run, wait_run, watches_run, write_run};
 ghost use Rattle.ep_machine.specs.Run.{is_run, run};
+ghost use Rattle.ep_machine.specs.SocketRuns.{full_run, last_description_run, no_socket_run, shut_run};
 ghost use Rattle.ep_machine.specs.State.{opening};
+ghost use Rattle.ep_machine.specs.TimerRuns.{once_run, passed_run, timer_refused_run};
 
 /// A run of no records ends in the opening state; in that state the lowest free descriptor number is 3.
 pub fn empty()
@@ -96,4 +99,58 @@ pub fn read()
 pub fn write()
     ensures run { is_run (small_limits 16 16 8) (write_run Eagain) ≡ true }
     ensures no_run { is_run (small_limits 16 16 8) (write_run Ebadf) ≡ false }
+{}
+
+/// eventfd(2): the greatest value of a counter is 2^64 - 2.
+pub fn greatest_count()
+    ensures run { is_run default_limits (greatest_run Eagain) ≡ true }
+    ensures no_run { is_run default_limits (greatest_run Einval) ≡ false }
+{}
+
+/// EFD_SEMAPHORE of eventfd(2).
+pub fn semaphore()
+    ensures run { is_run default_limits (semaphore_run 1) ≡ true }
+    ensures no_run { is_run default_limits (semaphore_run 2) ≡ false }
+{}
+
+/// TFD_TIMER_ABSTIME of timerfd_settime(2), with a moment that has passed.
+pub fn passed_moment()
+    ensures run { is_run default_limits (passed_run 2) ≡ true }
+    ensures no_run { is_run default_limits (passed_run 1) ≡ false }
+{}
+
+/// timerfd_create(2): a timer that expires once, and the last moment of the clock.
+pub fn last_moment()
+    ensures run { is_run default_limits (once_run Einval) ≡ true }
+    ensures no_run { is_run default_limits (once_run Eagain) ≡ false }
+{}
+
+/// EBADF, EINVAL and EMFILE of timers.
+pub fn timer_refusals()
+    ensures run { is_run (small_limits 6 16 8) (timer_refused_run Einval) ≡ true }
+    ensures no_run { is_run (small_limits 6 16 8) (timer_refused_run Ebadf) ≡ false }
+{}
+
+/// shutdown(2) of a Unix stream socket for writing.
+pub fn shut_socket()
+    ensures run { is_run default_limits (shut_run Epipe) ≡ true }
+    ensures no_run { is_run default_limits (shut_run Eagain) ≡ false }
+{}
+
+/// A direction of a socket pair that is full.
+pub fn full_socket()
+    ensures run { is_run (socket_limits 4) (full_run 4) ≡ true }
+    ensures no_run { is_run (socket_limits 4) (full_run 5) ≡ false }
+{}
+
+/// ENOTSOCK of shutdown(2), EMFILE of socketpair(2), and files that can't be polled.
+pub fn no_socket()
+    ensures run { is_run (small_limits 5 16 8) (no_socket_run Enotsock) ≡ true }
+    ensures no_run { is_run (small_limits 5 16 8) (no_socket_run Einval) ≡ false }
+{}
+
+/// ENFILE of socketpair(2) and eventfd(2).
+pub fn last_description()
+    ensures run { is_run (small_limits 16 2 8) (last_description_run Enfile) ≡ true }
+    ensures no_run { is_run (small_limits 16 2 8) (last_description_run Emfile) ≡ false }
 {}

@@ -1,2 +1,4 @@
 pub mod Content
 pub mod Memory
+pub mod Next
+pub mod Law

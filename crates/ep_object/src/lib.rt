@@ -1,8 +1,10 @@
 //! Objects, of which an open file description is one end.
 #![tactic(auto)]
 
+mod law;
 mod object;
 #[cfg(test)]
 mod tests;
 
+pub use crate::law::arrivals_are_raised;
 pub use crate::object::Object;

@@ -1,12 +1,17 @@
 //! Objects of each kind.
-ghost use Rattle.std.specs.Prelude.{◌≡◌, ◌≤◌, min, IfOk, IsOk, OnErr};
+ghost use Rattle.std.specs.Prelude.{◌≡◌, ◌≤◌, ◌∷◌, [], min, not, IfOk, IsOk, OnErr};
+ghost use Rattle.ep_machine.specs.Bits.{raises};
 ghost use Rattle.ep_machine.specs.Effect.{attempt};
+ghost use Rattle.ep_machine.specs.Objects.{advance, close_end, counter, gettime, instance, is_instance, is_pair, is_plain, is_timer, object_effect, object_present, object_refusals, pair, pipe, plain, read, read_refusals, settime, shutdown, timer, write, write_refusals};
 ghost use Rattle.ep_machine.specs.Pipe.{new_pipe};
-ghost use Rattle.ep_machine.specs.Objects.{close_end, instance, is_instance, is_plain, object_effect, object_present, object_refusals, pipe, plain, read, read_refusals, write, write_refusals};
+ghost use Rattle.ep_machine.specs.Sockets.{new_pair};
+ghost use Rattle.ep_machine.specs.Timer.{last_moment, new_timer, timer_set_refusals};
 ghost use Rattle.ep_object.specs.Memory.{asked_of, object_waiting};
+ghost use Rattle.ep_object.specs.Next.{IsNextMoment};
 
 use ep_base::{Answer, Bytes, Call, Errno, Mask};
-use ep_stream::{End, Pipe, Raised};
+use ep_counters::{EventFd, Timer};
+use ep_stream::{End, Pipe, Raised, SockPair};
 use std::alloc::{AllocError, Global};
 use std::marker::Model;
 
@@ -22,11 +27,18 @@ enum Kind {
     /// A file that can't be polled, with the allocator of the answers that it gives.
     Plain(Global),
     Pipe(Pipe),
+    Pair(SockPair),
+    Counter(EventFd),
+    Timer(Timer),
     /// An epoll instance, whose registrations are kept elsewhere.
     Instance,
 }
 
-/// An object, which its ends' open file descriptions share: a plain file, a pipe or an epoll instance.
+/// An object, which its ends' open file descriptions share. A pipe and a socket pair have two ends,
+/// any other object has the first alone.
+///
+/// The moments that a caller hands in are those of the simulated clock: milliseconds since it began,
+/// at most 1,000,000,000,000.
 #[derive(Drop)]
 pub struct Object {
     kind: Kind,
@@ -52,6 +64,44 @@ impl Object {
         }
     }
 
+    /// pipe(2): an empty pipe with both ends, which holds at most `capacity` bytes. All memory that
+    /// later calls need is taken here, but for the bytes that a read gives.
+    pub fn pipe(alloc: Global, capacity: u32) -> Result<Object, AllocError>
+        ensures { IfOk result (λ object. object ≡ pipe (new_pipe capacity)) }
+    {
+        Ok(Object {
+            kind: Kind::Pipe(Pipe::new(alloc, capacity)?),
+        })
+    }
+
+    /// socketpair(2): two open ends, each of which can hold at most `capacity` bytes to be read. All
+    /// memory that later calls need is taken here, but for the bytes that a read gives.
+    pub fn pair(alloc: Global, capacity: u32) -> Result<Object, AllocError>
+        ensures { IfOk result (λ object. object ≡ pair (new_pair capacity)) }
+    {
+        Ok(Object {
+            kind: Kind::Pair(SockPair::new(alloc, capacity)?),
+        })
+    }
+
+    /// eventfd(2): a counter that starts at `init`. With `semaphore`, EFD_SEMAPHORE, a read takes 1 from it.
+    pub fn counter(alloc: Global, init: u32, semaphore: bool) -> Object
+        ensures { result ≡ counter (record { count = init; is_semaphore = semaphore }) }
+    {
+        Object {
+            kind: Kind::Counter(EventFd::new(alloc, init, semaphore)),
+        }
+    }
+
+    /// timerfd_create(2): a disarmed timer, whose interval is 0.
+    pub fn timer(alloc: Global) -> Object
+        ensures { result ≡ timer new_timer }
+    {
+        Object {
+            kind: Kind::Timer(Timer::new(alloc)),
+        }
+    }
+
     /// An epoll instance.
     pub fn instance() -> Object
         ensures { result ≡ instance }
@@ -59,16 +109,6 @@ impl Object {
         Object {
             kind: Kind::Instance,
         }
-    }
-
-    /// An empty pipe with both ends, which holds at most `capacity` bytes. All memory that later
-    /// calls need is taken here, but for the bytes that a read gives.
-    pub fn pipe(alloc: Global, capacity: u32) -> Result<Object, AllocError>
-        ensures { IfOk result (λ object. object ≡ pipe (new_pipe capacity)) }
-    {
-        Ok(Object {
-            kind: Kind::Pipe(Pipe::new(alloc, capacity)?),
-        })
     }
 
     /// Whether it is a plain file, which epoll_ctl(2) refuses with EPERM.
@@ -85,59 +125,110 @@ impl Object {
         matches!(self.kind, Kind::Instance)
     }
 
-    /// The bits that hold now at this end: those of a pipe, and none of a plain file or of an
-    /// instance, which is judged by its registrations. `now` is the clock in milliseconds.
+    /// The bits that hold at this end at the moment `now`, as poll(2) would report them. None hold of
+    /// a plain file, nor of an instance, which is judged by its registrations.
     pub fn present(&self, end: End, now: u64) -> Mask
+        requires { now ≤ last_moment }
         ensures { result.0 ≡ object_present self.now end now }
     {
         match &self.kind {
             Kind::Plain(_) | Kind::Instance => Mask(0),
             Kind::Pipe(pipe) => pipe.present(end),
+            Kind::Pair(pair) => pair.present(end),
+            Kind::Counter(counter) => counter.present(),
+            Kind::Timer(timer) => timer.present(now),
         }
     }
 
-    /// How many bytes a read at this end could give: those that wait at the first end of a pipe, else 0.
+    /// How many bytes a read at this end could give: those that wait at the first end of a pipe or at
+    /// this end of a socket pair, else 0.
     pub fn waiting(&self, end: End) -> usize
         ensures { result ≡ object_waiting self.now end }
     {
         match &self.kind {
-            Kind::Plain(_) | Kind::Instance => 0,
             Kind::Pipe(pipe) => pipe.waiting(end),
+            Kind::Pair(pair) => pair.waiting(end),
+            Kind::Plain(_) | Kind::Counter(_) | Kind::Timer(_) | Kind::Instance => 0,
         }
     }
 
-    /// Notes that this end is closed for good, and gives what that raises at the other. A plain file
-    /// and an instance stay, and raise nothing.
+    /// The first moment after `now` at which the clock raises IN: where a timer's unread expirations
+    /// go from none to some. `None` where there is none, and of any other object.
+    pub fn next(&self, now: u64) -> Option<u64>
+        requires { now ≤ last_moment }
+        ensures { IsNextMoment self.now now result }
+    {
+        match &self.kind {
+            Kind::Timer(timer) => timer.next(now),
+            _ => None,
+        }
+    }
+
+    /// What the clock raises as it goes on from `old` to `new`: IN where a timer's unread expirations
+    /// go from none to some, else nothing.
+    pub fn advance(&self, old: u64, new: u64) -> Raised
+        requires old { old ≤ last_moment }
+        requires new { new ≤ last_moment }
+        ensures { result ≡ raises (advance self.now old new) 0 }
+    {
+        match &self.kind {
+            Kind::Timer(timer) => Raised {
+                first: timer.advance(old, new),
+                second: Mask(0),
+            },
+            _ => NOTHING,
+        }
+    }
+
+    /// Notes that this end is closed for good, and gives what that raises at the other. An object with
+    /// one end stays and raises nothing.
     pub fn close_end(&mut self, end: End) -> Raised
         ensures { (self.new, result) ≡ close_end self.old end }
     {
         match &mut self.kind {
-            Kind::Plain(_) | Kind::Instance => NOTHING,
             Kind::Pipe(pipe) => pipe.close_end(end),
+            Kind::Pair(pair) => pair.close_end(end),
+            Kind::Plain(_) | Kind::Counter(_) | Kind::Timer(_) | Kind::Instance => NOTHING,
         }
     }
 
-    /// What a call on this end is answered at the moment `now`, in milliseconds, and what it raises.
-    /// read(2) and write(2) are refused by an instance with EINVAL, and by a pipe as `Pipe` says; a
-    /// refusal leaves the object and raises nothing. A plain file gives no bytes and takes all.
+    /// What a call on this end is answered at the moment `now`, and what it raises. A refusal leaves
+    /// the object and raises nothing.
+    ///
+    /// - read(2) and write(2): EINVAL of an instance, and for a write of a timer; else as the kind's
+    ///   own type says. A plain file gives no bytes and takes all.
+    /// - shutdown(2) with SHUT_WR answers `Done`: ENOTSOCK of anything but a socket pair.
+    /// - timerfd_settime(2) and timerfd_gettime(2) answer the setting that the timer had: EINVAL of
+    ///   anything but a timer, and for a `value` or `interval` above 1,000,000,000,000.
+    ///
     /// Any other call is no call on an object: it answers `Done`, and changes and raises nothing.
-    /// An `AllocError` leaves the object, and comes only from a read of a pipe of more than 16 bytes
-    /// in which more than 16 wait.
+    /// An `AllocError` leaves the object, and comes only from a read of a pipe or a socket pair of more
+    /// than 16 bytes where more than 16 wait.
     pub fn apply(&mut self, end: End, now: u64, call: &Call) -> Result<(Answer, Raised), AllocError>
+        requires { now ≤ last_moment }
         ensures ok { IfOk result (λ r. (r.0, self.new, r.1) ≡
             attempt (object_refusals self.old end now call.now) self.old (object_effect self.old end now call.now)) }
         ensures err { OnErr result (self.new ≡ self.old) }
         ensures inline { min (asked_of call.now) (object_waiting self.old end) ≤ 16 → IsOk result }
     {
-        match call {
-            Call::Read { n, .. } => self.read(end, now, *n),
-            Call::Write { bytes, .. } => Ok(self.write(end, bytes.as_slice())),
+        match *call {
+            Call::Read { n, .. } => self.read(end, now, n),
+            Call::Write { ref bytes, .. } => Ok(self.write(end, bytes.as_slice())),
+            Call::Shutdown { .. } => Ok(self.shutdown(end)),
+            Call::SetTime {
+                absolute,
+                value,
+                interval,
+                ..
+            } => Ok(self.settime(now, absolute, value, interval)),
+            Call::GetTime { .. } => Ok(self.gettime(now)),
             _ => Ok((Answer::Done, NOTHING)),
         }
     }
 
     /// read(2) of at most `n` bytes at this end.
     fn read(&mut self, end: End, now: u64, n: u32) -> Result<(Answer, Raised), AllocError>
+        requires { now ≤ last_moment }
         ensures ok { IfOk result (λ r. (r.0, self.new, r.1) ≡
             attempt (read_refusals self.old end n now) self.old (read self.old end n now)) }
         ensures err { OnErr result (self.new ≡ self.old) }
@@ -146,7 +237,10 @@ impl Object {
         match &mut self.kind {
             Kind::Plain(alloc) => Ok((Answer::Bytes(Bytes::empty(*alloc)), NOTHING)),
             Kind::Pipe(pipe) => pipe.read(end, n),
-            Kind::Instance => Ok((Answer::Refused(Errno::Einval), NOTHING)),
+            Kind::Pair(pair) => pair.read(end, n),
+            Kind::Counter(counter) => Ok(counter.read(n)),
+            Kind::Timer(timer) => Ok(timer.read(now, n)),
+            Kind::Instance => Ok(refused(Errno::Einval)),
         }
     }
 
@@ -158,7 +252,52 @@ impl Object {
         match &mut self.kind {
             Kind::Plain(_) => (Answer::Num(bytes.len() as u64), NOTHING),
             Kind::Pipe(pipe) => pipe.write(end, bytes),
-            Kind::Instance => (Answer::Refused(Errno::Einval), NOTHING),
+            Kind::Pair(pair) => pair.write(end, bytes),
+            Kind::Counter(counter) => counter.write(bytes),
+            Kind::Timer(_) | Kind::Instance => refused(Errno::Einval),
         }
     }
+
+    /// shutdown(2) with SHUT_WR of this end.
+    fn shutdown(&mut self, end: End) -> (Answer, Raised)
+        ensures { (result.0, self.new, result.1) ≡
+            attempt ((not (is_pair self.old), Errno.Enotsock) ∷ []) self.old (shutdown self.old end) }
+    {
+        match &mut self.kind {
+            Kind::Pair(pair) => (Answer::Done, pair.shutdown(end)),
+            _ => refused(Errno::Enotsock),
+        }
+    }
+
+    /// timerfd_settime(2), with TFD_TIMER_ABSTIME where `absolute`.
+    fn settime(&mut self, now: u64, absolute: bool, value: u64, interval: u64) -> (Answer, Raised)
+        requires { now ≤ last_moment }
+        ensures { (result.0, self.new, result.1) ≡
+            attempt ((not (is_timer self.old), Errno.Einval) ∷ timer_set_refusals value interval) self.old (settime self.old absolute value interval now) }
+    {
+        match &mut self.kind {
+            Kind::Timer(timer) => timer.settime(now, absolute, value, interval),
+            _ => refused(Errno::Einval),
+        }
+    }
+
+    /// timerfd_gettime(2).
+    fn gettime(&self, now: u64) -> (Answer, Raised)
+        requires { now ≤ last_moment }
+        ensures { (result.0, self.now, result.1) ≡
+            attempt ((not (is_timer self.now), Errno.Einval) ∷ []) self.now (gettime self.now now) }
+    {
+        match &self.kind {
+            Kind::Timer(timer) => (timer.gettime(now), NOTHING),
+            _ => refused(Errno::Einval),
+        }
+    }
+}
+
+/// A refusal, which raises nothing.
+fn refused(errno: Errno) -> (Answer, Raised)
+    ensures answer { result.0 ≡ Answer.Refused errno }
+    ensures raised { result.1 ≡ raises 0 0 }
+{
+    (Answer::Refused(errno), NOTHING)
 }

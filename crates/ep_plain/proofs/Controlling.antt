@@ -128,7 +128,7 @@ last_test false false true d i e f g j k h = absurd (none-some g (sym h))
 last_test false true c d i e f g j k h = absurd (none-some f (sym h))
 last_test true b c d i e f g j k h = absurd (none-some e (sym h))
 
-module _ (limits : Limits) (v : Seen) (r : Registrations) (s : State) (p : ℕ) (args : Control) (named : Named) (names : Names v p args.epfd.0 args.fd.0 named) (sound : SoundTables v) (stands : Stands v r s) (linked : AreLinked v r) where
+module _ (limits : Limits) (v : Seen) (r : Registrations) (s : State) (p : ℕ) (args : Control) (named : Named) (names : Names v p args.epfd.0 args.fd.0 named) (sound : SoundTables v) (now : ℕ) (stands : Stands v r now s) (linked : AreLinked v r) where
   accepted : first (naming_refusals s.files p args.epfd.0 args.fd.0) ≡ None
   accepted = ap (λ (f : Files). first (naming_refusals f p args.epfd.0 args.fd.0)) stands.files ∙ names.accepted
 
@@ -145,10 +145,10 @@ module _ (limits : Limits) (v : Seen) (r : Registrations) (s : State) (p : ℕ) 
   descriptor = descriptor_of v.files p args.fd.0 (subst (λ (o : Option ℕ). IsSome o) names.desc names.desc_lives)
 
   there : is_there s (named_by s.files p args.epfd.0) (number_in args.fd.0) (named_by s.files p args.fd.0) ≡ list_any (has_key named.instance args.fd named.desc) r.entries
-  there = (λ i. is_there s (instance_is i) (number_in args.fd.0) (desc_is i)) ∙ there_is v r s named.instance named.desc args.fd.0 sound stands linked names.instance_lives names.desc_lives descriptor
+  there = (λ i. is_there s (instance_is i) (number_in args.fd.0) (desc_is i)) ∙ there_is v r now s named.instance named.desc args.fd.0 sound stands linked names.instance_lives names.desc_lives descriptor
 
   left_to_refuse : is_refused_op args.op args.mask.0 ≡ false → first (ctl_refusals limits s p args.epfd.0 args.op args.fd.0 args.mask.0) ≡ first (room_refusals (list_any (has_key named.instance args.fd named.desc) r.entries) limits.watches (length r.entries))
-  left_to_refuse h = refused_room limits s p args.epfd.0 args.op args.fd.0 args.mask.0 accepted h not_instance ∙ (λ i. first (room_refusals (there i) limits.watches (count_is v r s stands i)))
+  left_to_refuse h = refused_room limits s p args.epfd.0 args.op args.fd.0 args.mask.0 accepted h not_instance ∙ (λ i. first (room_refusals (there i) limits.watches (count_is v r now s stands i)))
 
   abbrev refusals : List (Bool × Errno)
   refusals = ctl_refusals limits s p args.epfd.0 args.op args.fd.0 args.mask.0
@@ -156,13 +156,13 @@ module _ (limits : Limits) (v : Seen) (r : Registrations) (s : State) (p : ℕ) 
   abbrev change : ℕ → Option Change
   change caller = call_change limits s caller p (control_call args) []
 
-  pub goes_einval : (n caller : ℕ) → is_refused_op args.op args.mask.0 ≡ true → Goes (ctl_refusals limits s p args.epfd.0 args.op args.fd.0 args.mask.0) (call_change limits s caller p (control_call args) []) s (Refused Einval) [] (record { tables = v; interest = r })
+  pub goes_einval : (n caller : ℕ) → is_refused_op args.op args.mask.0 ≡ true → Goes (ctl_refusals limits s p args.epfd.0 args.op args.fd.0 args.mask.0) (call_change limits s caller p (control_call args) []) s (Refused Einval) [] (record { tables = v; interest = r; now = now })
   goes_einval n caller h = goes_refused refusals (change caller) s _ Einval (refused_mask limits s p args.epfd.0 args.op args.fd.0 args.mask.0 accepted h) stands
 
-  pub goes_eexist : (n caller : ℕ) → is_refused_op args.op args.mask.0 ≡ false → list_any (has_key named.instance args.fd named.desc) r.entries ≡ true → Goes (ctl_refusals limits s p args.epfd.0 args.op args.fd.0 args.mask.0) (call_change limits s caller p (control_call args) []) s (Refused Eexist) [] (record { tables = v; interest = r })
+  pub goes_eexist : (n caller : ℕ) → is_refused_op args.op args.mask.0 ≡ false → list_any (has_key named.instance args.fd named.desc) r.entries ≡ true → Goes (ctl_refusals limits s p args.epfd.0 args.op args.fd.0 args.mask.0) (call_change limits s caller p (control_call args) []) s (Refused Eexist) [] (record { tables = v; interest = r; now = now })
   goes_eexist n caller h i = goes_refused refusals (change caller) s _ Eexist (left_to_refuse h ∙ ap (λ (b : Bool). first (room_refusals b limits.watches (length r.entries))) i) stands
 
-  pub goes_enospc : (n caller : ℕ) → is_refused_op args.op args.mask.0 ≡ false → list_any (has_key named.instance args.fd named.desc) r.entries ≡ false → limits.watches ≤ length r.entries → Goes (ctl_refusals limits s p args.epfd.0 args.op args.fd.0 args.mask.0) (call_change limits s caller p (control_call args) []) s (Refused Enospc) [] (record { tables = v; interest = r })
+  pub goes_enospc : (n caller : ℕ) → is_refused_op args.op args.mask.0 ≡ false → list_any (has_key named.instance args.fd named.desc) r.entries ≡ false → limits.watches ≤ length r.entries → Goes (ctl_refusals limits s p args.epfd.0 args.op args.fd.0 args.mask.0) (call_change limits s caller p (control_call args) []) s (Refused Enospc) [] (record { tables = v; interest = r; now = now })
   goes_enospc n caller h i le =
       let t : nat_le limits.watches (length r.entries) ≡ true = grind (arith, nat_tests, le) in
       goes_refused refusals (change caller) s _ Enospc (left_to_refuse h ∙ (ap (λ (b : Bool). first (room_refusals b limits.watches (length r.entries))) i ∙ ap (λ (b : Bool). first ((b, Enospc) ∷ [])) t)) stands
@@ -180,7 +180,7 @@ module _ (limits : Limits) (v : Seen) (r : Registrations) (s : State) (p : ℕ) 
         let P : List Entry → Type 0 = λ xs. All (IsLinked v.keys) xs in
         subst P (sym entries) (All-append (IsLinked v.keys) r.entries _ linked (All-cons (IsLinked v.keys) _ [] one (All-nil (IsLinked v.keys))))
 
-    pub goes_done : (n caller : ℕ) → is_refused_op args.op args.mask.0 ≡ false → list_any (has_key named.instance args.fd named.desc) r.entries ≡ false → length r.entries < limits.watches → Goes (ctl_refusals limits s p args.epfd.0 args.op args.fd.0 args.mask.0) (call_change limits s caller p (control_call args) []) s Done [] (record { tables = v; interest = new })
+    pub goes_done : (n caller : ℕ) → is_refused_op args.op args.mask.0 ≡ false → list_any (has_key named.instance args.fd named.desc) r.entries ≡ false → length r.entries < limits.watches → Goes (ctl_refusals limits s p args.epfd.0 args.op args.fd.0 args.mask.0) (call_change limits s caller p (control_call args) []) s Done [] (record { tables = v; interest = new; now = now })
     goes_done n caller h i lt =
         let t : nat_le limits.watches (length r.entries) ≡ false = grind (arith, nat_tests, lt) in
         let e = named_by s.files p args.epfd.0 in
@@ -193,6 +193,7 @@ module _ (limits : Limits) (v : Seen) (r : Registrations) (s : State) (p : ℕ) 
           is = ap (λ (b : Bool). Some (if b then add s e (number_in args.fd.0) d args.mask.0 args.tag else if is_del args.op then delete s e (number_in args.fd.0) d else modify s e (number_in args.fd.0) d args.mask.0 args.tag)) a;
           answers = refl;
           stands = record {
+            now = stands.now;
             files = stands.files;
             watches =
                 map-append kept_of s.watches (new_watch s e (number_in args.fd.0) d args.mask.0 args.tag ∷ [])

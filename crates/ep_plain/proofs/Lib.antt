@@ -2,7 +2,7 @@ pub mod Controlling
 pub mod Going
 pub mod Keys
 pub mod Linking
-pub mod Transferring
+pub mod ObjectCalling
 pub mod Waiting
 pub mod Choosing
 pub mod Reported

@@ -38,15 +38,15 @@ there_linked v instance desc fd sound hi hd hf (x ∷ xs) linked =
     let c = same_keys v x.desc desc sound link.desc hd in
     let rest = there_linked v instance desc fd sound hi hd hf xs (All-tail (IsLinked v.keys) x xs linked) in cc
 
-pub there_is : (v : Seen) (r : Registrations) (s : State) (instance desc : DescId) (fd : ℤ) → Sound v → Stands v r s → AreLinked v r → IsSome (number_under v instance) → IsSome (number_under v desc) → fd ≡ pos (number_in fd)
+pub there_is : (v : Seen) (r : Registrations) (now : ℕ) (s : State) (instance desc : DescId) (fd : ℤ) → Sound v → Stands v r now s → AreLinked v r → IsSome (number_under v instance) → IsSome (number_under v desc) → fd ≡ pos (number_in fd)
     → is_there s (number_at v.keys instance) (number_in fd) (number_at v.keys desc) ≡ list_any (has_key instance (record { 0 = fd }) desc) r.entries
-there_is v r s instance desc fd sound h linked hi hd hf =
+there_is v r now s instance desc fd sound h linked hi hd hf =
     let f = list_any (has_numbers (number_at v.keys instance) (number_in fd) (number_at v.keys desc)) in
     sym (there_kept _ _ _ s.watches) ∙ (ap f h.watches ∙ there_linked v instance desc fd sound hi hd hf r.entries linked)
 
 -- as many registrations
-pub count_is : (v : Seen) (r : Registrations) (s : State) → Stands v r s → length s.watches ≡ length r.entries
-count_is v r s h = sym (length-map s.watches kept_of) ∙ (ap (λ (xs : List Watch). length xs) h.watches ∙ length-map r.entries (watch_at v.keys))
+pub count_is : (v : Seen) (r : Registrations) (now : ℕ) (s : State) → Stands v r now s → length s.watches ≡ length r.entries
+count_is v r now s h = sym (length-map s.watches kept_of) ∙ (ap (λ (xs : List Watch). length xs) h.watches ∙ length-map r.entries (watch_at v.keys))
 
 watches_kept : (old new : Seen) → KeepsKeys old new → (xs : List Entry) → All (IsLinked old.keys) xs → map (watch_at new.keys) xs ≡ map (watch_at old.keys) xs
 watches_kept old new keeps [] linked = refl
@@ -64,8 +64,9 @@ pub linked_kept : (old new : Seen) (r : Registrations) → KeepsKeys old new →
 linked_kept old new r keeps h = λ k d lt. link_kept old new keeps _ (h k d lt)
 
 -- a call on the tables that keeps each key keeps the registrations
-pub stands_kept : (old new : Seen) (r : Registrations) (s t : State) → KeepsKeys old new → AreLinked old r → Stands old r s → t.files ≡ new.files → t.watches ≡ s.watches → t.added ≡ s.added → Stands new r t
-stands_kept old new r s t keeps linked h files watches added = record {
+pub stands_kept : (old new : Seen) (r : Registrations) (now : ℕ) (s t : State) → KeepsKeys old new → AreLinked old r → Stands old r now s → t.now ≡ s.now → t.files ≡ new.files → t.watches ≡ s.watches → t.added ≡ s.added → Stands new r now t
+stands_kept old new r now s t keeps linked h clock files watches added = record {
+  now = clock ∙ h.now;
   files = files;
   watches = ap kept_all watches ∙ (h.watches ∙ sym (watches_kept old new keeps r.entries linked));
   added = added ∙ h.added;

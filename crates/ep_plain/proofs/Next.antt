@@ -7,6 +7,7 @@ use Rattle.ep_base.specs.declared.call.Event.{Event}
 use Rattle.ep_base.specs.declared.ids.CallerId.{CallerId}
 use Rattle.ep_base.specs.declared.record.Record.{Record}
 use Rattle.ep_machine.specs.Run.{run}
+use Rattle.ep_machine.specs.Timer.{last_moment}
 use Rattle.ep_machine.specs.State.{State, opening}
 use Rattle.ep_machine.specs.Step.{step}
 use Rattle.ep_machine.proofs.Stepping.{run_next}
@@ -24,12 +25,12 @@ record_of caller event answer picked = record { caller = caller; event = event; 
 module _ (old new : Inside) (standing : IsStanding old) (caller : CallerId) (event : Event) (answer : Answer) (picked : List ℕ)
     (limits : new.limits ≡ old.limits) (kept : new.tables.limits ≡ old.tables.limits)
     (history : new.history.items ≡ old.history.items ++ record_of caller event answer picked ∷ [])
-    (moves : (who : ℕ) → Moves old.limits (length old.history.items + 1) who event answer picked (record { tables = old.tables; interest = old.interest }) (record { tables = new.tables; interest = new.interest }))
-    (linked : AreLinked new.tables new.interest) (grows : Grows old.tables.files new.tables.files) (added : new.interest.added ≤ old.interest.added + 1) where
-  next : Leads old.limits standing.state caller.0 event answer picked (record { tables = new.tables; interest = new.interest })
+    (moves : (who : ℕ) → Moves old.limits (length old.history.items + 1) who event answer picked (record { tables = old.tables; interest = old.interest; now = old.now }) (record { tables = new.tables; interest = new.interest; now = new.now }))
+    (linked : AreLinked new.tables new.interest) (grows : Grows old.tables.files new.tables.files) (added : new.interest.added ≤ old.interest.added + 1) (clock : new.now ≤ last_moment) where
+  next : Leads old.limits standing.state caller.0 event answer picked (record { tables = new.tables; interest = new.interest; now = new.now })
   next =
-      leads old.limits standing.state caller.0 event answer picked (record { tables = new.tables; interest = new.interest }) standing.sound standing.quiet (record { tables = old.tables; interest = old.interest }) standing.stands
-      (subst (λ (n : ℕ). Moves old.limits (n + 1) caller.0 event answer picked (record { tables = old.tables; interest = old.interest }) (record { tables = new.tables; interest = new.interest })) (sym standing.n) (moves caller.0))
+      leads old.limits standing.state caller.0 event answer picked (record { tables = new.tables; interest = new.interest; now = new.now }) standing.sound standing.quiet (record { tables = old.tables; interest = old.interest; now = old.now }) standing.stands
+      (subst (λ (n : ℕ). Moves old.limits (n + 1) caller.0 event answer picked (record { tables = old.tables; interest = old.interest; now = old.now }) (record { tables = new.tables; interest = new.interest; now = new.now })) (sym standing.n) (moves caller.0))
 
   leads_on : run old.limits opening new.history.items ≡ Some next.to
   leads_on = ap (λ (rs : List Record). run old.limits opening rs) history ∙ run_next old.limits standing.state next.to old.history.items (record_of caller event answer picked) standing.leads next.goes
@@ -44,6 +45,7 @@ module _ (old new : Inside) (standing : IsStanding old) (caller : CallerId) (eve
     n = next.n ∙ (ap (λ (n : ℕ). n + 1) standing.n ∙ sym length_is);
     sound = next.sound;
     quiet = next.quiet;
+    clock = clock;
     stands = next.stands;
     linked = linked;
     limits = kept ∙ (standing.limits ∙ sym limits);

@@ -39,24 +39,24 @@ use Rattle.ep_plain.proofs.Waiting.{entries_in}
 use Rattle.ep_table.specs.Value.{Seen, Sound as SoundTables, number_under}
 
 -- what the machine scans is what the interest set gives
-module _ (v : Seen) (instance : DescId) (sound : SoundTables v) (lives : IsSome (number_under v instance)) where
+module _ (v : Seen) (now : ℕ) (instance : DescId) (sound : SoundTables v) (lives : IsSome (number_under v instance)) where
   cond_map : (d : Bool) (x : Entry) (xs : List Entry) (ys : List Watch) → map (watch_at v.keys) xs ≡ ys → cond d (watch_at v.keys x ∷ ys) ys ≡ map (watch_at v.keys) (cond d (x ∷ xs) xs)
   cond_map true x xs ys h = ap (λ (zs : List Watch). watch_at v.keys x ∷ zs) (sym h)
   cond_map false x xs ys h = sym h
 
-  filter_twice : (b c : Bool) (x : Entry) (xs : List Entry) (ys : List Watch) → map (watch_at v.keys) (filter (entry_shows v) xs) ≡ ys
-      → c ≡ entry_shows v x → cond (b && c) (watch_at v.keys x ∷ ys) ys ≡ map (watch_at v.keys) (filter (entry_shows v) (cond b (x ∷ xs) xs))
-  filter_twice true c x xs ys h e = ap (λ (b : Bool). cond b (watch_at v.keys x ∷ ys) ys) e ∙ cond_map (entry_shows v x) x (filter (entry_shows v) xs) ys h
+  filter_twice : (b c : Bool) (x : Entry) (xs : List Entry) (ys : List Watch) → map (watch_at v.keys) (filter (entry_shows v now) xs) ≡ ys
+      → c ≡ entry_shows v now x → cond (b && c) (watch_at v.keys x ∷ ys) ys ≡ map (watch_at v.keys) (filter (entry_shows v now) (cond b (x ∷ xs) xs))
+  filter_twice true c x xs ys h e = ap (λ (b : Bool). cond b (watch_at v.keys x ∷ ys) ys) e ∙ cond_map (entry_shows v now x) x (filter (entry_shows v now) xs) ys h
   filter_twice false c x xs ys h e = sym h
 
-  pub scanned : (xs : List Entry) → All (IsLinked v.keys) xs → filter (shows_in v.files (number_at v.keys instance)) (map (watch_at v.keys) xs) ≡ map (watch_at v.keys) (filter (entry_shows v) (filter (is_of instance) xs))
+  pub scanned : (xs : List Entry) → All (IsLinked v.keys) xs → filter (shows_in v.files now (number_at v.keys instance)) (map (watch_at v.keys) xs) ≡ map (watch_at v.keys) (filter (entry_shows v now) (filter (is_of instance) xs))
   scanned [] h = refl
   scanned (x ∷ xs) h =
       let rest = scanned xs (All-tail (IsLinked v.keys) x xs h) in
       let link = All-head (IsLinked v.keys) x xs h in
       let same : (number_at v.keys x.instance == number_at v.keys instance) ≡ is_of instance x = same_keys v x.instance instance sound link.instance lives in
-      ap (λ (b : Bool). cond (b && entry_shows v x) (watch_at v.keys x ∷ filter (shows_in v.files (number_at v.keys instance)) (map (watch_at v.keys) xs)) (filter (shows_in v.files (number_at v.keys instance)) (map (watch_at v.keys) xs))) same
-      ∙ filter_twice (is_of instance x) (entry_shows v x) x (filter (is_of instance) xs) _ (sym rest) refl
+      ap (λ (b : Bool). cond (b && entry_shows v now x) (watch_at v.keys x ∷ filter (shows_in v.files now (number_at v.keys instance)) (map (watch_at v.keys) xs)) (filter (shows_in v.files now (number_at v.keys instance)) (map (watch_at v.keys) xs))) same
+      ∙ filter_twice (is_of instance x) (entry_shows v now x) x (filter (is_of instance) xs) _ (sym rest) refl
 
 get_rep : (keys : List (Option ℕ)) (xs : List Entry) → IsNonDecreasingBy (λ (x : Entry). x.rep) xs → IsNonDecreasingBy (λ (x : Watch). x.rep) (map (watch_at keys) xs)
 get_rep keys xs h = λ i j d le lt.
@@ -69,11 +69,11 @@ numbers_are : (keys : List (Option ℕ)) (xs : List Reportable) → numbers (map
 numbers_are keys [] = refl
 numbers_are keys (x ∷ xs) = ap (λ (ks : List ℕ). x.entry.number ∷ ks) (numbers_are keys xs)
 
-reports_are : (v : Seen) (r : Registrations) (xs : List Reportable) → AreKeyed v r xs → map (report_at v.files) (map (watch_at v.keys) (entries_in xs)) ≡ map report_of xs
-reports_are v r [] h = refl
-reports_are v r (x ∷ xs) h =
-    let one = All-head (IsKeyed v r) x xs h in
-    let rest = reports_are v r xs (All-tail (IsKeyed v r) x xs h) in
+reports_are : (v : Seen) (now : ℕ) (r : Registrations) (xs : List Reportable) → AreKeyed v now r xs → map (report_at v.files now) (map (watch_at v.keys) (entries_in xs)) ≡ map report_of xs
+reports_are v now r [] h = refl
+reports_are v now r (x ∷ xs) h =
+    let one = All-head (IsKeyed v now r) x xs h in
+    let rest = reports_are v now r xs (All-tail (IsKeyed v now r) x xs h) in
     λ i. record { bits = record { 0 = sym one.bits i }; tag = x.entry.tag } ∷ rest i
 
 -- a registration that is armed is noted as the machine reports it
@@ -102,15 +102,15 @@ none_any : (p : Watch → Bool) (xs : List Watch) → list_any p xs ≡ false �
 none_any p [] h = refl
 none_any p (x ∷ xs) h = elim (p x) as (λ b. (b || list_any p xs) ≡ false → cond b (x ∷ filter p xs) (filter p xs) ≡ []) [ true ↦ λ e. absurd (false≢true (sym e)) | false ↦ λ e. none_any p xs e ] h
 
-module _ (v : Seen) (r new : Registrations) (s : State) (n : ℕ) (instance : DescId) (most : ℕ) (chosen : List Reportable)
-    (at : s.n ≡ n) (steady : Sound s) (quiet : Quiet s) (stands : Stands v r s) (linked : AreLinked v r)
-    (sound : SoundTables v) (lives : IsSome (number_under v instance)) (is : IsChosen v r instance most chosen)
+module _ (v : Seen) (now : ℕ) (r new : Registrations) (s : State) (n : ℕ) (instance : DescId) (most : ℕ) (chosen : List Reportable)
+    (at : s.n ≡ n) (steady : Sound s) (quiet : Quiet s) (stands : Stands v r now s) (linked : AreLinked v r)
+    (sound : SoundTables v) (lives : IsSome (number_under v instance)) (is : IsChosen v now r instance most chosen)
     (entries : new.entries ≡ map (noted_in n (numbers_of chosen)) r.entries) (added : new.added ≡ r.added) where
   abbrev e : ℕ
   e = number_at v.keys instance
 
-  scan : filter (shows_in s.files e) (kept_all s.watches) ≡ map (watch_at v.keys) (filter (entry_shows v) (filter (is_of instance) r.entries))
-  scan = (λ i. filter (shows_in (stands.files i) e) (stands.watches i)) ∙ scanned v instance sound lives r.entries linked
+  scan : filter (shows_in s.files s.now e) (kept_all s.watches) ≡ map (watch_at v.keys) (filter (entry_shows v now) (filter (is_of instance) r.entries))
+  scan = (λ i. filter (shows_in (stands.files i) (stands.now i) e) (stands.watches i)) ∙ scanned v now instance sound lives r.entries linked
 
   abbrev found : List Watch
   found = map (watch_at v.keys) is.found
@@ -118,7 +118,7 @@ module _ (v : Seen) (r new : Registrations) (s : State) (n : ℕ) (instance : De
   told : take most found ≡ map (watch_at v.keys) (entries_in chosen)
   told = take-map (watch_at v.keys) most is.found ∙ ap (map (watch_at v.keys)) (sym is.taken)
 
-  moved : IsPermutation (filter (shows_in s.files e) (kept_all s.watches)) found
+  moved : IsPermutation (filter (shows_in s.files s.now e) (kept_all s.watches)) found
   moved = subst (λ (xs : List Watch). IsPermutation xs found) (sym scan) (IsPermutation-map (watch_at v.keys) _ is.found is.moved)
 
   -- the report of the machine that picks these
@@ -126,11 +126,12 @@ module _ (v : Seen) (r new : Registrations) (s : State) (n : ℕ) (instance : De
   reports =
       let P : List ℕ → List Report → Type 0 = λ ks rs. report s e most ks ≡ Some (Events rs, record s { watches = map (reported s ks) s.watches }, []) in
       let ks : numbers (take most found) ≡ numbers_of chosen = ap numbers told ∙ numbers_are v.keys chosen in
-      let rs : map (report_at s.files) (take most found) ≡ map report_of chosen = (λ i. map (report_at (stands.files i)) (told i)) ∙ reports_are v r chosen is.keyed in
+      let rs : map (report_at s.files s.now) (take most found) ≡ map report_of chosen = (λ i. map (report_at (stands.files i) (stands.now i)) (told i)) ∙ reports_are v now r chosen is.keyed in
       subst (λ (xs : List ℕ). P xs (map report_of chosen)) ks (subst (λ (ys : List Report). P (numbers (take most found)) ys) rs (report_kept s e most found steady quiet moved (get_rep v.keys is.found is.sorted)))
 
-  after : Stands v new (record s { watches = map (reported s (numbers_of chosen)) s.watches })
+  after : Stands v new now (record s { watches = map (reported s (numbers_of chosen)) s.watches })
   after = record {
+    now = stands.now;
     files = stands.files;
     watches =
         reported_kept s (numbers_of chosen) quiet
@@ -141,8 +142,8 @@ module _ (v : Seen) (r new : Registrations) (s : State) (n : ℕ) (instance : De
 
   quiet_found : is_ready s e ≡ false → chosen ≡ []
   quiet_found h =
-      let none : filter (shows_in s.files e) (kept_all s.watches) ≡ [] = none_any (shows_in s.files e) (kept_all s.watches) (sym (ready_kept s e quiet) ∙ h) in
-      let same : length found ≡ 0 = length_permutation (filter (shows_in s.files e) (kept_all s.watches)) found moved ∙ ap (λ (xs : List Watch). length xs) none in
+      let none : filter (shows_in s.files s.now e) (kept_all s.watches) ≡ [] = none_any (shows_in s.files s.now e) (kept_all s.watches) (sym (ready_kept s e quiet) ∙ h) in
+      let same : length found ≡ 0 = length_permutation (filter (shows_in s.files s.now e) (kept_all s.watches)) found moved ∙ ap (λ (xs : List Watch). length xs) none in
       let few : length (map (watch_at v.keys) (entries_in chosen)) ≡ min most (length found) = ap (λ (xs : List Watch). length xs) (sym told) ∙ length-take most found in
       nil_from_length chosen (omega (arith, same, few, length-map (entries_in chosen) (watch_at v.keys), length-map chosen (λ (x : Reportable). x.entry)))
 
@@ -151,7 +152,7 @@ module _ (v : Seen) (r new : Registrations) (s : State) (n : ℕ) (instance : De
   zero_waits caller p (pos (suc k)) h = absurd (false≢true h)
   zero_waits caller p (negsuc k) h = absurd (false≢true h)
 
-  pub waited : (caller p : ℕ) (timeout : ℤ) → is_zero timeout ≡ true → Makes (wait s caller p e most timeout (numbers_of chosen)) (Events (map report_of chosen)) (record { tables = v; interest = new })
+  pub waited : (caller p : ℕ) (timeout : ℤ) → is_zero timeout ≡ true → Makes (wait s caller p e most timeout (numbers_of chosen)) (Events (map report_of chosen)) (record { tables = v; interest = new; now = now })
   waited caller p timeout zero_timeout = elim (cases_Bool (is_ready s e)) [
     | inl ready ↦ record {
       made = (Events (map report_of chosen), record s { watches = map (reported s (numbers_of chosen)) s.watches }, []);
@@ -168,6 +169,7 @@ module _ (v : Seen) (r new : Registrations) (s : State) (n : ℕ) (instance : De
               ∙ ap (λ (c : Change). Some c) (zero_waits caller p timeout zero_timeout));
           answers = ap (λ (xs : List Reportable). Events (map report_of xs)) (sym none);
           stands = record {
+            now = stands.now;
             files = stands.files;
             watches = stands.watches ∙ ap (map (watch_at v.keys)) (sym (entries ∙ (ap (λ (xs : List Reportable). map (noted_in n (numbers_of xs)) r.entries) none ∙ noted_none n r.entries)));
             added = stands.added ∙ sym added;

@@ -7,9 +7,9 @@ use Rattle.ep_base.specs.Limits.{Limits}
 use Rattle.ep_base.specs.declared.answer.Answer.{Answer}
 use Rattle.ep_base.specs.declared.answer.Answer.TheVariants.{Refused}
 use Rattle.ep_base.specs.declared.call.Call.{Call}
-use Rattle.ep_base.specs.declared.call.Call.TheVariants.{EpollCreate, EpollCtl, EpollWait, Pipe as PipeCall, Read, Write}
+use Rattle.ep_base.specs.declared.call.Call.TheVariants.{EpollCreate, EpollCtl, EpollWait, EventFd, GetTime, Pipe as PipeCall, Plain, Read, SetTime, Shutdown, SocketPair, TimerFd, Write}
 use Rattle.ep_base.specs.declared.call.Event.{Event}
-use Rattle.ep_base.specs.declared.call.Event.TheVariants.{Call as CallOf}
+use Rattle.ep_base.specs.declared.call.Event.TheVariants.{Call as CallOf, Tick}
 use Rattle.ep_base.specs.declared.errno.Errno.{Errno}
 use Rattle.ep_base.specs.declared.ids.CallerId.{CallerId}
 use Rattle.ep_base.specs.declared.record.Record.{Record}
@@ -69,6 +69,10 @@ wait_for_n s caller p e most (negsuc k) = refl
 
 change_n : (limits : Limits) (s : State) (caller : ℕ) (event : Event) (ks : List ℕ) → Keeps s.n (change limits s caller event ks)
 change_n limits s caller (CallOf p (PipeCall cloexec)) ks = keeps_plainly s.n ks _ refl
+change_n limits s caller (CallOf p (EventFd init semaphore cloexec)) ks = keeps_plainly s.n ks _ refl
+change_n limits s caller (CallOf p (TimerFd clock cloexec)) ks = keeps_plainly s.n ks _ refl
+change_n limits s caller (CallOf p (SocketPair cloexec)) ks = keeps_plainly s.n ks _ refl
+change_n limits s caller (CallOf p (Plain cloexec)) ks = keeps_plainly s.n ks _ refl
 change_n limits s caller (CallOf p (EpollCreate cloexec)) ks = keeps_plainly s.n ks _ refl
 change_n limits s caller (CallOf p (EpollCtl epfd op fd mask tag)) ks = keeps_plainly s.n ks _ (same_if s.n (is_add op) (is_del op) _ _ _ refl refl refl)
 change_n limits s caller (CallOf p (EpollWait epfd most timeout)) ks =
@@ -78,6 +82,10 @@ change_n limits s caller (CallOf p (EpollWait epfd most timeout)) ks =
     (keeps_plainly s.n ks _ (wait_for_n s caller p.0 e (number_in most) timeout))
 change_n limits s caller (CallOf p (Read fd n)) ks = keeps_plainly s.n ks _ refl
 change_n limits s caller (CallOf p (Write fd bytes)) ks = keeps_plainly s.n ks _ refl
+change_n limits s caller (CallOf p (Shutdown fd)) ks = keeps_plainly s.n ks _ refl
+change_n limits s caller (CallOf p (SetTime fd absolute value interval)) ks = keeps_plainly s.n ks _ refl
+change_n limits s caller (CallOf p (GetTime fd)) ks = keeps_plainly s.n ks _ refl
+change_n limits s caller (Tick k) ks = keeps_plainly s.n ks _ refl
 
 settle_n : (before after : State) (raised : List (ℕ × ℕ)) → (settle before after raised).n ≡ after.n
 settle_n before after raised = refl
@@ -115,7 +123,7 @@ module _ (limits : Limits) (s : State) (caller : ℕ) (event : Event) (answer : 
         n = settle_n (begun s) m.made.1 m.made.2 ∙ change_n limits (begun s) caller event picked m.made m.is;
         sound = sound_step limits s t caller event picked answer sound goes;
         quiet = quiet_step limits s t caller event picked answer quiet goes;
-        stands = record { files = same.files ∙ m.stands.files; watches = same.watches ∙ m.stands.watches; added = same.added ∙ m.stands.added };
+        stands = record { now = same.now ∙ m.stands.now; files = same.files ∙ m.stands.files; watches = same.watches ∙ m.stands.watches; added = same.added ∙ m.stands.added };
       }
 
   by_cases : (o : Option Errno) → first (refusals limits (begun s) caller event) ≡ o → MatchOption o (Makes (change limits (begun s) caller event picked) answer new) (λ e. Refuses (begun s) e answer picked new) → Leads limits s caller event answer picked new
@@ -124,5 +132,5 @@ module _ (limits : Limits) (s : State) (caller : ℕ) (event : Event) (answer : 
 
   pub leads : (old : Parts) → StandFor old s → Moves limits (s.n + 1) caller event answer picked old new → Leads limits s caller event answer picked new
   leads old stands moves =
-      let there : StandFor old (begun s) = record { files = stands.files; watches = stands.watches; added = stands.added } in
+      let there : StandFor old (begun s) = record { now = stands.now; files = stands.files; watches = stands.watches; added = stands.added } in
       by_cases (first (refusals limits (begun s) caller event)) refl (moves (begun s) refl (sound_begun s sound) (quiet_begun s quiet) there)

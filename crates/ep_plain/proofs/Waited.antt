@@ -40,16 +40,16 @@ module _ (v : Seen) (p : ℕ) (args : Wait) (instance : DescId) (waits : Waits v
   pub positive : is_positive args.max ≡ true
   positive = both.0
 
-  module _ (old new : Registrations) (n : ℕ) (answer : Answer) (picked : List ℕ) (is : Reports v old new n instance (number_in args.max) answer picked) (linked : AreLinked v old) where
+  module _ (now : ℕ) (old new : Registrations) (n : ℕ) (answer : Answer) (picked : List ℕ) (is : Reports v now old new n instance (number_in args.max) answer picked) (linked : AreLinked v old) where
     pub still_linked : AreLinked v new
     still_linked = subst (λ (xs : List Entry). All (IsLinked v.keys) xs) (sym is.entries) (linked_noted v.keys n (numbers_of is.chosen) old.entries linked)
 
-    pub goes_reported : (caller : ℕ) (s : State) → s.n ≡ n → Sound s → Quiet s → Stands v old s → SoundTables v
-        → Goes (wait_refusals s p args.epfd.0 args.max args.timeout) (wait s caller p (named_by s.files p args.epfd.0) (number_in args.max) args.timeout picked) s answer picked (record { tables = v; interest = new })
+    pub goes_reported : (caller : ℕ) (s : State) → s.n ≡ n → Sound s → Quiet s → Stands v old now s → SoundTables v
+        → Goes (wait_refusals s p args.epfd.0 args.max args.timeout) (wait s caller p (named_by s.files p args.epfd.0) (number_in args.max) args.timeout picked) s answer picked (record { tables = v; interest = new; now = now })
     goes_reported caller s at steady quiet stands sound =
         let e : named_by s.files p args.epfd.0 ≡ number_at v.keys instance = ap (λ (f : Files). named_by f p args.epfd.0) stands.files ∙ ap (λ (o : Option ℕ). unwrap_or o 0) (sym waits.named) in
-        let made = waited v old new s n instance (number_in args.max) is.chosen at steady quiet stands linked sound waits.lives is.is_chosen is.entries is.added caller p args.timeout both.1 in
-        let P : ℕ → List ℕ → Answer → Type 0 = λ d ks a. Makes (wait s caller p d (number_in args.max) args.timeout ks) a (record { tables = v; interest = new }) in
-        goes_made (wait_refusals s p args.epfd.0 args.max args.timeout) (wait s caller p (named_by s.files p args.epfd.0) (number_in args.max) args.timeout picked) s answer picked (record { tables = v; interest = new })
+        let made = waited v now old new s n instance (number_in args.max) is.chosen at steady quiet stands linked sound waits.lives is.is_chosen is.entries is.added caller p args.timeout both.1 in
+        let P : ℕ → List ℕ → Answer → Type 0 = λ d ks a. Makes (wait s caller p d (number_in args.max) args.timeout ks) a (record { tables = v; interest = new; now = now }) in
+        goes_made (wait_refusals s p args.epfd.0 args.max args.timeout) (wait s caller p (named_by s.files p args.epfd.0) (number_in args.max) args.timeout picked) s answer picked (record { tables = v; interest = new; now = now })
         (ap (λ (f : Files). first (wait_tests f p args)) stands.files ∙ waits.accepted)
         (subst (λ (d : ℕ). P d picked answer) (sym e) (subst (λ (ks : List ℕ). P (number_at v.keys instance) ks answer) (sym is.picks) (subst (P (number_at v.keys instance) (numbers_of is.chosen)) (sym is.answers) made)))

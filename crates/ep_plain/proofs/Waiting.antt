@@ -19,48 +19,48 @@ abbrev pub entries_in : List Reportable → List Entry
 entries_in xs = map (λ x. x.entry) xs
 
 -- what a collection has gone through, and what it still has to
-pub record Collects (tables : Seen) (interest : Registrations) (found : List Reportable) (rest : List (EntryId × Entry)) (all : List Entry) : Type 0 where
-  pub told : entries_in found ++ filter (entry_shows tables) (entries_of rest) ≡ all
-  pub keyed : AreKeyed tables interest found
+pub record Collects (tables : Seen) (now : ℕ) (interest : Registrations) (found : List Reportable) (rest : List (EntryId × Entry)) (all : List Entry) : Type 0 where
+  pub told : entries_in found ++ filter (entry_shows tables now) (entries_of rest) ≡ all
+  pub keyed : AreKeyed tables now interest found
   pub rest_keyed : All (λ p. number_of_entry interest p.0 ≡ Some p.1.number) rest
   pub rest_linked : All (IsLinked tables.keys) (entries_of rest)
 
-module _ (tables : Seen) (interest : Registrations) where
+module _ (tables : Seen) (now : ℕ) (interest : Registrations) where
   pub begins : (rest : List (EntryId × Entry)) (of : List Entry) → entries_of rest ≡ of → All (λ p. number_of_entry interest p.0 ≡ Some p.1.number) rest → All (IsLinked tables.keys) of
-      → Collects tables interest [] rest (filter (entry_shows tables) of)
+      → Collects tables now interest [] rest (filter (entry_shows tables now) of)
   begins rest of is keyed linked = record {
-    told = ap (λ (xs : List Entry). filter (entry_shows tables) xs) is;
-    keyed = All-nil (IsKeyed tables interest);
+    told = ap (λ (xs : List Entry). filter (entry_shows tables now) xs) is;
+    keyed = All-nil (IsKeyed tables now interest);
     rest_keyed = keyed;
     rest_linked = subst (λ (xs : List Entry). All (IsLinked tables.keys) xs) (sym is) linked;
   }
 
-  module _ (found : List Reportable) (id : EntryId) (x : Entry) (rest : List (EntryId × Entry)) (all : List Entry) (c : Collects tables interest found ((id, x) ∷ rest) all) where
+  module _ (found : List Reportable) (id : EntryId) (x : Entry) (rest : List (EntryId × Entry)) (all : List Entry) (c : Collects tables now interest found ((id, x) ∷ rest) all) where
     pub first_linked : IsLinked tables.keys x
     first_linked = All-head (IsLinked tables.keys) x (entries_of rest) c.rest_linked
 
     key : number_of_entry interest id ≡ Some x.number
     key = All-head (λ (p : EntryId × Entry). number_of_entry interest p.0 ≡ Some p.1.number) (id, x) rest c.rest_keyed
 
-    pub collects_more : (r : Reportable) → r.id ≡ id → r.entry ≡ x → r.bits.0 ≡ entry_bits tables x → entry_shows tables x ≡ true → Collects tables interest (found ++ r ∷ []) rest all
+    pub collects_more : (r : Reportable) → r.id ≡ id → r.entry ≡ x → r.bits.0 ≡ entry_bits tables now x → entry_shows tables now x ≡ true → Collects tables now interest (found ++ r ∷ []) rest all
     collects_more r same_id same bits shows = record {
       told =
-          ap (λ (xs : List Entry). xs ++ filter (entry_shows tables) (entries_of rest)) (map-append (λ (y : Reportable). y.entry) found (r ∷ []))
-          ∙ (append_assoc (entries_in found) (r.entry ∷ []) (filter (entry_shows tables) (entries_of rest))
-          ∙ (ap (λ (y : Entry). entries_in found ++ y ∷ filter (entry_shows tables) (entries_of rest)) same
-          ∙ (ap (λ (b : Bool). entries_in found ++ cond b (x ∷ filter (entry_shows tables) (entries_of rest)) (filter (entry_shows tables) (entries_of rest))) (sym shows) ∙ c.told)));
+          ap (λ (xs : List Entry). xs ++ filter (entry_shows tables now) (entries_of rest)) (map-append (λ (y : Reportable). y.entry) found (r ∷ []))
+          ∙ (append_assoc (entries_in found) (r.entry ∷ []) (filter (entry_shows tables now) (entries_of rest))
+          ∙ (ap (λ (y : Entry). entries_in found ++ y ∷ filter (entry_shows tables now) (entries_of rest)) same
+          ∙ (ap (λ (b : Bool). entries_in found ++ cond b (x ∷ filter (entry_shows tables now) (entries_of rest)) (filter (entry_shows tables now) (entries_of rest))) (sym shows) ∙ c.told)));
       keyed =
-          let one : IsKeyed tables interest r = record {
+          let one : IsKeyed tables now interest r = record {
             key = ap (λ (i : EntryId). number_of_entry interest i) same_id ∙ (key ∙ ap (λ (y : Entry). Some y.number) (sym same));
-            bits = bits ∙ ap (entry_bits tables) (sym same);
-          } in All-append (IsKeyed tables interest) found (r ∷ []) c.keyed (All-cons (IsKeyed tables interest) r [] one (All-nil (IsKeyed tables interest)));
+            bits = bits ∙ ap (entry_bits tables now) (sym same);
+          } in All-append (IsKeyed tables now interest) found (r ∷ []) c.keyed (All-cons (IsKeyed tables now interest) r [] one (All-nil (IsKeyed tables now interest)));
       rest_keyed = All-tail (λ (p : EntryId × Entry). number_of_entry interest p.0 ≡ Some p.1.number) (id, x) rest c.rest_keyed;
       rest_linked = All-tail (IsLinked tables.keys) x (entries_of rest) c.rest_linked;
     }
 
-    pub collects_same : entry_shows tables x ≡ false → Collects tables interest found rest all
+    pub collects_same : entry_shows tables now x ≡ false → Collects tables now interest found rest all
     collects_same hides = record {
-      told = ap (λ (b : Bool). entries_in found ++ cond b (x ∷ filter (entry_shows tables) (entries_of rest)) (filter (entry_shows tables) (entries_of rest))) (sym hides) ∙ c.told;
+      told = ap (λ (b : Bool). entries_in found ++ cond b (x ∷ filter (entry_shows tables now) (entries_of rest)) (filter (entry_shows tables now) (entries_of rest))) (sym hides) ∙ c.told;
       keyed = c.keyed;
       rest_keyed = All-tail (λ (p : EntryId × Entry). number_of_entry interest p.0 ≡ Some p.1.number) (id, x) rest c.rest_keyed;
       rest_linked = All-tail (IsLinked tables.keys) x (entries_of rest) c.rest_linked;

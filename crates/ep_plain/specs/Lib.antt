@@ -3,7 +3,8 @@ pub mod Stands
 pub mod Moves
 pub mod Book
 pub mod Control
-pub mod Transfer
+pub mod Clock
+pub mod ObjectCall
 pub mod Wait
 pub mod Reports
 pub mod Standing

@@ -17,13 +17,14 @@ use Rattle.ep_interest.specs.Registrations.{Registrations}
 use Rattle.ep_plain.specs.Stands.{AreLinked, KeepsKeys, Stands}
 use Rattle.ep_table.specs.Value.{Seen}
 
--- what an event leaves: the two parts
+-- what an event leaves: the tables, the interest sets and the clock
 pub record Parts : Type 0 where
   pub tables : Seen
   pub interest : Registrations
+  pub now : ℕ
 
 abbrev pub StandFor : Parts → State → Type 0
-StandFor p s = Stands p.tables p.interest s
+StandFor p s = Stands p.tables p.interest p.now s
 
 -- the machine makes this change, with this answer, to a state for which the parts stand
 pub record Makes (o : Option Change) (answer : Answer) (new : Parts) : Type 0 where

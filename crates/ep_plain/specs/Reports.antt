@@ -9,9 +9,9 @@ use Rattle.ep_plain.specs.declared.wait.Reportable.{Reportable}
 use Rattle.ep_table.specs.Value.{Seen}
 
 -- it reports what was chosen, and notes that it did
-pub record Reports (tables : Seen) (old new : Registrations) (step : ℕ) (instance : DescId) (most : ℕ) (answer : Answer) (picked : List ℕ) : Type 0 where
+pub record Reports (tables : Seen) (now : ℕ) (old new : Registrations) (step : ℕ) (instance : DescId) (most : ℕ) (answer : Answer) (picked : List ℕ) : Type 0 where
   pub chosen : List Reportable
-  pub is_chosen : IsChosen tables old instance most chosen
+  pub is_chosen : IsChosen tables now old instance most chosen
   pub answers : answer ≡ Events (map report_of chosen)
   pub picks : picked ≡ numbers_of chosen
   pub entries : new.entries ≡ map (noted_in step (numbers_of chosen)) old.entries

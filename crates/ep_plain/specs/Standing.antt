@@ -3,6 +3,7 @@ use Rattle.std.specs.Prelude.{◌≡◌, ◌*◌, ◌+◌, ◌≤◌, Some, leng
 use Rattle.ep_machine.specs.Quiet.{Quiet}
 use Rattle.ep_machine.specs.Run.{run}
 use Rattle.ep_machine.specs.Sound.{Sound}
+use Rattle.ep_machine.specs.Timer.{last_moment}
 use Rattle.ep_machine.specs.State.{State, opening}
 use Rattle.ep_plain.specs.Book.{Book}
 use Rattle.ep_plain.specs.Stands.{AreLinked, Stands}
@@ -18,7 +19,8 @@ pub record IsStanding (k : Inside) : Type 0 where
   pub n : state.n ≡ length k.history.items
   pub sound : Sound state
   pub quiet : Quiet state
-  pub stands : Stands k.tables k.interest state
+  pub clock : k.now ≤ last_moment
+  pub stands : Stands k.tables k.interest k.now state
   pub linked : AreLinked k.tables k.interest
   pub limits : k.tables.limits ≡ k.limits
   pub added : k.interest.added ≤ length k.history.items

@@ -26,14 +26,15 @@ pub record IsLinked (keys : List (Option ℕ)) (x : Entry) : Type 0 where
 abbrev pub AreLinked : Seen → Registrations → Type 0
 AreLinked tables interest = All (IsLinked tables.keys) interest.entries
 
-pub record Stands (tables : Seen) (interest : Registrations) (s : State) : Type 0 where
+pub record Stands (tables : Seen) (interest : Registrations) (clock : ℕ) (s : State) : Type 0 where
+  pub now : s.now ≡ clock
   pub files : s.files ≡ tables.files
   pub watches : kept_all s.watches ≡ map (watch_at tables.keys) interest.entries
   pub added : s.added ≡ interest.added
 
 -- one of the states that these parts stand for
-abbrev pub state_at : Seen → Registrations → State
-state_at tables interest = record { n = 0; now = 0; files = tables.files; arrivals = []; watches = map (watch_at tables.keys) interest.entries; added = interest.added; waiters = [] }
+abbrev pub state_at : Seen → Registrations → ℕ → State
+state_at tables interest now = record { n = 0; now = now; files = tables.files; arrivals = []; watches = map (watch_at tables.keys) interest.entries; added = interest.added; waiters = [] }
 
 -- each key keeps its number
 abbrev pub KeepsKeys : Seen → Seen → Type 0

@@ -38,27 +38,27 @@ pub record Waits (tables : Seen) (p : ℕ) (args : Wait) (desc : DescId) : Type 
   pub lives : IsSome (number_under tables desc)
 
 -- the bits that a registration shows
-abbrev pub entry_bits : Seen → Entry → ℕ
-entry_bits tables x = let d = number_of tables x.desc in asked x.mask.0 (object_present (content_of tables.files d) (side_of tables.files d) 0)
+abbrev pub entry_bits : Seen → ℕ → Entry → ℕ
+entry_bits tables now x = let d = number_of tables x.desc in asked x.mask.0 (object_present (content_of tables.files d) (side_of tables.files d) now)
 
-abbrev pub entry_shows : Seen → Entry → Bool
-entry_shows tables x = nat_lt 0 (entry_bits tables x)
+abbrev pub entry_shows : Seen → ℕ → Entry → Bool
+entry_shows tables now x = nat_lt 0 (entry_bits tables now x)
 
 -- it has the key of its registration and the bits that this shows
-pub record IsKeyed (tables : Seen) (interest : Registrations) (x : Reportable) : Type 0 where
+pub record IsKeyed (tables : Seen) (now : ℕ) (interest : Registrations) (x : Reportable) : Type 0 where
   pub key : number_of_entry interest x.id ≡ Some x.entry.number
-  pub bits : x.bits.0 ≡ entry_bits tables x.entry
+  pub bits : x.bits.0 ≡ entry_bits tables now x.entry
 
-abbrev pub AreKeyed : Seen → Registrations → List Reportable → Type 0
-AreKeyed tables interest xs = All (IsKeyed tables interest) xs
+abbrev pub AreKeyed : Seen → ℕ → Registrations → List Reportable → Type 0
+AreKeyed tables now interest xs = All (IsKeyed tables now interest) xs
 
 -- the longest unreported of those that show something, at most so many
-pub record IsChosen (tables : Seen) (interest : Registrations) (instance : DescId) (most : ℕ) (chosen : List Reportable) : Type 0 where
+pub record IsChosen (tables : Seen) (now : ℕ) (interest : Registrations) (instance : DescId) (most : ℕ) (chosen : List Reportable) : Type 0 where
   pub found : List Entry
-  pub moved : IsPermutation (filter (entry_shows tables) (filter (is_of instance) interest.entries)) found
+  pub moved : IsPermutation (filter (entry_shows tables now) (filter (is_of instance) interest.entries)) found
   pub sorted : IsNonDecreasingBy (λ x. x.rep) found
   pub taken : map (λ x. x.entry) chosen ≡ take most found
-  pub keyed : AreKeyed tables interest chosen
+  pub keyed : AreKeyed tables now interest chosen
 
 abbrev pub numbers_of : List Reportable → List ℕ
 numbers_of xs = map (λ x. x.entry.number) xs

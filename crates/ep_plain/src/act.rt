@@ -1,37 +1,42 @@
 //! One event.
 ghost use Rattle.std.specs.Prelude.{◌≡◌, ◌+◌, ◌<◌, ◌≤◌, ◌^◌, ℕ, IfOk, OnErr, false, is_some, length, true};
 ghost use Rattle.ep_machine.specs.Files.{table_of};
+ghost use Rattle.ep_machine.specs.Timer.{last_moment};
 ghost use Rattle.ep_plain.specs.Acts.{is_no_memory};
 ghost use Rattle.ep_plain.specs.Moves.{Grows, Moves, MovesCall};
 ghost use Rattle.ep_plain.specs.Stands.{AreLinked};
 
 use crate::acted::Acted;
+use crate::clock::tick;
 use crate::control::{Control, epoll_ctl};
-use crate::create::{create_instance, create_pipe};
-use crate::transfer::transfer;
+use crate::create::{create_pair, create_pipe, create_single, create_timer};
+use crate::object_call::object_call;
 use crate::wait::{Wait, epoll_wait};
 use ep_base::{Call, Errno, Event, Limits, Pid};
 use ep_interest::Interest;
+use ep_object::Object;
 use ep_table::Tables;
 use std::alloc::{AllocError, Global};
 
-/// A call of a process that is there.
+/// A call of a process that is there, at the moment `now`.
 fn act_call(
     alloc: Global,
     limits: &Limits,
     tables: &mut Tables,
     interest: &mut Interest,
+    now: u64,
     step: u64,
     pid: Pid,
     call: &Call,
 ) -> Result<Acted, AllocError>
     requires process { is_some (table_of tables.old.files pid.0) ≡ true }
     requires limits { tables.old.limits ≡ limits.now }
+    requires clock { now ≤ last_moment }
     requires linked { AreLinked tables.old interest.old }
     requires room { interest.old.added + 1 < 2 ^ 64 }
     requires descriptions { length tables.old.files.descriptions + 2 < 2 ^ 64 }
     requires objects { length tables.old.files.objects + 2 < 2 ^ 64 }
-    ensures ok { IfOk result (λ acted. (caller : ℕ) → MovesCall limits.now step caller pid.0 call.now acted.answer acted.picked (record { tables = tables.old; interest = interest.old }) (record { tables = tables.new; interest = interest.new })) }
+    ensures ok { IfOk result (λ acted. (caller : ℕ) → MovesCall limits.now step caller pid.0 call.now acted.answer acted.picked (record { tables = tables.old; interest = interest.old; now = now }) (record { tables = tables.new; interest = interest.new; now = now })) }
     ensures copy { IfOk result (λ acted. acted.copy ≡ acted.answer) }
     ensures real { IfOk result (λ acted. is_no_memory acted.answer ≡ false) }
     ensures kept { tables.new.limits ≡ tables.old.limits }
@@ -45,8 +50,29 @@ fn act_call(
             let acted = create_pipe(alloc, tables, pid, *cloexec, limits.pipe_bytes())?;
             Ok(acted)
         }
+        Call::SocketPair { cloexec } => {
+            let acted = create_pair(alloc, tables, pid, *cloexec, limits.sock_bytes())?;
+            Ok(acted)
+        }
+        Call::EventFd {
+            init,
+            semaphore,
+            cloexec,
+        } => {
+            let counter = Object::counter(alloc, *init, *semaphore);
+            let acted = create_single(alloc, tables, pid, *cloexec, counter)?;
+            Ok(acted)
+        }
+        Call::TimerFd { clock, cloexec } => {
+            let acted = create_timer(alloc, tables, pid, *clock, *cloexec)?;
+            Ok(acted)
+        }
+        Call::Plain { cloexec } => {
+            let acted = create_single(alloc, tables, pid, *cloexec, Object::plain(alloc))?;
+            Ok(acted)
+        }
         Call::EpollCreate { cloexec } => {
-            let acted = create_instance(alloc, tables, pid, *cloexec)?;
+            let acted = create_single(alloc, tables, pid, *cloexec, Object::instance())?;
             Ok(acted)
         }
         Call::EpollCtl {
@@ -72,43 +98,54 @@ fn act_call(
                 max: *max,
                 timeout: *timeout,
             };
-            let acted = epoll_wait(alloc, tables, interest, step, pid, args)?;
+            let acted = epoll_wait(alloc, tables, now, interest, step, pid, args)?;
             Ok(acted)
         }
-        Call::Read { fd, .. } | Call::Write { fd, .. } => {
-            let acted = transfer(alloc, tables, pid, *fd, call)?;
+        Call::Read { fd, .. }
+        | Call::Write { fd, .. }
+        | Call::Shutdown { fd }
+        | Call::SetTime { fd, .. }
+        | Call::GetTime { fd } => {
+            let acted = object_call(alloc, tables, now, pid, *fd, call)?;
             Ok(acted)
         }
     }
 }
 
-/// One event: its refusal, ESRCH first, or its change. An `AllocError` has changed nothing.
+/// One event: its refusal, ESRCH first for a call, or its change. An `AllocError` has changed nothing.
 pub fn act(
     alloc: Global,
     limits: &Limits,
     tables: &mut Tables,
     interest: &mut Interest,
+    now: &mut u64,
     step: u64,
     event: &Event,
 ) -> Result<Acted, AllocError>
     requires limits { tables.old.limits ≡ limits.now }
+    requires clock { now.old ≤ last_moment }
     requires linked { AreLinked tables.old interest.old }
     requires room { interest.old.added + 1 < 2 ^ 64 }
     requires descriptions { length tables.old.files.descriptions + 2 < 2 ^ 64 }
     requires objects { length tables.old.files.objects + 2 < 2 ^ 64 }
-    ensures ok { IfOk result (λ acted. (caller : ℕ) → Moves limits.now step caller event.now acted.answer acted.picked (record { tables = tables.old; interest = interest.old }) (record { tables = tables.new; interest = interest.new })) }
+    ensures ok { IfOk result (λ acted. (caller : ℕ) → Moves limits.now step caller event.now acted.answer acted.picked (record { tables = tables.old; interest = interest.old; now = now.old }) (record { tables = tables.new; interest = interest.new; now = now.new })) }
     ensures copy { IfOk result (λ acted. acted.copy ≡ acted.answer) }
     ensures real { IfOk result (λ acted. is_no_memory acted.answer ≡ false) }
     ensures kept { tables.new.limits ≡ tables.old.limits }
+    ensures clock { now.new ≤ last_moment }
     ensures linked { AreLinked tables.new interest.new }
     ensures grows { Grows tables.old.files tables.new.files }
     ensures added { interest.new.added ≤ interest.old.added + 1 }
-    ensures err { OnErr result ((tables.new ≡ tables.old) × (interest.new ≡ interest.old)) }
+    ensures err { OnErr result ((tables.new ≡ tables.old) × (interest.new ≡ interest.old) × (now.new ≡ now.old)) }
 {
-    let Event::Call { pid, call } = event;
-    if !tables.has_process(*pid) {
-        return Ok(Acted::refused(alloc, Errno::Esrch));
+    match event {
+        Event::Call { pid, call } => {
+            if !tables.has_process(*pid) {
+                return Ok(Acted::refused(alloc, Errno::Esrch));
+            }
+            let acted = act_call(alloc, limits, tables, interest, *now, step, *pid, call)?;
+            Ok(acted)
+        }
+        Event::Tick { n } => Ok(tick(alloc, now, *n)),
     }
-    let acted = act_call(alloc, limits, tables, interest, step, *pid, call)?;
-    Ok(acted)
 }

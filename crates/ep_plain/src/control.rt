@@ -90,7 +90,7 @@ pub fn epoll_ctl(
 ) -> Result<Answer, AllocError>
     requires room { interest.old.added + 1 < 2 ^ 64 }
     requires linked { AreLinked tables.now interest.old }
-    ensures ok { IfOk result (λ answer. (n caller : ℕ) → MovesCall limits.now n caller pid.0 (control_call args) answer [] (record { tables = tables.now; interest = interest.old }) (record { tables = tables.now; interest = interest.new })) }
+    ensures ok { IfOk result (λ answer. (n caller now : ℕ) → MovesCall limits.now n caller pid.0 (control_call args) answer [] (record { tables = tables.now; interest = interest.old; now = now }) (record { tables = tables.now; interest = interest.new; now = now })) }
     ensures real { IfOk result (λ answer. is_no_memory answer ≡ false) }
     ensures inline { IfOk result FitsInline }
     ensures linked { AreLinked tables.now interest.new }

@@ -41,4 +41,8 @@ pub trait Kernel {
     /// The limits that the kernel was made with.
     fn limits(&self) -> &Limits
         ensures { result.now ≡ bounds self.now };
+
+    /// The simulated clock: milliseconds since it began, at most 1,000,000,000,000.
+    fn now(&self) -> u64
+        ensures { result ≡ (state self.now).now };
 }

@@ -3,12 +3,13 @@
 
 mod act;
 mod acted;
+mod clock;
 mod control;
 mod create;
 mod kernel;
+mod object_call;
 mod plain;
 mod runs;
-mod transfer;
 mod wait;
 
 pub use crate::kernel::Kernel;

@@ -20,6 +20,7 @@ pub struct PlainKernel {
     limits: Limits,
     tables: Tables,
     interest: Interest,
+    now: u64,
     history: Vec<Record>,
 }
 
@@ -46,6 +47,7 @@ impl PlainKernel {
             limits,
             tables: Tables::new(alloc, limits)?,
             interest: Interest::new(alloc),
+            now: 0,
             history: Vec::new(alloc),
         })
     }
@@ -68,6 +70,7 @@ impl PlainKernel {
             &self.limits,
             &mut self.tables,
             &mut self.interest,
+            &mut self.now,
             step,
             &event,
         )?;
@@ -105,5 +108,9 @@ impl Kernel for PlainKernel {
 
     fn limits(&self) -> &Limits {
         &self.limits
+    }
+
+    fn now(&self) -> u64 {
+        self.now
     }
 }

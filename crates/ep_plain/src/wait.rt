@@ -1,5 +1,5 @@
 //! epoll_wait.
-ghost use Rattle.std.specs.Prelude.{◌≡◌, ◌<◌, ◌^◌, ℕ, All, IfOk, IfSome, IsNone, IsSome, MatchOption, MatchResult, None, OnErr, Some, false, filter, true, length, map, min, nat_lt, pos, take};
+ghost use Rattle.std.specs.Prelude.{◌≡◌, ◌<◌, ◌≤◌, ◌^◌, ℕ, All, IfOk, IfSome, IsNone, IsSome, MatchOption, MatchResult, None, OnErr, Some, false, filter, true, length, map, min, nat_lt, pos, take};
 ghost use Rattle.ep_machine.specs.Bits.{asked};
 ghost use Rattle.ep_machine.specs.Effect.{first};
 ghost use Rattle.ep_machine.specs.Files.{under};
@@ -9,6 +9,7 @@ ghost use Rattle.ep_plain.specs.Stands.{AreLinked};
 ghost use Rattle.ep_plain.specs.Wait.{AreKeyed, IsChosen, Waits, entry_bits, entry_shows, noted_in, numbers_of, report_of, wait_call, wait_tests};
 ghost use Rattle.ep_plain.specs.Reports.{Reports};
 ghost use Rattle.ep_base.specs.declared.answer.Answer.TheVariants.{Events};
+ghost use Rattle.ep_machine.specs.Timer.{last_moment};
 ghost use Rattle.ep_machine.specs.Waits.{is_positive};
 ghost use Rattle.ep_machine.specs.Watches.{number_in};
 ghost use Rattle.ep_interest.specs.Registrations.{is_of, number_under as number_of_entry};
@@ -61,11 +62,12 @@ fn find_instance(tables: &Tables, pid: Pid, args: Wait) -> Result<DescId, Errno>
 }
 
 /// The bits that a registration shows: those of its target that its mask asks for, ERR and HUP unasked.
-fn shown(tables: &Tables, entry: &Entry) -> Mask
-    requires { IsSome (number_under tables.now entry.now.desc) }
-    ensures { result.0 ≡ entry_bits tables.now entry.now }
+fn shown(tables: &Tables, now: u64, entry: &Entry) -> Mask
+    requires target { IsSome (number_under tables.now entry.now.desc) }
+    requires clock { now ≤ last_moment }
+    ensures { result.0 ≡ entry_bits tables.now now entry.now }
 {
-    let present = tables.present(entry.desc, 0);
+    let present = tables.present(entry.desc, now);
     present.intersection(entry.mask.union(Mask::ERR.union(Mask::HUP)))
 }
 
@@ -73,16 +75,18 @@ fn shown(tables: &Tables, entry: &Entry) -> Mask
 fn reportables(
     alloc: Global,
     tables: &Tables,
+    now: u64,
     interest: &Interest,
     instance: DescId,
 ) -> Result<Vec<Reportable>, AllocError>
-    requires { AreLinked tables.now interest.now }
-    ensures entries { IfOk result (λ found. map (λ x. x.entry) found.items ≡ filter (entry_shows tables.now) (filter (is_of instance) interest.now.entries)) }
-    ensures keyed { IfOk result (λ found. AreKeyed tables.now interest.now found.items) }
+    requires linked { AreLinked tables.now interest.now }
+    requires clock { now ≤ last_moment }
+    ensures entries { IfOk result (λ found. map (λ x. x.entry) found.items ≡ filter (entry_shows tables.now now) (filter (is_of instance) interest.now.entries)) }
+    ensures keyed { IfOk result (λ found. AreKeyed tables.now now interest.now found.items) }
 {
     let mut found = Vec::new(alloc);
     for (id, entry) in interest.entries(instance) {
-        let bits = shown(tables, entry);
+        let bits = shown(tables, now, entry);
         if !bits.is_empty() {
             found.push(Reportable {
                 id,
@@ -106,15 +110,17 @@ fn most(args: Wait) -> usize
 fn choose(
     alloc: Global,
     tables: &Tables,
+    now: u64,
     interest: &Interest,
     instance: DescId,
     args: Wait,
 ) -> Result<Vec<Reportable>, AllocError>
     requires linked { AreLinked tables.now interest.now }
     requires positive { is_positive args.max ≡ true }
-    ensures { IfOk result (λ chosen. IsChosen tables.now interest.now instance (number_in args.max) chosen.items) }
+    requires clock { now ≤ last_moment }
+    ensures { IfOk result (λ chosen. IsChosen tables.now now interest.now instance (number_in args.max) chosen.items) }
 {
-    let mut chosen = reportables(alloc, tables, interest, instance)?;
+    let mut chosen = reportables(alloc, tables, now, interest, instance)?;
     chosen.sort_by_key(|x| x.entry.rep)?;
     chosen.truncate(most(args));
     Ok(chosen)
@@ -176,6 +182,7 @@ fn reported(alloc: Global, chosen: &[Reportable]) -> Result<Acted, AllocError>
 fn report(
     alloc: Global,
     tables: &Tables,
+    now: u64,
     interest: &mut Interest,
     step: u64,
     instance: DescId,
@@ -183,11 +190,12 @@ fn report(
 ) -> Result<Acted, AllocError>
     requires linked { AreLinked tables.now interest.old }
     requires positive { is_positive args.max ≡ true }
-    ensures ok { IfOk result (λ acted. Reports tables.now interest.old interest.new step instance (number_in args.max) acted.answer acted.picked) }
+    requires clock { now ≤ last_moment }
+    ensures ok { IfOk result (λ acted. Reports tables.now now interest.old interest.new step instance (number_in args.max) acted.answer acted.picked) }
     ensures copy { IfOk result (λ acted. acted.copy ≡ acted.answer) }
     ensures err { OnErr result (interest.new ≡ interest.old) }
 {
-    let chosen = choose(alloc, tables, interest, instance, args)?;
+    let chosen = choose(alloc, tables, now, interest, instance, args)?;
     let acted = reported(alloc, &chosen)?;
     note(interest, step, &chosen);
     Ok(acted)
@@ -199,13 +207,15 @@ fn report(
 pub fn epoll_wait(
     alloc: Global,
     tables: &Tables,
+    now: u64,
     interest: &mut Interest,
     step: u64,
     pid: Pid,
     args: Wait,
 ) -> Result<Acted, AllocError>
-    requires { AreLinked tables.now interest.old }
-    ensures ok { IfOk result (λ acted. (limits : Numbers) (caller : ℕ) → MovesCall limits step caller pid.0 (wait_call args) acted.answer acted.picked (record { tables = tables.now; interest = interest.old }) (record { tables = tables.now; interest = interest.new })) }
+    requires linked { AreLinked tables.now interest.old }
+    requires clock { now ≤ last_moment }
+    ensures ok { IfOk result (λ acted. (limits : Numbers) (caller : ℕ) → MovesCall limits step caller pid.0 (wait_call args) acted.answer acted.picked (record { tables = tables.now; interest = interest.old; now = now }) (record { tables = tables.now; interest = interest.new; now = now })) }
     ensures copy { IfOk result (λ acted. acted.copy ≡ acted.answer) }
     ensures real { IfOk result (λ acted. is_no_memory acted.answer ≡ false) }
     ensures linked { AreLinked tables.now interest.new }
@@ -217,6 +227,6 @@ pub fn epoll_wait(
         Ok(instance) => instance,
         Err(errno) => return Ok(Acted::refused(alloc, errno)),
     };
-    let acted = report(alloc, tables, interest, step, instance, args)?;
+    let acted = report(alloc, tables, now, interest, step, instance, args)?;
     Ok(acted)
 }

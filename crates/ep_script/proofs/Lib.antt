@@ -1,4 +1,3 @@
-pub mod Reading
 pub mod Lines
 pub mod Pieces
 pub mod Writing

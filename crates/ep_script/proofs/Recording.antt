@@ -9,8 +9,8 @@ use Rattle.ep_machine.specs.State.{State}
 use Rattle.ep_plain.specs.Acts.{Acts, Adds, Stays, is_no_memory}
 use Rattle.ep_script.specs.declared.summary.LineKind.{LineKind}
 use Rattle.ep_script.specs.declared.summary.LineKind.TheVariants as kind
-use Rattle.ep_script.specs.Event.{Command}
-use Rattle.ep_script.specs.Line.{bad_line, line_of}
+use Rattle.ep_text.specs.Event.{Command}
+use Rattle.ep_text.specs.Line.{bad_line, line_of}
 use Rattle.ep_script.specs.Steps.{MayGain, Tells}
 use Rattle.ep_script.specs.Transcript.{Exchange, Grows, told}
 

@@ -6,7 +6,7 @@ use Rattle.ep_plain.specs.Acts.{is_no_memory}
 use Rattle.ep_script.specs.declared.summary.LineKind.{LineKind}
 use Rattle.ep_script.specs.declared.summary.LineKind.TheVariants as kind
 use Rattle.ep_script.specs.declared.summary.Summary.{Summary}
-use Rattle.ep_script.specs.Event.{event}
+use Rattle.ep_text.specs.Event.{event}
 use Rattle.ep_script.specs.Lines.{AllFit, longest_line}
 use Rattle.std.proofs.Common.{◌≤◌}
 use Rattle.ep_script.specs.Outcome.{Tallies}

@@ -1,10 +1,5 @@
-pub mod Values
-pub mod Keys
-pub mod Mask
-pub mod Bytes
-pub mod Event
-pub mod Ops
-pub mod Line
+pub use Rattle.ep_text.specs.Event
+pub use Rattle.ep_text.specs.Line
 pub mod Lines
 pub mod Transcript
 pub mod Known

@@ -7,7 +7,7 @@ use Rattle.ep_script.specs.declared.fault.ScriptFault.{ScriptFault}
 use Rattle.ep_script.specs.declared.fault.ScriptFault.TheVariants as fault
 use Rattle.ep_script.specs.declared.summary.LineKind.{LineKind}
 use Rattle.ep_script.specs.declared.summary.LineKind.TheVariants as kind
-use Rattle.ep_script.specs.Event.{Command}
+use Rattle.ep_text.specs.Event.{Command}
 use Rattle.ep_script.specs.Lines.{IsPlain, longest_line}
 use Rattle.ep_script.specs.Transcript.{Grows, Outcome, command_in, said}
 

@@ -5,8 +5,8 @@ use Rattle.ep_base.specs.declared.call.Event.{Event}
 use Rattle.ep_base.specs.declared.ids.CallerId.{CallerId}
 use Rattle.ep_base.specs.declared.record.Record.{Record}
 use Rattle.ep_plain.specs.Acts.{is_no_memory}
-use Rattle.ep_script.specs.Event.{Command, event}
-use Rattle.ep_script.specs.Line.{bad_line, line_of}
+use Rattle.ep_text.specs.Event.{Command, event}
+use Rattle.ep_text.specs.Line.{bad_line, line_of}
 
 -- a command, and what it was answered
 pub record Exchange : Type 0 where

@@ -2,18 +2,17 @@
 ghost use Rattle.std.specs.Io.KnownBytes.{Appends};
 ghost use Rattle.std.specs.Prelude.{◌≡◌, IfErr, IfOk, IsErrOf, List, OnErr, OnOk, ℕ, if◌then◌else◌, string_bytes, true};
 ghost use Rattle.ep_plain.specs.Acts.{is_no_memory};
-ghost use Rattle.ep_script.specs.Event.{event};
+ghost use Rattle.ep_text.specs.Event.{event};
 ghost use Rattle.ep_script.specs.Steps.{AnswerFault, MayGain, Tells};
 ghost use Rattle.ep_script.specs.declared.summary.LineKind.TheVariants as kind;
 
 use crate::emit::emit;
 use crate::fault::ScriptFault;
-use crate::print::{push_answer, push_bad};
-use crate::read::read_line;
 use crate::summary::LineKind;
 use crate::watched::Watched;
 use ep_base::{Answer, Errno};
 use ep_plain::Kernel;
+use ep_text::{push_answer, push_bad, read_line};
 use std::alloc::{AllocError, Global};
 use std::io::Write;
 

@@ -1,6 +1,6 @@
-//! Values of the formats, and whole scripts.
+//! Whole scripts.
 
-mod lines;
 mod plain;
 mod runs;
+mod scripts;
 mod stand_ins;

@@ -1,4 +1,4 @@
-mod Arrivals
+pub mod Arrivals
 mod Laws
 mod PairArrivals
 mod Peers

@@ -1,5 +1,5 @@
 -- The content of an object changes.
-use Rattle.std.proofs.Common.{Err, IfOk, List, None, Ok, OnErr, OnOk, Option, Result, Some, [], ap, get_or, inl, inr, refl, slice_set, suc, sym, zero, ℕ, ◌∙◌, ◌∷◌, ◌≡◌}
+use Rattle.std.proofs.Common.{Err, IfOk, List, None, Ok, OnErr, OnOk, Option, Result, Some, [], ap, get_or, inl, inr, refl, slice_set, subst, suc, sym, zero, ℕ, ◌∙◌, ◌∷◌, ◌≡◌}
 use Rattle.std.specs.declared.alloc.AllocError.{AllocError}
 use Rattle.ep_base.specs.declared.answer.Answer.{Answer}
 use Rattle.ep_base.specs.declared.call.Call.{Call}
@@ -10,10 +10,13 @@ use Rattle.ep_base.specs.declared.object.Raised.{Raised}
 use Rattle.ep_machine.specs.Effect.{Effect, attempt}
 use Rattle.ep_machine.specs.Files.{object_number, place_of}
 use Rattle.ep_machine.specs.Objects.{Object, object_effect, object_refusals}
+use Rattle.ep_machine.specs.Tables.{affected}
 use Rattle.ep_table.specs.ByNumber.{NumberedBy}
 use Rattle.ep_table.specs.Stored.{AllBacked, AllOwned, IsStore, key_at as end_key, object_in, object_number_in, objects, things}
-use Rattle.ep_table.specs.Value.{Things, effect_at, files_in, thing_number, unwrapped}
+use Rattle.ep_table.specs.Value.{Seen, Things, effect_at, files_in, number_of, thing_number, unwrapped}
+use Rattle.ep_table.specs.View.{value_of}
 use Rattle.ep_table.specs.declared.store.Store.TheInside.{Inside}
+use Rattle.ep_table.specs.declared.tables.Tables.TheInside.{Inside as Tables}
 use Rattle.ep_table.specs.declared.words.Description.{Description}
 use Rattle.ep_table.specs.declared.words.Shared.{Shared}
 use Rattle.ep_table.proofs.Numbers.{contents_next, next_here, next_other, numbered_next, same_or_not}
@@ -112,3 +115,17 @@ ok_content (Err p) x f g V w u a e h = tt
 pub err_same : (r : Result (Answer × Raised) AllocError) (A B : Type 0) → (A → B) → OnErr r A → OnErr r B
 err_same (Ok p) A B f h = tt
 err_same (Err p) A B f h = f h
+
+pub ok_same : (r : Result (Answer × Raised) AllocError) (A B : Type 0) → (A → B) → OnOk r A → OnOk r B
+ok_same (Ok p) A B f h = f h
+ok_same (Err p) A B f h = tt
+
+-- the tables with the store after the call
+module _ (k : Tables) (v : Seen) (same : value_of k ≡ v) (key : DescId) (now : ℕ) (call : Call) where
+  abbrev after_call : Things → Things
+  after_call s = record s { objects = (affected (files_in s) (thing_number s key) (effect_at (files_in s) (thing_number s key) now call)).objects }
+
+  pub value_applied : (t : Things) → t ≡ after_call k.store → value_of (record k { store = t }) ≡ record v { files = affected v.files (number_of v key) (effect_at v.files (number_of v key) now call) }
+  value_applied t h =
+      let P : Seen → Type 0 = λ w. value_of (record k { store = t }) ≡ record w { files = affected w.files (number_of w key) (effect_at w.files (number_of w key) now call) } in
+      subst P same (ap (λ (s : Things). value_of (record k { store = s })) h)

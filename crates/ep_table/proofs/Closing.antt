@@ -31,7 +31,7 @@ none_numbered f j [] h = refl
 none_numbered f j (None ∷ xs) h = none_numbered f (j + 1) xs (λ i p e. h (suc i) p e)
 none_numbered f j (Some x ∷ xs) h = rw (h zero x refl) (none_numbered f (j + 1) xs (λ i p e. h (suc i) p e))
 
-pub less_numbered : (j i : ℕ) (xs : List (Option Place)) (p : Place) → get_or xs i None ≡ Some p → length (numbered j (slice_set xs i None)) + 1 ≡ length (numbered j xs)
+pub less_numbered : {A : Type 0} (j i : ℕ) (xs : List (Option A)) (p : A) → get_or xs i None ≡ Some p → length (numbered j (slice_set xs i None)) + 1 ≡ length (numbered j xs)
 less_numbered j i [] p h = absurd cc
 less_numbered j zero (None ∷ xs) p h = absurd cc
 less_numbered j zero (Some x ∷ xs) p h = omega arith

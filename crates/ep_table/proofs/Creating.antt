@@ -1,5 +1,5 @@
 -- New descriptions in the tables.
-use Rattle.std.proofs.Common.{false, Bool, IsSome, List, None, Option, Some, [], ap, get_or, inl, inr, length, length-append, refl, slice_set, subst, suc, sym, unwrap_or, zero, ℕ, ◌++◌, ◌+◌, ◌<◌, ◌∙◌, ◌∷◌, ◌≡◌}
+use Rattle.std.proofs.Common.{Bool, IsSome, List, None, Option, Some, [], ap, get_or, inl, inr, length, length-append, refl, slice_set, subst, suc, sym, unwrap_or, zero, ℕ, ◌++◌, ◌+◌, ◌<◌, ◌∙◌, ◌∷◌, ◌≡◌}
 use Rattle.std.proofs.lemmas.Bool.{false≢true}
 use Rattle.std.proofs.lemmas.List.{get_or-set_same, get_or_past}
 use Rattle.ep_base.specs.declared.ids.DescId.{DescId}
@@ -7,29 +7,29 @@ use Rattle.ep_base.specs.declared.object.End.TheVariants.{First}
 use Rattle.ep_machine.specs.Files.{Place, Table, table_of}
 use Rattle.ep_machine.specs.Lists.{enter}
 use Rattle.ep_machine.specs.Objects.{Object}
-use Rattle.ep_machine.specs.Tables.{dup, slot}
+use Rattle.ep_machine.specs.Tables.{slot}
 use Rattle.ep_table.specs.Processes.{Process, entered, lists, process_of}
-use Rattle.ep_table.specs.Value.{AddsKey, CreatesOne, CreatesTwo, InsertsOne, InsertsTwo, Seen, Things, number_at, number_of}
-use Rattle.ep_table.specs.View.{IsTables, LiveAll, table_in, tables_in, value_of}
+use Rattle.ep_table.specs.Value.{AddsKey, CreatesOne, CreatesTwo, InsertsOne, InsertsTwo, Seen, Things, number_at}
+use Rattle.ep_table.specs.View.{LiveAll, table_in, tables_in, value_of}
 use Rattle.ep_table.specs.declared.table.Table.{Table as Slots}
 use Rattle.ep_table.specs.declared.tables.Tables.TheInside.{Inside}
 use Rattle.ep_table.specs.declared.words.Descriptor.{Descriptor}
 use Rattle.ep_table.proofs.Numbers.{below_or}
 use Rattle.ep_table.proofs.Seeing.{enter_seen, key_live, key_number_is, lists_at, live_at, live_entered, live_set, map_set, more_live, same_table, same_tables, tables_at}
 
-within : {X : Type 0} (xs : List (Option X)) (i : ℕ) → IsSome (get_or xs i None) → i < length xs
+pub within : {X : Type 0} (xs : List (Option X)) (i : ℕ) → IsSome (get_or xs i None) → i < length xs
 within {X} xs i h = elim (below_or i (length xs)) [ inl l ↦ l | inr le ↦ absurd (false≢true (subst (λ (o : Option X). IsSome o) (get_or_past xs i None le) h)) ]
 
-set_set : {A : Type 0} (xs : List A) (i : ℕ) (x y : A) → slice_set (slice_set xs i x) i y ≡ slice_set xs i y
+pub set_set : {A : Type 0} (xs : List A) (i : ℕ) (x y : A) → slice_set (slice_set xs i x) i y ≡ slice_set xs i y
 set_set [] i x y = refl
 set_set (z ∷ xs) zero x y = refl
 set_set (z ∷ xs) (suc i) x y = ap (λ r. z ∷ r) (set_set xs i x y)
 
-process_some : (keys : List (Option ℕ)) (q : Process) → IsSome (table_in keys q) → IsSome q
+pub process_some : (keys : List (Option ℕ)) (q : Process) → IsSome (table_in keys q) → IsSome q
 process_some keys None h = h
 process_some keys (Some t) h = refl
 
-entered_seen : (keys : List (Option ℕ)) (q : Process) (x : Descriptor) → IsSome (table_in keys q)
+pub entered_seen : (keys : List (Option ℕ)) (q : Process) (x : Descriptor) → IsSome (table_in keys q)
     → table_in keys (entered q x) ≡ Some (enter (unwrap_or (table_in keys q) []) (slot (unwrap_or (number_at keys x.description) 0) x.cloexec))
 entered_seen keys None x h = absurd (false≢true h)
 entered_seen keys (Some t) x h = ap (λ (r : Table). Some r) (enter_seen keys t x)
@@ -114,15 +114,16 @@ with_store k ps s = record {
   limits = k.limits;
   files = record { tables = tables_in s.keys ps; descriptions = s.descriptions; objects = s.objects };
   keys = s.keys;
-  dead = s.dead;
+  holds = s.holds;
+  dying = s.dying;
 }
 
-pub live_creates_one : (k : Inside) (s : Things) (ps : List Process) (p : ℕ) (key : DescId) (o : Object) (cloexec : Bool) → IsTables k → IsSome (table_of (value_of k).files p) → InsertsOne k.store s key o
+pub live_creates_one : (k : Inside) (s : Things) (ps : List Process) (p : ℕ) (key : DescId) (o : Object) (cloexec : Bool) → LiveAll k.store.keys (lists k.processes.items) → IsSome (table_of (value_of k).files p) → InsertsOne k.store s key o
     → ps ≡ slice_set (lists k.processes.items) p (entered (get_or (lists k.processes.items) p None) (record { description = key; cloexec = cloexec })) → LiveAll s.keys ps
 live_creates_one k s ps p key o cloexec inv there ins e =
     subst (λ (qs : List Process). LiveAll s.keys qs) (sym e) (live_one k.store.keys s.keys key (length k.store.descriptions) ins.keys (lists k.processes.items) inv p cloexec there)
 
-pub creates_one : (k : Inside) (v : Seen) (s : Things) (ps : List Process) (p : ℕ) (key : DescId) (o : Object) (cloexec : Bool) → IsTables k → value_of k ≡ v → IsSome (table_of (value_of k).files p) → InsertsOne k.store s key o
+pub creates_one : (k : Inside) (v : Seen) (s : Things) (ps : List Process) (p : ℕ) (key : DescId) (o : Object) (cloexec : Bool) → LiveAll k.store.keys (lists k.processes.items) → value_of k ≡ v → IsSome (table_of (value_of k).files p) → InsertsOne k.store s key o
     → ps ≡ slice_set (lists k.processes.items) p (entered (get_or (lists k.processes.items) p None) (record { description = key; cloexec = cloexec })) → CreatesOne v (with_store k ps s) p o cloexec
 creates_one k v s ps p key o cloexec inv same there ins e =
     let t = ap (λ (qs : List Process). tables_in s.keys qs) e ∙ tables_one k.store.keys s.keys key (length k.store.descriptions) ins.keys (lists k.processes.items) inv p cloexec there in
@@ -130,16 +131,17 @@ creates_one k v s ps p key o cloexec inv same there ins e =
       files = λ i. record { tables = t i; descriptions = ins.descriptions i; objects = ins.objects i };
       keys = record { key = key; adds = ins.keys };
       limits = refl;
-      dead = ins.dead;
+      holds = ins.holds;
+      dying = ins.dying;
     } in
     subst (λ (w : Seen). CreatesOne w (with_store k ps s) p o cloexec) same r
 
-pub live_creates_two : (k : Inside) (s : Things) (ps : List Process) (p : ℕ) (first second : DescId) (o : Object) (cloexec : Bool) → IsTables k → IsSome (table_of (value_of k).files p) → InsertsTwo k.store s first second o
+pub live_creates_two : (k : Inside) (s : Things) (ps : List Process) (p : ℕ) (first second : DescId) (o : Object) (cloexec : Bool) → LiveAll k.store.keys (lists k.processes.items) → IsSome (table_of (value_of k).files p) → InsertsTwo k.store s first second o
     → ps ≡ slice_set (lists k.processes.items) p (entered (entered (get_or (lists k.processes.items) p None) (record { description = first; cloexec = cloexec })) (record { description = second; cloexec = cloexec })) → LiveAll s.keys ps
 live_creates_two k s ps p first second o cloexec inv there ins e =
     subst (λ (qs : List Process). LiveAll s.keys qs) (sym e) (live_two k.store.keys ins.middle s.keys first second (length k.store.descriptions) (length k.store.descriptions + 1) ins.first_key ins.second_key (lists k.processes.items) inv p cloexec there)
 
-pub creates_two : (k : Inside) (v : Seen) (s : Things) (ps : List Process) (p : ℕ) (first second : DescId) (o : Object) (cloexec : Bool) → IsTables k → value_of k ≡ v → IsSome (table_of (value_of k).files p) → InsertsTwo k.store s first second o
+pub creates_two : (k : Inside) (v : Seen) (s : Things) (ps : List Process) (p : ℕ) (first second : DescId) (o : Object) (cloexec : Bool) → LiveAll k.store.keys (lists k.processes.items) → value_of k ≡ v → IsSome (table_of (value_of k).files p) → InsertsTwo k.store s first second o
     → ps ≡ slice_set (lists k.processes.items) p (entered (entered (get_or (lists k.processes.items) p None) (record { description = first; cloexec = cloexec })) (record { description = second; cloexec = cloexec })) → CreatesTwo v (with_store k ps s) p o cloexec
 creates_two k v s ps p first second o cloexec inv same there ins e =
     let n = length k.store.descriptions in
@@ -154,25 +156,7 @@ creates_two k v s ps p first second o cloexec inv same there ins e =
       files = λ i. record { tables = t i; descriptions = ins.descriptions i; objects = ins.objects i };
       keys = record { middle = ins.middle; first = record { key = first; adds = ins.first_key }; second = record { key = second; adds = ins.second_key } };
       limits = refl;
-      dead = ins.dead;
+      holds = ins.holds;
+      dying = ins.dying;
     } in
     subst (λ (w : Seen). CreatesTwo w (with_store k ps s) p o cloexec) same r
-
-abbrev with_tables : Seen → List (Option Table) → Seen
-with_tables v ts = record v { files = record v.files { tables = ts } }
-
--- another descriptor of a description that is there
-pub live_dup : (k : Inside) (p : ℕ) (x : Descriptor) → IsTables k → IsSome (number_at k.store.keys x.description) → LiveAll k.store.keys (slice_set (lists k.processes.items) p (entered (get_or (lists k.processes.items) p None) x))
-live_dup k p x inv live = live_set k.store.keys (lists k.processes.items) p (entered (get_or (lists k.processes.items) p None) x) inv (live_entered k.store.keys (get_or (lists k.processes.items) p None) x (live_at k.store.keys (lists k.processes.items) p inv) live)
-
-pub tables_dup : (k : Inside) (v : Seen) (ps : List Process) (p : ℕ) (key : DescId) → value_of k ≡ v → IsSome (table_of (value_of k).files p)
-    → ps ≡ slice_set (lists k.processes.items) p (entered (get_or (lists k.processes.items) p None) (record { description = key; cloexec = false })) → with_store k ps k.store ≡ record v { files = dup v.files p (number_of v key) }
-tables_dup k v ps p key same there e =
-    let keys = k.store.keys in
-    let qs = lists k.processes.items in
-    let x : Descriptor = record { description = key; cloexec = false } in
-    let seen : get_or (tables_in keys qs) p None ≡ table_in keys (get_or qs p None) = tables_at keys qs p in
-    let f : table_in keys (entered (get_or qs p None) x) ≡ Some (enter (unwrap_or (get_or (tables_in keys qs) p None) []) (slot (unwrap_or (number_at keys key) 0) false)) =
-    entered_seen keys (get_or qs p None) x (subst (λ (t : Option Table). IsSome t) seen there) ∙ (λ i. Some (enter (unwrap_or (sym seen i) []) (slot (unwrap_or (number_at keys key) 0) false))) in
-    let t = ap (λ (rs : List Process). tables_in keys rs) e ∙ (map_set (table_in keys) qs p (entered (get_or qs p None) x) ∙ ap (λ (y : Option Table). slice_set (tables_in keys qs) p y) f) in
-    (λ i. with_tables (value_of k) (t i)) ∙ ap (λ (w : Seen). record w { files = dup w.files p (number_of w key) }) same

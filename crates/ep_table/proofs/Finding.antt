@@ -1,10 +1,14 @@
 -- What a descriptor number names.
-use Rattle.std.proofs.Common.{IsSome, List, None, Option, Some, Bor, ap, get_or, is_some, negsuc, option_copied, pos, refl, subst, sym, unwrap_or, ℕ, ℤ, ◌∙◌, ◌≡◌, false}
+use Rattle.std.proofs.Common.{Bool, true, not, nat_lt, arith, ◌&&◌, ◌==◌, IsSome, List, None, Option, Some, Bor, ap, get_or, is_some, negsuc, option_copied, pos, refl, subst, sym, unwrap_or, ℕ, ℤ, ◌∙◌, ◌≡◌, false}
 use Rattle.ep_base.specs.declared.ids.DescId.{DescId}
 use Rattle.ep_machine.specs.Files.{Table as Numbers, description_in, slot_under, under, table_of}
 use Rattle.ep_table.specs.Processes.{items_of, process_of, slots_of}
-use Rattle.ep_machine.specs.Files.{object_of, place_of}
-use Rattle.ep_table.specs.Value.{Seen, Sound, SoundThings, natural, number_at, number_found, number_under}
+use Rattle.std.proofs.lemmas.Bool.Decides.{nat_tests}
+use Rattle.ep_machine.specs.Deaths.{named_in_tables}
+use Rattle.ep_machine.specs.Files.{is_live}
+use Rattle.ep_machine.specs.Lists.{is_among}
+use Rattle.ep_table.proofs.Counting.{among_times}
+use Rattle.ep_table.specs.Value.{Seen, Sound, SoundThings, count_at, natural, times, number_at, number_found, number_under}
 use Rattle.ep_table.specs.View.{IsTables, LiveSlot, slot_in, table_in, value_of}
 use Rattle.ep_table.specs.declared.table.Table.{Table}
 use Rattle.ep_table.specs.declared.tables.Tables.TheInside.{Inside}
@@ -47,7 +51,7 @@ under_at : (k : Inside) (v : Seen) (p i : ℕ) (o : Option Descriptor) → IsTab
 under_at k v p i o inv same e =
     let keys = k.store.keys in
     let t = slots_of (process_of k.processes.items p) in
-    let live : LiveSlot keys o = subst (λ (x : Option Descriptor). LiveSlot keys x) (sym e) (live_found keys k.processes.items p i inv) in
+    let live : LiveSlot keys o = subst (λ (x : Option Descriptor). LiveSlot keys x) (sym e) (live_found keys k.processes.items p i inv.live) in
     number_in keys v o (ap (λ (w : Seen). w.keys) same) live
     ∙ (ap (λ (x : Option Descriptor). description_in (slot_in keys x)) e
     ∙ (ap description_in (sym (slots_at keys t i))
@@ -61,7 +65,7 @@ under_is k v p i (negsuc j) o inv same n e = absurd cc
 pub live_is : (k : Inside) (v : Seen) (p i : ℕ) (x : Descriptor) → IsTables k → value_of k ≡ v → Some x ≡ get_or (slots_of (process_of k.processes.items p)) i None → IsSome (number_under v x.description)
 live_is k v p i x inv same e =
     let keys = k.store.keys in
-    let live : IsSome (number_at keys x.description) = subst (λ (o : Option Descriptor). LiveSlot keys o) (sym e) (live_found keys k.processes.items p i inv) in
+    let live : IsSome (number_at keys x.description) = subst (λ (o : Option Descriptor). LiveSlot keys o) (sym e) (live_found keys k.processes.items p i inv.live) in
     subst (λ (w : Seen). IsSome (number_at w.keys x.description)) same live
 
 -- the lowest free number of a process
@@ -89,12 +93,25 @@ named_is : (k : Inside) (v : Seen) → IsTables k → value_of k ≡ v → (p d 
 named_is k v inv same p d (pos i) h = key_for v d (key_of (get_or (slots_of (process_of k.processes.items p)) i None)) (under_at k v p i (get_or (slots_of (process_of k.processes.items p)) i None) inv same refl ∙ h)
 named_is k v inv same p d (negsuc i) h = absurd cc
 
+not_among : (b : Bool) (n : ℕ) → b ≡ nat_lt 0 n → not b ≡ (n == 0)
+not_among true n h = grind (arith, nat_tests, h)
+not_among false n h = grind (arith, nat_tests, h)
+
 -- what holds of every value
+sound_inside : (k : Inside) → IsTables k → SoundThings k.store → Sound (value_of k)
+sound_inside k inv s = record {
+  one = s.one;
+  place = s.place;
+  object = s.object;
+  named = λ p d fd h. named_is k (value_of k) inv refl p d fd h;
+  keyed = s.keyed;
+  held = s.held;
+  distinct = s.queue.distinct;
+  dying = λ d.
+      let names = named_in_tables (value_of k).files.tables in
+      let e : not (is_among names d) ≡ (count_at k.store.names d == 0) = not_among (is_among names d) (times d names) (among_times d names) ∙ ap (λ (n : ℕ). n == 0) (sym (inv.counts d)) in
+      s.queue.law d ∙ (λ i. is_live (value_of k).files d && (sym e i && count_at k.store.holds d == 0));
+}
+
 pub sound_is : (k : Inside) (v : Seen) → IsTables k → value_of k ≡ v → SoundThings k.store → Sound v
-sound_is k v inv same s =
-    let q : (Sound v) = record {
-      one = λ i j d a b. s.one i j d (ap (λ (w : Seen). number_at w.keys i) same ∙ a) (ap (λ (w : Seen). number_at w.keys j) same ∙ b);
-      place = λ key d a. subst (λ (w : Seen). IsSome (place_of w.files d)) same (s.place key d (ap (λ (w : Seen). number_at w.keys key) same ∙ a));
-      object = λ key d a. subst (λ (w : Seen). IsSome (object_of w.files d)) same (s.object key d (ap (λ (w : Seen). number_at w.keys key) same ∙ a));
-      named = λ p d fd h. named_is k v inv same p d fd h;
-    } in q
+sound_is k v inv same s = subst (λ (w : Seen). Sound w) same (sound_inside k inv s)

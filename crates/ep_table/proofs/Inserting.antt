@@ -7,14 +7,15 @@ use Rattle.ep_base.specs.declared.object.End.TheVariants.{First, Second}
 use Rattle.ep_machine.specs.Files.{Place}
 use Rattle.ep_machine.specs.Lists.{numbered}
 use Rattle.ep_machine.specs.Objects.{Object}
-use Rattle.ep_table.specs.ByNumber.{NumberedBy}
-use Rattle.ep_table.specs.Stored.{AllBacked, AllOwned, Backs, IsStore, Owns, key_at as end_key, key_number, number_in, object_in, object_number_in, objects, place_in, places}
-use Rattle.ep_table.specs.Value.{AddsKey, InsertsOne, InsertsTwo, Things}
+use Rattle.ep_table.specs.ByNumber.{NumberedBy, contents_by}
+use Rattle.ep_table.specs.Stored.{AllBacked, AllFewer, AllOwned, Backs, IsStore, count_in, counts, holds_in, names_in, Owns, key_at as end_key, key_number, number_in, object_in, object_number_in, objects, place_in, places}
+use Rattle.ep_table.specs.Value.{AddsKey, InsertsOne, InsertsTwo, Queue, Things}
 use Rattle.ep_table.specs.declared.store.Store.TheInside.{Inside}
-use Rattle.ep_table.specs.declared.words.Dead.{Dead}
 use Rattle.ep_table.specs.declared.words.Description.{Description}
 use Rattle.ep_table.specs.declared.words.Shared.{Shared}
 use Rattle.ep_table.proofs.Numbers.{contents_length, contents_more, numbered_more, same_or_not}
+use Rattle.ep_table.proofs.Queueing.{queue_more}
+use Rattle.ep_table.proofs.Recounting.{counts_length}
 use Rattle.ep_table.proofs.Storing.{key_at}
 
 -- what an insert into a slab says of its slots
@@ -74,7 +75,7 @@ owned_object ds os os1 at s ins h own i x e key is has = elim (same_or_not i at)
   | inr ne ↦ h i x e key (sym (ins.others i ne) ∙ is) has
 ]
 
-numbered_push : (k : ℕ) (xs : List (Option Place)) (p : Place) → length (numbered k (xs ++ Some p ∷ [])) ≡ length (numbered k xs) + 1
+pub numbered_push : {A : Type 0} (k : ℕ) (xs : List (Option A)) (p : A) → length (numbered k (xs ++ Some p ∷ [])) ≡ length (numbered k xs) + 1
 numbered_push k [] p = refl
 numbered_push k (None ∷ xs) p = numbered_push (k + 1) xs p
 numbered_push k (Some x ∷ xs) p = omega (arith, numbered_push (k + 1) xs p)
@@ -82,6 +83,28 @@ numbered_push k (Some x ∷ xs) p = omega (arith, numbered_push (k + 1) xs p)
 -- as many as there are keys
 pub counted_more : (a b : ℕ) (xs ys : List (Option Place)) (p : Place) → a ≡ length (numbered 0 xs) → b ≡ a + 1 → ys ≡ xs ++ Some p ∷ [] → b ≡ length (numbered 0 ys)
 counted_more a b xs ys p e f g = omega (arith, numbered_push 0 xs p, ap (λ (zs : List (Option Place)). length (numbered 0 zs)) g)
+
+map_push : {A B : Type 0} (f : A → B) (xs : List A) (x : A) → map f (xs ++ x ∷ []) ≡ map f xs ++ f x ∷ []
+map_push f [] x = refl
+map_push f (y ∷ xs) x = ap (λ r. f y ∷ r) (map_push f xs x)
+
+-- counts of one more
+counts_more : (count : Description → ℕ) (ds ds1 : List (Option Description)) (key : ℕ) (d : Description) → Inserted ds ds1 key d → NumberedBy number_in ds d.number → counts count ds1 (d.number + 1) ≡ counts count ds d.number ++ count d ∷ []
+counts_more count ds ds1 key d a num =
+    ap (map count_in) (contents_more number_in count ds ds1 key d a.was a.here a.others num) ∙ map_push count_in (contents_by number_in count ds d.number) (Some (count d))
+
+fewer_more : (ds ds1 : List (Option Description)) (key : ℕ) (d : Description) → Inserted ds ds1 key d → (l : ℕ) → d.names ≡ 1 → AllFewer ds l → AllFewer ds1 l
+fewer_more ds ds1 key d ins l one h k x is = elim (same_or_not k key) [
+  | inl at ↦ let e : d ≡ x = (let y = ap (λ (i : ℕ). get_or ds1 i None) at in let z = ins.here in cc) in omega (arith, one, ap (λ (y : Description). y.names) e)
+  | inr ne ↦ h k x (sym (ins.others k ne) ∙ is)
+]
+
+queue_inserted : (ds : List (Option Description)) (n : ℕ) (p : Place) (dying : List ℕ) (ps : List (Option Place)) (names holds : List ℕ) → ps ≡ places ds n ++ Some p ∷ [] → names ≡ counts names_in ds n ++ 1 ∷ [] → holds ≡ counts holds_in ds n ++ 0 ∷ []
+    → Queue (places ds n) (counts names_in ds n) (counts holds_in ds n) dying → Queue ps names holds dying
+queue_inserted ds n p dying ps names holds e f g q =
+    let l = contents_length number_in place_in ds n in
+    let r = queue_more (places ds n) (counts names_in ds n) (counts holds_in ds n) dying p (counts_length names_in ds n ∙ sym l) (counts_length holds_in ds n ∙ sym l) q in
+    subst (λ (xs : List (Option Place)). Queue xs names holds dying) (sym e) (subst (λ (xs : List ℕ). Queue (places ds n ++ Some p ∷ []) xs holds dying) (sym f) (subst (λ (xs : List ℕ). Queue (places ds n ++ Some p ∷ []) (counts names_in ds n ++ 1 ∷ []) xs dying) (sym g) r))
 
 -- the invariant but for lengths, over plain variables
 pub record Holds (ds : List (Option Description)) (os : List (Option Shared)) (n m : ℕ) : Type 0 where
@@ -95,11 +118,11 @@ holds_of k inv = record { descriptions = inv.descriptions; objects = inv.objects
 
 -- an object with one description
 module _ (ds ds1 : List (Option Description)) (os os1 : List (Option Shared)) (n m key at : ℕ) (x : Object)
-    (a : Inserted ds ds1 key (record { number = n; object_number = m; object = at; end = First }))
+    (a : Inserted ds ds1 key (record { number = n; object_number = m; object = at; end = First; names = 1; holds = 0 }))
     (b : Inserted os os1 at (record { number = m; object = x; first = Some (record { 0 = key }); second = None }))
     (h : Holds ds os n m) where
   abbrev d : Description
-  d = record { number = n; object_number = m; object = at; end = First }
+  d = record { number = n; object_number = m; object = at; end = First; names = 1; holds = 0 }
 
   abbrev s : Shared
   s = record { number = m; object = x; first = Some (record { 0 = key }); second = None }
@@ -122,9 +145,21 @@ module _ (ds ds1 : List (Option Description)) (os os1 : List (Option Shared)) (n
   pub objects_one : objects os1 (m + 1) ≡ objects os m ++ Some x ∷ []
   objects_one = contents_more object_number_in object_in os os1 at s b.was b.here b.others h.objects
 
-  pub inserts_one : (v : Things) (dead : List Dead) → places ds n ≡ v.descriptions → objects os m ≡ v.objects → map key_number ds ≡ v.keys → dead ≡ v.dead
-      → InsertsOne v (record { descriptions = places ds1 (n + 1); objects = objects os1 (m + 1); keys = map key_number ds1; dead = dead }) (record { 0 = key }) x
-  inserts_one v dead p q r t =
+  pub names_one : counts names_in ds1 (n + 1) ≡ counts names_in ds n ++ 1 ∷ []
+  names_one = counts_more names_in ds ds1 key d a h.descriptions
+
+  pub holds_zero : counts holds_in ds1 (n + 1) ≡ counts holds_in ds n ++ 0 ∷ []
+  holds_zero = counts_more holds_in ds ds1 key d a h.descriptions
+
+  pub queue_one : (dying : List ℕ) → Queue (places ds n) (counts names_in ds n) (counts holds_in ds n) dying → Queue (places ds1 (n + 1)) (counts names_in ds1 (n + 1)) (counts holds_in ds1 (n + 1)) dying
+  queue_one dying q = queue_inserted ds n (place_in d) dying (places ds1 (n + 1)) (counts names_in ds1 (n + 1)) (counts holds_in ds1 (n + 1)) places_one names_one holds_zero q
+
+  pub fewer_one : (l : ℕ) → AllFewer ds l → AllFewer ds1 l
+  fewer_one l f = fewer_more ds ds1 key d a l refl f
+
+  pub inserts_one : (v : Things) (dying : List ℕ) (named : ℕ) → places ds n ≡ v.descriptions → objects os m ≡ v.objects → map key_number ds ≡ v.keys → counts names_in ds n ≡ v.names → counts holds_in ds n ≡ v.holds → dying ≡ v.dying → named ≡ v.named
+      → InsertsOne v (record { descriptions = places ds1 (n + 1); objects = objects os1 (m + 1); keys = map key_number ds1; names = counts names_in ds1 (n + 1); holds = counts holds_in ds1 (n + 1); dying = dying; named = named }) (record { 0 = key }) x
+  inserts_one v dying named p q r en eh t el =
       let lm : m ≡ length v.objects = sym (contents_length object_number_in object_in os m) ∙ ap (λ (xs : List (Option Object)). length xs) q in
       let ln : n ≡ length v.descriptions = sym (contents_length number_in place_in ds n) ∙ ap (λ (xs : List (Option Place)). length xs) p in
       let adds = keys_more ds ds1 key d a in
@@ -132,20 +167,23 @@ module _ (ds ds1 : List (Option Description)) (os os1 : List (Option Shared)) (n
         descriptions = places_one ∙ (λ i. p i ++ Some (record { object = lm i; side = First }) ∷ []);
         objects = objects_one ∙ ap (λ (xs : List (Option Object)). xs ++ Some x ∷ []) q;
         keys = subst (λ (i : ℕ). AddsKey v.keys (map key_number ds1) (record { 0 = key }) i) ln (subst (λ (xs : List (Option ℕ)). AddsKey xs (map key_number ds1) (record { 0 = key }) n) r adds);
-        dead = t;
+        names = names_one ∙ ap (λ (xs : List ℕ). xs ++ 1 ∷ []) en;
+        holds = holds_zero ∙ ap (λ (xs : List ℕ). xs ++ 0 ∷ []) eh;
+        dying = t;
+        named = el;
       }
 
 -- an object with two descriptions
 module _ (ds ds1 ds2 : List (Option Description)) (os os1 : List (Option Shared)) (n m key other at : ℕ) (x : Object)
-    (a : Inserted ds ds1 key (record { number = n; object_number = m; object = at; end = First }))
-    (c : Inserted ds1 ds2 other (record { number = n + 1; object_number = m; object = at; end = Second }))
+    (a : Inserted ds ds1 key (record { number = n; object_number = m; object = at; end = First; names = 1; holds = 0 }))
+    (c : Inserted ds1 ds2 other (record { number = n + 1; object_number = m; object = at; end = Second; names = 1; holds = 0 }))
     (b : Inserted os os1 at (record { number = m; object = x; first = Some (record { 0 = key }); second = Some (record { 0 = other }) }))
     (h : Holds ds os n m) where
   abbrev d1 : Description
-  d1 = record { number = n; object_number = m; object = at; end = First }
+  d1 = record { number = n; object_number = m; object = at; end = First; names = 1; holds = 0 }
 
   abbrev d2 : Description
-  d2 = record { number = n + 1; object_number = m; object = at; end = Second }
+  d2 = record { number = n + 1; object_number = m; object = at; end = Second; names = 1; holds = 0 }
 
   abbrev t : Shared
   t = record { number = m; object = x; first = Some (record { 0 = key }); second = Some (record { 0 = other }) }
@@ -184,9 +222,23 @@ module _ (ds ds1 ds2 : List (Option Description)) (os os1 : List (Option Shared)
   objects_two : objects os1 (m + 1) ≡ objects os m ++ Some x ∷ []
   objects_two = contents_more object_number_in object_in os os1 at t b.was b.here b.others h.objects
 
-  pub inserts_two : (v : Things) (dead : List Dead) → places ds n ≡ v.descriptions → objects os m ≡ v.objects → map key_number ds ≡ v.keys → dead ≡ v.dead
-      → InsertsTwo v (record { descriptions = places ds2 (n + 1 + 1); objects = objects os1 (m + 1); keys = map key_number ds2; dead = dead }) (record { 0 = key }) (record { 0 = other }) x
-  inserts_two v dead p q r w =
+  pub names_two : counts names_in ds2 (n + 1 + 1) ≡ (counts names_in ds n ++ 1 ∷ []) ++ 1 ∷ []
+  names_two = counts_more names_in ds1 ds2 other d2 c numbered_one ∙ ap (λ (xs : List ℕ). xs ++ 1 ∷ []) (counts_more names_in ds ds1 key d1 a h.descriptions)
+
+  pub holds_zeros : counts holds_in ds2 (n + 1 + 1) ≡ (counts holds_in ds n ++ 0 ∷ []) ++ 0 ∷ []
+  holds_zeros = counts_more holds_in ds1 ds2 other d2 c numbered_one ∙ ap (λ (xs : List ℕ). xs ++ 0 ∷ []) (counts_more holds_in ds ds1 key d1 a h.descriptions)
+
+  pub queue_two : (dying : List ℕ) → Queue (places ds n) (counts names_in ds n) (counts holds_in ds n) dying → Queue (places ds2 (n + 1 + 1)) (counts names_in ds2 (n + 1 + 1)) (counts holds_in ds2 (n + 1 + 1)) dying
+  queue_two dying q =
+      let first = queue_inserted ds n (place_in d1) dying (places ds1 (n + 1)) (counts names_in ds1 (n + 1)) (counts holds_in ds1 (n + 1)) places_first (counts_more names_in ds ds1 key d1 a h.descriptions) (counts_more holds_in ds ds1 key d1 a h.descriptions) q in
+      queue_inserted ds1 (n + 1) (place_in d2) dying (places ds2 (n + 1 + 1)) (counts names_in ds2 (n + 1 + 1)) (counts holds_in ds2 (n + 1 + 1)) places_second (counts_more names_in ds1 ds2 other d2 c numbered_one) (counts_more holds_in ds1 ds2 other d2 c numbered_one) first
+
+  pub fewer_two : (l : ℕ) → AllFewer ds l → AllFewer ds2 l
+  fewer_two l f = fewer_more ds1 ds2 other d2 c l refl (fewer_more ds ds1 key d1 a l refl f)
+
+  pub inserts_two : (v : Things) (dying : List ℕ) (named : ℕ) → places ds n ≡ v.descriptions → objects os m ≡ v.objects → map key_number ds ≡ v.keys → counts names_in ds n ≡ v.names → counts holds_in ds n ≡ v.holds → dying ≡ v.dying → named ≡ v.named
+      → InsertsTwo v (record { descriptions = places ds2 (n + 1 + 1); objects = objects os1 (m + 1); keys = map key_number ds2; names = counts names_in ds2 (n + 1 + 1); holds = counts holds_in ds2 (n + 1 + 1); dying = dying; named = named }) (record { 0 = key }) (record { 0 = other }) x
+  inserts_two v dying named p q r en eh w el =
       let lm : m ≡ length v.objects = sym (contents_length object_number_in object_in os m) ∙ ap (λ (xs : List (Option Object)). length xs) q in
       let ln : n ≡ length v.descriptions = sym (contents_length number_in place_in ds n) ∙ ap (λ (xs : List (Option Place)). length xs) p in
       let one = keys_more ds ds1 key d1 a in
@@ -197,7 +249,10 @@ module _ (ds ds1 ds2 : List (Option Description)) (os os1 : List (Option Shared)
         middle = map key_number ds1;
         first_key = subst (λ (i : ℕ). AddsKey v.keys (map key_number ds1) (record { 0 = key }) i) ln (subst (λ (xs : List (Option ℕ)). AddsKey xs (map key_number ds1) (record { 0 = key }) n) r one);
         second_key = subst (λ (i : ℕ). AddsKey (map key_number ds1) (map key_number ds2) (record { 0 = other }) (i + 1)) ln two;
-        dead = w;
+        names = names_two ∙ ap (λ (xs : List ℕ). (xs ++ 1 ∷ []) ++ 1 ∷ []) en;
+        holds = holds_zeros ∙ ap (λ (xs : List ℕ). (xs ++ 0 ∷ []) ++ 0 ∷ []) eh;
+        dying = w;
+        named = el;
       }
 
   pub counted_two : (u v w : ℕ) → u ≡ length (numbered 0 (places ds n)) → v ≡ u + 1 → w ≡ v + 1 → w ≡ length (numbered 0 (places ds2 (n + 1 + 1)))

@@ -2,9 +2,8 @@
 use Rattle.std.proofs.Common.{IsSome, List, None, Option, Some, ap, get_or, map, refl, subst, suc, sym, unwrap_or, zero, ℕ, ◌∙◌, ◌≡◌, ◌∷◌, []}
 use Rattle.ep_base.specs.declared.ids.DescId.{DescId}
 use Rattle.ep_machine.specs.Files.{Place, object_at, object_of, place_of, side_in, side_of}
-use Rattle.ep_machine.specs.Objects.{Object}
 use Rattle.ep_table.specs.Stored.{Backs, IsStore, key_number, number_in, object_in, object_number_in, objects, place_in, things}
-use Rattle.ep_table.specs.Value.{SoundThings, Things, files_in, number_at, thing_number}
+use Rattle.ep_table.specs.Value.{Things, files_in, number_at, thing_number}
 use Rattle.ep_table.specs.declared.store.Store.TheInside.{Inside}
 use Rattle.ep_table.specs.declared.words.Description.{Description}
 use Rattle.ep_table.specs.declared.words.Shared.{Shared}
@@ -62,19 +61,3 @@ there : (k : Inside) (v : Things) → things k ≡ v → (key : DescId) (d : ℕ
 there k v same key d h =
     there_of k.descriptions.slots key.0 d (get_or k.descriptions.slots key.0 None) refl
     (sym (key_at k.descriptions.slots key.0) ∙ (ap (λ (w : Things). number_at w.keys key) same ∙ h))
-
--- what holds of every value
-pub sound_things : (k : Inside) (v : Things) → IsStore k → things k ≡ v → SoundThings v
-sound_things k v inv same = record {
-  one = λ i j d p q. let a = there k v same i d p in let b = there k v same j d q in inv.descriptions.one i.0 j.0 a.it b.it a.is b.is (a.number ∙ sym b.number);
-  place = λ key d p.
-      let a = there k v same key d p in
-      let e = place_is k v inv same key a.it a.is in
-      let n = thing_is k v inv same key a.it a.is ∙ a.number in
-      subst (λ (o : Option Place). IsSome o) (sym (ap (λ (m : ℕ). place_of (files_in v) m) (sym n) ∙ e)) refl;
-  object = λ key d p.
-      let a = there k v same key d p in
-      let e = object_is k v inv same key a.it a.is in
-      let n = thing_is k v inv same key a.it a.is ∙ a.number in
-      subst (λ (o : Option Object). IsSome o) (sym (ap (λ (m : ℕ). object_of (files_in v) m) (sym n) ∙ e)) refl;
-}

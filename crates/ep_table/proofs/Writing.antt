@@ -1,5 +1,5 @@
 -- A write to one process.
-use Rattle.std.proofs.Common.{List, Option, [], ap, arith, get_or, length, slice_set, suc, zero, ℕ, ◌<◌, ◌∙◌, ◌∷◌, ◌≡◌}
+use Rattle.std.proofs.Common.{Err, Ok, OnErr, Result, List, Option, [], ap, arith, get_or, length, slice_set, suc, zero, ℕ, ◌<◌, ◌∙◌, ◌∷◌, ◌≡◌}
 use Rattle.ep_table.specs.Processes.{Process, items_of, lists, process_of}
 use Rattle.ep_table.specs.declared.table.Table.{Table}
 
@@ -14,3 +14,7 @@ pub lists_same : (xs : List (Option Table)) (i : ℕ) (y x : Option Table) → i
 lists_same [] i y x lt at e = absurd (omega arith)
 lists_same (z ∷ xs) zero y x lt at e = ap (λ (p : Process). p ∷ lists xs) (e ∙ ap items_of at)
 lists_same (z ∷ xs) (suc i) y x lt at e = ap (λ (r : List Process). items_of z ∷ r) (lists_same xs i y x (omega arith) at e)
+
+pub on_err : {A E : Type 0} (r : Result A E) (P : Type 0) → P → OnErr r P
+on_err (Ok x) P h = tt
+on_err (Err e) P h = h

@@ -1,15 +1,14 @@
 -- An end of an object closes.
-use Rattle.std.specs.Prelude.{List, None, Option, Some, [], false, slice_set, true, ℕ, ◌++◌, ◌∷◌, ◌≡◌, ◌≢◌}
+use Rattle.std.specs.Prelude.{List, None, Option, Some, [], slice_set, ℕ, ◌∷◌, ◌≡◌, ◌≢◌}
 use Rattle.ep_base.specs.declared.ids.DescId.{DescId}
 use Rattle.ep_base.specs.declared.object.End.{End}
 use Rattle.ep_base.specs.declared.object.End.TheVariants.{First, Second}
 use Rattle.ep_base.specs.declared.object.Raised.{Raised}
 use Rattle.ep_machine.specs.Bits.{nothing}
-use Rattle.ep_machine.specs.Deaths.{die, named_in_tables}
+use Rattle.ep_machine.specs.Deaths.{die}
 use Rattle.ep_machine.specs.Files.{Files, Place, place_of}
-use Rattle.ep_machine.specs.Lists.{is_among}
 use Rattle.ep_machine.specs.Objects.{close_end}
-use Rattle.ep_table.specs.Value.{Seen, Things, content_of, files_in, number_at, number_under, thing_number}
+use Rattle.ep_table.specs.Value.{Seen, Things, content_of, files_in, number_at, number_under}
 use Rattle.ep_table.specs.declared.words.Dead.{Dead}
 use Rattle.ep_table.specs.declared.words.Shared.{Shared}
 
@@ -53,46 +52,33 @@ abbrev pub other_slot : Option Shared → End → Option DescId
 other_slot None e = None
 other_slot (Some s) e = other_key s e
 
--- the description under a key died
-pub record Dies (old new : Things) (key : DescId) : Type 0 where
+-- the first of those that nothing names or holds died
+pub record Dies (old new : Things) (dead : Dead) : Type 0 where
+  pub number : ℕ
+  pub key_is : number_at old.keys dead.desc ≡ Some number
+  pub dying : old.dying ≡ number ∷ new.dying
   pub place : Place
-  pub place_is : place_of (files_in old) (thing_number old key) ≡ Some place
-  pub files : files_in new ≡ (die (files_in old, []) (thing_number old key, place)).0
-  pub keys : new.keys ≡ slice_set old.keys key.0 None
-  pub entry : Dead
-  pub dead : new.dead ≡ old.dead ++ entry ∷ []
-  pub key_is : entry.key ≡ key
-  pub number_is : entry.number ≡ thing_number old key
-  pub end_is : entry.end ≡ place.side
-  pub raised_is : entry.raised ≡ (close_end (content_of (files_in old) (thing_number old key)) place.side).1
-  pub other : IsAt (files_in new) new.keys (across (Some place)) entry.other
+  pub place_is : place_of (files_in old) number ≡ Some place
+  pub files : files_in new ≡ (die (files_in old, []) (number, place)).0
+  pub keys : new.keys ≡ slice_set old.keys dead.desc.0 None
+  pub names : new.names ≡ old.names
+  pub holds : new.holds ≡ old.holds
+  pub named : new.named ≡ old.named
+  pub end_is : dead.end ≡ place.side
+  pub raised_is : dead.raised ≡ (close_end (content_of (files_in old) number) place.side).1
+  pub other : IsAt (files_in new) new.keys (across (Some place)) dead.other
 
--- the description of this number died
-pub record Died (old new : Seen) (d : ℕ) : Type 0 where
-  pub key : DescId
-  pub is : number_under old key ≡ Some d
+-- the first of those that nothing names or holds died and was taken
+pub record Takes (old new : Seen) (dead : Dead) : Type 0 where
+  pub number : ℕ
+  pub key_is : number_under old dead.desc ≡ Some number
+  pub dying : old.dying ≡ number ∷ new.dying
   pub place : Place
-  pub place_is : place_of old.files d ≡ Some place
-  pub files : new.files ≡ (die (old.files, []) (d, place)).0
-  pub keys : new.keys ≡ slice_set old.keys key.0 None
+  pub place_is : place_of old.files number ≡ Some place
+  pub files : new.files ≡ (die (old.files, []) (number, place)).0
+  pub keys : new.keys ≡ slice_set old.keys dead.desc.0 None
   pub limits : new.limits ≡ old.limits
-  pub entry : Dead
-  pub dead : new.dead ≡ old.dead ++ entry ∷ []
-  pub key_is : entry.key ≡ key
-  pub number_is : entry.number ≡ d
-  pub end_is : entry.end ≡ place.side
-  pub raised_is : entry.raised ≡ (close_end (content_of old.files d) place.side).1
-  pub other : IsAt new.files new.keys (across (Some place)) entry.other
-
--- the description of this number died where no table names it
-pub record Drops (old new : Seen) (d : ℕ) : Type 0 where
-  pub named : is_among (named_in_tables old.files.tables) d ≡ true → new ≡ old
-  pub unnamed : is_among (named_in_tables old.files.tables) d ≡ false → Died old new d
-
--- the first of those that died is taken
-pub record Takes (old new : Seen) (key : DescId) (raised : Raised) : Type 0 where
-  pub entry : Dead
-  pub dead : old.dead ≡ entry ∷ new.dead
-  pub key_is : entry.key ≡ key
-  pub raised_is : entry.raised ≡ raised
-  pub rest : new ≡ record old { dead = new.dead }
+  pub holds : new.holds ≡ old.holds
+  pub end_is : dead.end ≡ place.side
+  pub raised_is : dead.raised ≡ (close_end (content_of old.files number) place.side).1
+  pub other : IsAt new.files new.keys (across (Some place)) dead.other

@@ -5,5 +5,5 @@ pub mod Stored
 pub mod Processes
 pub mod View
 pub mod Closing
-pub mod Named
-pub mod Key
+pub mod Counting
+pub mod Flagged

@@ -1,6 +1,7 @@
 -- The tables of all processes, as lists.
 use Rattle.std.specs.Prelude.{List, None, Option, Some, [], map, slice_index_or, slice_set, vec_capacity, vec_len, ℕ, ◌+◌, ◌≤◌}
-use Rattle.ep_machine.specs.Lists.{enter}
+use Rattle.ep_machine.specs.Lists.{enter, place_at}
+use Rattle.ep_table.specs.Flagged.{kept}
 use Rattle.ep_table.specs.declared.table.Table.{Table}
 use Rattle.ep_table.specs.declared.words.Descriptor.{Descriptor}
 
@@ -29,6 +30,14 @@ entered (Some t) x = Some (enter t x)
 abbrev pub left : Process → ℕ → Process
 left None i = None
 left (Some t) i = Some (slice_set t i None)
+
+abbrev pub put_at : Process → ℕ → Descriptor → Process
+put_at None i x = None
+put_at (Some t) i x = Some (place_at t i x)
+
+abbrev pub kept_in : Process → Process
+kept_in None = None
+kept_in (Some t) = Some (map kept t)
 
 -- so many more numbers find room
 abbrev pub HasRoom : Option Table → ℕ → Type 0

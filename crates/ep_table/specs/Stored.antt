@@ -1,5 +1,5 @@
 -- How descriptions and objects are kept, and what always holds of them.
-use Rattle.std.specs.Prelude.{List, None, Option, Some, length, map, slice_index_or, vec_capacity, ℕ, ◌+◌, ◌≡◌, ◌≤◌}
+use Rattle.std.specs.Prelude.{[], unwrap_or, ◌++◌, ◌∷◌, List, None, Option, Some, length, map, slice_index_or, vec_capacity, ℕ, ◌+◌, ◌≡◌, ◌≤◌}
 use Rattle.slab.specs.Slab.{slab_len}
 use Rattle.ep_base.specs.declared.ids.DescId.{DescId}
 use Rattle.ep_base.specs.declared.object.End.{End}
@@ -8,9 +8,10 @@ use Rattle.ep_machine.specs.Files.{Place}
 use Rattle.ep_machine.specs.Lists.{numbered}
 use Rattle.ep_machine.specs.Objects.{Object}
 use Rattle.ep_table.specs.ByNumber.{NumberedBy, contents_by}
-use Rattle.ep_table.specs.Value.{Things}
+use Rattle.ep_table.specs.Value.{Queue, Things, number_at}
 use Rattle.ep_table.specs.declared.store.Store.TheInside.{Inside}
 use Rattle.ep_table.specs.declared.words.Description.{Description}
+use Rattle.ep_table.specs.declared.words.Dying.{Dying}
 use Rattle.ep_table.specs.declared.words.Shared.{Shared}
 
 abbrev pub place_in : Description → Place
@@ -34,19 +35,49 @@ abbrev pub key_number : Option Description → Option ℕ
 key_number None = None
 key_number (Some d) = Some d.number
 
+abbrev pub count_in : Option ℕ → ℕ
+count_in o = unwrap_or o 0
+
 abbrev pub places : List (Option Description) → ℕ → List (Option Place)
 places slots n = contents_by number_in place_in slots n
 
 abbrev pub objects : List (Option Shared) → ℕ → List (Option Object)
 objects slots n = contents_by object_number_in object_in slots n
 
+-- counts by number, 0 where a description is no more
+abbrev pub counts : (Description → ℕ) → List (Option Description) → ℕ → List ℕ
+counts count slots n = map count_in (contents_by number_in count slots n)
+
+abbrev pub names_in : Description → ℕ
+names_in d = d.names
+
+abbrev pub holds_in : Description → ℕ
+holds_in d = d.holds
+
+-- the last that was put on the queue comes first
+abbrev pub queued : List Dying → List ℕ
+queued [] = []
+queued (x ∷ rest) = queued rest ++ x.number ∷ []
+
 abbrev pub things : Inside → Things
 things k = record {
   descriptions = places k.descriptions.slots k.described;
   objects = objects k.objects.slots k.made;
   keys = map key_number k.descriptions.slots;
-  dead = k.dead.items;
+  names = counts names_in k.descriptions.slots k.described;
+  holds = counts holds_in k.descriptions.slots k.described;
+  dying = queued k.dying.items;
+  named = k.named;
 }
+
+-- each has its number under its key
+abbrev pub AllKeyed : List (Option ℕ) → List Dying → Type 0
+AllKeyed keys [] = Unit {0}
+AllKeyed keys (x ∷ rest) = (number_at keys x.key ≡ Some x.number) × AllKeyed keys rest
+
+-- a description has one name from the start
+abbrev pub AllFewer : List (Option Description) → ℕ → Type 0
+AllFewer slots n = (key : ℕ) (d : Description) → slice_index_or slots key None ≡ Some d → d.names ≤ n + 1
 
 -- the object of a description is there, and has its key at its end
 pub record Backs (os : List (Option Shared)) (key : ℕ) (d : Description) : Type 0 where
@@ -74,4 +105,7 @@ pub record IsStore (k : Inside) : Type 0 where
   pub backed : AllBacked k.descriptions.slots k.objects.slots
   pub owned : AllOwned k.descriptions.slots k.objects.slots
   pub counted : slab_len k.descriptions ≡ length (numbered 0 (places k.descriptions.slots k.described))
-  pub room : length k.dead.items + slab_len k.descriptions ≤ vec_capacity k.dead
+  pub room : slab_len k.descriptions ≤ vec_capacity k.dying
+  pub queue : Queue (places k.descriptions.slots k.described) (counts names_in k.descriptions.slots k.described) (counts holds_in k.descriptions.slots k.described) (queued k.dying.items)
+  pub keyed : AllKeyed (map key_number k.descriptions.slots) k.dying.items
+  pub fewer : AllFewer k.descriptions.slots k.named

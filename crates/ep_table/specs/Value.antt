@@ -1,24 +1,43 @@
 -- What contracts see of the tables.
 use Rattle.ep_base.specs.declared.object.End.TheVariants.{First, Second}
-use Rattle.std.specs.Prelude.{Bool, IsSome, List, None, Option, Some, is_none, nat_le, negsuc, pos, slice_index_or, unwrap_or, ℕ, ℤ, ◌+◌, ◌≡◌, ◌≢◌, ◌∷◌, [], length, ◌++◌}
+use Rattle.std.specs.Prelude.{if◌then◌else◌, true, false, not, slice_set, ◌-◌, ◌&&◌, ◌==◌, Bool, IsSome, List, None, Option, Some, is_none, is_some, nat_le, negsuc, pos, slice_index_or, unwrap_or, ℕ, ℤ, ◌+◌, ◌≡◌, ◌≢◌, ◌∷◌, [], length, ◌++◌}
 use Rattle.ep_base.specs.Limits.{Limits}
 use Rattle.ep_base.specs.declared.call.Call.{Call}
 use Rattle.ep_base.specs.declared.errno.Errno.{Errno}
 use Rattle.ep_base.specs.declared.errno.Errno.TheVariants.{Eagain, Ebadf, Emfile, Esrch}
 use Rattle.ep_base.specs.declared.ids.DescId.{DescId}
 use Rattle.ep_machine.specs.Effect.{Effect, attempt, first}
-use Rattle.ep_machine.specs.Files.{Files, Place, names_nothing, numbers_of, object_of, place_of, side_of, table_of, under}
-use Rattle.ep_machine.specs.Lists.{numbered}
+use Rattle.ep_machine.specs.Deaths.{named_in_tables}
+use Rattle.ep_machine.specs.Files.{Files, Place, is_live, names_nothing, numbers_of, object_of, place_of, side_of, table_of, under}
+use Rattle.ep_machine.specs.Lists.{are_distinct, is_among, numbered}
 use Rattle.ep_machine.specs.Objects.{Object, object_effect, object_refusals, plain}
-use Rattle.ep_machine.specs.Tables.{create_one, create_two, one_free, one_refusals, two_refusals}
+use Rattle.ep_machine.specs.Tables.{create_one, create_two, is_in_range, one_free, one_refusals, two_refusals}
 use Rattle.ep_object.specs.Memory.{object_waiting}
-use Rattle.ep_table.specs.declared.words.Dead.{Dead}
 
 pub record Seen : Type 0 where
   pub limits : Limits
   pub files : Files  -- the machine's tables, descriptions and objects
   pub keys : List (Option ℕ)  -- the number of the description under each key
-  pub dead : List Dead  -- those that died and were not taken yet, in order
+  pub holds : List ℕ  -- how many waiters hold each description
+  pub dying : List ℕ  -- the live descriptions that no table names and no waiter holds
+
+-- the count of a number in a list of counts, 0 past its end
+abbrev pub count_at : List ℕ → ℕ → ℕ
+count_at counts d = slice_index_or counts d 0
+
+abbrev pub more_at : List ℕ → ℕ → List ℕ
+more_at counts d = slice_set counts d (count_at counts d + 1)
+
+abbrev pub less_at : List ℕ → ℕ → List ℕ
+less_at counts d = slice_set counts d (count_at counts d - 1)
+
+-- how often a number stands in a list
+abbrev pub times : ℕ → List ℕ → ℕ
+times d [] = 0
+times d (x ∷ xs) = (if d == x then 1 else 0) + times d xs
+
+abbrev pub holds_of : Seen → ℕ → ℕ
+holds_of v d = count_at v.holds d
 
 -- the number under a key in a list of keys
 abbrev pub number_at : List (Option ℕ) → DescId → Option ℕ
@@ -76,6 +95,17 @@ dup_refusal v p fd =
 abbrev pub fork_refusal : Seen → ℕ → Option Errno
 fork_refusal v p = first ((is_none (table_of v.files p), Esrch) ∷ (nat_le v.limits.processes (length (numbered 0 v.files.tables)), Eagain) ∷ [])
 
+-- what dup2 is refused with, if anything
+abbrev pub dup2_refusal : Seen → ℕ → ℤ → ℤ → Option Errno
+dup2_refusal v p fd to =
+    first ((is_none (table_of v.files p), Esrch)
+    ∷ (names_nothing v.files p fd, Ebadf)
+    ∷ (not (is_in_range v.limits to), Ebadf) ∷ [])
+
+-- what exec and exit are refused with, if anything
+abbrev pub process_refusal : Seen → ℕ → Option Errno
+process_refusal v p = first ((is_none (table_of v.files p), Esrch) ∷ [])
+
 -- what close is refused with, if anything
 abbrev pub close_refusal : Seen → ℕ → ℤ → Option Errno
 close_refusal v p fd = first ((is_none (table_of v.files p), Esrch) ∷ (names_nothing v.files p fd, Ebadf) ∷ [])
@@ -85,14 +115,16 @@ pub record CreatesOne (old new : Seen) (p : ℕ) (x : Object) (cloexec : Bool) :
   pub files : new.files ≡ create_one old.files p x cloexec
   pub keys : Gains old.keys new.keys (length old.files.descriptions)
   pub limits : new.limits ≡ old.limits
-  pub dead : new.dead ≡ old.dead
+  pub holds : new.holds ≡ old.holds ++ 0 ∷ []
+  pub dying : new.dying ≡ old.dying
 
 -- an object with two descriptions more
 pub record CreatesTwo (old new : Seen) (p : ℕ) (x : Object) (cloexec : Bool) : Type 0 where
   pub files : new.files ≡ create_two old.files p x cloexec
   pub keys : GainsTwo old.keys new.keys (length old.files.descriptions)
   pub limits : new.limits ≡ old.limits
-  pub dead : new.dead ≡ old.dead
+  pub holds : new.holds ≡ (old.holds ++ 0 ∷ []) ++ 0 ∷ []
+  pub dying : new.dying ≡ old.dying
 
 abbrev pub unwrapped : Option Object → Object
 unwrapped x = unwrap_or x plain
@@ -111,19 +143,30 @@ effect_at s d now call =
 abbrev pub waiting_at : Files → ℕ → ℕ
 waiting_at s d = object_waiting (content_of s d) (side_of s d)
 
+-- a description that no table names and no waiter holds
+abbrev pub is_dying : Seen → ℕ → Bool
+is_dying v d = is_live v.files d && (not (is_among (named_in_tables v.files.tables) d) && holds_of v d == 0)
+
 -- what holds of every value
 pub record Sound (v : Seen) : Type 0 where
   pub one : (j k : DescId) (d : ℕ) → number_under v j ≡ Some d → number_under v k ≡ Some d → j.0 ≡ k.0
   pub place : (k : DescId) (d : ℕ) → number_under v k ≡ Some d → IsSome (place_of v.files d)
   pub object : (k : DescId) (d : ℕ) → number_under v k ≡ Some d → IsSome (object_of v.files d)
   pub named : (p d : ℕ) (fd : ℤ) → under v.files p fd ≡ Some d → (key : DescId) × (number_under v key ≡ Some d)
+  pub keyed : (d : ℕ) → is_live v.files d ≡ true → (key : DescId) × (number_under v key ≡ Some d)
+  pub held : (d : ℕ) → is_live v.files d ≡ false → holds_of v d ≡ 0
+  pub distinct : are_distinct v.dying ≡ true
+  pub dying : (d : ℕ) → is_among v.dying d ≡ is_dying v d
 
 -- descriptions and objects, without tables
 pub record Things : Type 0 where
   pub descriptions : List (Option Place)
   pub objects : List (Option Object)
   pub keys : List (Option ℕ)
-  pub dead : List Dead
+  pub names : List ℕ  -- how many descriptors name each description
+  pub holds : List ℕ
+  pub dying : List ℕ
+  pub named : ℕ  -- how often a name was added
 
 abbrev pub files_in : Things → Files
 files_in v = record { tables = []; descriptions = v.descriptions; objects = v.objects }
@@ -131,18 +174,34 @@ files_in v = record { tables = []; descriptions = v.descriptions; objects = v.ob
 abbrev pub thing_number : Things → DescId → ℕ
 thing_number v key = unwrap_or (number_at v.keys key) 0
 
+abbrev pub is_unused : List (Option Place) → List ℕ → List ℕ → ℕ → Bool
+is_unused ds names holds d = is_some (slice_index_or ds d None) && (count_at names d == 0 && count_at holds d == 0)
+
+-- what holds of the descriptions that nothing names or holds
+pub record Queue (ds : List (Option Place)) (names holds dying : List ℕ) : Type 0 where
+  pub distinct : are_distinct dying ≡ true
+  pub law : (d : ℕ) → is_among dying d ≡ is_unused ds names holds d
+
 -- what holds of every value without tables
 pub record SoundThings (v : Things) : Type 0 where
   pub one : (j k : DescId) (d : ℕ) → number_at v.keys j ≡ Some d → number_at v.keys k ≡ Some d → j.0 ≡ k.0
   pub place : (k : DescId) (d : ℕ) → number_at v.keys k ≡ Some d → IsSome (place_of (files_in v) d)
   pub object : (k : DescId) (d : ℕ) → number_at v.keys k ≡ Some d → IsSome (object_of (files_in v) d)
+  pub keyed : (d : ℕ) → is_live (files_in v) d ≡ true → (key : DescId) × (number_at v.keys key ≡ Some d)
+  pub held : (d : ℕ) → is_live (files_in v) d ≡ false → count_at v.holds d ≡ 0
+  pub names_length : length v.names ≡ length v.descriptions
+  pub holds_length : length v.holds ≡ length v.descriptions
+  pub queue : Queue v.descriptions v.names v.holds v.dying
 
--- an object with one description more, under this key
+-- an object with one description more, under this key, with one name
 pub record InsertsOne (old new : Things) (key : DescId) (x : Object) : Type 0 where
   pub descriptions : new.descriptions ≡ old.descriptions ++ Some (record { object = length old.objects; side = First }) ∷ []
   pub objects : new.objects ≡ old.objects ++ Some x ∷ []
   pub keys : AddsKey old.keys new.keys key (length old.descriptions)
-  pub dead : new.dead ≡ old.dead
+  pub names : new.names ≡ old.names ++ 1 ∷ []
+  pub holds : new.holds ≡ old.holds ++ 0 ∷ []
+  pub dying : new.dying ≡ old.dying
+  pub named : new.named ≡ old.named
 
 -- an object with two, under these
 pub record InsertsTwo (old new : Things) (first second : DescId) (x : Object) : Type 0 where
@@ -151,4 +210,7 @@ pub record InsertsTwo (old new : Things) (first second : DescId) (x : Object) : 
   pub middle : List (Option ℕ)
   pub first_key : AddsKey old.keys middle first (length old.descriptions)
   pub second_key : AddsKey middle new.keys second (length old.descriptions + 1)
-  pub dead : new.dead ≡ old.dead
+  pub names : new.names ≡ (old.names ++ 1 ∷ []) ++ 1 ∷ []
+  pub holds : new.holds ≡ (old.holds ++ 0 ∷ []) ++ 0 ∷ []
+  pub dying : new.dying ≡ old.dying
+  pub named : new.named ≡ old.named

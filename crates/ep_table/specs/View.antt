@@ -1,9 +1,11 @@
 -- How the tables are seen, and what always holds of them.
-use Rattle.std.specs.Prelude.{IsSome, List, None, Option, Some, [], map, unwrap_or, ℕ, ◌∷◌}
+use Rattle.std.specs.Prelude.{length, ◌≡◌, IsSome, List, None, Option, Some, [], map, unwrap_or, ℕ, ◌∷◌}
+use Rattle.ep_machine.specs.Deaths.{named_in_tables}
 use Rattle.ep_machine.specs.Files.{Slot, Table}
+use Rattle.ep_machine.specs.Lists.{numbered}
 use Rattle.ep_machine.specs.Tables.{slot}
 use Rattle.ep_table.specs.Processes.{Process, lists}
-use Rattle.ep_table.specs.Value.{Seen, number_at}
+use Rattle.ep_table.specs.Value.{Seen, count_at, number_at, times}
 use Rattle.ep_table.specs.declared.tables.Tables.TheInside.{Inside}
 use Rattle.ep_table.specs.declared.words.Descriptor.{Descriptor}
 
@@ -27,7 +29,8 @@ value_of k = record {
     objects = k.store.objects;
   };
   keys = k.store.keys;
-  dead = k.store.dead;
+  holds = k.store.holds;
+  dying = k.store.dying;
 }
 
 -- what a number names is live
@@ -47,5 +50,7 @@ abbrev pub LiveAll : List (Option ℕ) → List Process → Type 0
 LiveAll keys [] = Unit {0}
 LiveAll keys (p ∷ rest) = LiveProcess keys p × LiveAll keys rest
 
-abbrev pub IsTables : Inside → Type 0
-IsTables k = LiveAll k.store.keys (lists k.processes.items)
+pub record IsTables (k : Inside) : Type 0 where
+  pub live : LiveAll k.store.keys (lists k.processes.items)
+  pub counts : (d : ℕ) → count_at k.store.names d ≡ times d (named_in_tables (value_of k).files.tables)
+  pub living : k.living ≡ length (numbered 0 (value_of k).files.tables)

@@ -1,6 +1,7 @@
 //! Descriptor tables and open file descriptions.
 #![tactic(auto)]
 
+mod names;
 mod processes;
 mod store;
 mod table;

@@ -1,14 +1,12 @@
 //! The descriptor tables of all processes, by process number. A process that has ended has none.
-ghost use Rattle.std.specs.Prelude.{◌≡◌, None, OnOk, count_by, is_some, option_copied, slice_index_or, slice_set};
-ghost use Rattle.std.specs.List.{list_any};
-ghost use Rattle.ep_table.specs.Named.{has_key_in};
+ghost use Rattle.std.specs.Prelude.{◌+◌, ◌<◌, ◌≡◌, ◌^◌, None, OnErr, OnOk, option_copied, slice_index_or, slice_set};
 ghost use Rattle.ep_machine.specs.Lists.{enter as entered_at, lowest_free};
-ghost use Rattle.ep_table.specs.Processes.{HasRoom, entered, items_of, left, lists, process_of, slots_of};
+ghost use Rattle.ep_table.specs.Processes.{HasRoom, entered, items_of, kept_in, left, lists, process_of, put_at, slots_of};
 ghost use Rattle.ep_table.specs.declared.words.Descriptor.{Descriptor as the_descriptor};
 
 use crate::table::Table;
 use crate::words::Descriptor;
-use ep_base::{DescId, Pid};
+use ep_base::Pid;
 use std::alloc::AllocError;
 
 /// The table of a process.
@@ -141,19 +139,69 @@ pub fn leave(processes: &mut Vec<Option<Table>>, pid: Pid, number: usize)
     }
 }
 
-/// Whether any number of any process names this description.
-pub fn names(processes: &[Option<Table>], description: DescId) -> bool
-    ensures { result ≡ list_any (has_key_in description) processes.now }
+fn put_in(
+    process: &mut Option<Table>,
+    number: usize,
+    descriptor: Descriptor,
+) -> Result<(), AllocError>
+    requires { number + 1 < 2 ^ 64 }
+    ensures ok { OnOk result (items_of process.new ≡ put_at (items_of process.old) number descriptor) }
+    ensures err { OnErr result (items_of process.new ≡ items_of process.old) }
 {
-    processes.iter().any(|process| match process {
-        Some(table) => table.names(description),
-        None => false,
-    })
+    match process {
+        Some(table) => table.put(number, descriptor),
+        None => Ok(()),
+    }
 }
 
-/// How many processes are there.
-pub fn living(processes: &[Option<Table>]) -> usize
-    ensures { result ≡ count_by is_some processes.now }
+/// Puts a descriptor at a number of a process. An `AllocError` leaves the tables.
+pub fn put(
+    processes: &mut Vec<Option<Table>>,
+    pid: Pid,
+    number: usize,
+    descriptor: Descriptor,
+) -> Result<(), AllocError>
+    requires { number + 1 < 2 ^ 64 }
+    ensures ok { OnOk result (lists processes.new.items ≡ slice_set (lists processes.old.items) pid.0 (put_at (process_of processes.old.items pid.0) number descriptor)) }
+    ensures err { OnErr result (lists processes.new.items ≡ lists processes.old.items) }
 {
-    processes.iter().filter(|process| process.is_some()).count()
+    let at = pid.0 as usize;
+    if at < processes.len() {
+        put_in(&mut processes[at], number, descriptor)?;
+    }
+    Ok(())
+}
+
+fn close_flagged_in(process: &mut Option<Table>)
+    ensures { items_of process.new ≡ kept_in (items_of process.old) }
+{
+    if let Some(table) = process {
+        table.close_flagged();
+    }
+}
+
+/// Frees the numbers of a process whose close-on-exec flag is on.
+pub fn close_flagged(processes: &mut Vec<Option<Table>>, pid: Pid)
+    ensures { lists processes.new.items ≡ slice_set (lists processes.old.items) pid.0 (kept_in (process_of processes.old.items pid.0)) }
+{
+    let at = pid.0 as usize;
+    if at < processes.len() {
+        close_flagged_in(&mut processes[at]);
+    }
+}
+
+fn end_in(process: &mut Option<Table>)
+    ensures { items_of process.new ≡ None }
+{
+    *process = None;
+}
+
+/// Takes the table of a process away.
+pub fn end(processes: &mut Vec<Option<Table>>, pid: Pid)
+    ensures { lists processes.new.items ≡ slice_set (lists processes.old.items) pid.0 None }
+{
+    let at = pid.0 as usize;
+    if at < processes.len() {
+        end_in(&mut processes[at]);
+    }
 }

@@ -1,30 +1,33 @@
 //! Open file descriptions and their objects.
-ghost use Rattle.std.specs.Prelude.{◌≡◌, ◌+◌, ◌<◌, ◌≤◌, ◌^◌, ◌∷◌, [], IfNone, IfOk, IfSome, IsOk, IsSome, None, OnErr, OnOk, Some, length, min, slice_index_or, slice_set, vec_capacity};
+ghost use Rattle.std.specs.Prelude.{◌≡◌, ◌+◌, ◌<◌, ◌≤◌, ◌^◌, [], false, IfNone, IfOk, IfSome, IsOk, IsSome, None, OnErr, OnOk, Some, length, min, slice_index_or, slice_set, vec_capacity};
 ghost use Rattle.slab.specs.Slab.{HasRoomFor, slab_len};
-ghost use Rattle.ep_machine.specs.Lists.{numbered};
+ghost use Rattle.ep_machine.specs.Lists.{is_among, numbered};
 ghost use Rattle.ep_machine.specs.Files.{object_of, place_of, side_of};
 ghost use Rattle.ep_machine.specs.Tables.{affected};
 ghost use Rattle.ep_object.specs.Memory.{asked_of};
 ghost use Rattle.ep_machine.specs.Objects.{close_end};
+ghost use Rattle.ep_machine.specs.Timer.{last_moment};
 ghost use Rattle.ep_table.specs.Closing.{Dies, IsAt, across, closed_in, closed_slot, other_key, other_slot, raised_slot};
-ghost use Rattle.ep_table.specs.Value.{InsertsOne, InsertsTwo, SoundThings, effect_at, files_in, number_at, thing_number, waiting_at};
+ghost use Rattle.ep_table.specs.Value.{InsertsOne, InsertsTwo, SoundThings, count_at, effect_at, files_in, less_at, more_at, number_at, thing_number, waiting_at};
 
-use crate::words::{Dead, Description, Shared};
+use crate::words::{Dead, Description, Dying, Shared};
 use ep_base::{Answer, Call, DescId, End, Raised};
 use ep_object::Object;
 use slab::Slab;
 use std::alloc::{AllocError, Global};
 use std::marker::Model;
 
-/// Open file descriptions and objects by their keys, how many there have been of each,
-/// and the descriptions that died, with room for all that live.
+/// Open file descriptions and objects by their keys, how many there have been of each, how often a
+/// name was added to a description, and the descriptions that nothing names or holds, with room for
+/// all that live.
 #[derive(Drop)]
 pub struct Store {
     described: u64,
     made: u64,
+    named: usize,
     descriptions: Slab<Description>,
     objects: Slab<Shared>,
-    dead: Vec<Dead>,
+    dying: Vec<Dying>,
 }
 
 impl Model for Store {
@@ -43,20 +46,20 @@ impl Model for Store {
 fn reserve(
     descriptions: &mut Slab<Description>,
     objects: &mut Slab<Shared>,
-    dead: &mut Vec<Dead>,
+    dying: &mut Vec<Dying>,
     additional: usize,
 ) -> Result<(), AllocError>
     ensures descriptions { descriptions.new.slots ≡ descriptions.old.slots }
     ensures objects { objects.new.slots ≡ objects.old.slots }
-    ensures dead { dead.new.items ≡ dead.old.items }
-    ensures grown { vec_capacity dead.old ≤ vec_capacity dead.new }
+    ensures dying { dying.new.items ≡ dying.old.items }
+    ensures grown { vec_capacity dying.old ≤ vec_capacity dying.new }
     ensures room { OnOk result (HasRoomFor descriptions.new additional) }
     ensures object_room { OnOk result (HasRoomFor objects.new 1) }
-    ensures death_room { OnOk result (length dead.new.items + (slab_len descriptions.new + additional) ≤ vec_capacity dead.new) }
+    ensures death_room { OnOk result (slab_len descriptions.new + additional ≤ vec_capacity dying.new) }
 {
     objects.reserve(1)?;
     descriptions.reserve(additional)?;
-    dead.reserve(descriptions.capacity())?;
+    dying.reserve(descriptions.capacity())?;
     Ok(())
 }
 
@@ -100,14 +103,15 @@ fn other_in(shared: &Shared, end: End) -> Option<DescId>
 impl Store {
     /// No descriptions.
     pub fn new(alloc: Global) -> Store
-        ensures { result ≡ record { descriptions = []; objects = []; keys = []; dead = [] } }
+        ensures { result ≡ record { descriptions = []; objects = []; keys = []; names = []; holds = []; dying = []; named = 0 } }
     {
         Store {
             described: 0,
             made: 0,
+            named: 0,
             descriptions: Slab::new(alloc),
             objects: Slab::new(alloc),
-            dead: Vec::new(alloc),
+            dying: Vec::new(alloc),
         }
     }
 
@@ -144,20 +148,27 @@ impl Store {
         &self.objects[description.object].object
     }
 
-    /// A new object with one description, or nothing changed where there is no memory.
+    /// A new object with one description that has one name, or nothing changed where there is no memory.
     pub fn insert(&mut self, object: Object) -> Result<DescId, AllocError>
         requires descriptions { length self.old.descriptions + 1 < 2 ^ 64 }
         requires objects { length self.old.objects + 1 < 2 ^ 64 }
         ensures ok { IfOk result (λ key. InsertsOne self.old self.new key object) }
         ensures err { OnErr result (self.new ≡ self.old) }
     {
-        reserve(&mut self.descriptions, &mut self.objects, &mut self.dead, 1)?;
+        reserve(
+            &mut self.descriptions,
+            &mut self.objects,
+            &mut self.dying,
+            1,
+        )?;
         let at = self.objects.vacant_key();
         let key = self.descriptions.insert_reserved(Description {
             number: self.described,
             object_number: self.made,
             object: at,
             end: End::First,
+            names: 1,
+            holds: 0,
         });
         self.objects.insert_reserved(Shared {
             number: self.made,
@@ -170,20 +181,27 @@ impl Store {
         Ok(DescId(key))
     }
 
-    /// A new object with a description of each end, or nothing changed where there is no memory.
+    /// A new object with a description of each end that have one name each, or nothing changed where there is no memory.
     pub fn insert_two(&mut self, object: Object) -> Result<(DescId, DescId), AllocError>
         requires descriptions { length self.old.descriptions + 2 < 2 ^ 64 }
         requires objects { length self.old.objects + 1 < 2 ^ 64 }
         ensures ok { IfOk result (λ keys. InsertsTwo self.old self.new keys.0 keys.1 object) }
         ensures err { OnErr result (self.new ≡ self.old) }
     {
-        reserve(&mut self.descriptions, &mut self.objects, &mut self.dead, 2)?;
+        reserve(
+            &mut self.descriptions,
+            &mut self.objects,
+            &mut self.dying,
+            2,
+        )?;
         let at = self.objects.vacant_key();
         let first = self.descriptions.insert_reserved(Description {
             number: self.described,
             object_number: self.made,
             object: at,
             end: End::First,
+            names: 1,
+            holds: 0,
         });
         self.described += 1;
         let second = self.descriptions.insert_reserved(Description {
@@ -191,6 +209,8 @@ impl Store {
             object_number: self.made,
             object: at,
             end: End::Second,
+            names: 1,
+            holds: 0,
         });
         self.described += 1;
         self.objects.insert_reserved(Shared {
@@ -210,7 +230,8 @@ impl Store {
         now: u64,
         call: &Call,
     ) -> Result<(Answer, Raised), AllocError>
-        requires { IsSome (number_at self.old.keys key) }
+        requires live { IsSome (number_at self.old.keys key) }
+        requires clock { now ≤ last_moment }
         ensures answer { IfOk result (λ r. r.0 ≡ (effect_at (files_in self.old) (thing_number self.old key) now call.now).0) }
         ensures raised { IfOk result (λ r. r.1 ≡ (effect_at (files_in self.old) (thing_number self.old key) now call.now).2) }
         ensures objects { OnOk result (self.new ≡ record self.old { objects = (affected (files_in self.old) (thing_number self.old key) (effect_at (files_in self.old) (thing_number self.old key) now call.now)).objects }) }
@@ -229,31 +250,92 @@ impl Store {
         let _ = &self.descriptions;
     }
 
-    /// Ends a description that nothing names: its end of the object closes, and the object goes with
-    /// its last description. What it raised is noted.
-    pub fn kill(&mut self, key: DescId)
-        requires { IsSome (number_at self.old.keys key) }
-        ensures { Dies self.old self.new key }
+    /// Whether so many names can be added: none is refused before there were 2^64 of them.
+    pub fn fits(&self, additional: usize) -> Result<(), AllocError>
+        ensures { OnOk result (self.now.named + additional + 2 < 2 ^ 64) }
     {
-        let description = self.descriptions.remove(key.0);
+        match self.named.checked_add(additional) {
+            Some(total) if total < usize::MAX - 2 => Ok(()),
+            _ => Err(AllocError),
+        }
+    }
+
+    /// A named description has one name more.
+    pub fn add_name(&mut self, key: DescId)
+        requires live { IsSome (number_at self.old.keys key) }
+        requires named { 0 < count_at self.old.names (thing_number self.old key) }
+        requires fits { self.old.named + 2 < 2 ^ 64 }
+        ensures { self.new ≡ record self.old { names = more_at self.old.names (thing_number self.old key); named = self.old.named + 1 } }
+    {
+        let description = &mut self.descriptions[key.0];
+        description.names += 1;
+        self.named += 1;
+    }
+
+    /// A named description has one name less, and is dying where nothing names or holds it any more.
+    pub fn drop_name(&mut self, key: DescId)
+        requires live { IsSome (number_at self.old.keys key) }
+        requires named { 0 < count_at self.old.names (thing_number self.old key) }
+        ensures { self.new ≡ record self.old { names = less_at self.old.names (thing_number self.old key); dying = self.new.dying } }
+    {
+        let description = &mut self.descriptions[key.0];
+        description.names -= 1;
+        let left = *description;
+        if left.is_unused() {
+            self.dying.push_reserved(Dying {
+                key,
+                number: left.number,
+            });
+        }
+    }
+
+    /// A description that isn't dying is held once more. An `AllocError`, which comes only where it is
+    /// held 2^64 - 1 times, leaves everything.
+    pub fn hold(&mut self, key: DescId) -> Result<(), AllocError>
+        requires live { IsSome (number_at self.old.keys key) }
+        requires used { is_among self.old.dying (thing_number self.old key) ≡ false }
+        ensures ok { OnOk result (self.new ≡ record self.old { holds = more_at self.old.holds (thing_number self.old key) }) }
+        ensures err { OnErr result (self.new ≡ self.old) }
+    {
+        if self.descriptions[key.0].holds == usize::MAX {
+            return Err(AllocError);
+        }
+        let description = &mut self.descriptions[key.0];
+        description.holds += 1;
+        Ok(())
+    }
+
+    /// A description that is held is held once less, and is dying where nothing names or holds it any more.
+    pub fn release(&mut self, key: DescId)
+        requires live { IsSome (number_at self.old.keys key) }
+        requires held { 0 < count_at self.old.holds (thing_number self.old key) }
+        ensures { self.new ≡ record self.old { holds = less_at self.old.holds (thing_number self.old key); dying = self.new.dying } }
+    {
+        let description = &mut self.descriptions[key.0];
+        description.holds -= 1;
+        let left = *description;
+        if left.is_unused() {
+            self.dying.push_reserved(Dying {
+                key,
+                number: left.number,
+            });
+        }
+    }
+
+    /// Ends one of the descriptions that are dying: its end of the object closes, and the object goes
+    /// with its last description.
+    pub fn take_dead(&mut self) -> Option<Dead>
+        ensures none { IfNone result ((self.new ≡ self.old) × (self.old.dying ≡ [])) }
+        ensures some { IfSome result (λ dead. Dies self.old self.new dead) }
+    {
+        let last = self.dying.pop()?;
+        let description = self.descriptions.remove(last.key.0);
         let (raised, other) = close(&mut self.objects, description.object, description.end);
-        self.dead.push_reserved(Dead {
-            key,
-            number: description.number,
+        Some(Dead {
+            desc: last.key,
             end: description.end,
             other,
             raised,
-        });
-    }
-
-    /// Takes the first of the descriptions that died.
-    pub fn take_dead(&mut self) -> Option<Dead>
-        ensures none { IfNone result ((self.new ≡ self.old) × (self.old.dead ≡ [])) }
-        ensures some { IfSome result (λ entry. (self.old.dead ≡ entry ∷ self.new.dead) × (self.new ≡ record self.old { dead = self.new.dead })) }
-    {
-        if self.dead.is_empty() {
-            return None;
-        }
-        Some(self.dead.remove(0))
+        })
     }
 }

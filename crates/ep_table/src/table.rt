@@ -1,8 +1,7 @@
 //! The descriptor table of a process.
-ghost use Rattle.std.specs.Prelude.{◌≡◌, ◌<◌, ◌≤◌, ◌+◌, ◌∷◌, [], IfOk, None, OnOk, Some, drop, false, slice_index_or, slice_set, vec_capacity, vec_len};
-ghost use Rattle.std.specs.List.{list_any};
-ghost use Rattle.ep_machine.specs.Lists.{lowest_free, enter};
-ghost use Rattle.ep_table.specs.Key.{is_key};
+ghost use Rattle.std.specs.Prelude.{◌≡◌, ◌<◌, ◌≤◌, ◌+◌, ◌∷◌, ◌^◌, [], IfOk, None, OnErr, OnOk, Some, drop, false, map, slice_index_or, slice_set, vec_capacity, vec_len};
+ghost use Rattle.ep_machine.specs.Lists.{lowest_free, enter, place_at};
+ghost use Rattle.ep_table.specs.Flagged.{grown, kept};
 ghost use Rattle.ep_table.specs.Low.{IsLow};
 ghost use Rattle.ep_table.specs.declared.words.Descriptor.{Descriptor as the_descriptor};
 
@@ -49,6 +48,42 @@ fn free(slots: &mut Vec<Option<Descriptor>>, number: usize)
     ensures { slots.new.items ≡ slice_set slots.old.items number None }
 {
     slots[number] = None;
+}
+
+fn left_by_exec(slot: Option<Descriptor>) -> Option<Descriptor>
+    ensures { result ≡ kept slot }
+{
+    match slot {
+        Some(descriptor) if descriptor.cloexec => None,
+        other => other,
+    }
+}
+
+fn free_flagged(slots: &mut [Option<Descriptor>])
+    ensures { slots.new ≡ map kept slots.old }
+{
+    for number in 0..slots.len() {
+        slots[number] = left_by_exec(slots[number]);
+    }
+}
+
+/// Grows a table so that it has a number. An `AllocError` leaves it.
+fn grow_to(slots: &mut Vec<Option<Descriptor>>, number: usize) -> Result<(), AllocError>
+    requires { number + 1 < 2 ^ 64 }
+    ensures ok { OnOk result (slots.new.items ≡ grown slots.old.items number) }
+    ensures err { OnErr result (slots.new.items ≡ slots.old.items) }
+{
+    if slots.len() <= number {
+        slots.resize(number + 1, None)?;
+    }
+    Ok(())
+}
+
+fn set(slots: &mut Vec<Option<Descriptor>>, number: usize, descriptor: Descriptor)
+    requires { number < vec_len slots.old }
+    ensures { slots.new.items ≡ slice_set slots.old.items number (Some descriptor) }
+{
+    slots[number] = Some(descriptor);
 }
 
 fn copy_slots(
@@ -134,14 +169,23 @@ impl Table {
         }
     }
 
-    /// Whether a number names this description.
-    pub fn names(&self, description: DescId) -> bool
-        ensures { result ≡ list_any (is_key description) self.now.slots.items }
+    /// Puts a descriptor at a number. An `AllocError` leaves the table.
+    pub fn put(&mut self, number: usize, descriptor: Descriptor) -> Result<(), AllocError>
+        requires { number + 1 < 2 ^ 64 }
+        ensures ok { OnOk result (self.new.slots.items ≡ place_at self.old.slots.items number descriptor) }
+        ensures err { OnErr result (self.new.slots.items ≡ self.old.slots.items) }
     {
-        self.slots.iter().any(|slot| match slot {
-            Some(descriptor) => descriptor.description.0 == description.0,
-            None => false,
-        })
+        grow_to(&mut self.slots, number)?;
+        set(&mut self.slots, number, descriptor);
+        Ok(())
+    }
+
+    /// Frees the numbers whose close-on-exec flag is on.
+    pub fn close_flagged(&mut self)
+        ensures { self.new.slots.items ≡ map kept self.old.slots.items }
+    {
+        self.low = 0;
+        free_flagged(&mut self.slots);
     }
 
     /// The same descriptors in another table.

@@ -1,31 +1,40 @@
 //! The tables: processes, descriptors, open file descriptions and objects.
-ghost use Rattle.std.specs.Prelude.{◌≡◌, ◌+◌, ◌<◌, ◌≤◌, ◌^◌, [], IfNone, IfOk, IfSome, IsOk, IsSome, None, OnErr, OnOk, Some, is_some, length, min, pos};
+ghost use Rattle.std.specs.Prelude.{◌≡◌, ◌+◌, ◌<◌, ◌≤◌, ◌^◌, ◌∷◌, [], ℕ, false, IfNone, IfOk, IfSome, IsOk, IsSome, None, OnErr, OnOk, Some, is_some, length, min, pos, true};
 ghost use Rattle.ep_base.specs.declared.answer.Answer.TheVariants.{Done, Num, Refused};
 ghost use Rattle.ep_base.specs.declared.errno.Errno.{Errno as the_errno};
+ghost use Rattle.ep_machine.specs.Deaths.{named_in_tables};
 ghost use Rattle.ep_machine.specs.Effect.{first};
-ghost use Rattle.ep_machine.specs.Files.{named_by, object_of, opening_files, place_of, side_of, table_of, under};
-ghost use Rattle.ep_machine.specs.Objects.{object_present};
-ghost use Rattle.ep_machine.specs.Tables.{affected, answer_one, answer_two, close, create_refusals, dup, fork, one_refusals, two_refusals};
-ghost use Rattle.ep_table.specs.Closing.{Drops, IsAt, Takes, across};
-ghost use Rattle.ep_table.specs.Value.{CreatesOne, CreatesTwo, Gains, Sound, close_refusal, content_of, dup_refusal, effect_at, fork_refusal, natural, number_found, number_of, number_under, one_refusal, two_refusal, waiting_at};
+ghost use Rattle.ep_machine.specs.Lists.{is_among, numbered, place_at};
+ghost use Rattle.ep_machine.specs.Files.{named_by, numbers_of, object_of, opening_files, place_of, side_of, table_of, under};
+ghost use Rattle.ep_machine.specs.Bits.{raises};
+ghost use Rattle.ep_machine.specs.Objects.{advance, object_present};
+ghost use Rattle.ep_machine.specs.Tables.{affected, answer_one, answer_two, close, create_refusals, dup, dup2, exec, exit, fork, is_in_range, one_refusals, slot, two_refusals, with_table};
+ghost use Rattle.ep_machine.specs.Timer.{last_moment};
+ghost use Rattle.ep_table.specs.Closing.{IsAt, Takes, across};
+ghost use Rattle.ep_table.specs.Value.{CreatesOne, CreatesTwo, Gains, Sound, close_refusal, content_of, dup2_refusal, dup_refusal, effect_at, fork_refusal, holds_of, less_at, more_at, natural, number_found, number_of, number_under, one_refusal, process_refusal, two_refusal, waiting_at};
 ghost use Rattle.ep_object.specs.Memory.{asked_of};
+ghost use Rattle.ep_object.specs.Next.{IsNextMoment};
 
+use crate::names::{add_names, drop_names};
 use crate::processes::{
-    descriptor_at, enter, enter_two, leave, living, lowest, names, reserve, second, table_at,
+    close_flagged, descriptor_at, end, enter, enter_two, leave, lowest, put, reserve, second,
+    table_at,
 };
 use crate::store::Store;
 use crate::table::Table;
-use crate::words::Descriptor;
+use crate::words::{Dead, Descriptor};
 use ep_base::{Answer, Call, DescId, End, Errno, Fd, Limits, Mask, Pid, Raised};
 use ep_object::Object;
 use std::alloc::{AllocError, Global};
 use std::marker::Model;
 
-/// The tables of all processes, the open file descriptions and the objects, within limits.
+/// The tables of all processes, how many processes live, the open file descriptions and the objects,
+/// within limits.
 #[derive(Drop)]
 pub struct Tables {
     limits: Limits,
     processes: Vec<Option<Table>>,
+    living: usize,
     store: Store,
 }
 
@@ -65,7 +74,8 @@ impl Tables {
         ensures limits { IfOk result (λ tables. tables.limits ≡ limits) }
         ensures files { IfOk result (λ tables. tables.files ≡ opening_files) }
         ensures keys { IfOk result (λ tables. Gains [] tables.keys 0) }
-        ensures dead { IfOk result (λ tables. tables.dead ≡ []) }
+        ensures holds { IfOk result (λ tables. tables.holds ≡ 0 ∷ []) }
+        ensures dying { IfOk result (λ tables. tables.dying ≡ []) }
     {
         let mut store = Store::new(alloc);
         let description = store.insert(Object::plain(alloc))?;
@@ -73,9 +83,12 @@ impl Tables {
         let mut processes = Vec::new(alloc);
         processes.push(None)?;
         processes.push(Some(table))?;
+        store.add_name(description);
+        store.add_name(description);
         Ok(Tables {
             limits,
             processes,
+            living: 1,
             store,
         })
     }
@@ -137,6 +150,7 @@ impl Tables {
         ensures ok { OnOk result (CreatesOne self.old self.new pid.0 object cloexec) }
         ensures err { OnErr result (self.new ≡ self.old) }
     {
+        self.store.known();
         reserve(&mut self.processes, pid, 1)?;
         let description = self.store.insert(object)?;
         enter(
@@ -158,6 +172,7 @@ impl Tables {
         ensures ok { OnOk result (CreatesTwo self.old self.new pid.0 object cloexec) }
         ensures err { OnErr result (self.new ≡ self.old) }
     {
+        self.store.known();
         reserve(&mut self.processes, pid, 2)?;
         let (first, second) = self.store.insert_two(object)?;
         let first = Descriptor {
@@ -228,15 +243,18 @@ impl Tables {
     fn add_name(&mut self, pid: Pid, description: DescId) -> Result<(), AllocError>
         requires process { IsSome (table_of self.old.files pid.0) }
         requires live { IsSome (number_under self.old description) }
+        requires named { is_among (named_in_tables self.old.files.tables) (number_of self.old description) ≡ true }
         ensures ok { OnOk result (self.new ≡ record self.old { files = dup self.old.files pid.0 (number_of self.old description) }) }
         ensures err { OnErr result (self.new ≡ self.old) }
     {
+        self.store.fits(1)?;
         reserve(&mut self.processes, pid, 1)?;
         let descriptor = Descriptor {
             description,
             cloexec: false,
         };
         enter(&mut self.processes, pid, descriptor);
+        self.store.add_name(description);
         Ok(())
     }
 
@@ -264,15 +282,82 @@ impl Tables {
         Ok(Answer::Num(free as u64))
     }
 
+    /// Another descriptor of a description, at this number of a process that is there.
+    fn name_at(&mut self, pid: Pid, number: usize, description: DescId) -> Result<(), AllocError>
+        requires process { IsSome (table_of self.old.files pid.0) }
+        requires live { IsSome (number_under self.old description) }
+        requires named { is_among (named_in_tables self.old.files.tables) (number_of self.old description) ≡ true }
+        requires small { number < 65536 }
+        ensures ok { OnOk result (self.new ≡ record self.old { files = with_table self.old.files pid.0 (place_at (numbers_of self.old.files pid.0) number (slot (number_of self.old description) false)); dying = self.new.dying }) }
+        ensures err { OnErr result (self.new ≡ self.old) }
+    {
+        let replaced = descriptor_at(&self.processes, pid, number);
+        let descriptor = Descriptor {
+            description,
+            cloexec: false,
+        };
+        self.store.fits(1)?;
+        put(&mut self.processes, pid, number, descriptor)?;
+        self.store.add_name(description);
+        if let Some(replaced) = replaced {
+            self.store.drop_name(replaced.description);
+        }
+        Ok(())
+    }
+
+    /// A descriptor number of a process, where it is in the range of all.
+    fn in_range(&self, fd: Fd) -> Option<usize>
+        ensures some { IfSome result (λ number. (fd.0 ≡ pos number) × (number < 65536) × (is_in_range self.now.limits fd.0 ≡ true)) }
+        ensures none { IfNone result (is_in_range self.now.limits fd.0 ≡ false) }
+    {
+        let number = index_of(fd)?;
+        if number < self.limits.descriptors() as usize {
+            Some(number)
+        } else {
+            None
+        }
+    }
+
+    /// dup2(2): `to` names what `fd` names, with the close-on-exec flag off, and is the answer. What
+    /// it named before is closed first, silently; where `to` is `fd`, nothing is done. Refused, with
+    /// nothing changed: ESRCH where there is no such process, EBADF where `fd` names nothing, EBADF
+    /// where `to` is out of range. An `AllocError` leaves the tables. The time is that of growing the
+    /// table up to `to`.
+    pub fn dup2(&mut self, pid: Pid, fd: Fd, to: Fd) -> Result<Answer, AllocError>
+        ensures refused { IfOk result (λ answer. (e : the_errno) → dup2_refusal self.old pid.0 fd.0 to.0 ≡ Some e → (answer ≡ Refused e) × (self.new ≡ self.old)) }
+        ensures answer { IfOk result (λ answer. dup2_refusal self.old pid.0 fd.0 to.0 ≡ None → (n : ℕ) → to.0 ≡ pos n → answer ≡ Num n) }
+        ensures done { OnOk result (dup2_refusal self.old pid.0 fd.0 to.0 ≡ None → self.new ≡ record self.old { files = dup2 self.old.files pid.0 fd.0 to.0 (named_by self.old.files pid.0 fd.0); dying = self.new.dying }) }
+        ensures err { OnErr result (self.new ≡ self.old) }
+    {
+        if !self.has_process(pid) {
+            return Ok(Answer::Refused(Errno::Esrch));
+        }
+        let Some(description) = self.lookup(pid, fd) else {
+            return Ok(Answer::Refused(Errno::Ebadf));
+        };
+        let Some(number) = self.in_range(to) else {
+            return Ok(Answer::Refused(Errno::Ebadf));
+        };
+        if fd != to {
+            self.name_at(pid, number, description)?;
+        }
+        Ok(Answer::Num(number as u64))
+    }
+
     /// Adds a process with a copy of the table of a process that is there.
     fn add_process(&mut self, pid: Pid) -> Result<(), AllocError>
-        requires { IsSome (table_of self.old.files pid.0) }
+        requires process { IsSome (table_of self.old.files pid.0) }
+        requires room { length (numbered 0 self.old.files.tables) < 2 ^ 32 }
         ensures ok { OnOk result (self.new ≡ record self.old { files = fork self.old.files pid.0 }) }
         ensures err { OnErr result (self.new ≡ self.old) }
     {
         if let Some(table) = table_at(&self.processes, pid) {
             let copy = table.copy()?;
-            self.processes.push(Some(copy))?;
+            self.store.fits(copy.slots.len())?;
+            self.processes.reserve(1)?;
+            add_names(&mut self.store, &copy.slots);
+            self.processes.push_reserved(Some(copy));
+            self.living += 1;
         }
         Ok(())
     }
@@ -290,7 +375,7 @@ impl Tables {
         if !self.has_process(pid) {
             return Ok(Answer::Refused(Errno::Esrch));
         }
-        if self.limits.processes() as usize <= living(&self.processes) {
+        if self.limits.processes() as usize <= self.living {
             return Ok(Answer::Refused(Errno::Eagain));
         }
         let child = self.processes.len();
@@ -298,35 +383,24 @@ impl Tables {
         Ok(Answer::Num(child as u64))
     }
 
-    /// Takes a number that names something out of a process.
-    fn unname(&mut self, pid: Pid, fd: Fd)
+    /// Takes a number out of a process at which this descriptor stands.
+    fn unname(&mut self, pid: Pid, number: usize, description: DescId)
         requires process { IsSome (table_of self.old.files pid.0) }
-        requires named { IsSome (under self.old.files pid.0 fd.0) }
-        ensures { self.new ≡ record self.old { files = close self.old.files pid.0 fd.0 } }
+        requires named { number_found self.old (Some description) ≡ under self.old.files pid.0 (pos number) }
+        requires live { IsSome (number_under self.old description) }
+        ensures { self.new ≡ record self.old { files = close self.old.files pid.0 (pos number); dying = self.new.dying } }
     {
-        if let Some(number) = index_of(fd) {
-            leave(&mut self.processes, pid, number);
-        }
+        leave(&mut self.processes, pid, number);
+        self.store.drop_name(description);
     }
 
-    /// Ends a description where no table names it.
-    fn drop_unnamed(&mut self, description: DescId)
-        requires { IsSome (number_under self.old description) }
-        ensures { Drops self.old self.new (number_of self.old description) }
-    {
-        self.store.known();
-        if !names(&self.processes, description) {
-            self.store.kill(description);
-        }
-    }
-
-    /// close(2): frees a descriptor number. A description that no table names any more dies: its end
-    /// of its object closes, and it waits for `take_dead`. Refused, with nothing changed: ESRCH where
-    /// there is no such process, EBADF where `fd` names nothing.
+    /// close(2): frees a descriptor number. A description that no table names and no waiter holds any
+    /// more stays live until `take_dead` gives it. Refused, with nothing changed: ESRCH where there is
+    /// no such process, EBADF where `fd` names nothing. The time is constant.
     pub fn close(&mut self, pid: Pid, fd: Fd) -> Answer
         ensures refused { (e : the_errno) → close_refusal self.old pid.0 fd.0 ≡ Some e → (result ≡ Refused e) × (self.new ≡ self.old) }
         ensures answer { close_refusal self.old pid.0 fd.0 ≡ None → result ≡ Done }
-        ensures done { close_refusal self.old pid.0 fd.0 ≡ None → Drops (record self.old { files = close self.old.files pid.0 fd.0 }) self.new (named_by self.old.files pid.0 fd.0) }
+        ensures done { close_refusal self.old pid.0 fd.0 ≡ None → self.new ≡ record self.old { files = close self.old.files pid.0 fd.0; dying = self.new.dying } }
     {
         if !self.has_process(pid) {
             return Answer::Refused(Errno::Esrch);
@@ -334,19 +408,95 @@ impl Tables {
         let Some(description) = self.lookup(pid, fd) else {
             return Answer::Refused(Errno::Ebadf);
         };
-        self.unname(pid, fd);
-        self.drop_unnamed(description);
+        if let Some(number) = index_of(fd) {
+            self.unname(pid, number, description);
+        }
         Answer::Done
     }
 
-    /// The next of the descriptions that died, in order, and what closing its end raised at the ends
-    /// of its object. Its key may belong to another description once one is created.
-    pub fn take_dead(&mut self) -> Option<(DescId, Raised)>
-        ensures none { IfNone result ((self.new ≡ self.old) × (self.old.dead ≡ [])) }
-        ensures some { IfSome result (λ r. Takes self.old self.new r.0 r.1) }
+    /// Closes the numbers of a process that is there whose close-on-exec flag is on.
+    fn unname_flagged(&mut self, pid: Pid)
+        requires { IsSome (table_of self.old.files pid.0) }
+        ensures { self.new ≡ record self.old { files = exec self.old.files pid.0; dying = self.new.dying } }
     {
-        let first = self.store.take_dead()?;
-        Some((first.key, first.raised))
+        if let Some(table) = table_at(&self.processes, pid) {
+            drop_names(&mut self.store, &table.slots, false);
+            close_flagged(&mut self.processes, pid);
+        }
+    }
+
+    /// execve(2): closes the numbers of a process whose close-on-exec flag is on. Refused, with nothing
+    /// changed: ESRCH where there is no such process. The time is that of going through its table.
+    pub fn exec(&mut self, pid: Pid) -> Answer
+        ensures refused { (e : the_errno) → process_refusal self.old pid.0 ≡ Some e → (result ≡ Refused e) × (self.new ≡ self.old) }
+        ensures answer { process_refusal self.old pid.0 ≡ None → result ≡ Done }
+        ensures done { process_refusal self.old pid.0 ≡ None → self.new ≡ record self.old { files = exec self.old.files pid.0; dying = self.new.dying } }
+    {
+        if !self.has_process(pid) {
+            return Answer::Refused(Errno::Esrch);
+        }
+        self.unname_flagged(pid);
+        Answer::Done
+    }
+
+    /// Closes all numbers of a process that is there, which ends.
+    fn remove_process(&mut self, pid: Pid)
+        requires { IsSome (table_of self.old.files pid.0) }
+        ensures { self.new ≡ record self.old { files = exit self.old.files pid.0; dying = self.new.dying } }
+    {
+        if let Some(table) = table_at(&self.processes, pid) {
+            drop_names(&mut self.store, &table.slots, true);
+            end(&mut self.processes, pid);
+            self.living -= 1;
+        }
+    }
+
+    /// _exit(2): closes all numbers of a process and ends it. Its number is never used again. Refused,
+    /// with nothing changed: ESRCH where there is no such process. The time is that of going through
+    /// its table.
+    pub fn exit(&mut self, pid: Pid) -> Answer
+        ensures refused { (e : the_errno) → process_refusal self.old pid.0 ≡ Some e → (result ≡ Refused e) × (self.new ≡ self.old) }
+        ensures answer { process_refusal self.old pid.0 ≡ None → result ≡ Done }
+        ensures done { process_refusal self.old pid.0 ≡ None → self.new ≡ record self.old { files = exit self.old.files pid.0; dying = self.new.dying } }
+    {
+        if !self.has_process(pid) {
+            return Answer::Refused(Errno::Esrch);
+        }
+        self.remove_process(pid);
+        Answer::Done
+    }
+
+    /// Holds a live description for a waiter: it lives until each hold is released, whether a table
+    /// names it or not. It takes no memory; an `AllocError` comes where it is held 2^64 - 1 times, and
+    /// leaves the tables. The time is constant.
+    pub fn hold(&mut self, desc: DescId) -> Result<(), AllocError>
+        requires live { IsSome (number_under self.old desc) }
+        requires used { is_among self.old.dying (number_of self.old desc) ≡ false }
+        ensures ok { OnOk result (self.new ≡ record self.old { holds = more_at self.old.holds (number_of self.old desc) }) }
+        ensures err { OnErr result (self.new ≡ self.old) }
+    {
+        self.store.hold(desc)
+    }
+
+    /// Releases one hold of a live description. One that no table names and no waiter holds any more
+    /// stays live until `take_dead` gives it. The time is constant.
+    pub fn release(&mut self, desc: DescId)
+        requires live { IsSome (number_under self.old desc) }
+        requires held { 0 < holds_of self.old (number_of self.old desc) }
+        ensures { self.new ≡ record self.old { holds = less_at self.old.holds (number_of self.old desc); dying = self.new.dying } }
+    {
+        self.store.release(desc);
+    }
+
+    /// Ends one of the descriptions that no table names and no waiter holds, in no promised order: its
+    /// end of its object closes, the object goes with its last description, and the key is free for
+    /// another description. `None` where there is none, and then nothing changes. The time is constant.
+    pub fn take_dead(&mut self) -> Option<Dead>
+        ensures none { IfNone result ((self.new ≡ self.old) × (self.old.dying ≡ [])) }
+        ensures some { IfSome result (λ dead. Takes self.old self.new dead) }
+    {
+        self.store.known();
+        self.store.take_dead()
     }
 
     /// Which end of its object a live description is: the first where the object has one description.
@@ -377,10 +527,32 @@ impl Tables {
     /// The bits that hold now at a live description, as poll(2) names them: what its object shows at
     /// its end, and none of an epoll instance. `now` is the clock in milliseconds.
     pub fn present(&self, desc: DescId, now: u64) -> Mask
-        requires { IsSome (number_under self.now desc) }
+        requires live { IsSome (number_under self.now desc) }
+        requires clock { now ≤ last_moment }
         ensures { let number = number_of self.now desc in result.0 ≡ object_present (content_of self.now.files number) (side_of self.now.files number) now }
     {
         self.object(desc).present(self.end(desc), now)
+    }
+
+    /// What the clock raises at the ends of a live description's object as it goes on from `old` to
+    /// `new`, in milliseconds: IN where it is a timer whose unread expirations go from none to some.
+    pub fn advance(&self, desc: DescId, old: u64, new: u64) -> Raised
+        requires live { IsSome (number_under self.now desc) }
+        requires old { old ≤ last_moment }
+        requires new { new ≤ last_moment }
+        ensures { result ≡ raises (advance (content_of self.now.files (number_of self.now desc)) old new) 0 }
+    {
+        self.object(desc).advance(old, new)
+    }
+
+    /// The first moment after `now` at which the clock raises IN at a live description, or `None`
+    /// where there is none, and for any object but a timer.
+    pub fn next(&self, desc: DescId, now: u64) -> Option<u64>
+        requires live { IsSome (number_under self.now desc) }
+        requires clock { now ≤ last_moment }
+        ensures { IsNextMoment (content_of self.now.files (number_of self.now desc)) now result }
+    {
+        self.object(desc).next(now)
     }
 
     /// How many bytes a read at a live description could give.
@@ -400,7 +572,8 @@ impl Tables {
         now: u64,
         call: &Call,
     ) -> Result<(Answer, Raised), AllocError>
-        requires { IsSome (number_under self.old desc) }
+        requires live { IsSome (number_under self.old desc) }
+        requires clock { now ≤ last_moment }
         ensures answer { IfOk result (λ r. r.0 ≡ (effect_at self.old.files (number_of self.old desc) now call.now).0) }
         ensures raised { IfOk result (λ r. r.1 ≡ (effect_at self.old.files (number_of self.old desc) now call.now).2) }
         ensures files { OnOk result (self.new ≡ record self.old { files = affected self.old.files (number_of self.old desc) (effect_at self.old.files (number_of self.old desc) now call.now) }) }
@@ -411,7 +584,8 @@ impl Tables {
     }
 
     /// What always holds: no number stands under two keys, a key's number is live and has an object,
-    /// and what a descriptor names has a key.
+    /// what lives or is named has a key, what is no more isn't held, and the queue of the dying has
+    /// exactly the live descriptions that no table names and no waiter holds, each once.
     pub fn known(&self)
         ensures { Sound self.now }
     {

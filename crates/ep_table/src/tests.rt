@@ -117,9 +117,10 @@ fn hangup(rt: HostRuntime) -> Result<(), Fail> {
     let writer = tables.lookup(Pid(1), Fd(4)).expect(&rt, "the write end");
     assert!(rt; tables.other(writer) == tables.lookup(Pid(1), Fd(3)));
     assert!(rt; matches!(tables.close(Pid(1), Fd(4)), Answer::Done));
-    let (dead, raised) = tables.take_dead().expect(&rt, "the write end died");
-    assert!(rt; dead == writer);
-    assert_eq!(rt; raised.first, Mask::HUP);
+    let dead = tables.take_dead().expect(&rt, "the write end died");
+    assert!(rt; dead.desc == writer && dead.end == End::Second);
+    assert!(rt; dead.other == tables.lookup(Pid(1), Fd(3)));
+    assert_eq!(rt; dead.raised.first, Mask::HUP);
     let reader = tables.lookup(Pid(1), Fd(3)).expect(&rt, "the read end");
     assert_eq!(rt; tables.present(reader, 0), Mask::HUP);
     assert_eq!(rt; tables.waiting(reader), 0);
@@ -142,5 +143,117 @@ fn child(rt: HostRuntime) -> Result<(), Fail> {
     }
     assert!(rt; tables.take_dead().is_none());
     assert!(rt; tables.lookup(Pid(1), Fd(0)).is_none() && tables.lookup(Pid(2), Fd(0)) == input);
+    Ok(())
+}
+
+// After dup2 and close, 3 is free again, and the description lives on at 7.
+#[test]
+fn moved(rt: HostRuntime) -> Result<(), Fail> {
+    let mut tables = Tables::new(rt.alloc(), limits(8, 4_096))?;
+    let object = Object::pipe(rt.alloc(), 4_096)?;
+    tables.create_two(Pid(1), true, object)?;
+    let reader = tables.lookup(Pid(1), Fd(3));
+    assert!(rt; matches!(tables.dup2(Pid(1), Fd(3), Fd(7))?, Answer::Num(7)));
+    assert!(rt; matches!(tables.close(Pid(1), Fd(3)), Answer::Done));
+    assert!(rt; tables.take_dead().is_none() && tables.lookup(Pid(1), Fd(7)) == reader);
+    assert!(rt;
+        matches!(
+            tables.create(Pid(1), false, Object::instance())?,
+            Answer::Num(3)
+        )
+    );
+    assert!(rt; matches!(tables.dup2(Pid(1), Fd(7), Fd(7))?, Answer::Num(7)));
+    assert!(rt;
+        matches!(
+            tables.dup2(Pid(1), Fd(7), Fd(8))?,
+            Answer::Refused(Errno::Ebadf)
+        )
+    );
+    assert!(rt;
+        matches!(
+            tables.dup2(Pid(1), Fd(6), Fd(7))?,
+            Answer::Refused(Errno::Ebadf)
+        )
+    );
+    assert!(rt;
+        matches!(
+            tables.dup2(Pid(2), Fd(6), Fd(7))?,
+            Answer::Refused(Errno::Esrch)
+        )
+    );
+    assert!(rt; matches!(tables.dup2(Pid(1), Fd(4), Fd(7))?, Answer::Num(7)));
+    let dead = tables.take_dead().expect(&rt, "the read end died");
+    assert!(rt; Some(dead.desc) == reader && tables.take_dead().is_none());
+    Ok(())
+}
+
+// A held instance lives on while its number goes to another one.
+#[test]
+fn held(rt: HostRuntime) -> Result<(), Fail> {
+    let mut tables = Tables::new(rt.alloc(), limits(16, 16))?;
+    tables.create(Pid(1), false, Object::instance())?;
+    let held = tables.lookup(Pid(1), Fd(3)).expect(&rt, "the instance");
+    tables.hold(held)?;
+    assert!(rt; matches!(tables.close(Pid(1), Fd(3)), Answer::Done));
+    assert!(rt; tables.take_dead().is_none() && tables.object(held).is_instance());
+    tables.release(held);
+    assert!(rt; matches!(tables.take_dead(), Some(dead) if dead.desc == held));
+    assert!(rt;
+        matches!(
+            tables.create(Pid(1), false, Object::instance())?,
+            Answer::Num(3)
+        )
+    );
+    Ok(())
+}
+
+// Full tables, and a process that ends.
+#[test]
+fn full(rt: HostRuntime) -> Result<(), Fail> {
+    let small = Limits::new(6, 5, 2, 8, 4_096, 1).expect(&rt, "limits");
+    let mut tables = Tables::new(rt.alloc(), small)?;
+    let object = Object::pipe(rt.alloc(), 4_096)?;
+    tables.create_two(Pid(1), false, object)?;
+    assert!(rt; tables.refuses_two(Pid(1)) == Some(Errno::Emfile));
+    assert!(rt; matches!(tables.fork(Pid(1))?, Answer::Num(2)));
+    assert!(rt; matches!(tables.fork(Pid(1))?, Answer::Refused(Errno::Eagain)));
+    assert!(rt; matches!(tables.close(Pid(1), Fd(3)), Answer::Done));
+    assert!(rt; tables.take_dead().is_none());
+    assert!(rt;
+        matches!(
+            tables.create(Pid(1), false, Object::instance())?,
+            Answer::Num(3)
+        )
+    );
+    assert!(rt;
+        matches!(
+            tables.create(Pid(1), false, Object::instance())?,
+            Answer::Num(5)
+        )
+    );
+    assert!(rt; tables.refuses_one(Pid(2)) == Some(Errno::Enfile));
+    assert!(rt; matches!(tables.exit(Pid(2)), Answer::Done));
+    let dead = tables.take_dead().expect(&rt, "the read end died");
+    assert!(rt; dead.end == End::First && dead.other == tables.lookup(Pid(1), Fd(4)));
+    assert!(rt; matches!(tables.close(Pid(2), Fd(0)), Answer::Refused(Errno::Esrch)));
+    assert!(rt; matches!(tables.exit(Pid(2)), Answer::Refused(Errno::Esrch)));
+    assert!(rt; matches!(tables.fork(Pid(1))?, Answer::Num(3)));
+    Ok(())
+}
+
+// exec closes what is flagged, and dup's copy isn't.
+#[test]
+fn flagged(rt: HostRuntime) -> Result<(), Fail> {
+    let mut tables = Tables::new(rt.alloc(), limits(16, 16))?;
+    let object = Object::pipe(rt.alloc(), 4_096)?;
+    tables.create_two(Pid(1), true, object)?;
+    let reader = tables.lookup(Pid(1), Fd(3));
+    let writer = tables.lookup(Pid(1), Fd(4));
+    assert!(rt; matches!(tables.dup(Pid(1), Fd(3))?, Answer::Num(5)));
+    assert!(rt; matches!(tables.exec(Pid(1)), Answer::Done));
+    assert!(rt; tables.lookup(Pid(1), Fd(3)).is_none() && tables.lookup(Pid(1), Fd(5)) == reader);
+    let dead = tables.take_dead().expect(&rt, "the write end died");
+    assert!(rt; Some(dead.desc) == writer && dead.other == reader && tables.take_dead().is_none());
+    assert!(rt; matches!(tables.exec(Pid(2)), Answer::Refused(Errno::Esrch)));
     Ok(())
 }

@@ -1,5 +1,6 @@
 //! Whole scripts over the scanning kernel.
 
+use crate::tests::scripts::{LEVEL, SCRIPTS, SINGLE_LINES, Script};
 use crate::{ScriptFault, Summary, Watched, run_script};
 use ep_base::Limits;
 use ep_plain::{Kernel, PlainKernel};
@@ -7,42 +8,33 @@ use std::alloc::Global;
 use std::process::Abort;
 use std::test::Fail;
 
-/// One level of readiness, reported until the pipe is empty.
-const LEVEL: [(&str, &str); 8] = [
-    ("{\"op\":\"pipe\"}", "{\"two\":[3,4]}"),
-    ("{\"op\":\"epoll\"}", "{\"num\":5}"),
-    (
-        "{\"op\":\"ctl\",\"ep\":5,\"act\":\"add\",\"fd\":3,\"mask\":1,\"data\":3}",
-        "{\"done\":true}",
-    ),
-    (
-        "{\"op\":\"write\",\"fd\":4,\"hex\":\"616263\"}",
-        "{\"num\":3}",
-    ),
-    (
-        "{\"op\":\"wait\",\"ep\":5,\"max\":8,\"timeout\":0}",
-        "{\"events\":[[1,3]]}",
-    ),
-    (
-        "{\"op\":\"wait\",\"ep\":5,\"max\":8,\"timeout\":0}",
-        "{\"events\":[[1,3]]}",
-    ),
-    (
-        "{\"op\":\"read\",\"fd\":3,\"n\":3}",
-        "{\"bytes\":\"616263\"}",
-    ),
-    (
-        "{\"op\":\"wait\",\"ep\":5,\"max\":8,\"timeout\":0}",
-        "{\"events\":[]}",
-    ),
-];
+fn limits_of(rt: &impl Abort, numbers: [u32; 6]) -> Limits {
+    let [
+        descriptors,
+        files,
+        processes,
+        watches,
+        pipe_bytes,
+        sock_bytes,
+    ] = numbers;
+    Limits::new(
+        descriptors,
+        files,
+        processes,
+        watches,
+        pipe_bytes,
+        sock_bytes,
+    )
+    .expect(rt, "limits")
+}
 
 /// What a script over a new kernel writes, and how long the history is then.
 fn outcome_of(
     alloc: Global,
+    limits: Limits,
     script: &str,
 ) -> Result<(Result<Summary, ScriptFault>, Vec<u8>, usize), Fail> {
-    let mut kernel = PlainKernel::new(alloc, Limits::default())?;
+    let mut kernel = PlainKernel::new(alloc, limits)?;
     let mut reader = Watched::new(script.as_bytes());
     let mut writer = Watched::new(Vec::new(alloc));
     let outcome = run_script(alloc, &mut kernel, &mut reader, &mut writer);
@@ -52,11 +44,12 @@ fn outcome_of(
 
 fn expect_script(
     rt: &(impl AllocGlobal + Abort),
+    limits: Limits,
     script: &str,
     wanted: &str,
     bad: u64,
 ) -> Result<(), Fail> {
-    let (outcome, written, records) = outcome_of(rt.alloc(), script)?;
+    let (outcome, written, records) = outcome_of(rt.alloc(), limits, script)?;
     let lines = wanted.bytes().filter(|byte| *byte == b'\n').count() as u64;
     let summary = Summary {
         lines,
@@ -73,16 +66,35 @@ fn expect_script(
     Ok(())
 }
 
-#[test]
-fn reports_while_it_is_ready(rt: HostRuntime) -> Result<(), Fail> {
+fn expect_lines(rt: &(impl AllocGlobal + Abort), wanted: &Script) -> Result<(), Fail> {
     let alloc = rt.alloc();
     let mut script = String::new(alloc);
-    let mut wanted = String::new(alloc);
-    for (line, answer) in LEVEL {
+    let mut answers = String::new(alloc);
+    for (line, answer) in wanted.lines {
         write!(script, "{line}\n")?;
-        write!(wanted, "{answer}\n")?;
+        write!(answers, "{answer}\n")?;
     }
-    expect_script(&rt, script.as_str(), wanted.as_str(), 0)
+    let limits = limits_of(rt, wanted.limits);
+    expect_script(rt, limits, script.as_str(), answers.as_str(), 0)
+}
+
+#[test]
+fn answers_each_script(rt: HostRuntime) -> Result<(), Fail> {
+    for script in SCRIPTS {
+        expect_lines(&rt, script)?;
+    }
+    Ok(())
+}
+
+#[test]
+fn answers_single_lines(rt: HostRuntime) -> Result<(), Fail> {
+    expect_script(&rt, Limits::default(), "", "", 0)?;
+    for (line, answer) in SINGLE_LINES {
+        let wanted = format!(in rt.alloc(); "{answer}\n")?;
+        let bad = u64::from(wanted.starts_with("{\"bad\""));
+        expect_script(&rt, Limits::default(), line, wanted.as_str(), bad)?;
+    }
+    Ok(())
 }
 
 /// The script whose first lines are whole, and of whose next line so many bytes are there.
@@ -91,7 +103,7 @@ fn expect_cut(rt: &(impl AllocGlobal + Abort), whole: usize, part: usize) -> Res
     let mut script = String::new(alloc);
     let mut wanted = String::new(alloc);
     let mut bad = 0;
-    for (i, (line, answer)) in LEVEL.into_iter().enumerate() {
+    for (i, (line, answer)) in LEVEL.iter().enumerate() {
         if i < whole {
             write!(script, "{line}\n")?;
             write!(wanted, "{answer}\n")?;
@@ -105,12 +117,12 @@ fn expect_cut(rt: &(impl AllocGlobal + Abort), whole: usize, part: usize) -> Res
             bad = 1;
         }
     }
-    expect_script(rt, script.as_str(), wanted.as_str(), bad)
+    expect_script(rt, Limits::default(), script.as_str(), wanted.as_str(), bad)
 }
 
 #[test]
 fn answers_what_is_left_of_a_cut_script(rt: HostRuntime) -> Result<(), Fail> {
-    for (whole, (line, _)) in LEVEL.into_iter().enumerate() {
+    for (whole, (line, _)) in LEVEL.iter().enumerate() {
         for part in 0..=line.len() {
             expect_cut(&rt, whole, part)?;
         }
@@ -143,22 +155,5 @@ fn fills_a_pipe(rt: HostRuntime) -> Result<(), Fail> {
     let wanted = format!(in alloc;
         "{{\"two\":[3,4]}}\n{{\"num\":5}}\n{{\"done\":true}}\n{{\"num\":65536}}\n{{\"events\":[]}}\n{full}\n{{\"bytes\":\"{digits}\"}}\n{{\"events\":[]}}\n{{\"bytes\":\"61\"}}\n{{\"events\":[[4,4]]}}\n{{\"num\":4096}}\n{{\"bytes\":\"{digits}\"}}\n{full}\n"
     )?;
-    expect_script(&rt, script, wanted.as_str(), 0)
-}
-
-#[test]
-fn answers_lines_at_the_edge(rt: HostRuntime) -> Result<(), Fail> {
-    expect_script(&rt, "", "", 0)?;
-    expect_script(&rt, "{\"op\":\"pi", "{\"bad\":1}\n", 1)?;
-    expect_script(&rt, "\n", "{\"bad\":1}\n", 1)?;
-    let bad = "{\"bad\":1}\n";
-    expect_script(&rt, "{\"op\":\"write\",\"fd\":1,\"hex\":\"6\"}", bad, 1)?;
-    let line = "{\"op\":\"write\",\"fd\":1,\"hex\":\"6a6B\"}";
-    expect_script(&rt, line, "{\"num\":2}\n", 0)?;
-    let line = "{\"op\":\"write\",\"fd\":1,\"hex\":\"\",\"fill\":[0,0]}";
-    expect_script(&rt, line, bad, 1)?;
-    let line = "{\"op\":\"read\",\"fd\":0,\"n\":8}";
-    expect_script(&rt, line, "{\"bytes\":\"\"}\n", 0)?;
-    let line = "{\"op\":\"wait\",\"ep\":0,\"max\":1,\"timeout\":0}";
-    expect_script(&rt, line, "{\"err\":[22,\"EINVAL\"]}\n", 0)
+    expect_script(&rt, Limits::default(), script, wanted.as_str(), 0)
 }

@@ -35,6 +35,10 @@ impl Kernel for NoMemory {
     fn limits(&self) -> &Limits {
         &self.limits
     }
+
+    fn now(&self) -> u64 {
+        0
+    }
 }
 
 /// Gives a text in pieces, and then fails or ends.

@@ -1,17 +1,21 @@
-use Rattle.std.proofs.Common.{◌≡◌, ℕ, ℤ, List, [], ◌∷◌, of_z, rules, sym, ap, ◌∙◌, subst, to_z, w32, w64}
+use Rattle.std.proofs.Common.{◌≡◌, ℕ, ℤ, Bool, List, [], ◌∷◌, ◌++◌, not, of_z, refl, rules, sym, ap, ◌∙◌, subst, to_z, w32, w64}
 use Rattle.std.proofs.lemmas.Int.{to_z-of_z}
 use mir.Val.{SFits}
 use Rattle.ep_base.specs.declared.answer.Answer.{Answer}
 use Rattle.ep_base.specs.declared.call.Call.{Call}
-use Rattle.ep_base.specs.declared.call.Call.TheVariants.{EpollCreate, EpollCtl, EpollWait, Pipe as PipeCall, Read, Write}
-use Rattle.ep_machine.specs.Objects.{instance, pipe}
+use Rattle.ep_base.specs.declared.call.Call.TheVariants.{EpollCreate, EpollCtl, EpollWait, EventFd, GetTime, Pipe as PipeCall, Plain, Read, SetTime, Shutdown, SocketPair, TimerFd, Write}
+use Rattle.ep_base.specs.declared.errno.Errno.{Errno}
+use Rattle.ep_base.specs.declared.errno.Errno.TheVariants.{Einval}
+use Rattle.ep_machine.specs.Objects.{Object, counter, instance, pair, pipe, plain, timer}
 use Rattle.ep_machine.specs.Pipe.{new_pipe}
-use Rattle.ep_machine.specs.Refusal.{call_refusals}
+use Rattle.ep_machine.specs.Refusal.{call_refusals, is_clock}
+use Rattle.ep_machine.specs.Sockets.{new_pair}
 use Rattle.ep_machine.specs.State.{State}
 use Rattle.ep_machine.specs.Step.{call_change}
 use Rattle.ep_machine.specs.Tables.{answer_one, answer_two, create_one, create_two, one_refusals, two_refusals}
+use Rattle.ep_machine.specs.Timer.{new_timer}
 use Rattle.ep_plain.specs.Moves.{Goes, Opens, Parts}
-use Rattle.ep_plain.proofs.Opening.{instance_goes, opens_linked, pipe_goes, transfer_call, transfer_limits, transfer_linked}
+use Rattle.ep_plain.proofs.Opening.{object_called, object_limits, object_linked, on_object_is, one_goes, opens_limits, opens_linked, two_goes}
 use Rattle.ep_plain.proofs.act.act_call.Goals as goal
 
 pub returns-in_ok-acted-in-Pipe-clause-ok : goal.returns-in_ok-acted-in-Pipe-clause-ok
@@ -21,34 +25,126 @@ returns-in_ok-acted-in-Pipe-clause-ok c = λ caller s at sound quiet stands.
     let r = c.args.interest.now in
     let limits = c.args.limits.now in
     let p = c.args.pid.0 in
+    let x = c.in-Pipe in
     let acted = c.in_ok-acted-in-Pipe.acted in
-    let P : Call → List ℕ → Type 0 = λ call ks. Goes (call_refusals limits s p call) (call_change limits s caller p call ks) s acted.answer ks (record { tables = new; interest = r }) in
-    let O : ℕ → Type 0 = λ capacity. Opens (two_refusals v.limits v.files p) (answer_two v.files p) (create_two v.files p (pipe (new_pipe capacity)) c.in-Pipe.cloexec) acted.answer v new in
-    subst (λ (call : Call). P call acted.picked) (sym c.in-Pipe.is) (subst (P (PipeCall c.in-Pipe.cloexec)) (sym c.in_ok-acted-in-Pipe.ensures.picked)
-    (pipe_goes limits v new r s p acted.answer c.requires.linked stands c.requires.limits limits.pipe_bytes c.in-Pipe.cloexec (subst O c.pipe_bytes.ensures c.in_ok-acted-in-Pipe.ensures.ok)))
+    let P : Call → List ℕ → Type 0 = λ call ks. Goes (call_refusals limits s p call) (call_change limits s caller p call ks) s acted.answer ks (record { tables = new; interest = r; now = c.args.now }) in
+    let O : ℕ → Type 0 = λ capacity. Opens (two_refusals v.limits v.files p) (answer_two v.files p) (create_two v.files p (pipe (new_pipe capacity)) x.cloexec) acted.answer v new in
+    subst (λ (call : Call). P call acted.picked) (sym x.is) (subst (P (PipeCall x.cloexec)) (sym c.in_ok-acted-in-Pipe.ensures.picked)
+    (two_goes limits v new r c.args.now s p acted.answer c.requires.linked stands c.requires.limits (pipe (new_pipe limits.pipe_bytes)) x.cloexec (subst O c.pipe_bytes.ensures c.in_ok-acted-in-Pipe.ensures.ok)))
 
 pub returns-in_ok-acted-in-Pipe-clause-linked : goal.returns-in_ok-acted-in-Pipe-clause-linked
-returns-in_ok-acted-in-Pipe-clause-linked c = opens_linked (two_refusals c.args.tables.now.limits c.args.tables.now.files c.args.pid.0) (answer_two c.args.tables.now.files c.args.pid.0) (create_two c.args.tables.now.files c.args.pid.0 (pipe (new_pipe c.pipe_bytes.result)) c.in-Pipe.cloexec) c.in_ok-acted-in-Pipe.acted.answer c.args.tables.now c.create_pipe.new.tables c.in_ok-acted-in-Pipe.ensures.ok c.args.interest.now c.requires.linked
+returns-in_ok-acted-in-Pipe-clause-linked c =
+    let v = c.args.tables.now in
+    opens_linked (two_refusals v.limits v.files c.args.pid.0) (answer_two v.files c.args.pid.0) (create_two v.files c.args.pid.0 (pipe (new_pipe c.pipe_bytes.result)) c.in-Pipe.cloexec) c.in_ok-acted-in-Pipe.acted.answer v c.create_pipe.new.tables c.in_ok-acted-in-Pipe.ensures.ok c.args.interest.now c.requires.linked
+
+pub returns-in_ok-acted-in-SocketPair-clause-ok : goal.returns-in_ok-acted-in-SocketPair-clause-ok
+returns-in_ok-acted-in-SocketPair-clause-ok c = λ caller s at sound quiet stands.
+    let v = c.args.tables.now in
+    let new = c.create_pair.new.tables in
+    let r = c.args.interest.now in
+    let limits = c.args.limits.now in
+    let p = c.args.pid.0 in
+    let x = c.in-SocketPair in
+    let acted = c.in_ok-acted-in-SocketPair.acted in
+    let P : Call → List ℕ → Type 0 = λ call ks. Goes (call_refusals limits s p call) (call_change limits s caller p call ks) s acted.answer ks (record { tables = new; interest = r; now = c.args.now }) in
+    let O : ℕ → Type 0 = λ capacity. Opens (two_refusals v.limits v.files p) (answer_two v.files p) (create_two v.files p (pair (new_pair capacity)) x.cloexec) acted.answer v new in
+    subst (λ (call : Call). P call acted.picked) (sym x.is) (subst (P (SocketPair x.cloexec)) (sym c.in_ok-acted-in-SocketPair.ensures.picked)
+    (two_goes limits v new r c.args.now s p acted.answer c.requires.linked stands c.requires.limits (pair (new_pair limits.sock_bytes)) x.cloexec (subst O c.sock_bytes.ensures c.in_ok-acted-in-SocketPair.ensures.ok)))
+
+pub returns-in_ok-acted-in-SocketPair-clause-linked : goal.returns-in_ok-acted-in-SocketPair-clause-linked
+returns-in_ok-acted-in-SocketPair-clause-linked c =
+    let v = c.args.tables.now in
+    opens_linked (two_refusals v.limits v.files c.args.pid.0) (answer_two v.files c.args.pid.0) (create_two v.files c.args.pid.0 (pair (new_pair c.sock_bytes.result)) c.in-SocketPair.cloexec) c.in_ok-acted-in-SocketPair.acted.answer v c.create_pair.new.tables c.in_ok-acted-in-SocketPair.ensures.ok c.args.interest.now c.requires.linked
+
+pub returns-in_ok-acted-in-EventFd-clause-ok : goal.returns-in_ok-acted-in-EventFd-clause-ok
+returns-in_ok-acted-in-EventFd-clause-ok c = λ caller s at sound quiet stands.
+    let v = c.args.tables.now in
+    let new = c.create_single.new.tables in
+    let r = c.args.interest.now in
+    let limits = c.args.limits.now in
+    let p = c.args.pid.0 in
+    let x = c.in-EventFd in
+    let acted = c.in_ok-acted-in-EventFd.acted in
+    let P : Call → List ℕ → Type 0 = λ call ks. Goes (call_refusals limits s p call) (call_change limits s caller p call ks) s acted.answer ks (record { tables = new; interest = r; now = c.args.now }) in
+    let O : Object → Type 0 = λ made. Opens (one_refusals v.limits v.files p) (answer_one v.files p) (create_one v.files p made x.cloexec) acted.answer v new in
+    subst (λ (call : Call). P call acted.picked) (sym x.is) (subst (P (EventFd x.init x.semaphore x.cloexec)) (sym c.in_ok-acted-in-EventFd.ensures.picked)
+    (one_goes limits v new r c.args.now s p acted.answer c.requires.linked stands c.requires.limits [] (counter (record { count = x.init; is_semaphore = x.semaphore })) x.cloexec (subst O c.counter-counter.ensures c.in_ok-acted-in-EventFd.ensures.ok)))
+
+pub returns-in_ok-acted-in-EventFd-clause-linked : goal.returns-in_ok-acted-in-EventFd-clause-linked
+returns-in_ok-acted-in-EventFd-clause-linked c =
+    let v = c.args.tables.now in
+    let p = c.args.pid.0 in
+    let x = c.in-EventFd in
+    opens_linked (one_refusals v.limits v.files p) (answer_one v.files p) (create_one v.files p c.counter-counter.result x.cloexec) c.in_ok-acted-in-EventFd.acted.answer v c.create_single.new.tables c.in_ok-acted-in-EventFd.ensures.ok c.args.interest.now c.requires.linked
+
+pub returns-in_ok-acted-in-TimerFd-clause-ok : goal.returns-in_ok-acted-in-TimerFd-clause-ok
+returns-in_ok-acted-in-TimerFd-clause-ok c = λ caller s at sound quiet stands.
+    let v = c.args.tables.now in
+    let new = c.create_timer.new.tables in
+    let r = c.args.interest.now in
+    let limits = c.args.limits.now in
+    let p = c.args.pid.0 in
+    let x = c.in-TimerFd in
+    let acted = c.in_ok-acted-in-TimerFd.acted in
+    let P : Call → List ℕ → Type 0 = λ call ks. Goes (call_refusals limits s p call) (call_change limits s caller p call ks) s acted.answer ks (record { tables = new; interest = r; now = c.args.now }) in
+    let fits : SFits w32 x.clock = search rules in
+    let T : ℤ → Type 0 = λ z. Opens ((not (is_clock z), Einval) ∷ one_refusals v.limits v.files p) (answer_one v.files p) (create_one v.files p (timer new_timer) x.cloexec) acted.answer v new in
+    subst (λ (call : Call). P call acted.picked) (sym x.is) (subst (P (TimerFd x.clock x.cloexec)) (sym c.in_ok-acted-in-TimerFd.ensures.picked)
+    (one_goes limits v new r c.args.now s p acted.answer c.requires.linked stands c.requires.limits ((not (is_clock x.clock), Einval) ∷ []) (timer new_timer) x.cloexec (subst T (to_z-of_z w32 x.clock fits) c.in_ok-acted-in-TimerFd.ensures.ok)))
+
+pub returns-in_ok-acted-in-TimerFd-clause-linked : goal.returns-in_ok-acted-in-TimerFd-clause-linked
+returns-in_ok-acted-in-TimerFd-clause-linked c =
+    let v = c.args.tables.now in
+    let p = c.args.pid.0 in
+    let x = c.in-TimerFd in
+    opens_linked ((not (is_clock (to_z w32 (of_z w32 x.clock))), Einval) ∷ one_refusals v.limits v.files p) (answer_one v.files p) (create_one v.files p (timer new_timer) x.cloexec) c.in_ok-acted-in-TimerFd.acted.answer v c.create_timer.new.tables c.in_ok-acted-in-TimerFd.ensures.ok c.args.interest.now c.requires.linked
+
+pub returns-in_ok-acted-in-Plain-clause-ok : goal.returns-in_ok-acted-in-Plain-clause-ok
+returns-in_ok-acted-in-Plain-clause-ok c = λ caller s at sound quiet stands.
+    let v = c.args.tables.now in
+    let new = c.create_single-in-Plain.new.tables in
+    let r = c.args.interest.now in
+    let limits = c.args.limits.now in
+    let p = c.args.pid.0 in
+    let x = c.in-Plain in
+    let acted = c.in_ok-acted-in-Plain.acted in
+    let P : Call → List ℕ → Type 0 = λ call ks. Goes (call_refusals limits s p call) (call_change limits s caller p call ks) s acted.answer ks (record { tables = new; interest = r; now = c.args.now }) in
+    let O : Object → Type 0 = λ made. Opens (one_refusals v.limits v.files p) (answer_one v.files p) (create_one v.files p made x.cloexec) acted.answer v new in
+    subst (λ (call : Call). P call acted.picked) (sym x.is) (subst (P (Plain x.cloexec)) (sym c.in_ok-acted-in-Plain.ensures.picked)
+    (one_goes limits v new r c.args.now s p acted.answer c.requires.linked stands c.requires.limits [] plain x.cloexec (subst O c.plain.ensures c.in_ok-acted-in-Plain.ensures.ok)))
+
+pub returns-in_ok-acted-in-Plain-clause-linked : goal.returns-in_ok-acted-in-Plain-clause-linked
+returns-in_ok-acted-in-Plain-clause-linked c =
+    let v = c.args.tables.now in
+    let p = c.args.pid.0 in
+    let x = c.in-Plain in
+    opens_linked (one_refusals v.limits v.files p) (answer_one v.files p) (create_one v.files p c.plain.result x.cloexec) c.in_ok-acted-in-Plain.acted.answer v c.create_single-in-Plain.new.tables c.in_ok-acted-in-Plain.ensures.ok c.args.interest.now c.requires.linked
 
 pub returns-in_ok-acted-in-EpollCreate-clause-ok : goal.returns-in_ok-acted-in-EpollCreate-clause-ok
 returns-in_ok-acted-in-EpollCreate-clause-ok c = λ caller s at sound quiet stands.
     let v = c.args.tables.now in
-    let new = c.create_instance.new.tables in
+    let new = c.create_single-in-EpollCreate.new.tables in
     let r = c.args.interest.now in
     let limits = c.args.limits.now in
     let p = c.args.pid.0 in
+    let x = c.in-EpollCreate in
     let acted = c.in_ok-acted-in-EpollCreate.acted in
-    let P : Call → List ℕ → Type 0 = λ call ks. Goes (call_refusals limits s p call) (call_change limits s caller p call ks) s acted.answer ks (record { tables = new; interest = r }) in
-    subst (λ (call : Call). P call acted.picked) (sym c.in-EpollCreate.is) (subst (P (EpollCreate c.in-EpollCreate.cloexec)) (sym c.in_ok-acted-in-EpollCreate.ensures.picked)
-    (instance_goes limits v new r s p acted.answer c.requires.linked stands c.requires.limits c.in-EpollCreate.cloexec c.in_ok-acted-in-EpollCreate.ensures.ok))
+    let P : Call → List ℕ → Type 0 = λ call ks. Goes (call_refusals limits s p call) (call_change limits s caller p call ks) s acted.answer ks (record { tables = new; interest = r; now = c.args.now }) in
+    let O : Object → Type 0 = λ made. Opens (one_refusals v.limits v.files p) (answer_one v.files p) (create_one v.files p made x.cloexec) acted.answer v new in
+    subst (λ (call : Call). P call acted.picked) (sym x.is) (subst (P (EpollCreate x.cloexec)) (sym c.in_ok-acted-in-EpollCreate.ensures.picked)
+    (one_goes limits v new r c.args.now s p acted.answer c.requires.linked stands c.requires.limits [] instance x.cloexec (subst O c.instance.ensures c.in_ok-acted-in-EpollCreate.ensures.ok)))
 
 pub returns-in_ok-acted-in-EpollCreate-clause-linked : goal.returns-in_ok-acted-in-EpollCreate-clause-linked
-returns-in_ok-acted-in-EpollCreate-clause-linked c = opens_linked (one_refusals c.args.tables.now.limits c.args.tables.now.files c.args.pid.0) (answer_one c.args.tables.now.files c.args.pid.0) (create_one c.args.tables.now.files c.args.pid.0 instance c.in-EpollCreate.cloexec) c.in_ok-acted-in-EpollCreate.acted.answer c.args.tables.now c.create_instance.new.tables c.in_ok-acted-in-EpollCreate.ensures.ok c.args.interest.now c.requires.linked
+returns-in_ok-acted-in-EpollCreate-clause-linked c =
+    let v = c.args.tables.now in
+    let p = c.args.pid.0 in
+    let x = c.in-EpollCreate in
+    opens_linked (one_refusals v.limits v.files p) (answer_one v.files p) (create_one v.files p c.instance.result x.cloexec) c.in_ok-acted-in-EpollCreate.acted.answer v c.create_single-in-EpollCreate.new.tables c.in_ok-acted-in-EpollCreate.ensures.ok c.args.interest.now c.requires.linked
 
 pub returns-in_ok-answer-in-EpollCtl-clause-ok : goal.returns-in_ok-answer-in-EpollCtl-clause-ok
 returns-in_ok-answer-in-EpollCtl-clause-ok c = λ caller s at sound quiet stands.
     let v = c.args.tables.now in
-    let new : Parts = record { tables = v; interest = c.epoll_ctl.new.interest } in
+    let new : Parts = record { tables = v; interest = c.epoll_ctl.new.interest; now = c.args.now } in
     let limits = c.args.limits.now in
     let p = c.args.pid.0 in
     let P : Call → List ℕ → Answer → Type 0 = λ call ks a. Goes (call_refusals limits s p call) (call_change limits s caller p call ks) s a ks new in
@@ -57,11 +153,11 @@ returns-in_ok-answer-in-EpollCtl-clause-ok c = λ caller s at sound quiet stands
     subst (λ (call : Call). P call c.settled.result.picked c.settled.result.answer) (sym x.is)
     (subst (λ (ks : List ℕ). P (EpollCtl x.epfd x.op x.fd x.mask x.tag) ks c.settled.result.answer) (sym c.settled.ensures.picked)
     (subst (P (EpollCtl x.epfd x.op x.fd x.mask x.tag) []) (sym c.settled.ensures.answer)
-    (subst (λ (z : ℤ). P (EpollCtl x.epfd z x.fd x.mask x.tag) [] c.in_ok-answer-in-EpollCtl.answer) (to_z-of_z w32 x.op fits) (c.in_ok-answer-in-EpollCtl.ensures.ok c.args.step caller s at sound quiet stands))))
+    (subst (λ (z : ℤ). P (EpollCtl x.epfd z x.fd x.mask x.tag) [] c.in_ok-answer-in-EpollCtl.answer) (to_z-of_z w32 x.op fits) (c.in_ok-answer-in-EpollCtl.ensures.ok c.args.step caller c.args.now s at sound quiet stands))))
 
 pub returns-in_ok-acted-in-EpollWait-clause-ok : goal.returns-in_ok-acted-in-EpollWait-clause-ok
 returns-in_ok-acted-in-EpollWait-clause-ok c = λ caller s at sound quiet stands.
-    let new : Parts = record { tables = c.args.tables.now; interest = c.epoll_wait.new.interest } in
+    let new : Parts = record { tables = c.args.tables.now; interest = c.epoll_wait.new.interest; now = c.args.now } in
     let limits = c.args.limits.now in
     let p = c.args.pid.0 in
     let acted = c.in_ok-acted-in-EpollWait.acted in
@@ -76,14 +172,14 @@ returns-in_ok-acted-in-EpollWait-clause-ok c = λ caller s at sound quiet stands
 
 pub returns-in_ok-acted-in-Read-clause-ok : goal.returns-in_ok-acted-in-Read-clause-ok
 returns-in_ok-acted-in-Read-clause-ok c = λ caller s at sound quiet stands.
-    let new : Parts = record { tables = c.transfer.new.tables; interest = c.args.interest.now } in
+    let new : Parts = record { tables = c.object_call.new.tables; interest = c.args.interest.now; now = c.args.now } in
     let acted = c.in_ok-acted-in-Read.acted in
     let P : List ℕ → Type 0 = λ ks. Goes (call_refusals c.args.limits.now s c.args.pid.0 c.args.call.now) (call_change c.args.limits.now s caller c.args.pid.0 c.args.call.now ks) s acted.answer ks new in
     subst P (sym c.in_ok-acted-in-Read.ensures.picked)
-    (transfer_call c.args.tables.now c.transfer.new.tables c.args.pid.0 c.in-Read.fd c.args.call.now acted.answer c.in_ok-acted-in-Read.ensures.ok c.args.limits.now c.args.interest.now s caller c.requires.linked stands c.requires.limits quiet c.in-Read.is)
+    (object_called c.args.tables.now c.object_call.new.tables c.args.pid.0 c.in-Read.fd c.args.now c.args.call.now acted.answer c.in_ok-acted-in-Read.ensures.ok c.args.limits.now c.args.interest.now s caller c.requires.linked stands c.requires.limits (on_object_is c.in-Read.fd c.args.call.now c.in-Read.is))
 
 pub returns-in_ok-acted-in-Read-clause-kept : goal.returns-in_ok-acted-in-Read-clause-kept
-returns-in_ok-acted-in-Read-clause-kept c = transfer_limits c.args.tables.now c.transfer.new.tables c.args.pid.0 c.in-Read.fd c.args.call.now c.in_ok-acted-in-Read.acted.answer c.in_ok-acted-in-Read.ensures.ok
+returns-in_ok-acted-in-Read-clause-kept c = object_limits c.args.tables.now c.object_call.new.tables c.args.pid.0 c.in-Read.fd c.args.now c.args.call.now c.in_ok-acted-in-Read.acted.answer c.in_ok-acted-in-Read.ensures.ok
 
 pub returns-in_ok-acted-in-Read-clause-linked : goal.returns-in_ok-acted-in-Read-clause-linked
-returns-in_ok-acted-in-Read-clause-linked c = transfer_linked c.args.tables.now c.transfer.new.tables c.args.pid.0 c.in-Read.fd c.args.call.now c.in_ok-acted-in-Read.acted.answer c.in_ok-acted-in-Read.ensures.ok c.args.interest.now c.requires.linked
+returns-in_ok-acted-in-Read-clause-linked c = object_linked c.args.tables.now c.object_call.new.tables c.args.pid.0 c.in-Read.fd c.args.now c.args.call.now c.in_ok-acted-in-Read.acted.answer c.in_ok-acted-in-Read.ensures.ok c.args.interest.now c.requires.linked

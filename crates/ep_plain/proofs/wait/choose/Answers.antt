@@ -18,7 +18,7 @@ returns c = record {
   sorted = sorted_entries c.sort_by_key.new.self.items (IsNonDecreasingBy-from_sort_by_key (λ (x : Reportable). x.entry.rep) _ c.in_ok-sort_by_key.ensures.sorted (λ a r q k. search rules));
   taken = ap (map (λ (x : Reportable). x.entry)) (c.truncate.ensures.items ∙ ap (λ (n : ℕ). take n c.sort_by_key.new.self.items) c.most.ensures) ∙ sym (take-map (λ (x : Reportable). x.entry) (number_in c.args.args.max) c.sort_by_key.new.self.items);
   keyed =
-      let P = IsKeyed c.args.tables.now c.args.interest.now in
-      subst (λ (xs : List Reportable). AreKeyed c.args.tables.now c.args.interest.now xs) (sym (c.truncate.ensures.items ∙ ap (λ (n : ℕ). take n c.sort_by_key.new.self.items) c.most.ensures))
+      let P = IsKeyed c.args.tables.now c.args.now c.args.interest.now in
+      subst (λ (xs : List Reportable). AreKeyed c.args.tables.now c.args.now c.args.interest.now xs) (sym (c.truncate.ensures.items ∙ ap (λ (n : ℕ). take n c.sort_by_key.new.self.items) c.most.ensures))
       (All-take P (number_in c.args.args.max) c.sort_by_key.new.self.items (All-permutation P c.in_ok-chosen.chosen.items c.sort_by_key.new.self.items c.sort_by_key.ensures.permutation c.in_ok-chosen.ensures.keyed));
 }

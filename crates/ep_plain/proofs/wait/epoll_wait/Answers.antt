@@ -3,7 +3,7 @@ use Rattle.ep_plain.proofs.wait.epoll_wait.Goals as goal
 
 pub returns-clause-ok : goal.returns-clause-ok
 returns-clause-ok c = λ limits caller s at steady quiet stands.
-    goes_reported c.args.tables.now c.args.pid.0 c.args.args c.in-Ok.instance c.in-Ok.ensures c.args.interest.now c.report.new.interest c.args.step c.in_ok-acted.acted.answer c.in_ok-acted.acted.picked c.in_ok-acted.ensures.ok c.requires caller s at steady quiet stands c.known.ensures
+    goes_reported c.args.tables.now c.args.pid.0 c.args.args c.in-Ok.instance c.in-Ok.ensures c.args.now c.args.interest.now c.report.new.interest c.args.step c.in_ok-acted.acted.answer c.in_ok-acted.acted.picked c.in_ok-acted.ensures.ok c.requires.linked caller s at steady quiet stands c.known.ensures
 
 pub returns-clause-linked : goal.returns-clause-linked
-returns-clause-linked c = still_linked c.args.tables.now c.args.pid.0 c.args.args c.in-Ok.instance c.in-Ok.ensures c.args.interest.now c.report.new.interest c.args.step c.in_ok-acted.acted.answer c.in_ok-acted.acted.picked c.in_ok-acted.ensures.ok c.requires
+returns-clause-linked c = still_linked c.args.tables.now c.args.pid.0 c.args.args c.in-Ok.instance c.in-Ok.ensures c.args.now c.args.interest.now c.report.new.interest c.args.step c.in_ok-acted.acted.answer c.in_ok-acted.acted.picked c.in_ok-acted.ensures.ok c.requires.linked

@@ -5,4 +5,4 @@ use Rattle.ep_plain.proofs.Waiting.{Collects}
 use Rattle.ep_plain.proofs.wait.reportables.Given as goal
 
 abbrev pub invariant-loop-id : goal.invariant-loop-id
-invariant-loop-id l = Collects l.tables l.interest l.found.items l.id-iterator (filter (entry_shows l.tables) (filter (is_of l.fn.instance) l.interest.entries))
+invariant-loop-id l = Collects l.tables l.fn.now l.interest l.found.items l.id-iterator (filter (entry_shows l.tables l.fn.now) (filter (is_of l.fn.instance) l.interest.entries))

@@ -1,5 +1,5 @@
 use Rattle.std.proofs.Common.{ap, sym, ◌++◌, ◌∙◌}
-use Rattle.ep_script.specs.Line.{line_of}
+use Rattle.ep_text.specs.Line.{line_of}
 use Rattle.ep_script.proofs.Recording.{tells_answer}
 use Rattle.ep_script.proofs.answer.ask.Goals as goal
 

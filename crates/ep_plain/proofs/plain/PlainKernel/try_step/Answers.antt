@@ -13,25 +13,25 @@ pub invariant_of-self-2 : goal.invariant_of-self-2
 invariant_of-self-2 c =
     let k = c.self.inside in
     let acted = c.in_ok-answer.field-0 in
-    let new : Inside = record { alloc = k.alloc; limits = k.limits; tables = c.act.new.tables; interest = c.act.new.interest; history = c.push_reserved.new.self } in
+    let new : Inside = record { alloc = k.alloc; limits = k.limits; tables = c.act.new.tables; interest = c.act.new.interest; now = c.act.new.now; history = c.push_reserved.new.self } in
     let n : c.len.result + 1 ≡ length k.history.items + 1 = omega (arith, c.len.ensures, c.reserve.ensures.len) in
     let history : new.history.items ≡ k.history.items ++ record_of c.args.caller c.args.event acted.answer acted.picked ∷ [] =
     c.push_reserved.ensures.items ∙ (λ i. c.reserve.ensures.items i ++ record_of c.args.caller c.args.event (c.in_ok-answer.ensures.copy i) acted.picked ∷ []) in
     let e = c.in_ok-answer.ensures in
     standing_next k new c.self.invariant c.args.caller c.args.event acted.answer acted.picked refl e.kept history
-    (λ who. subst (λ (m : ℕ). Moves k.limits m who c.args.event acted.answer acted.picked (record { tables = k.tables; interest = k.interest }) (record { tables = new.tables; interest = new.interest })) n (e.ok who))
-    e.linked e.grows e.added
+    (λ who. subst (λ (m : ℕ). Moves k.limits m who c.args.event acted.answer acted.picked (record { tables = k.tables; interest = k.interest; now = k.now }) (record { tables = new.tables; interest = new.interest; now = new.now })) n (e.ok who))
+    e.linked e.grows e.added e.clock
 
 pub returns-clause-ok : goal.returns-clause-ok
 returns-clause-ok c =
     let k = c.self.inside in
     let acted = c.in_ok-answer.field-0 in
-    let new : Inside = record { alloc = k.alloc; limits = k.limits; tables = c.act.new.tables; interest = c.act.new.interest; history = c.push_reserved.new.self } in
+    let new : Inside = record { alloc = k.alloc; limits = k.limits; tables = c.act.new.tables; interest = c.act.new.interest; now = c.act.new.now; history = c.push_reserved.new.self } in
     let n : c.len.result + 1 ≡ length k.history.items + 1 = omega (arith, c.len.ensures, c.reserve.ensures.len) in
     let history : new.history.items ≡ k.history.items ++ record_of c.args.caller c.args.event acted.answer acted.picked ∷ [] =
     c.push_reserved.ensures.items ∙ (λ i. c.reserve.ensures.items i ++ record_of c.args.caller c.args.event (c.in_ok-answer.ensures.copy i) acted.picked ∷ []) in
     let e = c.in_ok-answer.ensures in
     let a = adds_next k new c.self.invariant c.args.caller c.args.event acted.answer acted.picked refl e.kept history
-    (λ who. subst (λ (m : ℕ). Moves k.limits m who c.args.event acted.answer acted.picked (record { tables = k.tables; interest = k.interest }) (record { tables = new.tables; interest = new.interest })) n (e.ok who))
-    e.linked e.grows e.added in
+    (λ who. subst (λ (m : ℕ). Moves k.limits m who c.args.event acted.answer acted.picked (record { tables = k.tables; interest = k.interest; now = k.now }) (record { tables = new.tables; interest = new.interest; now = new.now })) n (e.ok who))
+    e.linked e.grows e.added e.clock in
     subst (λ (b : Book). Adds b.limits c.args.caller c.args.event acted.answer (state_of b) (state_of (book_of new)) b.past new.history.items) c.self.view_is a

@@ -26,6 +26,9 @@ invariant_of-self c =
       owned = owned_same k.descriptions.slots k.objects.slots k.made at s is c.self.invariant.objects y c.self.invariant.owned;
       counted = c.self.invariant.counted;
       room = c.self.invariant.room;
+      queue = c.self.invariant.queue;
+      keyed = c.self.invariant.keyed;
+      fewer = c.self.invariant.fewer;
     }
 
 pub returns-clause-answer : goal.returns-clause-answer

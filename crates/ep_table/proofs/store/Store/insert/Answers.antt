@@ -1,12 +1,14 @@
-use Rattle.std.proofs.Common.{List, None, Option, Some, ap, arith, length, subst, sym, ◌+◌, ◌∙◌, ◌≡◌, ℕ}
+use Rattle.std.proofs.Common.{map, List, None, Option, Some, ap, arith, length, subst, sym, ◌+◌, ◌∙◌, ◌≡◌, ℕ}
 use Rattle.slab.specs.Slab.{slab_len}
 use Rattle.std.proofs.Common.{count_by, is_some}
 use Rattle.ep_base.specs.declared.object.End.TheVariants.{First}
-use Rattle.ep_table.specs.Stored.{number_in, object_in, object_number_in, place_in, places}
-use Rattle.ep_table.specs.Value.{Things}
+use Rattle.ep_table.specs.Stored.{counts, holds_in, names_in, AllKeyed, key_number, queued, number_in, object_in, object_number_in, place_in, places}
+use Rattle.ep_table.specs.Value.{Queue, Things}
 use Rattle.ep_table.specs.declared.words.Description.{Description}
+use Rattle.ep_table.specs.declared.words.Dying.{Dying}
 use Rattle.ep_table.specs.declared.words.Shared.{Shared}
-use Rattle.ep_table.proofs.Inserting.{Inserted, counted_more, holds_of, holds_one, inserted, inserts_one, places_one}
+use Rattle.ep_table.proofs.Queueing.{keyed_more}
+use Rattle.ep_table.proofs.Inserting.{fewer_one, keys_more, queue_one, Inserted, counted_more, holds_of, holds_one, inserted, inserts_one, places_one}
 use Rattle.ep_table.proofs.Numbers.{contents_length}
 use Rattle.ep_table.proofs.store.Store.insert.Goals as goal
 
@@ -16,7 +18,7 @@ overflow_add-self c = omega (arith, c.requires.descriptions, ap (λ (v : Things)
 pub overflow_add-self-2 : goal.overflow_add-self-2
 overflow_add-self-2 c = omega (arith, c.requires.objects, ap (λ (v : Things). length v.objects) c.self.view_is, contents_length object_number_in object_in c.self.inside.objects.slots c.self.inside.made)
 
-described : (c : goal.After-self-2-1) → Inserted c.self.inside.descriptions.slots c.insert_reserved-key.new.self.slots c.insert_reserved-key.result (record { number = c.self.inside.described; object_number = c.self.inside.made; object = c.vacant_key-at.result; end = First })
+described : (c : goal.After-self-2-1) → Inserted c.self.inside.descriptions.slots c.insert_reserved-key.new.self.slots c.insert_reserved-key.result (record { number = c.self.inside.described; object_number = c.self.inside.made; object = c.vacant_key-at.result; end = First; names = 1; holds = 0 })
 described c = inserted c.self.inside.descriptions.slots c.reserve.new.descriptions c.insert_reserved-key.new.self c.insert_reserved-key.result _ c.reserve.ensures.descriptions c.insert_reserved-key.ensures.was_vacant c.insert_reserved-key.ensures.updates
 
 shared : (c : goal.After-self-2-1) → Inserted c.self.inside.objects.slots c.insert_reserved.new.self.slots c.vacant_key-at.result (record { number = c.self.inside.made; object = c.args.object; first = Some (record { 0 = c.insert_reserved-key.result }); second = None })
@@ -42,10 +44,13 @@ invariant_of-self-2 c =
       counted = counted_more (slab_len k.descriptions) (slab_len c.insert_reserved-key.new.self) (places k.descriptions.slots k.described) _ _ c.self.invariant.counted l
           (places_one k.descriptions.slots c.insert_reserved-key.new.self.slots k.objects.slots c.insert_reserved.new.self.slots k.described k.made c.insert_reserved-key.result c.vacant_key-at.result c.args.object a b h);
       room = omega (arith, c.in_ok-reserve.ensures.death_room, c.insert_reserved-key.ensures.len);
+      queue = subst (λ (xs : List ℕ). Queue (places c.insert_reserved-key.new.self.slots (k.described + 1)) (counts names_in c.insert_reserved-key.new.self.slots (k.described + 1)) (counts holds_in c.insert_reserved-key.new.self.slots (k.described + 1)) xs) (sym (ap queued c.reserve.ensures.dying)) (queue_one k.descriptions.slots c.insert_reserved-key.new.self.slots k.objects.slots c.insert_reserved.new.self.slots k.described k.made c.insert_reserved-key.result c.vacant_key-at.result c.args.object a b h (queued k.dying.items) c.self.invariant.queue);
+      keyed = subst (λ (xs : List Dying). AllKeyed (map key_number c.insert_reserved-key.new.self.slots) xs) (sym c.reserve.ensures.dying) (keyed_more (map key_number k.descriptions.slots) (map key_number c.insert_reserved-key.new.self.slots) (record { 0 = c.insert_reserved-key.result }) k.described (keys_more k.descriptions.slots c.insert_reserved-key.new.self.slots c.insert_reserved-key.result (record { number = k.described; object_number = k.made; object = c.vacant_key-at.result; end = First; names = 1; holds = 0 }) a) k.dying.items c.self.invariant.keyed);
+      fewer = fewer_one k.descriptions.slots c.insert_reserved-key.new.self.slots k.objects.slots c.insert_reserved.new.self.slots k.described k.made c.insert_reserved-key.result c.vacant_key-at.result c.args.object a b h k.named c.self.invariant.fewer;
     }
 
 pub returns-clause-ok : goal.returns-clause-ok
 returns-clause-ok c =
     let k = c.self.inside in
     inserts_one k.descriptions.slots c.insert_reserved-key.new.self.slots k.objects.slots c.insert_reserved.new.self.slots k.described k.made c.insert_reserved-key.result c.vacant_key-at.result c.args.object (described c) (shared c) (holds_of k c.self.invariant)
-    c.args.self.now _ (ap (λ (v : Things). v.descriptions) c.self.view_is) (ap (λ (v : Things). v.objects) c.self.view_is) (ap (λ (v : Things). v.keys) c.self.view_is) (c.reserve.ensures.dead ∙ ap (λ (v : Things). v.dead) c.self.view_is)
+    c.args.self.now _ _ (ap (λ (v : Things). v.descriptions) c.self.view_is) (ap (λ (v : Things). v.objects) c.self.view_is) (ap (λ (v : Things). v.keys) c.self.view_is) (ap (λ (v : Things). v.names) c.self.view_is) (ap (λ (v : Things). v.holds) c.self.view_is) (ap queued c.reserve.ensures.dying ∙ ap (λ (v : Things). v.dying) c.self.view_is) (ap (λ (v : Things). v.named) c.self.view_is)

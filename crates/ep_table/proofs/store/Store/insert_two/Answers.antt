@@ -1,11 +1,13 @@
-use Rattle.std.proofs.Common.{List, Option, Some, ap, arith, count_by, is_some, length, subst, sym, ◌+◌, ◌∙◌, ◌≡◌, ℕ, refl}
+use Rattle.std.proofs.Common.{map, List, Option, Some, ap, arith, count_by, is_some, length, subst, sym, ◌+◌, ◌∙◌, ◌≡◌, ℕ, refl}
 use Rattle.slab.specs.Slab.{slab_len}
 use Rattle.ep_base.specs.declared.object.End.TheVariants.{First, Second}
-use Rattle.ep_table.specs.Stored.{number_in, object_in, object_number_in, place_in}
-use Rattle.ep_table.specs.Value.{Things}
+use Rattle.ep_table.specs.Stored.{counts, holds_in, names_in, places, AllKeyed, key_number, queued, number_in, object_in, object_number_in, place_in}
+use Rattle.ep_table.specs.Value.{Queue, Things}
 use Rattle.ep_table.specs.declared.words.Description.{Description}
+use Rattle.ep_table.specs.declared.words.Dying.{Dying}
 use Rattle.ep_table.specs.declared.words.Shared.{Shared}
-use Rattle.ep_table.proofs.Inserting.{Inserted, counted_two, holds_of, holds_two, inserted, inserts_two}
+use Rattle.ep_table.proofs.Queueing.{keyed_more}
+use Rattle.ep_table.proofs.Inserting.{fewer_two, keys_more, queue_two, Inserted, counted_two, holds_of, holds_two, inserted, inserts_two}
 use Rattle.ep_table.proofs.Numbers.{contents_length}
 use Rattle.ep_table.proofs.store.Store.insert_two.Goals as goal
 
@@ -18,10 +20,10 @@ overflow_add-self-2 c = omega (arith, c.requires.descriptions, ap (λ (v : Thing
 pub overflow_add-self-3 : goal.overflow_add-self-3
 overflow_add-self-3 c = omega (arith, c.requires.objects, ap (λ (v : Things). length v.objects) c.self.view_is, contents_length object_number_in object_in c.self.inside.objects.slots c.self.inside.made)
 
-first_in : (c : goal.After-self-3-1) → Inserted c.self.inside.descriptions.slots c.insert_reserved-first.new.self.slots c.insert_reserved-first.result (record { number = c.self.inside.described; object_number = c.self.inside.made; object = c.vacant_key-at.result; end = First })
+first_in : (c : goal.After-self-3-1) → Inserted c.self.inside.descriptions.slots c.insert_reserved-first.new.self.slots c.insert_reserved-first.result (record { number = c.self.inside.described; object_number = c.self.inside.made; object = c.vacant_key-at.result; end = First; names = 1; holds = 0 })
 first_in c = inserted c.self.inside.descriptions.slots c.reserve.new.descriptions c.insert_reserved-first.new.self c.insert_reserved-first.result _ c.reserve.ensures.descriptions c.insert_reserved-first.ensures.was_vacant c.insert_reserved-first.ensures.updates
 
-second_in : (c : goal.After-self-3-1) → Inserted c.insert_reserved-first.new.self.slots c.insert_reserved-second.new.self.slots c.insert_reserved-second.result (record { number = c.self.inside.described + 1; object_number = c.self.inside.made; object = c.vacant_key-at.result; end = Second })
+second_in : (c : goal.After-self-3-1) → Inserted c.insert_reserved-first.new.self.slots c.insert_reserved-second.new.self.slots c.insert_reserved-second.result (record { number = c.self.inside.described + 1; object_number = c.self.inside.made; object = c.vacant_key-at.result; end = Second; names = 1; holds = 0 })
 second_in c = inserted c.insert_reserved-first.new.self.slots c.insert_reserved-first.new.self c.insert_reserved-second.new.self c.insert_reserved-second.result _ refl c.insert_reserved-second.ensures.was_vacant c.insert_reserved-second.ensures.updates
 
 shared_in : (c : goal.After-self-3-1) → Inserted c.self.inside.objects.slots c.insert_reserved.new.self.slots c.vacant_key-at.result (record { number = c.self.inside.made; object = c.args.object; first = Some (record { 0 = c.insert_reserved-first.result }); second = Some (record { 0 = c.insert_reserved-second.result }) })
@@ -45,10 +47,14 @@ invariant_of-self-2 c =
       counted = counted_two k.descriptions.slots c.insert_reserved-first.new.self.slots c.insert_reserved-second.new.self.slots k.objects.slots c.insert_reserved.new.self.slots k.described k.made c.insert_reserved-first.result c.insert_reserved-second.result c.vacant_key-at.result c.args.object (first_in c) (second_in c) (shared_in c) h
           (slab_len k.descriptions) (slab_len c.insert_reserved-first.new.self) (slab_len c.insert_reserved-second.new.self) c.self.invariant.counted l c.insert_reserved-second.ensures.len;
       room = omega (arith, c.in_ok-reserve.ensures.death_room, c.insert_reserved-first.ensures.len, c.insert_reserved-second.ensures.len);
+      queue = subst (λ (xs : List ℕ). Queue (places c.insert_reserved-second.new.self.slots (k.described + 1 + 1)) (counts names_in c.insert_reserved-second.new.self.slots (k.described + 1 + 1)) (counts holds_in c.insert_reserved-second.new.self.slots (k.described + 1 + 1)) xs) (sym (ap queued c.reserve.ensures.dying)) (queue_two k.descriptions.slots c.insert_reserved-first.new.self.slots c.insert_reserved-second.new.self.slots k.objects.slots c.insert_reserved.new.self.slots k.described k.made c.insert_reserved-first.result c.insert_reserved-second.result c.vacant_key-at.result c.args.object (first_in c) (second_in c) (shared_in c) h (queued k.dying.items) c.self.invariant.queue);
+      keyed = subst (λ (xs : List Dying). AllKeyed (map key_number c.insert_reserved-second.new.self.slots) xs) (sym c.reserve.ensures.dying) (keyed_more (map key_number c.insert_reserved-first.new.self.slots) (map key_number c.insert_reserved-second.new.self.slots) (record { 0 = c.insert_reserved-second.result }) (k.described + 1) (keys_more c.insert_reserved-first.new.self.slots c.insert_reserved-second.new.self.slots c.insert_reserved-second.result (record { number = k.described + 1; object_number = k.made; object = c.vacant_key-at.result; end = Second; names = 1; holds = 0 }) (second_in c)) k.dying.items
+          (keyed_more (map key_number k.descriptions.slots) (map key_number c.insert_reserved-first.new.self.slots) (record { 0 = c.insert_reserved-first.result }) k.described (keys_more k.descriptions.slots c.insert_reserved-first.new.self.slots c.insert_reserved-first.result (record { number = k.described; object_number = k.made; object = c.vacant_key-at.result; end = First; names = 1; holds = 0 }) (first_in c)) k.dying.items c.self.invariant.keyed));
+      fewer = fewer_two k.descriptions.slots c.insert_reserved-first.new.self.slots c.insert_reserved-second.new.self.slots k.objects.slots c.insert_reserved.new.self.slots k.described k.made c.insert_reserved-first.result c.insert_reserved-second.result c.vacant_key-at.result c.args.object (first_in c) (second_in c) (shared_in c) h k.named c.self.invariant.fewer;
     }
 
 pub returns-clause-ok : goal.returns-clause-ok
 returns-clause-ok c =
     let k = c.self.inside in
     inserts_two k.descriptions.slots c.insert_reserved-first.new.self.slots c.insert_reserved-second.new.self.slots k.objects.slots c.insert_reserved.new.self.slots k.described k.made c.insert_reserved-first.result c.insert_reserved-second.result c.vacant_key-at.result c.args.object (first_in c) (second_in c) (shared_in c) (holds_of k c.self.invariant)
-    c.args.self.now _ (ap (λ (v : Things). v.descriptions) c.self.view_is) (ap (λ (v : Things). v.objects) c.self.view_is) (ap (λ (v : Things). v.keys) c.self.view_is) (c.reserve.ensures.dead ∙ ap (λ (v : Things). v.dead) c.self.view_is)
+    c.args.self.now _ _ (ap (λ (v : Things). v.descriptions) c.self.view_is) (ap (λ (v : Things). v.objects) c.self.view_is) (ap (λ (v : Things). v.keys) c.self.view_is) (ap (λ (v : Things). v.names) c.self.view_is) (ap (λ (v : Things). v.holds) c.self.view_is) (ap queued c.reserve.ensures.dying ∙ ap (λ (v : Things). v.dying) c.self.view_is) (ap (λ (v : Things). v.named) c.self.view_is)

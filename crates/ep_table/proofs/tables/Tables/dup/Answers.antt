@@ -4,7 +4,13 @@ use Rattle.ep_base.specs.declared.errno.Errno.TheVariants.{Emfile}
 use Rattle.ep_table.specs.Value.{Seen, dup_refusal, number_of}
 use Rattle.ep_table.proofs.Finding.{one_is}
 use Rattle.ep_table.proofs.Refusing.{dup_rest, found_is, free_is, full_is, never, not_both}
+use Rattle.ep_table.proofs.Leaving.{under_named}
 use Rattle.ep_table.proofs.tables.Tables.dup.Goals as goal
+
+pub add_name-requires-clause-named : goal.add_name-requires-clause-named
+add_name-requires-clause-named c =
+    let v = c.args.self.now in
+    under_named v.files c.args.pid.0 (number_of v c.in-Some.description) c.args.fd.0 (found_is v c.args.pid.0 c.args.fd.0 c.in-Some.description c.in-Some.ensures.number c.in-Some.ensures.live)
 
 pub returns-then-descriptors-free-clause-answer : goal.returns-then-descriptors-free-clause-answer
 returns-then-descriptors-free-clause-answer c = λ h.

@@ -1,0 +1,133 @@
+-- The law of what objects raise, from the laws of the kinds.
+use Rattle.std.proofs.Common.{Bool, List, None, Option, Some, [], ℕ, ◌∷◌}
+use Rattle.std.proofs.lemmas.Bool.{false≢true}
+use Rattle.std.specs.Prelude.{not}
+use Rattle.ep_base.specs.declared.call.Call.TheVariants.{EpollCreate, EpollCtl, EpollWait, EventFd, GetTime, Pipe, Plain, Read, SetTime, Shutdown, SocketPair, TimerFd, Write}
+use Rattle.ep_base.specs.declared.errno.Errno.{Errno}
+use Rattle.ep_base.specs.declared.errno.Errno.TheVariants.{Einval, Enotsock}
+use Rattle.ep_base.specs.declared.object.End.TheVariants.{First, Second}
+use Rattle.ep_base.specs.declared.object.End.{End}
+use Rattle.ep_base.specs.declared.object.Raised.{Raised}
+use Rattle.ep_counters.specs.Law.{CounterReadLaw, CounterWriteLaw, TimerAdvanceLaw, TimerReadLaw, TimerSettimeLaw}
+use Rattle.ep_machine.specs.Bits.{at_end, nothing}
+use Rattle.ep_machine.specs.Counters.{counter_present, counter_read, counter_read_refusals, counter_write, counter_write_refusals}
+use Rattle.ep_machine.specs.Effect.{Effect, attempt, first, unless}
+use Rattle.ep_machine.specs.Objects.{Object, counter, effect_on, gettime, instance, is_pair, is_timer, object_present, pair, pipe, plain, read, read_refusals, settime, shutdown, timer, write, write_refusals}
+use Rattle.ep_machine.specs.Pipe.{pipe_present, pipe_read, pipe_read_refusals, pipe_write, pipe_write_refusals}
+use Rattle.ep_machine.specs.Sockets.{pair_present, pair_read, pair_read_refusals, pair_write, pair_write_refusals}
+use Rattle.ep_machine.specs.Timer.{timer_present, timer_read, timer_read_refusals, timer_set_refusals, timer_settime}
+use Rattle.ep_object.specs.Law.{AdvanceLaw, ApplyLaw, CloseLaw, is_first, object_has, present_at}
+use Rattle.ep_stream.proofs.Arrivals.{unchanged}
+use Rattle.ep_stream.specs.Law.{IsCovered, PairCloseLaw, PairReadLaw, PairShutdownLaw, PairWriteLaw, PipeCloseLaw, PipeReadLaw, PipeWriteLaw, RaisesArrivals}
+
+-- what an event leaves as it was raises enough
+stays : (now : ℕ) (x : Object) (raised : Raised) → RaisesArrivals object_has (present_at now) x x raised
+stays now x raised = λ e before after. unchanged (object_present x e now) (at_end raised e)
+
+-- a law of the ends of a kind is one of the object
+within : {X : Type 0} (wrap : X → Object) (now : ℕ) (x : X) (f : Effect X) (refusal : Option Errno) → RaisesArrivals (λ y. object_has (wrap y)) (λ y. present_at now (wrap y)) x (unless refusal x f).1 (unless refusal x f).2 → RaisesArrivals object_has (present_at now) (wrap x) (unless refusal (wrap x) (effect_on wrap f)).1 (unless refusal (wrap x) (effect_on wrap f)).2
+within wrap now x f None law = law
+within wrap now x f (Some e) law = law
+
+-- so is a law of the one end that a kind has
+alone : {X : Type 0} (present : X → ℕ) (x y : X) (raised : Raised) → IsCovered (present x) (present y) (at_end raised First) → RaisesArrivals (λ (z : X). is_first) (λ z e. present z) x y raised
+alone present x y raised law First before after = law
+alone present x y raised law Second before after = absurd (false≢true before)
+
+-- each call on an object, from the laws of the kinds that answer it
+abbrev CallLaw : (Object → List (Bool × Errno)) → (Object → Effect Object) → ℕ → Type 0
+CallLaw refusals effect now = (x : Object) → let made = attempt (refusals x) x (effect x) in RaisesArrivals object_has (present_at now) x made.1 made.2
+
+read_law : PipeReadLaw → PairReadLaw → CounterReadLaw → TimerReadLaw → (e : End) (n now : ℕ) → CallLaw (λ x. read_refusals x e n now) (λ x. read x e n now) now
+read_law pipes pairs counters timers e n now plain = stays now plain nothing
+read_law pipes pairs counters timers e n now (pipe p) = within pipe now p (pipe_read p n) (first (pipe_read_refusals p e n)) (pipes p e n)
+read_law pipes pairs counters timers e n now (pair p) = within pair now p (pair_read p e n) (first (pair_read_refusals p e n)) (pairs p e n)
+read_law pipes pairs counters timers e n now (counter c) =
+    let made = attempt (counter_read_refusals c n) c (counter_read c) in
+    within counter now c (counter_read c) (first (counter_read_refusals c n)) (alone counter_present c made.1 made.2 (counters c n))
+read_law pipes pairs counters timers e n now (timer t) =
+    let made = attempt (timer_read_refusals t n now) t (timer_read t now) in
+    within timer now t (timer_read t now) (first (timer_read_refusals t n now)) (alone (λ y. timer_present y now) t made.1 made.2 (timers t now n))
+read_law pipes pairs counters timers e n now instance = stays now instance nothing
+
+write_law : PipeWriteLaw → PairWriteLaw → CounterWriteLaw → (e : End) (bytes : List ℕ) (now : ℕ) → CallLaw (λ x. write_refusals x e bytes) (λ x. write x e bytes) now
+write_law pipes pairs counters e bytes now plain = stays now plain nothing
+write_law pipes pairs counters e bytes now (pipe p) = within pipe now p (pipe_write p bytes) (first (pipe_write_refusals p e bytes)) (pipes p e bytes)
+write_law pipes pairs counters e bytes now (pair p) = within pair now p (pair_write p e bytes) (first (pair_write_refusals p e bytes)) (pairs p e bytes)
+write_law pipes pairs counters e bytes now (counter c) =
+    let made = attempt (counter_write_refusals c bytes) c (counter_write c bytes) in
+    within counter now c (counter_write c bytes) (first (counter_write_refusals c bytes)) (alone counter_present c made.1 made.2 (counters c bytes))
+write_law pipes pairs counters e bytes now (timer t) = stays now (timer t) nothing
+write_law pipes pairs counters e bytes now instance = stays now instance nothing
+
+shutdown_law : PairShutdownLaw → (e : End) (now : ℕ) → CallLaw (λ x. (not (is_pair x), Enotsock) ∷ []) (λ x. shutdown x e) now
+shutdown_law pairs e now plain = stays now plain nothing
+shutdown_law pairs e now (pipe p) = stays now (pipe p) nothing
+shutdown_law pairs e now (pair p) = pairs p e
+shutdown_law pairs e now (counter c) = stays now (counter c) nothing
+shutdown_law pairs e now (timer t) = stays now (timer t) nothing
+shutdown_law pairs e now instance = stays now instance nothing
+
+settime_law : TimerSettimeLaw → (absolute : Bool) (value interval now : ℕ) → CallLaw (λ x. (not (is_timer x), Einval) ∷ timer_set_refusals value interval) (λ x. settime x absolute value interval now) now
+settime_law timers absolute value interval now plain = stays now plain nothing
+settime_law timers absolute value interval now (pipe p) = stays now (pipe p) nothing
+settime_law timers absolute value interval now (pair p) = stays now (pair p) nothing
+settime_law timers absolute value interval now (counter c) = stays now (counter c) nothing
+settime_law timers absolute value interval now (timer t) =
+    let set = timer_settime t absolute value interval now in
+    let made = attempt (timer_set_refusals value interval) t set in
+    within timer now t set (first (timer_set_refusals value interval)) (alone (λ y. timer_present y now) t made.1 made.2 (timers t absolute value interval now))
+settime_law timers absolute value interval now instance = stays now instance nothing
+
+gettime_law : (now : ℕ) → CallLaw (λ x. (not (is_timer x), Einval) ∷ []) (λ x. gettime x now) now
+gettime_law now plain = stays now plain nothing
+gettime_law now (pipe p) = stays now (pipe p) nothing
+gettime_law now (pair p) = stays now (pair p) nothing
+gettime_law now (counter c) = stays now (counter c) nothing
+gettime_law now (timer t) = stays now (timer t) nothing
+gettime_law now instance = stays now instance nothing
+
+-- the laws of the kinds
+pub record Kinds : Type 0 where
+  pub pipe_read : PipeReadLaw
+  pub pipe_write : PipeWriteLaw
+  pub pair_read : PairReadLaw
+  pub pair_write : PairWriteLaw
+  pub pair_shutdown : PairShutdownLaw
+  pub counter_read : CounterReadLaw
+  pub counter_write : CounterWriteLaw
+  pub timer_read : TimerReadLaw
+  pub timer_settime : TimerSettimeLaw
+
+pub apply_law : Kinds → ApplyLaw
+apply_law kinds x e now (Read fd n) = read_law kinds.pipe_read kinds.pair_read kinds.counter_read kinds.timer_read e n now x
+apply_law kinds x e now (Write fd bytes) = write_law kinds.pipe_write kinds.pair_write kinds.counter_write e bytes now x
+apply_law kinds x e now (Shutdown fd) = shutdown_law kinds.pair_shutdown e now x
+apply_law kinds x e now (SetTime fd absolute value interval) = settime_law kinds.timer_settime absolute value interval now x
+apply_law kinds x e now (GetTime fd) = gettime_law now x
+apply_law kinds x e now (Pipe cloexec) = stays now x nothing
+apply_law kinds x e now (EventFd init semaphore cloexec) = stays now x nothing
+apply_law kinds x e now (TimerFd clock cloexec) = stays now x nothing
+apply_law kinds x e now (SocketPair cloexec) = stays now x nothing
+apply_law kinds x e now (Plain cloexec) = stays now x nothing
+apply_law kinds x e now (EpollCreate cloexec) = stays now x nothing
+apply_law kinds x e now (EpollCtl epfd op fd mask tag) = stays now x nothing
+apply_law kinds x e now (EpollWait epfd max timeout) = stays now x nothing
+
+pub close_law : PipeCloseLaw → PairCloseLaw → CloseLaw
+close_law pipes pairs plain e now = stays now plain nothing
+close_law pipes pairs (pipe p) e now = pipes p e
+close_law pipes pairs (pair p) e now = pairs p e
+close_law pipes pairs (counter c) e now = stays now (counter c) nothing
+close_law pipes pairs (timer t) e now = stays now (timer t) nothing
+close_law pipes pairs instance e now = stays now instance nothing
+
+-- only a timer looks at the clock
+pub advance_law : TimerAdvanceLaw → AdvanceLaw
+advance_law timers plain old new e has = unchanged 0 0
+advance_law timers (pipe p) old new e has = unchanged (pipe_present p e) _
+advance_law timers (pair p) old new e has = unchanged (pair_present p e) _
+advance_law timers (counter c) old new e has = unchanged (counter_present c) _
+advance_law timers (timer t) old new First has = timers t old new
+advance_law timers (timer t) old new Second has = absurd (false≢true has)
+advance_law timers instance old new e has = unchanged 0 0

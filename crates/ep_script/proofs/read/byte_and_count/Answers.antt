@@ -1,6 +1,0 @@
-use Rattle.std.proofs.Common.{arith}
-use Rattle.ep_script.proofs.Reading.{repeated-other}
-use Rattle.ep_script.proofs.read.byte_and_count.Goals as goal
-
-pub returns-then-len-ne2 : goal.returns-then-len-ne2
-returns-then-len-ne2 c = repeated-other c.args.items.now.items (λ e. omega (arith, c.args.items.now.ok.0))

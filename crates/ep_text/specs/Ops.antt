@@ -1,0 +1,62 @@
+-- The operations that the code names, as lines of the table.
+use Rattle.std.specs.Prelude.{List, Option, [], codes, ℕ, ◌∷◌}
+use Rattle.serde_json.specs.Data.{Data}
+use Rattle.ep_base.specs.declared.call.Call.{Call}
+use Rattle.ep_text.specs.declared.op.CallOp.{CallOp}
+use Rattle.ep_text.specs.declared.op.CallOp.TheVariants as op
+use Rattle.ep_text.specs.declared.op.Op.{Op}
+use Rattle.ep_text.specs.declared.op.Op.TheVariants as any
+use Rattle.ep_text.specs.Calls.{ctl_call, epoll_call, eventfd_call, gettime_call, pipe_call, plain_call, read_call, settime_call, shutdown_call, socketpair_call, timerfd_call, wait_call, write_call}
+use Rattle.ep_text.specs.Event.{Operation, call_operation, tick_operation}
+
+abbrev pub name_of : CallOp → List ℕ
+name_of op.Pipe = codes "pipe"
+name_of op.SocketPair = codes "socketpair"
+name_of op.Plain = codes "plain"
+name_of op.Epoll = codes "epoll"
+name_of op.EventFd = codes "eventfd"
+name_of op.TimerFd = codes "timerfd"
+name_of op.Ctl = codes "ctl"
+name_of op.Wait = codes "wait"
+name_of op.Read = codes "read"
+name_of op.Write = codes "write"
+name_of op.Shutdown = codes "shutdown"
+name_of op.GetTime = codes "gettime"
+name_of op.SetTime = codes "settime"
+
+abbrev pub keys_of : CallOp → List (List ℕ)
+keys_of op.Pipe = codes "cloexec" ∷ []
+keys_of op.SocketPair = codes "cloexec" ∷ []
+keys_of op.Plain = codes "cloexec" ∷ []
+keys_of op.Epoll = codes "cloexec" ∷ []
+keys_of op.EventFd = codes "init" ∷ codes "sem" ∷ codes "cloexec" ∷ []
+keys_of op.TimerFd = codes "clock" ∷ codes "cloexec" ∷ []
+keys_of op.Ctl = codes "ep" ∷ codes "fd" ∷ codes "act" ∷ codes "mask" ∷ codes "data" ∷ []
+keys_of op.Wait = codes "ep" ∷ codes "max" ∷ codes "timeout" ∷ []
+keys_of op.Read = codes "fd" ∷ codes "n" ∷ []
+keys_of op.Write = codes "fd" ∷ codes "hex" ∷ codes "fill" ∷ []
+keys_of op.Shutdown = codes "fd" ∷ []
+keys_of op.GetTime = codes "fd" ∷ []
+keys_of op.SetTime = codes "fd" ∷ codes "value" ∷ codes "interval" ∷ codes "abs" ∷ []
+
+abbrev pub call_of : CallOp → Data → Option Call
+call_of op.Pipe = pipe_call
+call_of op.SocketPair = socketpair_call
+call_of op.Plain = plain_call
+call_of op.Epoll = epoll_call
+call_of op.EventFd = eventfd_call
+call_of op.TimerFd = timerfd_call
+call_of op.Ctl = ctl_call
+call_of op.Wait = wait_call
+call_of op.Read = read_call
+call_of op.Write = write_call
+call_of op.Shutdown = shutdown_call
+call_of op.GetTime = gettime_call
+call_of op.SetTime = settime_call
+
+abbrev pub call_operation_of : CallOp → Operation
+call_operation_of op = call_operation (name_of op) (keys_of op) (call_of op)
+
+abbrev pub operation_of : Op → Operation
+operation_of (any.Call op) = call_operation_of op
+operation_of any.Tick = tick_operation

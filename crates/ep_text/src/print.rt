@@ -1,0 +1,112 @@
+//! An answer to the line that tells it.
+ghost use Rattle.std.specs.Fmt.{signed_decimal};
+ghost use Rattle.std.specs.Prelude.{◌≡◌, ◌++◌, IfOk, OnOk, codes, decimal, string_bytes, true};
+ghost use Rattle.hex.specs.Hex.{encode_lower};
+ghost use Rattle.ep_base.specs.Errno.{errno_name, errno_number};
+ghost use Rattle.ep_text.specs.Line.{bad_line, line_of, reports_text};
+
+use ep_base::{Answer, Errno, Report};
+use std::alloc::{AllocError, Global};
+
+fn push_reports(text: &mut String, reports: &[Report]) -> Result<(), AllocError>
+    ensures { OnOk result (string_bytes text.new ≡ string_bytes text.old ++ reports_text true reports.now) }
+{
+    let mut is_first = true;
+    for report in reports {
+        let bits = report.bits.0;
+        let tag = report.tag;
+        if is_first {
+            write!(text, "[{bits},{tag}]")?;
+        } else {
+            write!(text, ",[{bits},{tag}]")?;
+        }
+        is_first = false;
+    }
+    Ok(())
+}
+
+fn push_events(text: &mut String, reports: &[Report]) -> Result<(), AllocError>
+    ensures { OnOk result (string_bytes text.new ≡ string_bytes text.old ++ (codes "{\"events\":[" ++ reports_text true reports.now ++ codes "]}\n")) }
+{
+    text.push_str("{\"events\":[")?;
+    push_reports(text, reports)?;
+    text.push_str("]}\n")?;
+    Ok(())
+}
+
+fn push_two(text: &mut String, first: i32, second: i32) -> Result<(), AllocError>
+    ensures { OnOk result (string_bytes text.new ≡ string_bytes text.old ++ (codes "{\"two\":[" ++ signed_decimal first ++ codes "," ++ signed_decimal second ++ codes "]}\n")) }
+{
+    write!(text, "{{\"two\":[{first},{second}]}}\n")?;
+    Ok(())
+}
+
+fn push_time(text: &mut String, value: u64, interval: u64) -> Result<(), AllocError>
+    ensures { OnOk result (string_bytes text.new ≡ string_bytes text.old ++ (codes "{\"time\":[" ++ decimal value ++ codes "," ++ decimal interval ++ codes "]}\n")) }
+{
+    write!(text, "{{\"time\":[{value},{interval}]}}\n")?;
+    Ok(())
+}
+
+fn push_bytes(alloc: Global, text: &mut String, bytes: &[u8]) -> Result<(), AllocError>
+    ensures { OnOk result (string_bytes text.new ≡ string_bytes text.old ++ (codes "{\"bytes\":\"" ++ encode_lower bytes.now ++ codes "\"}\n")) }
+{
+    let digits = hex::encode(alloc, bytes)?;
+    write!(text, "{{\"bytes\":\"{digits}\"}}\n")?;
+    Ok(())
+}
+
+fn push_errno(text: &mut String, errno: Errno) -> Result<(), AllocError>
+    ensures { OnOk result (string_bytes text.new ≡ string_bytes text.old ++ (codes "{\"err\":[" ++ decimal (errno_number errno) ++ codes ",\"" ++ errno_name errno ++ codes "\"]}\n")) }
+{
+    let number = errno.number();
+    let name = errno.name();
+    write!(text, "{{\"err\":[{number},\"{name}\"]}}\n")?;
+    Ok(())
+}
+
+/// Puts the line of an answer, with the byte 10 that ends it, behind the text.
+/// After an `AllocError` the text may have a part of it.
+#[tactic(auto, unfolding(crate::specs::Line::line_of))]
+pub fn push_answer(alloc: Global, text: &mut String, answer: &Answer) -> Result<(), AllocError>
+    ensures { OnOk result (string_bytes text.new ≡ string_bytes text.old ++ line_of answer.now) }
+{
+    match answer {
+        Answer::Done => text.push_str("{\"done\":true}\n"),
+        Answer::Num(number) => push_number(text, *number),
+        Answer::Two(first, second) => push_two(text, first.0, second.0),
+        Answer::Bytes(bytes) => push_bytes(alloc, text, bytes.as_slice()),
+        Answer::Events(reports) => push_events(text, reports.as_slice()),
+        Answer::Time { value, interval } => push_time(text, *value, *interval),
+        Answer::Parked => text.push_str("{\"parked\":true}\n"),
+        Answer::Still => text.push_str("{\"still\":true}\n"),
+        Answer::Refused(errno) => push_errno(text, *errno),
+    }
+}
+
+fn push_number(text: &mut String, number: u64) -> Result<(), AllocError>
+    ensures { OnOk result (string_bytes text.new ≡ string_bytes text.old ++ (codes "{\"num\":" ++ decimal number ++ codes "}\n")) }
+{
+    write!(text, "{{\"num\":{number}}}\n")?;
+    Ok(())
+}
+
+/// Puts what is said of a line that is no command, by its number, behind the text.
+/// After an `AllocError` the text may have a part of it.
+#[tactic(auto, unfolding(crate::specs::Line::bad_line))]
+pub fn push_bad(text: &mut String, number: u64) -> Result<(), AllocError>
+    ensures { OnOk result (string_bytes text.new ≡ string_bytes text.old ++ bad_line number) }
+{
+    write!(text, "{{\"bad\":{number}}}\n")?;
+    Ok(())
+}
+
+/// The line that tells an answer, compact JSON with one key, and the byte 10 that ends it.
+/// `AllocError` comes only where a growth was refused.
+pub fn print_answer(alloc: Global, answer: &Answer) -> Result<Vec<u8>, AllocError>
+    ensures { IfOk result (λ line. line.items ≡ line_of answer.now) }
+{
+    let mut text = String::new(alloc);
+    push_answer(alloc, &mut text, answer)?;
+    Ok(text.into_bytes())
+}

@@ -1,0 +1,3 @@
+//! Values of the format.
+
+mod lines;
