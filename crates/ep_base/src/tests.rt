@@ -15,7 +15,9 @@ fn copies_of_events(rt: HostRuntime) -> Result<(), Fail> {
             bytes: Buffer::new([97, 98, 99].to_vec(alloc)?),
         },
     };
-    let Event::Call { pid, call } = event.copy()?;
+    let Event::Call { pid, call } = event.copy()? else {
+        return Err(Fail::from("another event"));
+    };
     assert_eq!(rt; pid, Pid(1));
     let Call::Write { fd, bytes } = call else {
         return Err(Fail::from("another call"));
@@ -23,6 +25,8 @@ fn copies_of_events(rt: HostRuntime) -> Result<(), Fail> {
     assert_eq!(rt; fd, Fd(4));
     assert_eq!(rt; bytes.as_slice(), b"abc".as_slice());
     assert_eq!(rt; bytes.into_vec().as_slice(), b"abc".as_slice());
+    let tick = Event::Tick { n: 5 };
+    assert!(rt; matches!(tick.copy()?, Event::Tick { n: 5 }));
     Ok(())
 }
 
