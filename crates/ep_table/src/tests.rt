@@ -1,259 +1,518 @@
-use crate::Tables;
-use ep_base::{Answer, Buffer, Call, End, Errno, Fd, Limits, Mask, Pid};
-use ep_object::Object;
-use std::test::Fail;
+//! Worked runs: tables of calls, which one function makes in turn, after an object is made.
+ghost use Rattle.std.specs.Prelude.{◌≡◌, ◌+◌, ◌<◌, ◌^◌, length};
 
-fn limits(descriptors: u32, files: u32) -> Limits {
-    match Limits::new(descriptors, files, 64, 4_096, 65_536, 65_536) {
+use self::Kind::{Instance, Pipe, Timer};
+use self::Op::{
+    At, Close, Dead, Dup, Dup2, Exec, Exit, Fork, Has, Names, One, Read, Set, Two, Write,
+};
+use self::View::{Advance, Next, Other, Present, Side, Waiting};
+use self::Want::{Bits, Byte, Died, Done, Named, Nothing, Number, Pair, Refused};
+use self::Who::{First, Nobody, Second, Third};
+use crate::Tables;
+use ep_base::Errno::{Eagain, Ebadf, Emfile, Enfile, Esrch};
+use ep_base::{Answer, Buffer, Call, DescId, End, Errno, Fd, Limits, Pid};
+use ep_object::Object;
+use std::alloc::{AllocError, Global};
+use std::process::Abort;
+
+const IN: u32 = 1;
+
+const OUT: u32 = 4;
+
+const HUP: u32 = 16;
+
+const T_MAX: u64 = 1_000_000_000_000;
+
+#[derive(Clone, Copy)]
+enum Kind {
+    Pipe,
+    Instance,
+    Timer,
+}
+
+// Limits of descriptor numbers, descriptions and processes; the process in which an object of this
+// kind is made, its close-on-exec flag, and the answer.
+type Start = (u32, u32, u32, u64, Kind, bool, Want);
+
+// A process, or a process and one of its numbers, and what is done there.
+#[derive(Clone, Copy)]
+enum Op {
+    Has(u64),
+    One(u64),
+    Two(u64),
+    Names(u64, i32),
+    Dup(u64, i32),
+    Dup2(u64, i32, i32),
+    Close(u64, i32),
+    Fork(u64),
+    Exec(u64),
+    Exit(u64),
+    // A death is taken.
+    Dead,
+    // At the description under this number of process 1.
+    At(i32, View),
+    Write(i32, u8),
+    Read(i32, u32),
+    Set(i32, u64),
+}
+
+// What is asked at a description.
+#[derive(Clone, Copy)]
+enum View {
+    // Whether it is the second end.
+    Side,
+    Other,
+    Present,
+    Waiting,
+    Next(u64),
+    Advance(u64, u64),
+}
+
+// The description that was made first or second, another one, or none.
+#[derive(Clone, Copy, PartialEq, Eq)]
+enum Who {
+    Nobody,
+    First,
+    Second,
+    Third,
+}
+
+#[derive(Clone, Copy, PartialEq, Eq)]
+enum Want {
+    Nothing,
+    Done,
+    Number(u64),
+    Pair(i32, i32),
+    // One byte, or none.
+    Byte(Option<u8>),
+    Refused(Errno),
+    Named(Who),
+    Bits(u32, u32),
+    // Who died, whether at the second end, the other end, and what is raised at the first end.
+    Died(Who, bool, Who, u32),
+}
+
+type Step = (Op, Want);
+
+type Ends = (Option<DescId>, Option<DescId>);
+
+fn which(ends: Ends, desc: Option<DescId>) -> Who {
+    if desc.is_none() {
+        Nobody
+    } else if desc == ends.0 {
+        First
+    } else if desc == ends.1 {
+        Second
+    } else {
+        Third
+    }
+}
+
+fn answered(answer: Answer) -> Want {
+    match answer {
+        Answer::Done => Done,
+        Answer::Num(number) => Number(number),
+        Answer::Two(first, second) => Pair(first.0, second.0),
+        Answer::Bytes(bytes) => Byte(bytes.as_slice().first().copied()),
+        Answer::Refused(errno) => Refused(errno),
+        _ => Nothing,
+    }
+}
+
+fn refused(errno: Option<Errno>) -> Want {
+    errno.map_or(Nothing, Refused)
+}
+
+fn called(tables: &mut Tables, fd: i32, call: &Call) -> Result<Want, AllocError> {
+    let Some(desc) = tables.lookup(Pid(1), Fd(fd)) else {
+        return Ok(Nothing);
+    };
+    let (answer, _raised) = tables.apply(desc, 0, call)?;
+    Ok(answered(answer))
+}
+
+fn written(tables: &mut Tables, alloc: Global, fd: i32, byte: u8) -> Result<Want, AllocError> {
+    let mut bytes = Vec::new(alloc);
+    bytes.push(byte)?;
+    let call = Call::Write {
+        fd: Fd(fd),
+        bytes: Buffer::new(bytes),
+    };
+    called(tables, fd, &call)
+}
+
+fn set_timer(tables: &mut Tables, fd: i32, value: u64) -> Result<Want, AllocError> {
+    let call = Call::SetTime {
+        fd: Fd(fd),
+        absolute: false,
+        value,
+        interval: 0,
+    };
+    called(tables, fd, &call)
+}
+
+fn took(tables: &mut Tables, ends: Ends) -> Want {
+    match tables.take_dead() {
+        Some(dead) => Died(
+            which(ends, Some(dead.desc)),
+            dead.end == End::Second,
+            which(ends, dead.other),
+            dead.raised.first.0,
+        ),
+        None => Nothing,
+    }
+}
+
+fn looked(tables: &Tables, ends: Ends, fd: i32, view: View) -> Want {
+    let Some(desc) = tables.lookup(Pid(1), Fd(fd)) else {
+        return Nothing;
+    };
+    match view {
+        Side => Bits(u32::from(tables.end(desc) == End::Second), 0),
+        Other => Named(which(ends, tables.other(desc))),
+        Present => Bits(tables.present(desc, 0).0, 0),
+        Waiting => Number(tables.waiting(desc) as u64),
+        Next(now) => tables.next(desc, now.min(T_MAX)).map_or(Nothing, Number),
+        Advance(old, new) => {
+            let raised = tables.advance(desc, old.min(T_MAX), new.min(T_MAX));
+            Bits(raised.first.0, raised.second.0)
+        }
+    }
+}
+
+fn asked(tables: &Tables, ends: Ends, op: Op) -> Want {
+    match op {
+        Has(pid) => Bits(u32::from(tables.has_process(Pid(pid))), 0),
+        One(pid) => refused(tables.refuses_one(Pid(pid))),
+        Two(pid) => refused(tables.refuses_two(Pid(pid))),
+        Names(pid, fd) => Named(which(ends, tables.lookup(Pid(pid), Fd(fd)))),
+        At(fd, view) => looked(tables, ends, fd, view),
+        _ => Done,
+    }
+}
+
+fn named(tables: &mut Tables, op: Op) -> Result<Answer, AllocError> {
+    Ok(match op {
+        Dup(pid, fd) => tables.dup(Pid(pid), Fd(fd))?,
+        Dup2(pid, fd, to) => tables.dup2(Pid(pid), Fd(fd), Fd(to))?,
+        Fork(pid) => tables.fork(Pid(pid))?,
+        Close(pid, fd) => tables.close(Pid(pid), Fd(fd)),
+        Exec(pid) => tables.exec(Pid(pid)),
+        Exit(pid) => tables.exit(Pid(pid)),
+        _ => Answer::Parked,
+    })
+}
+
+fn make(tables: &mut Tables, alloc: Global, ends: Ends, op: Op) -> Result<Want, AllocError> {
+    match op {
+        Dup(..) | Dup2(..) | Fork(_) | Close(..) | Exec(_) | Exit(_) => {
+            Ok(answered(named(tables, op)?))
+        }
+        Dead => Ok(took(tables, ends)),
+        Write(fd, byte) => written(tables, alloc, fd, byte),
+        Read(fd, n) => called(tables, fd, &Call::Read { fd: Fd(fd), n }),
+        Set(fd, value) => set_timer(tables, fd, value),
+        _ => Ok(asked(tables, ends, op)),
+    }
+}
+
+// The first step that goes otherwise.
+fn first_wrong(
+    mut tables: Tables,
+    alloc: Global,
+    ends: Ends,
+    steps: &[Step],
+) -> Result<Option<usize>, AllocError> {
+    for (index, step) in steps.iter().enumerate() {
+        let (op, want) = *step;
+        if make(&mut tables, alloc, ends, op)? != want {
+            return Ok(Some(index));
+        }
+    }
+    Ok(None)
+}
+
+fn limits(descriptors: u32, files: u32, processes: u32) -> Limits {
+    match Limits::new(descriptors, files, processes, 64, 4_096, 4_096) {
         Some(limits) => limits,
         None => Limits::default(),
     }
 }
 
-// Process 1 starts with three numbers for one description, and no other process is there.
-#[test]
-fn opening(rt: HostRuntime) -> Result<(), Fail> {
-    let tables = Tables::new(rt.alloc(), limits(1_024, 4_096))?;
-    assert!(rt; tables.has_process(Pid(1)));
-    assert!(rt; !tables.has_process(Pid(0)) && !tables.has_process(Pid(2)));
-    let input = tables.lookup(Pid(1), Fd(0));
-    assert!(rt; input.is_some());
-    assert!(rt; tables.lookup(Pid(1), Fd(1)) == input && tables.lookup(Pid(1), Fd(2)) == input);
-    for fd in [Fd(3), Fd(-1), Fd(i32::MIN), Fd(i32::MAX)] {
-        assert!(rt; tables.lookup(Pid(1), fd).is_none());
-    }
-    assert!(rt; tables.lookup(Pid(2), Fd(0)).is_none());
-    assert!(rt; tables.refuses_one(Pid(1)).is_none() && tables.refuses_two(Pid(1)).is_none());
-    Ok(())
+fn created(
+    tables: &mut Tables,
+    alloc: Global,
+    pid: u64,
+    kind: Kind,
+    cloexec: bool,
+) -> Result<Want, AllocError>
+    requires descriptions { length tables.old.files.descriptions + 2 < 2 ^ 64 }
+    requires objects { length tables.old.files.objects + 2 < 2 ^ 64 }
+{
+    let answer = match kind {
+        Pipe => tables.create_two(Pid(pid), cloexec, Object::pipe(alloc, 4_096)?)?,
+        Instance => tables.create(Pid(pid), cloexec, Object::instance())?,
+        Timer => tables.create(Pid(pid), cloexec, Object::timer(alloc))?,
+    };
+    Ok(answered(answer))
 }
+
+fn run(alloc: Global, start: Start, steps: &[Step]) -> Result<Option<usize>, AllocError> {
+    let (descriptors, files, processes, pid, kind, cloexec, want) = start;
+    let mut tables = Tables::new(alloc, limits(descriptors, files, processes))?;
+    if created(&mut tables, alloc, pid, kind, cloexec)? != want {
+        return Ok(Some(usize::MAX));
+    }
+    let ends = (tables.lookup(Pid(1), Fd(3)), tables.lookup(Pid(1), Fd(4)));
+    first_wrong(tables, alloc, ends, steps)
+}
+
+fn expect(rt: &impl Abort, wrong: Result<Option<usize>, AllocError>) {
+    match wrong {
+        Ok(None) => {}
+        Ok(Some(index)) => assert!(rt; false, "at step {index}"),
+        Err(_) => assert!(rt; false, "no memory"),
+    }
+}
+
+// Process 1 starts with three numbers for one description, and no other process is there. The lowest
+// free number is 3.
+#[test]
+fn opening(rt: HostRuntime) {
+    let start = (1_024, 4_096, 64, 1, Instance, true, Number(3));
+    expect(&rt, run(rt.alloc(), start, &OPENING));
+}
+
+const OPENING: [Step; 17] = [
+    (Has(1), Bits(1, 0)),
+    (Has(0), Bits(0, 0)),
+    (Has(2), Bits(0, 0)),
+    (Names(1, 0), Named(Third)),
+    (Names(1, 1), Named(Third)),
+    (Names(1, 2), Named(Third)),
+    (Names(1, 3), Named(First)),
+    (Names(1, 4), Named(Nobody)),
+    (Names(1, -1), Named(Nobody)),
+    (Names(1, i32::MIN), Named(Nobody)),
+    (Names(1, i32::MAX), Named(Nobody)),
+    (Names(2, 0), Named(Nobody)),
+    (At(3, Other), Named(Nobody)),
+    (At(3, Present), Bits(0, 0)),
+    (At(3, Side), Bits(0, 0)),
+    (One(1), Nothing),
+    (Two(1), Nothing),
+];
 
 // The numbers that pipe(2) gives, the ends under them, and a byte on its way from one to the other.
 #[test]
-fn pipe(rt: HostRuntime) -> Result<(), Fail> {
-    let mut tables = Tables::new(rt.alloc(), limits(1_024, 4_096))?;
-    let object = Object::pipe(rt.alloc(), 65_536)?;
-    let answer = tables.create_two(Pid(1), false, object)?;
-    assert!(rt; matches!(answer, Answer::Two(Fd(3), Fd(4))));
-    let writer = tables.lookup(Pid(1), Fd(4)).expect(&rt, "the write end");
-    assert_eq!(rt; tables.end(writer), End::Second);
-    assert!(rt; !tables.object(writer).is_plain());
-    let byte = Call::Write {
-        fd: Fd(4),
-        bytes: Buffer::new(Vec::from_slice(rt.alloc(), b"x")?),
-    };
-    let (answer, raised) = tables.apply(writer, 0, &byte)?;
-    assert!(rt; matches!(answer, Answer::Num(1)));
-    assert_eq!(rt; raised.first, Mask::IN);
-    let reader = tables.lookup(Pid(1), Fd(3)).expect(&rt, "the read end");
-    assert_eq!(rt; tables.end(reader), End::First);
-    assert_eq!(rt; tables.present(reader, 0), Mask::IN);
-    let (answer, _raised) = tables.apply(reader, 0, &Call::Read { fd: Fd(3), n: 8 })?;
-    assert!(rt; matches!(&answer, Answer::Bytes(bytes) if bytes.as_slice() == b"x".as_slice()));
-    Ok(())
+fn pipe(rt: HostRuntime) {
+    let start = (1_024, 4_096, 64, 1, Pipe, false, Pair(3, 4));
+    expect(&rt, run(rt.alloc(), start, &PIPE));
 }
 
-// The lowest free number of the opening state is 3.
-#[test]
-fn one(rt: HostRuntime) -> Result<(), Fail> {
-    let mut tables = Tables::new(rt.alloc(), limits(1_024, 4_096))?;
-    let answer = tables.create(Pid(1), true, Object::instance())?;
-    assert!(rt; matches!(answer, Answer::Num(3)));
-    let instance = tables.lookup(Pid(1), Fd(3)).expect(&rt, "the instance");
-    assert!(rt; tables.object(instance).is_instance());
-    assert!(rt; tables.lookup(Pid(1), Fd(0)) != Some(instance));
-    Ok(())
-}
-
-// Limits of 3 numbers and of 1 or 2 descriptions are reached at once; a missing process comes first.
-#[test]
-fn refusals(rt: HostRuntime) -> Result<(), Fail> {
-    for (descriptors, files, pid, one, two) in [
-        (3, 1, 2, Errno::Esrch, Errno::Esrch),
-        (3, 1, 1, Errno::Emfile, Errno::Emfile),
-        (4, 1, 1, Errno::Enfile, Errno::Emfile),
-        (5, 1, 1, Errno::Enfile, Errno::Enfile),
-    ] {
-        let mut tables = Tables::new(rt.alloc(), limits(descriptors, files))?;
-        let answer = tables.create(Pid(pid), false, Object::instance())?;
-        assert!(rt; matches!(answer, Answer::Refused(errno) if errno == one));
-        let mut tables = Tables::new(rt.alloc(), limits(descriptors, files))?;
-        let answer = tables.create_two(Pid(pid), false, Object::instance())?;
-        assert!(rt; matches!(answer, Answer::Refused(errno) if errno == two));
-    }
-    let tables = Tables::new(rt.alloc(), limits(5, 2))?;
-    assert_eq!(rt; tables.refuses_one(Pid(1)), None);
-    assert_eq!(rt; tables.refuses_two(Pid(1)), Some(Errno::Enfile));
-    Ok(())
-}
-
-// dup(2) takes the lowest free number, and a description lives as long as one number names it.
-#[test]
-fn names(rt: HostRuntime) -> Result<(), Fail> {
-    let mut tables = Tables::new(rt.alloc(), limits(4, 4_096))?;
-    assert!(rt; matches!(tables.dup(Pid(1), Fd(0))?, Answer::Num(3)));
-    assert!(rt; matches!(tables.dup(Pid(1), Fd(0))?, Answer::Refused(Errno::Emfile)));
-    assert!(rt; matches!(tables.close(Pid(1), Fd(0)), Answer::Done));
-    assert!(rt; matches!(tables.close(Pid(1), Fd(0)), Answer::Refused(Errno::Ebadf)));
-    assert!(rt; matches!(tables.dup(Pid(1), Fd(0))?, Answer::Refused(Errno::Ebadf)));
-    assert!(rt; matches!(tables.dup(Pid(2), Fd(1))?, Answer::Refused(Errno::Esrch)));
-    assert!(rt; matches!(tables.dup(Pid(1), Fd(3))?, Answer::Num(0)));
-    for fd in [Fd(1), Fd(2), Fd(3)] {
-        assert!(rt; matches!(tables.close(Pid(1), fd), Answer::Done));
-    }
-    assert!(rt; tables.take_dead().is_none());
-    assert!(rt; matches!(tables.close(Pid(1), Fd(0)), Answer::Done));
-    assert!(rt; tables.take_dead().is_some() && tables.take_dead().is_none());
-    assert!(rt; matches!(tables.close(Pid(2), Fd(0)), Answer::Refused(Errno::Esrch)));
-    Ok(())
-}
+const PIPE: [Step; 11] = [
+    (At(3, Side), Bits(0, 0)),
+    (At(4, Side), Bits(1, 0)),
+    (At(3, Other), Named(Second)),
+    (At(4, Other), Named(First)),
+    (At(4, Present), Bits(OUT, 0)),
+    (Write(4, 0x78), Number(1)),
+    (At(3, Waiting), Number(1)),
+    (At(3, Present), Bits(IN, 0)),
+    (Read(3, 8), Byte(Some(0x78))),
+    (Read(3, 8), Refused(Eagain)),
+    (At(3, Present), Bits(0, 0)),
+];
 
 // The last descriptor of the write end raises HUP at the read end, as pipe(7) says.
 #[test]
-fn hangup(rt: HostRuntime) -> Result<(), Fail> {
-    let mut tables = Tables::new(rt.alloc(), limits(1_024, 4_096))?;
-    let object = Object::pipe(rt.alloc(), 65_536)?;
-    let answer = tables.create_two(Pid(1), false, object)?;
-    assert!(rt; matches!(answer, Answer::Two(Fd(3), Fd(4))));
-    let writer = tables.lookup(Pid(1), Fd(4)).expect(&rt, "the write end");
-    assert!(rt; tables.other(writer) == tables.lookup(Pid(1), Fd(3)));
-    assert!(rt; matches!(tables.close(Pid(1), Fd(4)), Answer::Done));
-    let dead = tables.take_dead().expect(&rt, "the write end died");
-    assert!(rt; dead.desc == writer && dead.end == End::Second);
-    assert!(rt; dead.other == tables.lookup(Pid(1), Fd(3)));
-    assert_eq!(rt; dead.raised.first, Mask::HUP);
-    let reader = tables.lookup(Pid(1), Fd(3)).expect(&rt, "the read end");
-    assert_eq!(rt; tables.present(reader, 0), Mask::HUP);
-    assert_eq!(rt; tables.waiting(reader), 0);
-    assert!(rt; tables.other(reader).is_none());
-    Ok(())
+fn hangup(rt: HostRuntime) {
+    let start = (1_024, 4_096, 64, 1, Pipe, false, Pair(3, 4));
+    expect(&rt, run(rt.alloc(), start, &HANGUP));
 }
 
-// A child shares the descriptions of its parent, and counts to the limit of processes.
+const HANGUP: [Step; 9] = [
+    (Close(1, 4), Done),
+    (At(3, Other), Named(Second)),
+    (Dead, Died(Second, true, First, HUP)),
+    (Dead, Nothing),
+    (At(3, Other), Named(Nobody)),
+    (At(3, Present), Bits(HUP, 0)),
+    (Read(3, 8), Byte(None)),
+    (Close(1, 3), Done),
+    (Dead, Died(First, false, Nobody, 0)),
+];
+
+// Limits of numbers and descriptions that are reached at once; a missing process comes first.
 #[test]
-fn child(rt: HostRuntime) -> Result<(), Fail> {
-    let two = Limits::new(8, 8, 2, 0, 4_096, 1).expect(&rt, "limits");
-    let mut tables = Tables::new(rt.alloc(), two)?;
-    assert!(rt; matches!(tables.fork(Pid(2))?, Answer::Refused(Errno::Esrch)));
-    assert!(rt; matches!(tables.fork(Pid(1))?, Answer::Num(2)));
-    assert!(rt; matches!(tables.fork(Pid(2))?, Answer::Refused(Errno::Eagain)));
-    let input = tables.lookup(Pid(1), Fd(0));
-    assert!(rt; input.is_some() && tables.lookup(Pid(2), Fd(0)) == input);
-    for fd in [Fd(0), Fd(1), Fd(2)] {
-        assert!(rt; matches!(tables.close(Pid(1), fd), Answer::Done));
+fn refusals(rt: HostRuntime) {
+    for start in &REFUSALS {
+        expect(&rt, run(rt.alloc(), *start, &[(Dead, Nothing)]));
     }
-    assert!(rt; tables.take_dead().is_none());
-    assert!(rt; tables.lookup(Pid(1), Fd(0)).is_none() && tables.lookup(Pid(2), Fd(0)) == input);
-    Ok(())
 }
 
-// After dup2 and close, 3 is free again, and the description lives on at 7.
+const REFUSALS: [Start; 8] = [
+    (3, 1, 1, 2, Instance, false, Refused(Esrch)),
+    (3, 1, 1, 2, Pipe, false, Refused(Esrch)),
+    (3, 1, 1, 1, Instance, false, Refused(Emfile)),
+    (3, 1, 1, 1, Pipe, false, Refused(Emfile)),
+    (4, 1, 1, 1, Instance, false, Refused(Enfile)),
+    (4, 1, 1, 1, Pipe, false, Refused(Emfile)),
+    (5, 1, 1, 1, Pipe, false, Refused(Enfile)),
+    (5, 2, 1, 1, Pipe, false, Refused(Enfile)),
+];
+
+// dup(2) takes the lowest free number, and a description lives as long as one number names it.
 #[test]
-fn moved(rt: HostRuntime) -> Result<(), Fail> {
-    let mut tables = Tables::new(rt.alloc(), limits(8, 4_096))?;
-    let object = Object::pipe(rt.alloc(), 4_096)?;
-    tables.create_two(Pid(1), true, object)?;
-    let reader = tables.lookup(Pid(1), Fd(3));
-    assert!(rt; matches!(tables.dup2(Pid(1), Fd(3), Fd(7))?, Answer::Num(7)));
-    assert!(rt; matches!(tables.close(Pid(1), Fd(3)), Answer::Done));
-    assert!(rt; tables.take_dead().is_none() && tables.lookup(Pid(1), Fd(7)) == reader);
-    assert!(rt;
-        matches!(
-            tables.create(Pid(1), false, Object::instance())?,
-            Answer::Num(3)
-        )
-    );
-    assert!(rt; matches!(tables.dup2(Pid(1), Fd(7), Fd(7))?, Answer::Num(7)));
-    assert!(rt;
-        matches!(
-            tables.dup2(Pid(1), Fd(7), Fd(8))?,
-            Answer::Refused(Errno::Ebadf)
-        )
-    );
-    assert!(rt;
-        matches!(
-            tables.dup2(Pid(1), Fd(6), Fd(7))?,
-            Answer::Refused(Errno::Ebadf)
-        )
-    );
-    assert!(rt;
-        matches!(
-            tables.dup2(Pid(2), Fd(6), Fd(7))?,
-            Answer::Refused(Errno::Esrch)
-        )
-    );
-    assert!(rt; matches!(tables.dup2(Pid(1), Fd(4), Fd(7))?, Answer::Num(7)));
-    let dead = tables.take_dead().expect(&rt, "the read end died");
-    assert!(rt; Some(dead.desc) == reader && tables.take_dead().is_none());
-    Ok(())
+fn names(rt: HostRuntime) {
+    let start = (5, 3, 1, 1, Instance, false, Number(3));
+    expect(&rt, run(rt.alloc(), start, &NAMES));
 }
 
-// A held instance lives on while its number goes to another one.
+const NAMES: [Step; 15] = [
+    (Two(1), Refused(Emfile)),
+    (Dup(1, 3), Number(4)),
+    (Dup(1, 3), Refused(Emfile)),
+    (One(1), Refused(Emfile)),
+    (Close(1, 0), Done),
+    (Close(1, 0), Refused(Ebadf)),
+    (Dup(1, 0), Refused(Ebadf)),
+    (Dup(2, 3), Refused(Esrch)),
+    (Close(1, 3), Done),
+    (Dup(1, 4), Number(0)),
+    (Close(1, 4), Done),
+    (Dead, Nothing),
+    (Close(1, 0), Done),
+    (Dead, Died(First, false, Nobody, 0)),
+    (Close(2, 1), Refused(Esrch)),
+];
+
+// dup2(2) closes what a number named before, and after a close 3 is free again.
 #[test]
-fn held(rt: HostRuntime) -> Result<(), Fail> {
-    let mut tables = Tables::new(rt.alloc(), limits(16, 16))?;
-    tables.create(Pid(1), false, Object::instance())?;
-    let held = tables.lookup(Pid(1), Fd(3)).expect(&rt, "the instance");
-    tables.hold(held)?;
-    assert!(rt; matches!(tables.close(Pid(1), Fd(3)), Answer::Done));
-    assert!(rt; tables.take_dead().is_none() && tables.object(held).is_instance());
-    tables.release(held);
-    assert!(rt; matches!(tables.take_dead(), Some(dead) if dead.desc == held));
-    assert!(rt;
-        matches!(
-            tables.create(Pid(1), false, Object::instance())?,
-            Answer::Num(3)
-        )
-    );
-    Ok(())
+fn moved(rt: HostRuntime) {
+    let start = (8, 4_096, 1, 1, Pipe, true, Pair(3, 4));
+    expect(&rt, run(rt.alloc(), start, &MOVED));
 }
 
-// Full tables, and a process that ends.
+const MOVED: [Step; 13] = [
+    (Dup2(1, 3, 7), Number(7)),
+    (Close(1, 3), Done),
+    (Dead, Nothing),
+    (Names(1, 7), Named(First)),
+    (Dup(1, 0), Number(3)),
+    (Dup2(1, 7, 7), Number(7)),
+    (Dup2(1, 7, 8), Refused(Ebadf)),
+    (Dup2(1, 7, -1), Refused(Ebadf)),
+    (Dup2(1, 6, 7), Refused(Ebadf)),
+    (Dup2(2, 6, 7), Refused(Esrch)),
+    (Dup2(1, 4, 7), Number(7)),
+    (Dead, Died(First, false, Second, 0)),
+    (Dead, Nothing),
+];
+
+// A child shares the descriptions of its parent, counts to the limit of processes, and ends.
 #[test]
-fn full(rt: HostRuntime) -> Result<(), Fail> {
-    let small = Limits::new(6, 5, 2, 8, 4_096, 1).expect(&rt, "limits");
-    let mut tables = Tables::new(rt.alloc(), small)?;
-    let object = Object::pipe(rt.alloc(), 4_096)?;
-    tables.create_two(Pid(1), false, object)?;
-    assert!(rt; tables.refuses_two(Pid(1)) == Some(Errno::Emfile));
-    assert!(rt; matches!(tables.fork(Pid(1))?, Answer::Num(2)));
-    assert!(rt; matches!(tables.fork(Pid(1))?, Answer::Refused(Errno::Eagain)));
-    assert!(rt; matches!(tables.close(Pid(1), Fd(3)), Answer::Done));
-    assert!(rt; tables.take_dead().is_none());
-    assert!(rt;
-        matches!(
-            tables.create(Pid(1), false, Object::instance())?,
-            Answer::Num(3)
-        )
-    );
-    assert!(rt;
-        matches!(
-            tables.create(Pid(1), false, Object::instance())?,
-            Answer::Num(5)
-        )
-    );
-    assert!(rt; tables.refuses_one(Pid(2)) == Some(Errno::Enfile));
-    assert!(rt; matches!(tables.exit(Pid(2)), Answer::Done));
-    let dead = tables.take_dead().expect(&rt, "the read end died");
-    assert!(rt; dead.end == End::First && dead.other == tables.lookup(Pid(1), Fd(4)));
-    assert!(rt; matches!(tables.close(Pid(2), Fd(0)), Answer::Refused(Errno::Esrch)));
-    assert!(rt; matches!(tables.exit(Pid(2)), Answer::Refused(Errno::Esrch)));
-    assert!(rt; matches!(tables.fork(Pid(1))?, Answer::Num(3)));
-    Ok(())
+fn child(rt: HostRuntime) {
+    let start = (8, 3, 2, 1, Pipe, false, Pair(3, 4));
+    expect(&rt, run(rt.alloc(), start, &CHILD));
 }
+
+const CHILD: [Step; 16] = [
+    (Fork(2), Refused(Esrch)),
+    (Fork(1), Number(2)),
+    (Fork(2), Refused(Eagain)),
+    (One(2), Refused(Enfile)),
+    (Names(2, 3), Named(First)),
+    (Close(1, 3), Done),
+    (Dead, Nothing),
+    (Names(1, 3), Named(Nobody)),
+    (Names(2, 3), Named(First)),
+    (Exit(2), Done),
+    (Dead, Died(First, false, Second, 0)),
+    (Dead, Nothing),
+    (Close(2, 0), Refused(Esrch)),
+    (Exit(2), Refused(Esrch)),
+    (Fork(1), Number(3)),
+    (Names(3, 4), Named(Second)),
+];
 
 // exec closes what is flagged, and dup's copy isn't.
 #[test]
-fn flagged(rt: HostRuntime) -> Result<(), Fail> {
-    let mut tables = Tables::new(rt.alloc(), limits(16, 16))?;
-    let object = Object::pipe(rt.alloc(), 4_096)?;
-    tables.create_two(Pid(1), true, object)?;
-    let reader = tables.lookup(Pid(1), Fd(3));
-    let writer = tables.lookup(Pid(1), Fd(4));
-    assert!(rt; matches!(tables.dup(Pid(1), Fd(3))?, Answer::Num(5)));
-    assert!(rt; matches!(tables.exec(Pid(1)), Answer::Done));
-    assert!(rt; tables.lookup(Pid(1), Fd(3)).is_none() && tables.lookup(Pid(1), Fd(5)) == reader);
-    let dead = tables.take_dead().expect(&rt, "the write end died");
-    assert!(rt; Some(dead.desc) == writer && dead.other == reader && tables.take_dead().is_none());
-    assert!(rt; matches!(tables.exec(Pid(2)), Answer::Refused(Errno::Esrch)));
-    Ok(())
+fn flagged(rt: HostRuntime) {
+    let start = (16, 16, 1, 1, Pipe, true, Pair(3, 4));
+    expect(&rt, run(rt.alloc(), start, &FLAGGED));
+}
+
+const FLAGGED: [Step; 8] = [
+    (Dup(1, 3), Number(5)),
+    (Exec(1), Done),
+    (Names(1, 3), Named(Nobody)),
+    (Names(1, 5), Named(First)),
+    (Names(1, 0), Named(Third)),
+    (Dead, Died(Second, true, First, HUP)),
+    (Dead, Nothing),
+    (Exec(2), Refused(Esrch)),
+];
+
+// A timer of 5 milliseconds.
+#[test]
+fn timer(rt: HostRuntime) {
+    let start = (16, 16, 1, 1, Timer, false, Number(3));
+    expect(&rt, run(rt.alloc(), start, &TIMER));
+}
+
+const TIMER: [Step; 6] = [
+    (At(3, Next(0)), Nothing),
+    (Set(3, 5), Nothing),
+    (At(3, Next(0)), Number(5)),
+    (At(3, Advance(0, 4)), Bits(0, 0)),
+    (At(3, Advance(0, 5)), Bits(IN, 0)),
+    (At(3, Next(5)), Nothing),
+];
+
+// Whether a number of the first process is closed.
+fn closes(tables: &mut Tables, fd: i32) -> bool
+    ensures keys { tables.new.keys ≡ tables.old.keys }
+    ensures holds { tables.new.holds ≡ tables.old.holds }
+    ensures descriptions { tables.new.files.descriptions ≡ tables.old.files.descriptions }
+    ensures objects { tables.new.files.objects ≡ tables.old.files.objects }
+{
+    answered(tables.close(Pid(1), Fd(fd))) == Done
+}
+
+// A held description lives on without a number until its release.
+fn is_held(alloc: Global) -> Result<bool, AllocError> {
+    let mut tables = Tables::new(alloc, limits(16, 16, 1))?;
+    let Some(held) = tables.lookup(Pid(1), Fd(0)) else {
+        return Ok(false);
+    };
+    tables.hold(held)?;
+    if !closes(&mut tables, 0) || !closes(&mut tables, 1) || !closes(&mut tables, 2) {
+        return Ok(false);
+    }
+    if tables.take_dead().is_some() {
+        return Ok(false);
+    }
+    let is_plain = tables.object(held).is_plain();
+    tables.release(held);
+    let dead = tables.take_dead();
+    Ok(is_plain && matches!(dead, Some(dead) if dead.desc == held) && tables.take_dead().is_none())
+}
+
+#[test]
+fn held(rt: HostRuntime) {
+    assert!(rt; matches!(is_held(rt.alloc()), Ok(true)));
+}
+
+// Whether closing a number frees it for the next object.
+fn is_freed(alloc: Global) -> Result<bool, AllocError> {
+    let mut tables = Tables::new(alloc, limits(16, 16, 1))?;
+    let is_closed = closes(&mut tables, 0) && closes(&mut tables, 2);
+    let pipe = created(&mut tables, alloc, 1, Pipe, false)?;
+    Ok(is_closed && pipe == Pair(0, 2))
+}
+
+#[test]
+fn freed(rt: HostRuntime) {
+    assert!(rt; matches!(is_freed(rt.alloc()), Ok(true)));
 }
