@@ -30,6 +30,10 @@ use std::marker::Model;
 
 /// The tables of all processes, how many processes live, the open file descriptions and the objects,
 /// within limits.
+///
+/// A call takes constant time where it doesn't say how its time grows. The lowest free number of a
+/// process is looked for from a number below which none is free, so that one creation or dup after a
+/// close may go over the taken numbers above the freed one.
 #[derive(Drop)]
 pub struct Tables {
     limits: Limits,
@@ -365,7 +369,7 @@ impl Tables {
     /// fork(2): a new process with a copy of the table, flags included, which shares the descriptions.
     /// The answer is its number, which is never used again. Refused, with nothing changed: ESRCH where
     /// there is no such process, EAGAIN where as many processes live as the limit allows. An
-    /// `AllocError` leaves the tables.
+    /// `AllocError` leaves the tables. The time is that of going through its table.
     pub fn fork(&mut self, pid: Pid) -> Result<Answer, AllocError>
         ensures refused { IfOk result (λ answer. (e : the_errno) → fork_refusal self.old pid.0 ≡ Some e → (answer ≡ Refused e) × (self.new ≡ self.old)) }
         ensures answer { IfOk result (λ answer. fork_refusal self.old pid.0 ≡ None → answer ≡ Num (length self.old.files.tables)) }
@@ -566,6 +570,7 @@ impl Tables {
     /// A call on the object of a live description, at its end: what it is answered at the moment
     /// `now`, in milliseconds, and what it raises at the ends of the object. An `AllocError` leaves
     /// the tables, and comes only where a read asks for more than 16 bytes and more than 16 wait.
+    /// The time grows with the bytes that are moved.
     pub fn apply(
         &mut self,
         desc: DescId,
