@@ -76,6 +76,25 @@ pub enum Call {
     GetTime {
         fd: Fd,
     },
+    /// dup(2): another descriptor of what `fd` names, without close-on-exec.
+    Dup {
+        fd: Fd,
+    },
+    /// dup2(2): the descriptor `to` names what `fd` does, without close-on-exec.
+    Dup2 {
+        fd: Fd,
+        to: Fd,
+    },
+    /// close(2).
+    Close {
+        fd: Fd,
+    },
+    /// fork(2): a new process with a copy of the table.
+    Fork,
+    /// execve(2), as far as it closes descriptors.
+    Exec,
+    /// exit(2): closes all descriptors and ends the process.
+    Exit,
 }
 
 impl Call {
@@ -130,6 +149,12 @@ impl Call {
                 interval,
             },
             Call::GetTime { fd } => Call::GetTime { fd },
+            Call::Dup { fd } => Call::Dup { fd },
+            Call::Dup2 { fd, to } => Call::Dup2 { fd, to },
+            Call::Close { fd } => Call::Close { fd },
+            Call::Fork => Call::Fork,
+            Call::Exec => Call::Exec,
+            Call::Exit => Call::Exit,
         })
     }
 }

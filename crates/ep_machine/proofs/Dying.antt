@@ -38,7 +38,7 @@ set_of_set [] k a f = refl
 set_of_set (x ∷ xs) zero a f = refl
 set_of_set (x ∷ xs) (suc k) a f = ap (λ (ys : List (Option Object)). x ∷ ys) (set_of_set xs k a f)
 
-get_other : (xs : List (Option Object)) (k j : ℕ) (a : Option Object) → k ≢ j → get_or (set xs k a) j None ≡ get_or xs j None
+pub get_other : (xs : List (Option Object)) (k j : ℕ) (a : Option Object) → k ≢ j → get_or (set xs k a) j None ≡ get_or xs j None
 get_other [] k j a h = refl
 get_other (x ∷ xs) zero zero a h = absurd (h refl)
 get_other (x ∷ xs) zero (suc j) a h = refl
@@ -53,7 +53,7 @@ get_place (x ∷ xs) (suc k) zero a h = refl
 get_place (x ∷ xs) (suc k) (suc j) a h = get_place xs k j a (λ e. h (ap suc e))
 
 -- a description of this object is among these
-abbrev has_one : ℕ → ℕ → List (Option Place) → Bool
+abbrev pub has_one : ℕ → ℕ → List (Option Place) → Bool
 has_one k from ds = list_any (λ y. y.1.object == k) (numbered from ds)
 
 pub differs : (a b : ℕ) → a ≢ b → (a == b) ≡ false
@@ -74,7 +74,7 @@ pub same_nat : (n : ℕ) → (n == n) ≡ true
 same_nat n = grind (arith, nat_tests)
 
 -- a description that is there keeps its object
-has_here : (k from at : ℕ) (ds : List (Option Place)) (p : Place) → get_or ds at None ≡ Some p → p.object ≡ k → has_one k from ds ≡ true
+pub has_here : (k from at : ℕ) (ds : List (Option Place)) (p : Place) → get_or ds at None ≡ Some p → p.object ≡ k → has_one k from ds ≡ true
 has_here k from at [] p is h = cc
 has_here k from zero (None ∷ ds) p is h = cc
 has_here k from zero (Some q ∷ ds) p is h =

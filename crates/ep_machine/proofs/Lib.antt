@@ -3,6 +3,7 @@ pub mod Soundness
 pub mod Dying
 pub mod Living
 pub mod Naming
+pub mod Burying
 pub mod Quietness
 pub mod Settling
 pub mod Showing

@@ -10,12 +10,12 @@ use Rattle.ep_machine.specs.Lists.{are_distinct, is_among, numbered}
 use Rattle.ep_machine.specs.State.{State}
 use Rattle.ep_machine.proofs.Dying.{ArePlaced, after_all, after_first, apart_from_rest, differs, get_place, numbers, raised_before, same_nat, same_or_not, still_placed}
 
-get_none : (xs : List (Option Place)) (k : ℕ) → get_or (set xs k None) k None ≡ None
+pub get_none : (xs : List (Option Place)) (k : ℕ) → get_or (set xs k None) k None ≡ None
 get_none [] k = refl
 get_none (x ∷ xs) zero = refl
 get_none (x ∷ xs) (suc k) = get_none xs k
 
-place_after : (f : Files) (x : ℕ × Place) (d : ℕ) → place_of (after_all f (x ∷ [])) d ≡ (if (d == x.0) || false then None else place_of f d)
+pub place_after : (f : Files) (x : ℕ × Place) (d : ℕ) → place_of (after_all f (x ∷ [])) d ≡ (if (d == x.0) || false then None else place_of f d)
 place_after f x d = elim (same_or_not d x.0) [
   | inl e ↦
       subst (λ (m : ℕ). get_or (set f.descriptions x.0 None) m None ≡ (if (m == x.0) || false then None else place_of f m)) (sym e)
@@ -24,14 +24,14 @@ place_after f x d = elim (same_or_not d x.0) [
       get_place f.descriptions x.0 d None (λ e. ne (sym e)) ∙ ap (λ (b : Bool). if b || false then None else place_of f d) (sym (differs d x.0 ne))
 ]
 
-if_twice : (a b : Bool) (o : Option Place) → (if b then None else (if a || false then None else o)) ≡ (if a || b then None else o)
+pub if_twice : (a b : Bool) (o : Option Place) → (if b then None else (if a || false then None else o)) ≡ (if a || b then None else o)
 if_twice true true o = refl
 if_twice true false o = refl
 if_twice false true o = refl
 if_twice false false o = refl
 
 -- the dead have no place, and the others keep theirs
-places_left : (f : Files) (xs : List (ℕ × Place)) → are_distinct (numbers xs) ≡ true → ArePlaced f xs → (d : ℕ) → place_of (after_all f xs) d ≡ (if is_among (numbers xs) d then None else place_of f d)
+pub places_left : (f : Files) (xs : List (ℕ × Place)) → are_distinct (numbers xs) ≡ true → ArePlaced f xs → (d : ℕ) → place_of (after_all f xs) d ≡ (if is_among (numbers xs) d then None else place_of f d)
 places_left f [] h p d = refl
 places_left f (x ∷ xs) h p d =
     let rest = apart_from_rest x xs h in
@@ -132,18 +132,18 @@ module _ (test : ℕ → Bool) where
 
 -- the dying of a state
 module _ (s : State) where
-  dying_placed : ArePlaced s.files (dying s)
+  pub dying_placed : ArePlaced s.files (dying s)
   dying_placed = chosen_placed (is_among (named s)) s.files.descriptions 0 s.files.descriptions (λ i. ap (λ (j : ℕ). get_or s.files.descriptions j None) (zero_plus i)) where
     zero_plus : (i : ℕ) → 0 + i ≡ i
     zero_plus i = omega arith
 
-  dying_distinct : are_distinct (numbers (dying s)) ≡ true
+  pub dying_distinct : are_distinct (numbers (dying s)) ≡ true
   dying_distinct = chosen_distinct (is_among (named s)) 0 s.files.descriptions
 
-  dying_unnamed : (d : ℕ) → is_among (numbers (dying s)) d ≡ true → is_among (named s) d ≡ false
+  pub dying_unnamed : (d : ℕ) → is_among (numbers (dying s)) d ≡ true → is_among (named s) d ≡ false
   dying_unnamed d h = not_test (is_among (named s)) d (numbered 0 s.files.descriptions) h
 
-  unnamed_dying : (d : ℕ) → is_live s.files d ≡ true → is_among (named s) d ≡ false → is_among (numbers (dying s)) d ≡ true
+  pub unnamed_dying : (d : ℕ) → is_live s.files d ≡ true → is_among (named s) d ≡ false → is_among (numbers (dying s)) d ≡ true
   unnamed_dying d live h = subst (λ (j : ℕ). is_among (numbers (dying s)) j ≡ true) (zero_plus d) (is_chosen (is_among (named s)) 0 s.files.descriptions d live (ap (is_among (named s)) (zero_plus d) ∙ h)) where
     zero_plus : (i : ℕ) → 0 + i ≡ i
     zero_plus i = omega arith

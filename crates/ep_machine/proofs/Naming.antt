@@ -1,21 +1,21 @@
 -- What tables name, and what descriptions and objects are there after a creation or a change of an object.
-use Rattle.std.proofs.Common.{◌≡◌, ℕ, zero, suc, ◌+◌, ◌<◌, ◌==◌, ◌||◌, ◌++◌, ◌∙◌, All, Bool, List, [], ◌∷◌, None, Option, Some, ℤ, pos, negsuc, true, false, ap, arith, get_or, is_none, is_some, length, nat_lt, refl, set, sym, unwrap_or}
+use Rattle.std.proofs.Common.{◌≡◌, ◌≢◌, ℕ, zero, suc, ◌==◌, ◌||◌, ◌⊎◌, ◌++◌, ◌∙◌, Bool, List, [], ◌∷◌, None, Option, Some, ℤ, pos, negsuc, true, false, ap, arith, get_or, if◌then◌else◌, inl, inr, is_none, is_some, length, map, refl, set, subst, sym, unwrap_or}
 use Rattle.std.specs.List.{filter_map}
-use Rattle.std.proofs.lemmas.List.{length_push}
-use Rattle.std.proofs.lemmas.List.Elements.{All-from_recursion, All-push, All-weaker}
+use Rattle.std.proofs.lemmas.Bool.{false≢true}
 use Rattle.std.proofs.lemmas.Bool.Decides.{nat_tests}
 use Rattle.ep_base.specs.declared.object.End.{End}
 use Rattle.ep_machine.specs.Deaths.{named_in, named_in_tables}
-use Rattle.ep_machine.specs.Files.{Files, Place, Slot, Table, description_in, is_live, named_by, names_nothing, object_at, object_of, opening_files, place_of, slot_under, table_of, with_object}
-use Rattle.ep_machine.specs.Lists.{enter, is_among}
+use Rattle.ep_machine.specs.Files.{Files, Place, Slot, Table, description_in, is_live, named_by, names_nothing, numbers_of, object_at, object_of, opening_files, place_of, slot_under, table_of, with_object}
+use Rattle.ep_machine.specs.Lists.{enter, is_among, place_at}
 use Rattle.ep_machine.specs.Objects.{Object}
-use Rattle.ep_machine.specs.Quiet.{can_be_watched}
-use Rattle.ep_machine.specs.Tables.{create_one, create_two, describe, new_object, slot}
+use Rattle.ep_machine.specs.Quiet.{can_be_watched, is_backed}
+use Rattle.ep_machine.specs.Tables.{close, create_one, create_two, describe, dup, dup2, exec, exit, fork, kept_by_exec, new_object, same_number, slot, with_table}
+use Rattle.ep_machine.proofs.Dying.{same_or_not}
 
--- the part of a quiet state that is about its files
+-- the part of a changed state that is about its files
 pub record Filed (f : Files) : Type 0 where
-  pub placed : All (λ p. is_some (object_at f p) ≡ true) f.descriptions
-  pub named : (d : ℕ) → is_among (named_in_tables f.tables) d ≡ nat_lt d (length f.descriptions)
+  pub placed : (d : ℕ) → is_backed f (place_of f d) ≡ true
+  pub lives : (d : ℕ) → is_among (named_in_tables f.tables) d ≡ true → is_live f d ≡ true
 
 -- what lives and what can be watched stays so
 pub record Extends (f g : Files) : Type 0 where
@@ -111,7 +111,7 @@ some_push : {X : Type 0} (xs : List (Option X)) (x : X) → get_or (xs ++ Some x
 some_push [] x = refl
 some_push (y ∷ xs) x = some_push xs x
 
-some_set : {X : Type 0} (xs : List (Option X)) (k j : ℕ) (x : X) → is_some (get_or xs j None) ≡ true → is_some (get_or (set xs k (Some x)) j None) ≡ true
+pub some_set : {X : Type 0} (xs : List (Option X)) (k j : ℕ) (x : X) → is_some (get_or xs j None) ≡ true → is_some (get_or (set xs k (Some x)) j None) ≡ true
 some_set [] k j x h = cc
 some_set (y ∷ xs) zero zero x h = refl
 some_set (y ∷ xs) zero (suc j) x h = h
@@ -119,7 +119,7 @@ some_set (y ∷ xs) (suc k) zero x h = h
 some_set (y ∷ xs) (suc k) (suc j) x h = some_set xs k j x h
 
 -- an object that can be watched gives way to one that can
-watched_set : (xs : List (Option Object)) (k j : ℕ) (x : Object) → (can_be_watched (get_or xs k None) ≡ true → can_be_watched (Some x) ≡ true) → can_be_watched (get_or xs j None) ≡ true → can_be_watched (get_or (set xs k (Some x)) j None) ≡ true
+pub watched_set : (xs : List (Option Object)) (k j : ℕ) (x : Object) → (can_be_watched (get_or xs k None) ≡ true → can_be_watched (Some x) ≡ true) → can_be_watched (get_or xs j None) ≡ true → can_be_watched (get_or (set xs k (Some x)) j None) ≡ true
 watched_set [] k j x keep h = h
 watched_set (y ∷ xs) zero zero x keep h = keep h
 watched_set (y ∷ xs) zero (suc j) x keep h = h
@@ -134,8 +134,13 @@ watched_lives : (f : Files) (p : Option Place) → can_be_watched (object_at f p
 watched_lives f None h = cc
 watched_lives f (Some p) h = refl
 
-lt_next : (d n : ℕ) → (nat_lt d n || (d == n)) ≡ nat_lt d (n + 1)
-lt_next d n = grind (arith, nat_tests)
+-- the first or the second
+or_case : (a b : Bool) → (a || b) ≡ true → (a ≡ true) ⊎ (b ≡ true)
+or_case true b h = inl refl
+or_case false b h = inr h
+
+from_test : (a b : ℕ) → (a == b) ≡ true → a ≡ b
+from_test a b h = grind (arith, nat_tests, h)
 
 -- A new object.
 pub extends_new_object : (f : Files) (x : Object) → Extends f (new_object f x)
@@ -145,8 +150,8 @@ extends_new_object f x = record { lives = λ d e. e; shows = λ d e. shows_at (p
   shows_at (Some p) e = ap can_be_watched (some_append f.objects (Some x ∷ []) p.object (watched_is_some _ e)) ∙ e
 
 pub filed_new_object : (f : Files) (x : Object) → Filed f → Filed (new_object f x)
-filed_new_object f x h = record { placed = All-weaker (λ p. is_some (object_at f p) ≡ true) (λ p. is_some (object_at (new_object f x) p) ≡ true) placed_at f.descriptions h.placed; named = h.named } where
-  placed_at : (p : Option Place) → is_some (object_at f p) ≡ true → is_some (object_at (new_object f x) p) ≡ true
+filed_new_object f x h = record { placed = λ d. placed_at (place_of f d) (h.placed d); lives = h.lives } where
+  placed_at : (p : Option Place) → is_backed f p ≡ true → is_backed (new_object f x) p ≡ true
   placed_at None e = e
   placed_at (Some p) e = ap is_some (some_append f.objects (Some x ∷ []) p.object e) ∙ e
 
@@ -159,13 +164,26 @@ extends_describe f p k e cloexec =
       shows = λ d h. ap (λ (q : Option Place). can_be_watched (object_at f q)) (some_append f.descriptions new d (watched_lives f (place_of f d) h)) ∙ h;
     }
 
+push_other : (ds : List (Option Place)) (p : Option Place) (d : ℕ) → d ≢ length ds → get_or (ds ++ p ∷ []) d None ≡ get_or ds d None
+push_other [] p zero h = absurd (h refl)
+push_other [] p (suc d) h = refl
+push_other (q ∷ ds) p zero h = refl
+push_other (q ∷ ds) p (suc d) h = push_other ds p d (λ e. h (ap suc e))
+
 pub filed_describe : (f : Files) (p k : ℕ) (e : End) (cloexec : Bool) → is_none (table_of f p) ≡ false → is_some (get_or f.objects k None) ≡ true → Filed f → Filed (describe f p k e cloexec)
 filed_describe f p k e cloexec there object h =
     let n = length f.descriptions in
-    let place : Option Place = Some (record { object = k; side = e }) in
+    let place : Place = record { object = k; side = e } in
+    let here : is_live (describe f p k e cloexec) n ≡ true = ap is_some (some_push f.descriptions place) in
     record {
-      placed = All-push (λ q. is_some (object_at f q) ≡ true) f.descriptions place h.placed object;
-      named = λ d. among_set f.tables p (slot n cloexec) d there ∙ (ap (λ (b : Bool). b || (d == n)) (h.named d) ∙ (lt_next d n ∙ ap (nat_lt d) (sym (length_push f.descriptions place))));
+      placed = λ d. elim (same_or_not d n) [
+        | inl same ↦ subst (λ (m : ℕ). is_backed f (get_or (f.descriptions ++ Some place ∷ []) m None) ≡ true) (sym same) (ap (is_backed f) (some_push f.descriptions place) ∙ object)
+        | inr other ↦ ap (is_backed f) (push_other f.descriptions (Some place) d other) ∙ h.placed d
+      ];
+      lives = λ d named. elim (or_case _ _ (sym (among_set f.tables p (slot n cloexec) d there) ∙ named)) [
+        | inl before ↦ ap is_some (some_append f.descriptions (Some place ∷ []) d (h.lives d before)) ∙ h.lives d before
+        | inr new ↦ subst (λ (m : ℕ). is_live (describe f p k e cloexec) m ≡ true) (sym (from_test d n new)) here
+      ];
     }
 
 table_after : (ts : List (Option Table)) (p : ℕ) (t : Table) → is_none (get_or ts p None) ≡ false → is_none (get_or (set ts p (Some t)) p None) ≡ false
@@ -194,33 +212,155 @@ extends_with_object f k x keep = record { lives = λ d e. e; shows = λ d e. sho
   shows_at (Some p) e = watched_set f.objects k p.object x keep e
 
 pub filed_with_object : (f : Files) (k : ℕ) (x : Object) → Filed f → Filed (with_object f k x)
-filed_with_object f k x h = record { placed = All-weaker (λ p. is_some (object_at f p) ≡ true) (λ p. is_some (object_at (with_object f k x) p) ≡ true) placed_at f.descriptions h.placed; named = h.named } where
-  placed_at : (p : Option Place) → is_some (object_at f p) ≡ true → is_some (object_at (with_object f k x) p) ≡ true
+filed_with_object f k x h = record { placed = λ d. placed_at (place_of f d) (h.placed d); lives = h.lives } where
+  placed_at : (p : Option Place) → is_backed f p ≡ true → is_backed (with_object f k x) p ≡ true
   placed_at None e = e
   placed_at (Some p) e = some_set f.objects k p.object x e
 
 -- What a descriptor number names lives.
-place_is_some : (f : Files) (p : Option Place) → is_some (object_at f p) ≡ true → is_some p ≡ true
-place_is_some f None h = h
-place_is_some f (Some p) h = refl
-
-lt_from : (a b : ℕ) → nat_lt a b ≡ true → a < b
-lt_from a b h = grind (arith, nat_tests, h)
-
 pub named_lives : (f : Files) (p : ℕ) (fd : ℤ) → Filed f → names_nothing f p fd ≡ false → is_live f (named_by f p fd) ≡ true
-named_lives f p fd h there =
-    let d = named_by f p fd in
-    place_is_some f (place_of f d) (h.placed d None (lt_from d (length f.descriptions) (sym (h.named d) ∙ named_table f.tables p fd there)))
+named_lives f p fd h there = h.lives (named_by f p fd) (named_table f.tables p fd there)
+
+-- Another table in the place of one: what it names is named before, or lives.
+in_first : (t : Option Table) (ts : List (Option Table)) (d : ℕ) → is_among (named_in t) d ≡ true → is_among (named_in_tables (t ∷ ts)) d ≡ true
+in_first t ts d h = among_append (named_in t) (named_in_tables ts) d ∙ or_left (is_among (named_in t) d) (is_among (named_in_tables ts) d) h
+
+in_others : (t : Option Table) (ts : List (Option Table)) (d : ℕ) → is_among (named_in_tables ts) d ≡ true → is_among (named_in_tables (t ∷ ts)) d ≡ true
+in_others t ts d h = among_append (named_in t) (named_in_tables ts) d ∙ or_right (is_among (named_in t) d) (is_among (named_in_tables ts) d) h
+
+in_either : (t : Option Table) (ts : List (Option Table)) (d : ℕ) → is_among (named_in_tables (t ∷ ts)) d ≡ true → (is_among (named_in t) d ≡ true) ⊎ (is_among (named_in_tables ts) d ≡ true)
+in_either t ts d h = or_case (is_among (named_in t) d) (is_among (named_in_tables ts) d) (sym (among_append (named_in t) (named_in_tables ts) d) ∙ h)
+
+among_set_any : (ts : List (Option Table)) (p : ℕ) (u : Option Table) (d : ℕ) → is_among (named_in_tables (set ts p u)) d ≡ true → (is_among (named_in_tables ts) d ≡ true) ⊎ (is_among (named_in u) d ≡ true)
+among_set_any [] p u d h = inl h
+among_set_any (t ∷ ts) zero u d h = elim (in_either u ts d h) [ inl new ↦ inr new | inr old ↦ inl (in_others t ts d old) ]
+among_set_any (t ∷ ts) (suc p) u d h = elim (in_either t (set ts p u) d h) [
+  | inl first ↦ inl (in_first t ts d first)
+  | inr rest ↦ elim (among_set_any ts p u d rest) [ inl old ↦ inl (in_others t ts d old) | inr new ↦ inr new ]
+]
+
+pub filed_table : (f : Files) (p : ℕ) (u : Option Table) → Filed f → ((d : ℕ) → is_among (named_in u) d ≡ true → is_live f d ≡ true) → Filed (record f { tables = set f.tables p u })
+filed_table f p u h new = record {
+  placed = h.placed;
+  lives = λ d named. elim (among_set_any f.tables p u d named) [ inl old ↦ h.lives d old | inr e ↦ new d e ];
+}
+
+-- the names of a process are among all names
+in_numbers : (ts : List (Option Table)) (p d : ℕ) → is_among (filter_map description_in (unwrap_or (get_or ts p None) [])) d ≡ true → is_among (named_in_tables ts) d ≡ true
+in_numbers [] p d h = h
+in_numbers (None ∷ ts) zero d h = absurd (false≢true h)
+in_numbers (Some t ∷ ts) zero d h = among_append (named_in (Some t)) (named_in_tables ts) d ∙ or_left _ _ h
+in_numbers (u ∷ ts) (suc p) d h = among_append (named_in u) (named_in_tables ts) d ∙ or_right _ _ (in_numbers ts p d h)
+
+pub numbers_live : (f : Files) (p : ℕ) → Filed f → (d : ℕ) → is_among (filter_map description_in (numbers_of f p)) d ≡ true → is_live f d ≡ true
+numbers_live f p h d e = h.lives d (in_numbers f.tables p d e)
+
+-- What the tables of each call name.
+pub among_entered : (t : Table) (x : Slot) (d : ℕ) → is_among (filter_map description_in (enter t x)) d ≡ true → (is_among (filter_map description_in t) d ≡ true) ⊎ (d ≡ x.description)
+among_entered t x d h = elim (or_case _ _ (sym (among_enter t x d) ∙ h)) [ inl old ↦ inl old | inr new ↦ inr (from_test d x.description new) ]
+
+among_more : (y : Option Slot) (ys : Table) (d : ℕ) → is_among (filter_map description_in ys) d ≡ true → is_among (filter_map description_in (y ∷ ys)) d ≡ true
+among_more None ys d h = h
+among_more (Some z) ys d h = or_right _ _ h
+
+pub among_placed : (t : Table) (k : ℕ) (x : Slot) (d : ℕ) → is_among (filter_map description_in (place_at t k x)) d ≡ true → (is_among (filter_map description_in t) d ≡ true) ⊎ (d ≡ x.description)
+among_placed [] zero x d h = elim (or_case (d == x.description) false h) [ inl new ↦ inr (from_test d x.description new) | inr none ↦ absurd (false≢true none) ]
+among_placed [] (suc k) x d h = among_placed [] k x d h
+among_placed (y ∷ ys) zero x d h = elim (or_case (d == x.description) (is_among (filter_map description_in ys) d) h) [ inl new ↦ inr (from_test d x.description new) | inr old ↦ inl (among_more y ys d old) ]
+among_placed (None ∷ ys) (suc k) x d h = among_placed ys k x d h
+among_placed (Some z ∷ ys) (suc k) x d h = elim (or_case (d == z.description) (is_among (filter_map description_in (place_at ys k x)) d) h) [
+  | inl first ↦ inl (or_left _ _ first)
+  | inr rest ↦ elim (among_placed ys k x d rest) [ inl old ↦ inl (or_right _ _ old) | inr new ↦ inr new ]
+]
+
+pub among_unset : (t : Table) (k d : ℕ) → is_among (filter_map description_in (set t k None)) d ≡ true → is_among (filter_map description_in t) d ≡ true
+among_unset [] k d h = h
+among_unset (y ∷ ys) zero d h = among_more y ys d h
+among_unset (None ∷ ys) (suc k) d h = among_unset ys k d h
+among_unset (Some z ∷ ys) (suc k) d h = elim (or_case (d == z.description) (is_among (filter_map description_in (set ys k None)) d) h) [ inl first ↦ or_left _ _ first | inr rest ↦ or_right _ _ (among_unset ys k d rest) ]
+
+pub among_kept : (t : Table) (d : ℕ) → is_among (filter_map description_in (map kept_by_exec t)) d ≡ true → is_among (filter_map description_in t) d ≡ true
+among_kept [] d h = h
+among_kept (None ∷ ys) d h = among_kept ys d h
+among_kept (Some z ∷ ys) d h = of_flag z.cloexec (λ e. among_kept ys d e) h where
+  of_flag : (b : Bool) → (is_among (filter_map description_in (map kept_by_exec ys)) d ≡ true → is_among (filter_map description_in ys) d ≡ true)
+      → is_among (filter_map description_in ((if b then None else Some z) ∷ map kept_by_exec ys)) d ≡ true → is_among (filter_map description_in (Some z ∷ ys)) d ≡ true
+  of_flag true rest e = among_more (Some z) ys d (rest e)
+  of_flag false rest e = elim (or_case (d == z.description) (is_among (filter_map description_in (map kept_by_exec ys)) d) e) [
+    | inl first ↦ or_left (d == z.description) (is_among (filter_map description_in ys) d) first
+    | inr more ↦ among_more (Some z) ys d (rest more)
+  ]
+
+among_last : (ts : List (Option Table)) (u : Option Table) (d : ℕ) → is_among (named_in_tables (ts ++ u ∷ [])) d ≡ true → (is_among (named_in_tables ts) d ≡ true) ⊎ (is_among (named_in u) d ≡ true)
+among_last [] u d h = elim (in_either u [] d h) [ inl new ↦ inr new | inr none ↦ absurd (false≢true none) ]
+among_last (t ∷ ts) u d h = elim (in_either t (ts ++ u ∷ []) d h) [
+  | inl first ↦ inl (in_first t ts d first)
+  | inr rest ↦ elim (among_last ts u d rest) [ inl old ↦ inl (in_others t ts d old) | inr new ↦ inr new ]
+]
+
+-- The calls on tables alone.
+pub same_tables : (f : Files) (ts : List (Option Table)) → Extends f (record f { tables = ts })
+same_tables f ts = record { lives = λ d e. e; shows = λ d e. e }
+
+pub filed_dup : (f : Files) (p d : ℕ) → Filed f → is_live f d ≡ true → Filed (dup f p d)
+filed_dup f p d h lives = filed_table f p (Some (enter (numbers_of f p) (slot d false))) h (λ e named. elim (among_entered (numbers_of f p) (slot d false) e named) [
+  | inl old ↦ numbers_live f p h e old
+  | inr new ↦ subst (λ (m : ℕ). is_live f m ≡ true) (sym new) lives
+])
+
+filed_placed : (f : Files) (p k d : ℕ) → Filed f → is_live f d ≡ true → Filed (with_table f p (place_at (numbers_of f p) k (slot d false)))
+filed_placed f p k d h lives = filed_table f p (Some (place_at (numbers_of f p) k (slot d false))) h (λ e named. elim (among_placed (numbers_of f p) k (slot d false) e named) [
+  | inl old ↦ numbers_live f p h e old
+  | inr new ↦ subst (λ (m : ℕ). is_live f m ≡ true) (sym new) lives
+])
+
+filed_if : (b : Bool) (f g : Files) → Filed f → Filed g → Filed (if b then f else g)
+filed_if true f g h k = h
+filed_if false f g h k = k
+
+pub filed_dup2 : (f : Files) (p : ℕ) (fd to : ℤ) (d : ℕ) → Filed f → is_live f d ≡ true → Filed (dup2 f p fd to d)
+filed_dup2 f p fd (pos k) d h lives = filed_if (same_number fd (pos k)) f (with_table f p (place_at (numbers_of f p) k (slot d false))) h (filed_placed f p k d h lives)
+filed_dup2 f p fd (negsuc k) d h lives = h
+
+extends_if : (b : Bool) (f g : Files) → Extends f g → Extends f (if b then f else g)
+extends_if true f g h = record { lives = λ d e. e; shows = λ d e. e }
+extends_if false f g h = h
+
+pub extends_dup2 : (f : Files) (p : ℕ) (fd to : ℤ) (d : ℕ) → Extends f (dup2 f p fd to d)
+extends_dup2 f p fd (pos k) d = extends_if (same_number fd (pos k)) f (with_table f p (place_at (numbers_of f p) k (slot d false))) (same_tables f (set f.tables p (Some (place_at (numbers_of f p) k (slot d false)))))
+extends_dup2 f p fd (negsuc k) d = record { lives = λ e live. live; shows = λ e shown. shown }
+
+pub filed_close : (f : Files) (p : ℕ) (fd : ℤ) → Filed f → Filed (close f p fd)
+filed_close f p (pos k) h = filed_table f p (Some (set (numbers_of f p) k None)) h (λ e named. numbers_live f p h e (among_unset (numbers_of f p) k e named))
+filed_close f p (negsuc k) h = filed_table f p (Some (numbers_of f p)) h (λ e named. numbers_live f p h e named)
+
+pub filed_exec : (f : Files) (p : ℕ) → Filed f → Filed (exec f p)
+filed_exec f p h = filed_table f p (Some (map kept_by_exec (numbers_of f p))) h (λ e named. numbers_live f p h e (among_kept (numbers_of f p) e named))
+
+pub filed_exit : (f : Files) (p : ℕ) → Filed f → Filed (exit f p)
+filed_exit f p h = filed_table f p None h (λ e named. absurd (false≢true named))
+
+pub filed_fork : (f : Files) (p : ℕ) → Filed f → Filed (fork f p)
+filed_fork f p h = record {
+  placed = h.placed;
+  lives = λ d named. elim (among_last f.tables (Some (numbers_of f p)) d named) [ inl old ↦ h.lives d old | inr new ↦ numbers_live f p h d new ];
+}
 
 same_thrice : (b : Bool) → (b || (b || (b || false))) ≡ b
 same_thrice true = refl
 same_thrice false = refl
 
-only_zero : (d : ℕ) → (d == 0) ≡ nat_lt d 1
-only_zero d = grind (arith, nat_tests)
+only_zero : (d : ℕ) → (d == 0) ≡ is_live opening_files d
+only_zero zero = refl
+only_zero (suc d) = no_zero d where
+  no_zero : (n : ℕ) → (suc n == 0) ≡ false
+  no_zero n = grind (arith, nat_tests)
+
+pub named_opening : (d : ℕ) → is_among (named_in_tables opening_files.tables) d ≡ is_live opening_files d
+named_opening d = same_thrice (d == 0) ∙ only_zero d
 
 pub filed_opening : Filed opening_files
-filed_opening = record {
-  placed = All-from_recursion (λ p. is_some (object_at opening_files p) ≡ true) opening_files.descriptions (refl, tt);
-  named = λ d. same_thrice (d == 0) ∙ only_zero d;
-}
+filed_opening = record { placed = backed; lives = λ d e. sym (named_opening d) ∙ e } where
+  backed : (d : ℕ) → is_backed opening_files (place_of opening_files d) ≡ true
+  backed zero = refl
+  backed (suc d) = refl

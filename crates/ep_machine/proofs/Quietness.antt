@@ -1,13 +1,13 @@
 -- Each state that the calls of this version reach is quiet.
-use Rattle.std.proofs.Common.{◌≡◌, ℕ, zero, suc, ◌+◌, ◌≤◌, ◌&&◌, ◌||◌, Bool, List, [], ◌∷◌, MatchOption, None, Option, Some, ℤ, pos, negsuc, true, false, not, ap, arith, cond, get_or, if◌then◌else◌, is_none, is_some, map, nat_lt, refl, subst, unwrap_or}
+use Rattle.std.proofs.Common.{◌≡◌, ℕ, zero, suc, ◌+◌, ◌≤◌, ◌&&◌, ◌||◌, Bool, List, [], ◌∷◌, MatchOption, None, Option, Some, ℤ, pos, negsuc, true, false, not, ap, arith, cond, get_or, if◌then◌else◌, is_none, is_some, length, map, nat_lt, refl, subst, sym, ◌∙◌, unwrap_or}
 use Rattle.std.specs.List.{AllByRecursion}
 use Rattle.std.proofs.lemmas.Bool.Decides.{nat_tests}
 use Rattle.std.proofs.lemmas.List.Elements.{All-map, All-push, All-weaker}
 use Rattle.ep_base.specs.Limits.{Limits}
 use Rattle.ep_base.specs.declared.answer.Answer.{Answer}
-use Rattle.ep_base.specs.declared.answer.Answer.TheVariants.{Events}
+use Rattle.ep_base.specs.declared.answer.Answer.TheVariants.{Done, Events, Num}
 use Rattle.ep_base.specs.declared.call.Call.{Call}
-use Rattle.ep_base.specs.declared.call.Call.TheVariants.{EpollCreate, EpollCtl, EpollWait, EventFd, GetTime, Pipe as PipeCall, Plain, Read, SetTime, Shutdown, SocketPair, TimerFd, Write}
+use Rattle.ep_base.specs.declared.call.Call.TheVariants.{Close, Dup, Dup2, EpollCreate, EpollCtl, EpollWait, EventFd, Exec, Exit, Fork, GetTime, Pipe as PipeCall, Plain, Read, SetTime, Shutdown, SocketPair, TimerFd, Write}
 use Rattle.ep_base.specs.declared.call.Event.{Event}
 use Rattle.ep_base.specs.declared.call.Event.TheVariants.{Call as CallOf, Tick}
 use Rattle.ep_base.specs.declared.errno.Errno.{Errno}
@@ -23,18 +23,19 @@ use Rattle.ep_machine.specs.Files.{Files, Place, named_by, names_nothing, object
 use Rattle.ep_machine.specs.Lists.{is_among}
 use Rattle.ep_machine.specs.Objects.{Object, counter, instance, is_instance, is_plain, object_effect, pair, pipe, plain, timer}
 use Rattle.ep_machine.specs.Pipe.{new_pipe}
-use Rattle.ep_machine.specs.Quiet.{IsSettled, IsSteady, Quiet, can_be_watched}
+use Rattle.ep_machine.specs.Quiet.{Changed, IsSettled, IsSteady, Quiet, can_be_watched}
 use Rattle.ep_machine.specs.Readiness.{is_ready}
 use Rattle.ep_machine.specs.Refusal.{call_refusals, ctl_refusals, is_later_mask, is_zero, refusals}
 use Rattle.ep_machine.specs.Report.{is_pick, plainly, report, report_of, reported, watches_at}
 use Rattle.ep_machine.specs.State.{Change, State, Watch, counts_of, opening}
 use Rattle.ep_machine.specs.Sockets.{new_pair}
-use Rattle.ep_machine.specs.Step.{begun, call_change, change, object_change, one_change, refused_or, settled, step, two_change}
+use Rattle.ep_machine.specs.Step.{begun, call_change, change, files_change, object_change, one_change, refused_or, settled, step, two_change}
+use Rattle.ep_machine.specs.Tables.{answer_one, close, dup, dup2, exec, exit, fork}
 use Rattle.ep_machine.specs.Timer.{last_moment, new_timer}
 use Rattle.ep_machine.specs.Waits.{tick, wait, wait_for}
 use Rattle.ep_machine.specs.Watches.{add, ctl, delete, is_add, is_del, is_mod, modify, new_watch, number_in}
-use Rattle.ep_machine.proofs.Naming.{Extends, Filed, extends_one, extends_two, extends_with_object, filed_one, filed_opening, filed_two, filed_with_object, named_lives}
-use Rattle.ep_machine.proofs.Settling.{quiet_settled, settle_quiet}
+use Rattle.ep_machine.proofs.Naming.{Extends, Filed, extends_dup2, extends_one, extends_two, extends_with_object, filed_close, filed_dup, filed_dup2, filed_exec, filed_exit, filed_fork, filed_one, filed_opening, filed_two, filed_with_object, named_lives, named_opening, same_tables}
+use Rattle.ep_machine.proofs.Settling.{quiet_settled, settle_changed}
 
 -- no test of a list that refuses nothing holds
 pub none_holds : (tests : List (Bool × Errno)) → first tests ≡ None → AllByRecursion (λ t. t.0 ≡ false) tests
@@ -64,10 +65,13 @@ steady_in : (f g : Files) → Extends f g → (x : Watch) → IsSteady f x → I
 steady_in f g e x h = record { instance_lives = e.lives x.instance h.instance_lives; target_lives = e.lives x.target h.target_lives; target_shows = e.shows x.target h.target_shows; armed = h.armed; level = h.level; lasting = h.lasting }
 
 filed : (s : State) → Quiet s → Filed s.files
-filed s h = record { placed = h.placed; named = h.named }
+filed s h = record { placed = h.placed; lives = λ d e. sym (h.named d) ∙ e }
 
-quiet_files : (s : State) (g : Files) → Quiet s → Filed g → Extends s.files g → Quiet (record s { files = g })
-quiet_files s g h k e = record { waiters = h.waiters; now = h.now; placed = k.placed; named = k.named; watches = All-weaker (IsSteady s.files) (IsSteady g) (steady_in s.files g e) s.watches h.watches }
+pub weaken : (s : State) → Quiet s → Changed s
+weaken s h = record { waiters = h.waiters; now = h.now; placed = h.placed; lives = (filed s h).lives; watches = h.watches }
+
+quiet_files : (s : State) (g : Files) → Quiet s → Filed g → Extends s.files g → Changed (record s { files = g })
+quiet_files s g h k e = record { waiters = h.waiters; now = h.now; placed = k.placed; lives = k.lives; watches = All-weaker (IsSteady s.files) (IsSteady g) (steady_in s.files g e) s.watches h.watches }
 
 -- A call on an object keeps its kind.
 effect_shows : (x : Object) (e : End) (now : ℕ) (call : Call) → can_be_watched (Some x) ≡ true → can_be_watched (Some (object_effect x e now call).1) ≡ true
@@ -115,7 +119,7 @@ some_is_no_none : {X : Type 0} (o : Option X) → is_some o ≡ true → is_none
 some_is_no_none None h = cc
 some_is_no_none (Some x) h = refl
 
-quiet_object_change : (s : State) (p : ℕ) (fd : ℤ) (call : Call) → Quiet s → names_nothing s.files p fd ≡ false → Quiet (object_change s p fd call).1
+quiet_object_change : (s : State) (p : ℕ) (fd : ℤ) (call : Call) → Quiet s → names_nothing s.files p fd ≡ false → Changed (object_change s p fd call).1
 quiet_object_change s p fd call h there =
     let d = named_by s.files p fd in
     let k = object_number (place_of s.files d) in
@@ -139,14 +143,14 @@ only_add false true m h k = cc
 only_add false false true h k = cc
 only_add false false false h k = cc
 
-quiet_add : (s : State) (e fd d mask tag : ℕ) → Quiet s → IsSteady s.files (new_watch s e fd d mask tag) → Quiet (add s e fd d mask tag).1
-quiet_add s e fd d mask tag h steady = record { waiters = h.waiters; now = h.now; placed = h.placed; named = h.named; watches = All-push (IsSteady s.files) s.watches (new_watch s e fd d mask tag) h.watches steady }
+quiet_add : (s : State) (e fd d mask tag : ℕ) → Quiet s → IsSteady s.files (new_watch s e fd d mask tag) → Changed (add s e fd d mask tag).1
+quiet_add s e fd d mask tag h steady = record { waiters = h.waiters; now = h.now; placed = h.placed; lives = (filed s h).lives; watches = All-push (IsSteady s.files) s.watches (new_watch s e fd d mask tag) h.watches steady }
 
-quiet_first : (b : Bool) (c d : Change) → b ≡ true → Quiet c.1 → Quiet (cond b c d).1
+quiet_first : (b : Bool) (c d : Change) → b ≡ true → Changed c.1 → Changed (cond b c d).1
 quiet_first true c d t h = h
 quiet_first false c d t h = cc
 
-quiet_ctl : (limits : Limits) (s : State) (p : ℕ) (epfd op fd : ℤ) (mask tag : ℕ) → Quiet s → AllByRecursion (λ t. t.0 ≡ false) (ctl_refusals limits s p epfd op fd mask) → Quiet (ctl s p epfd op fd mask tag).1
+quiet_ctl : (limits : Limits) (s : State) (p : ℕ) (epfd op fd : ℤ) (mask tag : ℕ) → Quiet s → AllByRecursion (λ t. t.0 ≡ false) (ctl_refusals limits s p epfd op fd mask) → Changed (ctl s p epfd op fd mask tag).1
 quiet_ctl limits s p epfd op fd mask tag h tests =
     let e = named_by s.files p epfd in
     let d = named_by s.files p fd in
@@ -176,18 +180,18 @@ reported_steady s ks x h =
       both true b t f = ap not f
       both false b t f = t
 
-quiet_reported : (s : State) (ks : List ℕ) → Quiet s → Quiet (record s { watches = map (reported s ks) s.watches })
-quiet_reported s ks h = record { waiters = h.waiters; now = h.now; placed = h.placed; named = h.named; watches = All-map (IsSteady s.files) (reported s ks) s.watches (λ k d lt. reported_steady s ks (get_or s.watches k d) (h.watches k d lt)) }
+quiet_reported : (s : State) (ks : List ℕ) → Quiet s → Changed (record s { watches = map (reported s ks) s.watches })
+quiet_reported s ks h = record { waiters = h.waiters; now = h.now; placed = h.placed; lives = (filed s h).lives; watches = All-map (IsSteady s.files) (reported s ks) s.watches (λ k d lt. reported_steady s ks (get_or s.watches k d) (h.watches k d lt)) }
 
 Fine : Option Change → Type 0
-Fine c = MatchOption c (Unit {0}) (λ o. Quiet o.1)
+Fine c = MatchOption c (Unit {0}) (λ o. Changed o.1)
 
-fine_plainly : (ks : List ℕ) (c : Change) → Quiet c.1 → Fine (plainly ks c)
+fine_plainly : (ks : List ℕ) (c : Change) → Changed c.1 → Fine (plainly ks c)
 unfolding Fine
 fine_plainly [] c h = h
 fine_plainly (k ∷ ks) c h = tt
 
-fine_option_if : (b : Bool) (c : Change) → Quiet c.1 → Fine (cond b (Some c) None)
+fine_option_if : (b : Bool) (c : Change) → Changed c.1 → Fine (cond b (Some c) None)
 unfolding Fine
 fine_option_if true c h = h
 fine_option_if false c h = tt
@@ -201,8 +205,8 @@ fine_report s e most ks h =
     let c : Change = (Events (map (report_of s) (watches_at s.watches ks)), record s { watches = map (reported s ks) s.watches }, []) in
     fine_option_if (is_pick s e most ks) c (quiet_reported s ks h)
 
-quiet_wait_for : (s : State) (caller p e most : ℕ) (timeout : ℤ) → is_zero timeout ≡ true → Quiet s → Quiet (wait_for s caller p e most timeout).1
-quiet_wait_for s caller p e most (pos zero) z h = h
+quiet_wait_for : (s : State) (caller p e most : ℕ) (timeout : ℤ) → is_zero timeout ≡ true → Quiet s → Changed (wait_for s caller p e most timeout).1
+quiet_wait_for s caller p e most (pos zero) z h = weaken s h
 quiet_wait_for s caller p e most (pos (suc k)) z h = cc
 quiet_wait_for s caller p e most (negsuc k) z h = cc
 
@@ -215,6 +219,10 @@ fine_one s p x cloexec ks there h f = fine_plainly ks _ (quiet_files s _ h (file
 
 fine_two : (s : State) (p : ℕ) (x : Object) (cloexec : Bool) (ks : List ℕ) → is_none (get_or s.files.tables p None) ≡ false → Quiet s → Filed s.files → Fine (plainly ks (two_change s p x cloexec))
 fine_two s p x cloexec ks there h f = fine_plainly ks _ (quiet_files s _ h (filed_two s.files p x cloexec there f) (extends_two s.files p x cloexec))
+
+-- A call on the tables alone.
+fine_files : (s : State) (answer : Answer) (g : Files) (ks : List ℕ) → Quiet s → Filed g → Extends s.files g → Fine (plainly ks (files_change s answer g))
+fine_files s answer g ks h filed extends = fine_plainly ks _ (quiet_files s g h filed extends)
 
 -- The calls.
 fine_call : (limits : Limits) (s : State) (caller p : ℕ) (call : Call) (ks : List ℕ) → Quiet s → Filed s.files → AllByRecursion (λ t. t.0 ≡ false) ((is_none (get_or s.files.tables p None), Esrch) ∷ call_refusals limits s p call) → Fine (call_change limits s caller p call ks)
@@ -231,6 +239,15 @@ fine_call limits s caller p (Write fd bytes) ks h f tests = fine_plainly ks _ (q
 fine_call limits s caller p (Shutdown fd) ks h f tests = fine_plainly ks _ (quiet_object_change s p fd.0 (Shutdown fd) h tests.1.0)
 fine_call limits s caller p (SetTime fd absolute value interval) ks h f tests = fine_plainly ks _ (quiet_object_change s p fd.0 (SetTime fd absolute value interval) h tests.1.0)
 fine_call limits s caller p (GetTime fd) ks h f tests = fine_plainly ks _ (quiet_object_change s p fd.0 (GetTime fd) h tests.1.0)
+fine_call limits s caller p (Dup fd) ks h f tests = fine_files s (answer_one s.files p) (dup s.files p (named_by s.files p fd.0)) ks h (filed_dup s.files p (named_by s.files p fd.0) f (named_lives s.files p fd.0 f tests.1.0)) (same_tables s.files _)
+fine_call limits s caller p (Dup2 fd to) ks h f tests =
+    let d = named_by s.files p fd.0 in
+    let lives = named_lives s.files p fd.0 f tests.1.0 in
+    fine_files s (Num (number_in to.0)) (dup2 s.files p fd.0 to.0 d) ks h (filed_dup2 s.files p fd.0 to.0 d f lives) (extends_dup2 s.files p fd.0 to.0 d)
+fine_call limits s caller p (Close fd) ks h f tests = fine_files s Done (close s.files p fd.0) ks h (filed_close s.files p fd.0 f) (same_tables s.files _)
+fine_call limits s caller p Fork ks h f tests = fine_files s (Num (length s.files.tables)) (fork s.files p) ks h (filed_fork s.files p f) (same_tables s.files _)
+fine_call limits s caller p Exec ks h f tests = fine_files s Done (exec s.files p) ks h (filed_exec s.files p f) (same_tables s.files _)
+fine_call limits s caller p Exit ks h f tests = fine_files s Done (exit s.files p) ks h (filed_exit s.files p f) (same_tables s.files _)
 
 -- The clock goes on within its range.
 not_above : (a b : ℕ) → nat_lt a b ≡ false → b ≤ a
@@ -238,7 +255,7 @@ not_above a b h = grind (arith, nat_tests)
 
 fine_tick : (s : State) (k : ℕ) (ks : List ℕ) → Quiet s → nat_lt last_moment (s.now + k) ≡ false → Fine (plainly ks (tick s k))
 fine_tick s k ks h allowed =
-    fine_plainly ks (tick s k) (record { waiters = h.waiters; now = not_above last_moment (s.now + k) allowed; placed = h.placed; named = h.named; watches = h.watches })
+    fine_plainly ks (tick s k) (record { waiters = h.waiters; now = not_above last_moment (s.now + k) allowed; placed = h.placed; lives = (filed s h).lives; watches = h.watches })
 
 fine_change : (limits : Limits) (s : State) (caller : ℕ) (event : Event) (ks : List ℕ) → Quiet s → first (refusals limits s caller event) ≡ None → Fine (change limits s caller event ks)
 fine_change limits s caller (CallOf p call) ks h allowed =
@@ -247,7 +264,7 @@ fine_change limits s caller (CallOf p call) ks h allowed =
 fine_change limits s caller (Tick k) ks h allowed = fine_tick s k ks h (none_holds (refusals limits s caller (Tick k)) allowed).0
 
 -- a change that isn't refused
-pub quiet_change : (limits : Limits) (s : State) (caller : ℕ) (event : Event) (picked : List ℕ) (c : Change) → Quiet s → first (refusals limits s caller event) ≡ None → change limits s caller event picked ≡ Some c → Quiet c.1
+pub quiet_change : (limits : Limits) (s : State) (caller : ℕ) (event : Event) (picked : List ℕ) (c : Change) → Quiet s → first (refusals limits s caller event) ≡ None → change limits s caller event picked ≡ Some c → Changed c.1
 unfolding Fine
 quiet_change limits s caller event picked c h allowed e = subst Fine e (fine_change limits s caller event picked h allowed)
 
@@ -257,7 +274,7 @@ IsStep o = MatchOption o (Unit {0}) (λ c. Quiet c.1)
 fine_settled : (before : State) (c : Option Change) → Fine c → IsStep (settled before c)
 unfolding Fine IsStep
 fine_settled before None h = tt
-fine_settled before (Some c) h = quiet_settled c.1 _ h (settle_quiet before c.1 c.2 h)
+fine_settled before (Some c) h = quiet_settled c.1 h (settle before c.1 c.2) (settle_changed before c.1 c.2 h)
 
 fine_refused : (e : Option Errno) (s : State) (ks : List ℕ) (c : Option Change) → Quiet s → (e ≡ None → Fine c) → IsStep (refused_or e s ks c)
 unfolding IsStep
@@ -269,7 +286,7 @@ pub quiet_begun : (s : State) → Quiet s → Quiet (begun s)
 quiet_begun s h = record { waiters = h.waiters; now = h.now; placed = h.placed; named = h.named; watches = h.watches }
 
 pub quiet_opening : Quiet opening
-quiet_opening = record { waiters = refl; now = omega arith; placed = filed_opening.placed; named = filed_opening.named; watches = λ k d lt. absurd (omega arith) }
+quiet_opening = record { waiters = refl; now = omega arith; placed = filed_opening.placed; named = named_opening; watches = λ k d lt. absurd (omega arith) }
 
 pub quiet_step : (limits : Limits) (s t : State) (caller : ℕ) (event : Event) (picked : List ℕ) (a : Answer) → Quiet s → step limits s caller event picked ≡ Some (a, t) → Quiet t
 unfolding IsStep
@@ -286,4 +303,4 @@ quiet_run limits past s e = run_keeps Quiet limits (quiet_step limits) opening s
 pub step_quiet : (limits : Limits) (s : State) (caller : ℕ) (event : Event) (picked : List ℕ) (c : Change) → Quiet s → first (refusals limits (begun s) caller event) ≡ None → change limits (begun s) caller event picked ≡ Some c
     → (t : State) × (step limits s caller event picked ≡ Some (c.0, t)) × IsSettled c.1 t
 step_quiet limits s caller event picked c h allowed e =
-    (settle (begun s) c.1 c.2, step_changed limits s caller event picked c allowed e, settle_quiet (begun s) c.1 c.2 (quiet_change limits (begun s) caller event picked c (quiet_begun s h) allowed e))
+    (settle (begun s) c.1 c.2, step_changed limits s caller event picked c allowed e, settle_changed (begun s) c.1 c.2 (quiet_change limits (begun s) caller event picked c (quiet_begun s h) allowed e))

@@ -9,7 +9,7 @@ use Rattle.ep_base.specs.Limits.{Limits}
 use Rattle.ep_base.specs.declared.answer.Answer.{Answer}
 use Rattle.ep_base.specs.declared.answer.Answer.TheVariants.{Events}
 use Rattle.ep_base.specs.declared.call.Call.{Call}
-use Rattle.ep_base.specs.declared.call.Call.TheVariants.{EpollCreate, EpollCtl, EpollWait, EventFd, GetTime, Pipe as PipeCall, Plain, Read, SetTime, Shutdown, SocketPair, TimerFd, Write}
+use Rattle.ep_base.specs.declared.call.Call.TheVariants.{Close, Dup, Dup2, EpollCreate, EpollCtl, EpollWait, EventFd, Exec, Exit, Fork, GetTime, Pipe as PipeCall, Plain, Read, SetTime, Shutdown, SocketPair, TimerFd, Write}
 use Rattle.ep_base.specs.declared.call.Event.{Event}
 use Rattle.ep_base.specs.declared.call.Event.TheVariants.{Call as CallOf, Tick}
 use Rattle.ep_base.specs.declared.errno.Errno.{Errno}
@@ -303,6 +303,12 @@ module _ (limits : Limits) (e k m : ℕ) (told : List ℕ) (s : State) (sound : 
   fine_call caller p (Shutdown fd) ks left = fine_plainly ks _ (same_watches k m told s _ refl refl refl h)
   fine_call caller p (SetTime fd absolute value interval) ks left = fine_plainly ks _ (same_watches k m told s _ refl refl refl h)
   fine_call caller p (GetTime fd) ks left = fine_plainly ks _ (same_watches k m told s _ refl refl refl h)
+  fine_call caller p (Dup fd) ks left = fine_plainly ks _ (same_watches k m told s _ refl refl refl h)
+  fine_call caller p (Dup2 fd to) ks left = fine_plainly ks _ (same_watches k m told s _ refl refl refl h)
+  fine_call caller p (Close fd) ks left = fine_plainly ks _ (same_watches k m told s _ refl refl refl h)
+  fine_call caller p Fork ks left = fine_plainly ks _ (same_watches k m told s _ refl refl refl h)
+  fine_call caller p Exec ks left = fine_plainly ks _ (same_watches k m told s _ refl refl refl h)
+  fine_call caller p Exit ks left = fine_plainly ks _ (same_watches k m told s _ refl refl refl h)
 
   IsStep : List ℕ → Option (Answer × State) → Type 0
   IsStep ks o = MatchOption o (Unit {0}) (λ c. Good ks c.1)

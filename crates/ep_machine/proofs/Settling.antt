@@ -1,19 +1,25 @@
--- What a settling leaves where nothing dies and nobody waits.
-use Rattle.std.proofs.Common.{◌≡◌, ℕ, zero, suc, ◌+◌, ◌<◌, ◌≤◌, ◌==◌, ◌&&◌, ◌||◌, ◌++◌, ◌∙◌, All, Bool, List, [], ◌∷◌, None, Option, Some, true, false, not, ap, arith, cond, filter, get_or, is_some, length, map, nat_lt, refl, subst, sym}
-use Rattle.std.proofs.lemmas.List.Elements.{All-map}
+-- What a settling leaves where nobody waits.
+use Rattle.std.proofs.Common.{◌≡◌, ℕ, zero, suc, ◌<◌, ◌≤◌, ◌==◌, ◌&&◌, ◌||◌, ◌++◌, ◌∙◌, All, Bool, List, [], ◌∷◌, None, Option, Some, true, false, not, ap, arith, cond, filter, get_or, if◌then◌else◌, inl, inr, is_some, length, map, nat_lt, refl, subst, sym}
+use Rattle.std.proofs.lemmas.Bool.{cases_Bool, false≢true}
+use Rattle.std.proofs.lemmas.List.{append-nil}
+use Rattle.std.proofs.lemmas.List.Elements.{All-cons, All-map}
 use Rattle.std.proofs.lemmas.Bool.Decides.{nat_tests}
 use Rattle.ep_machine.specs.Bits.{ONESHOT, has_bit}
-use Rattle.ep_machine.specs.Deaths.{die_all, dying, is_kept, named, named_in_tables, without_dead_watches}
-use Rattle.ep_machine.specs.Files.{Files, Place, object_at}
-use Rattle.ep_machine.specs.Lists.{is_among, numbered}
-use Rattle.ep_machine.specs.Quiet.{IsSettled, IsSteady, Quiet, kept_all, kept_of, reported_in}
+use Rattle.ep_machine.specs.Deaths.{buried, die_all, dying, is_kept, named, named_in_tables}
+use Rattle.ep_machine.specs.Files.{Files, Place, Table, is_live, object_of, place_of}
+use Rattle.ep_machine.specs.Lists.{is_among}
+use Rattle.ep_machine.specs.Quiet.{Changed, IsSettled, IsSteady, Quiet, can_be_watched, is_backed, kept_all, kept_of, reported_in, stays_in}
 use Rattle.ep_machine.specs.Readiness.{is_reportable}
 use Rattle.ep_machine.specs.Report.{reported}
-use Rattle.ep_machine.specs.Settle.{came, settle, with_from}
+use Rattle.ep_machine.specs.Settle.{came, reportable_numbers, settle, with_from}
 use Rattle.ep_machine.specs.Spread.{arrived}
 use Rattle.ep_machine.specs.State.{State, Waiter, Watch, counts_of}
 use Rattle.ep_machine.specs.Timer.{last_moment}
-use Rattle.ep_machine.specs.Waits.{marked_first, marked_if_due, with_due, with_marks}
+use Rattle.ep_machine.specs.Waits.{marked_first, marked_if_due, with_due}
+use Rattle.ep_machine.proofs.Burying.{Buried, all_buried}
+use Rattle.ep_machine.proofs.Living.{dying_distinct, dying_placed, dying_unnamed, unnamed_dying}
+use Rattle.ep_machine.proofs.Dying.{ArePlaced, after_all, differs, numbers, raised_before, same_nat, same_or_not}
+use Rattle.ep_machine.proofs.Showing.{kept_filter}
 
 pub among_left : (xs ys : List ℕ) (d : ℕ) → is_among xs d ≡ true → is_among (xs ++ ys) d ≡ true
 among_left [] ys d h = cc
@@ -23,18 +29,8 @@ among_left (x ∷ xs) ys d h =
       | false ↦ λ e. among_left xs ys d e
     ] h
 
-none_fails : (test : ℕ → Bool) (k : ℕ) (ds : List (Option Place)) → ((d : ℕ) → d < k + length ds → test d ≡ true) → filter (λ (x : ℕ × Place). not (test x.0)) (numbered k ds) ≡ []
-none_fails test k [] h = refl
-none_fails test k (None ∷ ds) h = none_fails test (k + 1) ds (λ d lt. h d (omega arith))
-none_fails test k (Some p ∷ ds) h =
-    let rest = filter (λ (x : ℕ × Place). not (test x.0)) (numbered (k + 1) ds) in
-    ap (λ (b : Bool). cond (not b) ((k, p) ∷ rest) rest) (h k (omega arith)) ∙ none_fails test (k + 1) ds (λ d lt. h d (omega arith))
-
 pub lt_test : (a b : ℕ) → a < b → nat_lt a b ≡ true
 lt_test a b h = grind (arith, nat_tests)
-
-pub none_dying : (s : State) → Quiet s → dying s ≡ []
-none_dying s h = none_fails (is_among (named s)) 0 s.files.descriptions (λ d lt. among_left (named_in_tables s.files.tables) (map (λ w. w.instance) s.waiters) d (h.named d ∙ lt_test d (length s.files.descriptions) (omega (arith, lt))))
 
 kept_came : (earlier : List ℕ) (s : State) (xs : List Watch) → kept_all (map (came earlier s) xs) ≡ kept_all xs
 kept_came earlier s [] = refl
@@ -43,33 +39,19 @@ kept_came earlier s (x ∷ xs) =
     let rest = kept_came earlier s xs in
     λ i. one i ∷ rest i
 
-both_true : (a b : Bool) → a ≡ true → b ≡ true → (a && b) ≡ true
-both_true true b h k = k
-both_true false b h k = h
-
-all_kept : (s : State) (xs : List Watch) → All (IsSteady s.files) xs → filter (is_kept s) xs ≡ xs
-all_kept s [] h = refl
-all_kept s (x ∷ xs) h =
-    let steady = h 0 x (omega arith) in
-    let keeps : is_kept s x ≡ true = both_true _ _ steady.instance_lives steady.target_lives in
-    let rest = all_kept s xs (λ k d lt. h (suc k) d (omega arith)) in
-    ap (λ (b : Bool). cond b (x ∷ filter (is_kept s) xs) (filter (is_kept s) xs)) keeps ∙ ap (λ (ys : List Watch). x ∷ ys) rest
-
--- the settling of a state in which nothing dies
-undying : (before after : State) (raised : List (ℕ × ℕ)) → Quiet after → IsSettled after (with_marks (with_from before (arrived (without_dead_watches after) raised)))
-undying before after raised h = record {
-  n = refl;
-  now = refl;
-  files = refl;
-  watches = kept_came _ _ (filter (is_kept after) after.watches) ∙ ap kept_all (all_kept after after.watches h.watches);
-  added = refl;
-  waiters = ap (λ (ws : List Waiter). marked_first (with_due (with_from before (arrived (without_dead_watches after) raised))) [] (map (marked_if_due after.now) ws)) h.waiters ∙ sym h.waiters;
-}
-
-pub settle_quiet : (before after : State) (raised : List (ℕ × ℕ)) → Quiet after → IsSettled after (settle before after raised)
-settle_quiet before after raised h =
-    let settled_without : List (ℕ × Place) → State = λ dead. let now = die_all (after.files, raised) dead in with_marks (with_from before (arrived (without_dead_watches (record after { files = now.0 })) now.1)) in
-    subst (λ (dead : List (ℕ × Place)). IsSettled after (settled_without dead)) (sym (none_dying after h)) (undying before after raised h)
+-- the settling of a change
+pub settle_changed : (before after : State) (raised : List (ℕ × ℕ)) → Changed after → IsSettled after (settle before after raised)
+settle_changed before after raised h =
+    let g = (die_all (after.files, raised) (dying after)).0 in
+    let left = buried after raised in
+    record {
+      n = refl;
+      now = refl;
+      files = raised_before after.files raised (dying after);
+      watches = kept_came (reportable_numbers before) (arrived left.0 left.1) (filter (is_kept (record after { files = g })) after.watches) ∙ kept_filter (stays_in g) after.watches;
+      added = refl;
+      waiters = ap (λ (ws : List Waiter). marked_first (with_due (with_from before (arrived left.0 left.1))) [] (map (marked_if_due after.now) ws)) h.waiters ∙ sym h.waiters;
+    }
 
 to_kept : (files : Files) (x : Watch) → IsSteady files x → IsSteady files (kept_of x)
 to_kept files x h = record { instance_lives = h.instance_lives; target_lives = h.target_lives; target_shows = h.target_shows; armed = h.armed; level = h.level; lasting = h.lasting }
@@ -85,16 +67,71 @@ all_from_kept files (x ∷ xs) h (suc k) d lt = all_from_kept files xs (λ j c l
 all_to_kept : (files : Files) (xs : List Watch) → All (IsSteady files) xs → All (IsSteady files) (kept_all xs)
 all_to_kept files xs h = All-map (IsSteady files) kept_of xs (λ k d lt. to_kept files (get_or xs k d) (h k d lt))
 
-pub quiet_settled : (after t : State) → Quiet after → IsSettled after t → Quiet t
-quiet_settled after t h same =
-    let files : (P : Files → Type 0) → P after.files → P t.files = λ P. subst P (sym same.files) in
-    record {
-      waiters = same.waiters ∙ h.waiters;
-      now = subst (λ (k : ℕ). k ≤ last_moment) (sym same.now) h.now;
-      placed = files (λ f. All (λ p. is_some (object_at f p) ≡ true) f.descriptions) h.placed;
-      named = files (λ f. (d : ℕ) → is_among (named_in_tables f.tables) d ≡ nat_lt d (length f.descriptions)) h.named;
-      watches = all_from_kept t.files t.watches (subst (λ (xs : List Watch). All (IsSteady t.files) xs) (sym same.watches) (all_to_kept t.files after.watches (files (λ f. All (IsSteady f) after.watches) h.watches)));
-    }
+both_true : (a b : Bool) → (a && b) ≡ true → (a ≡ true) × (b ≡ true)
+both_true true b h = (refl, h)
+both_true false b h = absurd (false≢true h)
+
+-- the registrations whose instance and target live stay steady
+steady_left : (f g : Files) (xs : List Watch) → ((d : ℕ) → is_live g d ≡ true → can_be_watched (object_of f d) ≡ true → can_be_watched (object_of g d) ≡ true)
+    → All (IsSteady f) xs → All (IsSteady g) (filter (stays_in g) xs)
+steady_left f g [] shows h = λ k d lt. absurd (omega arith)
+steady_left f g (x ∷ xs) shows h =
+    let rest = steady_left f g xs shows (λ j c l. h (suc j) c (omega arith)) in
+    let one = h 0 x (omega arith) in
+    elim (cases_Bool (stays_in g x)) [
+      | inl holds ↦
+          let both = both_true (is_live g x.instance) (is_live g x.target) holds in
+          let steady : IsSteady g x = record { instance_lives = both.0; target_lives = both.1; target_shows = shows x.target both.1 one.target_shows; armed = one.armed; level = one.level; lasting = one.lasting } in
+          subst (λ (b : Bool). All (IsSteady g) (cond b (x ∷ filter (stays_in g) xs) (filter (stays_in g) xs))) (sym holds) (All-cons (IsSteady g) x (filter (stays_in g) xs) steady rest)
+      | inr fails ↦ subst (λ (b : Bool). All (IsSteady g) (cond b (x ∷ filter (stays_in g) xs) (filter (stays_in g) xs))) (sym fails) rest
+    ]
+
+not_live : (b : Bool) (o : Option Place) → is_some o ≡ false → is_some (if b then None else o) ≡ false
+not_live true o h = refl
+not_live false o h = h
+
+module _ (after : State) (h : Changed after) where
+  abbrev f : Files
+  f = after.files
+
+  abbrev g : Files
+  g = after_all f (dying after)
+
+  left : Buried f g (dying after)
+  left = all_buried f (dying after) (dying_distinct after) (dying_placed after) h.placed
+
+  names : (d : ℕ) → is_among (named after) d ≡ is_among (named_in_tables f.tables) d
+  names d =
+      ap (λ (ws : List Waiter). is_among (named_in_tables f.tables ++ map (λ w. w.instance) ws) d) h.waiters
+      ∙ ap (λ (ks : List ℕ). is_among ks d) (append-nil (named_in_tables f.tables))
+
+  pub live_after : (d : ℕ) → is_live g d ≡ is_among (named_in_tables f.tables) d
+  live_after d = ap is_some (left.places d) ∙ elim (cases_Bool (is_among (named_in_tables f.tables) d)) [
+    | inl holds ↦
+        let lives = h.lives d holds in
+        let stays : is_among (numbers (dying after)) d ≡ false = elim (cases_Bool (is_among (numbers (dying after)) d)) [
+          | inl dies ↦ absurd (false≢true (sym (dying_unnamed after d dies) ∙ (names d ∙ holds)))
+          | inr fails ↦ fails
+        ] in
+        ap (λ (b : Bool). is_some (if b then None else place_of f d)) stays ∙ (lives ∙ sym holds)
+    | inr fails ↦
+        elim (cases_Bool (is_live f d)) [
+          | inl lives ↦ ap (λ (b : Bool). is_some (if b then None else place_of f d)) (unnamed_dying after d lives (names d ∙ fails)) ∙ sym fails
+          | inr dead ↦ not_live (is_among (numbers (dying after)) d) (place_of f d) dead ∙ sym fails
+        ]
+  ]
+
+  pub quiet_settled : (t : State) → IsSettled after t → Quiet t
+  quiet_settled t same =
+      let files : (P : Files → Type 0) → P g → P t.files = λ P. subst P (sym same.files) in
+      record {
+        waiters = same.waiters ∙ h.waiters;
+        now = subst (λ (k : ℕ). k ≤ last_moment) (sym same.now) h.now;
+        placed = files (λ u. (d : ℕ) → is_backed u (place_of u d) ≡ true) left.placed;
+        named = files (λ u. (d : ℕ) → is_among (named_in_tables u.tables) d ≡ is_live u d) (λ d. ap (λ (ts : List (Option Table)). is_among (named_in_tables ts) d) left.tables ∙ sym (live_after d));
+        watches = all_from_kept t.files t.watches (subst (λ (xs : List Watch). All (IsSteady t.files) xs) (sym same.watches)
+            (files (λ u. All (IsSteady u) (filter (stays_in u) (kept_all after.watches))) (steady_left f g (kept_all after.watches) left.shows (all_to_kept f after.watches h.watches))));
+      }
 
 stays_armed : (a b : Bool) → b ≡ false → (a && not b) ≡ a
 stays_armed true b h = ap not h
@@ -114,3 +151,61 @@ reported_all s ks (x ∷ xs) h = let one = reported_one s ks x (h 0 x (omega ari
 -- what a report does to registrations, as they are kept
 pub reported_kept : (s : State) (ks : List ℕ) → Quiet s → kept_all (map (reported s ks) s.watches) ≡ map (reported_in s.n ks) (kept_all s.watches)
 reported_kept s ks h = reported_all s ks s.watches h.watches
+
+-- Which descriptions die, where nobody waits: those that live and that tables do not name.
+among_lives : (f : Files) (xs : List (ℕ × Place)) (d : ℕ) → ArePlaced f xs → is_among (numbers xs) d ≡ true → is_live f d ≡ true
+among_lives f [] d p h = absurd (false≢true h)
+among_lives f (x ∷ xs) d p h = elim (same_or_not d x.0) [
+  | inl e ↦ subst (λ (m : ℕ). is_live f m ≡ true) (sym e) (ap is_some p.0)
+  | inr ne ↦ among_lives f xs d p.1 (ap (λ (b : Bool). b || is_among (numbers xs) d) (sym (differs d x.0 ne)) ∙ h)
+]
+
+module _ (s : State) (nobody : s.waiters ≡ []) where
+  names_are : (d : ℕ) → is_among (named s) d ≡ is_among (named_in_tables s.files.tables) d
+  names_are d =
+      ap (λ (ws : List Waiter). is_among (named_in_tables s.files.tables ++ map (λ w. w.instance) ws) d) nobody
+      ∙ ap (λ (ks : List ℕ). is_among ks d) (append-nil (named_in_tables s.files.tables))
+
+  pub dying_test : (d : ℕ) → is_among (numbers (dying s)) d ≡ (is_live s.files d && not (is_among (named_in_tables s.files.tables) d))
+  dying_test d = elim (cases_Bool (is_among (numbers (dying s)) d)) [
+    | inl dies ↦ dies ∙ sym (λ i. among_lives s.files (dying s) d (dying_placed s) dies i && not ((sym (names_are d) ∙ dying_unnamed s d dies) i))
+    | inr stays ↦
+        elim (cases_Bool (is_live s.files d)) [
+          | inl lives ↦
+              elim (cases_Bool (is_among (named_in_tables s.files.tables) d)) [
+                | inl holds ↦ stays ∙ sym (λ i. lives i && not (holds i))
+                | inr fails ↦ absurd (false≢true (sym stays ∙ unnamed_dying s d lives (names_are d ∙ fails)))
+              ]
+          | inr dead ↦ stays ∙ sym (ap (λ (b : Bool). b && not (is_among (named_in_tables s.files.tables) d)) dead)
+        ]
+  ]
+
+-- a quiet state is settled
+none_among : (xs : List (ℕ × Place)) → ((d : ℕ) → is_among (numbers xs) d ≡ false) → xs ≡ []
+none_among [] h = refl
+none_among (x ∷ xs) h = absurd (false≢true (sym (h x.0) ∙ ap (λ (b : Bool). b || is_among (numbers xs) x.0) (same_nat x.0)))
+
+not_itself : (b : Bool) → (b && not b) ≡ false
+not_itself true = refl
+not_itself false = refl
+
+none_dying : (s : State) → Quiet s → dying s ≡ []
+none_dying s h = none_among (dying s) (λ d. dying_test s h.waiters d ∙ (ap (λ (b : Bool). is_live s.files d && not b) (h.named d) ∙ not_itself (is_live s.files d)))
+
+all_stay : (f : Files) (xs : List Watch) → All (IsSteady f) xs → filter (stays_in f) xs ≡ xs
+all_stay f [] h = refl
+all_stay f (x ∷ xs) h =
+    let one = h 0 x (omega arith) in
+    let keeps : stays_in f x ≡ true = λ i. one.instance_lives i && one.target_lives i in
+    let rest = all_stay f xs (λ k d lt. h (suc k) d (omega arith)) in
+    ap (λ (b : Bool). cond b (x ∷ filter (stays_in f) xs) (filter (stays_in f) xs)) keeps ∙ ap (λ (ys : List Watch). x ∷ ys) rest
+
+pub settled_quiet : (s : State) → Quiet s → IsSettled s s
+settled_quiet s h = record {
+  n = refl;
+  now = refl;
+  files = ap (λ (xs : List (ℕ × Place)). (die_all (s.files, []) xs).0) (sym (none_dying s h));
+  watches = sym (all_stay s.files (kept_all s.watches) (all_to_kept s.files s.watches h.watches));
+  added = refl;
+  waiters = refl;
+}

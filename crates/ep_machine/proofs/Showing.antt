@@ -61,7 +61,7 @@ pub report_quiet : (s : State) (x : Watch) → IsSteady s.files x → report_of 
 report_quiet s x h = ap (λ (k : ℕ). let r : Report = record { bits = record { 0 = k }; tag = x.tag } in r) (shown_quiet s x h)
 
 -- The same of registrations as they are kept.
-kept_filter : (p : Watch → Bool) (xs : List Watch) → kept_all (filter (λ x. p (kept_of x)) xs) ≡ filter p (kept_all xs)
+pub kept_filter : (p : Watch → Bool) (xs : List Watch) → kept_all (filter (λ x. p (kept_of x)) xs) ≡ filter p (kept_all xs)
 kept_filter p [] = refl
 kept_filter p (x ∷ xs) =
     let rest = kept_filter p xs in

@@ -7,7 +7,7 @@ use Rattle.ep_base.specs.Limits.{Limits}
 use Rattle.ep_base.specs.declared.answer.Answer.{Answer}
 use Rattle.ep_base.specs.declared.answer.Answer.TheVariants.{Events}
 use Rattle.ep_base.specs.declared.call.Call.{Call}
-use Rattle.ep_base.specs.declared.call.Call.TheVariants.{EpollCreate, EpollCtl, EpollWait, EventFd, GetTime, Pipe as PipeCall, Plain, Read, SetTime, Shutdown, SocketPair, TimerFd, Write}
+use Rattle.ep_base.specs.declared.call.Call.TheVariants.{Close, Dup, Dup2, EpollCreate, EpollCtl, EpollWait, EventFd, Exec, Exit, Fork, GetTime, Pipe as PipeCall, Plain, Read, SetTime, Shutdown, SocketPair, TimerFd, Write}
 use Rattle.ep_base.specs.declared.call.Event.{Event}
 use Rattle.ep_base.specs.declared.call.Event.TheVariants.{Call as CallOf, Tick}
 use Rattle.ep_base.specs.declared.errno.Errno.{Errno}
@@ -168,6 +168,12 @@ fine_call limits s caller p (Write fd bytes) ks h = fine_plainly ks _ (same_watc
 fine_call limits s caller p (Shutdown fd) ks h = fine_plainly ks _ (same_watches s _ refl refl refl h)
 fine_call limits s caller p (SetTime fd absolute value interval) ks h = fine_plainly ks _ (same_watches s _ refl refl refl h)
 fine_call limits s caller p (GetTime fd) ks h = fine_plainly ks _ (same_watches s _ refl refl refl h)
+fine_call limits s caller p (Dup fd) ks h = fine_plainly ks _ (same_watches s _ refl refl refl h)
+fine_call limits s caller p (Dup2 fd to) ks h = fine_plainly ks _ (same_watches s _ refl refl refl h)
+fine_call limits s caller p (Close fd) ks h = fine_plainly ks _ (same_watches s _ refl refl refl h)
+fine_call limits s caller p Fork ks h = fine_plainly ks _ (same_watches s _ refl refl refl h)
+fine_call limits s caller p Exec ks h = fine_plainly ks _ (same_watches s _ refl refl refl h)
+fine_call limits s caller p Exit ks h = fine_plainly ks _ (same_watches s _ refl refl refl h)
 
 fine_change : (limits : Limits) (s : State) (caller : ℕ) (event : Event) (ks : List ℕ) → Sound s → Fine (change limits s caller event ks)
 fine_change limits s caller (CallOf p call) ks h = fine_call limits s caller p.0 call ks h

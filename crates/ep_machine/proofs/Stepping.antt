@@ -9,7 +9,7 @@ use Rattle.ep_base.specs.declared.answer.Answer.TheVariants.{Done, Num, Two, Byt
 use Rattle.ep_base.specs.declared.call.Event.{Event}
 use Rattle.ep_base.specs.declared.record.Record.{Record}
 use Rattle.ep_machine.specs.Effect.{first}
-use Rattle.ep_base.specs.declared.call.Call.TheVariants.{EpollCreate, EpollCtl, EpollWait, EventFd, GetTime, Pipe as PipeCall, Plain, Read, SetTime, Shutdown, SocketPair, TimerFd, Write}
+use Rattle.ep_base.specs.declared.call.Call.TheVariants.{Close, Dup, Dup2, EpollCreate, EpollCtl, EpollWait, EventFd, Exec, Exit, Fork, GetTime, Pipe as PipeCall, Plain, Read, SetTime, Shutdown, SocketPair, TimerFd, Write}
 use Rattle.ep_base.specs.declared.call.Event.TheVariants.{Call as CallOf, Tick}
 use Rattle.ep_machine.specs.Settle.{settle}
 use Rattle.ep_machine.specs.State.{Change, State, opening}
@@ -80,6 +80,12 @@ refusals_begun limits s caller (CallOf p (Write fd bytes)) = refl
 refusals_begun limits s caller (CallOf p (Shutdown fd)) = refl
 refusals_begun limits s caller (CallOf p (SetTime fd absolute value interval)) = refl
 refusals_begun limits s caller (CallOf p (GetTime fd)) = refl
+refusals_begun limits s caller (CallOf p (Dup fd)) = refl
+refusals_begun limits s caller (CallOf p (Dup2 fd to)) = refl
+refusals_begun limits s caller (CallOf p (Close fd)) = refl
+refusals_begun limits s caller (CallOf p Fork) = refl
+refusals_begun limits s caller (CallOf p Exec) = refl
+refusals_begun limits s caller (CallOf p Exit) = refl
 refusals_begun limits s caller (Tick k) = refl
 
 -- What each step keeps holds in each state of a run.

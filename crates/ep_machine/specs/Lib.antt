@@ -28,6 +28,7 @@ pub mod RefusedRuns
 pub mod CounterRuns
 pub mod TimerRuns
 pub mod SocketRuns
+pub mod DescriptorRuns
 pub mod Sound
 pub mod Quiet
 pub mod Laws

@@ -1,10 +1,10 @@
--- What holds in each state that the calls of this version reach: nothing dies, nobody waits, and each registration
--- is armed, level-triggered and watches an end of an object that shows bits of its own.
-use Rattle.std.specs.Prelude.{All, Bool, List, None, Option, Some, false, if◌then◌else◌, is_some, length, map, nat_lt, not, true, unwrap_or, ℕ, ◌&&◌, ◌==◌, ◌≡◌, ◌≤◌, []}
+-- What holds in each state that the calls of this version reach: what lives is named and has its object, nobody waits,
+-- and each registration is armed, level-triggered and watches an end of an object that shows bits of its own.
+use Rattle.std.specs.Prelude.{All, Bool, List, None, Option, Some, false, filter, if◌then◌else◌, is_some, map, nat_lt, not, slice_index_or, true, unwrap_or, ℕ, ◌&&◌, ◌==◌, ◌≡◌, ◌≤◌, []}
 use Rattle.ep_base.specs.declared.answer.Report.{Report}
 use Rattle.ep_machine.specs.Bits.{ET, ONESHOT, asked, has_bit}
-use Rattle.ep_machine.specs.Deaths.{named_in_tables}
-use Rattle.ep_machine.specs.Files.{Files, is_live, object_at, object_of, side_of}
+use Rattle.ep_machine.specs.Deaths.{die_all, dying, named_in_tables}
+use Rattle.ep_machine.specs.Files.{Files, Place, is_live, object_of, place_of, side_of}
 use Rattle.ep_machine.specs.Lists.{is_among}
 use Rattle.ep_machine.specs.Objects.{Object, is_instance, is_plain, object_present, plain}
 use Rattle.ep_machine.specs.State.{State, Watch}
@@ -23,11 +23,24 @@ pub record IsSteady (files : Files) (x : Watch) : Type 0 where
   pub level : has_bit x.mask ET ≡ false
   pub lasting : has_bit x.mask ONESHOT ≡ false
 
+-- what lives has its object
+abbrev pub is_backed : Files → Option Place → Bool
+is_backed files None = true
+is_backed files (Some p) = is_some (slice_index_or files.objects p.object None)
+
 pub record Quiet (s : State) : Type 0 where
   pub waiters : s.waiters ≡ []
   pub now : s.now ≤ last_moment
-  pub placed : All (λ p. is_some (object_at s.files p) ≡ true) s.files.descriptions  -- every description lives and has its object
-  pub named : (d : ℕ) → is_among (named_in_tables s.files.tables) d ≡ nat_lt d (length s.files.descriptions)  -- tables name what was made, and nothing else
+  pub placed : (d : ℕ) → is_backed s.files (place_of s.files d) ≡ true
+  pub named : (d : ℕ) → is_among (named_in_tables s.files.tables) d ≡ is_live s.files d  -- tables name what lives, and nothing else
+  pub watches : All (IsSteady s.files) s.watches
+
+-- the same after a change that is not settled: what lives may have lost its names
+pub record Changed (s : State) : Type 0 where
+  pub waiters : s.waiters ≡ []
+  pub now : s.now ≤ last_moment
+  pub placed : (d : ℕ) → is_backed s.files (place_of s.files d) ≡ true
+  pub lives : (d : ℕ) → is_among (named_in_tables s.files.tables) d ≡ true → is_live s.files d ≡ true
   pub watches : All (IsSteady s.files) s.watches
 
 -- a registration without what a settling changes: what it has seen, and since when it is reportable
@@ -37,12 +50,16 @@ kept_of x = record x { seen = None; from = 0 }
 abbrev pub kept_all : List Watch → List Watch
 kept_all xs = map kept_of xs
 
--- the same but for arrivals and for what a registration is kept without
+-- its instance and its target live
+abbrev pub stays_in : Files → Watch → Bool
+stays_in files x = is_live files x.instance && is_live files x.target
+
+-- what nothing names is dead, the registrations that live stay, as far as they are kept, and arrivals may differ
 pub record IsSettled (after t : State) : Type 0 where
   pub n : t.n ≡ after.n
   pub now : t.now ≡ after.now
-  pub files : t.files ≡ after.files
-  pub watches : kept_all t.watches ≡ kept_all after.watches
+  pub files : t.files ≡ (die_all (after.files, []) (dying after)).0
+  pub watches : kept_all t.watches ≡ filter (stays_in t.files) (kept_all after.watches)
   pub added : t.added ≡ after.added
   pub waiters : t.waiters ≡ after.waiters
 

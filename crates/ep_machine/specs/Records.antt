@@ -5,7 +5,7 @@ use Rattle.ep_base.specs.declared.answer.Answer.{Answer}
 use Rattle.ep_base.specs.declared.answer.Answer.TheVariants.{Done, Events, Refused, Time, Two}
 use Rattle.ep_base.specs.declared.answer.Report.{Report}
 use Rattle.ep_base.specs.declared.call.Call.{Call}
-use Rattle.ep_base.specs.declared.call.Call.TheVariants.{EpollCreate, EpollCtl, EpollWait, EventFd, GetTime, Pipe as PipeCall, Plain, Read, SetTime, Shutdown, SocketPair, TimerFd, Write}
+use Rattle.ep_base.specs.declared.call.Call.TheVariants.{Close, Dup, Dup2, EpollCreate, EpollCtl, EpollWait, EventFd, GetTime, Pipe as PipeCall, Plain, Read, SetTime, Shutdown, SocketPair, TimerFd, Write}
 use Rattle.ep_base.specs.declared.call.Event.{Event}
 use Rattle.ep_base.specs.declared.call.Event.TheVariants.{Call as CallOf, Tick}
 use Rattle.ep_base.specs.declared.errno.Errno.{Errno}
@@ -15,6 +15,10 @@ use Rattle.ep_base.specs.declared.record.Record.{Record}
 -- limits on descriptors, files and registrations; the others don't matter here
 abbrev pub small_limits : ℕ → ℕ → ℕ → Limits
 small_limits descriptors files watches = record { descriptors = descriptors; files = files; processes = 2; watches = watches; pipe_bytes = 4096; sock_bytes = 4096 }
+
+-- 6 descriptors, 5 files and 2 processes
+abbrev pub tight_limits : Limits
+tight_limits = record { descriptors = 6; files = 5; processes = 2; watches = 8; pipe_bytes = 4096; sock_bytes = 1 }
 
 -- so many bytes wait in one direction of a socket pair
 abbrev pub socket_limits : ℕ → Limits
@@ -69,6 +73,15 @@ settime_call fd absolute value interval = SetTime (fd_of fd) absolute value inte
 
 abbrev pub gettime_call : ℤ → Call
 gettime_call fd = GetTime (fd_of fd)
+
+abbrev pub dup_call : ℤ → Call
+dup_call fd = Dup (fd_of fd)
+
+abbrev pub dup2_call : ℤ → ℤ → Call
+dup2_call fd to = Dup2 (fd_of fd) (fd_of to)
+
+abbrev pub close_call : ℤ → Call
+close_call fd = Close (fd_of fd)
 
 abbrev pub two : ℕ → ℕ → Answer
 two a b = Two (fd_of (pos a)) (fd_of (pos b))

@@ -2,18 +2,19 @@
 use Rattle.std.specs.Prelude.{Bool, List, [], false, is_none, length, nat_le, nat_lt, negsuc, not, pos, suc, true, zero, ℕ, ℤ, ◌&&◌, ◌+◌, ◌==◌, ◌||◌, ◌∷◌}
 use Rattle.ep_base.specs.Limits.{Limits}
 use Rattle.ep_base.specs.declared.call.Call.{Call}
-use Rattle.ep_base.specs.declared.call.Call.TheVariants.{EpollCreate, EpollCtl, EpollWait, EventFd, GetTime, Pipe as PipeCall, Plain, Read, SetTime, Shutdown, SocketPair, TimerFd, Write}
+use Rattle.ep_base.specs.declared.call.Call.TheVariants.{Close, Dup, Dup2, EpollCreate, EpollCtl, EpollWait, EventFd, Exec, Exit, Fork, GetTime, Pipe as PipeCall, Plain, Read, SetTime, Shutdown, SocketPair, TimerFd, Write}
 use Rattle.ep_base.specs.declared.call.Event.{Event}
 use Rattle.ep_base.specs.declared.call.Event.TheVariants.{Call as CallOf, Tick}
 use Rattle.ep_base.specs.declared.errno.Errno.{Errno}
-use Rattle.ep_base.specs.declared.errno.Errno.TheVariants.{Ebadf, Ebusy, Eexist, Einval, Eloop, Enoent, Enospc, Eperm, Esrch}
+use Rattle.ep_base.specs.declared.errno.Errno.TheVariants.{Eagain, Ebadf, Ebusy, Eexist, Einval, Eloop, Emfile, Enoent, Enospc, Eperm, Esrch}
 use Rattle.ep_machine.specs.Bits.{ET, EXCLUSIVE, ONESHOT, has_bit}
-use Rattle.ep_machine.specs.Files.{named_by, names_nothing, object_under, side_under, table_of}
+use Rattle.ep_machine.specs.Files.{named_by, names_nothing, numbers_of, object_under, side_under, table_of}
+use Rattle.ep_machine.specs.Lists.{numbered}
 use Rattle.ep_machine.specs.Objects.{is_instance, is_plain, object_refusals}
 use Rattle.ep_machine.specs.State.{State}
-use Rattle.ep_machine.specs.Tables.{one_refusals, two_refusals}
+use Rattle.ep_machine.specs.Tables.{is_in_range, one_free, one_refusals, two_refusals}
 use Rattle.ep_machine.specs.Timer.{last_moment}
-use Rattle.ep_machine.specs.Waits.{is_parked, is_positive}
+use Rattle.ep_machine.specs.Waits.{has_parked, is_parked, is_positive}
 use Rattle.ep_machine.specs.Watches.{is_add, is_del, is_legal, is_mod, is_op, is_there, links, number_in}
 
 abbrev pub is_zero : ℤ → Bool
@@ -77,6 +78,12 @@ call_refusals limits s p (Write fd bytes) = on_object s p fd.0 (Write fd bytes)
 call_refusals limits s p (Shutdown fd) = on_object s p fd.0 (Shutdown fd)
 call_refusals limits s p (SetTime fd absolute value interval) = on_object s p fd.0 (SetTime fd absolute value interval)
 call_refusals limits s p (GetTime fd) = on_object s p fd.0 (GetTime fd)
+call_refusals limits s p (Dup fd) = (names_nothing s.files p fd.0, Ebadf) ∷ (nat_le limits.descriptors (one_free (numbers_of s.files p)), Emfile) ∷ []
+call_refusals limits s p (Dup2 fd to) = (names_nothing s.files p fd.0, Ebadf) ∷ (not (is_in_range limits to.0), Ebadf) ∷ []
+call_refusals limits s p (Close fd) = (names_nothing s.files p fd.0, Ebadf) ∷ []
+call_refusals limits s p Fork = (nat_le limits.processes (length (numbered 0 s.files.tables)), Eagain) ∷ []
+call_refusals limits s p Exec = (has_parked s p, Ebusy) ∷ []
+call_refusals limits s p Exit = (has_parked s p, Ebusy) ∷ []
 
 abbrev pub refusals : Limits → State → ℕ → Event → List (Bool × Errno)
 refusals limits s caller (CallOf p call) = (is_none (table_of s.files p.0), Esrch) ∷ (is_parked s caller, Ebusy) ∷ call_refusals limits s p.0 call

@@ -5,10 +5,11 @@ ghost use Rattle.ep_base.specs.Limits.{default_limits};
 ghost use Rattle.ep_base.specs.declared.answer.Answer.TheVariants.{Done, Num, Refused};
 ghost use Rattle.ep_base.specs.declared.errno.Errno.TheVariants.{Eagain, Ebadf, Eexist, Einval, Emfile, Enfile, Enospc, Enotsock, Eperm, Epipe, Esrch};
 ghost use Rattle.ep_machine.specs.CounterRuns.{greatest_run, semaphore_run};
+ghost use Rattle.ep_machine.specs.DescriptorRuns.{closed_reader_run, closed_socket_run, exec_run, full_tables_run, numbers_run};
 ghost use Rattle.ep_machine.specs.FairRun.{both_readable, first_told, second_told};
 ghost use Rattle.ep_machine.specs.FullPipeRun.{full_pipe_run};
 ghost use Rattle.ep_machine.specs.LevelRun.{level_run};
-ghost use Rattle.ep_machine.specs.Records.{answered, create_call, pipe_call, report, small_limits, socket_limits, two};
+ghost use Rattle.ep_machine.specs.Records.{answered, create_call, pipe_call, report, small_limits, socket_limits, tight_limits, two};
 ghost use Rattle.ep_machine.specs.RefusedRuns.{ctl_run, descriptors_first_run, descriptors_run, files_run, masks_run, process_run, read_run, wait_run, watches_run, write_run};
 ghost use Rattle.ep_machine.specs.Run.{is_run, run};
 ghost use Rattle.ep_machine.specs.SocketRuns.{full_run, last_description_run, no_socket_run, shut_run};
@@ -153,4 +154,34 @@ pub fn no_socket()
 pub fn last_description()
     ensures run { is_run (small_limits 16 2 8) (last_description_run Enfile) ≡ true }
     ensures no_run { is_run (small_limits 16 2 8) (last_description_run Emfile) ≡ false }
+{}
+
+/// pipe(7): a pipe that nobody reads.
+pub fn closed_reader()
+    ensures run { is_run default_limits (closed_reader_run 12) ≡ true }
+    ensures no_run { is_run default_limits (closed_reader_run 4) ≡ false }
+{}
+
+/// A Unix stream socket whose peer is closed.
+pub fn closed_socket()
+    ensures run { is_run (socket_limits 4) (closed_socket_run 20) ≡ true }
+    ensures no_run { is_run (socket_limits 4) (closed_socket_run 16) ≡ false }
+{}
+
+/// EMFILE, ENFILE and EAGAIN of full tables, and exit(2) of a process that shares them.
+pub fn full_tables()
+    ensures run { is_run tight_limits (full_tables_run Eagain) ≡ true }
+    ensures no_run { is_run tight_limits (full_tables_run Enfile) ≡ false }
+{}
+
+/// epoll(7): a registration lives until each descriptor of its description is closed; close-on-exec of execve(2).
+pub fn exec()
+    ensures run { is_run default_limits (exec_run 17) ≡ true }
+    ensures no_run { is_run default_limits (exec_run 1) ≡ false }
+{}
+
+/// dup(2) and dup2(2).
+pub fn numbers()
+    ensures run { is_run default_limits (numbers_run 3) ≡ true }
+    ensures no_run { is_run default_limits (numbers_run 5) ≡ false }
 {}

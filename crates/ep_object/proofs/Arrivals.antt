@@ -2,7 +2,7 @@
 use Rattle.std.proofs.Common.{Bool, List, None, Option, Some, [], ℕ, ◌∷◌}
 use Rattle.std.proofs.lemmas.Bool.{false≢true}
 use Rattle.std.specs.Prelude.{not}
-use Rattle.ep_base.specs.declared.call.Call.TheVariants.{EpollCreate, EpollCtl, EpollWait, EventFd, GetTime, Pipe, Plain, Read, SetTime, Shutdown, SocketPair, TimerFd, Write}
+use Rattle.ep_base.specs.declared.call.Call.TheVariants.{Close, Dup, Dup2, EpollCreate, EpollCtl, EpollWait, EventFd, Exec, Exit, Fork, GetTime, Pipe, Plain, Read, SetTime, Shutdown, SocketPair, TimerFd, Write}
 use Rattle.ep_base.specs.declared.errno.Errno.{Errno}
 use Rattle.ep_base.specs.declared.errno.Errno.TheVariants.{Einval, Enotsock}
 use Rattle.ep_base.specs.declared.object.End.TheVariants.{First, Second}
@@ -113,6 +113,12 @@ apply_law kinds x e now (Plain cloexec) = stays now x nothing
 apply_law kinds x e now (EpollCreate cloexec) = stays now x nothing
 apply_law kinds x e now (EpollCtl epfd op fd mask tag) = stays now x nothing
 apply_law kinds x e now (EpollWait epfd max timeout) = stays now x nothing
+apply_law kinds x e now (Dup fd) = stays now x nothing
+apply_law kinds x e now (Dup2 fd to) = stays now x nothing
+apply_law kinds x e now (Close fd) = stays now x nothing
+apply_law kinds x e now Fork = stays now x nothing
+apply_law kinds x e now Exec = stays now x nothing
+apply_law kinds x e now Exit = stays now x nothing
 
 pub close_law : PipeCloseLaw → PairCloseLaw → CloseLaw
 close_law pipes pairs plain e now = stays now plain nothing

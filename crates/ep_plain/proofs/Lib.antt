@@ -1,5 +1,6 @@
 pub mod Controlling
 pub mod Going
+pub mod Growing
 pub mod Keys
 pub mod Linking
 pub mod ObjectCalling
@@ -8,5 +9,7 @@ pub mod Choosing
 pub mod Reported
 pub mod Waited
 pub mod Opening
+pub mod Burying
+pub mod Buried
 pub mod Stepped
 pub mod Next

@@ -13,7 +13,9 @@ use Rattle.ep_machine.specs.Step.{step}
 use Rattle.ep_machine.proofs.Stepping.{run_next}
 use Rattle.ep_plain.specs.Acts.{Adds}
 use Rattle.ep_plain.specs.Book.{Book, state_of}
-use Rattle.ep_plain.specs.Moves.{Grows, Moves}
+use Rattle.ep_plain.specs.Moves.{Grows, Moves, Parts, Unheld}
+use Rattle.ep_plain.specs.Burial.{Burial}
+use Rattle.ep_table.specs.Value.{count_at}
 use Rattle.ep_plain.specs.Standing.{IsStanding, book_of}
 use Rattle.ep_plain.specs.Stands.{AreLinked}
 use Rattle.ep_plain.specs.declared.plain.PlainKernel.TheInside.{Inside}
@@ -22,15 +24,16 @@ use Rattle.ep_plain.proofs.Stepped.{Leads, leads}
 abbrev pub record_of : CallerId → Event → Answer → List ℕ → Record
 record_of caller event answer picked = record { caller = caller; event = event; answer = answer; picked = picked }
 
-module _ (old new : Inside) (standing : IsStanding old) (caller : CallerId) (event : Event) (answer : Answer) (picked : List ℕ)
-    (limits : new.limits ≡ old.limits) (kept : new.tables.limits ≡ old.tables.limits)
+module _ (old new : Inside) (mid : Parts) (standing : IsStanding old) (caller : CallerId) (event : Event) (answer : Answer) (picked : List ℕ)
+    (limits : new.limits ≡ old.limits) (kept : mid.tables.limits ≡ old.tables.limits)
     (history : new.history.items ≡ old.history.items ++ record_of caller event answer picked ∷ [])
-    (moves : (who : ℕ) → Moves old.limits (length old.history.items + 1) who event answer picked (record { tables = old.tables; interest = old.interest; now = old.now }) (record { tables = new.tables; interest = new.interest; now = new.now }))
-    (linked : AreLinked new.tables new.interest) (grows : Grows old.tables.files new.tables.files) (added : new.interest.added ≤ old.interest.added + 1) (clock : new.now ≤ last_moment) where
+    (moves : (who : ℕ) → Moves old.limits (length old.history.items + 1) who event answer picked (record { tables = old.tables; interest = old.interest; now = old.now }) mid)
+    (linked : AreLinked mid.tables mid.interest) (unheld : Unheld old.tables → Unheld mid.tables) (grows : Grows old.tables.files mid.tables.files) (added : mid.interest.added ≤ old.interest.added + 1)
+    (burial : Burial mid.tables mid.interest new.tables new.interest) (same_clock : new.now ≡ mid.now) (clock : mid.now ≤ last_moment) where
   next : Leads old.limits standing.state caller.0 event answer picked (record { tables = new.tables; interest = new.interest; now = new.now })
   next =
-      leads old.limits standing.state caller.0 event answer picked (record { tables = new.tables; interest = new.interest; now = new.now }) standing.sound standing.quiet (record { tables = old.tables; interest = old.interest; now = old.now }) standing.stands
-      (subst (λ (n : ℕ). Moves old.limits (n + 1) caller.0 event answer picked (record { tables = old.tables; interest = old.interest; now = old.now }) (record { tables = new.tables; interest = new.interest; now = new.now })) (sym standing.n) (moves caller.0))
+      leads old.limits standing.state caller.0 event answer picked mid (record { tables = new.tables; interest = new.interest; now = new.now }) standing.sound standing.quiet burial same_clock linked (unheld standing.unheld) (record { tables = old.tables; interest = old.interest; now = old.now }) standing.stands
+      (subst (λ (n : ℕ). Moves old.limits (n + 1) caller.0 event answer picked (record { tables = old.tables; interest = old.interest; now = old.now }) mid) (sym standing.n) (moves caller.0))
 
   leads_on : run old.limits opening new.history.items ≡ Some next.to
   leads_on = ap (λ (rs : List Record). run old.limits opening rs) history ∙ run_next old.limits standing.state next.to old.history.items (record_of caller event answer picked) standing.leads next.goes
@@ -45,13 +48,14 @@ module _ (old new : Inside) (standing : IsStanding old) (caller : CallerId) (eve
     n = next.n ∙ (ap (λ (n : ℕ). n + 1) standing.n ∙ sym length_is);
     sound = next.sound;
     quiet = next.quiet;
-    clock = clock;
+    clock = subst (λ (n : ℕ). n ≤ last_moment) (sym same_clock) clock;
     stands = next.stands;
-    linked = linked;
-    limits = kept ∙ (standing.limits ∙ sym limits);
-    added = omega (arith, added, standing.added, length_is);
-    descriptions = omega (arith, grows.descriptions, standing.descriptions, length_is);
-    objects = omega (arith, grows.objects, standing.objects, length_is);
+    linked = burial.buries.linked;
+    unheld = λ d. ap (λ (hs : List ℕ). count_at hs d) burial.buries.holds ∙ unheld standing.unheld d;
+    limits = burial.buries.limits ∙ (kept ∙ (standing.limits ∙ sym limits));
+    added = omega (arith, added, standing.added, length_is, burial.buries.added);
+    descriptions = omega (arith, grows.descriptions, standing.descriptions, length_is, burial.buries.descriptions);
+    objects = omega (arith, grows.objects, standing.objects, length_is, burial.buries.objects);
   }
 
   pub adds_next : Adds old.limits caller event answer (state_of (book_of old)) (state_of (book_of new)) old.history.items new.history.items

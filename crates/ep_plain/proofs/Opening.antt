@@ -14,7 +14,7 @@ use Rattle.ep_machine.specs.Files.{Files, named_by, names_nothing, object_under,
 use Rattle.ep_machine.specs.Objects.{Object, object_effect, object_refusals}
 use Rattle.ep_machine.specs.Refusal.{call_refusals, on_object}
 use Rattle.ep_machine.specs.State.{Change, State}
-use Rattle.ep_machine.specs.Step.{call_change, object_change, one_change, two_change}
+use Rattle.ep_machine.specs.Step.{call_change, files_change, object_change, one_change, two_change}
 use Rattle.ep_machine.specs.Tables.{affected, affected_raises, answer_one, answer_two, create_one, create_two, one_refusals, two_refusals}
 use Rattle.ep_plain.specs.Moves.{Goes, Makes, Opened, Opens, Parts, Refuses, Stayed}
 use Rattle.ep_plain.specs.Stands.{AreLinked, KeepsKeys, Stands}
@@ -74,6 +74,13 @@ module _ (limits : Limits) (v new : Seen) (r : Registrations) (now : ℕ) (s : S
   one_goes tests x cloexec opens =
       let P : Limits → Files → Type 0 = λ l f. Goes (tests ++ one_refusals l f p) (Some (answer_one f p, record s { files = create_one f p x cloexec }, [])) s answer [] parts in
       subst (λ (l : Limits). P l s.files) same (subst (P v.limits) (sym stands.files) (opens_goes (tests ++ one_refusals v.limits v.files p) (answer_one v.files p) (create_one v.files p x cloexec) answer v new opens r linked now s [] stands))
+
+  -- a call on the tables alone
+  pub files_goes : (tests : Limits → Files → List (Bool × Errno)) (to : Files → Answer) (after : Files → Files) → Opens (tests v.limits v.files) (to v.files) (after v.files) answer v new
+      → Goes (tests limits s.files) (Some (files_change s (to s.files) (after s.files))) s answer [] parts
+  files_goes tests to after opens =
+      let P : Limits → Files → Type 0 = λ l f. Goes (tests l f) (Some (to f, record s { files = after f }, [])) s answer [] parts in
+      subst (λ (l : Limits). P l s.files) same (subst (P v.limits) (sym stands.files) (opens_goes (tests v.limits v.files) (to v.files) (after v.files) answer v new opens r linked now s [] stands))
 
   pub object_goes : (fd : ℤ) (call : Call)
       → Opens ((names_nothing v.files p fd, Ebadf) ∷ object_refusals (object_under v.files p fd) (side_under v.files p fd) now call) (given v.files p fd now call).0 (affected v.files (named_by v.files p fd) (given v.files p fd now call)) answer v new

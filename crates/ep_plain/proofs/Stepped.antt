@@ -7,7 +7,7 @@ use Rattle.ep_base.specs.Limits.{Limits}
 use Rattle.ep_base.specs.declared.answer.Answer.{Answer}
 use Rattle.ep_base.specs.declared.answer.Answer.TheVariants.{Refused}
 use Rattle.ep_base.specs.declared.call.Call.{Call}
-use Rattle.ep_base.specs.declared.call.Call.TheVariants.{EpollCreate, EpollCtl, EpollWait, EventFd, GetTime, Pipe as PipeCall, Plain, Read, SetTime, Shutdown, SocketPair, TimerFd, Write}
+use Rattle.ep_base.specs.declared.call.Call.TheVariants.{Close, Dup, Dup2, EpollCreate, EpollCtl, EpollWait, EventFd, Exec, Exit, Fork, GetTime, Pipe as PipeCall, Plain, Read, SetTime, Shutdown, SocketPair, TimerFd, Write}
 use Rattle.ep_base.specs.declared.call.Event.{Event}
 use Rattle.ep_base.specs.declared.call.Event.TheVariants.{Call as CallOf, Tick}
 use Rattle.ep_base.specs.declared.errno.Errno.{Errno}
@@ -26,12 +26,15 @@ use Rattle.ep_machine.specs.State.{Change, State, opening}
 use Rattle.ep_machine.specs.Step.{begun, change, step}
 use Rattle.ep_machine.specs.Waits.{wait_for}
 use Rattle.ep_machine.specs.Watches.{is_add, is_del, number_in}
-use Rattle.ep_machine.proofs.Quietness.{quiet_begun, quiet_change, quiet_step}
-use Rattle.ep_machine.proofs.Settling.{settle_quiet}
+use Rattle.ep_machine.proofs.Quietness.{quiet_begun, quiet_change, quiet_step, weaken}
+use Rattle.ep_machine.proofs.Settling.{settle_changed, settled_quiet}
 use Rattle.ep_machine.proofs.Soundness.{sound_begun, sound_step}
 use Rattle.ep_machine.proofs.Stepping.{refused_step, run_next, step_changed}
 use Rattle.ep_plain.specs.Acts.{Adds}
-use Rattle.ep_plain.specs.Moves.{Goes, Makes, Moves, Parts, Refuses, StandFor}
+use Rattle.ep_plain.specs.Burial.{Burial}
+use Rattle.ep_plain.specs.Stands.{AreLinked}
+use Rattle.ep_plain.proofs.Buried.{buried_stands}
+use Rattle.ep_plain.specs.Moves.{Unheld, Goes, Makes, Moves, Parts, Refuses, StandFor}
 use Rattle.ep_plain.specs.Stands.{Stands}
 
 -- A change leaves the number of events.
@@ -85,6 +88,12 @@ change_n limits s caller (CallOf p (Write fd bytes)) ks = keeps_plainly s.n ks _
 change_n limits s caller (CallOf p (Shutdown fd)) ks = keeps_plainly s.n ks _ refl
 change_n limits s caller (CallOf p (SetTime fd absolute value interval)) ks = keeps_plainly s.n ks _ refl
 change_n limits s caller (CallOf p (GetTime fd)) ks = keeps_plainly s.n ks _ refl
+change_n limits s caller (CallOf p (Dup fd)) ks = keeps_plainly s.n ks _ refl
+change_n limits s caller (CallOf p (Dup2 fd to)) ks = keeps_plainly s.n ks _ refl
+change_n limits s caller (CallOf p (Close fd)) ks = keeps_plainly s.n ks _ refl
+change_n limits s caller (CallOf p Fork) ks = keeps_plainly s.n ks _ refl
+change_n limits s caller (CallOf p Exec) ks = keeps_plainly s.n ks _ refl
+change_n limits s caller (CallOf p Exit) ks = keeps_plainly s.n ks _ refl
 change_n limits s caller (Tick k) ks = keeps_plainly s.n ks _ refl
 
 settle_n : (before after : State) (raised : List (ℕ × ℕ)) → (settle before after raised).n ≡ after.n
@@ -99,23 +108,26 @@ pub record Leads (limits : Limits) (s : State) (caller : ℕ) (event : Event) (a
   pub quiet : Quiet to
   pub stands : StandFor new to
 
-module _ (limits : Limits) (s : State) (caller : ℕ) (event : Event) (answer : Answer) (picked : List ℕ) (new : Parts) (sound : Sound s) (quiet : Quiet s) where
-  by_refusal : (e : Errno) → first (refusals limits (begun s) caller event) ≡ Some e → Refuses (begun s) e answer picked new → Leads limits s caller event answer picked new
+module _ (limits : Limits) (s : State) (caller : ℕ) (event : Event) (answer : Answer) (picked : List ℕ) (mid new : Parts) (sound : Sound s) (quiet : Quiet s)
+    (burial : Burial mid.tables mid.interest new.tables new.interest) (clock : new.now ≡ mid.now) (linked : AreLinked mid.tables mid.interest) (unheld : Unheld mid.tables) where
+  by_refusal : (e : Errno) → first (refusals limits (begun s) caller event) ≡ Some e → Refuses (begun s) e answer picked mid → Leads limits s caller event answer picked new
   by_refusal e h r =
       let P : Answer → List ℕ → Type 0 = λ a ks. step limits s caller event ks ≡ Some (a, begun s) in
+      let still = quiet_begun s quiet in
       record {
         to = begun s;
         goes = subst (λ (a : Answer). P a picked) (sym r.answers) (subst (P (Refused e)) (sym r.unpicked) (refused_step limits s caller event e h));
         n = refl;
         sound = sound_begun s sound;
-        quiet = quiet_begun s quiet;
-        stands = r.stands;
+        quiet = still;
+        stands = buried_stands mid new burial clock linked unheld (begun s) (begun s) (weaken (begun s) still) (settled_quiet (begun s) still) r.stands;
       }
 
-  by_change : first (refusals limits (begun s) caller event) ≡ None → Makes (change limits (begun s) caller event picked) answer new → Leads limits s caller event answer picked new
+  by_change : first (refusals limits (begun s) caller event) ≡ None → Makes (change limits (begun s) caller event picked) answer mid → Leads limits s caller event answer picked new
   by_change h m =
       let t = settle (begun s) m.made.1 m.made.2 in
-      let same = settle_quiet (begun s) m.made.1 m.made.2 (quiet_change limits (begun s) caller event picked m.made (quiet_begun s quiet) h m.is) in
+      let changed = quiet_change limits (begun s) caller event picked m.made (quiet_begun s quiet) h m.is in
+      let same = settle_changed (begun s) m.made.1 m.made.2 changed in
       let goes : step limits s caller event picked ≡ Some (answer, t) = step_changed limits s caller event picked m.made h m.is ∙ ap (λ (a : Answer). Some (a, t)) m.answers in
       record {
         to = t;
@@ -123,14 +135,14 @@ module _ (limits : Limits) (s : State) (caller : ℕ) (event : Event) (answer : 
         n = settle_n (begun s) m.made.1 m.made.2 ∙ change_n limits (begun s) caller event picked m.made m.is;
         sound = sound_step limits s t caller event picked answer sound goes;
         quiet = quiet_step limits s t caller event picked answer quiet goes;
-        stands = record { now = same.now ∙ m.stands.now; files = same.files ∙ m.stands.files; watches = same.watches ∙ m.stands.watches; added = same.added ∙ m.stands.added };
+        stands = buried_stands mid new burial clock linked unheld m.made.1 t changed same m.stands;
       }
 
-  by_cases : (o : Option Errno) → first (refusals limits (begun s) caller event) ≡ o → MatchOption o (Makes (change limits (begun s) caller event picked) answer new) (λ e. Refuses (begun s) e answer picked new) → Leads limits s caller event answer picked new
+  by_cases : (o : Option Errno) → first (refusals limits (begun s) caller event) ≡ o → MatchOption o (Makes (change limits (begun s) caller event picked) answer mid) (λ e. Refuses (begun s) e answer picked mid) → Leads limits s caller event answer picked new
   by_cases None h m = by_change h m
   by_cases (Some e) h r = by_refusal e h r
 
-  pub leads : (old : Parts) → StandFor old s → Moves limits (s.n + 1) caller event answer picked old new → Leads limits s caller event answer picked new
+  pub leads : (old : Parts) → StandFor old s → Moves limits (s.n + 1) caller event answer picked old mid → Leads limits s caller event answer picked new
   leads old stands moves =
       let there : StandFor old (begun s) = record { now = stands.now; files = stands.files; watches = stands.watches; added = stands.added } in
       by_cases (first (refusals limits (begun s) caller event)) refl (moves (begun s) refl (sound_begun s sound) (quiet_begun s quiet) there)

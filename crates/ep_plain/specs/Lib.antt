@@ -8,3 +8,4 @@ pub mod ObjectCall
 pub mod Wait
 pub mod Reports
 pub mod Standing
+pub mod Burial

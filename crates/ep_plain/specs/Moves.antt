@@ -15,7 +15,7 @@ use Rattle.ep_machine.specs.State.{Change, State}
 use Rattle.ep_machine.specs.Step.{call_change, change}
 use Rattle.ep_interest.specs.Registrations.{Registrations}
 use Rattle.ep_plain.specs.Stands.{AreLinked, KeepsKeys, Stands}
-use Rattle.ep_table.specs.Value.{Seen}
+use Rattle.ep_table.specs.Value.{Seen, holds_of}
 
 -- what an event leaves: the tables, the interest sets and the clock
 pub record Parts : Type 0 where
@@ -52,6 +52,10 @@ MovesCall limits n caller p call answer picked old new = MovesBy n old (λ s. Go
 
 abbrev pub Moves : Limits → ℕ → ℕ → Event → Answer → List ℕ → Parts → Parts → Type 0
 Moves limits n caller event answer picked old new = MovesBy n old (λ s. Goes (refusals limits s caller event) (change limits s caller event picked) s answer picked new)
+
+-- no waiter holds a description
+abbrev pub Unheld : Seen → Type 0
+Unheld v = (d : ℕ) → holds_of v d ≡ 0
 
 -- a call on the tables alone: a refusal of the list leaves them
 pub record Opened (given : Answer) (after : Files) (answer : Answer) (old new : Seen) : Type 0 where

@@ -3,13 +3,14 @@ ghost use Rattle.std.specs.Prelude.{◌≡◌, ◌+◌, ◌<◌, ◌≤◌, ◌^
 ghost use Rattle.ep_machine.specs.Files.{table_of};
 ghost use Rattle.ep_machine.specs.Timer.{last_moment};
 ghost use Rattle.ep_plain.specs.Acts.{is_no_memory};
-ghost use Rattle.ep_plain.specs.Moves.{Grows, Moves, MovesCall};
+ghost use Rattle.ep_plain.specs.Moves.{Grows, Moves, MovesCall, Unheld};
 ghost use Rattle.ep_plain.specs.Stands.{AreLinked};
 
 use crate::acted::Acted;
 use crate::clock::tick;
 use crate::control::{Control, epoll_ctl};
 use crate::create::{create_pair, create_pipe, create_single, create_timer};
+use crate::descriptors::{close, dup, dup2, exec, exit, fork};
 use crate::object_call::object_call;
 use crate::wait::{Wait, epoll_wait};
 use ep_base::{Call, Errno, Event, Limits, Pid};
@@ -42,6 +43,7 @@ fn act_call(
     ensures kept { tables.new.limits ≡ tables.old.limits }
     ensures linked { AreLinked tables.new interest.new }
     ensures grows { Grows tables.old.files tables.new.files }
+    ensures unheld { Unheld tables.old → Unheld tables.new }
     ensures added { interest.new.added ≤ interest.old.added + 1 }
     ensures err { OnErr result ((tables.new ≡ tables.old) × (interest.new ≡ interest.old)) }
 {
@@ -109,6 +111,30 @@ fn act_call(
             let acted = object_call(alloc, tables, now, pid, *fd, call)?;
             Ok(acted)
         }
+        Call::Dup { fd } => {
+            let acted = dup(alloc, tables, pid, *fd)?;
+            Ok(acted)
+        }
+        Call::Dup2 { fd, to } => {
+            let acted = dup2(alloc, tables, pid, *fd, *to)?;
+            Ok(acted)
+        }
+        Call::Close { fd } => {
+            let acted = close(alloc, tables, pid, *fd);
+            Ok(acted)
+        }
+        Call::Fork => {
+            let acted = fork(alloc, tables, pid)?;
+            Ok(acted)
+        }
+        Call::Exec => {
+            let acted = exec(alloc, tables, pid);
+            Ok(acted)
+        }
+        Call::Exit => {
+            let acted = exit(alloc, tables, pid);
+            Ok(acted)
+        }
     }
 }
 
@@ -135,6 +161,7 @@ pub fn act(
     ensures clock { now.new ≤ last_moment }
     ensures linked { AreLinked tables.new interest.new }
     ensures grows { Grows tables.old.files tables.new.files }
+    ensures unheld { Unheld tables.old → Unheld tables.new }
     ensures added { interest.new.added ≤ interest.old.added + 1 }
     ensures err { OnErr result ((tables.new ≡ tables.old) × (interest.new ≡ interest.old) × (now.new ≡ now.old)) }
 {

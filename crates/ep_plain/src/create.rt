@@ -9,7 +9,7 @@ ghost use Rattle.ep_machine.specs.Sockets.{new_pair};
 ghost use Rattle.ep_machine.specs.Tables.{answer_one, answer_two, create_one, create_two, one_refusals, two_refusals};
 ghost use Rattle.ep_machine.specs.Timer.{new_timer};
 ghost use Rattle.ep_plain.specs.Acts.{is_no_memory};
-ghost use Rattle.ep_plain.specs.Moves.{Grows, Opens};
+ghost use Rattle.ep_plain.specs.Moves.{Grows, Opens, Unheld};
 
 use crate::acted::Acted;
 use ep_base::{Errno, Pid};
@@ -34,6 +34,7 @@ pub fn create_single(
     ensures picked { IfOk result (λ acted. acted.picked ≡ []) }
     ensures real { IfOk result (λ acted. is_no_memory acted.answer ≡ false) }
     ensures grows { OnOk result (Grows tables.old.files tables.new.files) }
+    ensures unheld { OnOk result (Unheld tables.old → Unheld tables.new) }
     ensures err { OnErr result (tables.new ≡ tables.old) }
 {
     if let Some(errno) = tables.refuses_one(pid) {
@@ -60,6 +61,7 @@ pub fn create_timer(
     ensures picked { IfOk result (λ acted. acted.picked ≡ []) }
     ensures real { IfOk result (λ acted. is_no_memory acted.answer ≡ false) }
     ensures grows { OnOk result (Grows tables.old.files tables.new.files) }
+    ensures unheld { OnOk result (Unheld tables.old → Unheld tables.new) }
     ensures err { OnErr result (tables.new ≡ tables.old) }
 {
     if clock != 0 && clock != 1 {
@@ -86,6 +88,7 @@ pub fn create_pipe(
     ensures picked { IfOk result (λ acted. acted.picked ≡ []) }
     ensures real { IfOk result (λ acted. is_no_memory acted.answer ≡ false) }
     ensures grows { OnOk result (Grows tables.old.files tables.new.files) }
+    ensures unheld { OnOk result (Unheld tables.old → Unheld tables.new) }
     ensures err { OnErr result (tables.new ≡ tables.old) }
 {
     if let Some(errno) = tables.refuses_two(pid) {
@@ -114,6 +117,7 @@ pub fn create_pair(
     ensures picked { IfOk result (λ acted. acted.picked ≡ []) }
     ensures real { IfOk result (λ acted. is_no_memory acted.answer ≡ false) }
     ensures grows { OnOk result (Grows tables.old.files tables.new.files) }
+    ensures unheld { OnOk result (Unheld tables.old → Unheld tables.new) }
     ensures err { OnErr result (tables.new ≡ tables.old) }
 {
     if let Some(errno) = tables.refuses_two(pid) {

@@ -3,9 +3,11 @@
 
 mod act;
 mod acted;
+mod bury;
 mod clock;
 mod control;
 mod create;
+mod descriptors;
 mod kernel;
 mod object_call;
 mod plain;

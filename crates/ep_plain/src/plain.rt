@@ -6,6 +6,7 @@ ghost use Rattle.ep_plain.specs.Book.{state_of};
 use crate::Kernel;
 use crate::act::act;
 use crate::acted::Acted;
+use crate::bury::bury;
 use ep_base::{Answer, CallerId, Errno, Event, Limits, Record};
 use ep_interest::Interest;
 use ep_table::Tables;
@@ -74,6 +75,7 @@ impl PlainKernel {
             step,
             &event,
         )?;
+        bury(&mut self.tables, &mut self.interest);
         self.history.push_reserved(Record {
             caller,
             event,

@@ -3,7 +3,7 @@ use Rattle.std.specs.Prelude.{Bool, Option, Some, codes, false}
 use Rattle.serde_json.specs.Data.{Data}
 use Rattle.serde_json.specs.Find.{as_bool}
 use Rattle.ep_base.specs.declared.call.Call.{Call}
-use Rattle.ep_base.specs.declared.call.Call.TheVariants.{EpollCreate, EpollCtl, EpollWait, EventFd, GetTime, Pipe, Plain, Read, SetTime, Shutdown, SocketPair, TimerFd, Write}
+use Rattle.ep_base.specs.declared.call.Call.TheVariants.{Close, Dup, Dup2, EpollCreate, EpollCtl, EpollWait, EventFd, Exec, Exit, Fork, GetTime, Pipe, Plain, Read, SetTime, Shutdown, SocketPair, TimerFd, Write}
 use Rattle.ep_base.specs.declared.ids.Fd.{Fd}
 use Rattle.ep_text.specs.Bytes.{bytes_value}
 use Rattle.ep_text.specs.Keys.{optional, required}
@@ -88,3 +88,24 @@ settime_call d = do
   value ← required (codes "value") u64_value d
   interval ← optional (codes "interval") u64_value 0 d
   Some (SetTime (record { 0 = fd }) absolute value interval)
+
+abbrev pub dup_call : Data → Option Call
+dup_call = at_descriptor (λ fd. Dup fd)
+
+abbrev pub dup2_call : Data → Option Call
+dup2_call d = do
+  fd ← required (codes "fd") i32_value d
+  to ← required (codes "to") i32_value d
+  Some (Dup2 (record { 0 = fd }) (record { 0 = to }))
+
+abbrev pub close_call : Data → Option Call
+close_call = at_descriptor (λ fd. Close fd)
+
+abbrev pub fork_call : Data → Option Call
+fork_call d = Some Fork
+
+abbrev pub exec_call : Data → Option Call
+exec_call d = Some Exec
+
+abbrev pub exit_call : Data → Option Call
+exit_call d = Some Exit

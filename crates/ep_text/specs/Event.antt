@@ -8,7 +8,7 @@ use Rattle.ep_base.specs.declared.call.Call.{Call}
 use Rattle.ep_base.specs.declared.call.Event.{Event}
 use Rattle.ep_base.specs.declared.call.Event.TheVariants.{Call as CallOf, Tick}
 use Rattle.ep_base.specs.declared.ids.CallerId.{CallerId}
-use Rattle.ep_text.specs.Calls.{ctl_call, epoll_call, eventfd_call, gettime_call, pipe_call, plain_call, read_call, settime_call, shutdown_call, socketpair_call, timerfd_call, wait_call, write_call}
+use Rattle.ep_text.specs.Calls.{close_call, ctl_call, dup2_call, dup_call, epoll_call, eventfd_call, exec_call, exit_call, fork_call, gettime_call, pipe_call, plain_call, read_call, settime_call, shutdown_call, socketpair_call, timerfd_call, wait_call, write_call}
 use Rattle.ep_text.specs.Keys.{has_only_keys, optional, required}
 use Rattle.ep_text.specs.Values.{u32_value, u64_value, ◌>>=◌}
 
@@ -69,10 +69,29 @@ gettime_operation = call_operation (codes "gettime") (codes "fd" ∷ []) gettime
 abbrev pub settime_operation : Operation
 settime_operation = call_operation (codes "settime") (codes "fd" ∷ codes "value" ∷ codes "interval" ∷ codes "abs" ∷ []) settime_call
 
+abbrev pub dup_operation : Operation
+dup_operation = call_operation (codes "dup") (codes "fd" ∷ []) dup_call
+
+abbrev pub dup2_operation : Operation
+dup2_operation = call_operation (codes "dup2") (codes "fd" ∷ codes "to" ∷ []) dup2_call
+
+abbrev pub close_operation : Operation
+close_operation = call_operation (codes "close") (codes "fd" ∷ []) close_call
+
+abbrev pub fork_operation : Operation
+fork_operation = call_operation (codes "fork") [] fork_call
+
+abbrev pub exec_operation : Operation
+exec_operation = call_operation (codes "exec") [] exec_call
+
+abbrev pub exit_operation : Operation
+exit_operation = call_operation (codes "exit") [] exit_call
+
 abbrev pub call_operations : List Operation
 call_operations =
     pipe_operation ∷ socketpair_operation ∷ plain_operation ∷ epoll_operation ∷ eventfd_operation ∷ timerfd_operation ∷
-    ctl_operation ∷ wait_operation ∷ read_operation ∷ write_operation ∷ shutdown_operation ∷ gettime_operation ∷ settime_operation ∷ []
+    ctl_operation ∷ wait_operation ∷ read_operation ∷ write_operation ∷ shutdown_operation ∷ gettime_operation ∷ settime_operation ∷
+    dup_operation ∷ dup2_operation ∷ close_operation ∷ fork_operation ∷ exec_operation ∷ exit_operation ∷ []
 
 -- ---- what is no call
 

@@ -6,7 +6,7 @@ use Rattle.ep_text.specs.declared.op.CallOp.{CallOp}
 use Rattle.ep_text.specs.declared.op.CallOp.TheVariants as op
 use Rattle.ep_text.specs.declared.op.Op.{Op}
 use Rattle.ep_text.specs.declared.op.Op.TheVariants as any
-use Rattle.ep_text.specs.Calls.{ctl_call, epoll_call, eventfd_call, gettime_call, pipe_call, plain_call, read_call, settime_call, shutdown_call, socketpair_call, timerfd_call, wait_call, write_call}
+use Rattle.ep_text.specs.Calls.{close_call, ctl_call, dup2_call, dup_call, epoll_call, eventfd_call, exec_call, exit_call, fork_call, gettime_call, pipe_call, plain_call, read_call, settime_call, shutdown_call, socketpair_call, timerfd_call, wait_call, write_call}
 use Rattle.ep_text.specs.Event.{Operation, call_operation, tick_operation}
 
 abbrev pub name_of : CallOp → List ℕ
@@ -23,6 +23,12 @@ name_of op.Write = codes "write"
 name_of op.Shutdown = codes "shutdown"
 name_of op.GetTime = codes "gettime"
 name_of op.SetTime = codes "settime"
+name_of op.Dup = codes "dup"
+name_of op.Dup2 = codes "dup2"
+name_of op.Close = codes "close"
+name_of op.Fork = codes "fork"
+name_of op.Exec = codes "exec"
+name_of op.Exit = codes "exit"
 
 abbrev pub keys_of : CallOp → List (List ℕ)
 keys_of op.Pipe = codes "cloexec" ∷ []
@@ -38,6 +44,12 @@ keys_of op.Write = codes "fd" ∷ codes "hex" ∷ codes "fill" ∷ []
 keys_of op.Shutdown = codes "fd" ∷ []
 keys_of op.GetTime = codes "fd" ∷ []
 keys_of op.SetTime = codes "fd" ∷ codes "value" ∷ codes "interval" ∷ codes "abs" ∷ []
+keys_of op.Dup = codes "fd" ∷ []
+keys_of op.Dup2 = codes "fd" ∷ codes "to" ∷ []
+keys_of op.Close = codes "fd" ∷ []
+keys_of op.Fork = []
+keys_of op.Exec = []
+keys_of op.Exit = []
 
 abbrev pub call_of : CallOp → Data → Option Call
 call_of op.Pipe = pipe_call
@@ -53,6 +65,12 @@ call_of op.Write = write_call
 call_of op.Shutdown = shutdown_call
 call_of op.GetTime = gettime_call
 call_of op.SetTime = settime_call
+call_of op.Dup = dup_call
+call_of op.Dup2 = dup2_call
+call_of op.Close = close_call
+call_of op.Fork = fork_call
+call_of op.Exec = exec_call
+call_of op.Exit = exit_call
 
 abbrev pub call_operation_of : CallOp → Operation
 call_operation_of op = call_operation (name_of op) (keys_of op) (call_of op)

@@ -1,7 +1,7 @@
 //! The calls, each with the values of its keys.
 ghost use Rattle.std.specs.Prelude.{◌≡◌, IfOk};
 ghost use Rattle.serde_json.specs.View.{view};
-ghost use Rattle.ep_text.specs.Calls.{ctl_call, epoll_call, eventfd_call, gettime_call, pipe_call, plain_call, read_call, settime_call, shutdown_call, socketpair_call, timerfd_call, wait_call, write_call};
+ghost use Rattle.ep_text.specs.Calls.{close_call, ctl_call, dup2_call, dup_call, epoll_call, eventfd_call, gettime_call, pipe_call, plain_call, read_call, settime_call, shutdown_call, socketpair_call, timerfd_call, wait_call, write_call};
 ghost use Rattle.ep_text.specs.Ops.{call_of};
 
 use crate::bytes::bytes_value;
@@ -139,6 +139,28 @@ fn settime_call(line: &Value) -> Option<Call>
     })
 }
 
+fn dup_call(value: &Value) -> Option<Call>
+    ensures { result ≡ dup_call (view value.now) }
+{
+    let fd = Fd(required_i32(value, "fd")?);
+    Some(Call::Dup { fd })
+}
+
+fn dup2_call(value: &Value) -> Option<Call>
+    ensures { result ≡ dup2_call (view value.now) }
+{
+    let fd = Fd(required_i32(value, "fd")?);
+    let to = Fd(required_i32(value, "to")?);
+    Some(Call::Dup2 { fd, to })
+}
+
+fn close_call(value: &Value) -> Option<Call>
+    ensures { result ≡ close_call (view value.now) }
+{
+    let fd = Fd(required_i32(value, "fd")?);
+    Some(Call::Close { fd })
+}
+
 /// The call of an operation, or `None` where a key that must be there is missing or a value is out of its range.
 pub(crate) fn call_of(alloc: Global, op: CallOp, value: &Value) -> Result<Option<Call>, AllocError>
     ensures { IfOk result (λ c. c ≡ call_of op (view value.now)) }
@@ -157,5 +179,11 @@ pub(crate) fn call_of(alloc: Global, op: CallOp, value: &Value) -> Result<Option
         CallOp::Shutdown => Ok(shutdown_call(value)),
         CallOp::GetTime => Ok(gettime_call(value)),
         CallOp::SetTime => Ok(settime_call(value)),
+        CallOp::Dup => Ok(dup_call(value)),
+        CallOp::Dup2 => Ok(dup2_call(value)),
+        CallOp::Close => Ok(close_call(value)),
+        CallOp::Fork => Ok(Some(Call::Fork)),
+        CallOp::Exec => Ok(Some(Call::Exec)),
+        CallOp::Exit => Ok(Some(Call::Exit)),
     }
 }

@@ -24,6 +24,12 @@ pub(crate) enum CallOp {
     Shutdown,
     GetTime,
     SetTime,
+    Dup,
+    Dup2,
+    Close,
+    Fork,
+    Exec,
+    Exit,
 }
 
 #[derive(Clone, Copy, Debug, PartialEq, Eq)]
@@ -50,6 +56,12 @@ impl CallOp {
             "shutdown" => Some(CallOp::Shutdown),
             "gettime" => Some(CallOp::GetTime),
             "settime" => Some(CallOp::SetTime),
+            "dup" => Some(CallOp::Dup),
+            "dup2" => Some(CallOp::Dup2),
+            "close" => Some(CallOp::Close),
+            "fork" => Some(CallOp::Fork),
+            "exec" => Some(CallOp::Exec),
+            "exit" => Some(CallOp::Exit),
             _ => None,
         }
     }
@@ -70,7 +82,13 @@ impl CallOp {
             CallOp::Wait => has_only_keys(&["op", "by", "pid", "ep", "max", "timeout"], value),
             CallOp::Read => has_only_keys(&["op", "by", "pid", "fd", "n"], value),
             CallOp::Write => has_only_keys(&["op", "by", "pid", "fd", "hex", "fill"], value),
-            CallOp::Shutdown | CallOp::GetTime => has_only_keys(&["op", "by", "pid", "fd"], value),
+            CallOp::Shutdown | CallOp::GetTime | CallOp::Dup | CallOp::Close => {
+                has_only_keys(&["op", "by", "pid", "fd"], value)
+            }
+            CallOp::Dup2 => has_only_keys(&["op", "by", "pid", "fd", "to"], value),
+            CallOp::Fork | CallOp::Exec | CallOp::Exit => {
+                has_only_keys(&["op", "by", "pid"], value)
+            }
             CallOp::SetTime => has_only_keys(
                 &["op", "by", "pid", "fd", "value", "interval", "abs"],
                 value,

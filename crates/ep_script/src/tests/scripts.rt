@@ -129,6 +129,11 @@ const SHUT_SOCKET: &[(&str, &str)] = &[
         r#"{"op":"write","fd":4,"hex":"61"}"#,
         r#"{"err":[32,"EPIPE"]}"#,
     ),
+    (r#"{"op":"close","fd":4}"#, r#"{"done":true}"#),
+    (
+        r#"{"op":"wait","ep":5,"max":8,"timeout":0}"#,
+        r#"{"events":[[8209,3]]}"#,
+    ),
 ];
 
 /// An eventfd in semaphore mode, a timer that expires once, the last moment of the clock, and a file.
@@ -194,6 +199,93 @@ const FULL_SOCKET: &[(&str, &str)] = &[
         r#"{"op":"wait","ep":5,"max":8,"timeout":0}"#,
         r#"{"events":[[4,3]]}"#,
     ),
+    (r#"{"op":"close","fd":4}"#, r#"{"done":true}"#),
+    (
+        r#"{"op":"wait","ep":5,"max":8,"timeout":0}"#,
+        r#"{"events":[[20,3]]}"#,
+    ),
+    (r#"{"op":"read","fd":3,"n":8}"#, r#"{"bytes":""}"#),
+    (
+        r#"{"op":"write","fd":3,"hex":"61"}"#,
+        r#"{"err":[32,"EPIPE"]}"#,
+    ),
+];
+
+/// A pipe whose read end is closed: ERR, and EPIPE.
+const CLOSED_READER: &[(&str, &str)] = &[
+    (r#"{"op":"pipe"}"#, r#"{"two":[3,4]}"#),
+    (r#"{"op":"epoll"}"#, r#"{"num":5}"#),
+    (
+        r#"{"op":"ctl","ep":5,"act":"add","fd":4,"mask":"OUT","data":4}"#,
+        r#"{"done":true}"#,
+    ),
+    (r#"{"op":"close","fd":3}"#, r#"{"done":true}"#),
+    (
+        r#"{"op":"wait","ep":5,"max":8,"timeout":0}"#,
+        r#"{"events":[[12,4]]}"#,
+    ),
+    (
+        r#"{"op":"write","fd":4,"hex":"61"}"#,
+        r#"{"err":[32,"EPIPE"]}"#,
+    ),
+    (r#"{"op":"write","fd":4,"hex":""}"#, r#"{"num":0}"#),
+];
+
+/// Full tables, a child, and a process that ends.
+const FULL_TABLES: &[(&str, &str)] = &[
+    (r#"{"op":"pipe"}"#, r#"{"two":[3,4]}"#),
+    (r#"{"op":"pipe"}"#, r#"{"err":[24,"EMFILE"]}"#),
+    (r#"{"op":"fork"}"#, r#"{"num":2}"#),
+    (r#"{"op":"fork"}"#, r#"{"err":[11,"EAGAIN"]}"#),
+    (r#"{"op":"close","fd":3}"#, r#"{"done":true}"#),
+    (r#"{"op":"eventfd","init":0}"#, r#"{"num":3}"#),
+    (r#"{"op":"eventfd","init":0}"#, r#"{"num":5}"#),
+    (
+        r#"{"op":"eventfd","pid":2,"init":0}"#,
+        r#"{"err":[23,"ENFILE"]}"#,
+    ),
+    (r#"{"op":"write","fd":4,"hex":"61"}"#, r#"{"num":1}"#),
+    (r#"{"op":"read","pid":2,"fd":3,"n":8}"#, r#"{"bytes":"61"}"#),
+    (r#"{"op":"exit","pid":2}"#, r#"{"done":true}"#),
+    (
+        r#"{"op":"write","fd":4,"hex":"61"}"#,
+        r#"{"err":[32,"EPIPE"]}"#,
+    ),
+    (r#"{"op":"dup2","fd":4,"to":9}"#, r#"{"err":[9,"EBADF"]}"#),
+    (r#"{"op":"close","pid":2,"fd":0}"#, r#"{"err":[3,"ESRCH"]}"#),
+];
+
+/// exec closes what is flagged; a registration lives as long as its description.
+const EXEC: &[(&str, &str)] = &[
+    (r#"{"op":"pipe","cloexec":true}"#, r#"{"two":[3,4]}"#),
+    (r#"{"op":"epoll"}"#, r#"{"num":5}"#),
+    (r#"{"op":"dup","fd":3}"#, r#"{"num":6}"#),
+    (
+        r#"{"op":"ctl","ep":5,"act":"add","fd":3,"mask":"IN","data":1}"#,
+        r#"{"done":true}"#,
+    ),
+    (r#"{"op":"write","fd":4,"hex":"61"}"#, r#"{"num":1}"#),
+    (
+        r#"{"op":"wait","ep":5,"max":8,"timeout":0}"#,
+        r#"{"events":[[1,1]]}"#,
+    ),
+    (r#"{"op":"exec"}"#, r#"{"done":true}"#),
+    (
+        r#"{"op":"wait","ep":5,"max":8,"timeout":0}"#,
+        r#"{"events":[[17,1]]}"#,
+    ),
+    (r#"{"op":"read","fd":3,"n":8}"#, r#"{"err":[9,"EBADF"]}"#),
+    (r#"{"op":"read","fd":6,"n":8}"#, r#"{"bytes":"61"}"#),
+    (r#"{"op":"read","fd":6,"n":8}"#, r#"{"bytes":""}"#),
+    (
+        r#"{"op":"wait","ep":5,"max":8,"timeout":0}"#,
+        r#"{"events":[[16,1]]}"#,
+    ),
+    (r#"{"op":"close","fd":6}"#, r#"{"done":true}"#),
+    (
+        r#"{"op":"wait","ep":5,"max":8,"timeout":0}"#,
+        r#"{"events":[]}"#,
+    ),
 ];
 
 pub(crate) const SCRIPTS: &[Script] = &[
@@ -221,6 +313,18 @@ pub(crate) const SCRIPTS: &[Script] = &[
         limits: [16, 16, 2, 8, 4_096, 4],
         lines: FULL_SOCKET,
     },
+    Script {
+        limits: DEFAULT,
+        lines: CLOSED_READER,
+    },
+    Script {
+        limits: [6, 5, 2, 8, 4_096, 1],
+        lines: FULL_TABLES,
+    },
+    Script {
+        limits: DEFAULT,
+        lines: EXEC,
+    },
 ];
 
 /// Each is the only line of its script.
@@ -246,5 +350,9 @@ pub(crate) const SINGLE_LINES: &[(&str, &str)] = &[
     (r#"{"op":"tick","n":1.0}"#, r#"{"bad":1}"#),
     (r#"{"op":"tick","n":1,"pid":1}"#, r#"{"bad":1}"#),
     (r#"{"op":"resume","by":4}"#, r#"{"bad":1}"#),
-    (r#"{"op":"dup","fd":0}"#, r#"{"bad":1}"#),
+    (r#"{"op":"dup","fd":0}"#, r#"{"num":3}"#),
+    (r#"{"op":"dup","fd":-1}"#, r#"{"err":[9,"EBADF"]}"#),
+    (r#"{"op":"dup","fd":2147483648}"#, r#"{"bad":1}"#),
+    (r#"{"op":"dup","fd":0,"x":1}"#, r#"{"bad":1}"#),
+    (r#"{"op":"close","pid":2,"fd":0}"#, r#"{"err":[3,"ESRCH"]}"#),
 ];

@@ -120,6 +120,18 @@ fn reads_each_further_operation(rt: HostRuntime) -> Result<(), Fail> {
             },
         ),
         ("{\"op\":\"gettime\",\"fd\":4}", Call::GetTime { fd: Fd(4) }),
+        ("{\"op\":\"dup\",\"fd\":-1}", Call::Dup { fd: Fd(-1) }),
+        (
+            "{\"op\":\"dup2\",\"to\":7,\"fd\":3}",
+            Call::Dup2 {
+                fd: Fd(3),
+                to: Fd(7),
+            },
+        ),
+        ("{\"op\":\"close\",\"fd\":3}", Call::Close { fd: Fd(3) }),
+        ("{\"op\":\"fork\"}", Call::Fork),
+        ("{\"op\":\"exec\"}", Call::Exec),
+        ("{\"op\":\"exit\"}", Call::Exit),
         (
             "{\"op\":\"settime\",\"fd\":4,\"value\":3}",
             Call::SetTime {
@@ -259,12 +271,10 @@ fn refuses_what_is_no_further_operation(rt: HostRuntime) -> Result<(), Fail> {
         "{\"op\":\"settime\",\"fd\":4,\"value\":1,\"interval\":18446744073709551616}",
         "{\"op\":\"settime\",\"fd\":4,\"value\":1,\"abs\":0}",
         "{\"op\":\"resume\",\"by\":4}",
-        "{\"op\":\"dup\",\"fd\":0}",
-        "{\"op\":\"dup2\",\"fd\":0,\"to\":1}",
-        "{\"op\":\"close\",\"fd\":0}",
-        "{\"op\":\"fork\"}",
-        "{\"op\":\"exec\"}",
-        "{\"op\":\"exit\"}",
+        "{\"op\":\"dup\",\"fd\":2147483648}",
+        "{\"op\":\"dup\",\"fd\":0,\"x\":1}",
+        "{\"op\":\"dup2\",\"fd\":0}",
+        "{\"op\":\"fork\",\"fd\":0}",
     ];
     for line in lines {
         let found = read_line(rt.alloc(), line.as_bytes())?;

@@ -1,21 +1,27 @@
-use Rattle.std.proofs.Common.{◌≡◌, ℕ, ℤ, Bool, List, [], ◌∷◌, ◌++◌, not, of_z, refl, rules, sym, ap, ◌∙◌, subst, to_z, w32, w64}
+use Rattle.std.proofs.Common.{◌≡◌, ℕ, ℤ, Bool, List, [], ◌∷◌, ◌++◌, ◌==◌, Some, length, nat_le, not, of_z, refl, rules, sym, ap, ◌∙◌, subst, to_z, w32, w64}
 use Rattle.std.proofs.lemmas.Int.{to_z-of_z}
+use Rattle.std.specs.List.{list_any}
 use mir.Val.{SFits}
 use Rattle.ep_base.specs.declared.answer.Answer.{Answer}
 use Rattle.ep_base.specs.declared.call.Call.{Call}
-use Rattle.ep_base.specs.declared.call.Call.TheVariants.{EpollCreate, EpollCtl, EpollWait, EventFd, GetTime, Pipe as PipeCall, Plain, Read, SetTime, Shutdown, SocketPair, TimerFd, Write}
+use Rattle.ep_base.specs.declared.call.Call.TheVariants.{Close, Dup, Dup2, EpollCreate, EpollCtl, EpollWait, EventFd, Exec, Exit, Fork, Pipe as PipeCall, Plain, SocketPair, TimerFd}
 use Rattle.ep_base.specs.declared.errno.Errno.{Errno}
-use Rattle.ep_base.specs.declared.errno.Errno.TheVariants.{Einval}
+use Rattle.ep_base.specs.declared.errno.Errno.TheVariants.{Eagain, Ebadf, Ebusy, Einval, Emfile}
+use Rattle.ep_base.specs.Limits.{Limits}
+use Rattle.ep_base.specs.declared.answer.Answer.TheVariants.{Done, Num}
+use Rattle.ep_machine.specs.Files.{Files, named_by, names_nothing, numbers_of}
+use Rattle.ep_machine.specs.Lists.{numbered}
 use Rattle.ep_machine.specs.Objects.{Object, counter, instance, pair, pipe, plain, timer}
 use Rattle.ep_machine.specs.Pipe.{new_pipe}
 use Rattle.ep_machine.specs.Refusal.{call_refusals, is_clock}
 use Rattle.ep_machine.specs.Sockets.{new_pair}
-use Rattle.ep_machine.specs.State.{State}
-use Rattle.ep_machine.specs.Step.{call_change}
-use Rattle.ep_machine.specs.Tables.{answer_one, answer_two, create_one, create_two, one_refusals, two_refusals}
+use Rattle.ep_machine.specs.State.{State, Waiter}
+use Rattle.ep_machine.specs.Step.{call_change, files_change}
+use Rattle.ep_machine.specs.Tables.{answer_one, answer_two, close, create_one, create_two, dup, dup2, exec, exit, fork, is_in_range, one_free, one_refusals, two_refusals}
+use Rattle.ep_machine.specs.Watches.{number_in}
 use Rattle.ep_machine.specs.Timer.{new_timer}
 use Rattle.ep_plain.specs.Moves.{Goes, Opens, Parts}
-use Rattle.ep_plain.proofs.Opening.{object_called, object_limits, object_linked, on_object_is, one_goes, opens_limits, opens_linked, two_goes}
+use Rattle.ep_plain.proofs.Opening.{files_goes, object_called, object_limits, object_linked, on_object_is, one_goes, opens_limits, opens_linked, two_goes}
 use Rattle.ep_plain.proofs.act.act_call.Goals as goal
 
 pub returns-in_ok-acted-in-Pipe-clause-ok : goal.returns-in_ok-acted-in-Pipe-clause-ok
@@ -183,3 +189,115 @@ returns-in_ok-acted-in-Read-clause-kept c = object_limits c.args.tables.now c.ob
 
 pub returns-in_ok-acted-in-Read-clause-linked : goal.returns-in_ok-acted-in-Read-clause-linked
 returns-in_ok-acted-in-Read-clause-linked c = object_linked c.args.tables.now c.object_call.new.tables c.args.pid.0 c.in-Read.fd c.args.now c.args.call.now c.in_ok-acted-in-Read.acted.answer c.in_ok-acted-in-Read.ensures.ok c.args.interest.now c.requires.linked
+
+pub returns-in_ok-acted-in-Dup-clause-ok : goal.returns-in_ok-acted-in-Dup-clause-ok
+returns-in_ok-acted-in-Dup-clause-ok c = λ caller s at sound quiet stands.
+    let v = c.args.tables.now in
+    let new = c.dup.new.tables in
+    let r = c.args.interest.now in
+    let limits = c.args.limits.now in
+    let p = c.args.pid.0 in
+    let x = c.in-Dup in
+    let acted = c.in_ok-acted-in-Dup.acted in
+    let P : Call → List ℕ → Type 0 = λ call ks. Goes (call_refusals limits s p call) (call_change limits s caller p call ks) s acted.answer ks (record { tables = new; interest = r; now = c.args.now }) in
+    let tests : Limits → Files → List (Bool × Errno) = λ l f. (names_nothing f p x.fd.0, Ebadf) ∷ (nat_le l.descriptors (one_free (numbers_of f p)), Emfile) ∷ [] in
+    let to : Files → Answer = λ f. answer_one f p in
+    let after : Files → Files = λ f. dup f p (named_by f p x.fd.0) in
+    subst (λ (call : Call). P call acted.picked) (sym x.is) (subst (P (Dup x.fd)) (sym c.in_ok-acted-in-Dup.ensures.picked)
+    (files_goes limits v new r c.args.now s p acted.answer c.requires.linked stands c.requires.limits tests to after c.in_ok-acted-in-Dup.ensures.ok))
+
+pub returns-in_ok-acted-in-Dup-clause-linked : goal.returns-in_ok-acted-in-Dup-clause-linked
+returns-in_ok-acted-in-Dup-clause-linked c =
+    let v = c.args.tables.now in
+    let p = c.args.pid.0 in
+    let x = c.in-Dup in
+    opens_linked ((names_nothing v.files p x.fd.0, Ebadf) ∷ (nat_le v.limits.descriptors (one_free (numbers_of v.files p)), Emfile) ∷ []) (answer_one v.files p) (dup v.files p (named_by v.files p x.fd.0)) c.in_ok-acted-in-Dup.acted.answer v c.dup.new.tables c.in_ok-acted-in-Dup.ensures.ok c.args.interest.now c.requires.linked
+
+pub returns-in_ok-acted-in-Dup2-clause-ok : goal.returns-in_ok-acted-in-Dup2-clause-ok
+returns-in_ok-acted-in-Dup2-clause-ok c = λ caller s at sound quiet stands.
+    let v = c.args.tables.now in
+    let new = c.dup2.new.tables in
+    let r = c.args.interest.now in
+    let limits = c.args.limits.now in
+    let p = c.args.pid.0 in
+    let x = c.in-Dup2 in
+    let acted = c.in_ok-acted-in-Dup2.acted in
+    let P : Call → List ℕ → Type 0 = λ call ks. Goes (call_refusals limits s p call) (call_change limits s caller p call ks) s acted.answer ks (record { tables = new; interest = r; now = c.args.now }) in
+    let tests : Limits → Files → List (Bool × Errno) = λ l f. (names_nothing f p x.fd.0, Ebadf) ∷ (not (is_in_range l x.to.0), Ebadf) ∷ [] in
+    let to : Files → Answer = λ f. Num (number_in x.to.0) in
+    let after : Files → Files = λ f. dup2 f p x.fd.0 x.to.0 (named_by f p x.fd.0) in
+    subst (λ (call : Call). P call acted.picked) (sym x.is) (subst (P (Dup2 x.fd x.to)) (sym c.in_ok-acted-in-Dup2.ensures.picked)
+    (files_goes limits v new r c.args.now s p acted.answer c.requires.linked stands c.requires.limits tests to after c.in_ok-acted-in-Dup2.ensures.ok))
+
+pub returns-in_ok-acted-in-Dup2-clause-linked : goal.returns-in_ok-acted-in-Dup2-clause-linked
+returns-in_ok-acted-in-Dup2-clause-linked c =
+    let v = c.args.tables.now in
+    let p = c.args.pid.0 in
+    let x = c.in-Dup2 in
+    opens_linked ((names_nothing v.files p x.fd.0, Ebadf) ∷ (not (is_in_range v.limits x.to.0), Ebadf) ∷ []) (Num (number_in x.to.0)) (dup2 v.files p x.fd.0 x.to.0 (named_by v.files p x.fd.0)) c.in_ok-acted-in-Dup2.acted.answer v c.dup2.new.tables c.in_ok-acted-in-Dup2.ensures.ok c.args.interest.now c.requires.linked
+
+pub returns-in-Close-clause-ok : goal.returns-in-Close-clause-ok
+returns-in-Close-clause-ok c = λ caller s at sound quiet stands.
+    let v = c.args.tables.now in
+    let new = c.close-acted.new.tables in
+    let r = c.args.interest.now in
+    let limits = c.args.limits.now in
+    let p = c.args.pid.0 in
+    let x = c.in-Close in
+    let acted = c.close-acted.result in
+    let P : Call → List ℕ → Type 0 = λ call ks. Goes (call_refusals limits s p call) (call_change limits s caller p call ks) s acted.answer ks (record { tables = new; interest = r; now = c.args.now }) in
+    let tests : Limits → Files → List (Bool × Errno) = λ l f. (names_nothing f p x.fd.0, Ebadf) ∷ [] in
+    let to : Files → Answer = λ f. Done in
+    let after : Files → Files = λ f. close f p x.fd.0 in
+    subst (λ (call : Call). P call acted.picked) (sym x.is) (subst (P (Close x.fd)) (sym c.close-acted.ensures.picked)
+    (files_goes limits v new r c.args.now s p acted.answer c.requires.linked stands c.requires.limits tests to after c.close-acted.ensures.ok))
+
+pub returns-in_ok-acted-in-Fork-clause-ok : goal.returns-in_ok-acted-in-Fork-clause-ok
+returns-in_ok-acted-in-Fork-clause-ok c = λ caller s at sound quiet stands.
+    let v = c.args.tables.now in
+    let new = c.fork.new.tables in
+    let r = c.args.interest.now in
+    let limits = c.args.limits.now in
+    let p = c.args.pid.0 in
+    let x = c.in-Fork in
+    let acted = c.in_ok-acted-in-Fork.acted in
+    let P : Call → List ℕ → Type 0 = λ call ks. Goes (call_refusals limits s p call) (call_change limits s caller p call ks) s acted.answer ks (record { tables = new; interest = r; now = c.args.now }) in
+    let tests : Limits → Files → List (Bool × Errno) = λ l f. (nat_le l.processes (length (numbered 0 f.tables)), Eagain) ∷ [] in
+    let to : Files → Answer = λ f. Num (length f.tables) in
+    let after : Files → Files = λ f. fork f p in
+    subst (λ (call : Call). P call acted.picked) (sym x.is) (subst (P Fork) (sym c.in_ok-acted-in-Fork.ensures.picked)
+    (files_goes limits v new r c.args.now s p acted.answer c.requires.linked stands c.requires.limits tests to after c.in_ok-acted-in-Fork.ensures.ok))
+
+pub returns-in-Exec-clause-ok : goal.returns-in-Exec-clause-ok
+returns-in-Exec-clause-ok c = λ caller s at sound quiet stands.
+    let v = c.args.tables.now in
+    let new = c.exec-acted.new.tables in
+    let r = c.args.interest.now in
+    let limits = c.args.limits.now in
+    let p = c.args.pid.0 in
+    let x = c.in-Exec in
+    let acted = c.exec-acted.result in
+    let P : Call → List ℕ → Type 0 = λ call ks. Goes (call_refusals limits s p call) (call_change limits s caller p call ks) s acted.answer ks (record { tables = new; interest = r; now = c.args.now }) in
+    let tests : Limits → Files → List (Bool × Errno) = λ l f. [] in
+    let to : Files → Answer = λ f. Done in
+    let after : Files → Files = λ f. exec f p in
+    subst (λ (call : Call). P call acted.picked) (sym x.is) (subst (P Exec) (sym c.exec-acted.ensures.picked)
+    (subst (λ (b : Bool). Goes ((b, Ebusy) ∷ []) (Some (files_change s Done (exec s.files p))) s acted.answer [] (record { tables = new; interest = r; now = c.args.now })) (sym (ap (λ (ws : List Waiter). list_any (λ w. w.process == p) ws) quiet.waiters))
+    (files_goes limits v new r c.args.now s p acted.answer c.requires.linked stands c.requires.limits tests to after c.exec-acted.ensures.ok)))
+
+pub returns-in-Exit-clause-ok : goal.returns-in-Exit-clause-ok
+returns-in-Exit-clause-ok c = λ caller s at sound quiet stands.
+    let v = c.args.tables.now in
+    let new = c.exit-acted.new.tables in
+    let r = c.args.interest.now in
+    let limits = c.args.limits.now in
+    let p = c.args.pid.0 in
+    let x = c.in-Exit in
+    let acted = c.exit-acted.result in
+    let P : Call → List ℕ → Type 0 = λ call ks. Goes (call_refusals limits s p call) (call_change limits s caller p call ks) s acted.answer ks (record { tables = new; interest = r; now = c.args.now }) in
+    let tests : Limits → Files → List (Bool × Errno) = λ l f. [] in
+    let to : Files → Answer = λ f. Done in
+    let after : Files → Files = λ f. exit f p in
+    subst (λ (call : Call). P call acted.picked) (sym x.is) (subst (P Exit) (sym c.exit-acted.ensures.picked)
+    (subst (λ (b : Bool). Goes ((b, Ebusy) ∷ []) (Some (files_change s Done (exit s.files p))) s acted.answer [] (record { tables = new; interest = r; now = c.args.now })) (sym (ap (λ (ws : List Waiter). list_any (λ w. w.process == p) ws) quiet.waiters))
+    (files_goes limits v new r c.args.now s p acted.answer c.requires.linked stands c.requires.limits tests to after c.exit-acted.ensures.ok)))

@@ -1,4 +1,4 @@
-use Rattle.std.proofs.Common.{◌≡◌, ◌+◌, ◌*◌, ◌≤◌, ℕ, List, [], ◌∷◌, Option, Some, length, map, refl, ap, sym, ◌∙◌, arith, subst}
+use Rattle.std.proofs.Common.{◌≡◌, ◌+◌, ◌*◌, ◌≤◌, ℕ, zero, suc, List, [], ◌∷◌, Option, Some, length, map, refl, ap, sym, ◌∙◌, arith, subst}
 use Rattle.std.proofs.lemmas.List.Elements.{All-nil}
 use Rattle.ep_base.specs.declared.record.Record.{Record}
 use Rattle.ep_interest.specs.declared.entry.Entry.{Entry}
@@ -9,6 +9,7 @@ use Rattle.ep_machine.proofs.Quietness.{quiet_opening}
 use Rattle.ep_machine.proofs.Soundness.{sound_opening}
 use Rattle.ep_plain.specs.Stands.{AreLinked, IsLinked, watch_at}
 use Rattle.std.specs.Prelude.{All}
+use Rattle.ep_table.specs.Value.{count_at}
 use Rattle.ep_plain.proofs.plain.PlainKernel.new.Goals as goal
 
 pub invariant_of-result : goal.invariant_of-result
@@ -34,8 +35,12 @@ invariant_of-result c =
         added = sym c.new-2.ensures.added;
       };
       linked = subst (λ (xs : List Entry). All (IsLinked v.keys) xs) (sym none) (All-nil (IsLinked v.keys));
+      unheld = λ d. ap (λ (hs : List ℕ). count_at hs d) c.in_ok-new.ensures.holds ∙ none_held d;
       limits = c.in_ok-new.ensures.limits;
       added = omega (arith, c.new-2.ensures.added);
       descriptions = omega (arith, places);
       objects = omega (arith, things);
-    }
+    } where
+      none_held : (d : ℕ) → count_at (0 ∷ []) d ≡ 0
+      none_held zero = refl
+      none_held (suc d) = refl

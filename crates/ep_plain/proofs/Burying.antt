@@ -1,0 +1,223 @@
+-- Descriptions die one by one, and the registrations that go with each.
+use Rattle.std.proofs.Common.{◌≡◌, ◌≢◌, ◌∙◌, ◌+◌, ◌<◌, ◌==◌, ◌&&◌, ◌||◌, ◌⊎◌, ◌++◌, ℕ, zero, suc, All, Bool, true, false, IsSome, List, [], ◌∷◌, None, Option, Some, ap, append_assoc, arith, cond, filter, get_or, inl, inr, length, map, not, refl, set, slice_index_or, subst, sym, unwrap_or}
+use Rattle.std.specs.List.{AllByRecursion}
+use Rattle.std.proofs.lemmas.Bool.{cases_Bool, false≢true}
+use Rattle.std.proofs.lemmas.Bool.Decides.{nat_tests}
+use Rattle.std.proofs.lemmas.List.{length-set, map-append}
+use Rattle.std.proofs.lemmas.Option.{none-some}
+use Rattle.std.proofs.lemmas.List.Elements.{All-cons, All-head, All-nil, All-tail}
+use Rattle.ep_base.specs.declared.ids.DescId.{DescId}
+use Rattle.ep_machine.specs.Deaths.{die, die_all}
+use Rattle.ep_machine.specs.Files.{Files, Place, place_of}
+use Rattle.ep_machine.specs.Lists.{is_among}
+use Rattle.ep_machine.specs.State.{Watch}
+use Rattle.ep_machine.proofs.Dying.{ArePlaced, after_all, after_first, numbers, raised_before}
+use Rattle.ep_interest.specs.Registrations.{Registrations, is_apart_from}
+use Rattle.ep_interest.specs.declared.entry.Entry.{Entry}
+use Rattle.ep_plain.specs.Burial.{Buries, is_untouched}
+use Rattle.ep_plain.specs.Stands.{AreLinked, IsLinked, number_at, watch_at}
+use Rattle.ep_plain.proofs.Keys.{same_keys}
+use Rattle.ep_table.specs.Closing.{Takes}
+use Rattle.ep_table.specs.Value.{Seen, Sound, number_under}
+use Rattle.ep_table.specs.declared.words.Dead.{Dead}
+
+-- Lists of the dead.
+module _ (s : Files) where
+  after_more : (xs : List (ℕ × Place)) (x : ℕ × Place) → after_all s (xs ++ x ∷ []) ≡ after_all (after_all s xs) (x ∷ [])
+  after_more [] x = refl
+  after_more (y ∷ ys) x =
+      raised_before (die (s, []) y).0 (die (s, []) y).1 (ys ++ x ∷ [])
+      ∙ (more (die (s, []) y).0 ys x
+      ∙ ap (λ (f : Files). after_all f (x ∷ [])) (sym (raised_before (die (s, []) y).0 (die (s, []) y).1 ys))) where
+        more : (f : Files) (zs : List (ℕ × Place)) (z : ℕ × Place) → after_all f (zs ++ z ∷ []) ≡ after_all (after_all f zs) (z ∷ [])
+        more f [] z = refl
+        more f (w ∷ ws) z =
+            raised_before (die (f, []) w).0 (die (f, []) w).1 (ws ++ z ∷ [])
+            ∙ (more (die (f, []) w).0 ws z
+            ∙ ap (λ (g : Files). after_all g (z ∷ [])) (sym (raised_before (die (f, []) w).0 (die (f, []) w).1 ws)))
+
+placed_more : (s : Files) (xs : List (ℕ × Place)) (x : ℕ × Place) → ArePlaced s xs → place_of s x.0 ≡ Some x.1 → ArePlaced s (xs ++ x ∷ [])
+placed_more s [] x h is = (is, tt)
+placed_more s (y ∷ ys) x h is = (h.0, placed_more s ys x h.1 is)
+
+among_more : (xs : List (ℕ × Place)) (x : ℕ × Place) (d : ℕ) → is_among (numbers (xs ++ x ∷ [])) d ≡ (is_among (numbers xs) d || (d == x.0))
+among_more [] x d = or_false (d == x.0) where
+  or_false : (b : Bool) → (b || false) ≡ b
+  or_false true = refl
+  or_false false = refl
+among_more (y ∷ ys) x d = ap (λ (b : Bool). (d == y.0) || b) (among_more ys x d) ∙ or_assoc (d == y.0) (is_among (numbers ys) d) (d == x.0) where
+  or_assoc : (a b c : Bool) → (a || (b || c)) ≡ ((a || b) || c)
+  or_assoc true b c = refl
+  or_assoc false b c = refl
+
+not_both : (a b c d : Bool) → (not (a || b) && not (c || d)) ≡ ((not a && not c) && (not b && not d))
+not_both true b c d = refl
+not_both false true true d = refl
+not_both false true false d = refl
+not_both false false true d = refl
+not_both false false false d = refl
+
+untouched_more : (xs : List (ℕ × Place)) (x : ℕ × Place) (w : Watch) → is_untouched (numbers (xs ++ x ∷ [])) w ≡ (is_untouched (numbers xs) w && (not (w.instance == x.0) && not (w.target == x.0)))
+untouched_more xs x w =
+    (λ i. not (among_more xs x w.instance i) && not (among_more xs x w.target i))
+    ∙ not_both (is_among (numbers xs) w.instance) (w.instance == x.0) (is_among (numbers xs) w.target) (w.target == x.0)
+
+-- the registrations that one death leaves, of those that others left
+abbrev leaves : ℕ → Watch → Bool
+leaves d w = not (w.instance == d) && not (w.target == d)
+
+filter_more : (xs : List (ℕ × Place)) (x : ℕ × Place) (ws : List Watch) → filter (is_untouched (numbers (xs ++ x ∷ []))) ws ≡ filter (leaves x.0) (filter (is_untouched (numbers xs)) ws)
+filter_more xs x [] = refl
+filter_more xs x (w ∷ ws) =
+    let rest = filter_more xs x ws in
+    ap (λ (b : Bool). cond b (w ∷ filter (is_untouched (numbers (xs ++ x ∷ []))) ws) (filter (is_untouched (numbers (xs ++ x ∷ []))) ws)) (untouched_more xs x w)
+    ∙ ((λ i. cond (is_untouched (numbers xs) w && leaves x.0 w) (w ∷ rest i) (rest i)) ∙ split (is_untouched (numbers xs) w)) where
+      split : (a : Bool) → cond (a && leaves x.0 w) (w ∷ filter (leaves x.0) (filter (is_untouched (numbers xs)) ws)) (filter (leaves x.0) (filter (is_untouched (numbers xs)) ws)) ≡ filter (leaves x.0) (cond a (w ∷ filter (is_untouched (numbers xs)) ws) (filter (is_untouched (numbers xs)) ws))
+      split true = refl
+      split false = refl
+
+-- One death.
+module _ (v w : Seen) (dead : Dead) (takes : Takes v w dead) (sound : Sound v) where
+  key_lives : IsSome (number_under v dead.desc)
+  key_lives = subst (λ (o : Option ℕ). IsSome o) (sym takes.key_is) refl
+
+  number_is : number_at v.keys dead.desc ≡ takes.number
+  number_is = ap (λ (o : Option ℕ). unwrap_or o 0) takes.key_is
+
+  get_other : (xs : List (Option ℕ)) (k j : ℕ) → (j == k) ≡ false → get_or (set xs k None) j None ≡ get_or xs j None
+  get_other [] k j h = refl
+  get_other (x ∷ xs) zero zero h = absurd (false≢true (sym h ∙ same 0)) where
+    same : (n : ℕ) → (n == n) ≡ true
+    same n = grind (arith, nat_tests)
+  get_other (x ∷ xs) zero (suc j) h = refl
+  get_other (x ∷ xs) (suc k) zero h = refl
+  get_other (x ∷ xs) (suc k) (suc j) h = get_other xs k j (down j k h) where
+    down : (a b : ℕ) → (suc a == suc b) ≡ false → (a == b) ≡ false
+    down a b e = grind (arith, nat_tests, e)
+
+  -- a key but the dead one keeps its number
+  same_number : (key : DescId) → (key.0 == dead.desc.0) ≡ false → slice_index_or w.keys key.0 None ≡ slice_index_or v.keys key.0 None
+  same_number key h = ap (λ (ks : List (Option ℕ)). get_or ks key.0 None) takes.keys ∙ get_other v.keys dead.desc.0 key.0 h
+
+  module _ (x : Entry) (link : IsLinked v.keys x) where
+    of_instance : (number_at v.keys x.instance == takes.number) ≡ (x.instance.0 == dead.desc.0)
+    of_instance = ap (λ (n : ℕ). number_at v.keys x.instance == n) (sym number_is) ∙ same_keys v x.instance dead.desc sound link.instance key_lives
+
+    on_target : (number_at v.keys x.desc == takes.number) ≡ (x.desc.0 == dead.desc.0)
+    on_target = ap (λ (n : ℕ). number_at v.keys x.desc == n) (sym number_is) ∙ same_keys v x.desc dead.desc sound link.desc key_lives
+
+    -- it goes with the dead one for the machine as for the interest sets
+    pub stays : leaves takes.number (watch_at v.keys x) ≡ is_apart_from dead.desc x
+    stays = λ i. not (of_instance i) && not (on_target i)
+
+    both : (a b : Bool) → (not a && not b) ≡ true → (a ≡ false) × (b ≡ false)
+    both true b h = absurd (false≢true h)
+    both false true h = absurd (false≢true h)
+    both false false h = (refl, refl)
+
+    module _ (apart : is_apart_from dead.desc x ≡ true) where
+      two : ((x.instance.0 == dead.desc.0) ≡ false) × ((x.desc.0 == dead.desc.0) ≡ false)
+      two = both (x.instance.0 == dead.desc.0) (x.desc.0 == dead.desc.0) apart
+
+      pub same_watch : watch_at w.keys x ≡ watch_at v.keys x
+      same_watch =
+          let a = ap (λ (o : Option ℕ). unwrap_or o 0) (same_number x.instance two.0) in
+          let b = ap (λ (o : Option ℕ). unwrap_or o 0) (same_number x.desc two.1) in
+          λ i. record (watch_at v.keys x) { instance = a i; target = b i }
+
+      pub still_linked : IsLinked w.keys x
+      still_linked = record {
+        instance = subst (λ (o : Option ℕ). IsSome o) (sym (same_number x.instance two.0)) link.instance;
+        desc = subst (λ (o : Option ℕ). IsSome o) (sym (same_number x.desc two.1)) link.desc;
+        fd = link.fd;
+        armed = link.armed;
+      }
+
+  pub watches_left : (xs : List Entry) → All (IsLinked v.keys) xs → map (watch_at w.keys) (filter (is_apart_from dead.desc) xs) ≡ filter (leaves takes.number) (map (watch_at v.keys) xs)
+  watches_left [] h = refl
+  watches_left (x ∷ xs) h =
+      let link = All-head (IsLinked v.keys) x xs h in
+      let rest = watches_left xs (All-tail (IsLinked v.keys) x xs h) in
+      let there = ap (λ (b : Bool). cond b (watch_at v.keys x ∷ filter (leaves takes.number) (map (watch_at v.keys) xs)) (filter (leaves takes.number) (map (watch_at v.keys) xs))) (stays x link) in
+      elim (cases_Bool (is_apart_from dead.desc x)) [
+        | inl apart ↦
+            ap (λ (b : Bool). map (watch_at w.keys) (cond b (x ∷ filter (is_apart_from dead.desc) xs) (filter (is_apart_from dead.desc) xs))) apart
+            ∙ ((λ i. same_watch x link apart i ∷ rest i)
+            ∙ sym (there ∙ ap (λ (b : Bool). cond b (watch_at v.keys x ∷ filter (leaves takes.number) (map (watch_at v.keys) xs)) (filter (leaves takes.number) (map (watch_at v.keys) xs))) apart))
+        | inr gone ↦
+            ap (λ (b : Bool). map (watch_at w.keys) (cond b (x ∷ filter (is_apart_from dead.desc) xs) (filter (is_apart_from dead.desc) xs))) gone
+            ∙ (rest
+            ∙ sym (there ∙ ap (λ (b : Bool). cond b (watch_at v.keys x ∷ filter (leaves takes.number) (map (watch_at v.keys) xs)) (filter (leaves takes.number) (map (watch_at v.keys) xs))) gone))
+      ]
+
+  pub linked_left : (xs : List Entry) → All (IsLinked v.keys) xs → All (IsLinked w.keys) (filter (is_apart_from dead.desc) xs)
+  linked_left [] h = All-nil (IsLinked w.keys)
+  linked_left (x ∷ xs) h =
+      let link = All-head (IsLinked v.keys) x xs h in
+      let rest = linked_left xs (All-tail (IsLinked v.keys) x xs h) in
+      elim (cases_Bool (is_apart_from dead.desc x)) [
+        | inl apart ↦ subst (λ (b : Bool). All (IsLinked w.keys) (cond b (x ∷ filter (is_apart_from dead.desc) xs) (filter (is_apart_from dead.desc) xs))) (sym apart) (All-cons (IsLinked w.keys) x (filter (is_apart_from dead.desc) xs) (still_linked x link apart) rest)
+        | inr gone ↦ subst (λ (b : Bool). All (IsLinked w.keys) (cond b (x ∷ filter (is_apart_from dead.desc) xs) (filter (is_apart_from dead.desc) xs))) (sym gone) rest
+      ]
+
+pub buries_none : (v : Seen) (r : Registrations) → AreLinked v r → Buries v r v r
+buries_none v r linked = record {
+  dead = [];
+  numbers = refl;
+  placed = tt;
+  files = refl;
+  descriptions = refl;
+  objects = refl;
+  limits = refl;
+  holds = refl;
+  watches = sym (all_stay (map (watch_at v.keys) r.entries));
+  linked = linked;
+  added = refl;
+} where
+  all_stay : (ws : List Watch) → filter (is_untouched []) ws ≡ ws
+  all_stay [] = refl
+  all_stay (w ∷ ws) = ap (λ (us : List Watch). w ∷ us) (all_stay ws)
+
+-- one death more
+module _ (v0 v w : Seen) (r0 r q : Registrations) (dead : Dead) (before : Buries v0 r0 v r) (takes : Takes v w dead) (sound : Sound v)
+    (entries : q.entries ≡ filter (is_apart_from dead.desc) r.entries) (added : q.added ≡ r.added)
+    (placed : place_of v0.files takes.number ≡ Some takes.place) where
+  abbrev one : ℕ × Place
+  one = (takes.number, takes.place)
+
+  files_next : w.files ≡ after_all v0.files (before.dead ++ one ∷ [])
+  files_next = takes.files ∙ (ap (λ (f : Files). after_all f (one ∷ [])) before.files ∙ sym (after_more v0.files before.dead one))
+
+  pub buries_more : Buries v0 r0 w q
+  buries_more = record {
+    dead = before.dead ++ one ∷ [];
+    numbers =
+        ap (λ (ks : List ℕ). ks ++ w.dying) (map-append (λ (x : ℕ × Place). x.0) before.dead (one ∷ []))
+        ∙ (append_assoc (numbers before.dead) (takes.number ∷ []) w.dying
+        ∙ (ap (λ (ks : List ℕ). numbers before.dead ++ ks) (sym takes.dying) ∙ before.numbers));
+    placed = placed_more v0.files before.dead one before.placed placed;
+    files = files_next;
+    descriptions = ap (λ (f : Files). length f.descriptions) takes.files ∙ (length-set v.files.descriptions takes.number None ∙ before.descriptions);
+    objects = ap (λ (f : Files). length f.objects) takes.files ∙ (length-set v.files.objects takes.place.object _ ∙ before.objects);
+    limits = takes.limits ∙ before.limits;
+    holds = takes.holds ∙ before.holds;
+    watches =
+        ap (λ (xs : List Entry). map (watch_at w.keys) xs) entries
+        ∙ (watches_left v w dead takes sound r.entries before.linked
+        ∙ (ap (λ (ws : List Watch). filter (leaves takes.number) ws) before.watches
+        ∙ sym (filter_more before.dead one (map (watch_at v0.keys) r0.entries))));
+    linked = subst (λ (xs : List Entry). All (IsLinked w.keys) xs) (sym entries) (linked_left v w dead takes sound r.entries before.linked);
+    added = added ∙ before.added;
+  }
+
+-- what is there after some deaths was there before
+get_before : (ds : List (Option Place)) (k d : ℕ) (p : Place) → get_or (set ds k None) d None ≡ Some p → get_or ds d None ≡ Some p
+get_before [] k d p h = h
+get_before (q ∷ ds) zero zero p h = absurd (none-some p h)
+get_before (q ∷ ds) zero (suc d) p h = h
+get_before (q ∷ ds) (suc k) zero p h = h
+get_before (q ∷ ds) (suc k) (suc d) p h = get_before ds k d p h
+
+pub placed_before : (s : Files) (xs : List (ℕ × Place)) (d : ℕ) (p : Place) → place_of (after_all s xs) d ≡ Some p → place_of s d ≡ Some p
+placed_before s [] d p h = h
+placed_before s (x ∷ xs) d p h = get_before s.descriptions x.0 d p (placed_before (after_all s (x ∷ [])) xs d p (ap (λ (f : Files). place_of f d) (sym (after_first s x xs)) ∙ h))

@@ -1,0 +1,15 @@
+use Rattle.std.proofs.Common.{◌≡◌, ◌∙◌, ap, Some, sym}
+use Rattle.ep_machine.specs.Files.{Files, place_of}
+use Rattle.ep_plain.proofs.Burying.{buries_more, buries_none, placed_before}
+use Rattle.ep_plain.proofs.bury.end_each.Goals as goal
+
+pub loop-dead-init : goal.loop-dead-init
+loop-dead-init c = buries_none c.args.tables.now c.args.interest.now c.requires
+
+pub loop-dead-preserved : goal.loop-dead-preserved
+loop-dead-preserved c =
+    let takes = c.in-Some.ensures.some in
+    let before = c.loop-dead.invariant in
+    let there = ap (λ (f : Files). place_of f takes.number) (sym before.files) ∙ takes.place_is in
+    buries_more c.args.tables.now c.loop-dead.tables c.take_dead.new.self c.args.interest.now c.loop-dead.interest c.purge.new.self c.in-Some.dead before takes c.known.ensures c.purge.ensures.entries c.purge.ensures.added
+    (placed_before c.args.tables.now.files before.dead takes.number takes.place there)

@@ -1,0 +1,112 @@
+//! Calls on descriptors and processes: dup, dup2, close, fork, exec and exit.
+ghost use Rattle.std.specs.Prelude.{◌≡◌, [], ◌∷◌, IfOk, OnErr, OnOk, false, is_some, length, nat_le, not, true};
+ghost use Rattle.ep_base.specs.declared.answer.Answer.TheVariants.{Done, Num};
+ghost use Rattle.ep_base.specs.declared.errno.Errno.{Errno as AnErrno};
+ghost use Rattle.ep_machine.specs.Files.{named_by, names_nothing, numbers_of, table_of};
+ghost use Rattle.ep_machine.specs.Lists.{numbered};
+ghost use Rattle.ep_machine.specs.Tables.{answer_one, close as closed, dup as duplicated, dup2 as duplicated_to, exec as executed, exit as exited, fork as forked, is_in_range, one_free};
+ghost use Rattle.ep_machine.specs.Watches.{number_in};
+ghost use Rattle.ep_plain.specs.Acts.{is_no_memory};
+ghost use Rattle.ep_plain.specs.Moves.{Grows, Opens, Unheld};
+
+use crate::acted::Acted;
+use ep_base::{Fd, Pid};
+use ep_table::Tables;
+use std::alloc::{AllocError, Global};
+
+/// dup(2): another descriptor of what `fd` names, at the lowest free number, or EBADF or EMFILE.
+/// An `Err` is want of memory and leaves the tables.
+pub fn dup(alloc: Global, tables: &mut Tables, pid: Pid, fd: Fd) -> Result<Acted, AllocError>
+    requires process { is_some (table_of tables.old.files pid.0) ≡ true }
+    ensures ok { IfOk result (λ acted. Opens ((names_nothing tables.old.files pid.0 fd.0, AnErrno.Ebadf) ∷ (nat_le tables.old.limits.descriptors (one_free (numbers_of tables.old.files pid.0)), AnErrno.Emfile) ∷ []) (answer_one tables.old.files pid.0) (duplicated tables.old.files pid.0 (named_by tables.old.files pid.0 fd.0)) acted.answer tables.old tables.new) }
+    ensures copy { IfOk result (λ acted. acted.copy ≡ acted.answer) }
+    ensures picked { IfOk result (λ acted. acted.picked ≡ []) }
+    ensures real { IfOk result (λ acted. is_no_memory acted.answer ≡ false) }
+    ensures grows { OnOk result (Grows tables.old.files tables.new.files) }
+    ensures unheld { OnOk result (Unheld tables.old → Unheld tables.new) }
+    ensures err { OnErr result (tables.new ≡ tables.old) }
+{
+    let answer = tables.dup(pid, fd)?;
+    Ok(Acted::settled(alloc, answer))
+}
+
+/// dup2(2): the descriptor `to` names what `fd` does, and what it named before is closed; EBADF where `fd` names nothing or `to` is
+/// out of range. Two equal numbers leave all as it is.
+/// An `Err` is want of memory and leaves the tables.
+pub fn dup2(
+    alloc: Global,
+    tables: &mut Tables,
+    pid: Pid,
+    fd: Fd,
+    to: Fd,
+) -> Result<Acted, AllocError>
+    requires process { is_some (table_of tables.old.files pid.0) ≡ true }
+    ensures ok { IfOk result (λ acted. Opens ((names_nothing tables.old.files pid.0 fd.0, AnErrno.Ebadf) ∷ (not (is_in_range tables.old.limits to.0), AnErrno.Ebadf) ∷ []) (Num (number_in to.0)) (duplicated_to tables.old.files pid.0 fd.0 to.0 (named_by tables.old.files pid.0 fd.0)) acted.answer tables.old tables.new) }
+    ensures copy { IfOk result (λ acted. acted.copy ≡ acted.answer) }
+    ensures picked { IfOk result (λ acted. acted.picked ≡ []) }
+    ensures real { IfOk result (λ acted. is_no_memory acted.answer ≡ false) }
+    ensures grows { OnOk result (Grows tables.old.files tables.new.files) }
+    ensures unheld { OnOk result (Unheld tables.old → Unheld tables.new) }
+    ensures err { OnErr result (tables.new ≡ tables.old) }
+{
+    let answer = tables.dup2(pid, fd, to)?;
+    Ok(Acted::settled(alloc, answer))
+}
+
+/// close(2), or EBADF.
+pub fn close(alloc: Global, tables: &mut Tables, pid: Pid, fd: Fd) -> Acted
+    requires process { is_some (table_of tables.old.files pid.0) ≡ true }
+    ensures ok { Opens ((names_nothing tables.old.files pid.0 fd.0, AnErrno.Ebadf) ∷ []) Done (closed tables.old.files pid.0 fd.0) result.answer tables.old tables.new }
+    ensures copy { result.copy ≡ result.answer }
+    ensures picked { result.picked ≡ [] }
+    ensures real { is_no_memory result.answer ≡ false }
+    ensures grows { Grows tables.old.files tables.new.files }
+    ensures unheld { Unheld tables.old → Unheld tables.new }
+{
+    let answer = tables.close(pid, fd);
+    Acted::settled(alloc, answer)
+}
+
+/// fork(2): the number of a new process with a copy of the table, or EAGAIN.
+/// An `Err` is want of memory and leaves the tables.
+pub fn fork(alloc: Global, tables: &mut Tables, pid: Pid) -> Result<Acted, AllocError>
+    requires process { is_some (table_of tables.old.files pid.0) ≡ true }
+    ensures ok { IfOk result (λ acted. Opens ((nat_le tables.old.limits.processes (length (numbered 0 tables.old.files.tables)), AnErrno.Eagain) ∷ []) (Num (length tables.old.files.tables)) (forked tables.old.files pid.0) acted.answer tables.old tables.new) }
+    ensures copy { IfOk result (λ acted. acted.copy ≡ acted.answer) }
+    ensures picked { IfOk result (λ acted. acted.picked ≡ []) }
+    ensures real { IfOk result (λ acted. is_no_memory acted.answer ≡ false) }
+    ensures grows { OnOk result (Grows tables.old.files tables.new.files) }
+    ensures unheld { OnOk result (Unheld tables.old → Unheld tables.new) }
+    ensures err { OnErr result (tables.new ≡ tables.old) }
+{
+    let answer = tables.fork(pid)?;
+    Ok(Acted::settled(alloc, answer))
+}
+
+/// execve(2): closes the descriptors with close-on-exec. No caller is parked, so nothing refuses it.
+pub fn exec(alloc: Global, tables: &mut Tables, pid: Pid) -> Acted
+    requires process { is_some (table_of tables.old.files pid.0) ≡ true }
+    ensures ok { Opens ([]) Done (executed tables.old.files pid.0) result.answer tables.old tables.new }
+    ensures copy { result.copy ≡ result.answer }
+    ensures picked { result.picked ≡ [] }
+    ensures real { is_no_memory result.answer ≡ false }
+    ensures grows { Grows tables.old.files tables.new.files }
+    ensures unheld { Unheld tables.old → Unheld tables.new }
+{
+    let answer = tables.exec(pid);
+    Acted::settled(alloc, answer)
+}
+
+/// exit(2): closes all descriptors and ends the process. No caller is parked, so nothing refuses it.
+pub fn exit(alloc: Global, tables: &mut Tables, pid: Pid) -> Acted
+    requires process { is_some (table_of tables.old.files pid.0) ≡ true }
+    ensures ok { Opens ([]) Done (exited tables.old.files pid.0) result.answer tables.old tables.new }
+    ensures copy { result.copy ≡ result.answer }
+    ensures picked { result.picked ≡ [] }
+    ensures real { is_no_memory result.answer ≡ false }
+    ensures grows { Grows tables.old.files tables.new.files }
+    ensures unheld { Unheld tables.old → Unheld tables.new }
+{
+    let answer = tables.exit(pid);
+    Acted::settled(alloc, answer)
+}
