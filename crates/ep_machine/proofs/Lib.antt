@@ -14,3 +14,7 @@ pub mod Levels
 pub mod Least
 pub mod Distinct
 pub mod Rounds
+pub mod Marking
+pub mod Chains
+pub mod Instances
+pub mod Legality

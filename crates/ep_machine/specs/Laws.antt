@@ -18,6 +18,7 @@ use Rattle.ep_machine.specs.Sound.{Sound}
 use Rattle.ep_machine.specs.Spread.{is_reached, passes_on, spread}
 use Rattle.ep_machine.specs.State.{State, Watch, opening}
 use Rattle.ep_machine.specs.Step.{begun, step}
+use Rattle.ep_machine.specs.Waits.{is_marked_at, waits_at}
 use Rattle.ep_machine.specs.Watches.{is_legal, links}
 
 abbrev pub Member : {X : Type 0} → X → List X → Type 0
@@ -54,6 +55,14 @@ Determined = (limits : Limits) (past : List Record) (s t : State) → run limits
 -- in each state of a run registrations have numbers of their own, and none was reported after it came to be reportable
 abbrev pub EachSound : Type 0
 EachSound = (limits : Limits) (past : List Record) (s : State) → run limits opening past ≡ Some s → Sound s
+
+-- in each state of a run a ready instance with waiters has a marked one
+abbrev pub ReadyMarked : Type 0
+ReadyMarked = (limits : Limits) (past : List Record) (s : State) (e : ℕ) → run limits opening past ≡ Some s → waits_at s.waiters e ≡ true → is_ready s e ≡ true → is_marked_at s.waiters e ≡ true
+
+-- in each state of a run no chain has more than five instances, and none is a loop
+abbrev pub GraphStaysLegal : Type 0
+GraphStaysLegal = (limits : Limits) (past : List Record) (s : State) → run limits opening past ≡ Some s → is_legal (links s) ≡ true
 
 -- at the end of an event a description lives exactly where a table or a waiter names it
 abbrev pub NamedLives : Type 0

@@ -1,5 +1,5 @@
 //! Laws of the definitions. Each is the contract of a function that does nothing, so that it is proved.
-ghost use Rattle.ep_machine.specs.Laws.{DeathsInAnyOrder, Determined, EachSound, FairRounds, NamedLives, ReadyEquation, RefusalChangesNothing, SpreadEquation, SpreadLeast};
+ghost use Rattle.ep_machine.specs.Laws.{DeathsInAnyOrder, Determined, EachSound, FairRounds, GraphStaysLegal, NamedLives, ReadyEquation, ReadyMarked, RefusalChangesNothing, SpreadEquation, SpreadLeast};
 
 /// An instance is ready exactly where one of its registrations is reportable: five levels are enough
 /// where the graph of instances is legal.
@@ -46,4 +46,14 @@ pub fn deaths_in_any_order()
 /// A description dies where the last descriptor that names it is closed and no parked waiter holds it, and only then.
 pub fn named_lives()
     ensures law { NamedLives }
+{}
+
+/// In each state of a run a ready instance with waiters has a marked one.
+pub fn ready_waiters_are_marked()
+    ensures law { ReadyMarked }
+{}
+
+/// In each state of a run no chain has more than five instances, each watching the next, and none is a loop.
+pub fn graph_stays_legal()
+    ensures law { GraphStaysLegal }
 {}

@@ -1,0 +1,296 @@
+-- The graph of instances stays legal.
+use Rattle.std.proofs.Common.{◌≡◌, ℕ, zero, suc, ◌<◌, ◌&&◌, ◌||◌, ◌++◌, ◌∙◌, ◌⊎◌, Bool, true, false, List, [], ◌∷◌, None, Option, Some, MatchOption, ℤ, pos, negsuc, not, cond, filter, if◌then◌else◌, inl, inr, length, map, refl, ap, arith, subst, sym, unwrap_or}
+use Rattle.std.proofs.lemmas.Bool.{cases_Bool, false≢true}
+use Rattle.ep_base.specs.Limits.{Limits}
+use Rattle.ep_base.specs.declared.answer.Answer.{Answer}
+use Rattle.ep_base.specs.declared.answer.Answer.TheVariants.{Events}
+use Rattle.ep_base.specs.declared.call.Call.{Call}
+use Rattle.ep_base.specs.declared.call.Call.TheVariants.{Close, Dup, Dup2, EpollCreate, EpollCtl, EpollWait, EventFd, Exec, Exit, Fork, GetTime, Pipe as PipeCall, Plain, Read, SetTime, Shutdown, SocketPair, TimerFd, Write}
+use Rattle.ep_base.specs.declared.call.Event.{Event}
+use Rattle.ep_base.specs.declared.call.Event.TheVariants.{Call as CallOf, Tick}
+use Rattle.ep_base.specs.declared.errno.Errno.{Errno}
+use Rattle.ep_base.specs.declared.errno.Errno.TheVariants.{Eloop, Eperm}
+use Rattle.ep_machine.specs.Deaths.{buried, die_all, dying, is_kept}
+use Rattle.ep_machine.specs.Effect.{first}
+use Rattle.ep_machine.specs.Files.{Files, named_by, object_of, object_under, opening_files}
+use Rattle.ep_machine.specs.Laws.{GraphStaysLegal, Member}
+use Rattle.ep_machine.specs.Lists.{is_among}
+use Rattle.ep_machine.specs.Objects.{is_instance, is_plain, plain}
+use Rattle.ep_machine.specs.Readiness.{is_ready, is_reportable}
+use Rattle.ep_machine.specs.Refusal.{call_refusals, refusals}
+use Rattle.ep_machine.specs.Report.{is_pick, plainly, report, report_of, reported, watches_at}
+use Rattle.ep_machine.specs.Settle.{came, reportable_numbers, settle}
+use Rattle.ep_machine.specs.Spread.{arrived}
+use Rattle.ep_machine.specs.State.{Change, State, Watch, opening}
+use Rattle.ep_machine.specs.Step.{begun, call_change, change, refused_or, settled, step}
+use Rattle.ep_machine.specs.Tables.{dup2, same_number}
+use Rattle.ep_machine.specs.Waits.{wait, wait_for}
+use Rattle.ep_machine.specs.Watches.{ctl, delete, has_key, is_add, is_del, is_legal, links, modified, modify, new_watch, number_in, with_watch}
+use Rattle.ep_machine.proofs.Chains.{Within, has_instance, legal_within, link_from, link_in, link_of, member_of_map}
+use Rattle.ep_machine.proofs.Distinct.{filtered_member}
+use Rattle.ep_machine.proofs.Instances.{AreMade, Narrows, narrows_affected, narrows_deaths, narrows_one, narrows_self, narrows_two, watched_below}
+use Rattle.ep_machine.proofs.Stepping.{run_keeps}
+
+-- the graph is legal; places are of objects, and targets of descriptions, that were made
+record Linked (s : State) : Type 0 where
+  pub legal : is_legal (links s) ≡ true
+  pub made : AreMade s.files
+  pub targets : (x : Watch) → Member x s.watches → x.target < length s.files.descriptions
+
+-- each registration of the second list is one of the first, as far as links go
+abbrev AreOf : List Watch → List Watch → Type 0
+AreOf xs ys = (y : Watch) → Member y ys → (x : Watch) × Member x xs × (link_of x ≡ link_of y)
+
+-- what makes no link keeps the graph legal
+linked_narrows : (s t : State) → Narrows s.files t.files → AreOf s.watches t.watches → Linked s → Linked t
+linked_narrows s t narrows of h = record {
+  legal = legal_within (links t) (links s) within h.legal;
+  made = narrows.made;
+  targets = λ y m. let lt = below y m in let longer = narrows.longer in omega (arith, lt, longer);
+} where
+  below : (y : Watch) → Member y t.watches → y.target < length s.files.descriptions
+  below y m = let x = of y m in subst (λ (l : ℕ × ℕ). l.1 < length s.files.descriptions) x.2 (h.targets x.0 x.1)
+
+  within : Within (links t) (links s)
+  within l m =
+      let y = link_from t l m in
+      let x = of y.0 y.1 in
+      let was = narrows.instances y.0.target (below y.0 y.1) y.2 in
+      let here : has_instance s.files x.0.target ≡ true = subst (λ (k : ℕ × ℕ). has_instance s.files k.1 ≡ true) (sym x.2) was in
+      subst (λ (k : ℕ × ℕ). Member k (links s)) (x.2 ∙ y.3) (link_in s x.0 x.1 here)
+
+of_self : (xs : List Watch) → AreOf xs xs
+of_self xs y m = (y, m, refl)
+
+of_filter : (p : Watch → Bool) (xs : List Watch) → AreOf xs (filter p xs)
+of_filter p xs y m = (y, filtered_member p xs y m, refl)
+
+of_map : (f : Watch → Watch) → ((x : Watch) → link_of (f x) ≡ link_of x) → (xs : List Watch) → AreOf xs (map f xs)
+of_map f same xs y m = let r = member_of_map f xs y m in (r.0, r.1, sym (same r.0) ∙ ap link_of r.2)
+
+of_trans : (xs ys zs : List Watch) → AreOf xs ys → AreOf ys zs → AreOf xs zs
+of_trans xs ys zs a b z m = let y = b z m in let x = a y.0 y.1 in (x.0, x.1, x.2 ∙ y.2)
+
+-- other files under the same registrations
+linked_files : (s t : State) → Narrows s.files t.files → t.watches ≡ s.watches → Linked s → Linked t
+linked_files s t narrows same h = linked_narrows s t narrows (subst (λ (xs : List Watch). AreOf s.watches xs) (sym same) (of_self s.watches)) h
+
+-- other registrations over the same files
+linked_watches : (s : State) (xs : List Watch) → AreOf s.watches xs → Linked s → Linked (record s { watches = xs })
+linked_watches s xs of h = linked_narrows s (record s { watches = xs }) (narrows_self s.files h.made) of h
+
+-- What no refusal says.
+abbrev held : (Errno → Bool) → List (Bool × Errno) → Bool
+held q [] = false
+held q (r ∷ rs) = q r.1 && r.0 || held q rs
+
+and_false : (a b : Bool) → b ≡ false → (a && false || b) ≡ false
+and_false true b h = h
+and_false false b h = h
+
+none_held : (q : Errno → Bool) (rows : List (Bool × Errno)) → first rows ≡ None → held q rows ≡ false
+none_held q [] h = refl
+none_held q ((true, e) ∷ rs) h = cc
+none_held q ((false, e) ∷ rs) h = and_false (q e) (held q rs) (none_held q rs h)
+
+abbrev is_eloop : Errno → Bool
+is_eloop Eloop = true
+is_eloop e = false
+
+abbrev is_eperm : Errno → Bool
+is_eperm Eperm = true
+is_eperm e = false
+
+or_none : (a : Bool) → (a || false) ≡ false → a ≡ false
+or_none true h = h
+or_none false h = refl
+
+-- A new registration.
+pushed_member : (xs : List Watch) (x y : Watch) → Member y (xs ++ x ∷ []) → Member y xs ⊎ (y ≡ x)
+pushed_member [] x y (inl e) = inr e
+pushed_member [] x y (inr m) = absurd m
+pushed_member (z ∷ xs) x y (inl e) = inl (inl e)
+pushed_member (z ∷ xs) x y (inr m) = elim (pushed_member xs x y m) [ inl r ↦ inl (inr r) | inr e ↦ inr e ]
+
+and_not : (a b : Bool) → (a && not b) ≡ false → a ≡ true → b ≡ true
+and_not true true h e = refl
+and_not true false h e = absurd (false≢true (sym h))
+and_not false b h e = absurd (false≢true e)
+
+module _ (s : State) (e fd d mask tag : ℕ) (h : Linked s) (allowed : (has_instance s.files d && not (is_legal ((e, d) ∷ links s))) ≡ false) where
+  abbrev x : Watch
+  x = new_watch s e fd d mask tag
+
+  abbrev t : State
+  t = with_watch s x
+
+  -- each link is an old one or the new one
+  old_or_new : (l : ℕ × ℕ) → Member l (links t) → Member l (links s) ⊎ ((has_instance s.files d ≡ true) × (l ≡ (e, d)))
+  old_or_new l m =
+      let y = link_from t l m in
+      elim (pushed_member s.watches x y.0 y.1) [
+        | inl old ↦ inl (subst (λ (k : ℕ × ℕ). Member k (links s)) y.3 (link_in s y.0 old y.2))
+        | inr new ↦ inr (sym (ap (λ (w : Watch). has_instance s.files w.target) new) ∙ y.2, sym y.3 ∙ ap link_of new)
+      ]
+
+  legal_with : is_legal (links t) ≡ true
+  legal_with = elim (cases_Bool (has_instance s.files d)) [
+    | inl is ↦
+        legal_within (links t) ((e, d) ∷ links s) (λ l m. elim (old_or_new l m) [ inl old ↦ inr old | inr new ↦ inl new.1 ])
+        (and_not (has_instance s.files d) (is_legal ((e, d) ∷ links s)) allowed is)
+    | inr isnt ↦ legal_within (links t) (links s) (λ l m. elim (old_or_new l m) [ inl old ↦ old | inr new ↦ absurd (false≢true (sym isnt ∙ new.0)) ]) h.legal
+  ]
+
+  linked_add : is_plain (unwrap_or (object_of s.files d) plain) ≡ false → Linked t
+  linked_add shows = record {
+    legal = legal_with;
+    made = h.made;
+    targets = λ y m. elim (pushed_member s.watches x y m) [
+      | inl old ↦ h.targets y old
+      | inr new ↦ subst (λ (w : Watch). w.target < length s.files.descriptions) (sym new) (watched_below s.files d shows)
+    ];
+  }
+
+modified_link : (e fd d mask tag : ℕ) (x : Watch) → link_of (modified e fd d mask tag x) ≡ link_of x
+modified_link e fd d mask tag x = elim (has_key e fd d x) as (λ b. link_of (cond b (record x { mask = mask; tag = tag; armed = true; seen = None }) x) ≡ link_of x) [ true ↦ refl | false ↦ refl ]
+
+reported_link : (s : State) (ks : List ℕ) (x : Watch) → link_of (reported s ks x) ≡ link_of x
+reported_link s ks x = of_test (is_among ks x.number) _ refl where
+  of_test : (b : Bool) (y : Watch) → link_of y ≡ link_of x → link_of (cond b y x) ≡ link_of x
+  of_test true y e = e
+  of_test false y e = refl
+
+came_link : (earlier : List ℕ) (s : State) (x : Watch) → link_of (came earlier s x) ≡ link_of x
+came_link earlier s x = elim (not (is_among earlier x.number) && is_reportable s x) as (λ b. link_of (cond b (record x { from = s.n }) x) ≡ link_of x) [ true ↦ refl | false ↦ refl ]
+
+linked_if : (b : Bool) (c d : Change) → Linked c.1 → Linked d.1 → Linked (cond b c d).1
+linked_if true c d h k = h
+linked_if false c d h k = k
+
+linked_ctl : (s : State) (p : ℕ) (epfd op fd : ℤ) (mask tag : ℕ) → Linked s
+    → (is_add op && is_instance (object_under s.files p fd) && not (is_legal ((named_by s.files p epfd, named_by s.files p fd) ∷ links s))) ≡ false
+    → is_plain (object_under s.files p fd) ≡ false → Linked (ctl s p epfd op fd mask tag).1
+linked_ctl s p epfd op fd mask tag h loops shows =
+    let e = named_by s.files p epfd in
+    let d = named_by s.files p fd in
+    let k = number_in fd in
+    let removed = linked_watches s (filter (λ x. not (has_key e k d x)) s.watches) (of_filter (λ x. not (has_key e k d x)) s.watches) h in
+    let changed = linked_watches s (map (modified e k d mask tag) s.watches) (of_map (modified e k d mask tag) (modified_link e k d mask tag) s.watches) h in
+    let others = linked_if (is_del op) (delete s e k d) (modify s e k d mask tag) removed changed in
+    of_op (is_add op) _ _ _ _ loops (λ allowed. linked_add s e k d mask tag h allowed shows) others where
+      of_op : (b a l : Bool) (c c' : Change) → (b && a && not l) ≡ false → ((a && not l) ≡ false → Linked c.1) → Linked c'.1 → Linked (cond b c c').1
+      of_op true a l c c' q new other = new q
+      of_op false a l c c' q new other = other
+
+-- Changes.
+Fine : Option Change → Type 0
+Fine c = MatchOption c (Unit {0}) (λ o. Linked o.1)
+
+fine_plainly : (ks : List ℕ) (c : Change) → Linked c.1 → Fine (plainly ks c)
+unfolding Fine
+fine_plainly [] c h = h
+fine_plainly (k ∷ ks) c h = tt
+
+fine_if : (b : Bool) (c d : Option Change) → Fine c → Fine d → Fine (cond b c d)
+fine_if true c d h k = h
+fine_if false c d h k = k
+
+fine_option_if : (b : Bool) (c : Change) → Linked c.1 → Fine (cond b (Some c) None)
+unfolding Fine
+fine_option_if true c h = h
+fine_option_if false c h = tt
+
+fine_report : (s : State) (e most : ℕ) (ks : List ℕ) → Linked s → Fine (report s e most ks)
+fine_report s e most ks h =
+    let c : Change = (Events (map (report_of s) (watches_at s.watches ks)), record s { watches = map (reported s ks) s.watches }, []) in
+    fine_option_if (is_pick s e most ks) c (linked_watches s (map (reported s ks) s.watches) (of_map (reported s ks) (reported_link s ks) s.watches) h)
+
+linked_wait_for : (s : State) (caller p e most : ℕ) (timeout : ℤ) → Linked s → Linked (wait_for s caller p e most timeout).1
+linked_wait_for s caller p e most (pos zero) h = h
+linked_wait_for s caller p e most (pos (suc k)) h = linked_files s _ (narrows_self s.files h.made) refl h
+linked_wait_for s caller p e most (negsuc k) h = linked_files s _ (narrows_self s.files h.made) refl h
+
+fine_wait : (s : State) (caller p e most : ℕ) (timeout : ℤ) (ks : List ℕ) → Linked s → Fine (wait s caller p e most timeout ks)
+fine_wait s caller p e most timeout ks h = fine_if (is_ready s e) _ _ (fine_report s e most ks h) (fine_plainly ks _ (linked_wait_for s caller p e most timeout h))
+
+-- what leaves descriptions and objects alone
+linked_tables : (s t : State) → t.watches ≡ s.watches → t.files.descriptions ≡ s.files.descriptions → t.files.objects ≡ s.files.objects → Linked s → Linked t
+linked_tables s t w d o h =
+    let g : Files = record t.files { descriptions = s.files.descriptions; objects = s.files.objects } in
+    let same : g ≡ t.files = λ i. record t.files { descriptions = sym d i; objects = sym o i } in
+    linked_files s t (subst (λ (f : Files). Narrows s.files f) same (record { longer = omega arith; made = h.made; instances = λ k lt i. i })) w h
+
+dup2_same : (f : Files) (p : ℕ) (fd to : ℤ) (d : ℕ) → ((dup2 f p fd to d).descriptions ≡ f.descriptions) × ((dup2 f p fd to d).objects ≡ f.objects)
+dup2_same f p fd (negsuc k) d = (refl, refl)
+dup2_same f p fd (pos k) d = of_test (same_number fd (pos k)) _ refl refl where
+  of_test : (b : Bool) (g : Files) → g.descriptions ≡ f.descriptions → g.objects ≡ f.objects → ((if b then f else g).descriptions ≡ f.descriptions) × ((if b then f else g).objects ≡ f.objects)
+  of_test true g a b = (refl, refl)
+  of_test false g a b = (a, b)
+
+fine_call : (limits : Limits) (s : State) (caller p : ℕ) (call : Call) (ks : List ℕ) → held is_eloop (call_refusals limits s p call) ≡ false → held is_eperm (call_refusals limits s p call) ≡ false → Linked s → Fine (call_change limits s caller p call ks)
+fine_call limits s caller p (PipeCall cloexec) ks a b h = fine_plainly ks _ (linked_files s _ (narrows_two s.files p _ cloexec h.made) refl h)
+fine_call limits s caller p (EventFd init semaphore cloexec) ks a b h = fine_plainly ks _ (linked_files s _ (narrows_one s.files p _ cloexec h.made) refl h)
+fine_call limits s caller p (TimerFd clock cloexec) ks a b h = fine_plainly ks _ (linked_files s _ (narrows_one s.files p _ cloexec h.made) refl h)
+fine_call limits s caller p (SocketPair cloexec) ks a b h = fine_plainly ks _ (linked_files s _ (narrows_two s.files p _ cloexec h.made) refl h)
+fine_call limits s caller p (Plain cloexec) ks a b h = fine_plainly ks _ (linked_files s _ (narrows_one s.files p _ cloexec h.made) refl h)
+fine_call limits s caller p (EpollCreate cloexec) ks a b h = fine_plainly ks _ (linked_files s _ (narrows_one s.files p _ cloexec h.made) refl h)
+fine_call limits s caller p (EpollCtl epfd op fd mask tag) ks a b h = fine_plainly ks _ (linked_ctl s p epfd.0 op fd.0 mask.0 tag h (or_none _ a) (or_none _ b))
+fine_call limits s caller p (EpollWait epfd most timeout) ks a b h = fine_wait s caller p (named_by s.files p epfd.0) (number_in most) timeout ks h
+fine_call limits s caller p (Read fd n) ks a b h = fine_plainly ks _ (linked_files s _ (narrows_affected s.files p fd.0 s.now (Read fd n) h.made) refl h)
+fine_call limits s caller p (Write fd bytes) ks a b h = fine_plainly ks _ (linked_files s _ (narrows_affected s.files p fd.0 s.now (Write fd bytes) h.made) refl h)
+fine_call limits s caller p (Shutdown fd) ks a b h = fine_plainly ks _ (linked_files s _ (narrows_affected s.files p fd.0 s.now (Shutdown fd) h.made) refl h)
+fine_call limits s caller p (SetTime fd absolute value interval) ks a b h = fine_plainly ks _ (linked_files s _ (narrows_affected s.files p fd.0 s.now (SetTime fd absolute value interval) h.made) refl h)
+fine_call limits s caller p (GetTime fd) ks a b h = fine_plainly ks _ (linked_files s _ (narrows_affected s.files p fd.0 s.now (GetTime fd) h.made) refl h)
+fine_call limits s caller p (Dup fd) ks a b h = fine_plainly ks _ (linked_tables s _ refl refl refl h)
+fine_call limits s caller p (Dup2 fd to) ks a b h = let same = dup2_same s.files p fd.0 to.0 (named_by s.files p fd.0) in fine_plainly ks _ (linked_tables s _ refl same.0 same.1 h)
+fine_call limits s caller p (Close fd) ks a b h = fine_plainly ks _ (linked_tables s _ refl refl refl h)
+fine_call limits s caller p Fork ks a b h = fine_plainly ks _ (linked_tables s _ refl refl refl h)
+fine_call limits s caller p Exec ks a b h = fine_plainly ks _ (linked_tables s _ refl refl refl h)
+fine_call limits s caller p Exit ks a b h = fine_plainly ks _ (linked_tables s _ refl refl refl h)
+
+fine_change : (limits : Limits) (s : State) (caller : ℕ) (event : Event) (ks : List ℕ) → first (refusals limits s caller event) ≡ None → Linked s → Fine (change limits s caller event ks)
+fine_change limits s caller (CallOf p call) ks allowed h =
+    let rows = refusals limits s caller (CallOf p call) in
+    fine_call limits s caller p.0 call ks (none_held is_eloop rows allowed) (none_held is_eperm rows allowed) h
+fine_change limits s caller (Tick k) ks allowed h = fine_plainly ks _ (linked_tables s _ refl refl refl h)
+
+linked_settle : (before after : State) (raised : List (ℕ × ℕ)) → Linked after → Linked (settle before after raised)
+linked_settle before after raised h =
+    let files = (die_all (after.files, raised) (dying after)).0 in
+    let left = buried after raised in
+    let t = arrived left.0 left.1 in
+    let kept = filter (is_kept (record after { files = files })) after.watches in
+    linked_narrows after (settle before after raised) (narrows_deaths after.files raised (dying after) h.made)
+    (of_trans after.watches kept (map (came (reportable_numbers before) t) kept) (of_filter (is_kept (record after { files = files })) after.watches)
+    (of_map (came (reportable_numbers before) t) (came_link (reportable_numbers before) t) kept)) h
+
+IsStep : Option (Answer × State) → Type 0
+IsStep o = MatchOption o (Unit {0}) (λ c. Linked c.1)
+
+linked_settled : (before : State) (c : Option Change) → Fine c → IsStep (settled before c)
+unfolding Fine IsStep
+linked_settled before None h = tt
+linked_settled before (Some c) h = linked_settle before c.1 c.2 h
+
+linked_refused : (e : Option Errno) (s : State) (ks : List ℕ) (c : Option Change) → Linked s → (e ≡ None → Fine c) → IsStep (refused_or e s ks c)
+unfolding IsStep
+linked_refused None s ks c h k = linked_settled s c (k refl)
+linked_refused (Some e) s [] c h k = h
+linked_refused (Some e) s (x ∷ ks) c h k = tt
+
+linked_step : (limits : Limits) (s t : State) (caller : ℕ) (event : Event) (picked : List ℕ) (a : Answer) → Linked s → step limits s caller event picked ≡ Some (a, t) → Linked t
+unfolding IsStep
+linked_step limits s t caller event picked a h e =
+    let now = begun s in
+    let start = linked_tables s now refl refl refl h in
+    subst IsStep e (linked_refused (first (refusals limits now caller event)) now picked (change limits now caller event picked) start (λ allowed. fine_change limits now caller event picked allowed start))
+
+linked_opening : Linked opening
+linked_opening = record { legal = refl; made = made; targets = λ x m. absurd m } where
+  made : AreMade opening_files
+  made zero p e = let same : p.object ≡ 0 = cc in omega (arith, same)
+  made (suc d) p e = cc
+
+-- in each state of a run
+pub graph_stays_legal : GraphStaysLegal
+graph_stays_legal limits past s e = (run_keeps Linked limits (linked_step limits) opening s past linked_opening e).legal
