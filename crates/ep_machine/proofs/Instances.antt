@@ -214,7 +214,7 @@ module _ (f : Files) (x : ℕ × Place) (b : AreMade f) where
   instance_before d None e h = absurd (false≢true h)
   instance_before d (Some p) e h = ap (λ (o : Option Place). is_instance (unwrap_or (object_at f o) plain)) (was_there f.descriptions x.0 d p e) ∙ h
 
-  narrows_death : Narrows f g
+  pub narrows_death : Narrows f g
   narrows_death =
       let places = length-set f.descriptions x.0 None in
       let objects = length-set f.objects k (kept_object rest k shut) in

@@ -18,6 +18,8 @@ use Rattle.ep_machine.specs.Lists.{is_among}
 use Rattle.ep_machine.specs.Objects.{is_instance, is_plain, plain}
 use Rattle.ep_machine.specs.Readiness.{is_ready, is_reportable}
 use Rattle.ep_machine.specs.Refusal.{call_refusals, refusals}
+use Rattle.ep_base.specs.declared.record.Record.{Record}
+use Rattle.ep_machine.specs.Run.{run}
 use Rattle.ep_machine.specs.Report.{is_pick, plainly, report, report_of, reported, watches_at}
 use Rattle.ep_machine.specs.Settle.{came, reportable_numbers, settle}
 use Rattle.ep_machine.specs.Spread.{arrived}
@@ -32,7 +34,7 @@ use Rattle.ep_machine.proofs.Instances.{AreMade, Narrows, narrows_affected, narr
 use Rattle.ep_machine.proofs.Stepping.{run_keeps}
 
 -- the graph is legal; places are of objects, and targets of descriptions, that were made
-record Linked (s : State) : Type 0 where
+pub record Linked (s : State) : Type 0 where
   pub legal : is_legal (links s) ≡ true
   pub made : AreMade s.files
   pub targets : (x : Watch) → Member x s.watches → x.target < length s.files.descriptions
@@ -264,6 +266,17 @@ linked_settle before after raised h =
     (of_trans after.watches kept (map (came (reportable_numbers before) t) kept) (of_filter (is_kept (record after { files = files })) after.watches)
     (of_map (came (reportable_numbers before) t) (came_link (reportable_numbers before) t) kept)) h
 
+-- what is left of a change
+pub linked_left : (after : State) (raised : List (ℕ × ℕ)) → Linked after → Linked (buried after raised).0
+linked_left after raised h =
+    let files = (die_all (after.files, raised) (dying after)).0 in
+    linked_narrows after (buried after raised).0 (narrows_deaths after.files raised (dying after) h.made) (of_filter (is_kept (record after { files = files })) after.watches) h
+
+-- a change that is not refused
+pub linked_change : (limits : Limits) (s : State) (caller : ℕ) (event : Event) (picked : List ℕ) (c : Change) → first (refusals limits s caller event) ≡ None → change limits s caller event picked ≡ Some c → Linked s → Linked c.1
+unfolding Fine
+linked_change limits s caller event picked c allowed e h = subst Fine e (fine_change limits s caller event picked allowed h)
+
 IsStep : Option (Answer × State) → Type 0
 IsStep o = MatchOption o (Unit {0}) (λ c. Linked c.1)
 
@@ -278,11 +291,14 @@ linked_refused None s ks c h k = linked_settled s c (k refl)
 linked_refused (Some e) s [] c h k = h
 linked_refused (Some e) s (x ∷ ks) c h k = tt
 
+pub linked_begun : (s : State) → Linked s → Linked (begun s)
+linked_begun s h = linked_tables s (begun s) refl refl refl h
+
 linked_step : (limits : Limits) (s t : State) (caller : ℕ) (event : Event) (picked : List ℕ) (a : Answer) → Linked s → step limits s caller event picked ≡ Some (a, t) → Linked t
 unfolding IsStep
 linked_step limits s t caller event picked a h e =
     let now = begun s in
-    let start = linked_tables s now refl refl refl h in
+    let start = linked_begun s h in
     subst IsStep e (linked_refused (first (refusals limits now caller event)) now picked (change limits now caller event picked) start (λ allowed. fine_change limits now caller event picked allowed start))
 
 linked_opening : Linked opening
@@ -292,5 +308,8 @@ linked_opening = record { legal = refl; made = made; targets = λ x m. absurd m 
   made (suc d) p e = cc
 
 -- in each state of a run
+pub linked_run : (limits : Limits) (past : List Record) (s : State) → run limits opening past ≡ Some s → Linked s
+linked_run limits past s e = run_keeps Linked limits (linked_step limits) opening s past linked_opening e
+
 pub graph_stays_legal : GraphStaysLegal
-graph_stays_legal limits past s e = (run_keeps Linked limits (linked_step limits) opening s past linked_opening e).legal
+graph_stays_legal limits past s e = (linked_run limits past s e).legal

@@ -20,11 +20,11 @@ use Rattle.ep_machine.proofs.Members.{test_same}
 use Rattle.ep_machine.proofs.Stepping.{run_keeps}
 
 -- neither the number of events nor the waiters matter to readiness
-within_same : (k : ℕ) (s : State) (n : ℕ) (ws : List Waiter) (e : ℕ) → is_ready_within k (record s { n = n; waiters = ws }) e ≡ is_ready_within k s e
+pub within_same : (k : ℕ) (s : State) (n : ℕ) (ws : List Waiter) (e : ℕ) → is_ready_within k (record s { n = n; waiters = ws }) e ≡ is_ready_within k s e
 within_same zero s n ws e = refl
 within_same (suc k) s n ws e = λ i. list_any (λ x. x.instance == e && is_reportable_by (λ d. within_same k s n ws d i) s x) s.watches
 
-ready_same : (s : State) (n : ℕ) (ws : List Waiter) (e : ℕ) → is_ready (record s { n = n; waiters = ws }) e ≡ is_ready s e
+pub ready_same : (s : State) (n : ℕ) (ws : List Waiter) (e : ℕ) → is_ready (record s { n = n; waiters = ws }) e ≡ is_ready s e
 unfolding is_ready
 ready_same s n ws e = within_same 5 s n ws e
 
