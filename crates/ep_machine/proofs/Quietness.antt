@@ -1,8 +1,8 @@
 -- Each state that the calls of this version reach is quiet.
-use Rattle.std.proofs.Common.{◌≡◌, ℕ, zero, suc, ◌+◌, ◌≤◌, ◌&&◌, ◌||◌, Bool, List, [], ◌∷◌, MatchOption, None, Option, Some, ℤ, pos, negsuc, true, false, not, ap, arith, cond, get_or, if◌then◌else◌, is_none, is_some, length, map, nat_lt, refl, subst, sym, ◌∙◌, unwrap_or}
+use Rattle.std.proofs.Common.{◌≡◌, ℕ, zero, suc, ◌+◌, ◌≤◌, ◌&&◌, ◌||◌, All, Bool, List, [], ◌∷◌, MatchOption, None, Option, Some, ℤ, pos, negsuc, true, false, not, ap, arith, cond, get_or, if◌then◌else◌, is_none, is_some, length, map, nat_lt, refl, subst, sym, ◌∙◌, unwrap_or}
 use Rattle.std.specs.List.{AllByRecursion}
 use Rattle.std.proofs.lemmas.Bool.Decides.{nat_tests}
-use Rattle.std.proofs.lemmas.List.Elements.{All-map, All-push, All-weaker}
+use Rattle.std.proofs.lemmas.List.Elements.{All-filter, All-map, All-push, All-weaker}
 use Rattle.ep_base.specs.Limits.{Limits}
 use Rattle.ep_base.specs.declared.answer.Answer.{Answer}
 use Rattle.ep_base.specs.declared.answer.Answer.TheVariants.{Done, Events, Num}
@@ -33,7 +33,7 @@ use Rattle.ep_machine.specs.Step.{begun, call_change, change, files_change, obje
 use Rattle.ep_machine.specs.Tables.{answer_one, close, dup, dup2, exec, exit, fork}
 use Rattle.ep_machine.specs.Timer.{last_moment, new_timer}
 use Rattle.ep_machine.specs.Waits.{tick, wait, wait_for}
-use Rattle.ep_machine.specs.Watches.{add, ctl, delete, is_add, is_del, is_mod, modify, new_watch, number_in}
+use Rattle.ep_machine.specs.Watches.{add, ctl, delete, has_key, is_add, is_del, modified, modify, new_watch, number_in}
 use Rattle.ep_machine.proofs.Naming.{Extends, Filed, extends_dup2, extends_one, extends_two, extends_with_object, filed_close, filed_dup, filed_dup2, filed_exec, filed_exit, filed_fork, filed_one, filed_opening, filed_two, filed_with_object, named_lives, named_opening, same_tables}
 use Rattle.ep_machine.proofs.Settling.{quiet_settled, settle_changed}
 
@@ -44,25 +44,13 @@ none_holds ((true, e) ∷ tests) h = cc
 none_holds ((false, e) ∷ tests) h = (refl, none_holds tests h)
 
 -- Bools.
-not_first : (a b : Bool) → (a || b) ≡ false → a ≡ false
-not_first true b h = h
-not_first false b h = refl
-
-not_second : (a b : Bool) → (a || b) ≡ false → b ≡ false
-not_second true b h = cc
-not_second false b h = h
-
-from_and : (a b : Bool) → a ≡ true → (a && b) ≡ false → b ≡ false
-from_and true b t h = h
-from_and false b t h = cc
-
 from_not : (a : Bool) → not a ≡ false → a ≡ true
 from_not true h = refl
 from_not false h = cc
 
 -- Other files under the same registrations.
 steady_in : (f g : Files) → Extends f g → (x : Watch) → IsSteady f x → IsSteady g x
-steady_in f g e x h = record { instance_lives = e.lives x.instance h.instance_lives; target_lives = e.lives x.target h.target_lives; target_shows = e.shows x.target h.target_shows; armed = h.armed; level = h.level; lasting = h.lasting }
+steady_in f g e x h = record { instance_lives = e.lives x.instance h.instance_lives; target_lives = e.lives x.target h.target_lives; target_shows = e.shows x.target h.target_shows; level = h.level }
 
 filed : (s : State) → Quiet s → Filed s.files
 filed s h = record { placed = h.placed; lives = λ d e. sym (h.named d) ∙ e }
@@ -137,48 +125,66 @@ shows_from_tests (Some x) p i = both (is_plain x) (is_instance x) p i where
   both false true h k = cc
   both false false h k = refl
 
-only_add : (a d m : Bool) → not (a || d || m) ≡ false → (d || m) ≡ false → a ≡ true
-only_add true d m h k = refl
-only_add false true m h k = cc
-only_add false false true h k = cc
-only_add false false false h k = cc
+-- an addition is no removal
+pub add_is_no_del : (op : ℤ) → is_add op ≡ true → is_del op ≡ false
+add_is_no_del (pos k) h = grind (arith, nat_tests, h)
+add_is_no_del (negsuc k) h = cc
+
+quiet_watches : (s : State) (xs : List Watch) (added : ℕ) → Quiet s → All (IsSteady s.files) xs → Changed (record s { watches = xs; added = added })
+quiet_watches s xs added h steady = record { waiters = h.waiters; now = h.now; placed = h.placed; lives = (filed s h).lives; watches = steady }
 
 quiet_add : (s : State) (e fd d mask tag : ℕ) → Quiet s → IsSteady s.files (new_watch s e fd d mask tag) → Changed (add s e fd d mask tag).1
-quiet_add s e fd d mask tag h steady = record { waiters = h.waiters; now = h.now; placed = h.placed; lives = (filed s h).lives; watches = All-push (IsSteady s.files) s.watches (new_watch s e fd d mask tag) h.watches steady }
+quiet_add s e fd d mask tag h steady = quiet_watches s _ (s.added + 1) h (All-push (IsSteady s.files) s.watches (new_watch s e fd d mask tag) h.watches steady)
 
-quiet_first : (b : Bool) (c d : Change) → b ≡ true → Changed c.1 → Changed (cond b c d).1
-quiet_first true c d t h = h
-quiet_first false c d t h = cc
+-- DEL.
+quiet_delete : (s : State) (e fd d : ℕ) → Quiet s → Changed (delete s e fd d).1
+quiet_delete s e fd d h = quiet_watches s _ s.added h (All-filter (λ x. not (has_key e fd d x)) (IsSteady s.files) s.watches h.watches)
+
+-- MOD.
+steady_modified : (s : State) (e fd d mask tag : ℕ) (x : Watch) → has_bit mask ET ≡ false → IsSteady s.files x → IsSteady s.files (modified e fd d mask tag x)
+steady_modified s e fd d mask tag x level h =
+    elim (has_key e fd d x) as (λ b. IsSteady s.files (cond b (record x { mask = mask; tag = tag; armed = true; seen = None }) x)) [
+      | true ↦ record { instance_lives = h.instance_lives; target_lives = h.target_lives; target_shows = h.target_shows; level = level }
+      | false ↦ h
+    ]
+
+quiet_modify : (s : State) (e fd d mask tag : ℕ) → Quiet s → has_bit mask ET ≡ false → Changed (modify s e fd d mask tag).1
+quiet_modify s e fd d mask tag h level =
+    quiet_watches s _ s.added h (All-map (IsSteady s.files) (modified e fd d mask tag) s.watches (λ k x lt. steady_modified s e fd d mask tag (get_or s.watches k x) level (h.watches k x lt)))
+
+quiet_if : (b : Bool) (c d : Change) → (b ≡ true → Changed c.1) → (b ≡ false → Changed d.1) → Changed (cond b c d).1
+quiet_if true c d h k = h refl
+quiet_if false c d h k = k refl
+
+-- the mask of what is no removal
+not_later : (a b : Bool) → (not a && b) ≡ false → a ≡ false → b ≡ false
+not_later true b h k = cc
+not_later false b h k = h
 
 quiet_ctl : (limits : Limits) (s : State) (p : ℕ) (epfd op fd : ℤ) (mask tag : ℕ) → Quiet s → AllByRecursion (λ t. t.0 ≡ false) (ctl_refusals limits s p epfd op fd mask) → Changed (ctl s p epfd op fd mask tag).1
 quiet_ctl limits s p epfd op fd mask tag h tests =
     let e = named_by s.files p epfd in
     let d = named_by s.files p fd in
     let k = number_in fd in
-    let added : is_add op ≡ true = only_add (is_add op) (is_del op) (is_mod op) tests.1.1.1.1.1.0 tests.1.1.1.1.1.1.0 in
-    let later : is_later_mask mask ≡ false = from_and (is_add op) (is_later_mask mask) added tests.1.1.1.1.1.1.1.1.0 in
-    let steady : IsSteady s.files (new_watch s e k d mask tag) = record {
+    let level = not_later (is_del op) (is_later_mask mask) tests.1.1.1.1.1.1.1.0 in
+    let steady : is_del op ≡ false → IsSteady s.files (new_watch s e k d mask tag) = λ other. record {
       instance_lives = named_lives s.files p epfd (filed s h) tests.0;
       target_lives = named_lives s.files p fd (filed s h) tests.1.0;
       target_shows = shows_from_tests (object_of s.files d) tests.1.1.0 tests.1.1.1.1.0;
-      armed = refl;
-      level = not_first (has_bit mask ET) (has_bit mask ONESHOT) later;
-      lasting = not_second (has_bit mask ET) (has_bit mask ONESHOT) later;
+      level = level other;
     } in
-    quiet_first (is_add op) (add s e k d mask tag) (if is_del op then delete s e k d else modify s e k d mask tag) added (quiet_add s e k d mask tag h steady)
+    quiet_if (is_add op) (add s e k d mask tag) (if is_del op then delete s e k d else modify s e k d mask tag)
+    (λ adds. quiet_add s e k d mask tag h (steady (add_is_no_del op adds)))
+    (λ _. quiet_if (is_del op) (delete s e k d) (modify s e k d mask tag) (λ _. quiet_delete s e k d h) (λ other. quiet_modify s e k d mask tag h (level other)))
 
 -- A wait.
 reported_steady : (s : State) (ks : List ℕ) (x : Watch) → IsSteady s.files x → IsSteady s.files (reported s ks x)
 reported_steady s ks x h =
     let y : Watch = record x { seen = Some (counts_of s x.target); rep = s.n; from = s.n; armed = x.armed && not (has_bit x.mask ONESHOT) } in
-    let armed : (x.armed && not (has_bit x.mask ONESHOT)) ≡ true = both x.armed (has_bit x.mask ONESHOT) h.armed h.lasting in
     elim (is_among ks x.number) as (λ b. IsSteady s.files (cond b y x)) [
-      | true ↦ record { instance_lives = h.instance_lives; target_lives = h.target_lives; target_shows = h.target_shows; armed = armed; level = h.level; lasting = h.lasting }
+      | true ↦ record { instance_lives = h.instance_lives; target_lives = h.target_lives; target_shows = h.target_shows; level = h.level }
       | false ↦ h
-    ] where
-      both : (a b : Bool) → a ≡ true → b ≡ false → (a && not b) ≡ true
-      both true b t f = ap not f
-      both false b t f = t
+    ]
 
 quiet_reported : (s : State) (ks : List ℕ) → Quiet s → Changed (record s { watches = map (reported s ks) s.watches })
 quiet_reported s ks h = record { waiters = h.waiters; now = h.now; placed = h.placed; lives = (filed s h).lives; watches = All-map (IsSteady s.files) (reported s ks) s.watches (λ k d lt. reported_steady s ks (get_or s.watches k d) (h.watches k d lt)) }

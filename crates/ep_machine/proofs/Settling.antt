@@ -54,10 +54,10 @@ settle_changed before after raised h =
     }
 
 to_kept : (files : Files) (x : Watch) → IsSteady files x → IsSteady files (kept_of x)
-to_kept files x h = record { instance_lives = h.instance_lives; target_lives = h.target_lives; target_shows = h.target_shows; armed = h.armed; level = h.level; lasting = h.lasting }
+to_kept files x h = record { instance_lives = h.instance_lives; target_lives = h.target_lives; target_shows = h.target_shows; level = h.level }
 
 from_kept : (files : Files) (x : Watch) → IsSteady files (kept_of x) → IsSteady files x
-from_kept files x h = record { instance_lives = h.instance_lives; target_lives = h.target_lives; target_shows = h.target_shows; armed = h.armed; level = h.level; lasting = h.lasting }
+from_kept files x h = record { instance_lives = h.instance_lives; target_lives = h.target_lives; target_shows = h.target_shows; level = h.level }
 
 all_from_kept : (files : Files) (xs : List Watch) → All (IsSteady files) (kept_all xs) → All (IsSteady files) xs
 all_from_kept files [] h k d lt = absurd (omega arith)
@@ -81,7 +81,7 @@ steady_left f g (x ∷ xs) shows h =
     elim (cases_Bool (stays_in g x)) [
       | inl holds ↦
           let both = both_true (is_live g x.instance) (is_live g x.target) holds in
-          let steady : IsSteady g x = record { instance_lives = both.0; target_lives = both.1; target_shows = shows x.target both.1 one.target_shows; armed = one.armed; level = one.level; lasting = one.lasting } in
+          let steady : IsSteady g x = record { instance_lives = both.0; target_lives = both.1; target_shows = shows x.target both.1 one.target_shows; level = one.level } in
           subst (λ (b : Bool). All (IsSteady g) (cond b (x ∷ filter (stays_in g) xs) (filter (stays_in g) xs))) (sym holds) (All-cons (IsSteady g) x (filter (stays_in g) xs) steady rest)
       | inr fails ↦ subst (λ (b : Bool). All (IsSteady g) (cond b (x ∷ filter (stays_in g) xs) (filter (stays_in g) xs))) (sym fails) rest
     ]
@@ -133,24 +133,20 @@ module _ (after : State) (h : Changed after) where
             (files (λ u. All (IsSteady u) (filter (stays_in u) (kept_all after.watches))) (steady_left f g (kept_all after.watches) left.shows (all_to_kept f after.watches h.watches))));
       }
 
-stays_armed : (a b : Bool) → b ≡ false → (a && not b) ≡ a
-stays_armed true b h = ap not h
-stays_armed false b h = refl
-
-reported_one : (s : State) (ks : List ℕ) (x : Watch) → IsSteady s.files x → kept_of (reported s ks x) ≡ reported_in s.n ks (kept_of x)
-reported_one s ks x h =
-    elim (is_among ks x.number) as (λ b. kept_of (cond b (record x { seen = Some (counts_of s x.target); rep = s.n; from = s.n; armed = x.armed && not (has_bit x.mask ONESHOT) }) x) ≡ cond b (record (kept_of x) { rep = s.n }) (kept_of x)) [
-      | true ↦ ap (λ (b : Bool). let y : Watch = record (kept_of x) { rep = s.n; armed = b } in y) (stays_armed x.armed (has_bit x.mask ONESHOT) h.lasting)
+reported_one : (s : State) (ks : List ℕ) (x : Watch) → kept_of (reported s ks x) ≡ reported_in s.n ks (kept_of x)
+reported_one s ks x =
+    elim (is_among ks x.number) as (λ b. kept_of (cond b (record x { seen = Some (counts_of s x.target); rep = s.n; from = s.n; armed = x.armed && not (has_bit x.mask ONESHOT) }) x) ≡ cond b (record (kept_of x) { rep = s.n; armed = x.armed && not (has_bit x.mask ONESHOT) }) (kept_of x)) [
+      | true ↦ refl
       | false ↦ refl
     ]
 
-reported_all : (s : State) (ks : List ℕ) (xs : List Watch) → All (IsSteady s.files) xs → kept_all (map (reported s ks) xs) ≡ map (reported_in s.n ks) (kept_all xs)
-reported_all s ks [] h = refl
-reported_all s ks (x ∷ xs) h = let one = reported_one s ks x (h 0 x (omega arith)) in let rest = reported_all s ks xs (λ k d lt. h (suc k) d (omega arith)) in λ i. one i ∷ rest i
+reported_all : (s : State) (ks : List ℕ) (xs : List Watch) → kept_all (map (reported s ks) xs) ≡ map (reported_in s.n ks) (kept_all xs)
+reported_all s ks [] = refl
+reported_all s ks (x ∷ xs) = let one = reported_one s ks x in let rest = reported_all s ks xs in λ i. one i ∷ rest i
 
 -- what a report does to registrations, as they are kept
-pub reported_kept : (s : State) (ks : List ℕ) → Quiet s → kept_all (map (reported s ks) s.watches) ≡ map (reported_in s.n ks) (kept_all s.watches)
-reported_kept s ks h = reported_all s ks s.watches h.watches
+pub reported_kept : (s : State) (ks : List ℕ) → kept_all (map (reported s ks) s.watches) ≡ map (reported_in s.n ks) (kept_all s.watches)
+reported_kept s ks = reported_all s ks s.watches
 
 -- Which descriptions die, where nobody waits: those that live and that tables do not name.
 among_lives : (f : Files) (xs : List (ℕ × Place)) (d : ℕ) → ArePlaced f xs → is_among (numbers xs) d ≡ true → is_live f d ≡ true

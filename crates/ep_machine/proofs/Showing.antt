@@ -22,8 +22,7 @@ present_quiet r d (Some instance) e now h = cc
 
 shown_by_quiet : (r : ℕ → Bool) (s : State) (x : Watch) → IsSteady s.files x → shown_by r s x ≡ shown_at s.files s.now x
 shown_by_quiet r s x h =
-    ap (λ (b : Bool). when b (asked x.mask (present_of r x.target (object_of s.files x.target) (side_of s.files x.target) s.now))) h.armed
-    ∙ ap (asked x.mask) (present_quiet r x.target (object_of s.files x.target) (side_of s.files x.target) s.now h.target_shows)
+    ap (λ (bits : ℕ). when x.armed (asked x.mask bits)) (present_quiet r x.target (object_of s.files x.target) (side_of s.files x.target) s.now h.target_shows)
 
 and_true : (a b : Bool) → b ≡ false → (c : Bool) → (a && (not b || c)) ≡ a
 and_true true b h c = ap (λ (x : Bool). not x || c) h

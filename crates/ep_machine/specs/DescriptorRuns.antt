@@ -5,7 +5,7 @@ use Rattle.ep_base.specs.declared.call.Call.TheVariants.{Exec, Exit, Fork, Pipe 
 use Rattle.ep_base.specs.declared.errno.Errno.{Errno}
 use Rattle.ep_base.specs.declared.errno.Errno.TheVariants.{Eagain, Ebadf, Emfile, Enfile, Epipe, Esrch}
 use Rattle.ep_base.specs.declared.record.Record.{Record}
-use Rattle.ep_machine.specs.Records.{add_call, answered, by_process, close_call, counter_call, create_call, dup2_call, dup_call, pair_call, pipe_call, read_call, refused, report, reporting, two, wait_call, write_call}
+use Rattle.ep_machine.specs.Records.{add_call, answered, by_process, close_call, counter_call, create_call, del_call, dup2_call, dup_call, pair_call, pipe_call, read_call, refused, report, reporting, two, wait_call, write_call}
 
 -- the read end of a pipe is closed
 abbrev pub closed_reader_run : ℕ → List Record
@@ -59,13 +59,16 @@ exec_run shown =
     ∷ answered create_call (Num 5)
     ∷ answered (dup_call (pos 3)) (Num 6)
     ∷ answered (add_call 5 3 1 1) Done
+    ∷ answered (add_call 5 6 1 2) Done
     ∷ answered (write_call (pos 4) (97 ∷ [])) (Num 1)
-    ∷ reporting (wait_call 5 8) (report 1 1 ∷ []) (1 ∷ [])
+    ∷ reporting (wait_call 5 8) (report 1 1 ∷ report 1 2 ∷ []) (1 ∷ 2 ∷ [])
     ∷ answered Exec Done
-    ∷ reporting (wait_call 5 8) (report shown 1 ∷ []) (1 ∷ [])
+    ∷ reporting (wait_call 5 8) (report shown 1 ∷ report shown 2 ∷ []) (1 ∷ 2 ∷ [])
     ∷ refused (read_call (pos 3) 8) Ebadf
     ∷ answered (read_call (pos 6) 8) (Bytes (97 ∷ []))
     ∷ answered (read_call (pos 6) 8) (Bytes [])
+    ∷ answered (del_call 5 6) Done
+    ∷ reporting (wait_call 5 8) (report 16 1 ∷ []) (1 ∷ [])
     ∷ answered (close_call (pos 6)) Done
     ∷ reporting (wait_call 5 8) [] []
     ∷ []

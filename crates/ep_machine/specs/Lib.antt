@@ -29,6 +29,7 @@ pub mod CounterRuns
 pub mod TimerRuns
 pub mod SocketRuns
 pub mod DescriptorRuns
+pub mod RegistrationRuns
 pub mod Sound
 pub mod Quiet
 pub mod Laws

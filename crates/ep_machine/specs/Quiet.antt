@@ -1,8 +1,8 @@
 -- What holds in each state that the calls of this version reach: what lives is named and has its object, nobody waits,
--- and each registration is armed, level-triggered and watches an end of an object that shows bits of its own.
+-- and each registration is level-triggered and watches an end of an object that shows bits of its own.
 use Rattle.std.specs.Prelude.{All, Bool, List, None, Option, Some, false, filter, if◌then◌else◌, is_some, map, nat_lt, not, slice_index_or, true, unwrap_or, ℕ, ◌&&◌, ◌==◌, ◌≡◌, ◌≤◌, []}
 use Rattle.ep_base.specs.declared.answer.Report.{Report}
-use Rattle.ep_machine.specs.Bits.{ET, ONESHOT, asked, has_bit}
+use Rattle.ep_machine.specs.Bits.{ET, ONESHOT, asked, has_bit, when}
 use Rattle.ep_machine.specs.Deaths.{die_all, dying, named_in_tables}
 use Rattle.ep_machine.specs.Files.{Files, Place, is_live, object_of, place_of, side_of}
 use Rattle.ep_machine.specs.Lists.{is_among}
@@ -19,9 +19,7 @@ pub record IsSteady (files : Files) (x : Watch) : Type 0 where
   pub instance_lives : is_live files x.instance ≡ true
   pub target_lives : is_live files x.target ≡ true
   pub target_shows : can_be_watched (object_of files x.target) ≡ true
-  pub armed : x.armed ≡ true
   pub level : has_bit x.mask ET ≡ false
-  pub lasting : has_bit x.mask ONESHOT ≡ false
 
 -- what lives has its object
 abbrev pub is_backed : Files → Option Place → Bool
@@ -68,7 +66,7 @@ abbrev pub present_at : Files → ℕ → ℕ → ℕ
 present_at files now d = object_present (unwrap_or (object_of files d) plain) (side_of files d) now
 
 abbrev pub shown_at : Files → ℕ → Watch → ℕ
-shown_at files now x = asked x.mask (present_at files now x.target)
+shown_at files now x = when x.armed (asked x.mask (present_at files now x.target))
 
 abbrev pub shows : Files → ℕ → Watch → Bool
 shows files now x = nat_lt 0 (shown_at files now x)
@@ -80,6 +78,6 @@ shows_in files now e x = x.instance == e && shows files now x
 abbrev pub report_at : Files → ℕ → Watch → Report
 report_at files now x = record { bits = record { 0 = shown_at files now x }; tag = x.tag }
 
--- reported in event n, where its number is among these
+-- reported in event n, where its number is among these: a one-shot is disarmed
 abbrev pub reported_in : ℕ → List ℕ → Watch → Watch
-reported_in n ks x = if is_among ks x.number then record x { rep = n } else x
+reported_in n ks x = if is_among ks x.number then record x { rep = n; armed = x.armed && not (has_bit x.mask ONESHOT) } else x

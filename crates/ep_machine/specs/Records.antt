@@ -52,6 +52,12 @@ ctl_call epfd op fd mask tag = EpollCtl (fd_of epfd) op (fd_of fd) (record { 0 =
 abbrev pub add_call : ℕ → ℕ → ℕ → ℕ → Call
 add_call epfd fd mask tag = ctl_call (pos epfd) (pos 1) (pos fd) mask tag
 
+abbrev pub mod_call : ℕ → ℕ → ℕ → ℕ → Call
+mod_call epfd fd mask tag = ctl_call (pos epfd) (pos 3) (pos fd) mask tag
+
+abbrev pub del_call : ℕ → ℕ → Call
+del_call epfd fd = ctl_call (pos epfd) (pos 2) (pos fd) 0 0
+
 abbrev pub wait_call_for : ℤ → ℤ → ℤ → Call
 wait_call_for epfd most timeout = EpollWait (fd_of epfd) most timeout
 

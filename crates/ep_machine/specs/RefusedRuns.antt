@@ -3,9 +3,9 @@ use Rattle.std.specs.Prelude.{List, [], negsuc, pos, replicate, ◌++◌, ◌∷
 use Rattle.ep_base.specs.declared.answer.Answer.{Answer}
 use Rattle.ep_base.specs.declared.answer.Answer.TheVariants.{Bytes, Done, Num, Refused}
 use Rattle.ep_base.specs.declared.errno.Errno.{Errno}
-use Rattle.ep_base.specs.declared.errno.Errno.TheVariants.{Eagain, Ebadf, Eexist, Einval, Emfile, Enfile, Eperm, Esrch}
+use Rattle.ep_base.specs.declared.errno.Errno.TheVariants.{Eagain, Ebadf, Eexist, Einval, Emfile, Enoent, Enfile, Eperm, Esrch}
 use Rattle.ep_base.specs.declared.record.Record.{Record}
-use Rattle.ep_machine.specs.Records.{add_call, answered, by_process, create_call, ctl_call, pipe_call, read_call, refused, reporting, two, wait_call, wait_call_for, write_call}
+use Rattle.ep_machine.specs.Records.{add_call, answered, by_process, create_call, ctl_call, del_call, mod_call, pipe_call, read_call, refused, reporting, two, wait_call, wait_call_for, write_call}
 
 -- where one descriptor number is free: a pipe wants two
 abbrev pub descriptors_run : Answer → List Record
@@ -63,22 +63,26 @@ ctl_run of_plain =
     ∷ refused (ctl_call (pos 3) (negsuc 0) (pos 4) 1 0) Einval
     ∷ []
 
--- epoll_ctl: what is not accepted yet, bits without effect, a key that is there
+-- epoll_ctl: what is not accepted yet, bits without effect, a key that is there or is not
 abbrev pub masks_run : Answer → List Record
 masks_run of_edge =
     opened
     ++ answered create_call (Num 6)
     ∷ refused (add_call 3 6 1 0) Einval
-    ∷ refused (ctl_call (pos 3) (pos 2) (pos 4) 1 0) Einval
-    ∷ refused (ctl_call (pos 3) (pos 3) (pos 4) 1 0) Einval
+    ∷ refused (del_call 3 4) Enoent
+    ∷ refused (mod_call 3 4 1 0) Enoent
     ∷ refused (add_call 3 4 268435457 0) Einval
     ∷ answered (add_call 3 4 2147483649 0) of_edge
-    ∷ refused (add_call 3 4 1073741825 0) Einval
     ∷ answered (add_call 3 4 536870915 0) Done
     ∷ refused (add_call 3 4 268435457 0) Einval
+    ∷ refused (mod_call 3 4 268435457 0) Einval
+    ∷ refused (mod_call 3 4 2147483649 0) Einval
     ∷ refused (add_call 3 4 1 0) Eexist
     ∷ answered (add_call 3 5 0 0) Done
     ∷ answered (add_call 6 4 1 0) Done
+    ∷ refused (del_call 6 5) Enoent
+    ∷ answered (ctl_call (pos 3) (pos 2) (pos 4) 2415919105 0) Done
+    ∷ refused (del_call 3 4) Enoent
     ∷ []
 
 -- where one registration is allowed

@@ -3,7 +3,7 @@
 ghost use Rattle.std.specs.Prelude.{◌≡◌, ◌∷◌, ◌++◌, [], true, false, Some};
 ghost use Rattle.ep_base.specs.Limits.{default_limits};
 ghost use Rattle.ep_base.specs.declared.answer.Answer.TheVariants.{Done, Num, Refused};
-ghost use Rattle.ep_base.specs.declared.errno.Errno.TheVariants.{Eagain, Ebadf, Eexist, Einval, Emfile, Enfile, Enospc, Enotsock, Eperm, Epipe, Esrch};
+ghost use Rattle.ep_base.specs.declared.errno.Errno.TheVariants.{Eagain, Ebadf, Eexist, Einval, Emfile, Enoent, Enfile, Enospc, Enotsock, Eperm, Epipe, Esrch};
 ghost use Rattle.ep_machine.specs.CounterRuns.{greatest_run, semaphore_run};
 ghost use Rattle.ep_machine.specs.DescriptorRuns.{closed_reader_run, closed_socket_run, exec_run, full_tables_run, numbers_run};
 ghost use Rattle.ep_machine.specs.FairRun.{both_readable, first_told, second_told};
@@ -11,6 +11,7 @@ ghost use Rattle.ep_machine.specs.FullPipeRun.{full_pipe_run};
 ghost use Rattle.ep_machine.specs.LevelRun.{level_run};
 ghost use Rattle.ep_machine.specs.Records.{answered, create_call, pipe_call, report, small_limits, socket_limits, tight_limits, two};
 ghost use Rattle.ep_machine.specs.RefusedRuns.{ctl_run, descriptors_first_run, descriptors_run, files_run, masks_run, process_run, read_run, wait_run, watches_run, write_run};
+ghost use Rattle.ep_machine.specs.RegistrationRuns.{key_run, one_shot_run};
 ghost use Rattle.ep_machine.specs.Run.{is_run, run};
 ghost use Rattle.ep_machine.specs.SocketRuns.{full_run, last_description_run, no_socket_run, shut_run};
 ghost use Rattle.ep_machine.specs.State.{opening};
@@ -184,4 +185,16 @@ pub fn exec()
 pub fn numbers()
     ensures run { is_run default_limits (numbers_run 3) ≡ true }
     ensures no_run { is_run default_limits (numbers_run 5) ≡ false }
+{}
+
+/// EPOLLONESHOT of epoll_ctl(2): after its report a registration shows nothing until MOD.
+pub fn one_shot()
+    ensures run { is_run default_limits (one_shot_run [] []) ≡ true }
+    ensures no_run { is_run default_limits (one_shot_run (report 17 7 ∷ []) (1 ∷ [])) ≡ false }
+{}
+
+/// epoll(7): an interest set holds pairs of a descriptor number and an open file description.
+pub fn key()
+    ensures run { is_run default_limits (key_run Enoent) ≡ true }
+    ensures no_run { is_run default_limits (key_run Eexist) ≡ false }
 {}

@@ -8,7 +8,7 @@ use Rattle.ep_base.specs.declared.ids.DescId.{DescId}
 use Rattle.ep_machine.specs.Deaths.{dying, named_in_tables}
 use Rattle.ep_machine.specs.Files.{Files, Place, is_live, place_of}
 use Rattle.ep_machine.specs.Lists.{are_distinct, is_among}
-use Rattle.ep_machine.specs.Quiet.{Changed, IsSettled, is_backed, kept_all, stays_in}
+use Rattle.ep_machine.specs.Quiet.{Changed, IsSettled, is_backed, stays_in}
 use Rattle.ep_machine.specs.State.{State, Watch}
 use Rattle.ep_machine.proofs.Burying.{Buried, all_buried}
 use Rattle.ep_machine.proofs.Living.{dying_distinct, dying_placed}
@@ -19,7 +19,7 @@ use Rattle.ep_plain.specs.Burial.{Burial, is_untouched}
 use Rattle.ep_plain.specs.Moves.{Parts, StandFor, Unheld}
 use Rattle.ep_plain.specs.Stands.{AreLinked, IsLinked, number_at, watch_at}
 use Rattle.ep_plain.proofs.Keys.{under_key}
-use Rattle.ep_table.specs.Value.{Seen, Sound, holds_of}
+use Rattle.ep_table.specs.Value.{Sound, holds_of}
 
 module _ (mid new : Parts) (burial : Burial mid.tables mid.interest new.tables new.interest) (clock : new.now ≡ mid.now) (linked : AreLinked mid.tables mid.interest) (unheld : Unheld mid.tables)
     (after t : State) (changed : Changed after) (settled : IsSettled after t) (stands : StandFor mid after) where

@@ -1,13 +1,12 @@
 -- Descriptions die one by one, and the registrations that go with each.
-use Rattle.std.proofs.Common.{◌≡◌, ◌≢◌, ◌∙◌, ◌+◌, ◌<◌, ◌==◌, ◌&&◌, ◌||◌, ◌⊎◌, ◌++◌, ℕ, zero, suc, All, Bool, true, false, IsSome, List, [], ◌∷◌, None, Option, Some, ap, append_assoc, arith, cond, filter, get_or, inl, inr, length, map, not, refl, set, slice_index_or, subst, sym, unwrap_or}
-use Rattle.std.specs.List.{AllByRecursion}
+use Rattle.std.proofs.Common.{◌≡◌, ◌∙◌, ◌==◌, ◌&&◌, ◌||◌, ◌++◌, ℕ, zero, suc, All, Bool, true, false, IsSome, List, [], ◌∷◌, None, Option, Some, ap, append_assoc, arith, cond, filter, get_or, inl, inr, length, map, not, refl, set, slice_index_or, subst, sym, unwrap_or}
 use Rattle.std.proofs.lemmas.Bool.{cases_Bool, false≢true}
 use Rattle.std.proofs.lemmas.Bool.Decides.{nat_tests}
 use Rattle.std.proofs.lemmas.List.{length-set, map-append}
 use Rattle.std.proofs.lemmas.Option.{none-some}
 use Rattle.std.proofs.lemmas.List.Elements.{All-cons, All-head, All-nil, All-tail}
 use Rattle.ep_base.specs.declared.ids.DescId.{DescId}
-use Rattle.ep_machine.specs.Deaths.{die, die_all}
+use Rattle.ep_machine.specs.Deaths.{die}
 use Rattle.ep_machine.specs.Files.{Files, Place, place_of}
 use Rattle.ep_machine.specs.Lists.{is_among}
 use Rattle.ep_machine.specs.State.{Watch}
@@ -130,7 +129,6 @@ module _ (v w : Seen) (dead : Dead) (takes : Takes v w dead) (sound : Sound v) w
         instance = subst (λ (o : Option ℕ). IsSome o) (sym (same_number x.instance two.0)) link.instance;
         desc = subst (λ (o : Option ℕ). IsSome o) (sym (same_number x.desc two.1)) link.desc;
         fd = link.fd;
-        armed = link.armed;
       }
 
   pub watches_left : (xs : List Entry) → All (IsLinked v.keys) xs → map (watch_at w.keys) (filter (is_apart_from dead.desc) xs) ≡ filter (leaves takes.number) (map (watch_at v.keys) xs)

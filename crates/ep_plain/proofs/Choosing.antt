@@ -1,12 +1,14 @@
 -- The longest unreported registrations, and what noting them leaves.
-use Rattle.std.proofs.Common.{◌≡◌, ◌==◌, ◌||◌, ◌<◌, ◌≤◌, ◌++◌, ℕ, zero, suc, Bool, false, true, List, [], ◌∷◌, Option, Some, None, cond, get_or, length, map, if◌then◌else◌, refl, ap, sym, ◌∙◌, arith, subst}
-use Rattle.std.specs.List.{list_any}
+use Rattle.std.proofs.Common.{◌≡◌, ◌==◌, ◌&&◌, ◌||◌, ◌<◌, ◌++◌, ℕ, zero, suc, Bool, false, true, List, [], ◌∷◌, Some, None, cond, get_or, length, map, not, inl, inr, refl, ap, sym, ◌∙◌, arith}
+use Rattle.std.specs.List.{AllByRecursion}
 use Rattle.std.specs.List.Sorted.{IsNonDecreasingBy}
+use Rattle.std.proofs.lemmas.Bool.{cases_Bool}
 use Rattle.std.proofs.lemmas.List.{length-map}
-use Rattle.ep_base.specs.declared.counts.Counts.{Counts}
-use Rattle.ep_interest.specs.Registrations.{noted}
+use Rattle.ep_interest.specs.Registrations.{noted, numbered}
 use Rattle.ep_interest.specs.declared.entry.Entry.{Entry}
+use Rattle.ep_machine.specs.Bits.{ONESHOT, has_bit}
 use Rattle.ep_machine.specs.Lists.{is_among}
+use Rattle.ep_plain.proofs.Found.{from_test, some_one}
 use Rattle.ep_plain.specs.Wait.{noted_in}
 use Rattle.ep_plain.specs.declared.wait.Reportable.{Reportable}
 
@@ -34,27 +36,62 @@ among_more : (ks : List ℕ) (k n : ℕ) → is_among (ks ++ k ∷ []) n ≡ (is
 among_more [] k n = or_false (n == k)
 among_more (x ∷ ks) k n = ap (λ (b : Bool). n == x || b) (among_more ks k n) ∙ or_assoc (n == x) (is_among ks n) (n == k)
 
--- one registration noted after others
-noted_one : (n k : ℕ) (b c : Bool) (x : Entry) → (if c then record (if b then record x { armed = true; seen = None; rep = n; from = 0 } else x) { armed = true; seen = None; rep = n; from = 0 } else (if b then record x { armed = true; seen = None; rep = n; from = 0 } else x)) ≡ (if b || c then record x { armed = true; seen = None; rep = n; from = 0 } else x)
-noted_one n k true true x = refl
-noted_one n k true false x = refl
-noted_one n k false true x = refl
-noted_one n k false false x = refl
+abbrev disarmed : ℕ → Entry → Entry
+disarmed n x = record x { armed = x.armed && not (has_bit x.mask.0 ONESHOT); seen = None; rep = n; from = 0 }
 
-number_noted : (n : ℕ) (b : Bool) (x : Entry) → (if b then record x { armed = true; seen = None; rep = n; from = 0 } else x).number ≡ x.number
+-- a one-shot that is disarmed stays so
+twice : (a b : Bool) → ((a && not b) && not b) ≡ (a && not b)
+twice true true = refl
+twice true false = refl
+twice false b = refl
+
+-- one registration noted after others
+noted_one : (n : ℕ) (b c : Bool) (x : Entry) → cond c (disarmed n (cond b (disarmed n x) x)) (cond b (disarmed n x) x) ≡ cond (b || c) (disarmed n x) x
+noted_one n true true x = ap (λ (a : Bool). let y : Entry = record x { armed = a; seen = None; rep = n; from = 0 } in y) (twice x.armed (has_bit x.mask.0 ONESHOT))
+noted_one n true false x = refl
+noted_one n false true x = refl
+noted_one n false false x = refl
+
+number_noted : (n : ℕ) (b : Bool) (x : Entry) → (cond b (disarmed n x) x).number ≡ x.number
 number_noted n true x = refl
 number_noted n false x = refl
 
-pub noted_more : (n k : ℕ) (ks : List ℕ) (xs : List Entry) → map (noted k true None n 0) (map (noted_in n ks) xs) ≡ map (noted_in n (ks ++ k ∷ [])) xs
+pub noted_more : (n k : ℕ) (ks : List ℕ) (xs : List Entry) → map (noted_in n (k ∷ [])) (map (noted_in n ks) xs) ≡ map (noted_in n (ks ++ k ∷ [])) xs
 noted_more n k ks [] = refl
 noted_more n k ks (x ∷ xs) =
     let y = noted_in n ks x in
-    let a : (y.number == k) ≡ (x.number == k) = ap (λ (m : ℕ). m == k) (number_noted n (is_among ks x.number) x) in
-    let one : noted k true None n 0 y ≡ noted_in n (ks ++ k ∷ []) x =
-    ap (λ (c : Bool). if c then record y { armed = true; seen = None; rep = n; from = 0 } else y) a
-    ∙ (noted_one n k (is_among ks x.number) (x.number == k) x
-    ∙ ap (λ (b : Bool). if b then record x { armed = true; seen = None; rep = n; from = 0 } else x) (sym (among_more ks k x.number))) in
+    let a : ((y.number == k) || false) ≡ (x.number == k) = or_false (y.number == k) ∙ ap (λ (m : ℕ). m == k) (number_noted n (is_among ks x.number) x) in
+    let one : noted_in n (k ∷ []) y ≡ noted_in n (ks ++ k ∷ []) x =
+    ap (λ (c : Bool). cond c (disarmed n y) y) a
+    ∙ (noted_one n (is_among ks x.number) (x.number == k) x
+    ∙ ap (λ (b : Bool). cond b (disarmed n x) x) (sym (among_more ks k x.number))) in
     λ i. one i ∷ noted_more n k ks xs i
+
+-- what is noted of the registration with a number, where each of that number has these fields
+pub noted_at : (n k : ℕ) (armed : Bool) (xs : List Entry) → AllByRecursion (λ x. (x.number == k) ≡ true → (x.armed && not (has_bit x.mask.0 ONESHOT)) ≡ armed) xs → map (noted k armed None n 0) xs ≡ map (noted_in n (k ∷ [])) xs
+noted_at n k armed [] h = refl
+noted_at n k armed (x ∷ xs) h =
+    let rest = noted_at n k armed xs h.1 in
+    let set : Bool → Entry = λ a. record x { armed = a; seen = None; rep = n; from = 0 } in
+    let one : noted k armed None n 0 x ≡ noted_in n (k ∷ []) x =
+    elim (cases_Bool (x.number == k)) [
+      | inl e ↦
+          ap (λ (b : Bool). cond b (set armed) x) e
+          ∙ (ap set (sym (h.0 e)) ∙ ap (λ (b : Bool). cond b (disarmed n x) x) (sym (or_false (x.number == k) ∙ e)))
+      | inr e ↦ ap (λ (b : Bool). cond b (set armed) x) e ∙ ap (λ (b : Bool). cond b (disarmed n x) x) (sym (or_false (x.number == k) ∙ e))
+    ] in
+    λ i. one i ∷ rest i
+
+-- the registration that a number finds is each one of that number
+pub of_number : (k : ℕ) (y : Entry) (all xs : List Entry) → numbered all k ≡ Some y → AllByRecursion (λ x. numbered all x.number ≡ Some x) xs
+    → AllByRecursion (λ x. (x.number == k) ≡ true → (x.armed && not (has_bit x.mask.0 ONESHOT)) ≡ (y.armed && not (has_bit y.mask.0 ONESHOT))) xs
+of_number k y all [] is h = tt
+of_number k y all (x ∷ xs) is h = (
+  λ e.
+      let same : x ≡ y = some_one x y (sym h.0 ∙ (ap (numbered all) (from_test x.number k e) ∙ is)) in
+      ap (λ (z : Entry). z.armed && not (has_bit z.mask.0 ONESHOT)) same,
+  of_number k y all xs is h.1,
+)
 
 pub noted_none : (n : ℕ) (xs : List Entry) → map (noted_in n []) xs ≡ xs
 noted_none n [] = refl

@@ -1,37 +1,39 @@
--- epoll_ctl: its refusals in three parts, and an addition.
-use Rattle.std.proofs.Common.{◌≡◌, ◌==◌, ◌&&◌, ◌||◌, ◌+◌, ◌<◌, ◌++◌, ℕ, ℤ, pos, negsuc, zero, suc, true, false, Bool, List, [], ◌∷◌, Option, Some, None, IsSome, All, ◌≤◌, not, length, map, nat_le, unwrap_or, refl, ap, sym, ◌∙◌, arith, subst, if◌then◌else◌}
-use Rattle.std.proofs.lemmas.Bool.{cases_Bool, false≢true}
-use Rattle.std.proofs.lemmas.Bool.Decides.{nat_tests}
+-- epoll_ctl: its refusals in three parts, and what it does.
+use Rattle.std.proofs.Common.{◌≡◌, ◌==◌, ◌&&◌, ◌||◌, ◌+◌, ◌++◌, ℕ, ℤ, pos, negsuc, true, false, Bool, List, [], ◌∷◌, Option, Some, None, IsSome, All, MatchBool, cond, filter, not, length, map, nat_le, unwrap_or, refl, ap, sym, ◌∙◌, subst}
+use Rattle.std.proofs.lemmas.Bool.{false≢true}
 use Rattle.std.proofs.lemmas.Option.{none-some}
 use Rattle.ep_base.specs.Limits.{Limits}
 use Rattle.ep_base.specs.declared.errno.Errno.{Errno}
 use Rattle.ep_base.specs.declared.errno.Errno.TheVariants.{Ebadf, Eexist, Einval, Eloop, Enoent, Enospc, Eperm}
-use Rattle.ep_machine.specs.Bits.{ET, EXCLUSIVE, ONESHOT, has_bit}
+use Rattle.ep_machine.specs.Bits.{EXCLUSIVE, has_bit}
 use Rattle.ep_machine.specs.Effect.{first}
 use Rattle.ep_machine.specs.Files.{Files, named_by, names_nothing, object_under}
 use Rattle.ep_machine.specs.Objects.{is_instance, is_plain}
-use Rattle.ep_machine.specs.Refusal.{ctl_refusals, is_later_mask, is_later_op}
+use Rattle.ep_machine.specs.Refusal.{ctl_refusals, is_later_mask}
 use Rattle.ep_machine.specs.State.{Change, State}
-use Rattle.ep_machine.specs.Watches.{is_add, is_del, is_legal, is_mod, is_op, is_there, links, number_in}
-use Rattle.std.specs.List.{list_any}
+use Rattle.ep_machine.specs.Watches.{is_add, is_del, is_legal, is_mod, is_there, links, number_in}
+use Rattle.std.specs.List.{AllByRecursion, list_any}
+use Rattle.ep_base.specs.declared.answer.Answer.{Answer}
 use Rattle.ep_base.specs.declared.answer.Answer.TheVariants.{Done, Refused}
-use Rattle.ep_base.specs.declared.ids.EntryId.{EntryId}
-use Rattle.ep_machine.specs.Files.{numbers_of, slot_under, under}
+use Rattle.ep_machine.specs.Files.{under}
 use Rattle.ep_machine.specs.Step.{call_change}
-use Rattle.ep_machine.specs.Watches.{add, delete, modify, new_watch}
+use Rattle.ep_machine.specs.Watches.{add, ctl, delete, has_key as has_numbers, modified as modified_watch, modify, new_watch}
 use Rattle.std.proofs.lemmas.List.{map-append}
-use Rattle.std.proofs.lemmas.List.Elements.{All-append, All-cons, All-nil}
-use Rattle.ep_machine.specs.Quiet.{kept_all, kept_of}
-use Rattle.ep_machine.specs.State.{Watch}
-use Rattle.ep_plain.specs.Control.{Names, control_call, is_refused_op, naming_refusals, room_refusals}
+use Rattle.std.proofs.lemmas.List.Elements.{All-append, All-cons, All-filter, All-nil}
+use Rattle.ep_machine.specs.Quiet.{kept_of}
+use Rattle.ep_plain.specs.Control.{Alters, Enters, Names, code_of, control_call, is_refused_op, naming_refusals, room_refusals}
 use Rattle.ep_plain.specs.Moves.{Goes}
-use Rattle.ep_interest.specs.Registrations.{Registrations, has_key, new_entry}
+use Rattle.ep_interest.specs.Registrations.{Registrations, has_key, is_other, modified, new_entry}
 use Rattle.ep_plain.specs.Stands.{AreLinked, IsLinked, Stands, number_at, watch_at}
-use Rattle.ep_table.specs.Value.{Seen, Sound as SoundTables, number_under}
+use Rattle.ep_table.specs.Value.{Seen, Sound as SoundTables}
 use Rattle.ep_plain.specs.declared.control.Control.{Control}
 use Rattle.ep_plain.specs.declared.control.Named.{Named}
+use Rattle.ep_plain.specs.declared.control.Operation.{Operation}
+use Rattle.ep_plain.specs.declared.control.Operation.TheVariants.{Add, Delete, Modify}
 use Rattle.ep_interest.specs.declared.entry.Entry.{Entry}
 use Rattle.ep_plain.proofs.Going.{goes_made, goes_refused}
+use Rattle.ep_machine.proofs.Showing.{kept_filter}
+use Rattle.ep_plain.proofs.Found.{all_modified, changed, linked_modified, without}
 use Rattle.ep_plain.proofs.Linking.{count_is, there_is}
 
 -- of two lists of tests, the second is asked where nothing of the first holds
@@ -47,34 +49,29 @@ first_none ((false, a) ∷ xs) ys h = first_none xs ys h
 
 -- the tests of the operation and of the mask
 abbrev op_refusals : Bool → Bool → Bool → Bool → Bool → List (Bool × Errno) → List (Bool × Errno)
-op_refusals a d m x l rest = (not (a || d || m), Einval) ∷ (d || m, Einval) ∷ (not d && x, Einval) ∷ (a && l, Einval) ∷ rest
+op_refusals a d m x l rest = (not (a || d || m), Einval) ∷ (not d && x, Einval) ∷ (not d && l, Einval) ∷ rest
 
-refused_op : (a d m x l : Bool) (rest : List (Bool × Errno)) → (not a || x || l) ≡ true → first (op_refusals a d m x l rest) ≡ Some Einval
+refused_op : (a d m x l : Bool) (rest : List (Bool × Errno)) → (not (a || d || m) || not d && (x || l)) ≡ true → first (op_refusals a d m x l rest) ≡ Some Einval
 refused_op false false false x l rest h = refl
-refused_op false true m x l rest h = refl
-refused_op false false true x l rest h = refl
-refused_op true true m x l rest h = refl
-refused_op true false true x l rest h = refl
-refused_op true false false true l rest h = refl
-refused_op true false false false true rest h = refl
-refused_op true false false false false rest h = absurd (false≢true h)
+refused_op true true m x l rest h = cc
+refused_op false true m x l rest h = cc
+refused_op true false m true l rest h = refl
+refused_op true false m false true rest h = refl
+refused_op true false m false false rest h = cc
+refused_op false false true true l rest h = refl
+refused_op false false true false true rest h = refl
+refused_op false false true false false rest h = cc
 
-accepted_op : (a d m x l : Bool) (rest : List (Bool × Errno)) → (not a || x || l) ≡ false → d ≡ false → m ≡ false → first (op_refusals a d m x l rest) ≡ first rest
-accepted_op true false false false false rest h i j = refl
-accepted_op true false false false true rest h i j = absurd (false≢true (sym h))
-accepted_op true false false true l rest h i j = absurd (false≢true (sym h))
-accepted_op true false true x l rest h i j = absurd (false≢true (sym j))
-accepted_op true true m x l rest h i j = absurd (false≢true (sym i))
-accepted_op false d m x l rest h i j = absurd (false≢true (sym h))
-
-accepted_add : (a x l : Bool) → (not a || x || l) ≡ false → a ≡ true
-accepted_add true x l h = refl
-accepted_add false x l h = absurd (false≢true (sym h))
-
--- an addition is no other operation
-add_alone : (op : ℤ) → is_add op ≡ true → (is_del op ≡ false) × (is_mod op ≡ false)
-add_alone (pos k) h = (grind (arith, nat_tests, h), grind (arith, nat_tests, h))
-add_alone (negsuc k) h = absurd (false≢true h)
+accepted_op : (a d m x l : Bool) (rest : List (Bool × Errno)) → (not (a || d || m) || not d && (x || l)) ≡ false → first (op_refusals a d m x l rest) ≡ first rest
+accepted_op true true m x l rest h = refl
+accepted_op false true m x l rest h = refl
+accepted_op true false m false false rest h = refl
+accepted_op false false true false false rest h = refl
+accepted_op true false m true l rest h = cc
+accepted_op true false m false true rest h = cc
+accepted_op false false true true l rest h = cc
+accepted_op false false true false true rest h = cc
+accepted_op false false false x l rest h = cc
 
 -- what the tests of the names leave
 abbrev after_names : Limits → State → ℕ → ℤ → ℤ → ℤ → ℕ → List (Bool × Errno)
@@ -96,24 +93,20 @@ module _ (limits : Limits) (s : State) (p : ℕ) (epfd op fd : ℤ) (mask : ℕ)
       first_none (naming_refusals s.files p epfd fd) (after_names limits s p epfd op fd mask) h
       ∙ refused_op (is_add op) (is_del op) (is_mod op) (has_bit mask EXCLUSIVE) (is_later_mask mask) _ i
 
-  -- with the target no instance, room alone is left to refuse
-  room_left : (a t i l w : Bool) → a ≡ true → i ≡ false → first ((not a && not t, Enoent) ∷ (a && t, Eexist) ∷ (a && i && not l, Eloop) ∷ (a && w, Enospc) ∷ []) ≡ first ((t, Eexist) ∷ (w, Enospc) ∷ [])
-  room_left true true false l w h j = refl
-  room_left true false false l w h j = refl
-  room_left true t true l w h j = absurd (false≢true (sym j))
-  room_left false t i l w h j = absurd (false≢true h)
+  -- the target is no instance
+  room_left : (a t i l w : Bool) → i ≡ false → first ((not a && not t, Enoent) ∷ (a && t, Eexist) ∷ (a && i && not l, Eloop) ∷ (a && w, Enospc) ∷ []) ≡ first ((not a && not t, Enoent) ∷ (a && t, Eexist) ∷ (a && w, Enospc) ∷ [])
+  room_left true true i l w h = refl
+  room_left true false false l w h = refl
+  room_left true false true l w h = cc
+  room_left false true i l w h = refl
+  room_left false false i l w h = refl
 
   pub refused_room : first (naming_refusals s.files p epfd fd) ≡ None → is_refused_op op mask ≡ false → is_instance (object_under s.files p fd) ≡ false
-      → first (ctl_refusals limits s p epfd op fd mask) ≡ first (room_refusals (is_there s (named_by s.files p epfd) (number_in fd) (named_by s.files p fd)) limits.watches (length s.watches))
+      → first (ctl_refusals limits s p epfd op fd mask) ≡ first (room_refusals (is_add op) (is_there s (named_by s.files p epfd) (number_in fd) (named_by s.files p fd)) limits.watches (length s.watches))
   refused_room h i j =
-      let a = accepted_add (is_add op) (has_bit mask EXCLUSIVE) (is_later_mask mask) i in
-      let alone = add_alone op a in
       first_none (naming_refusals s.files p epfd fd) (after_names limits s p epfd op fd mask) h
-      ∙ (accepted_op (is_add op) (is_del op) (is_mod op) (has_bit mask EXCLUSIVE) (is_later_mask mask) _ i alone.0 alone.1
-      ∙ room_left (is_add op) _ (is_instance (object_under s.files p fd)) _ _ a j)
-
-  pub is_addition : is_refused_op op mask ≡ false → is_add op ≡ true
-  is_addition i = accepted_add (is_add op) (has_bit mask EXCLUSIVE) (is_later_mask mask) i
+      ∙ (accepted_op (is_add op) (is_del op) (is_mod op) (has_bit mask EXCLUSIVE) (is_later_mask mask) _ i
+      ∙ room_left (is_add op) _ (is_instance (object_under s.files p fd)) _ _ j)
 
 -- a number that names something is not negative
 descriptor_of : (files : Files) (p : ℕ) (fd : ℤ) → IsSome (under files p fd) → fd ≡ pos (number_in fd)
@@ -128,6 +121,33 @@ last_test false false true d i e f g j k h = absurd (none-some g (sym h))
 last_test false true c d i e f g j k h = absurd (none-some f (sym h))
 last_test true b c d i e f g j k h = absurd (none-some e (sym h))
 
+module _ (v : Seen) (r : Registrations) (p : ℕ) (args : Control) (named : Named) (names : Names v p args.epfd.0 args.fd.0 named) (linked : AreLinked v r) where
+  pub descriptor : args.fd.0 ≡ pos (number_in args.fd.0)
+  descriptor = descriptor_of v.files p args.fd.0 (subst (λ (o : Option ℕ). IsSome o) names.desc names.desc_lives)
+
+  pub linked_altered : (k : ℕ) (operation : Operation) (new : Registrations) (answer : Answer) → Alters operation k args.mask args.tag r new answer → AreLinked v new
+  linked_altered k Add new answer h = subst (λ (q : Registrations). AreLinked v q) (sym h.1) linked
+  linked_altered k Delete new answer h = subst (λ (xs : List Entry). All (IsLinked v.keys) xs) (sym h.1) (All-filter (is_other k) (IsLinked v.keys) r.entries linked)
+  linked_altered k Modify new answer h = subst (λ (xs : List Entry). All (IsLinked v.keys) xs) (sym h.1) (linked_modified v.keys k args.mask args.tag r.entries linked)
+
+  abbrev added_entry : Entry
+  added_entry = new_entry (r.added + 1) named.instance args.fd named.desc args.mask args.tag
+
+  linked_more : (new : Registrations) → new.entries ≡ r.entries ++ added_entry ∷ [] → AreLinked v new
+  linked_more new entries =
+      let one : IsLinked v.keys added_entry = record { instance = names.instance_lives; desc = names.desc_lives; fd = descriptor } in
+      let P : List Entry → Type 0 = λ xs. All (IsLinked v.keys) xs in
+      subst P (sym entries) (All-append (IsLinked v.keys) r.entries _ linked (All-cons (IsLinked v.keys) _ [] one (All-nil (IsLinked v.keys))))
+
+  linked_added : (new : Registrations) (answer : Answer) (full : Bool) → MatchBool full ((answer ≡ Refused Enospc) × (new ≡ r)) ((answer ≡ Done) × (new.entries ≡ r.entries ++ added_entry ∷ []) × (new.added ≡ r.added + 1)) → AreLinked v new
+  linked_added new answer true h = subst (λ (q : Registrations). AreLinked v q) (sym h.1) linked
+  linked_added new answer false h = linked_more new h.1
+
+  pub linked_entered : (watches : ℕ) (operation : Operation) (new : Registrations) (answer : Answer) → Enters operation watches (new_entry (r.added + 1) named.instance args.fd named.desc args.mask args.tag) r new answer → AreLinked v new
+  linked_entered watches Add new answer h = linked_added new answer (nat_le watches (length r.entries)) h
+  linked_entered watches Delete new answer h = subst (λ (q : Registrations). AreLinked v q) (sym h.1) linked
+  linked_entered watches Modify new answer h = subst (λ (q : Registrations). AreLinked v q) (sym h.1) linked
+
 module _ (limits : Limits) (v : Seen) (r : Registrations) (s : State) (p : ℕ) (args : Control) (named : Named) (names : Names v p args.epfd.0 args.fd.0 named) (sound : SoundTables v) (now : ℕ) (stands : Stands v r now s) (linked : AreLinked v r) where
   accepted : first (naming_refusals s.files p args.epfd.0 args.fd.0) ≡ None
   accepted = ap (λ (f : Files). first (naming_refusals f p args.epfd.0 args.fd.0)) stands.files ∙ names.accepted
@@ -141,14 +161,15 @@ module _ (limits : Limits) (v : Seen) (r : Registrations) (s : State) (p : ℕ) 
   desc_is : named_by s.files p args.fd.0 ≡ number_at v.keys named.desc
   desc_is = ap (λ (f : Files). named_by f p args.fd.0) stands.files ∙ ap (λ (o : Option ℕ). unwrap_or o 0) (sym names.desc)
 
-  pub descriptor : args.fd.0 ≡ pos (number_in args.fd.0)
-  descriptor = descriptor_of v.files p args.fd.0 (subst (λ (o : Option ℕ). IsSome o) names.desc names.desc_lives)
+  under_number : args.fd.0 ≡ pos (number_in args.fd.0)
+  under_number = descriptor v r p args named names linked
 
   there : is_there s (named_by s.files p args.epfd.0) (number_in args.fd.0) (named_by s.files p args.fd.0) ≡ list_any (has_key named.instance args.fd named.desc) r.entries
-  there = (λ i. is_there s (instance_is i) (number_in args.fd.0) (desc_is i)) ∙ there_is v r now s named.instance named.desc args.fd.0 sound stands linked names.instance_lives names.desc_lives descriptor
+  there = (λ i. is_there s (instance_is i) (number_in args.fd.0) (desc_is i)) ∙ there_is v r now s named.instance named.desc args.fd.0 sound stands linked names.instance_lives names.desc_lives under_number
 
-  left_to_refuse : is_refused_op args.op args.mask.0 ≡ false → first (ctl_refusals limits s p args.epfd.0 args.op args.fd.0 args.mask.0) ≡ first (room_refusals (list_any (has_key named.instance args.fd named.desc) r.entries) limits.watches (length r.entries))
-  left_to_refuse h = refused_room limits s p args.epfd.0 args.op args.fd.0 args.mask.0 accepted h not_instance ∙ (λ i. first (room_refusals (there i) limits.watches (count_is v r now s stands i)))
+  left_to_refuse : is_refused_op args.op args.mask.0 ≡ false → first (ctl_refusals limits s p args.epfd.0 args.op args.fd.0 args.mask.0) ≡ first (room_refusals (is_add args.op) (list_any (has_key named.instance args.fd named.desc) r.entries) limits.watches (length r.entries))
+  left_to_refuse h =
+      refused_room limits s p args.epfd.0 args.op args.fd.0 args.mask.0 accepted h not_instance ∙ (λ i. first (room_refusals (is_add args.op) (there i) limits.watches (count_is v r now s stands i)))
 
   abbrev refusals : List (Bool × Errno)
   refusals = ctl_refusals limits s p args.epfd.0 args.op args.fd.0 args.mask.0
@@ -156,50 +177,101 @@ module _ (limits : Limits) (v : Seen) (r : Registrations) (s : State) (p : ℕ) 
   abbrev change : ℕ → Option Change
   change caller = call_change limits s caller p (control_call args) []
 
-  pub goes_einval : (n caller : ℕ) → is_refused_op args.op args.mask.0 ≡ true → Goes (ctl_refusals limits s p args.epfd.0 args.op args.fd.0 args.mask.0) (call_change limits s caller p (control_call args) []) s (Refused Einval) [] (record { tables = v; interest = r; now = now })
-  goes_einval n caller h = goes_refused refusals (change caller) s _ Einval (refused_mask limits s p args.epfd.0 args.op args.fd.0 args.mask.0 accepted h) stands
+  -- what the call comes to, with this answer and these registrations
+  abbrev pub GoesTo : ℕ → Answer → Registrations → Type 0
+  GoesTo caller answer new = Goes (ctl_refusals limits s p args.epfd.0 args.op args.fd.0 args.mask.0) (call_change limits s caller p (control_call args) []) s answer [] (record { tables = v; interest = new; now = now })
 
-  pub goes_eexist : (n caller : ℕ) → is_refused_op args.op args.mask.0 ≡ false → list_any (has_key named.instance args.fd named.desc) r.entries ≡ true → Goes (ctl_refusals limits s p args.epfd.0 args.op args.fd.0 args.mask.0) (call_change limits s caller p (control_call args) []) s (Refused Eexist) [] (record { tables = v; interest = r; now = now })
-  goes_eexist n caller h i = goes_refused refusals (change caller) s _ Eexist (left_to_refuse h ∙ ap (λ (b : Bool). first (room_refusals b limits.watches (length r.entries))) i) stands
+  refuses : (caller : ℕ) (e : Errno) (answer : Answer) (new : Registrations) → first refusals ≡ Some e → answer ≡ Refused e → new ≡ r → GoesTo caller answer new
+  refuses caller e answer new h a same = subst (λ (b : Answer). GoesTo caller b new) (sym a) (subst (λ (q : Registrations). GoesTo caller (Refused e) q) (sym same) (goes_refused refusals (change caller) s _ e h stands))
 
-  pub goes_enospc : (n caller : ℕ) → is_refused_op args.op args.mask.0 ≡ false → list_any (has_key named.instance args.fd named.desc) r.entries ≡ false → limits.watches ≤ length r.entries → Goes (ctl_refusals limits s p args.epfd.0 args.op args.fd.0 args.mask.0) (call_change limits s caller p (control_call args) []) s (Refused Enospc) [] (record { tables = v; interest = r; now = now })
-  goes_enospc n caller h i le =
-      let t : nat_le limits.watches (length r.entries) ≡ true = grind (arith, nat_tests, le) in
-      goes_refused refusals (change caller) s _ Enospc (left_to_refuse h ∙ (ap (λ (b : Bool). first (room_refusals b limits.watches (length r.entries))) i ∙ ap (λ (b : Bool). first ((b, Enospc) ∷ [])) t)) stands
+  pub goes_einval : (n caller : ℕ) → is_refused_op args.op args.mask.0 ≡ true → GoesTo caller (Refused Einval) r
+  goes_einval n caller h = refuses caller Einval (Refused Einval) r (refused_mask limits s p args.epfd.0 args.op args.fd.0 args.mask.0 accepted h) refl refl
 
-  module _ (new : Registrations) (entries : new.entries ≡ r.entries ++ new_entry (r.added + 1) named.instance args.fd named.desc args.mask args.tag ∷ []) (added : new.added ≡ r.added + 1) where
-    entry : Entry
-    entry = new_entry (r.added + 1) named.instance args.fd named.desc args.mask args.tag
+  abbrev e : ℕ
+  e = named_by s.files p args.epfd.0
 
-    watch_is : kept_of (new_watch s (named_by s.files p args.epfd.0) (number_in args.fd.0) (named_by s.files p args.fd.0) args.mask.0 args.tag) ≡ watch_at v.keys (new_entry (r.added + 1) named.instance args.fd named.desc args.mask args.tag)
-    watch_is = λ i. record { number = stands.added i + 1; instance = instance_is i; fd = number_in args.fd.0; target = desc_is i; mask = args.mask.0; tag = args.tag; armed = true; seen = None; rep = 0; from = 0 }
+  abbrev d : ℕ
+  d = named_by s.files p args.fd.0
 
-    pub linked_more : AreLinked v new
-    linked_more =
-        let one : IsLinked v.keys (new_entry (r.added + 1) named.instance args.fd named.desc args.mask args.tag) = record { instance = names.instance_lives; desc = names.desc_lives; fd = descriptor; armed = refl } in
-        let P : List Entry → Type 0 = λ xs. All (IsLinked v.keys) xs in
-        subst P (sym entries) (All-append (IsLinked v.keys) r.entries _ linked (All-cons (IsLinked v.keys) _ [] one (All-nil (IsLinked v.keys))))
+  abbrev fd : ℕ
+  fd = number_in args.fd.0
 
-    pub goes_done : (n caller : ℕ) → is_refused_op args.op args.mask.0 ≡ false → list_any (has_key named.instance args.fd named.desc) r.entries ≡ false → length r.entries < limits.watches → Goes (ctl_refusals limits s p args.epfd.0 args.op args.fd.0 args.mask.0) (call_change limits s caller p (control_call args) []) s Done [] (record { tables = v; interest = new; now = now })
-    goes_done n caller h i lt =
-        let t : nat_le limits.watches (length r.entries) ≡ false = grind (arith, nat_tests, lt) in
-        let e = named_by s.files p args.epfd.0 in
-        let d = named_by s.files p args.fd.0 in
-        let a = is_addition limits s p args.epfd.0 args.op args.fd.0 args.mask.0 h in
-        goes_made refusals (change caller) s Done [] _
-        (left_to_refuse h ∙ (ap (λ (b : Bool). first (room_refusals b limits.watches (length r.entries))) i ∙ ap (λ (b : Bool). first ((b, Enospc) ∷ [])) t))
-        (record {
-          made = add s e (number_in args.fd.0) d args.mask.0 args.tag;
-          is = ap (λ (b : Bool). Some (if b then add s e (number_in args.fd.0) d args.mask.0 args.tag else if is_del args.op then delete s e (number_in args.fd.0) d else modify s e (number_in args.fd.0) d args.mask.0 args.tag)) a;
-          answers = refl;
-          stands = record {
-            now = stands.now;
-            files = stands.files;
-            watches =
-                map-append kept_of s.watches (new_watch s e (number_in args.fd.0) d args.mask.0 args.tag ∷ [])
-                ∙ ((λ i. stands.watches i ++ watch_is i ∷ [])
-                ∙ (sym (map-append (watch_at v.keys) r.entries (new_entry (r.added + 1) named.instance args.fd named.desc args.mask args.tag ∷ []))
-                ∙ ap (λ (xs : List Entry). map (watch_at v.keys) xs) (sym entries)));
-            added = ap (λ (k : ℕ). k + 1) stands.added ∙ sym added;
-          };
-        })
+  makes : (caller : ℕ) (c : Change) (answer : Answer) (new : Registrations) → first refusals ≡ None → ctl s p args.epfd.0 args.op args.fd.0 args.mask.0 args.tag ≡ c → c.0 ≡ answer → Stands v new now c.1 → GoesTo caller answer new
+  makes caller c answer new h is answers after = goes_made refusals (change caller) s answer [] _ h (record { made = c; is = ap (λ (b : Change). Some b) is; answers = answers; stands = after })
+
+  -- Of a registration that is there.
+  module _ (k : ℕ) (found : list_any (has_key named.instance args.fd named.desc) r.entries ≡ true) (has : AllByRecursion (λ x. has_key named.instance args.fd named.desc x ≡ (x.number == k)) r.entries) (op_accepted : is_refused_op args.op args.mask.0 ≡ false) where
+    none_left : is_add args.op ≡ false → first refusals ≡ None
+    none_left other =
+        left_to_refuse op_accepted
+        ∙ (λ i. first (room_refusals (other i) (found i) limits.watches (length r.entries)))
+
+    removed : (new : Registrations) → new.entries ≡ filter (is_other k) r.entries → new.added ≡ r.added → Stands v new now (delete s e fd d).1
+    removed new entries added = record {
+      now = stands.now;
+      files = stands.files;
+      watches =
+          kept_filter (λ x. not (has_numbers e fd d x)) s.watches
+          ∙ ((λ i. filter (λ x. not (has_numbers (instance_is i) fd (desc_is i) x)) (stands.watches i))
+          ∙ (without v named.instance args.fd.0 named.desc k sound names.instance_lives names.desc_lives under_number r.entries linked has
+          ∙ ap (map (watch_at v.keys)) (sym entries)));
+      added = stands.added ∙ sym added;
+    }
+
+    altered : (new : Registrations) → new.entries ≡ map (modified k args.mask args.tag) r.entries → new.added ≡ r.added → Stands v new now (modify s e fd d args.mask.0 args.tag).1
+    altered new entries added = record {
+      now = stands.now;
+      files = stands.files;
+      watches =
+          all_modified e fd d args.mask.0 args.tag s.watches
+          ∙ ((λ i. map (modified_watch (instance_is i) fd (desc_is i) args.mask.0 args.tag) (stands.watches i))
+          ∙ (changed v named.instance args.fd.0 named.desc k sound names.instance_lives names.desc_lives under_number args.mask args.tag r.entries linked has
+          ∙ ap (map (watch_at v.keys)) (sym entries)));
+      added = stands.added ∙ sym added;
+    }
+
+    pub goes_altered : (n caller : ℕ) (operation : Operation) (new : Registrations) (answer : Answer) → args.op ≡ code_of operation → Alters operation k args.mask args.tag r new answer → GoesTo caller answer new
+    goes_altered n caller Add new answer code h =
+        let adds : is_add args.op ≡ true = ap is_add code in
+        refuses caller Eexist answer new (left_to_refuse op_accepted ∙ (λ i. first (room_refusals (adds i) (found i) limits.watches (length r.entries)))) h.0 h.1
+    goes_altered n caller Delete new answer code h =
+        makes caller (delete s e fd d) answer new (none_left (ap is_add code)) (λ i. cond (is_add (code i)) (add s e fd d args.mask.0 args.tag) (cond (is_del (code i)) (delete s e fd d) (modify s e fd d args.mask.0 args.tag))) (sym h.0) (removed new h.1 h.2)
+    goes_altered n caller Modify new answer code h =
+        makes caller (modify s e fd d args.mask.0 args.tag) answer new (none_left (ap is_add code)) (λ i. cond (is_add (code i)) (add s e fd d args.mask.0 args.tag) (cond (is_del (code i)) (delete s e fd d) (modify s e fd d args.mask.0 args.tag))) (sym h.0) (altered new h.1 h.2)
+
+  -- Of one that is not.
+  module _ (absent : list_any (has_key named.instance args.fd named.desc) r.entries ≡ false) (op_accepted : is_refused_op args.op args.mask.0 ≡ false) where
+    watch_is : kept_of (new_watch s e fd d args.mask.0 args.tag) ≡ watch_at v.keys (new_entry (r.added + 1) named.instance args.fd named.desc args.mask args.tag)
+    watch_is = λ i. record { number = stands.added i + 1; instance = instance_is i; fd = fd; target = desc_is i; mask = args.mask.0; tag = args.tag; armed = true; seen = None; rep = 0; from = 0 }
+
+    more : (new : Registrations) → new.entries ≡ r.entries ++ new_entry (r.added + 1) named.instance args.fd named.desc args.mask args.tag ∷ [] → new.added ≡ r.added + 1 → Stands v new now (add s e fd d args.mask.0 args.tag).1
+    more new entries added = record {
+      now = stands.now;
+      files = stands.files;
+      watches =
+          map-append kept_of s.watches (new_watch s e fd d args.mask.0 args.tag ∷ [])
+          ∙ ((λ i. stands.watches i ++ watch_is i ∷ [])
+          ∙ (sym (map-append (watch_at v.keys) r.entries (new_entry (r.added + 1) named.instance args.fd named.desc args.mask args.tag ∷ []))
+          ∙ ap (λ (xs : List Entry). map (watch_at v.keys) xs) (sym entries)));
+      added = ap (λ (k : ℕ). k + 1) stands.added ∙ sym added;
+    }
+
+    abbrev x : Entry
+    x = new_entry (r.added + 1) named.instance args.fd named.desc args.mask args.tag
+
+    tests_are : is_add args.op ≡ true → first refusals ≡ first ((nat_le limits.watches (length r.entries), Enospc) ∷ [])
+    tests_are adds = left_to_refuse op_accepted ∙ (λ i. first (room_refusals (adds i) (absent i) limits.watches (length r.entries)))
+
+    goes_added : (caller : ℕ) (new : Registrations) (answer : Answer) (full : Bool) → nat_le limits.watches (length r.entries) ≡ full → args.op ≡ pos 1
+        → MatchBool full ((answer ≡ Refused Enospc) × (new ≡ r)) ((answer ≡ Done) × (new.entries ≡ r.entries ++ x ∷ []) × (new.added ≡ r.added + 1)) → GoesTo caller answer new
+    goes_added caller new answer true is code h = refuses caller Enospc answer new (tests_are (ap is_add code) ∙ ap (λ (b : Bool). first ((b, Enospc) ∷ [])) is) h.0 h.1
+    goes_added caller new answer false is code h =
+        makes caller (add s e fd d args.mask.0 args.tag) answer new (tests_are (ap is_add code) ∙ ap (λ (b : Bool). first ((b, Enospc) ∷ [])) is) (λ i. cond (is_add (code i)) (add s e fd d args.mask.0 args.tag) (cond (is_del (code i)) (delete s e fd d) (modify s e fd d args.mask.0 args.tag))) (sym h.0) (more new h.1 h.2)
+
+    nothing_there : is_add args.op ≡ false → first refusals ≡ Some Enoent
+    nothing_there other = left_to_refuse op_accepted ∙ (λ i. first (room_refusals (other i) (absent i) limits.watches (length r.entries)))
+
+    pub goes_entered : (n caller : ℕ) (operation : Operation) (new : Registrations) (answer : Answer) → args.op ≡ code_of operation → Enters operation limits.watches (new_entry (r.added + 1) named.instance args.fd named.desc args.mask args.tag) r new answer → GoesTo caller answer new
+    goes_entered n caller Add new answer code h = goes_added caller new answer (nat_le limits.watches (length r.entries)) refl code h
+    goes_entered n caller Delete new answer code h = refuses caller Enoent answer new (nothing_there (ap is_add code)) h.0 h.1
+    goes_entered n caller Modify new answer code h = refuses caller Enoent answer new (nothing_there (ap is_add code)) h.0 h.1

@@ -1,5 +1,5 @@
 -- Calls on descriptors make no description and no object.
-use Rattle.std.proofs.Common.{◌≡◌, ◌≤◌, ◌+◌, ◌∙◌, ℕ, ℤ, pos, negsuc, Bool, true, false, None, Option, Some, ap, arith, cond, length, refl, sym}
+use Rattle.std.proofs.Common.{◌≡◌, ◌∙◌, ℕ, ℤ, pos, negsuc, true, false, None, Option, Some, ap, arith, cond, length, refl}
 use Rattle.ep_base.specs.declared.errno.Errno.{Errno}
 use Rattle.ep_machine.specs.Files.{Files, Place, numbers_of}
 use Rattle.ep_machine.specs.Lists.{place_at}

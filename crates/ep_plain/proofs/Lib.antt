@@ -3,6 +3,7 @@ pub mod Going
 pub mod Growing
 pub mod Keys
 pub mod Linking
+pub mod Found
 pub mod ObjectCalling
 pub mod Waiting
 pub mod Choosing

@@ -1,12 +1,11 @@
 -- Registrations as the machine has them.
-use Rattle.std.proofs.Common.{◌≡◌, ◌==◌, ◌&&◌, ◌+◌, ◌<◌, ◌++◌, ℕ, ℤ, pos, negsuc, zero, suc, true, false, Bool, List, [], ◌∷◌, Option, Some, None, IsSome, All, length, map, slice_index_or, unwrap_or, refl, ap, sym, ◌∙◌, arith, subst, ◌↔◌}
+use Rattle.std.proofs.Common.{◌≡◌, ◌==◌, ◌&&◌, ◌||◌, ℕ, ℤ, pos, List, [], ◌∷◌, None, IsSome, All, length, map, refl, ap, sym, ◌∙◌}
 use Rattle.std.specs.List.{list_any}
 use Rattle.std.specs.Ordering.{int_eq}
 use Rattle.std.proofs.lemmas.Bool.Decides.{Decides-int_eq, Decides-eqb, same_from_decides}
-use Rattle.std.proofs.lemmas.List.{length-map, map-append}
-use Rattle.std.proofs.lemmas.List.Elements.{All-append, All-cons, All-head, All-nil, All-tail}
+use Rattle.std.proofs.lemmas.List.{length-map}
+use Rattle.std.proofs.lemmas.List.Elements.{All-head, All-tail}
 use Rattle.ep_base.specs.declared.ids.DescId.{DescId}
-use Rattle.ep_base.specs.declared.ids.Fd.{Fd}
 use Rattle.ep_machine.specs.Quiet.{kept_all, kept_of}
 use Rattle.ep_machine.specs.State.{State, Watch}
 use Rattle.ep_machine.specs.Watches.{has_key as has_numbers, is_there, number_in}
@@ -27,16 +26,21 @@ same_descriptor x y h i =
     same_from_decides (number_in x == number_in y) (int_eq x y)
     (λ t. h ∙ (ap (λ (n : ℕ). pos n) (e.0 t) ∙ sym i), λ same. e.1 (ap number_in same)) (Decides-int_eq x y)
 
+-- the test of the numbers is the test of the keys
+pub same_key_test : (v : Seen) (instance desc : DescId) (fd : ℤ) → Sound v → IsSome (number_under v instance) → IsSome (number_under v desc) → fd ≡ pos (number_in fd) → (x : Entry) → IsLinked v.keys x
+    → has_numbers (number_at v.keys instance) (number_in fd) (number_at v.keys desc) (watch_at v.keys x) ≡ has_key instance (record { 0 = fd }) desc x
+same_key_test v instance desc fd sound hi hd hf x link =
+    let a = same_keys v x.instance instance sound link.instance hi in
+    let b = same_descriptor x.fd.0 fd link.fd hf in
+    let c = same_keys v x.desc desc sound link.desc hd in λ i. a i && b i && c i
+
 -- the machine has a registration of these numbers where the interest sets have one of these keys
 there_linked : (v : Seen) (instance desc : DescId) (fd : ℤ) → Sound v → IsSome (number_under v instance) → IsSome (number_under v desc) → fd ≡ pos (number_in fd) → (xs : List Entry) → All (IsLinked v.keys) xs
     → list_any (has_numbers (number_at v.keys instance) (number_in fd) (number_at v.keys desc)) (map (watch_at v.keys) xs) ≡ list_any (has_key instance (record { 0 = fd }) desc) xs
 there_linked v instance desc fd sound hi hd hf [] linked = refl
 there_linked v instance desc fd sound hi hd hf (x ∷ xs) linked =
-    let link = All-head (IsLinked v.keys) x xs linked in
-    let a = same_keys v x.instance instance sound link.instance hi in
-    let b = same_descriptor x.fd.0 fd link.fd hf in
-    let c = same_keys v x.desc desc sound link.desc hd in
-    let rest = there_linked v instance desc fd sound hi hd hf xs (All-tail (IsLinked v.keys) x xs linked) in cc
+    let one = same_key_test v instance desc fd sound hi hd hf x (All-head (IsLinked v.keys) x xs linked) in
+    let rest = there_linked v instance desc fd sound hi hd hf xs (All-tail (IsLinked v.keys) x xs linked) in λ i. one i || rest i
 
 pub there_is : (v : Seen) (r : Registrations) (now : ℕ) (s : State) (instance desc : DescId) (fd : ℤ) → Sound v → Stands v r now s → AreLinked v r → IsSome (number_under v instance) → IsSome (number_under v desc) → fd ≡ pos (number_in fd)
     → is_there s (number_at v.keys instance) (number_in fd) (number_at v.keys desc) ≡ list_any (has_key instance (record { 0 = fd }) desc) r.entries
@@ -58,7 +62,7 @@ watches_kept old new keeps (x ∷ xs) linked =
     λ i. record { number = x.number; instance = a i; fd = number_in x.fd.0; target = b i; mask = x.mask.0; tag = x.tag; armed = x.armed; seen = None; rep = x.rep; from = 0 } ∷ rest i
 
 link_kept : (old new : Seen) → KeepsKeys old new → (x : Entry) → IsLinked old.keys x → IsLinked new.keys x
-link_kept old new keeps x h = record { instance = some_kept old new x.instance keeps h.instance; desc = some_kept old new x.desc keeps h.desc; fd = h.fd; armed = h.armed }
+link_kept old new keeps x h = record { instance = some_kept old new x.instance keeps h.instance; desc = some_kept old new x.desc keeps h.desc; fd = h.fd }
 
 pub linked_kept : (old new : Seen) (r : Registrations) → KeepsKeys old new → AreLinked old r → AreLinked new r
 linked_kept old new r keeps h = λ k d lt. link_kept old new keeps _ (h k d lt)

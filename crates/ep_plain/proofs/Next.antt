@@ -1,5 +1,5 @@
 -- What a kernel keeps, over one step.
-use Rattle.std.proofs.Common.{◌≡◌, ◌+◌, ◌*◌, ◌<◌, ◌≤◌, ◌++◌, ℕ, List, [], ◌∷◌, Option, Some, length, unwrap_or, refl, ap, sym, ◌∙◌, arith, subst}
+use Rattle.std.proofs.Common.{◌≡◌, ◌+◌, ◌≤◌, ◌++◌, ℕ, List, [], ◌∷◌, Option, Some, length, unwrap_or, ap, sym, ◌∙◌, arith, subst}
 use Rattle.std.proofs.lemmas.List.{length-append}
 use Rattle.ep_base.specs.Limits.{Limits}
 use Rattle.ep_base.specs.declared.answer.Answer.{Answer}
@@ -12,7 +12,7 @@ use Rattle.ep_machine.specs.State.{State, opening}
 use Rattle.ep_machine.specs.Step.{step}
 use Rattle.ep_machine.proofs.Stepping.{run_next}
 use Rattle.ep_plain.specs.Acts.{Adds}
-use Rattle.ep_plain.specs.Book.{Book, state_of}
+use Rattle.ep_plain.specs.Book.{state_of}
 use Rattle.ep_plain.specs.Moves.{Grows, Moves, Parts, Unheld}
 use Rattle.ep_plain.specs.Burial.{Burial}
 use Rattle.ep_table.specs.Value.{count_at}

@@ -1,37 +1,32 @@
 -- A wait of the machine and one of the kernel.
-use Rattle.std.proofs.Common.{◌≡◌, ◌==◌, ◌&&◌, ◌||◌, ◌<◌, ◌≤◌, ◌++◌, ℕ, ℤ, zero, suc, pos, negsuc, Bool, false, true, List, [], ◌∷◌, Option, Some, None, IsSome, All, cond, filter, length, map, min, nat_lt, not, take, if◌then◌else◌, unwrap_or, refl, ap, sym, ◌∙◌, arith, subst, inl, inr}
+use Rattle.std.proofs.Common.{◌≡◌, ◌==◌, ◌&&◌, ◌||◌, ◌<◌, ℕ, ℤ, zero, suc, pos, negsuc, Bool, false, true, List, [], ◌∷◌, Option, Some, None, IsSome, All, cond, filter, length, map, min, not, take, if◌then◌else◌, refl, ap, sym, ◌∙◌, arith, subst, inl, inr}
 use Rattle.std.specs.List.{list_any}
 use Rattle.std.specs.List.Sorted.{IsNonDecreasingBy, IsPermutation}
 use Rattle.std.proofs.lemmas.Bool.{cases_Bool, false≢true}
 use Rattle.std.proofs.lemmas.List.{get_or-map, length-map, length-take, nil_from_length, take-map}
 use Rattle.std.proofs.lemmas.List.Elements.{All-cons, All-head, All-tail}
 use Rattle.std.proofs.lemmas.List.Sorted.{IsPermutation-map, length_permutation}
-use Rattle.ep_base.specs.Limits.{Limits}
-use Rattle.ep_base.specs.declared.answer.Answer.{Answer}
 use Rattle.ep_base.specs.declared.answer.Answer.TheVariants.{Events}
 use Rattle.ep_base.specs.declared.answer.Report.{Report}
 use Rattle.ep_base.specs.declared.ids.DescId.{DescId}
-use Rattle.ep_base.specs.declared.mask.Mask.{Mask}
 use Rattle.ep_interest.specs.Registrations.{Registrations, is_of}
 use Rattle.ep_interest.specs.declared.entry.Entry.{Entry}
-use Rattle.ep_machine.specs.Effect.{first}
-use Rattle.ep_machine.specs.Files.{Files, named_by}
+use Rattle.ep_machine.specs.Bits.{ONESHOT, has_bit}
 use Rattle.ep_machine.specs.Lists.{is_among}
-use Rattle.ep_machine.specs.Quiet.{Quiet, kept_all, report_at, reported_in, shows, shows_in}
+use Rattle.ep_machine.specs.Quiet.{Quiet, kept_all, report_at, reported_in, shows_in}
 use Rattle.ep_machine.specs.Readiness.{is_ready}
 use Rattle.ep_machine.specs.Refusal.{is_zero}
 use Rattle.ep_machine.specs.Report.{plainly, report, reported}
 use Rattle.ep_machine.specs.Sound.{Sound}
 use Rattle.ep_machine.specs.State.{Change, State, Watch}
 use Rattle.ep_machine.specs.Waits.{wait, wait_for}
-use Rattle.ep_machine.specs.Watches.{number_in}
 use Rattle.ep_machine.proofs.Picking.{numbers}
 use Rattle.ep_machine.proofs.Reporting.{report_kept}
 use Rattle.ep_machine.proofs.Settling.{reported_kept}
 use Rattle.ep_machine.proofs.Showing.{ready_kept}
-use Rattle.ep_plain.specs.Moves.{Makes, Parts}
+use Rattle.ep_plain.specs.Moves.{Makes}
 use Rattle.ep_plain.specs.Stands.{AreLinked, IsLinked, Stands, number_at, watch_at}
-use Rattle.ep_plain.specs.Wait.{AreKeyed, IsChosen, IsKeyed, entry_bits, entry_shows, noted_in, numbers_of, report_of}
+use Rattle.ep_plain.specs.Wait.{AreKeyed, IsChosen, IsKeyed, entry_shows, noted_in, numbers_of, report_of}
 use Rattle.ep_plain.specs.declared.wait.Reportable.{Reportable}
 use Rattle.ep_plain.proofs.Choosing.{noted_none}
 use Rattle.ep_plain.proofs.Keys.{same_keys}
@@ -76,20 +71,20 @@ reports_are v now r (x ∷ xs) h =
     let rest = reports_are v now r xs (All-tail (IsKeyed v now r) x xs h) in
     λ i. record { bits = record { 0 = sym one.bits i }; tag = x.entry.tag } ∷ rest i
 
--- a registration that is armed is noted as the machine reports it
-noted_is : (keys : List (Option ℕ)) (n : ℕ) (b : Bool) (x : Entry) → x.armed ≡ true
-    → (if b then record (watch_at keys x) { rep = n } else watch_at keys x) ≡ watch_at keys (if b then record x { armed = true; seen = None; rep = n; from = 0 } else x)
-noted_is keys n true x h = λ i. record { number = x.number; instance = number_at keys x.instance; fd = number_in x.fd.0; target = number_at keys x.desc; mask = x.mask.0; tag = x.tag; armed = h i; seen = None; rep = n; from = 0 }
-noted_is keys n false x h = refl
+-- a registration is noted as the machine reports it
+noted_is : (keys : List (Option ℕ)) (n : ℕ) (b : Bool) (x : Entry)
+    → (if b then record (watch_at keys x) { rep = n; armed = x.armed && not (has_bit x.mask.0 ONESHOT) } else watch_at keys x) ≡ watch_at keys (if b then record x { armed = x.armed && not (has_bit x.mask.0 ONESHOT); seen = None; rep = n; from = 0 } else x)
+noted_is keys n true x = refl
+noted_is keys n false x = refl
 
-pub noted_all : (keys : List (Option ℕ)) (n : ℕ) (ks : List ℕ) (xs : List Entry) → All (IsLinked keys) xs → map (reported_in n ks) (map (watch_at keys) xs) ≡ map (watch_at keys) (map (noted_in n ks) xs)
-noted_all keys n ks [] h = refl
-noted_all keys n ks (x ∷ xs) h =
-    let one = noted_is keys n (is_among ks x.number) x (All-head (IsLinked keys) x xs h).armed in
-    let rest = noted_all keys n ks xs (All-tail (IsLinked keys) x xs h) in λ i. one i ∷ rest i
+pub noted_all : (keys : List (Option ℕ)) (n : ℕ) (ks : List ℕ) (xs : List Entry) → map (reported_in n ks) (map (watch_at keys) xs) ≡ map (watch_at keys) (map (noted_in n ks) xs)
+noted_all keys n ks [] = refl
+noted_all keys n ks (x ∷ xs) =
+    let one = noted_is keys n (is_among ks x.number) x in
+    let rest = noted_all keys n ks xs in λ i. one i ∷ rest i
 
-link_noted : (keys : List (Option ℕ)) (n : ℕ) (b : Bool) (x : Entry) → IsLinked keys x → IsLinked keys (if b then record x { armed = true; seen = None; rep = n; from = 0 } else x)
-link_noted keys n true x h = record { instance = h.instance; desc = h.desc; fd = h.fd; armed = refl }
+link_noted : (keys : List (Option ℕ)) (n : ℕ) (b : Bool) (x : Entry) → IsLinked keys x → IsLinked keys (if b then record x { armed = x.armed && not (has_bit x.mask.0 ONESHOT); seen = None; rep = n; from = 0 } else x)
+link_noted keys n true x h = record { instance = h.instance; desc = h.desc; fd = h.fd }
 link_noted keys n false x h = h
 
 pub linked_noted : (keys : List (Option ℕ)) (n : ℕ) (ks : List ℕ) (xs : List Entry) → All (IsLinked keys) xs → All (IsLinked keys) (map (noted_in n ks) xs)
@@ -134,9 +129,9 @@ module _ (v : Seen) (now : ℕ) (r new : Registrations) (s : State) (n : ℕ) (i
     now = stands.now;
     files = stands.files;
     watches =
-        reported_kept s (numbers_of chosen) quiet
+        reported_kept s (numbers_of chosen)
         ∙ ((λ i. map (reported_in (at i) (numbers_of chosen)) (stands.watches i))
-        ∙ (noted_all v.keys n (numbers_of chosen) r.entries linked ∙ ap (map (watch_at v.keys)) (sym entries)));
+        ∙ (noted_all v.keys n (numbers_of chosen) r.entries ∙ ap (map (watch_at v.keys)) (sym entries)));
     added = stands.added ∙ sym added;
   }
 

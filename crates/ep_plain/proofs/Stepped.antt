@@ -1,41 +1,34 @@
 -- An event of the kernel as a step of the machine.
-use Rattle.std.proofs.Common.{◌≡◌, ◌+◌, ◌*◌, ◌≤◌, ◌++◌, ℕ, ℤ, zero, suc, pos, negsuc, Bool, true, false, List, [], ◌∷◌, Option, Some, None, length, if◌then◌else◌, unwrap_or, refl, ap, sym, ◌∙◌, arith, subst}
+use Rattle.std.proofs.Common.{◌≡◌, ◌+◌, ℕ, ℤ, zero, suc, pos, negsuc, Bool, true, false, List, [], ◌∷◌, Option, Some, None, if◌then◌else◌, refl, ap, sym, ◌∙◌, subst}
 use Rattle.std.specs.Prelude.{MatchOption}
-use Rattle.std.proofs.lemmas.List.{length-append}
 use Rattle.std.proofs.lemmas.Option.{none-some}
 use Rattle.ep_base.specs.Limits.{Limits}
 use Rattle.ep_base.specs.declared.answer.Answer.{Answer}
 use Rattle.ep_base.specs.declared.answer.Answer.TheVariants.{Refused}
-use Rattle.ep_base.specs.declared.call.Call.{Call}
 use Rattle.ep_base.specs.declared.call.Call.TheVariants.{Close, Dup, Dup2, EpollCreate, EpollCtl, EpollWait, EventFd, Exec, Exit, Fork, GetTime, Pipe as PipeCall, Plain, Read, SetTime, Shutdown, SocketPair, TimerFd, Write}
 use Rattle.ep_base.specs.declared.call.Event.{Event}
 use Rattle.ep_base.specs.declared.call.Event.TheVariants.{Call as CallOf, Tick}
 use Rattle.ep_base.specs.declared.errno.Errno.{Errno}
-use Rattle.ep_base.specs.declared.ids.CallerId.{CallerId}
-use Rattle.ep_base.specs.declared.record.Record.{Record}
 use Rattle.ep_machine.specs.Effect.{first}
 use Rattle.ep_machine.specs.Files.{named_by}
-use Rattle.ep_machine.specs.Quiet.{IsSettled, Quiet}
+use Rattle.ep_machine.specs.Quiet.{Quiet}
 use Rattle.ep_machine.specs.Readiness.{is_ready}
 use Rattle.ep_machine.specs.Refusal.{refusals}
 use Rattle.ep_machine.specs.Report.{is_pick, plainly, report}
-use Rattle.ep_machine.specs.Run.{run}
 use Rattle.ep_machine.specs.Settle.{settle}
 use Rattle.ep_machine.specs.Sound.{Sound}
-use Rattle.ep_machine.specs.State.{Change, State, opening}
+use Rattle.ep_machine.specs.State.{Change, State}
 use Rattle.ep_machine.specs.Step.{begun, change, step}
 use Rattle.ep_machine.specs.Waits.{wait_for}
 use Rattle.ep_machine.specs.Watches.{is_add, is_del, number_in}
 use Rattle.ep_machine.proofs.Quietness.{quiet_begun, quiet_change, quiet_step, weaken}
 use Rattle.ep_machine.proofs.Settling.{settle_changed, settled_quiet}
 use Rattle.ep_machine.proofs.Soundness.{sound_begun, sound_step}
-use Rattle.ep_machine.proofs.Stepping.{refused_step, run_next, step_changed}
-use Rattle.ep_plain.specs.Acts.{Adds}
+use Rattle.ep_machine.proofs.Stepping.{refused_step, step_changed}
 use Rattle.ep_plain.specs.Burial.{Burial}
 use Rattle.ep_plain.specs.Stands.{AreLinked}
 use Rattle.ep_plain.proofs.Buried.{buried_stands}
-use Rattle.ep_plain.specs.Moves.{Unheld, Goes, Makes, Moves, Parts, Refuses, StandFor}
-use Rattle.ep_plain.specs.Stands.{Stands}
+use Rattle.ep_plain.specs.Moves.{Unheld, Makes, Moves, Parts, Refuses, StandFor}
 
 -- A change leaves the number of events.
 n_of : Option Change → ℕ

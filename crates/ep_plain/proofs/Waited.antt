@@ -1,10 +1,7 @@
 -- A wait that isn't refused, as the machine makes it.
-use Rattle.std.proofs.Common.{◌≡◌, ℕ, ℤ, Bool, false, true, List, [], ◌∷◌, Option, Some, None, All, map, not, unwrap_or, refl, ap, sym, ◌∙◌, subst}
-use Rattle.std.proofs.lemmas.Bool.{false≢true}
+use Rattle.std.proofs.Common.{◌≡◌, ℕ, Bool, false, true, List, ◌∷◌, Option, None, All, not, unwrap_or, refl, ap, sym, ◌∙◌, subst}
 use Rattle.std.proofs.lemmas.Option.{none-some}
-use Rattle.ep_base.specs.Limits.{Limits}
 use Rattle.ep_base.specs.declared.answer.Answer.{Answer}
-use Rattle.ep_base.specs.declared.answer.Answer.TheVariants.{Events}
 use Rattle.ep_base.specs.declared.errno.Errno.{Errno}
 use Rattle.ep_base.specs.declared.errno.Errno.TheVariants.{Einval}
 use Rattle.ep_base.specs.declared.ids.DescId.{DescId}
@@ -21,7 +18,7 @@ use Rattle.ep_machine.specs.Watches.{number_in}
 use Rattle.ep_plain.specs.Moves.{Goes, Makes}
 use Rattle.ep_plain.specs.Reports.{Reports}
 use Rattle.ep_plain.specs.Stands.{AreLinked, IsLinked, Stands, number_at}
-use Rattle.ep_plain.specs.Wait.{Waits, noted_in, numbers_of, report_of, wait_tests}
+use Rattle.ep_plain.specs.Wait.{Waits, numbers_of, wait_tests}
 use Rattle.ep_plain.specs.declared.wait.Wait.{Wait}
 use Rattle.ep_plain.proofs.Going.{goes_made}
 use Rattle.ep_plain.proofs.Reported.{linked_noted, waited}

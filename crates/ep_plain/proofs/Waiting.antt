@@ -1,15 +1,15 @@
 -- What is collected for a wait.
-use Rattle.std.proofs.Common.{◌≡◌, ◌==◌, ◌<◌, ◌≤◌, ◌++◌, ℕ, Bool, false, true, List, [], ◌∷◌, Option, Some, None, IsSome, All, append_assoc, cond, filter, length, map, nat_lt, not, take, refl, ap, sym, ◌∙◌, arith, subst}
+use Rattle.std.proofs.Common.{◌≡◌, ◌==◌, ◌++◌, ℕ, Bool, false, true, List, [], ◌∷◌, Some, All, append_assoc, cond, filter, map, nat_lt, ap, sym, ◌∙◌, arith, subst}
 use Rattle.std.proofs.lemmas.Bool.Decides.{nat_tests}
 use Rattle.std.proofs.lemmas.List.{map-append}
-use Rattle.std.proofs.lemmas.List.Elements.{All-append, All-cons, All-filter, All-head, All-nil, All-tail}
+use Rattle.std.proofs.lemmas.List.Elements.{All-append, All-cons, All-head, All-nil, All-tail}
 use Rattle.ep_base.specs.declared.ids.EntryId.{EntryId}
-use Rattle.ep_interest.specs.Registrations.{Registrations, is_of, number_under as number_of_entry}
+use Rattle.ep_interest.specs.Registrations.{Registrations, number_under as number_of_entry}
 use Rattle.ep_interest.specs.declared.entry.Entry.{Entry}
-use Rattle.ep_plain.specs.Stands.{AreLinked, IsLinked}
+use Rattle.ep_plain.specs.Stands.{IsLinked}
 use Rattle.ep_plain.specs.Wait.{AreKeyed, IsKeyed, entry_bits, entry_shows}
 use Rattle.ep_plain.specs.declared.wait.Reportable.{Reportable}
-use Rattle.ep_table.specs.Value.{Seen, number_under}
+use Rattle.ep_table.specs.Value.{Seen}
 
 -- the registrations of a list of them with their keys
 abbrev pub entries_of : List (EntryId × Entry) → List Entry

@@ -1,18 +1,25 @@
 -- The refusals of epoll_ctl in three parts: what its arguments name, the operation, and the interest set.
-use Rattle.std.specs.Prelude.{◌≡◌, Bool, IsSome, List, None, Option, Some, [], is_none, nat_le, not, ℕ, ℤ, ◌&&◌, ◌==◌, ◌||◌, ◌∷◌}
+use Rattle.std.specs.Prelude.{◌≡◌, Bool, IsSome, List, MatchBool, None, [], filter, length, map, nat_le, not, pos, ℕ, ℤ, ◌&&◌, ◌++◌, ◌+◌, ◌==◌, ◌||◌, ◌∷◌}
+use Rattle.ep_base.specs.declared.answer.Answer.{Answer}
+use Rattle.ep_base.specs.declared.answer.Answer.TheVariants.{Done, Refused}
 use Rattle.ep_base.specs.declared.call.Call.{Call}
 use Rattle.ep_base.specs.declared.call.Call.TheVariants.{EpollCtl}
 use Rattle.ep_base.specs.declared.errno.Errno.{Errno}
-use Rattle.ep_base.specs.declared.errno.Errno.TheVariants.{Ebadf, Eexist, Einval, Enospc, Eperm}
+use Rattle.ep_base.specs.declared.errno.Errno.TheVariants.{Ebadf, Eexist, Einval, Enoent, Enospc, Eperm}
+use Rattle.ep_base.specs.declared.mask.Mask.{Mask}
+use Rattle.ep_interest.specs.Registrations.{Registrations, is_other, modified}
+use Rattle.ep_interest.specs.declared.entry.Entry.{Entry}
 use Rattle.ep_machine.specs.Bits.{EXCLUSIVE, has_bit}
 use Rattle.ep_machine.specs.Effect.{first}
 use Rattle.ep_machine.specs.Files.{Files, named_by, names_nothing, object_under, under}
 use Rattle.ep_machine.specs.Objects.{is_instance, is_plain}
 use Rattle.ep_machine.specs.Refusal.{is_later_mask}
-use Rattle.ep_machine.specs.Watches.{is_add}
+use Rattle.ep_machine.specs.Watches.{is_add, is_del, is_mod}
 use Rattle.ep_table.specs.Value.{Seen, number_under}
 use Rattle.ep_plain.specs.declared.control.Control.{Control}
 use Rattle.ep_plain.specs.declared.control.Named.{Named}
+use Rattle.ep_plain.specs.declared.control.Operation.{Operation}
+use Rattle.ep_plain.specs.declared.control.Operation.TheVariants.{Add, Delete, Modify}
 
 -- the call with these arguments
 abbrev pub control_call : Control → Call
@@ -26,12 +33,30 @@ naming_refusals files p epfd fd =
     ∷ (not (is_instance (object_under files p epfd)) || named_by files p epfd == named_by files p fd, Einval)
     ∷ (is_instance (object_under files p fd), Einval) ∷ []
 
--- in this version an addition alone is accepted
+-- the operation or the mask is not accepted
 abbrev pub is_refused_op : ℤ → ℕ → Bool
-is_refused_op op mask = not (is_add op) || has_bit mask EXCLUSIVE || is_later_mask mask
+is_refused_op op mask = not (is_add op || is_del op || is_mod op) || not (is_del op) && (has_bit mask EXCLUSIVE || is_later_mask mask)
 
-abbrev pub room_refusals : Bool → ℕ → ℕ → List (Bool × Errno)
-room_refusals there watches count = (there, Eexist) ∷ (nat_le watches count, Enospc) ∷ []
+-- where the operation and the mask are accepted
+abbrev pub room_refusals : Bool → Bool → ℕ → ℕ → List (Bool × Errno)
+room_refusals adds there watches count = (not adds && not there, Enoent) ∷ (adds && there, Eexist) ∷ (adds && nat_le watches count, Enospc) ∷ []
+
+abbrev pub code_of : Operation → ℤ
+code_of Add = pos 1
+code_of Delete = pos 2
+code_of Modify = pos 3
+
+-- with the registration of number k there
+abbrev pub Alters : Operation → ℕ → Mask → ℕ → Registrations → Registrations → Answer → Type 0
+Alters Add k mask tag old new answer = (answer ≡ Refused Eexist) × (new ≡ old)
+Alters Delete k mask tag old new answer = (answer ≡ Done) × (new.entries ≡ filter (is_other k) old.entries) × (new.added ≡ old.added)
+Alters Modify k mask tag old new answer = (answer ≡ Done) × (new.entries ≡ map (modified k mask tag) old.entries) × (new.added ≡ old.added)
+
+-- with no registration there
+abbrev pub Enters : Operation → ℕ → Entry → Registrations → Registrations → Answer → Type 0
+Enters Add watches x old new answer = MatchBool (nat_le watches (length old.entries)) ((answer ≡ Refused Enospc) × (new ≡ old)) ((answer ≡ Done) × (new.entries ≡ old.entries ++ x ∷ []) × (new.added ≡ old.added + 1))
+Enters Delete watches x old new answer = (answer ≡ Refused Enoent) × (new ≡ old)
+Enters Modify watches x old new answer = (answer ≡ Refused Enoent) × (new ≡ old)
 
 -- the keys of what the arguments name, none of which is refused
 pub record Names (tables : Seen) (p : ℕ) (epfd fd : ℤ) (named : Named) : Type 0 where

@@ -14,7 +14,7 @@ use Rattle.ep_machine.specs.Sound.{Sound}
 use Rattle.ep_machine.specs.State.{Change, State}
 use Rattle.ep_machine.specs.Step.{call_change, change}
 use Rattle.ep_interest.specs.Registrations.{Registrations}
-use Rattle.ep_plain.specs.Stands.{AreLinked, KeepsKeys, Stands}
+use Rattle.ep_plain.specs.Stands.{KeepsKeys, Stands}
 use Rattle.ep_table.specs.Value.{Seen, holds_of}
 
 -- what an event leaves: the tables, the interest sets and the clock

@@ -1,5 +1,5 @@
 -- Which states of the machine the parts of a kernel stand for.
-use Rattle.std.specs.Prelude.{◌≡◌, All, IsSome, List, None, Option, Some, [], map, pos, slice_index_or, true, unwrap_or, ℕ}
+use Rattle.std.specs.Prelude.{◌≡◌, All, IsSome, List, None, Option, Some, [], map, pos, slice_index_or, unwrap_or, ℕ}
 use Rattle.ep_base.specs.declared.ids.DescId.{DescId}
 use Rattle.ep_machine.specs.Quiet.{kept_all}
 use Rattle.ep_machine.specs.State.{State, Watch}
@@ -16,12 +16,11 @@ number_at keys key = unwrap_or (slice_index_or keys key.0 None) 0
 abbrev pub watch_at : List (Option ℕ) → Entry → Watch
 watch_at keys x = record { number = x.number; instance = number_at keys x.instance; fd = number_in x.fd.0; target = number_at keys x.desc; mask = x.mask.0; tag = x.tag; armed = x.armed; seen = None; rep = x.rep; from = 0 }
 
--- its keys have descriptions, it stands under a descriptor number, and it is armed
+-- its keys have descriptions, and it stands under a descriptor number
 pub record IsLinked (keys : List (Option ℕ)) (x : Entry) : Type 0 where
   pub instance : IsSome (slice_index_or keys x.instance.0 None)
   pub desc : IsSome (slice_index_or keys x.desc.0 None)
   pub fd : x.fd.0 ≡ pos (number_in x.fd.0)
-  pub armed : x.armed ≡ true
 
 abbrev pub AreLinked : Seen → Registrations → Type 0
 AreLinked tables interest = All (IsLinked tables.keys) interest.entries

@@ -1,6 +1,6 @@
 //! epoll_wait.
-ghost use Rattle.std.specs.Prelude.{◌≡◌, ◌<◌, ◌≤◌, ◌^◌, ℕ, All, IfOk, IfSome, IsNone, IsSome, MatchOption, MatchResult, None, OnErr, Some, false, filter, true, length, map, min, nat_lt, pos, take};
-ghost use Rattle.ep_machine.specs.Bits.{asked};
+ghost use Rattle.std.specs.Prelude.{◌≡◌, ◌<◌, ◌≤◌, ◌^◌, ◌&&◌, ◌∷◌, [], ℕ, All, IfOk, IfSome, IsNone, IsSome, MatchOption, MatchResult, None, OnErr, Some, false, filter, true, length, map, min, nat_lt, not, pos, take, unwrap_or};
+ghost use Rattle.ep_machine.specs.Bits.{ONESHOT, asked, has_bit};
 ghost use Rattle.ep_machine.specs.Effect.{first};
 ghost use Rattle.ep_machine.specs.Files.{under};
 ghost use Rattle.ep_plain.specs.Acts.{is_no_memory};
@@ -61,12 +61,15 @@ fn find_instance(tables: &Tables, pid: Pid, args: Wait) -> Result<DescId, Errno>
     Ok(desc)
 }
 
-/// The bits that a registration shows: those of its target that its mask asks for, ERR and HUP unasked.
+/// The bits that a registration shows: where it is armed, those of its target that its mask asks for, ERR and HUP unasked.
 fn shown(tables: &Tables, now: u64, entry: &Entry) -> Mask
     requires target { IsSome (number_under tables.now entry.now.desc) }
     requires clock { now ≤ last_moment }
     ensures { result.0 ≡ entry_bits tables.now now entry.now }
 {
+    if !entry.armed {
+        return Mask::empty();
+    }
     let present = tables.present(entry.desc, now);
     present.intersection(entry.mask.union(Mask::ERR.union(Mask::HUP)))
 }
@@ -151,7 +154,26 @@ fn picked_of(alloc: Global, chosen: &[Reportable]) -> Result<Picked, AllocError>
     Ok(Picked::new(picked))
 }
 
-/// Notes that they are reported in this step. Each is level-triggered, and so stays armed.
+/// Whether a registration is armed after a report: a one-shot is not.
+fn stays_armed(entry: &Entry) -> bool
+    ensures { result ≡ (entry.now.armed && not (has_bit entry.now.mask.0 ONESHOT)) }
+{
+    entry.armed && !entry.mask.intersects(Mask::ONESHOT)
+}
+
+/// Notes that a registration is reported in this step: a one-shot is disarmed.
+fn note_one(interest: &mut Interest, step: u64, id: EntryId)
+    requires { IsSome (number_of_entry interest.old id) }
+    ensures entries { interest.new.entries ≡ map (noted_in step (unwrap_or (number_of_entry interest.old id) 0 ∷ [])) interest.old.entries }
+    ensures keys { interest.new.keys ≡ interest.old.keys }
+    ensures added { interest.new.added ≡ interest.old.added }
+{
+    interest.known();
+    let armed = stays_armed(interest.entry(id));
+    interest.note(id, armed, None, step, 0);
+}
+
+/// Notes that they are reported in this step.
 fn note(interest: &mut Interest, step: u64, chosen: &[Reportable])
     requires { All (λ x. number_of_entry interest.old x.id ≡ Some x.entry.number) chosen.now }
     ensures entries { interest.new.entries ≡ map (noted_in step (numbers_of chosen.now)) interest.old.entries }
@@ -159,7 +181,7 @@ fn note(interest: &mut Interest, step: u64, chosen: &[Reportable])
     ensures added { interest.new.added ≡ interest.old.added }
 {
     for x in chosen {
-        interest.note(x.id, true, None, step, 0);
+        note_one(interest, step, x.id);
     }
 }
 

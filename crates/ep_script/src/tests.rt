@@ -1,6 +1,7 @@
 //! Whole scripts.
 
 mod plain;
+mod registrations;
 mod runs;
 mod scripts;
 mod stand_ins;

@@ -1,5 +1,7 @@
 //! Scripts over the scanning kernel, each line with its answer.
 
+use crate::tests::registrations::{KEY, KINDS, ONE_SHOT};
+
 /// A script over a new kernel of these limits.
 pub(crate) struct Script {
     /// In the order of `Limits::new`.
@@ -264,19 +266,27 @@ const EXEC: &[(&str, &str)] = &[
         r#"{"op":"ctl","ep":5,"act":"add","fd":3,"mask":"IN","data":1}"#,
         r#"{"done":true}"#,
     ),
+    (
+        r#"{"op":"ctl","ep":5,"act":"add","fd":6,"mask":"IN","data":2}"#,
+        r#"{"done":true}"#,
+    ),
     (r#"{"op":"write","fd":4,"hex":"61"}"#, r#"{"num":1}"#),
     (
         r#"{"op":"wait","ep":5,"max":8,"timeout":0}"#,
-        r#"{"events":[[1,1]]}"#,
+        r#"{"events":[[1,1],[1,2]]}"#,
     ),
     (r#"{"op":"exec"}"#, r#"{"done":true}"#),
     (
         r#"{"op":"wait","ep":5,"max":8,"timeout":0}"#,
-        r#"{"events":[[17,1]]}"#,
+        r#"{"events":[[17,1],[17,2]]}"#,
     ),
     (r#"{"op":"read","fd":3,"n":8}"#, r#"{"err":[9,"EBADF"]}"#),
     (r#"{"op":"read","fd":6,"n":8}"#, r#"{"bytes":"61"}"#),
     (r#"{"op":"read","fd":6,"n":8}"#, r#"{"bytes":""}"#),
+    (
+        r#"{"op":"ctl","ep":5,"act":"del","fd":6}"#,
+        r#"{"done":true}"#,
+    ),
     (
         r#"{"op":"wait","ep":5,"max":8,"timeout":0}"#,
         r#"{"events":[[16,1]]}"#,
@@ -324,6 +334,18 @@ pub(crate) const SCRIPTS: &[Script] = &[
     Script {
         limits: DEFAULT,
         lines: EXEC,
+    },
+    Script {
+        limits: DEFAULT,
+        lines: ONE_SHOT,
+    },
+    Script {
+        limits: DEFAULT,
+        lines: KEY,
+    },
+    Script {
+        limits: DEFAULT,
+        lines: KINDS,
     },
 ];
 

@@ -1,4 +1,4 @@
-use Rattle.std.proofs.Common.{◌≡◌, ℕ, ℤ, Bool, List, [], ◌∷◌, ◌++◌, ◌==◌, Some, length, nat_le, not, of_z, refl, rules, sym, ap, ◌∙◌, subst, to_z, w32, w64}
+use Rattle.std.proofs.Common.{ℕ, ℤ, Bool, List, [], ◌∷◌, ◌==◌, Some, length, nat_le, not, of_z, rules, sym, ap, subst, to_z, w32, w64}
 use Rattle.std.proofs.lemmas.Int.{to_z-of_z}
 use Rattle.std.specs.List.{list_any}
 use mir.Val.{SFits}
@@ -15,13 +15,13 @@ use Rattle.ep_machine.specs.Objects.{Object, counter, instance, pair, pipe, plai
 use Rattle.ep_machine.specs.Pipe.{new_pipe}
 use Rattle.ep_machine.specs.Refusal.{call_refusals, is_clock}
 use Rattle.ep_machine.specs.Sockets.{new_pair}
-use Rattle.ep_machine.specs.State.{State, Waiter}
+use Rattle.ep_machine.specs.State.{Waiter}
 use Rattle.ep_machine.specs.Step.{call_change, files_change}
 use Rattle.ep_machine.specs.Tables.{answer_one, answer_two, close, create_one, create_two, dup, dup2, exec, exit, fork, is_in_range, one_free, one_refusals, two_refusals}
 use Rattle.ep_machine.specs.Watches.{number_in}
 use Rattle.ep_machine.specs.Timer.{new_timer}
 use Rattle.ep_plain.specs.Moves.{Goes, Opens, Parts}
-use Rattle.ep_plain.proofs.Opening.{files_goes, object_called, object_limits, object_linked, on_object_is, one_goes, opens_limits, opens_linked, two_goes}
+use Rattle.ep_plain.proofs.Opening.{files_goes, object_called, object_limits, object_linked, on_object_is, one_goes, opens_linked, two_goes}
 use Rattle.ep_plain.proofs.act.act_call.Goals as goal
 
 pub returns-in_ok-acted-in-Pipe-clause-ok : goal.returns-in_ok-acted-in-Pipe-clause-ok

@@ -1,4 +1,4 @@
-use Rattle.std.proofs.Common.{◌≡◌, ◌∙◌, ap, Some, sym}
+use Rattle.std.proofs.Common.{◌∙◌, ap, sym}
 use Rattle.ep_machine.specs.Files.{Files, place_of}
 use Rattle.ep_plain.proofs.Burying.{buries_more, buries_none, placed_before}
 use Rattle.ep_plain.proofs.bury.end_each.Goals as goal

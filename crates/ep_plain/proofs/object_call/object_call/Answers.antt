@@ -1,4 +1,4 @@
-use Rattle.std.proofs.Common.{◌≡◌, sym, ap, ◌∙◌, subst}
+use Rattle.std.proofs.Common.{sym, ◌∙◌, subst}
 use Rattle.ep_base.specs.declared.answer.Answer.{Answer}
 use Rattle.ep_plain.specs.ObjectCall.{FitsRoom}
 use Rattle.ep_table.specs.Value.{content_of, number_of}

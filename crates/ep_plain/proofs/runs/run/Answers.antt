@@ -1,4 +1,4 @@
-use Rattle.std.proofs.Common.{rules, ℕ, suc, ◌≡◌, ◌+◌, ◌≤◌, List, [], ◌∷◌, ◌++◌, length, vec_capacity, vec_len, arith, append_assoc, append-nil, sym, ◌∙◌, ap, subst, refl}
+use Rattle.std.proofs.Common.{suc, ◌≡◌, List, [], ◌∷◌, ◌++◌, length, arith, append_assoc, append-nil, sym, ◌∙◌, ap, subst, refl}
 use Rattle.std.proofs.lemmas.List.{nil_from_length}
 use Rattle.ep_base.specs.declared.answer.Answer.{Answer}
 use Rattle.ep_base.specs.declared.call.Event.{Event}

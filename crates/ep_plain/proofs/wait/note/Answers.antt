@@ -1,6 +1,5 @@
-use Rattle.std.proofs.Common.{◌≡◌, ◌<◌, ℕ, pos, Option, true, false, slice_index_or, List, [], ◌∷◌, ◌++◌, Some, None, get_or, length, map, take, refl, sym, ap, ◌∙◌, subst, arith, unwrap_or}
+use Rattle.std.proofs.Common.{◌≡◌, ℕ, pos, Option, false, slice_index_or, List, [], ◌∷◌, None, get_or, map, take, refl, sym, ap, ◌∙◌, unwrap_or}
 use Rattle.std.proofs.lemmas.List.{map_more}
-use Rattle.ep_interest.specs.Registrations.{noted}
 use Rattle.ep_interest.specs.declared.entry.Entry.{Entry}
 use Rattle.ep_plain.specs.Wait.{noted_in, numbers_of}
 use Rattle.ep_plain.specs.declared.wait.Reportable.{Reportable}
@@ -24,11 +23,11 @@ loop-x-preserved c = record {
       let number : unwrap_or (slice_index_or c.loop-x.interest.keys x.id.0 None) 0 ≡ x.entry.number =
       ap (λ (keys : List (Option ℕ)). unwrap_or (slice_index_or keys x.id.0 None) 0) c.loop-x.invariant.keys
       ∙ ap (λ (o : Option ℕ). unwrap_or o 0) (c.requires i none c.loop-x-test.true) in
-      c.note.ensures.entries
-      ∙ (ap (λ (k : ℕ). map (noted k true None n 0) c.loop-x.interest.entries) number
-      ∙ (ap (λ (ys : List Entry). map (noted x.entry.number true None n 0) ys) c.loop-x.invariant.entries
+      c.note_one.ensures.entries
+      ∙ (ap (λ (k : ℕ). map (noted_in n (k ∷ [])) c.loop-x.interest.entries) number
+      ∙ (ap (λ (ys : List Entry). map (noted_in n (x.entry.number ∷ [])) ys) c.loop-x.invariant.entries
       ∙ (noted_more n x.entry.number ks c.args.interest.now.entries
       ∙ ap (λ (ms : List ℕ). map (noted_in n ms) c.args.interest.now.entries) (sym (map_more (λ (y : Reportable). y.entry.number) xs i none c.loop-x-test.true)))));
-  keys = c.note.ensures.keys ∙ c.loop-x.invariant.keys;
-  added = c.note.ensures.added ∙ c.loop-x.invariant.added;
+  keys = c.note_one.ensures.keys ∙ c.loop-x.invariant.keys;
+  added = c.note_one.ensures.added ∙ c.loop-x.invariant.added;
 }

@@ -1,4 +1,4 @@
-use Rattle.std.proofs.Common.{◌≡◌, ℕ, nat_lt, ◌++◌, ◌∷◌, [], List, All, filter, sym, ap, ◌∙◌, subst, append-nil, refl}
+use Rattle.std.proofs.Common.{ℕ, nat_lt, ◌++◌, [], List, filter, sym, ap, ◌∙◌, subst, append-nil, refl}
 use Rattle.std.proofs.lemmas.List.Elements.{All-filter}
 use Rattle.ep_base.specs.declared.ids.EntryId.{EntryId}
 use Rattle.ep_interest.specs.Registrations.{is_of}

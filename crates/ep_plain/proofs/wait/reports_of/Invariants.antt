@@ -1,6 +1,5 @@
 use Rattle.std.proofs.Common.{◌≡◌, map, take}
 use Rattle.ep_plain.specs.Wait.{report_of}
-use Rattle.ep_plain.specs.declared.wait.Reportable.{Reportable}
 use Rattle.ep_plain.proofs.wait.reports_of.Given as goal
 
 abbrev pub invariant-loop-x : goal.invariant-loop-x

@@ -1,13 +1,13 @@
-use Rattle.std.proofs.Common.{◌≡◌, ◌+◌, ◌*◌, ◌≤◌, ℕ, zero, suc, List, [], ◌∷◌, Option, Some, length, map, refl, ap, sym, ◌∙◌, arith, subst}
+use Rattle.std.proofs.Common.{◌≡◌, ℕ, zero, suc, List, [], ◌∷◌, length, map, refl, ap, sym, ◌∙◌, arith, subst}
 use Rattle.std.proofs.lemmas.List.Elements.{All-nil}
 use Rattle.ep_base.specs.declared.record.Record.{Record}
 use Rattle.ep_interest.specs.declared.entry.Entry.{Entry}
 use Rattle.ep_machine.specs.Files.{Files, opening_files}
 use Rattle.ep_machine.specs.Run.{run}
-use Rattle.ep_machine.specs.State.{State, opening}
+use Rattle.ep_machine.specs.State.{opening}
 use Rattle.ep_machine.proofs.Quietness.{quiet_opening}
 use Rattle.ep_machine.proofs.Soundness.{sound_opening}
-use Rattle.ep_plain.specs.Stands.{AreLinked, IsLinked, watch_at}
+use Rattle.ep_plain.specs.Stands.{IsLinked, watch_at}
 use Rattle.std.specs.Prelude.{All}
 use Rattle.ep_table.specs.Value.{count_at}
 use Rattle.ep_plain.proofs.plain.PlainKernel.new.Goals as goal

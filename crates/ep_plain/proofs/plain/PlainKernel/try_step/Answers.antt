@@ -1,6 +1,4 @@
-use Rattle.std.proofs.Common.{◌≡◌, ◌+◌, ◌++◌, ℕ, List, [], ◌∷◌, length, refl, ap, sym, ◌∙◌, arith, subst}
-use Rattle.ep_base.specs.declared.answer.Answer.{Answer}
-use Rattle.ep_base.specs.declared.record.Record.{Record}
+use Rattle.std.proofs.Common.{◌≡◌, ◌+◌, ◌++◌, ℕ, [], ◌∷◌, length, refl, ◌∙◌, arith, subst}
 use Rattle.ep_plain.specs.Acts.{Adds}
 use Rattle.ep_plain.specs.Book.{Book, state_of}
 use Rattle.ep_plain.specs.Moves.{Moves, Parts}
