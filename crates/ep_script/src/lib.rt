@@ -19,4 +19,4 @@ pub use crate::law::cuts_into_lines;
 pub use crate::run::run_script;
 pub use crate::summary::Summary;
 pub use crate::watched::Watched;
-pub use ep_text::{print_answer, read_line};
+pub use ep_text::{parse_limits, print_answer, read_line};

@@ -6,3 +6,4 @@ pub mod Calls
 pub mod Event
 pub mod Ops
 pub mod Line
+pub mod Limits

@@ -5,6 +5,7 @@ mod bytes;
 mod calls;
 mod fields;
 mod keys;
+mod limits;
 mod masks;
 mod op;
 mod print;
@@ -12,5 +13,6 @@ mod read;
 #[cfg(test)]
 mod tests;
 
+pub use crate::limits::parse_limits;
 pub use crate::print::{print_answer, push_answer, push_bad};
 pub use crate::read::read_line;

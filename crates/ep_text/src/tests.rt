@@ -1,3 +1,4 @@
-//! Values of the format.
+//! Values of the formats.
 
+mod limits;
 mod lines;

@@ -2,6 +2,7 @@
 //! output. `--help` tells the options.
 #![tactic(auto)]
 
+mod options;
 mod program;
 #[cfg(test)]
 mod tests;

@@ -1,11 +1,13 @@
 //! The program, over any reader and writers.
-ghost use Rattle.std.specs.Prelude.{◌≡◌, ◌≤◌};
+ghost use Rattle.std.specs.Prelude.{◌≡◌, ◌≤◌, IfSome, IsNone, Some};
+ghost use Rattle.ep_base.specs.Limits.{Limits as Numbers, default_limits};
+ghost use Rattle.ep_text.specs.Limits.{IsLimitsText};
 
-use clap::Command;
+use crate::options::options;
 use clap::error::ErrorKind;
 use ep_base::Limits;
 use ep_plain::PlainKernel;
-use ep_script::{ScriptFault, Summary, Watched, run_script};
+use ep_script::{ScriptFault, Summary, Watched, parse_limits, run_script};
 use std::alloc::Global;
 use std::io::{self, Read, Write};
 
@@ -17,6 +19,9 @@ const FAILED: u8 = 1;
 
 /// The command line is bad.
 const BAD_WORDS: u8 = 2;
+
+/// The text of `--limits` writes none.
+const BAD_LIMITS: u8 = 2;
 
 /// Tells a fault in one line. A write that fails changes nothing.
 fn fail<E: Write>(fault: &ScriptFault, errors: &mut E) -> u8
@@ -41,13 +46,12 @@ pub(crate) fn no_words<E: Write>(error: &io::Error, errors: &mut E) -> u8
     BAD_WORDS
 }
 
-/// Reads the words of the command line. It has no option but `--help` yet.
-fn read_words(alloc: Global, words: &[String]) -> Result<(), clap::Error> {
-    let command = Command::new(alloc, "epsim").about(
-        "Runs a script of calls on the kernel, from standard input to standard output",
-    );
-    command.try_get_matches_from(words)?;
-    Ok(())
+/// Tells that the text of `--limits` is none. A write that fails changes nothing.
+fn refuse_limits<E: Write>(errors: &mut E) -> u8
+    ensures { result ≡ 2 }
+{
+    let _ = write!(errors, "epsim: bad limits\n");
+    BAD_LIMITS
 }
 
 fn write_text<W: Write>(text: &clap::Error, writer: &mut W) -> io::Result<()> {
@@ -72,12 +76,26 @@ fn tell<W: Write, E: Write>(found: &clap::Error, output: &mut W, errors: &mut E)
     }
 }
 
+/// The limits of the text, and those of a kernel by default where there is none. `None` exactly
+/// where the text writes no limits.
+fn limits_of(text: Option<&str>) -> Option<Limits>
+    ensures missing { IsNone text.entry → result ≡ Some default_limits }
+    ensures read { IfSome text.entry (λ t. IfSome result (IsLimitsText t.now)) }
+    ensures found { IfSome text.entry (λ t. (limits : Numbers) → IsLimitsText t.now limits → result ≡ Some limits) }
+{
+    match text {
+        None => Some(Limits::default()),
+        Some(text) => parse_limits(text),
+    }
+}
+
 fn run<R: Read + Drop, W: Write>(
     alloc: Global,
+    limits: Limits,
     reader: R,
     output: &mut W,
 ) -> Result<Summary, ScriptFault> {
-    let Ok(mut kernel) = PlainKernel::new(alloc, Limits::default()) else {
+    let Ok(mut kernel) = PlainKernel::new(alloc, limits) else {
         return Err(ScriptFault::Memory);
     };
     let mut reader = Watched::new(reader);
@@ -87,9 +105,11 @@ fn run<R: Read + Drop, W: Write>(
 
 /// Does what the words of the command line, the program's name first, ask for, and gives the
 /// status: 0 at the end of the script or for `--help`, 1 where the script was not run to its end
-/// or help could not be written, 2 for a bad command line. What went wrong is one line on `errors`,
-/// or the text of `clap`; a write there that fails changes no status.
-pub(crate) fn run_with<R: Read + Drop, W: Write, E: Write>(
+/// or help could not be written, 2 for a bad command line or limits that are none. The words are
+/// looked at first, then the limits, and the script is read last. `--plain` changes nothing while
+/// the scanning kernel is the only one. What went wrong is one line on `errors`, or the text of
+/// `clap`; a write there that fails changes no status.
+pub fn run_with<R: Read + Drop, W: Write, E: Write>(
     alloc: Global,
     words: Vec<String>,
     reader: R,
@@ -98,10 +118,14 @@ pub(crate) fn run_with<R: Read + Drop, W: Write, E: Write>(
 ) -> u8
     ensures { result ≤ 2 }
 {
-    if let Err(found) = read_words(alloc, words.as_slice()) {
-        return tell(&found, output, errors);
-    }
-    match run(alloc, reader, output) {
+    let settings = match options(alloc, words.as_slice()) {
+        Ok(settings) => settings,
+        Err(found) => return tell(&found, output, errors),
+    };
+    let Some(limits) = limits_of(settings.limits) else {
+        return refuse_limits(errors);
+    };
+    match run(alloc, limits, reader, output) {
         Ok(_) => DONE,
         Err(fault) => fail(&fault, errors),
     }
