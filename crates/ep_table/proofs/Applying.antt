@@ -73,7 +73,7 @@ module _ (ds : List (Option Description)) (os : List (Option Shared)) (m at : �
   objects_same = contents_next object_number_in object_in os at s is m num (Some t) keeps
 
 -- a call at a description under a key
-module _ (k : Inside) (v : Things) (inv : IsStore k) (same : things k ≡ v) (key : DescId) (d : Description) (is : get_or k.descriptions.slots key.0 None ≡ Some d) (s : Shared) (at : get_or k.objects.slots d.object None ≡ Some s) where
+module _ {A : Type 0} (k : Inside A) (v : Things) (inv : IsStore k) (same : things k ≡ v) (key : DescId) (d : Description) (is : get_or k.descriptions.slots key.0 None ≡ Some d) (s : Shared) (at : get_or k.objects.slots d.object None ≡ Some s) where
   pub effect_is : (now : ℕ) (call : Call) → attempt (object_refusals s.object d.end now call) s.object (object_effect s.object d.end now call) ≡ effect_at (files_in v) (thing_number v key) now call
   effect_is now call =
       let o = object_found k v inv same key d is s at in
@@ -121,7 +121,7 @@ ok_same (Ok p) A B f h = f h
 ok_same (Err p) A B f h = tt
 
 -- the tables with the store after the call
-module _ (k : Tables) (v : Seen) (same : value_of k ≡ v) (key : DescId) (now : ℕ) (call : Call) where
+module _ {A : Type 0} (k : Tables A) (v : Seen) (same : value_of k ≡ v) (key : DescId) (now : ℕ) (call : Call) where
   abbrev after_call : Things → Things
   after_call s = record s { objects = (affected (files_in s) (thing_number s key) (effect_at (files_in s) (thing_number s key) now call)).objects }
 

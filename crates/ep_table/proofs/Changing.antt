@@ -2,7 +2,6 @@
 use Rattle.std.proofs.Common.{Bool, List, None, Option, Some, ap, arith, cond, count_by, false, get_or, is_some, length, map, refl, slice_set, subst, suc, sym, true, vec_capacity, zero, ℕ, [], ◌&&◌, ◌++◌, ◌+◌, ◌-◌, ◌<◌, ◌==◌, ◌∙◌, ◌∷◌, ◌≡◌, ◌≤◌}
 use Rattle.std.proofs.lemmas.Bool.Decides.{nat_tests}
 use Rattle.std.proofs.lemmas.List.Sums.{sum_by-cons}
-use Rattle.std.specs.declared.alloc.Global.{Global}
 use Rattle.std.specs.declared.vec.Vec.{Vec}
 use Rattle.slab.specs.Slab.{slab_len, with_value}
 use Rattle.ep_base.specs.declared.ids.DescId.{DescId}
@@ -39,7 +38,7 @@ and_false false = refl
 pub held_tests : (c : Bool) (m : ℕ) → 0 < m → (c && m == 0) ≡ false
 held_tests c m h = ap (λ (t : Bool). c && t) (not_zero m h) ∙ and_false c
 
-module _ (k : Inside) (v : Things) (inv : IsStore k) (same : things k ≡ v) (key : DescId) (d : Description) (is : get_or k.descriptions.slots key.0 None ≡ Some d) where
+module _ {A : Type 0} (k : Inside A) (v : Things) (inv : IsStore k) (same : things k ≡ v) (key : DescId) (d : Description) (is : get_or k.descriptions.slots key.0 None ≡ Some d) where
   abbrev ds : List (Option Description)
   ds = k.descriptions.slots
 
@@ -72,7 +71,7 @@ module _ (k : Inside) (v : Things) (inv : IsStore k) (same : things k ≡ v) (ke
     abbrev ds1 : List (Option Description)
     ds1 = recounted ds n key.0 d is inv.descriptions a b
 
-    abbrev pub next : Vec Dying Global → Inside
+    abbrev pub next : Vec Dying A → Inside A
     next dying = record k { named = m; descriptions = with_value k.descriptions key.0 (record d { names = a; holds = b }); dying = dying }
 
     after : is_unused (places ds n) (counts names_in ds1 n) (counts holds_in ds1 n) d.number ≡ (a == 0 && b == 0)
@@ -99,7 +98,7 @@ module _ (k : Inside) (v : Things) (inv : IsStore k) (same : things k ≡ v) (ke
     len_same : slab_len (with_value k.descriptions key.0 (record d { names = a; holds = b })) ≡ slab_len k.descriptions
     len_same = count_same ds key.0 d (record d { names = a; holds = b }) is
 
-    holds_store : (dying : Vec Dying Global) → slab_len k.descriptions ≤ vec_capacity dying → k.named ≤ m → a ≤ m + 1
+    holds_store : (dying : Vec Dying A) → slab_len k.descriptions ≤ vec_capacity dying → k.named ≤ m → a ≤ m + 1
         → Queue (places ds n) (counts names_in ds1 n) (counts holds_in ds1 n) (queued dying.items) → AllKeyed (map key_number ds) dying.items → IsStore (next dying)
     holds_store dying room le most q keyed = record {
       descriptions = numbered_counted ds n key.0 d is inv.descriptions a b;
@@ -118,7 +117,7 @@ module _ (k : Inside) (v : Things) (inv : IsStore k) (same : things k ≡ v) (ke
     store_stays le most h = holds_store k.dying inv.room le most (stays h) inv.keyed
 
     -- it goes on the queue
-    pub store_goes : (dying : Vec Dying Global) → dying.items ≡ k.dying.items ++ record { key = key; number = d.number } ∷ [] → vec_capacity dying ≡ vec_capacity k.dying → k.named ≤ m → a ≤ m + 1
+    pub store_goes : (dying : Vec Dying A) → dying.items ≡ k.dying.items ++ record { key = key; number = d.number } ∷ [] → vec_capacity dying ≡ vec_capacity k.dying → k.named ≤ m → a ≤ m + 1
         → (d.names == 0 && d.holds == 0) ≡ false → (a == 0 && b == 0) ≡ true → IsStore (next dying)
     store_goes dying e cap le most h l =
         let x : Dying = record { key = key; number = d.number } in
@@ -127,18 +126,18 @@ module _ (k : Inside) (v : Things) (inv : IsStore k) (same : things k ≡ v) (ke
         let at : number_at (map key_number ds) key ≡ Some d.number = key_at ds key.0 ∙ ap key_number is in
         holds_store dying (omega (arith, cap, inv.room)) le most q (subst (λ (xs : List Dying). AllKeyed (map key_number ds) xs) (sym e) (keyed_push (map key_number ds) k.dying.items x inv.keyed at))
 
-    rest_same : (dying : Vec Dying Global) (names holds : List ℕ) → counts names_in ds1 n ≡ names → counts holds_in ds1 n ≡ holds → things (next dying) ≡ record (things k) { names = names; holds = holds; dying = queued dying.items; named = m }
+    rest_same : (dying : Vec Dying A) (names holds : List ℕ) → counts names_in ds1 n ≡ names → counts holds_in ds1 n ≡ holds → things (next dying) ≡ record (things k) { names = names; holds = holds; dying = queued dying.items; named = m }
     rest_same dying names holds f g =
         let p = places_counted ds n key.0 d is inv.descriptions a b in
         let q = keys_counted ds n key.0 d is inv.descriptions a b in
         λ i. record (things k) { descriptions = p i; keys = q i; names = f i; holds = g i; dying = queued dying.items; named = m }
 
-    pub things_names : (dying : Vec Dying Global) → b ≡ d.holds → things (next dying) ≡ record v { names = slice_set v.names d.number a; dying = queued dying.items; named = m }
+    pub things_names : (dying : Vec Dying A) → b ≡ d.holds → things (next dying) ≡ record v { names = slice_set v.names d.number a; dying = queued dying.items; named = m }
     things_names dying h =
         rest_same dying (slice_set (counts names_in ds n) d.number a) (counts holds_in ds n) (names_counted ds n key.0 d is inv.descriptions a b) (holds_kept ds n key.0 d is inv.descriptions a b h)
         ∙ ap (λ (w : Things). record w { names = slice_set w.names d.number a; dying = queued dying.items; named = m }) same
 
-    pub things_holds : (dying : Vec Dying Global) → a ≡ d.names → things (next dying) ≡ record v { holds = slice_set v.holds d.number b; dying = queued dying.items; named = m }
+    pub things_holds : (dying : Vec Dying A) → a ≡ d.names → things (next dying) ≡ record v { holds = slice_set v.holds d.number b; dying = queued dying.items; named = m }
     things_holds dying h =
         rest_same dying (counts names_in ds n) (slice_set (counts holds_in ds n) d.number b) (names_kept ds n key.0 d is inv.descriptions a b h) (holds_counted ds n key.0 d is inv.descriptions a b)
         ∙ ap (λ (w : Things). record w { holds = slice_set w.holds d.number b; dying = queued dying.items; named = m }) same

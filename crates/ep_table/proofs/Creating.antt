@@ -106,10 +106,10 @@ module _ (old mid new : List (Option ℕ)) (first second : DescId) (n m : ℕ) (
       ∙ ap (λ (ts : List (Option Table)). slice_set ts p (Some (enter (unwrap_or (get_or ts p None) []) (slot m cloexec)))) first_tables)
 
 -- what is entered into the lists of the tables
-pub lists_entered : (f : Process → Process) (xs ys zs : List (Option Slots)) (p : ℕ) → lists ys ≡ lists xs → lists zs ≡ slice_set (lists ys) p (f (process_of ys p)) → lists zs ≡ slice_set (lists xs) p (f (get_or (lists xs) p None))
+pub lists_entered : {A : Type 0} (f : Process → Process) (xs ys zs : List (Option (Slots A))) (p : ℕ) → lists ys ≡ lists xs → lists zs ≡ slice_set (lists ys) p (f (process_of ys p)) → lists zs ≡ slice_set (lists xs) p (f (get_or (lists xs) p None))
 lists_entered f xs ys zs p e h = h ∙ (ap (λ (q : Process). slice_set (lists ys) p (f q)) (sym (lists_at ys p)) ∙ ap (λ (ps : List Process). slice_set ps p (f (get_or ps p None))) e)
 
-abbrev pub with_store : Inside → List Process → Things → Seen
+abbrev pub with_store : {A : Type 0} → Inside A → List Process → Things → Seen
 with_store k ps s = record {
   limits = k.limits;
   files = record { tables = tables_in s.keys ps; descriptions = s.descriptions; objects = s.objects };
@@ -118,12 +118,12 @@ with_store k ps s = record {
   dying = s.dying;
 }
 
-pub live_creates_one : (k : Inside) (s : Things) (ps : List Process) (p : ℕ) (key : DescId) (o : Object) (cloexec : Bool) → LiveAll k.store.keys (lists k.processes.items) → IsSome (table_of (value_of k).files p) → InsertsOne k.store s key o
+pub live_creates_one : {A : Type 0} (k : Inside A) (s : Things) (ps : List Process) (p : ℕ) (key : DescId) (o : Object) (cloexec : Bool) → LiveAll k.store.keys (lists k.processes.items) → IsSome (table_of (value_of k).files p) → InsertsOne k.store s key o
     → ps ≡ slice_set (lists k.processes.items) p (entered (get_or (lists k.processes.items) p None) (record { description = key; cloexec = cloexec })) → LiveAll s.keys ps
 live_creates_one k s ps p key o cloexec inv there ins e =
     subst (λ (qs : List Process). LiveAll s.keys qs) (sym e) (live_one k.store.keys s.keys key (length k.store.descriptions) ins.keys (lists k.processes.items) inv p cloexec there)
 
-pub creates_one : (k : Inside) (v : Seen) (s : Things) (ps : List Process) (p : ℕ) (key : DescId) (o : Object) (cloexec : Bool) → LiveAll k.store.keys (lists k.processes.items) → value_of k ≡ v → IsSome (table_of (value_of k).files p) → InsertsOne k.store s key o
+pub creates_one : {A : Type 0} (k : Inside A) (v : Seen) (s : Things) (ps : List Process) (p : ℕ) (key : DescId) (o : Object) (cloexec : Bool) → LiveAll k.store.keys (lists k.processes.items) → value_of k ≡ v → IsSome (table_of (value_of k).files p) → InsertsOne k.store s key o
     → ps ≡ slice_set (lists k.processes.items) p (entered (get_or (lists k.processes.items) p None) (record { description = key; cloexec = cloexec })) → CreatesOne v (with_store k ps s) p o cloexec
 creates_one k v s ps p key o cloexec inv same there ins e =
     let t = ap (λ (qs : List Process). tables_in s.keys qs) e ∙ tables_one k.store.keys s.keys key (length k.store.descriptions) ins.keys (lists k.processes.items) inv p cloexec there in
@@ -136,12 +136,12 @@ creates_one k v s ps p key o cloexec inv same there ins e =
     } in
     subst (λ (w : Seen). CreatesOne w (with_store k ps s) p o cloexec) same r
 
-pub live_creates_two : (k : Inside) (s : Things) (ps : List Process) (p : ℕ) (first second : DescId) (o : Object) (cloexec : Bool) → LiveAll k.store.keys (lists k.processes.items) → IsSome (table_of (value_of k).files p) → InsertsTwo k.store s first second o
+pub live_creates_two : {A : Type 0} (k : Inside A) (s : Things) (ps : List Process) (p : ℕ) (first second : DescId) (o : Object) (cloexec : Bool) → LiveAll k.store.keys (lists k.processes.items) → IsSome (table_of (value_of k).files p) → InsertsTwo k.store s first second o
     → ps ≡ slice_set (lists k.processes.items) p (entered (entered (get_or (lists k.processes.items) p None) (record { description = first; cloexec = cloexec })) (record { description = second; cloexec = cloexec })) → LiveAll s.keys ps
 live_creates_two k s ps p first second o cloexec inv there ins e =
     subst (λ (qs : List Process). LiveAll s.keys qs) (sym e) (live_two k.store.keys ins.middle s.keys first second (length k.store.descriptions) (length k.store.descriptions + 1) ins.first_key ins.second_key (lists k.processes.items) inv p cloexec there)
 
-pub creates_two : (k : Inside) (v : Seen) (s : Things) (ps : List Process) (p : ℕ) (first second : DescId) (o : Object) (cloexec : Bool) → LiveAll k.store.keys (lists k.processes.items) → value_of k ≡ v → IsSome (table_of (value_of k).files p) → InsertsTwo k.store s first second o
+pub creates_two : {A : Type 0} (k : Inside A) (v : Seen) (s : Things) (ps : List Process) (p : ℕ) (first second : DescId) (o : Object) (cloexec : Bool) → LiveAll k.store.keys (lists k.processes.items) → value_of k ≡ v → IsSome (table_of (value_of k).files p) → InsertsTwo k.store s first second o
     → ps ≡ slice_set (lists k.processes.items) p (entered (entered (get_or (lists k.processes.items) p None) (record { description = first; cloexec = cloexec })) (record { description = second; cloexec = cloexec })) → CreatesTwo v (with_store k ps s) p o cloexec
 creates_two k v s ps p first second o cloexec inv same there ins e =
     let n = length k.store.descriptions in

@@ -27,7 +27,7 @@ subst3 : {ds ds1 : List (Option Place)} {names names1 holds holds1 dying : List 
 subst3 {ds} {ds1} {names} {names1} {holds} {holds1} {dying} e f g q =
     subst (λ (xs : List (Option Place)). Queue xs names1 holds1 dying) e (subst (λ (xs : List ℕ). Queue ds xs holds1 dying) f (subst (λ (xs : List ℕ). Queue ds names xs dying) g q))
 
-module _ (k : Inside) (v : Things) (inv : IsStore k) (same : things k ≡ v) (key : DescId) (d : Description) (is : get_or k.descriptions.slots key.0 None ≡ Some d) where
+module _ {A : Type 0} (k : Inside A) (v : Things) (inv : IsStore k) (same : things k ≡ v) (key : DescId) (d : Description) (is : get_or k.descriptions.slots key.0 None ≡ Some d) where
   abbrev s : Shared
   s = (backs k v inv same key d is).it
 

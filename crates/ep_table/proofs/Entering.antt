@@ -35,7 +35,7 @@ module _ (names : List ℕ) (ts : List (Option Table)) (p n : ℕ) (cloexec : Bo
   pub living_entered : length (numbered 0 entered_in) ≡ length (numbered 0 ts)
   living_entered = same_length 0 p ts (enter (unwrap_or (get_or ts p None) []) (slot n cloexec)) there
 
-pub fits_one : (k : Inside) (s : Things) (ps : List Process) (p : ℕ) (key : DescId) (o : Object) (cloexec : Bool) → IsTables k → length k.store.names ≡ length k.store.descriptions → IsSome (table_of (value_of k).files p) → InsertsOne k.store s key o
+pub fits_one : {A : Type 0} (k : Inside A) (s : Things) (ps : List Process) (p : ℕ) (key : DescId) (o : Object) (cloexec : Bool) → IsTables k → length k.store.names ≡ length k.store.descriptions → IsSome (table_of (value_of k).files p) → InsertsOne k.store s key o
     → ps ≡ slice_set (lists k.processes.items) p (entered (get_or (lists k.processes.items) p None) (record { description = key; cloexec = cloexec })) → Fits k.living s ps
 fits_one k s ps p key o cloexec inv len there ins e =
     let n = length k.store.descriptions in
@@ -47,7 +47,7 @@ fits_one k s ps p key o cloexec inv len there ins e =
       living = inv.living ∙ (sym (living_entered k.store.names ts p n cloexec there inv.counts len) ∙ ap (λ (xs : List (Option Table)). length (numbered 0 xs)) (sym t));
     }
 
-pub fits_two : (k : Inside) (s : Things) (ps : List Process) (p : ℕ) (first second : DescId) (o : Object) (cloexec : Bool) → IsTables k → length k.store.names ≡ length k.store.descriptions → IsSome (table_of (value_of k).files p) → InsertsTwo k.store s first second o
+pub fits_two : {A : Type 0} (k : Inside A) (s : Things) (ps : List Process) (p : ℕ) (first second : DescId) (o : Object) (cloexec : Bool) → IsTables k → length k.store.names ≡ length k.store.descriptions → IsSome (table_of (value_of k).files p) → InsertsTwo k.store s first second o
     → ps ≡ slice_set (lists k.processes.items) p (entered (entered (get_or (lists k.processes.items) p None) (record { description = first; cloexec = cloexec })) (record { description = second; cloexec = cloexec })) → Fits k.living s ps
 fits_two k s ps p first second o cloexec inv len there ins e =
     let n = length k.store.descriptions in

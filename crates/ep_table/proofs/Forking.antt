@@ -32,7 +32,7 @@ live_push : (keys : List (Option ℕ)) (ps : List Process) (p : Process) → Liv
 live_push keys [] p h k = (k, tt)
 live_push keys (q ∷ ps) p h k = (h.0, live_push keys ps p h.1 k)
 
-pub live_forked : (k : Inside) (xs : List (Option Slots)) (p : ℕ) (t : Option Slots) → IsTables k → xs ≡ k.processes.items ++ t ∷ [] → items_of t ≡ process_of k.processes.items p → LiveAll k.store.keys (lists xs)
+pub live_forked : {A : Type 0} (k : Inside A) (xs : List (Option (Slots A))) (p : ℕ) (t : Option (Slots A)) → IsTables k → xs ≡ k.processes.items ++ t ∷ [] → items_of t ≡ process_of k.processes.items p → LiveAll k.store.keys (lists xs)
 live_forked k xs p t inv e h =
     let keys = k.store.keys in
     let l : LiveProcess keys (items_of t) = subst (λ (q : Process). LiveProcess keys q) (sym h) (live_process keys k.processes.items p inv.live) in
@@ -43,7 +43,7 @@ table_some keys None h = absurd (false≢true h)
 table_some keys (Some t) h = refl
 
 -- a copy of a table that is there
-module _ (k : Inside) (v : Seen) (inv : IsTables k) (same : value_of k ≡ v) (p : ℕ) (u : List (Option Descriptor)) (is : Some u ≡ get_or (lists k.processes.items) p None) (xs : List (Option Slots)) (t : Option Slots)
+module _ {A : Type 0} (k : Inside A) (v : Seen) (inv : IsTables k) (same : value_of k ≡ v) (p : ℕ) (u : List (Option Descriptor)) (is : Some u ≡ get_or (lists k.processes.items) p None) (xs : List (Option (Slots A))) (t : Option (Slots A))
     (e : xs ≡ k.processes.items ++ t ∷ []) (h : items_of t ≡ process_of k.processes.items p) (s : Things) (r : Raises k.store s (numbers k.store.keys u)) where
   abbrev keys : List (Option ℕ)
   keys = k.store.keys
@@ -57,7 +57,7 @@ module _ (k : Inside) (v : Seen) (inv : IsTables k) (same : value_of k ≡ v) (p
   pushed : tables_in s.keys (lists xs) ≡ old ++ Some (unwrap_or (get_or old p None) []) ∷ []
   pushed =
       let f : table_in keys (items_of t) ≡ Some (unwrap_or (get_or old p None) []) = ap (table_in keys) h ∙ (sym (table_seen keys k.processes.items p) ∙ table_some keys (get_or old p None) there) in
-      ap (λ (w : Things). tables_in w.keys (lists xs)) r.same ∙ (ap (λ (ys : List (Option Slots)). tables_in keys (lists ys)) e ∙ (ap (λ (qs : List Process). tables_in keys qs) (map_push items_of k.processes.items t)
+      ap (λ (w : Things). tables_in w.keys (lists xs)) r.same ∙ (ap (λ (ys : List (Option (Slots A))). tables_in keys (lists ys)) e ∙ (ap (λ (qs : List Process). tables_in keys qs) (map_push items_of k.processes.items t)
       ∙ (map_push (table_in keys) (lists k.processes.items) (items_of t) ∙ ap (λ (y : Option Table). old ++ y ∷ []) f)))
 
   pub fits_forked : Fits (k.living + 1) s (lists xs)
@@ -77,10 +77,10 @@ length_map : {A B : Type 0} (f : A → B) (xs : List A) → length (map f xs) �
 length_map f [] = refl
 length_map f (x ∷ xs) = ap suc (length_map f xs)
 
-pub length_seen : (k : Inside) (v : Seen) → value_of k ≡ v → length k.processes.items ≡ length v.files.tables
+pub length_seen : {A : Type 0} (k : Inside A) (v : Seen) → value_of k ≡ v → length k.processes.items ≡ length v.files.tables
 length_seen k v same = sym (length_map (table_in k.store.keys) (lists k.processes.items) ∙ length_map items_of k.processes.items) ∙ ap (λ (w : Seen). length w.files.tables) same
 
-pub living_is : (k : Inside) (v : Seen) → IsTables k → value_of k ≡ v → k.living ≡ length (numbered 0 v.files.tables)
+pub living_is : {A : Type 0} (k : Inside A) (v : Seen) → IsTables k → value_of k ≡ v → k.living ≡ length (numbered 0 v.files.tables)
 living_is k v inv same = inv.living ∙ ap (λ (w : Seen). length (numbered 0 w.files.tables)) same
 
 refusal_there : (t : Option Table) (b : Bool) → is_some t ≡ true → first ((is_none t, Esrch) ∷ (b, Eagain) ∷ []) ≡ first ((b, Eagain) ∷ [])

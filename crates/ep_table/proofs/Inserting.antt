@@ -113,7 +113,7 @@ pub record Holds (ds : List (Option Description)) (os : List (Option Shared)) (n
   pub backed : AllBacked ds os
   pub owned : AllOwned ds os
 
-pub holds_of : (k : Inside) → IsStore k → Holds k.descriptions.slots k.objects.slots k.described k.made
+pub holds_of : {A : Type 0} (k : Inside A) → IsStore k → Holds k.descriptions.slots k.objects.slots k.described k.made
 holds_of k inv = record { descriptions = inv.descriptions; objects = inv.objects; backed = inv.backed; owned = inv.owned }
 
 -- an object with one description

@@ -37,7 +37,7 @@ positive n h = grind (arith, nat_tests, h)
 pub is_positive : (n : ℕ) → 0 < n → nat_lt 0 n ≡ true
 is_positive n h = grind (arith, nat_tests, h)
 
-module _ (k : Inside) (inv : IsTables k) (p : ℕ) where
+module _ {A : Type 0} (k : Inside A) (inv : IsTables k) (p : ℕ) where
   abbrev ts : List (Option Table)
   ts = (value_of k).files.tables
 
@@ -67,7 +67,7 @@ under_named s p n (pos i) h =
     among_times n (named_in_tables s.tables) ∙ is_positive (times n (named_in_tables s.tables)) (omega (arith, one, once_one n, table_unset n t i, whole, all_set n s.tables p None there))
 
 -- the table of a process that is there
-module _ (k : Inside) (inv : IsTables k) (p : ℕ) (t : List (Option Descriptor)) (is : Some t ≡ get_or (lists k.processes.items) p None) where
+module _ {A : Type 0} (k : Inside A) (inv : IsTables k) (p : ℕ) (t : List (Option Descriptor)) (is : Some t ≡ get_or (lists k.processes.items) p None) where
   abbrev keys : List (Option ℕ)
   keys = k.store.keys
 
@@ -160,7 +160,7 @@ module _ (old : List (Option ℕ)) (key : DescId) (n : ℕ) (is : number_at old 
       (live_table q (omega (arith, h, s)) l.0, free_live ps (omega (arith, h, s)) l.1)
 
 -- one that nothing names died
-module _ (k : Inside) (v : Seen) (inv : IsTables k) (same : value_of k ≡ v) (sound : SoundThings k.store) (s : Things) where
+module _ {A : Type 0} (k : Inside A) (v : Seen) (inv : IsTables k) (same : value_of k ≡ v) (sound : SoundThings k.store) (s : Things) where
   abbrev qs : List Process
   qs = lists k.processes.items
 

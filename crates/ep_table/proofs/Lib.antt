@@ -23,3 +23,6 @@ pub mod Tabling
 pub mod Entering
 pub mod Leaving
 pub mod Renaming
+pub mod Listing
+pub mod Making
+pub mod Starting

@@ -18,11 +18,11 @@ use Rattle.ep_table.proofs.Seeing.{live_entered, numbers_seen, slots_at}
 use Rattle.ep_table.proofs.Tabling.{exec_times, kept_seen, kept_slots, left_seen, live_kept, live_left, live_put_at, new_counts, new_live, new_living, new_value, put_seen}
 
 -- the state after one table and the counts were written
-pub record Renames (k : Inside) (v : Seen) (p : ℕ) (y : Table) (ps : List Process) (s : Things) : Type 0 where
+pub record Renames {A : Type 0} (k : Inside A) (v : Seen) (p : ℕ) (y : Table) (ps : List Process) (s : Things) : Type 0 where
   pub fits : Fits k.living s ps
   pub value : with_store k ps s ≡ record v { files = with_table v.files p y; dying = s.dying }
 
-module _ (k : Inside) (v : Seen) (inv : IsTables k) (same : value_of k ≡ v) (p : ℕ) (is : IsSome (table_of v.files p)) (ps : List Process) (s : Things) where
+module _ {A : Type 0} (k : Inside A) (v : Seen) (inv : IsTables k) (same : value_of k ≡ v) (p : ℕ) (is : IsSome (table_of v.files p)) (ps : List Process) (s : Things) where
   abbrev old : Table
   old = unwrap_or (get_or (value_of k).files.tables p None) []
 

@@ -16,7 +16,7 @@ map_set f [] i x = refl
 map_set f (y ∷ xs) zero x = refl
 map_set f (y ∷ xs) (suc i) x = ap (λ r. f y ∷ r) (map_set f xs i x)
 
-pub lists_at : (xs : List (Option Slots)) (p : ℕ) → get_or (lists xs) p None ≡ process_of xs p
+pub lists_at : {A : Type 0} (xs : List (Option (Slots A))) (p : ℕ) → get_or (lists xs) p None ≡ process_of xs p
 lists_at [] p = refl
 lists_at (x ∷ xs) zero = refl
 lists_at (x ∷ xs) (suc p) = lists_at xs p
@@ -28,7 +28,7 @@ module _ (keys : List (Option ℕ)) where
   tables_at (q ∷ ps) (suc p) = tables_at ps p
 
   -- the table of a process
-  pub table_seen : (xs : List (Option Slots)) (p : ℕ) → get_or (tables_in keys (lists xs)) p None ≡ table_in keys (process_of xs p)
+  pub table_seen : {A : Type 0} (xs : List (Option (Slots A))) (p : ℕ) → get_or (tables_in keys (lists xs)) p None ≡ table_in keys (process_of xs p)
   table_seen xs p = tables_at (lists xs) p ∙ ap (table_in keys) (lists_at xs p)
 
   unwrapped_table : (p : Process) → unwrap_or (table_in keys p) [] ≡ map (slot_in keys) (slots_of p)
@@ -36,7 +36,7 @@ module _ (keys : List (Option ℕ)) where
   unwrapped_table (Some t) = refl
 
   -- its numbers
-  pub numbers_seen : (xs : List (Option Slots)) (p : ℕ) → unwrap_or (get_or (tables_in keys (lists xs)) p None) [] ≡ map (slot_in keys) (slots_of (process_of xs p))
+  pub numbers_seen : {A : Type 0} (xs : List (Option (Slots A))) (p : ℕ) → unwrap_or (get_or (tables_in keys (lists xs)) p None) [] ≡ map (slot_in keys) (slots_of (process_of xs p))
   numbers_seen xs p = ap (λ (t : Option Table). unwrap_or t []) (table_seen xs p) ∙ unwrapped_table (process_of xs p)
 
   pub slots_at : (t : List (Option Descriptor)) (i : ℕ) → get_or (map (slot_in keys) t) i None ≡ slot_in keys (get_or t i None)
@@ -80,10 +80,10 @@ module _ (keys : List (Option ℕ)) where
   live_slot (x ∷ t) zero h = h.0
   live_slot (x ∷ t) (suc i) h = live_slot t i h.1
 
-  pub live_process : (xs : List (Option Slots)) (p : ℕ) → LiveAll keys (lists xs) → LiveProcess keys (process_of xs p)
+  pub live_process : {A : Type 0} (xs : List (Option (Slots A))) (p : ℕ) → LiveAll keys (lists xs) → LiveProcess keys (process_of xs p)
   live_process xs p h = subst (λ (q : Process). LiveProcess keys q) (lists_at xs p) (live_at (lists xs) p h)
 
-  pub live_found : (xs : List (Option Slots)) (p i : ℕ) → LiveAll keys (lists xs) → LiveSlot keys (get_or (slots_of (process_of xs p)) i None)
+  pub live_found : {A : Type 0} (xs : List (Option (Slots A))) (p i : ℕ) → LiveAll keys (lists xs) → LiveSlot keys (get_or (slots_of (process_of xs p)) i None)
   live_found xs p i h = live_slot (slots_of (process_of xs p)) i (live_slots (process_of xs p) (live_process xs p h))
 
   pub live_set : (ps : List Process) (p : ℕ) (q : Process) → LiveAll keys ps → LiveProcess keys q → LiveAll keys (slice_set ps p q)

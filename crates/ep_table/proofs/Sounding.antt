@@ -26,7 +26,7 @@ there_of : (slots : List (Option Description)) (key d : ℕ) (o : Option Descrip
 there_of slots key d None e h = absurd cc
 there_of slots key d (Some x) e h = record { it = x; is = e; number = cc }
 
-pub there : (k : Inside) (v : Things) → things k ≡ v → (key : DescId) (d : ℕ) → number_at v.keys key ≡ Some d → There k.descriptions.slots key.0 d
+pub there : {A : Type 0} (k : Inside A) (v : Things) → things k ≡ v → (key : DescId) (d : ℕ) → number_at v.keys key ≡ Some d → There k.descriptions.slots key.0 d
 there k v same key d h =
     there_of k.descriptions.slots key.0 d (get_or k.descriptions.slots key.0 None) refl
     (sym (key_at k.descriptions.slots key.0) ∙ (ap (λ (w : Things). number_at w.keys key) same ∙ h))
@@ -58,7 +58,7 @@ held_of slots n num d h =
     ] in
     counts_at holds_in (contents_by number_in holds_in slots n) d ∙ ap count_in none
 
-sound_inside : (k : Inside) → IsStore k → SoundThings (things k)
+sound_inside : {A : Type 0} (k : Inside A) → IsStore k → SoundThings (things k)
 sound_inside k inv = record {
   one = λ i j d p q. let a = there k (things k) refl i d p in let b = there k (things k) refl j d q in inv.descriptions.one i.0 j.0 a.it b.it a.is b.is (a.number ∙ sym b.number);
   place = λ key d p.
@@ -78,5 +78,5 @@ sound_inside k inv = record {
   queue = inv.queue;
 }
 
-pub sound_things : (k : Inside) (v : Things) → IsStore k → things k ≡ v → SoundThings v
+pub sound_things : {A : Type 0} (k : Inside A) (v : Things) → IsStore k → things k ≡ v → SoundThings v
 sound_things k v inv same = subst (λ (w : Things). SoundThings w) same (sound_inside k inv)

@@ -15,7 +15,7 @@ key_at (x ∷ slots) zero = refl
 key_at (x ∷ slots) (suc key) = key_at slots key
 
 -- a description under a key
-module _ (k : Inside) (v : Things) (inv : IsStore k) (same : things k ≡ v) (key : DescId) (d : Description) (is : get_or k.descriptions.slots key.0 None ≡ Some d) where
+module _ {A : Type 0} (k : Inside A) (v : Things) (inv : IsStore k) (same : things k ≡ v) (key : DescId) (d : Description) (is : get_or k.descriptions.slots key.0 None ≡ Some d) where
   pub number_is : number_at v.keys key ≡ Some d.number
   number_is = ap (λ (w : Things). number_at w.keys key) (sym same) ∙ (key_at k.descriptions.slots key.0 ∙ ap key_number is)
 
@@ -57,7 +57,7 @@ there_of : (slots : List (Option Description)) (key d : ℕ) (o : Option Descrip
 there_of slots key d None e h = absurd cc
 there_of slots key d (Some x) e h = record { it = x; is = e; number = cc }
 
-there : (k : Inside) (v : Things) → things k ≡ v → (key : DescId) (d : ℕ) → number_at v.keys key ≡ Some d → There k.descriptions.slots key.0 d
+there : {A : Type 0} (k : Inside A) (v : Things) → things k ≡ v → (key : DescId) (d : ℕ) → number_at v.keys key ≡ Some d → There k.descriptions.slots key.0 d
 there k v same key d h =
     there_of k.descriptions.slots key.0 d (get_or k.descriptions.slots key.0 None) refl
     (sym (key_at k.descriptions.slots key.0) ∙ (ap (λ (w : Things). number_at w.keys key) same ∙ h))

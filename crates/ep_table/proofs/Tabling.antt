@@ -62,7 +62,7 @@ module _ (keys : List (Option ℕ)) (qs : List Process) (p : ℕ) (there : IsSom
       map_set (table_in keys) qs p (f (get_or qs p None)) ∙ ap (λ (y : Option Table). slice_set (tables_in keys qs) p y) e
 
 -- in the tables as they are kept
-module _ (k : Inside) (v : Seen) (inv : IsTables k) (same : value_of k ≡ v) (p : ℕ) (is : IsSome (table_of v.files p)) (f : Process → Process) (g : Table → Table)
+module _ {A : Type 0} (k : Inside A) (v : Seen) (inv : IsTables k) (same : value_of k ≡ v) (p : ℕ) (is : IsSome (table_of v.files p)) (f : Process → Process) (g : Table → Table)
     (step : (q : Process) → IsSome (table_in k.store.keys q) → table_in k.store.keys (f q) ≡ Some (g (unwrap_or (table_in k.store.keys q) [])))
     (keeps : (q : Process) → LiveProcess k.store.keys q → LiveProcess k.store.keys (f q))
     (ps : List Process) (written : ps ≡ slice_set (lists k.processes.items) p (f (get_or (lists k.processes.items) p None)))

@@ -7,3 +7,4 @@ pub mod View
 pub mod Closing
 pub mod Counting
 pub mod Flagged
+pub mod Live

@@ -9,14 +9,14 @@ use Rattle.ep_table.specs.declared.words.Descriptor.{Descriptor}
 abbrev pub Process : Type 0
 Process = Option (List (Option Descriptor))
 
-abbrev pub items_of : Option Table → Process
+abbrev pub items_of : {A : Type 0} → Option (Table A) → Process
 items_of None = None
 items_of (Some t) = Some t.slots.items
 
-abbrev pub lists : List (Option Table) → List Process
+abbrev pub lists : {A : Type 0} → List (Option (Table A)) → List Process
 lists xs = map items_of xs
 
-abbrev pub process_of : List (Option Table) → ℕ → Process
+abbrev pub process_of : {A : Type 0} → List (Option (Table A)) → ℕ → Process
 process_of xs p = items_of (slice_index_or xs p None)
 
 abbrev pub slots_of : Process → List (Option Descriptor)
@@ -40,6 +40,6 @@ kept_in None = None
 kept_in (Some t) = Some (map kept t)
 
 -- so many more numbers find room
-abbrev pub HasRoom : Option Table → ℕ → Type 0
+abbrev pub HasRoom : {A : Type 0} → Option (Table A) → ℕ → Type 0
 HasRoom None n = Unit {0}
 HasRoom (Some t) n = vec_len t.slots + n ≤ vec_capacity t.slots

@@ -59,7 +59,7 @@ abbrev pub queued : List Dying → List ℕ
 queued [] = []
 queued (x ∷ rest) = queued rest ++ x.number ∷ []
 
-abbrev pub things : Inside → Things
+abbrev pub things : {A : Type 0} → Inside A → Things
 things k = record {
   descriptions = places k.descriptions.slots k.described;
   objects = objects k.objects.slots k.made;
@@ -99,7 +99,7 @@ AllBacked ds os = (key : ℕ) (d : Description) → slice_index_or ds key None �
 abbrev pub AllOwned : List (Option Description) → List (Option Shared) → Type 0
 AllOwned ds os = (at : ℕ) (s : Shared) (e : End) (key : DescId) → slice_index_or os at None ≡ Some s → key_at s e ≡ Some key → Owns ds at e key
 
-pub record IsStore (k : Inside) : Type 0 where
+pub record IsStore {A : Type 0} (k : Inside A) : Type 0 where
   pub descriptions : NumberedBy number_in k.descriptions.slots k.described
   pub objects : NumberedBy object_number_in k.objects.slots k.made
   pub backed : AllBacked k.descriptions.slots k.objects.slots

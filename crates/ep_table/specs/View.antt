@@ -20,7 +20,7 @@ table_in keys (Some t) = Some (map (slot_in keys) t)
 abbrev pub tables_in : List (Option ℕ) → List Process → List (Option Table)
 tables_in keys ps = map (table_in keys) ps
 
-abbrev pub value_of : Inside → Seen
+abbrev pub value_of : {A : Type 0} → Inside A → Seen
 value_of k = record {
   limits = k.limits;
   files = record {
@@ -50,7 +50,7 @@ abbrev pub LiveAll : List (Option ℕ) → List Process → Type 0
 LiveAll keys [] = Unit {0}
 LiveAll keys (p ∷ rest) = LiveProcess keys p × LiveAll keys rest
 
-pub record IsTables (k : Inside) : Type 0 where
+pub record IsTables {A : Type 0} (k : Inside A) : Type 0 where
   pub live : LiveAll k.store.keys (lists k.processes.items)
   pub counts : (d : ℕ) → count_at k.store.names d ≡ times d (named_in_tables (value_of k).files.tables)
   pub living : k.living ≡ length (numbered 0 (value_of k).files.tables)

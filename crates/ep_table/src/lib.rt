@@ -1,6 +1,7 @@
 //! Descriptor tables and open file descriptions.
 #![tactic(auto)]
 
+mod live;
 mod names;
 mod processes;
 mod store;
@@ -8,8 +9,11 @@ mod table;
 mod tables;
 mod words;
 
+pub use crate::live::Live;
 pub use crate::tables::Tables;
 pub use crate::words::Dead;
 
+#[cfg(test)]
+mod refused;
 #[cfg(test)]
 mod tests;

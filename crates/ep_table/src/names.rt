@@ -7,8 +7,9 @@ ghost use Rattle.ep_table.specs.View.{LiveSlot, LiveTable};
 
 use crate::store::Store;
 use crate::words::Descriptor;
+use std::alloc::Allocator;
 
-fn add_name(store: &mut Store, slot: Option<Descriptor>)
+fn add_name<A: Allocator>(store: &mut Store<A>, slot: Option<Descriptor>)
     requires live { LiveSlot store.old.keys slot }
     requires named { (d : ℕ) → 0 < times d (numbers store.old.keys (slot ∷ [])) → 0 < count_at store.old.names d }
     requires fits { store.old.named + 2 < 2 ^ 64 }
@@ -21,7 +22,7 @@ fn add_name(store: &mut Store, slot: Option<Descriptor>)
 }
 
 /// Adds the names that descriptors give.
-pub fn add_names(store: &mut Store, slots: &[Option<Descriptor>])
+pub fn add_names<A: Allocator>(store: &mut Store<A>, slots: &[Option<Descriptor>])
     requires live { LiveTable store.old.keys slots.now }
     requires named { (d : ℕ) → 0 < times d (numbers store.old.keys slots.now) → 0 < count_at store.old.names d }
     requires fits { store.old.named + length slots.now + 2 < 2 ^ 64 }
@@ -32,7 +33,7 @@ pub fn add_names(store: &mut Store, slots: &[Option<Descriptor>])
     }
 }
 
-fn drop_name(store: &mut Store, slot: Option<Descriptor>)
+fn drop_name<A: Allocator>(store: &mut Store<A>, slot: Option<Descriptor>)
     requires live { LiveSlot store.old.keys slot }
     requires named { (d : ℕ) → times d (numbers store.old.keys (slot ∷ [])) ≤ count_at store.old.names d }
     ensures { Lowers store.old store.new (numbers store.old.keys (slot ∷ [])) }
@@ -53,7 +54,7 @@ fn closed(slot: Option<Descriptor>, every: bool) -> Option<Descriptor>
 }
 
 /// Drops the names that descriptors give: of every one, or of those whose close-on-exec flag is on.
-pub fn drop_names(store: &mut Store, slots: &[Option<Descriptor>], every: bool)
+pub fn drop_names<A: Allocator>(store: &mut Store<A>, slots: &[Option<Descriptor>], every: bool)
     requires live { LiveTable store.old.keys slots.now }
     requires named { (d : ℕ) → times d (numbers store.old.keys (map (closing every) slots.now)) ≤ count_at store.old.names d }
     ensures { Lowers store.old store.new (numbers store.old.keys (map (closing every) slots.now)) }

@@ -7,10 +7,10 @@ ghost use Rattle.ep_table.specs.declared.words.Descriptor.{Descriptor as the_des
 use crate::table::Table;
 use crate::words::Descriptor;
 use ep_base::Pid;
-use std::alloc::AllocError;
+use std::alloc::{AllocError, Allocator};
 
 /// The table of a process.
-pub fn table_at(processes: &[Option<Table>], pid: Pid) -> Option<&Table>
+pub fn table_at<A: Allocator>(processes: &[Option<Table<A>>], pid: Pid) -> Option<&Table<A>>
     ensures { option_copied result ≡ slice_index_or processes.now pid.0 None }
 {
     match processes.get(pid.0 as usize) {
@@ -20,7 +20,7 @@ pub fn table_at(processes: &[Option<Table>], pid: Pid) -> Option<&Table>
 }
 
 /// The lowest free number of a process.
-pub fn lowest(processes: &[Option<Table>], pid: Pid) -> usize
+pub fn lowest<A: Allocator>(processes: &[Option<Table<A>>], pid: Pid) -> usize
     ensures { result ≡ lowest_free (slots_of (process_of processes.now pid.0)) }
 {
     match table_at(processes, pid) {
@@ -30,7 +30,7 @@ pub fn lowest(processes: &[Option<Table>], pid: Pid) -> usize
 }
 
 /// The lowest free number of a process once the lowest one is taken.
-pub fn second(processes: &[Option<Table>], pid: Pid) -> usize
+pub fn second<A: Allocator>(processes: &[Option<Table<A>>], pid: Pid) -> usize
     ensures { (x : the_descriptor) → result ≡ lowest_free (entered_at (slots_of (process_of processes.now pid.0)) x) }
 {
     match table_at(processes, pid) {
@@ -40,7 +40,11 @@ pub fn second(processes: &[Option<Table>], pid: Pid) -> usize
 }
 
 /// What a number of a process names.
-pub fn descriptor_at(processes: &[Option<Table>], pid: Pid, number: usize) -> Option<Descriptor>
+pub fn descriptor_at<A: Allocator>(
+    processes: &[Option<Table<A>>],
+    pid: Pid,
+    number: usize,
+) -> Option<Descriptor>
     ensures { result ≡ slice_index_or (slots_of (process_of processes.now pid.0)) number None }
 {
     match table_at(processes, pid) {
@@ -49,7 +53,10 @@ pub fn descriptor_at(processes: &[Option<Table>], pid: Pid, number: usize) -> Op
     }
 }
 
-fn reserve_in(process: &mut Option<Table>, additional: usize) -> Result<(), AllocError>
+fn reserve_in<A: Allocator>(
+    process: &mut Option<Table<A>>,
+    additional: usize,
+) -> Result<(), AllocError>
     ensures items { items_of process.new ≡ items_of process.old }
     ensures room { OnOk result (HasRoom process.new additional) }
 {
@@ -59,7 +66,7 @@ fn reserve_in(process: &mut Option<Table>, additional: usize) -> Result<(), Allo
     }
 }
 
-fn enter_in(process: &mut Option<Table>, descriptor: Descriptor)
+fn enter_in<A: Allocator>(process: &mut Option<Table<A>>, descriptor: Descriptor)
     requires { HasRoom process.old 1 }
     ensures { items_of process.new ≡ entered (items_of process.old) descriptor }
 {
@@ -68,7 +75,7 @@ fn enter_in(process: &mut Option<Table>, descriptor: Descriptor)
     }
 }
 
-fn enter_two_in(process: &mut Option<Table>, first: Descriptor, second: Descriptor)
+fn enter_two_in<A: Allocator>(process: &mut Option<Table<A>>, first: Descriptor, second: Descriptor)
     requires { HasRoom process.old 2 }
     ensures { items_of process.new ≡ entered (entered (items_of process.old) first) second }
 {
@@ -79,8 +86,8 @@ fn enter_two_in(process: &mut Option<Table>, first: Descriptor, second: Descript
 }
 
 /// Makes room for so many more numbers of a process.
-pub fn reserve(
-    processes: &mut Vec<Option<Table>>,
+pub fn reserve<A: Allocator>(
+    processes: &mut Vec<Option<Table<A>>, A>,
     pid: Pid,
     additional: usize,
 ) -> Result<(), AllocError>
@@ -95,7 +102,11 @@ pub fn reserve(
 }
 
 /// Puts a descriptor at the lowest free number of a process.
-pub fn enter(processes: &mut Vec<Option<Table>>, pid: Pid, descriptor: Descriptor)
+pub fn enter<A: Allocator>(
+    processes: &mut Vec<Option<Table<A>>, A>,
+    pid: Pid,
+    descriptor: Descriptor,
+)
     requires { HasRoom (slice_index_or processes.old.items pid.0 None) 1 }
     ensures { lists processes.new.items ≡ slice_set (lists processes.old.items) pid.0 (entered (process_of processes.old.items pid.0) descriptor) }
 {
@@ -106,8 +117,8 @@ pub fn enter(processes: &mut Vec<Option<Table>>, pid: Pid, descriptor: Descripto
 }
 
 /// Puts two descriptors at the lowest free numbers of a process, the first at the lower one.
-pub fn enter_two(
-    processes: &mut Vec<Option<Table>>,
+pub fn enter_two<A: Allocator>(
+    processes: &mut Vec<Option<Table<A>>, A>,
     pid: Pid,
     first: Descriptor,
     second: Descriptor,
@@ -121,7 +132,7 @@ pub fn enter_two(
     }
 }
 
-fn leave_in(process: &mut Option<Table>, number: usize)
+fn leave_in<A: Allocator>(process: &mut Option<Table<A>>, number: usize)
     ensures { items_of process.new ≡ left (items_of process.old) number }
 {
     if let Some(table) = process {
@@ -130,7 +141,7 @@ fn leave_in(process: &mut Option<Table>, number: usize)
 }
 
 /// Frees a number of a process.
-pub fn leave(processes: &mut Vec<Option<Table>>, pid: Pid, number: usize)
+pub fn leave<A: Allocator>(processes: &mut Vec<Option<Table<A>>, A>, pid: Pid, number: usize)
     ensures { lists processes.new.items ≡ slice_set (lists processes.old.items) pid.0 (left (process_of processes.old.items pid.0) number) }
 {
     let at = pid.0 as usize;
@@ -139,8 +150,8 @@ pub fn leave(processes: &mut Vec<Option<Table>>, pid: Pid, number: usize)
     }
 }
 
-fn put_in(
-    process: &mut Option<Table>,
+fn put_in<A: Allocator>(
+    process: &mut Option<Table<A>>,
     number: usize,
     descriptor: Descriptor,
 ) -> Result<(), AllocError>
@@ -155,8 +166,8 @@ fn put_in(
 }
 
 /// Puts a descriptor at a number of a process. An `AllocError` leaves the tables.
-pub fn put(
-    processes: &mut Vec<Option<Table>>,
+pub fn put<A: Allocator>(
+    processes: &mut Vec<Option<Table<A>>, A>,
     pid: Pid,
     number: usize,
     descriptor: Descriptor,
@@ -172,7 +183,7 @@ pub fn put(
     Ok(())
 }
 
-fn close_flagged_in(process: &mut Option<Table>)
+fn close_flagged_in<A: Allocator>(process: &mut Option<Table<A>>)
     ensures { items_of process.new ≡ kept_in (items_of process.old) }
 {
     if let Some(table) = process {
@@ -181,7 +192,7 @@ fn close_flagged_in(process: &mut Option<Table>)
 }
 
 /// Frees the numbers of a process whose close-on-exec flag is on.
-pub fn close_flagged(processes: &mut Vec<Option<Table>>, pid: Pid)
+pub fn close_flagged<A: Allocator>(processes: &mut Vec<Option<Table<A>>, A>, pid: Pid)
     ensures { lists processes.new.items ≡ slice_set (lists processes.old.items) pid.0 (kept_in (process_of processes.old.items pid.0)) }
 {
     let at = pid.0 as usize;
@@ -190,14 +201,14 @@ pub fn close_flagged(processes: &mut Vec<Option<Table>>, pid: Pid)
     }
 }
 
-fn end_in(process: &mut Option<Table>)
+fn end_in<A: Allocator>(process: &mut Option<Table<A>>)
     ensures { items_of process.new ≡ None }
 {
     *process = None;
 }
 
 /// Takes the table of a process away.
-pub fn end(processes: &mut Vec<Option<Table>>, pid: Pid)
+pub fn end<A: Allocator>(processes: &mut Vec<Option<Table<A>>, A>, pid: Pid)
     ensures { lists processes.new.items ≡ slice_set (lists processes.old.items) pid.0 None }
 {
     let at = pid.0 as usize;

@@ -1,6 +1,8 @@
 //! Open file descriptions and their objects.
 ghost use Rattle.std.specs.Prelude.{◌≡◌, ◌+◌, ◌<◌, ◌≤◌, ◌^◌, [], false, IfNone, IfOk, IfSome, IsOk, IsSome, None, OnErr, OnOk, Some, length, min, slice_index_or, slice_set, vec_capacity};
 ghost use Rattle.slab.specs.Slab.{HasRoomFor, slab_len};
+ghost use Rattle.std.specs.Map.Iter.{ShowsInOrder};
+ghost use Rattle.ep_base.specs.declared.ids.DescId.{DescId};
 ghost use Rattle.ep_machine.specs.Lists.{is_among, numbered};
 ghost use Rattle.ep_machine.specs.Files.{object_of, place_of, side_of};
 ghost use Rattle.ep_machine.specs.Tables.{affected};
@@ -8,29 +10,31 @@ ghost use Rattle.ep_object.specs.Memory.{asked_of};
 ghost use Rattle.ep_machine.specs.Objects.{close_end};
 ghost use Rattle.ep_machine.specs.Timer.{last_moment};
 ghost use Rattle.ep_table.specs.Closing.{Dies, IsAt, across, closed_in, closed_slot, other_key, other_slot, raised_slot};
+ghost use Rattle.ep_table.specs.Live.{live_ids};
 ghost use Rattle.ep_table.specs.Value.{InsertsOne, InsertsTwo, SoundThings, count_at, effect_at, files_in, less_at, more_at, number_at, thing_number, waiting_at};
 
+use crate::live::Live;
 use crate::words::{Dead, Description, Dying, Shared};
 use ep_base::{Answer, Call, DescId, End, Raised};
 use ep_object::Object;
 use slab::Slab;
-use std::alloc::{AllocError, Global};
+use std::alloc::{AllocError, Allocator};
 use std::marker::Model;
 
 /// Open file descriptions and objects by their keys, how many there have been of each, how often a
 /// name was added to a description, and the descriptions that nothing names or holds, with room for
 /// all that live.
 #[derive(Drop)]
-pub struct Store {
+pub struct Store<A: Allocator> {
     described: u64,
     made: u64,
     named: usize,
-    descriptions: Slab<Description>,
-    objects: Slab<Shared>,
-    dying: Vec<Dying>,
+    descriptions: Slab<Description, A>,
+    objects: Slab<Shared, A>,
+    dying: Vec<Dying, A>,
 }
 
-impl Model for Store {
+impl<A: Allocator> Model for Store<A> {
     ghost use Rattle.ep_table.specs.Value.{Things};
 
     ghost Value = { Things };
@@ -43,10 +47,10 @@ impl Model for Store {
 }
 
 /// Makes room for one object and so many descriptions, and for the deaths of all.
-fn reserve(
-    descriptions: &mut Slab<Description>,
-    objects: &mut Slab<Shared>,
-    dying: &mut Vec<Dying>,
+fn reserve<A: Allocator>(
+    descriptions: &mut Slab<Description, A>,
+    objects: &mut Slab<Shared, A>,
+    dying: &mut Vec<Dying, A>,
     additional: usize,
 ) -> Result<(), AllocError>
     ensures descriptions { descriptions.new.slots ≡ descriptions.old.slots }
@@ -65,7 +69,11 @@ fn reserve(
 
 /// Closes an end of an object, which goes where that was the last: what that raised, and the key of
 /// the description of the other end.
-fn close(objects: &mut Slab<Shared>, at: usize, end: End) -> (Raised, Option<DescId>)
+fn close<A: Allocator>(
+    objects: &mut Slab<Shared, A>,
+    at: usize,
+    end: End,
+) -> (Raised, Option<DescId>)
     requires { IsSome (slice_index_or objects.old.slots at None) }
     ensures slots { objects.new.slots ≡ slice_set objects.old.slots at (closed_slot (slice_index_or objects.old.slots at None) end) }
     ensures raised { result.0 ≡ raised_slot (slice_index_or objects.old.slots at None) end }
@@ -100,9 +108,11 @@ fn other_in(shared: &Shared, end: End) -> Option<DescId>
     }
 }
 
-impl Store {
+impl<A: Allocator> Store<A> {
     /// No descriptions.
-    pub fn new(alloc: Global) -> Store
+    pub fn new(alloc: A) -> Store<A>
+    where
+        A: Copy,
         ensures { result ≡ record { descriptions = []; objects = []; keys = []; names = []; holds = []; dying = []; named = 0 } }
     {
         Store {
@@ -120,6 +130,16 @@ impl Store {
         ensures { result ≡ length (numbered 0 self.now.descriptions) }
     {
         self.descriptions.len()
+    }
+
+    /// The keys of the live descriptions, in their order.
+    pub fn live(&self) -> Live<'_>
+        ensures exact { result ≡ live_ids self.now.keys }
+        ensures runs { ShowsInOrder (λ (id : DescId). id) }
+    {
+        Live {
+            entries: self.descriptions.iter(),
+        }
     }
 
     /// Which end of its object a description is.

@@ -7,12 +7,12 @@ ghost use Rattle.ep_table.specs.declared.words.Descriptor.{Descriptor as the_des
 
 use crate::words::Descriptor;
 use ep_base::DescId;
-use std::alloc::{AllocError, Global};
+use std::alloc::{AllocError, Allocator};
 
 /// Descriptors by number. No number below `low` is free.
 #[derive(Drop)]
-pub struct Table {
-    pub slots: Vec<Option<Descriptor>>,
+pub struct Table<A: Allocator> {
+    pub slots: Vec<Option<Descriptor>, A>,
     pub low: usize,
     pub ghost is_low: { IsLow low slots.items },
 }
@@ -29,7 +29,11 @@ fn next_free(slots: &[Option<Descriptor>], from: usize) -> usize
 }
 
 /// Puts a descriptor at the lowest free number.
-fn place(slots: &mut Vec<Option<Descriptor>>, number: usize, descriptor: Descriptor)
+fn place<A: Allocator>(
+    slots: &mut Vec<Option<Descriptor>, A>,
+    number: usize,
+    descriptor: Descriptor,
+)
     requires number { number ≡ lowest_free slots.old.items }
     requires room { vec_len slots.old + 1 ≤ vec_capacity slots.old }
     ensures slots { slots.new.items ≡ enter slots.old.items descriptor }
@@ -43,7 +47,7 @@ fn place(slots: &mut Vec<Option<Descriptor>>, number: usize, descriptor: Descrip
     }
 }
 
-fn free(slots: &mut Vec<Option<Descriptor>>, number: usize)
+fn free<A: Allocator>(slots: &mut Vec<Option<Descriptor>, A>, number: usize)
     requires { number < vec_len slots.old }
     ensures { slots.new.items ≡ slice_set slots.old.items number None }
 {
@@ -68,7 +72,10 @@ fn free_flagged(slots: &mut [Option<Descriptor>])
 }
 
 /// Grows a table so that it has a number. An `AllocError` leaves it.
-fn grow_to(slots: &mut Vec<Option<Descriptor>>, number: usize) -> Result<(), AllocError>
+fn grow_to<A: Allocator>(
+    slots: &mut Vec<Option<Descriptor>, A>,
+    number: usize,
+) -> Result<(), AllocError>
     requires { number + 1 < 2 ^ 64 }
     ensures ok { OnOk result (slots.new.items ≡ grown slots.old.items number) }
     ensures err { OnErr result (slots.new.items ≡ slots.old.items) }
@@ -79,17 +86,17 @@ fn grow_to(slots: &mut Vec<Option<Descriptor>>, number: usize) -> Result<(), All
     Ok(())
 }
 
-fn set(slots: &mut Vec<Option<Descriptor>>, number: usize, descriptor: Descriptor)
+fn set<A: Allocator>(slots: &mut Vec<Option<Descriptor>, A>, number: usize, descriptor: Descriptor)
     requires { number < vec_len slots.old }
     ensures { slots.new.items ≡ slice_set slots.old.items number (Some descriptor) }
 {
     slots[number] = Some(descriptor);
 }
 
-fn copy_slots(
-    alloc: Global,
+fn copy_slots<A: Allocator>(
+    alloc: A,
     slots: &[Option<Descriptor>],
-) -> Result<Vec<Option<Descriptor>>, AllocError>
+) -> Result<Vec<Option<Descriptor>, A>, AllocError>
     ensures { IfOk result (λ copy. copy.items ≡ slots.now) }
 {
     let mut copy = Vec::new(alloc);
@@ -99,9 +106,9 @@ fn copy_slots(
     Ok(copy)
 }
 
-impl Table {
+impl<A: Allocator> Table<A> {
     /// The table with which the first process starts: 0, 1 and 2 name one description.
-    pub fn opening(alloc: Global, description: DescId) -> Result<Table, AllocError>
+    pub fn opening(alloc: A, description: DescId) -> Result<Table<A>, AllocError>
         ensures { IfOk result (λ table. let x = Some (record { description = description; cloexec = false }) in table.slots.items ≡ x ∷ x ∷ x ∷ []) }
     {
         let descriptor = Descriptor {
@@ -189,7 +196,9 @@ impl Table {
     }
 
     /// The same descriptors in another table.
-    pub fn copy(&self) -> Result<Table, AllocError>
+    pub fn copy(&self) -> Result<Table<A>, AllocError>
+    where
+        A: Copy,
         ensures { IfOk result (λ copy. copy.slots.items ≡ self.now.slots.items) }
     {
         let slots = copy_slots(*self.slots.allocator(), &self.slots)?;

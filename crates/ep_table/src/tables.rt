@@ -1,7 +1,9 @@
 //! The tables: processes, descriptors, open file descriptions and objects.
 ghost use Rattle.std.specs.Prelude.{◌≡◌, ◌+◌, ◌<◌, ◌≤◌, ◌^◌, ◌∷◌, [], ℕ, false, IfNone, IfOk, IfSome, IsOk, IsSome, None, OnErr, OnOk, Some, is_some, length, min, pos, true};
+ghost use Rattle.std.specs.Map.Iter.{ShowsInOrder};
 ghost use Rattle.ep_base.specs.declared.answer.Answer.TheVariants.{Done, Num, Refused};
 ghost use Rattle.ep_base.specs.declared.errno.Errno.{Errno as the_errno};
+ghost use Rattle.ep_base.specs.declared.ids.DescId.{DescId};
 ghost use Rattle.ep_machine.specs.Deaths.{named_in_tables};
 ghost use Rattle.ep_machine.specs.Effect.{first};
 ghost use Rattle.ep_machine.specs.Lists.{is_among, numbered, place_at};
@@ -11,10 +13,12 @@ ghost use Rattle.ep_machine.specs.Objects.{advance, object_present};
 ghost use Rattle.ep_machine.specs.Tables.{affected, answer_one, answer_two, close, create_refusals, dup, dup2, exec, exit, fork, is_in_range, one_refusals, slot, two_refusals, with_table};
 ghost use Rattle.ep_machine.specs.Timer.{last_moment};
 ghost use Rattle.ep_table.specs.Closing.{IsAt, Takes, across};
+ghost use Rattle.ep_table.specs.Live.{live_ids};
 ghost use Rattle.ep_table.specs.Value.{CreatesOne, CreatesTwo, Gains, Sound, close_refusal, content_of, dup2_refusal, dup_refusal, effect_at, fork_refusal, holds_of, less_at, more_at, natural, number_found, number_of, number_under, one_refusal, process_refusal, two_refusal, waiting_at};
 ghost use Rattle.ep_object.specs.Memory.{asked_of};
 ghost use Rattle.ep_object.specs.Next.{IsNextMoment};
 
+use crate::live::Live;
 use crate::names::{add_names, drop_names};
 use crate::processes::{
     close_flagged, descriptor_at, end, enter, enter_two, leave, lowest, put, reserve, second,
@@ -25,24 +29,24 @@ use crate::table::Table;
 use crate::words::{Dead, Descriptor};
 use ep_base::{Answer, Call, DescId, End, Errno, Fd, Limits, Mask, Pid, Raised};
 use ep_object::Object;
-use std::alloc::{AllocError, Global};
+use std::alloc::{AllocError, Allocator, Global};
 use std::marker::Model;
 
 /// The tables of all processes, how many processes live, the open file descriptions and the objects,
-/// within limits.
+/// within limits. Memory comes from `A`, but for what an object holds.
 ///
 /// A call takes constant time where it doesn't say how its time grows. The lowest free number of a
 /// process is looked for from a number below which none is free, so that one creation or dup after a
 /// close may go over the taken numbers above the freed one.
 #[derive(Drop)]
-pub struct Tables {
+pub struct Tables<A: Allocator = Global> {
     limits: Limits,
-    processes: Vec<Option<Table>>,
+    processes: Vec<Option<Table<A>>, A>,
     living: usize,
-    store: Store,
+    store: Store<A>,
 }
 
-impl Model for Tables {
+impl<A: Allocator> Model for Tables<A> {
     ghost use Rattle.ep_table.specs.Value.{Seen};
 
     ghost Value = { Seen };
@@ -81,8 +85,24 @@ impl Tables {
         ensures holds { IfOk result (λ tables. tables.holds ≡ 0 ∷ []) }
         ensures dying { IfOk result (λ tables. tables.dying ≡ []) }
     {
+        Tables::new_in(alloc, alloc, limits)
+    }
+}
+
+impl<A: Allocator> Tables<A> {
+    /// The same opening state, where the tables take their memory from `alloc`, and the plain object
+    /// its reads' from `objects`.
+    pub fn new_in(alloc: A, objects: Global, limits: Limits) -> Result<Tables<A>, AllocError>
+    where
+        A: Copy,
+        ensures limits { IfOk result (λ tables. tables.limits ≡ limits) }
+        ensures files { IfOk result (λ tables. tables.files ≡ opening_files) }
+        ensures keys { IfOk result (λ tables. Gains [] tables.keys 0) }
+        ensures holds { IfOk result (λ tables. tables.holds ≡ 0 ∷ []) }
+        ensures dying { IfOk result (λ tables. tables.dying ≡ []) }
+    {
         let mut store = Store::new(alloc);
-        let description = store.insert(Object::plain(alloc))?;
+        let description = store.insert(Object::plain(objects))?;
         let table = Table::opening(alloc, description)?;
         let mut processes = Vec::new(alloc);
         processes.push(None)?;
@@ -350,6 +370,8 @@ impl Tables {
 
     /// Adds a process with a copy of the table of a process that is there.
     fn add_process(&mut self, pid: Pid) -> Result<(), AllocError>
+    where
+        A: Copy,
         requires process { IsSome (table_of self.old.files pid.0) }
         requires room { length (numbered 0 self.old.files.tables) < 2 ^ 32 }
         ensures ok { OnOk result (self.new ≡ record self.old { files = fork self.old.files pid.0 }) }
@@ -371,6 +393,8 @@ impl Tables {
     /// there is no such process, EAGAIN where as many processes live as the limit allows. An
     /// `AllocError` leaves the tables. The time is that of going through its table.
     pub fn fork(&mut self, pid: Pid) -> Result<Answer, AllocError>
+    where
+        A: Copy,
         ensures refused { IfOk result (λ answer. (e : the_errno) → fork_refusal self.old pid.0 ≡ Some e → (answer ≡ Refused e) × (self.new ≡ self.old)) }
         ensures answer { IfOk result (λ answer. fork_refusal self.old pid.0 ≡ None → answer ≡ Num (length self.old.files.tables)) }
         ensures done { OnOk result (fork_refusal self.old pid.0 ≡ None → self.new ≡ record self.old { files = fork self.old.files pid.0 }) }
@@ -501,6 +525,15 @@ impl Tables {
     {
         self.store.known();
         self.store.take_dead()
+    }
+
+    /// The keys of the live descriptions, each once, in the order of the keys. It takes no memory, and
+    /// its time is that of going over the keys that were ever in use at once.
+    pub fn live(&self) -> Live<'_>
+        ensures exact { result ≡ live_ids self.now.keys }
+        ensures runs { ShowsInOrder (λ (id : DescId). id) }
+    {
+        self.store.live()
     }
 
     /// Which end of its object a live description is: the first where the object has one description.

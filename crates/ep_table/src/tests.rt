@@ -3,7 +3,7 @@ ghost use Rattle.std.specs.Prelude.{◌≡◌, ◌+◌, ◌<◌, ◌^◌, length
 
 use self::Kind::{Instance, Pipe, Timer};
 use self::Op::{
-    At, Close, Dead, Dup, Dup2, Exec, Exit, Fork, Has, Names, One, Read, Set, Two, Write,
+    At, Close, Dead, Dup, Dup2, Exec, Exit, Fork, Has, Lives, Names, One, Read, Set, Two, Write,
 };
 use self::View::{Advance, Next, Other, Present, Side, Waiting};
 use self::Want::{Bits, Byte, Died, Done, Named, Nothing, Number, Pair, Refused};
@@ -41,6 +41,8 @@ enum Op {
     One(u64),
     Two(u64),
     Names(u64, i32),
+    // The live description at this place of their order, from 0.
+    Lives(usize),
     Dup(u64, i32),
     Dup2(u64, i32, i32),
     Close(u64, i32),
@@ -186,6 +188,7 @@ fn asked(tables: &Tables, ends: Ends, op: Op) -> Want {
         One(pid) => refused(tables.refuses_one(Pid(pid))),
         Two(pid) => refused(tables.refuses_two(Pid(pid))),
         Names(pid, fd) => Named(which(ends, tables.lookup(Pid(pid), Fd(fd)))),
+        Lives(place) => Named(which(ends, tables.live().nth(place))),
         At(fd, view) => looked(tables, ends, fd, view),
         _ => Done,
     }
@@ -341,6 +344,28 @@ const HANGUP: [Step; 9] = [
     (Read(3, 8), Byte(None)),
     (Close(1, 3), Done),
     (Dead, Died(First, false, Nobody, 0)),
+];
+
+// A live description stands in the order of the keys, once however many numbers name it, until its
+// death is taken.
+#[test]
+fn alive(rt: HostRuntime) {
+    let start = (1_024, 4_096, 64, 1, Pipe, false, Pair(3, 4));
+    expect(&rt, run(rt.alloc(), start, &ALIVE));
+}
+
+const ALIVE: [Step; 11] = [
+    (Lives(0), Named(Third)),
+    (Lives(1), Named(First)),
+    (Lives(2), Named(Second)),
+    (Lives(3), Named(Nobody)),
+    (Dup(1, 3), Number(5)),
+    (Close(1, 3), Done),
+    (Close(1, 5), Done),
+    (Lives(2), Named(Second)),
+    (Dead, Died(First, false, Second, 0)),
+    (Lives(1), Named(Second)),
+    (Lives(2), Named(Nobody)),
 ];
 
 // Limits of numbers and descriptions that are reached at once; a missing process comes first.

@@ -6,14 +6,14 @@ use Rattle.ep_table.proofs.Going.{live_at_slot, one_fewer, rest_fewer}
 use Rattle.ep_table.proofs.names.add_names.Goals as goal
 
 pub add_name-requires-clause-live : goal.add_name-requires-clause-live
-add_name-requires-clause-live c =
+add_name-requires-clause-live g c =
     let keys = ap (λ (v : Things). v.keys) c.loop-slot.invariant.0.same in
     let t = c.args.slots.now in
     let i = c.loop-slot.slot-index in
     subst (λ (ks : List (Option ℕ)). LiveSlot ks (get_or t i None)) (sym keys) (live_at_slot c.args.store.now.keys t i None (omega (arith, c.loop-slot-test.true)) c.requires.live)
 
 pub add_name-requires-clause-named : goal.add_name-requires-clause-named
-add_name-requires-clause-named c = λ d h.
+add_name-requires-clause-named g c = λ d h.
     let old = c.args.store.now in
     let t = c.args.slots.now in
     let i = c.loop-slot.slot-index in

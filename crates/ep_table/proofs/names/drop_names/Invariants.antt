@@ -5,4 +5,4 @@ use Rattle.ep_table.proofs.Going.{Lowering}
 use Rattle.ep_table.proofs.names.drop_names.Given as goal
 
 abbrev pub invariant-loop-slot : goal.invariant-loop-slot
-invariant-loop-slot l = Lowering l.fn.store l.store (numbers l.fn.store.keys (map (closing l.every) l.slots)) (numbers l.fn.store.keys (map (closing l.every) (drop l.slot-index l.slots)))
+invariant-loop-slot g l = Lowering l.fn.store l.store (numbers l.fn.store.keys (map (closing l.every) l.slots)) (numbers l.fn.store.keys (map (closing l.every) (drop l.slot-index l.slots)))

@@ -2,4 +2,4 @@ use Rattle.std.proofs.Common.{take, ◌≡◌}
 use Rattle.ep_table.proofs.table.copy_slots.Given as goal
 
 abbrev pub invariant-loop-slot : goal.invariant-loop-slot
-invariant-loop-slot l = l.copy.items ≡ take l.slot-index l.slots
+invariant-loop-slot g l = l.copy.items ≡ take l.slot-index l.slots

@@ -4,20 +4,20 @@ use Rattle.ep_table.proofs.Changing.{more_names, named_tests, names_are, store_s
 use Rattle.ep_table.proofs.store.Store.add_name.Goals as goal
 
 pub overflow_add-description : goal.overflow_add-description
-overflow_add-description c = omega (arith, c.self.invariant.fewer c.args.key.0 c.index_mut-description.result.now c.index_mut-description.ensures.value, c.requires.fits, ap (λ (v : Things). v.named) c.self.view_is)
+overflow_add-description g c = omega (arith, c.self.invariant.fewer c.args.key.0 c.index_mut-description.result.now c.index_mut-description.ensures.value, c.requires.fits, ap (λ (v : Things). v.named) c.self.view_is)
 
 pub overflow_add-self : goal.overflow_add-self
-overflow_add-self c = omega (arith, c.requires.fits, ap (λ (v : Things). v.named) c.self.view_is)
+overflow_add-self g c = omega (arith, c.requires.fits, ap (λ (v : Things). v.named) c.self.view_is)
 
 pub invariant_of-self : goal.invariant_of-self
-invariant_of-self c =
+invariant_of-self g c =
     let d = c.index_mut-description.result.now in
     let pos : 0 < d.names = omega (arith, c.requires.named, names_are c.self.inside c.args.self.now c.self.invariant c.self.view_is c.args.key c.index_mut-description.result.now c.index_mut-description.ensures.value) in
     let h = named_tests d.names _ pos ∙ sym (named_tests (d.names + 1) _ (omega arith)) in
     store_stays c.self.inside c.args.self.now c.self.invariant c.self.view_is c.args.key c.index_mut-description.result.now c.index_mut-description.ensures.value (d.names + 1) d.holds (c.self.inside.named + 1) (omega arith) (omega (arith, c.self.invariant.fewer c.args.key.0 d c.index_mut-description.ensures.value)) h
 
 pub returns : goal.returns
-returns c =
+returns g c =
     let v = c.args.self.now in
     let d = c.index_mut-description.result.now in
     things_names c.self.inside c.args.self.now c.self.invariant c.self.view_is c.args.key c.index_mut-description.result.now c.index_mut-description.ensures.value (d.names + 1) d.holds (c.self.inside.named + 1) c.self.inside.dying refl

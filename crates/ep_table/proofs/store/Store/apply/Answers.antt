@@ -10,10 +10,10 @@ use Rattle.ep_table.specs.Value.{unwrapped, waiting_at}
 use Rattle.ep_table.proofs.store.Store.apply.Goals as goal
 
 pub index_mut-shared-requires : goal.index_mut-shared-requires
-index_mut-shared-requires c = object_there c.self.inside c.args.self.now c.self.invariant c.self.view_is c.args.key c.index-description.result.now c.index-description.ensures
+index_mut-shared-requires g c = object_there c.self.inside c.args.self.now c.self.invariant c.self.view_is c.args.key c.index-description.result.now c.index-description.ensures
 
 pub invariant_of-self : goal.invariant_of-self
-invariant_of-self c =
+invariant_of-self g c =
     let k = c.self.inside in
     let s = c.index_mut-shared.result.now in
     let at = c.index-description.result.now.object in
@@ -32,17 +32,17 @@ invariant_of-self c =
     }
 
 pub returns-clause-answer : goal.returns-clause-answer
-returns-clause-answer c =
+returns-clause-answer g c =
     let e = effect_is c.self.inside c.args.self.now c.self.invariant c.self.view_is c.args.key c.index-description.result.now c.index-description.ensures c.index_mut-shared.result.now c.index_mut-shared.ensures.value c.args.now c.args.call.now in
     ok_answer c.apply.result c.apply.new.self _ _ e c.apply.ensures.ok
 
 pub returns-clause-raised : goal.returns-clause-raised
-returns-clause-raised c =
+returns-clause-raised g c =
     let e = effect_is c.self.inside c.args.self.now c.self.invariant c.self.view_is c.args.key c.index-description.result.now c.index-description.ensures c.index_mut-shared.result.now c.index_mut-shared.ensures.value c.args.now c.args.call.now in
     ok_raised c.apply.result c.apply.new.self _ _ e c.apply.ensures.ok
 
 pub returns-clause-objects : goal.returns-clause-objects
-returns-clause-objects c =
+returns-clause-objects g c =
     let v = c.args.self.now in
     let d = c.index-description.result.now in
     let s = c.index_mut-shared.result.now in
@@ -52,14 +52,14 @@ returns-clause-objects c =
     ok_content c.apply.result c.apply.new.self _ _ Things _ u t e c.apply.ensures.ok
 
 pub returns-clause-err : goal.returns-clause-err
-returns-clause-err c =
+returns-clause-err g c =
     let v = c.args.self.now in
     let d = c.index-description.result.now in
     let s = c.index_mut-shared.result.now in
     err_same c.apply.result _ _ (λ (e : c.apply.new.self ≡ s.object). things_kept c.self.inside v c.self.invariant c.self.view_is c.args.key d c.index-description.ensures s c.index_mut-shared.ensures.value c.apply.new.self e) c.apply.ensures.err
 
 pub returns-clause-inline : goal.returns-clause-inline
-returns-clause-inline c =
+returns-clause-inline g c =
     let v = c.args.self.now in
     let d = c.index-description.result.now in
     let s = c.index_mut-shared.result.now in

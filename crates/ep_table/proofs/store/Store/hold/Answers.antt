@@ -4,13 +4,13 @@ use Rattle.ep_table.proofs.Changing.{held_tests, more_holds, store_stays, things
 use Rattle.ep_table.proofs.store.Store.hold.Goals as goal
 
 pub invariant_of-self : goal.invariant_of-self
-invariant_of-self c =
+invariant_of-self g c =
     let d = c.index_mut-description.result.now in
     let h = used_tests c.self.inside c.args.self.now c.self.invariant c.self.view_is c.args.key c.index_mut-description.result.now c.index_mut-description.ensures.value c.requires.used ∙ sym (held_tests _ (d.holds + 1) (omega arith)) in
     store_stays c.self.inside c.args.self.now c.self.invariant c.self.view_is c.args.key c.index_mut-description.result.now c.index_mut-description.ensures.value d.names (d.holds + 1) c.self.inside.named (omega arith) (c.self.invariant.fewer c.args.key.0 d c.index_mut-description.ensures.value) h
 
 pub returns-clause-ok : goal.returns-clause-ok
-returns-clause-ok c =
+returns-clause-ok g c =
     let v = c.args.self.now in
     let d = c.index_mut-description.result.now in
     things_holds c.self.inside c.args.self.now c.self.invariant c.self.view_is c.args.key c.index_mut-description.result.now c.index_mut-description.ensures.value d.names (d.holds + 1) c.self.inside.named c.self.inside.dying refl

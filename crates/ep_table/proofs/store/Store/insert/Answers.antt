@@ -10,29 +10,30 @@ use Rattle.ep_table.specs.declared.words.Shared.{Shared}
 use Rattle.ep_table.proofs.Queueing.{keyed_more}
 use Rattle.ep_table.proofs.Inserting.{fewer_one, keys_more, queue_one, Inserted, counted_more, holds_of, holds_one, inserted, inserts_one, places_one}
 use Rattle.ep_table.proofs.Numbers.{contents_length}
+use Rattle.ep_table.proofs.store.Store.insert.Given.{Over}
 use Rattle.ep_table.proofs.store.Store.insert.Goals as goal
 
 pub overflow_add-self : goal.overflow_add-self
-overflow_add-self c = omega (arith, c.requires.descriptions, ap (λ (v : Things). length v.descriptions) c.self.view_is, contents_length number_in place_in c.self.inside.descriptions.slots c.self.inside.described)
+overflow_add-self g c = omega (arith, c.requires.descriptions, ap (λ (v : Things). length v.descriptions) c.self.view_is, contents_length number_in place_in c.self.inside.descriptions.slots c.self.inside.described)
 
 pub overflow_add-self-2 : goal.overflow_add-self-2
-overflow_add-self-2 c = omega (arith, c.requires.objects, ap (λ (v : Things). length v.objects) c.self.view_is, contents_length object_number_in object_in c.self.inside.objects.slots c.self.inside.made)
+overflow_add-self-2 g c = omega (arith, c.requires.objects, ap (λ (v : Things). length v.objects) c.self.view_is, contents_length object_number_in object_in c.self.inside.objects.slots c.self.inside.made)
 
-described : (c : goal.After-self-2-1) → Inserted c.self.inside.descriptions.slots c.insert_reserved-key.new.self.slots c.insert_reserved-key.result (record { number = c.self.inside.described; object_number = c.self.inside.made; object = c.vacant_key-at.result; end = First; names = 1; holds = 0 })
-described c = inserted c.self.inside.descriptions.slots c.reserve.new.descriptions c.insert_reserved-key.new.self c.insert_reserved-key.result _ c.reserve.ensures.descriptions c.insert_reserved-key.ensures.was_vacant c.insert_reserved-key.ensures.updates
+described : (g : Over) (c : goal.After-self-2-1 g) → Inserted c.self.inside.descriptions.slots c.insert_reserved-key.new.self.slots c.insert_reserved-key.result (record { number = c.self.inside.described; object_number = c.self.inside.made; object = c.vacant_key-at.result; end = First; names = 1; holds = 0 })
+described g c = inserted c.self.inside.descriptions.slots c.reserve.new.descriptions c.insert_reserved-key.new.self c.insert_reserved-key.result _ c.reserve.ensures.descriptions c.insert_reserved-key.ensures.was_vacant c.insert_reserved-key.ensures.updates
 
-shared : (c : goal.After-self-2-1) → Inserted c.self.inside.objects.slots c.insert_reserved.new.self.slots c.vacant_key-at.result (record { number = c.self.inside.made; object = c.args.object; first = Some (record { 0 = c.insert_reserved-key.result }); second = None })
-shared c =
+shared : (g : Over) (c : goal.After-self-2-1 g) → Inserted c.self.inside.objects.slots c.insert_reserved.new.self.slots c.vacant_key-at.result (record { number = c.self.inside.made; object = c.args.object; first = Some (record { 0 = c.insert_reserved-key.result }); second = None })
+shared g c =
     let s : Shared = record { number = c.self.inside.made; object = c.args.object; first = Some (record { 0 = c.insert_reserved-key.result }); second = None } in
     let i = inserted c.self.inside.objects.slots c.reserve.new.objects c.insert_reserved.new.self c.insert_reserved.result s c.reserve.ensures.objects c.insert_reserved.ensures.was_vacant c.insert_reserved.ensures.updates in
     let e : c.insert_reserved.result ≡ c.vacant_key-at.result = c.insert_reserved.ensures.key ∙ sym c.vacant_key-at.ensures.value in
     subst (λ (at : ℕ). Inserted c.self.inside.objects.slots c.insert_reserved.new.self.slots at s) e i
 
 pub invariant_of-self-2 : goal.invariant_of-self-2
-invariant_of-self-2 c =
+invariant_of-self-2 g c =
     let k = c.self.inside in
-    let a = described c in
-    let b = shared c in
+    let a = described g c in
+    let b = shared g c in
     let h = holds_of k c.self.invariant in
     let r = holds_one k.descriptions.slots c.insert_reserved-key.new.self.slots k.objects.slots c.insert_reserved.new.self.slots k.described k.made c.insert_reserved-key.result c.vacant_key-at.result c.args.object a b h in
     let l : slab_len c.insert_reserved-key.new.self ≡ slab_len k.descriptions + 1 = c.insert_reserved-key.ensures.len ∙ ap (λ (xs : List (Option Description)). count_by is_some xs + 1) c.reserve.ensures.descriptions in
@@ -50,7 +51,7 @@ invariant_of-self-2 c =
     }
 
 pub returns-clause-ok : goal.returns-clause-ok
-returns-clause-ok c =
+returns-clause-ok g c =
     let k = c.self.inside in
-    inserts_one k.descriptions.slots c.insert_reserved-key.new.self.slots k.objects.slots c.insert_reserved.new.self.slots k.described k.made c.insert_reserved-key.result c.vacant_key-at.result c.args.object (described c) (shared c) (holds_of k c.self.invariant)
+    inserts_one k.descriptions.slots c.insert_reserved-key.new.self.slots k.objects.slots c.insert_reserved.new.self.slots k.described k.made c.insert_reserved-key.result c.vacant_key-at.result c.args.object (described g c) (shared g c) (holds_of k c.self.invariant)
     c.args.self.now _ _ (ap (λ (v : Things). v.descriptions) c.self.view_is) (ap (λ (v : Things). v.objects) c.self.view_is) (ap (λ (v : Things). v.keys) c.self.view_is) (ap (λ (v : Things). v.names) c.self.view_is) (ap (λ (v : Things). v.holds) c.self.view_is) (ap queued c.reserve.ensures.dying ∙ ap (λ (v : Things). v.dying) c.self.view_is) (ap (λ (v : Things). v.named) c.self.view_is)

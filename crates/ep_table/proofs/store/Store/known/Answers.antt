@@ -2,4 +2,4 @@ use Rattle.ep_table.proofs.Sounding.{sound_things}
 use Rattle.ep_table.proofs.store.Store.known.Goals as goal
 
 pub returns : goal.returns
-returns c = sound_things c.self.inside c.args.self.now c.self.invariant c.self.view_is
+returns g c = sound_things c.self.inside c.args.self.now c.self.invariant c.self.view_is

@@ -2,7 +2,7 @@ use Rattle.ep_table.proofs.Storing.{object_found, object_there}
 use Rattle.ep_table.proofs.store.Store.object.Goals as goal
 
 pub index-requires : goal.index-requires
-index-requires c = object_there c.self.inside c.args.self.now c.self.invariant c.self.view_is c.args.key c.index-description.result.now c.index-description.ensures
+index-requires g c = object_there c.self.inside c.args.self.now c.self.invariant c.self.view_is c.args.key c.index-description.result.now c.index-description.ensures
 
 pub returns : goal.returns
-returns c = object_found c.self.inside c.args.self.now c.self.invariant c.self.view_is c.args.key c.index-description.result.now c.index-description.ensures c.index.result.now c.index.ensures
+returns g c = object_found c.self.inside c.args.self.now c.self.invariant c.self.view_is c.args.key c.index-description.result.now c.index-description.ensures c.index.result.now c.index.ensures

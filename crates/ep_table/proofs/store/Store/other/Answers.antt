@@ -8,10 +8,10 @@ use Rattle.ep_table.proofs.Storing.{backs, object_there, place_is}
 use Rattle.ep_table.proofs.store.Store.other.Goals as goal
 
 pub index-requires : goal.index-requires
-index-requires c = object_there c.self.inside c.args.self.now c.self.invariant c.self.view_is c.args.key c.index-description.result.now c.index-description.ensures
+index-requires g c = object_there c.self.inside c.args.self.now c.self.invariant c.self.view_is c.args.key c.index-description.result.now c.index-description.ensures
 
 pub returns : goal.returns
-returns c =
+returns g c =
     let k = c.self.inside in
     let v = c.args.self.now in
     let i = c.self.invariant in

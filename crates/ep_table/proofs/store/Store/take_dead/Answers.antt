@@ -16,26 +16,26 @@ use Rattle.ep_table.proofs.Storing.{key_at, object_there}
 use Rattle.ep_table.proofs.store.Store.take_dead.Goals as goal
 
 -- the last of the queue stands under its key
-keyed_at : (k : Inside) (rest : List Dying) (last : Dying) → AllKeyed (map key_number k.descriptions.slots) k.dying.items → k.dying.items ≡ rest ++ last ∷ [] → number_at (map key_number k.descriptions.slots) last.key ≡ Some last.number
+keyed_at : {A : Type 0} (k : Inside A) (rest : List Dying) (last : Dying) → AllKeyed (map key_number k.descriptions.slots) k.dying.items → k.dying.items ≡ rest ++ last ∷ [] → number_at (map key_number k.descriptions.slots) last.key ≡ Some last.number
 keyed_at k rest last h e = keyed_last (map key_number k.descriptions.slots) rest last (subst (λ (xs : List Dying). AllKeyed (map key_number k.descriptions.slots) xs) e h)
 
-number_at_last : (k : Inside) (rest : List Dying) (last : Dying) → AllKeyed (map key_number k.descriptions.slots) k.dying.items → k.dying.items ≡ rest ++ last ∷ [] → (d : Description) → get_or k.descriptions.slots last.key.0 None ≡ Some d → last.number ≡ d.number
+number_at_last : {A : Type 0} (k : Inside A) (rest : List Dying) (last : Dying) → AllKeyed (map key_number k.descriptions.slots) k.dying.items → k.dying.items ≡ rest ++ last ∷ [] → (d : Description) → get_or k.descriptions.slots last.key.0 None ≡ Some d → last.number ≡ d.number
 number_at_last k rest last h e d is =
     let a : Some last.number ≡ Some d.number = sym (keyed_at k rest last h e) ∙ (key_at k.descriptions.slots last.key.0 ∙ ap key_number is) in
     cc
 
 pub remove-description-requires : goal.remove-description-requires
-remove-description-requires c =
+remove-description-requires g c =
     let k = c.self.inside in
     let last = c.in_ok-last.last in
     let t = there k (things k) refl last.key last.number (keyed_at k c.pop.new.self.items last c.self.invariant.keyed c.in_ok-last.ensures.items) in
     subst (λ (o : Option Description). IsSome o) (sym t.is) refl
 
 pub close-other-requires : goal.close-other-requires
-close-other-requires c = object_there c.self.inside c.args.self.now c.self.invariant c.self.view_is c.in_ok-last.last.key c.remove-description.result c.remove-description.ensures.value
+close-other-requires g c = object_there c.self.inside c.args.self.now c.self.invariant c.self.view_is c.in_ok-last.last.key c.remove-description.result c.remove-description.ensures.value
 
 pub invariant_of-self-2 : goal.invariant_of-self-2
-invariant_of-self-2 c =
+invariant_of-self-2 g c =
     let k = c.self.inside in
     let i = c.self.invariant in
     let v = c.args.self.now in
@@ -63,7 +63,7 @@ invariant_of-self-2 c =
     }
 
 pub returns-clause-some : goal.returns-clause-some
-returns-clause-some c =
+returns-clause-some g c =
     let k = c.self.inside in
     let last = c.in_ok-last.last in
     let d = c.remove-description.result in

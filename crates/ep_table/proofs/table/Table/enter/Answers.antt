@@ -4,4 +4,4 @@ use Rattle.ep_table.proofs.Places.{low_enter}
 use Rattle.ep_table.proofs.table.Table.enter.Goals as goal
 
 pub invariant_of-self : goal.invariant_of-self
-invariant_of-self c = record { is_low = omega (arith, c.lowest-number.ensures, ap lowest_free c.place.ensures.slots, low_enter c.args.self.now.slots.items c.args.descriptor) }
+invariant_of-self g c = record { is_low = omega (arith, c.lowest-number.ensures, ap lowest_free c.place.ensures.slots, low_enter c.args.self.now.slots.items c.args.descriptor) }

@@ -4,4 +4,4 @@ use Rattle.ep_table.proofs.Places.{low_set}
 use Rattle.ep_table.proofs.table.Table.leave.Goals as goal
 
 pub invariant_of-self : goal.invariant_of-self
-invariant_of-self c = record { is_low = omega (arith, c.min-self.ensures, low_set c.args.self.now.slots.items c.args.number c.min-self.result (omega (arith, c.min-self.ensures)) (omega (arith, c.min-self.ensures, c.args.self.now.is_low)), ap lowest_free c.free.ensures) }
+invariant_of-self g c = record { is_low = omega (arith, c.min-self.ensures, low_set c.args.self.now.slots.items c.args.number c.min-self.result (omega (arith, c.min-self.ensures)) (omega (arith, c.min-self.ensures, c.args.self.now.is_low)), ap lowest_free c.free.ensures) }

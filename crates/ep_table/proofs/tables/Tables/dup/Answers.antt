@@ -8,12 +8,12 @@ use Rattle.ep_table.proofs.Leaving.{under_named}
 use Rattle.ep_table.proofs.tables.Tables.dup.Goals as goal
 
 pub add_name-requires-clause-named : goal.add_name-requires-clause-named
-add_name-requires-clause-named c =
+add_name-requires-clause-named g c =
     let v = c.args.self.now in
     under_named v.files c.args.pid.0 (number_of v c.in-Some.description) c.args.fd.0 (found_is v c.args.pid.0 c.args.fd.0 c.in-Some.description c.in-Some.ensures.number c.in-Some.ensures.live)
 
 pub returns-then-descriptors-free-clause-answer : goal.returns-then-descriptors-free-clause-answer
-returns-then-descriptors-free-clause-answer c = λ h.
+returns-then-descriptors-free-clause-answer g c = λ h.
     let v = c.args.self.now in
     let n = one_is c.self.inside v c.args.pid.0 c.lowest-free.result c.deref.result.now c.self.view_is c.deref.ensures.value c.lowest-free.ensures in
     let x = found_is v c.args.pid.0 c.args.fd.0 c.in-Some.description c.in-Some.ensures.number c.in-Some.ensures.live in
@@ -22,7 +22,7 @@ returns-then-descriptors-free-clause-answer c = λ h.
     not_both Emfile (dup_refusal v c.args.pid.0 c.args.fd.0) _ _ r f h
 
 pub returns-then-descriptors-free-clause-done : goal.returns-then-descriptors-free-clause-done
-returns-then-descriptors-free-clause-done c = λ h.
+returns-then-descriptors-free-clause-done g c = λ h.
     let v = c.args.self.now in
     let n = one_is c.self.inside v c.args.pid.0 c.lowest-free.result c.deref.result.now c.self.view_is c.deref.ensures.value c.lowest-free.ensures in
     let x = found_is v c.args.pid.0 c.args.fd.0 c.in-Some.description c.in-Some.ensures.number c.in-Some.ensures.live in
@@ -31,7 +31,7 @@ returns-then-descriptors-free-clause-done c = λ h.
     not_both Emfile (dup_refusal v c.args.pid.0 c.args.fd.0) _ _ r f h
 
 pub returns-clause-refused : goal.returns-clause-refused
-returns-clause-refused c = λ e h.
+returns-clause-refused g c = λ e h.
     let v = c.args.self.now in
     let n = one_is c.self.inside v c.args.pid.0 c.lowest-free.result c.deref.result.now c.self.view_is c.deref.ensures.value c.lowest-free.ensures in
     let x = found_is v c.args.pid.0 c.args.fd.0 c.in-Some.description c.in-Some.ensures.number c.in-Some.ensures.live in
@@ -40,4 +40,4 @@ returns-clause-refused c = λ e h.
     never e (dup_refusal v c.args.pid.0 c.args.fd.0) _ _ r f h
 
 pub returns-clause-answer : goal.returns-clause-answer
-returns-clause-answer c = λ h. ap Num (one_is c.self.inside c.args.self.now c.args.pid.0 c.lowest-free.result c.deref.result.now c.self.view_is c.deref.ensures.value c.lowest-free.ensures)
+returns-clause-answer g c = λ h. ap Num (one_is c.self.inside c.args.self.now c.args.pid.0 c.lowest-free.result c.deref.result.now c.self.view_is c.deref.ensures.value c.lowest-free.ensures)

@@ -15,10 +15,10 @@ use Rattle.ep_table.proofs.Renaming.{old_slot, renames_free, renames_replaced}
 use Rattle.ep_table.proofs.Seeing.{live_found}
 use Rattle.ep_table.proofs.tables.Tables.name_at.Goals as goal
 
-live_replaced : (k : Inside) → IsTables k → (p i : ℕ) (r : Descriptor) → Some r ≡ get_or (slots_of (process_of k.processes.items p)) i None → IsSome (number_at k.store.keys r.description)
+live_replaced : {A : Type 0} (k : Inside A) → IsTables k → (p i : ℕ) (r : Descriptor) → Some r ≡ get_or (slots_of (process_of k.processes.items p)) i None → IsSome (number_at k.store.keys r.description)
 live_replaced k inv p i r e = subst (λ (o : Option Descriptor). LiveSlot k.store.keys o) (sym e) (live_found k.store.keys k.processes.items p i inv.live)
 
-more_replaced : (k : Inside) (inv : IsTables k) (p : ℕ) → IsSome (get_or (value_of k).files.tables p None) → (i n : ℕ) → 0 < count_at k.store.names n → (a : Things) (r : Descriptor)
+more_replaced : {A : Type 0} (k : Inside A) (inv : IsTables k) (p : ℕ) → IsSome (get_or (value_of k).files.tables p None) → (i n : ℕ) → 0 < count_at k.store.names n → (a : Things) (r : Descriptor)
     → get_or (unwrap_or (get_or (value_of k).files.tables p None) []) i None ≡ slot_in k.store.keys (Some r) → IsSome (number_at k.store.keys r.description) → a ≡ record k.store { names = more_at k.store.names n; named = k.store.named + 1 } → 0 < count_at a.names (thing_number a r.description)
 more_replaced k inv p is i n some a r at live e =
     let m = thing_number k.store r.description in
@@ -26,17 +26,17 @@ more_replaced k inv p is i n some a r at live e =
     subst (λ (w : Things). 0 < count_at w.names (thing_number w r.description)) (sym e) (omega (arith, c, count_more k.store.names n m some))
 
 pub add_name-requires-clause-named : goal.add_name-requires-clause-named
-add_name-requires-clause-named c =
+add_name-requires-clause-named g c =
     named_counts c.self.inside c.self.invariant c.args.pid.0 (thing_number c.self.inside.store c.args.description)
     (subst (λ (v : Seen). is_among (named_in_tables v.files.tables) (number_of v c.args.description) ≡ true) (sym c.self.view_is) c.requires.named)
 
 pub drop_name-requires-clause-live : goal.drop_name-requires-clause-live
-drop_name-requires-clause-live c =
+drop_name-requires-clause-live g c =
     let found : Some c.in-Some.replaced ≡ get_or (slots_of (process_of c.self.inside.processes.items c.args.pid.0)) c.args.number None = sym c.in-Some.is ∙ (c.descriptor_at-replaced.ensures ∙ ap (λ xs. get_or (slots_of (process_of xs c.args.pid.0)) c.args.number None) c.deref.ensures.value) in
     subst (λ (w : Things). IsSome (number_at w.keys c.in-Some.replaced.description)) (sym c.add_name.ensures) (live_replaced c.self.inside c.self.invariant c.args.pid.0 c.args.number c.in-Some.replaced found)
 
 pub drop_name-requires-clause-named : goal.drop_name-requires-clause-named
-drop_name-requires-clause-named c =
+drop_name-requires-clause-named g c =
     let found : Some c.in-Some.replaced ≡ get_or (slots_of (process_of c.self.inside.processes.items c.args.pid.0)) c.args.number None = sym c.in-Some.is ∙ (c.descriptor_at-replaced.ensures ∙ ap (λ xs. get_or (slots_of (process_of xs c.args.pid.0)) c.args.number None) c.deref.ensures.value) in
     let k = c.self.inside in
     let v = c.args.self.now in
@@ -48,7 +48,7 @@ drop_name-requires-clause-named c =
     more_replaced k c.self.invariant c.args.pid.0 (subst (λ (w : Seen). IsSome (table_of w.files c.args.pid.0)) (sym c.self.view_is) c.requires.process) c.args.number (thing_number k.store c.args.description) some c.add_name.new.self c.in-Some.replaced at (live_replaced k c.self.invariant c.args.pid.0 c.args.number c.in-Some.replaced found) c.add_name.ensures
 
 pub invariant_of-self-in-Some : goal.invariant_of-self-in-Some
-invariant_of-self-in-Some c =
+invariant_of-self-in-Some g c =
     let found : Some c.in-Some.replaced ≡ get_or (slots_of (process_of c.self.inside.processes.items c.args.pid.0)) c.args.number None = sym c.in-Some.is ∙ (c.descriptor_at-replaced.ensures ∙ ap (λ xs. get_or (slots_of (process_of xs c.args.pid.0)) c.args.number None) c.deref.ensures.value) in
     let k = c.self.inside in
     let v = c.args.self.now in
@@ -62,7 +62,7 @@ invariant_of-self-in-Some c =
     record { live = r.fits.live; counts = r.fits.counts; living = r.fits.living }
 
 pub invariant_of-self-in_default : goal.invariant_of-self-in_default
-invariant_of-self-in_default c =
+invariant_of-self-in_default g c =
     let found : None ≡ get_or (slots_of (process_of c.self.inside.processes.items c.args.pid.0)) c.args.number None = sym c.in_default.is ∙ (c.descriptor_at-replaced.ensures ∙ ap (λ xs. get_or (slots_of (process_of xs c.args.pid.0)) c.args.number None) c.deref.ensures.value) in
     let k = c.self.inside in
     let v = c.args.self.now in
@@ -75,7 +75,7 @@ invariant_of-self-in_default c =
     record { live = r.fits.live; counts = r.fits.counts; living = r.fits.living }
 
 pub returns-in-Some-clause-ok : goal.returns-in-Some-clause-ok
-returns-in-Some-clause-ok c =
+returns-in-Some-clause-ok g c =
     let found : Some c.in-Some.replaced ≡ get_or (slots_of (process_of c.self.inside.processes.items c.args.pid.0)) c.args.number None = sym c.in-Some.is ∙ (c.descriptor_at-replaced.ensures ∙ ap (λ xs. get_or (slots_of (process_of xs c.args.pid.0)) c.args.number None) c.deref.ensures.value) in
     let k = c.self.inside in
     let v = c.args.self.now in
@@ -89,7 +89,7 @@ returns-in-Some-clause-ok c =
     r.value ∙ (λ i. record v { files = with_table v.files c.args.pid.0 (place_at (numbers_of v.files c.args.pid.0) c.args.number (slot (number_of (c.self.view_is i) c.args.description) false)); dying = c.drop_name.new.self.dying })
 
 pub returns-in_default-clause-ok : goal.returns-in_default-clause-ok
-returns-in_default-clause-ok c =
+returns-in_default-clause-ok g c =
     let found : None ≡ get_or (slots_of (process_of c.self.inside.processes.items c.args.pid.0)) c.args.number None = sym c.in_default.is ∙ (c.descriptor_at-replaced.ensures ∙ ap (λ xs. get_or (slots_of (process_of xs c.args.pid.0)) c.args.number None) c.deref.ensures.value) in
     let k = c.self.inside in
     let v = c.args.self.now in

@@ -5,6 +5,6 @@ use Rattle.ep_table.proofs.Finding.{one_is}
 use Rattle.ep_table.proofs.tables.Tables.refuses_one.Goals as goal
 
 pub returns : goal.returns
-returns c =
+returns g c =
     let v = c.args.self.now in
     c.refuses.ensures.first ∙ ap (λ (n : ℕ). first (create_refusals v.limits v.files n 1)) (one_is c.self.inside v c.args.pid.0 c.lowest.result c.deref.result.now c.self.view_is c.deref.ensures.value c.lowest.ensures)

@@ -5,6 +5,6 @@ use Rattle.ep_table.proofs.Finding.{second_is}
 use Rattle.ep_table.proofs.tables.Tables.refuses_two.Goals as goal
 
 pub returns : goal.returns
-returns c =
+returns g c =
     let v = c.args.self.now in
     c.refuses.ensures.first ∙ ap (λ (n : ℕ). first (create_refusals v.limits v.files n 2)) (second_is c.self.inside v c.args.pid.0 c.second.result c.deref.result.now c.self.view_is c.deref.ensures.value c.second.ensures)

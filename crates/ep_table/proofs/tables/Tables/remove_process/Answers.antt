@@ -12,13 +12,13 @@ use Rattle.ep_table.proofs.Tabling.{exit_same}
 use Rattle.ep_table.proofs.tables.Tables.remove_process.Goals as goal
 
 pub drop_names-requires-clause-live : goal.drop_names-requires-clause-live
-drop_names-requires-clause-live c =
+drop_names-requires-clause-live g c =
     let at : Some c.in-Some.table.now ≡ get_or c.self.inside.processes.items c.args.pid.0 None = sym (ap option_copied c.in-Some.is) ∙ (c.table_at.ensures ∙ ap (λ xs. get_or xs c.args.pid.0 None) c.deref.ensures.value) in
     let is : Some c.deref-in-Some.result.now ≡ get_or (lists c.self.inside.processes.items) c.args.pid.0 None = ap (λ (t : List (Option Descriptor)). Some t) c.deref-in-Some.ensures.value ∙ (ap items_of at ∙ sym (lists_at c.self.inside.processes.items c.args.pid.0)) in
     table_live c.self.inside c.self.invariant c.args.pid.0 c.deref-in-Some.result.now is
 
 pub drop_names-requires-clause-named : goal.drop_names-requires-clause-named
-drop_names-requires-clause-named c = λ d.
+drop_names-requires-clause-named g c = λ d.
     let at : Some c.in-Some.table.now ≡ get_or c.self.inside.processes.items c.args.pid.0 None = sym (ap option_copied c.in-Some.is) ∙ (c.table_at.ensures ∙ ap (λ xs. get_or xs c.args.pid.0 None) c.deref.ensures.value) in
     let is : Some c.deref-in-Some.result.now ≡ get_or (lists c.self.inside.processes.items) c.args.pid.0 None = ap (λ (t : List (Option Descriptor)). Some t) c.deref-in-Some.ensures.value ∙ (ap items_of at ∙ sym (lists_at c.self.inside.processes.items c.args.pid.0)) in
     let t = c.deref-in-Some.result.now in
@@ -26,13 +26,13 @@ drop_names-requires-clause-named c = λ d.
     omega (arith, names_within c.self.inside c.self.invariant c.args.pid.0 t is d, ap (λ (u : List (Option Descriptor)). times d (numbers keys u)) (exit_same keys t))
 
 pub overflow_sub-self : goal.overflow_sub-self
-overflow_sub-self c =
+overflow_sub-self g c =
     let at : Some c.in-Some.table.now ≡ get_or c.self.inside.processes.items c.args.pid.0 None = sym (ap option_copied c.in-Some.is) ∙ (c.table_at.ensures ∙ ap (λ xs. get_or xs c.args.pid.0 None) c.deref.ensures.value) in
     let is : Some c.deref-in-Some.result.now ≡ get_or (lists c.self.inside.processes.items) c.args.pid.0 None = ap (λ (t : List (Option Descriptor)). Some t) c.deref-in-Some.ensures.value ∙ (ap items_of at ∙ sym (lists_at c.self.inside.processes.items c.args.pid.0)) in
     omega (arith, lives_before c.self.inside c.self.invariant c.args.pid.0 c.deref-in-Some.result.now is)
 
 pub invariant_of-self : goal.invariant_of-self
-invariant_of-self c =
+invariant_of-self g c =
     let at : Some c.in-Some.table.now ≡ get_or c.self.inside.processes.items c.args.pid.0 None = sym (ap option_copied c.in-Some.is) ∙ (c.table_at.ensures ∙ ap (λ xs. get_or xs c.args.pid.0 None) c.deref.ensures.value) in
     let is : Some c.deref-in-Some.result.now ≡ get_or (lists c.self.inside.processes.items) c.args.pid.0 None = ap (λ (t : List (Option Descriptor)). Some t) c.deref-in-Some.ensures.value ∙ (ap items_of at ∙ sym (lists_at c.self.inside.processes.items c.args.pid.0)) in
     let t = c.deref-in-Some.result.now in
@@ -42,7 +42,7 @@ invariant_of-self c =
     record { live = f.live; counts = f.counts; living = f.living }
 
 pub returns-in-Some : goal.returns-in-Some
-returns-in-Some c =
+returns-in-Some g c =
     let at : Some c.in-Some.table.now ≡ get_or c.self.inside.processes.items c.args.pid.0 None = sym (ap option_copied c.in-Some.is) ∙ (c.table_at.ensures ∙ ap (λ xs. get_or xs c.args.pid.0 None) c.deref.ensures.value) in
     let is : Some c.deref-in-Some.result.now ≡ get_or (lists c.self.inside.processes.items) c.args.pid.0 None = ap (λ (t : List (Option Descriptor)). Some t) c.deref-in-Some.ensures.value ∙ (ap items_of at ∙ sym (lists_at c.self.inside.processes.items c.args.pid.0)) in
     let k = c.self.inside in
@@ -55,6 +55,6 @@ returns-in-Some c =
     ∙ ap (λ (w : Seen). record w { files = exit w.files c.args.pid.0; dying = s.dying }) c.self.view_is
 
 pub returns-in_default : goal.returns-in_default
-returns-in_default c =
+returns-in_default g c =
     let e = there_is c.self.inside c.args.self.now c.args.pid.0 c.table_at.result c.self.view_is (c.table_at.ensures ∙ ap (λ xs. get_or xs c.args.pid.0 None) c.deref.ensures.value) in
     absurd (false≢true (sym (ap is_some c.in_default.is) ∙ (e ∙ c.requires)))

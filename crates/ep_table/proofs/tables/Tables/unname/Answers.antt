@@ -11,23 +11,24 @@ use Rattle.ep_table.specs.Value.{count_at}
 use Rattle.ep_table.specs.View.{IsTables, value_of}
 use Rattle.ep_base.specs.declared.ids.DescId.{DescId}
 use Rattle.ep_table.specs.declared.tables.Tables.TheInside.{Inside}
+use Rattle.ep_table.proofs.tables.Tables.unname.Given.{Over}
 use Rattle.ep_table.proofs.tables.Tables.unname.Goals as goal
 
 -- what stands there, over plain variables
-at : (k : Inside) (v : Seen) (p i : ℕ) (key : DescId) → value_of k ≡ v → number_found v (Some key) ≡ under v.files p (pos i) → IsSome (number_under v key) → description_in (get_or (unwrap_or (get_or (value_of k).files.tables p None) []) i None) ≡ Some (thing_number k.store key)
+at : {A : Type 0} (k : Inside A) (v : Seen) (p i : ℕ) (key : DescId) → value_of k ≡ v → number_found v (Some key) ≡ under v.files p (pos i) → IsSome (number_under v key) → description_in (get_or (unwrap_or (get_or (value_of k).files.tables p None) []) i None) ≡ Some (thing_number k.store key)
 at k v p i key same e h =
     let f = subst (λ (w : Seen). number_found w (Some key) ≡ under w.files p (pos i)) (sym same) e in
     let g = subst (λ (w : Seen). IsSome (number_under w key)) (sym same) h in
     sym (found_is (value_of k) p (pos i) key f g)
 
-some : (k : Inside) (v : Seen) (inv : IsTables k) (p i : ℕ) (key : DescId) → value_of k ≡ v → IsSome (table_of v.files p) → number_found v (Some key) ≡ under v.files p (pos i) → IsSome (number_under v key) → 0 < count_at k.store.names (thing_number k.store key)
+some : {A : Type 0} (k : Inside A) (v : Seen) (inv : IsTables k) (p i : ℕ) (key : DescId) → value_of k ≡ v → IsSome (table_of v.files p) → number_found v (Some key) ≡ under v.files p (pos i) → IsSome (number_under v key) → 0 < count_at k.store.names (thing_number k.store key)
 some k v inv p i key same is e h = slot_counts k inv p (subst (λ (w : Seen). IsSome (table_of w.files p)) (sym same) is) i (thing_number k.store key) (at k v p i key same e h)
 
 pub drop_name-requires-clause-named : goal.drop_name-requires-clause-named
-drop_name-requires-clause-named c = some c.self.inside c.args.self.now c.self.invariant c.args.pid.0 c.args.number c.args.description c.self.view_is c.requires.process c.requires.named c.requires.live
+drop_name-requires-clause-named g c = some c.self.inside c.args.self.now c.self.invariant c.args.pid.0 c.args.number c.args.description c.self.view_is c.requires.process c.requires.named c.requires.live
 
-renames : (c : goal.After-drop_name) → Renames c.self.inside c.args.self.now c.args.pid.0 (slice_set (numbers_of c.args.self.now.files c.args.pid.0) c.args.number None) (lists c.leave.new.processes.items) c.drop_name.new.self
-renames c =
+renames : (g : Over) (c : goal.After-drop_name g) → Renames c.self.inside c.args.self.now c.args.pid.0 (slice_set (numbers_of c.args.self.now.files c.args.pid.0) c.args.number None) (lists c.leave.new.processes.items) c.drop_name.new.self
+renames g c =
     let k = c.self.inside in
     let v = c.args.self.now in
     let written = lists_entered (λ (p : Process). left p c.args.number) k.processes.items k.processes.items c.leave.new.processes.items c.args.pid.0 refl c.leave.ensures in
@@ -35,7 +36,7 @@ renames c =
     (at k v c.args.pid.0 c.args.number c.args.description c.self.view_is c.requires.named c.requires.live) (some k v c.self.invariant c.args.pid.0 c.args.number c.args.description c.self.view_is c.requires.process c.requires.named c.requires.live) written c.drop_name.ensures
 
 pub invariant_of-self : goal.invariant_of-self
-invariant_of-self c = let f = (renames c).fits in record { live = f.live; counts = f.counts; living = f.living }
+invariant_of-self g c = let f = (renames g c).fits in record { live = f.live; counts = f.counts; living = f.living }
 
 pub returns : goal.returns
-returns c = (renames c).value
+returns g c = (renames g c).value
