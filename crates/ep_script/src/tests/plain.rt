@@ -1,6 +1,6 @@
 //! Whole scripts over the scanning kernel.
 
-use crate::tests::scripts::{LEVEL, SCRIPTS, SINGLE_LINES, Script};
+use crate::tests::scripts::{DESCRIPTORS, LEVEL, OBJECTS, REGISTRATIONS, SINGLE_LINES, Script};
 use crate::{ScriptFault, Summary, Watched, run_script};
 use ep_base::Limits;
 use ep_plain::{Kernel, PlainKernel};
@@ -79,8 +79,24 @@ fn expect_lines(rt: &(impl AllocGlobal + Abort), wanted: &Script) -> Result<(), 
 }
 
 #[test]
-fn answers_each_script(rt: HostRuntime) -> Result<(), Fail> {
-    for script in SCRIPTS {
+fn answers_scripts_about_objects(rt: HostRuntime) -> Result<(), Fail> {
+    for script in OBJECTS {
+        expect_lines(&rt, script)?;
+    }
+    Ok(())
+}
+
+#[test]
+fn answers_scripts_about_descriptors(rt: HostRuntime) -> Result<(), Fail> {
+    for script in DESCRIPTORS {
+        expect_lines(&rt, script)?;
+    }
+    Ok(())
+}
+
+#[test]
+fn answers_scripts_about_registrations(rt: HostRuntime) -> Result<(), Fail> {
+    for script in REGISTRATIONS {
         expect_lines(&rt, script)?;
     }
     Ok(())

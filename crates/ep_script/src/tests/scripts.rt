@@ -298,7 +298,8 @@ const EXEC: &[(&str, &str)] = &[
     ),
 ];
 
-pub(crate) const SCRIPTS: &[Script] = &[
+/// What objects answer.
+pub(crate) const OBJECTS: &[Script] = &[
     Script {
         limits: DEFAULT,
         lines: LEVEL,
@@ -323,6 +324,10 @@ pub(crate) const SCRIPTS: &[Script] = &[
         limits: [16, 16, 2, 8, 4_096, 4],
         lines: FULL_SOCKET,
     },
+];
+
+/// What calls on descriptors and processes answer.
+pub(crate) const DESCRIPTORS: &[Script] = &[
     Script {
         limits: DEFAULT,
         lines: CLOSED_READER,
@@ -335,6 +340,10 @@ pub(crate) const SCRIPTS: &[Script] = &[
         limits: DEFAULT,
         lines: EXEC,
     },
+];
+
+/// What calls on registrations answer.
+pub(crate) const REGISTRATIONS: &[Script] = &[
     Script {
         limits: DEFAULT,
         lines: ONE_SHOT,
