@@ -6,6 +6,7 @@ pub mod Sets
 pub mod Adding
 pub mod Noting
 pub mod Listing
+pub mod Raising
 pub mod Removing
 pub mod Callers
 pub mod Purging

@@ -6,6 +6,7 @@ use Rattle.ep_base.specs.declared.ids.DescId.{DescId}
 use Rattle.ep_base.specs.declared.ids.EntryId.{EntryId}
 use Rattle.ep_base.specs.declared.ids.Fd.{Fd}
 use Rattle.ep_base.specs.declared.mask.Mask.{Mask}
+use Rattle.ep_machine.specs.Counts.{brings}
 use Rattle.ep_interest.specs.declared.entry.Entry.{Entry}
 
 pub record Registrations : Type 0 where
@@ -58,6 +59,10 @@ noted n armed seen rep from x = if x.number == n then record x { armed = armed; 
 -- the one with this number, as MOD leaves it
 abbrev pub modified : ℕ → Mask → ℕ → Entry → Entry
 modified n mask tag x = if x.number == n then record x { mask = mask; tag = tag; armed = true; seen = None } else x
+
+-- what an arrival of these bits at a description does: what asks for one of them counts as not reported since
+abbrev pub raised_on : DescId → Mask → Entry → Entry
+raised_on desc bits x = if is_on desc x && brings x.mask.0 bits.0 then record x { seen = None } else x
 
 -- any registration but the one with this number
 abbrev pub is_other : ℕ → Entry → Bool

@@ -5,11 +5,13 @@ ghost use Rattle.std.specs.Option.{option_map};
 ghost use Rattle.ep_base.specs.declared.ids.EntryId.{EntryId};
 ghost use Rattle.ep_interest.specs.Listed.{shown};
 ghost use Rattle.std.specs.List.{find as first_where, list_any};
-ghost use Rattle.ep_interest.specs.Registrations.{GainsKey, IsSound, Touches, is_apart_from, left_number, has_key, id_of, ids, is_of, is_on, is_other, modified, new_entry, noted, number_under, numbered, with_ids};
+ghost use Rattle.ep_interest.specs.Registrations.{GainsKey, IsSound, Touches, is_apart_from, left_number, has_key, id_of, ids, is_of, is_on, is_other, modified, new_entry, noted, number_under, numbered, raised_on, with_ids};
+ghost use Rattle.ep_machine.specs.Counts.{brings};
 
 use crate::entries::{Entries, Watchers};
 use crate::entry::Entry;
 use crate::place::{Place, places_of};
+use bitflags::Flags;
 use ep_base::{Counts, DescId, EntryId, Fd, Mask};
 use indexmap::IndexMap;
 use slab::Slab;
@@ -35,6 +37,30 @@ impl Key {
             fd: fd.0,
             desc: desc.0,
         }
+    }
+}
+
+/// The bits that can be shown, which alone arrive.
+const SHOWN: Mask = Mask(8_221);
+
+/// Whether a mask asks for one of these bits; ERR and HUP belong to every mask.
+fn asks_for(mask: Mask, bits: Mask) -> bool
+    ensures { result ≡ brings mask.0 bits.0 }
+{
+    let wanted = SHOWN.intersection(mask.union(Mask::ERR.union(Mask::HUP)));
+    wanted.intersects(Mask::IN) && bits.intersects(Mask::IN)
+        || wanted.intersects(Mask::OUT) && bits.intersects(Mask::OUT)
+        || wanted.intersects(Mask::ERR) && bits.intersects(Mask::ERR)
+        || wanted.intersects(Mask::HUP) && bits.intersects(Mask::HUP)
+        || wanted.intersects(Mask::RDHUP) && bits.intersects(Mask::RDHUP)
+}
+
+/// Notes in a registration that these bits arrived at a description.
+fn arrive(entry: &mut Entry, desc: DescId, bits: Mask)
+    ensures { entry.new ≡ raised_on desc bits entry.old }
+{
+    if entry.desc.0 == desc.0 && asks_for(entry.mask, bits) {
+        entry.seen = None;
     }
 }
 
@@ -208,6 +234,19 @@ impl<A: Allocator> Interest<A> {
             seen: None,
             ..*changed
         };
+    }
+
+    /// Notes that these bits arrived at a description: each registration on it whose mask asks for one of them, ERR and HUP
+    /// unasked, counts as not reported since. Every registration is looked at.
+    pub fn raise(&mut self, desc: DescId, bits: Mask)
+        ensures entries { self.new.entries ≡ map (raised_on desc bits) self.old.entries }
+        ensures keys { self.new.keys ≡ self.old.keys }
+        ensures added { self.new.added ≡ self.old.added }
+    {
+        self.slots.retain(|_, entry| {
+            arrive(entry, desc, bits);
+            true
+        });
     }
 
     /// Takes away the registration under a key, as DEL of epoll_ctl(2) does. The key may be given out again, the number is not.

@@ -1,5 +1,5 @@
 -- What is left once the descriptions that nothing names are dead.
-use Rattle.std.proofs.Common.{◌≡◌, ◌∙◌, ◌==◌, ◌||◌, ◌⊎◌, ℕ, true, false, List, [], ◌∷◌, None, Option, Some, ap, get_or, if◌then◌else◌, inl, inr, is_some, refl, set, subst, sym, unwrap_or, Bool}
+use Rattle.std.proofs.Common.{◌≡◌, ◌∙◌, ◌==◌, ◌⊎◌, ℕ, true, false, List, [], ◌∷◌, None, Option, Some, ap, get_or, if◌then◌else◌, inl, inr, is_some, refl, set, subst, sym, unwrap_or, Bool}
 use Rattle.std.proofs.lemmas.Bool.{false≢true}
 use Rattle.ep_base.specs.declared.object.End.{End}
 use Rattle.ep_base.specs.declared.object.End.TheVariants.{First, Second}

@@ -6,8 +6,8 @@ use Rattle.std.proofs.lemmas.Bool.Decides.{nat_tests}
 use Rattle.std.proofs.lemmas.List.{set_comm}
 use Rattle.ep_base.specs.declared.object.End.{End}
 use Rattle.ep_base.specs.declared.object.End.TheVariants.{First, Second}
-use Rattle.ep_machine.specs.Deaths.{die, die_all, kept_object}
-use Rattle.ep_machine.specs.Files.{Files, Place, live, place_of}
+use Rattle.ep_machine.specs.Deaths.{die, die_all}
+use Rattle.ep_machine.specs.Files.{Files, Place, place_of}
 use Rattle.ep_machine.specs.Lists.{are_distinct, is_among, numbered}
 use Rattle.ep_machine.specs.Objects.{Object, close_end, counter, instance, pair, pipe, plain, timer}
 

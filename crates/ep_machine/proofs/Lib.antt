@@ -5,6 +5,9 @@ pub mod Living
 pub mod Naming
 pub mod Burying
 pub mod Quietness
+pub mod Freshening
+pub mod Arriving
+pub mod Survivors
 pub mod Settling
 pub mod Showing
 pub mod Picking

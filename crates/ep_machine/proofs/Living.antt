@@ -3,7 +3,7 @@ use Rattle.std.proofs.Common.{◌≡◌, ◌∙◌, ◌+◌, ◌<◌, ◌==◌, 
 use Rattle.std.specs.List.{AllByRecursion}
 use Rattle.std.proofs.lemmas.Bool.{cases_Bool, false≢true}
 use Rattle.std.proofs.lemmas.Bool.Decides.{nat_tests}
-use Rattle.ep_machine.specs.Deaths.{die_all, dying, named}
+use Rattle.ep_machine.specs.Deaths.{dying, named}
 use Rattle.ep_machine.specs.Files.{Files, Place, is_live, place_of}
 use Rattle.ep_machine.specs.Laws.{NamedLives}
 use Rattle.ep_machine.specs.Lists.{are_distinct, is_among, numbered}

@@ -1,5 +1,5 @@
 -- Each state that the calls of this version reach is quiet.
-use Rattle.std.proofs.Common.{◌≡◌, ℕ, zero, suc, ◌+◌, ◌≤◌, ◌&&◌, ◌||◌, All, Bool, List, [], ◌∷◌, MatchOption, None, Option, Some, ℤ, pos, negsuc, true, false, not, ap, arith, cond, get_or, if◌then◌else◌, is_none, is_some, length, map, nat_lt, refl, subst, sym, ◌∙◌, unwrap_or}
+use Rattle.std.proofs.Common.{◌≡◌, ℕ, zero, suc, ◌+◌, ◌≤◌, ◌&&◌, All, Bool, List, [], ◌∷◌, MatchOption, None, Option, Some, ℤ, pos, negsuc, true, false, not, arith, cond, get_or, if◌then◌else◌, is_none, is_some, length, map, nat_lt, refl, subst, sym, ◌∙◌, unwrap_or}
 use Rattle.std.specs.List.{AllByRecursion}
 use Rattle.std.proofs.lemmas.Bool.Decides.{nat_tests}
 use Rattle.std.proofs.lemmas.List.Elements.{All-filter, All-map, All-push, All-weaker}
@@ -17,15 +17,15 @@ use Rattle.ep_base.specs.declared.record.Record.{Record}
 use Rattle.ep_machine.specs.Run.{run}
 use Rattle.ep_machine.specs.Settle.{settle}
 use Rattle.ep_machine.proofs.Stepping.{run_keeps, step_changed}
-use Rattle.ep_machine.specs.Bits.{ET, ONESHOT, has_bit}
+use Rattle.ep_machine.specs.Bits.{ONESHOT, has_bit}
 use Rattle.ep_machine.specs.Effect.{first}
 use Rattle.ep_machine.specs.Files.{Files, Place, named_by, names_nothing, object_at, object_number, object_of, object_under, place_of, side_under}
 use Rattle.ep_machine.specs.Lists.{is_among}
 use Rattle.ep_machine.specs.Objects.{Object, counter, instance, is_instance, is_plain, object_effect, pair, pipe, plain, timer}
 use Rattle.ep_machine.specs.Pipe.{new_pipe}
-use Rattle.ep_machine.specs.Quiet.{Changed, IsSettled, IsSteady, Quiet, can_be_watched}
+use Rattle.ep_machine.specs.Quiet.{Changed, HasSeen, IsSettled, IsSteady, Quiet, can_be_watched}
 use Rattle.ep_machine.specs.Readiness.{is_ready}
-use Rattle.ep_machine.specs.Refusal.{call_refusals, ctl_refusals, is_later_mask, is_zero, refusals}
+use Rattle.ep_machine.specs.Refusal.{call_refusals, ctl_refusals, is_zero, refusals}
 use Rattle.ep_machine.specs.Report.{is_pick, plainly, report, report_of, reported, watches_at}
 use Rattle.ep_machine.specs.State.{Change, State, Watch, counts_of, opening}
 use Rattle.ep_machine.specs.Sockets.{new_pair}
@@ -35,6 +35,7 @@ use Rattle.ep_machine.specs.Timer.{last_moment, new_timer}
 use Rattle.ep_machine.specs.Waits.{tick, wait, wait_for}
 use Rattle.ep_machine.specs.Watches.{add, ctl, delete, has_key, is_add, is_del, modified, modify, new_watch, number_in}
 use Rattle.ep_machine.proofs.Naming.{Extends, Filed, extends_dup2, extends_one, extends_two, extends_with_object, filed_close, filed_dup, filed_dup2, filed_exec, filed_exit, filed_fork, filed_one, filed_opening, filed_two, filed_with_object, named_lives, named_opening, same_tables}
+use Rattle.ep_machine.proofs.Freshening.{past_itself}
 use Rattle.ep_machine.proofs.Settling.{quiet_settled, settle_changed}
 
 -- no test of a list that refuses nothing holds
@@ -50,16 +51,16 @@ from_not false h = cc
 
 -- Other files under the same registrations.
 steady_in : (f g : Files) → Extends f g → (x : Watch) → IsSteady f x → IsSteady g x
-steady_in f g e x h = record { instance_lives = e.lives x.instance h.instance_lives; target_lives = e.lives x.target h.target_lives; target_shows = e.shows x.target h.target_shows; level = h.level }
+steady_in f g e x h = record { instance_lives = e.lives x.instance h.instance_lives; target_lives = e.lives x.target h.target_lives; target_shows = e.shows x.target h.target_shows }
 
 filed : (s : State) → Quiet s → Filed s.files
 filed s h = record { placed = h.placed; lives = λ d e. sym (h.named d) ∙ e }
 
 pub weaken : (s : State) → Quiet s → Changed s
-weaken s h = record { waiters = h.waiters; now = h.now; placed = h.placed; lives = (filed s h).lives; watches = h.watches }
+weaken s h = record { waiters = h.waiters; now = h.now; placed = h.placed; lives = (filed s h).lives; watches = h.watches; seen = h.seen }
 
 quiet_files : (s : State) (g : Files) → Quiet s → Filed g → Extends s.files g → Changed (record s { files = g })
-quiet_files s g h k e = record { waiters = h.waiters; now = h.now; placed = k.placed; lives = k.lives; watches = All-weaker (IsSteady s.files) (IsSteady g) (steady_in s.files g e) s.watches h.watches }
+quiet_files s g h k e = record { waiters = h.waiters; now = h.now; placed = k.placed; lives = k.lives; watches = All-weaker (IsSteady s.files) (IsSteady g) (steady_in s.files g e) s.watches h.watches; seen = h.seen }
 
 -- A call on an object keeps its kind.
 effect_shows : (x : Object) (e : End) (now : ℕ) (call : Call) → can_be_watched (Some x) ≡ true → can_be_watched (Some (object_effect x e now call).1) ≡ true
@@ -125,69 +126,78 @@ shows_from_tests (Some x) p i = both (is_plain x) (is_instance x) p i where
   both false true h k = cc
   both false false h k = refl
 
--- an addition is no removal
-pub add_is_no_del : (op : ℤ) → is_add op ≡ true → is_del op ≡ false
-add_is_no_del (pos k) h = grind (arith, nat_tests, h)
-add_is_no_del (negsuc k) h = cc
-
-quiet_watches : (s : State) (xs : List Watch) (added : ℕ) → Quiet s → All (IsSteady s.files) xs → Changed (record s { watches = xs; added = added })
-quiet_watches s xs added h steady = record { waiters = h.waiters; now = h.now; placed = h.placed; lives = (filed s h).lives; watches = steady }
+quiet_watches : (s : State) (xs : List Watch) (added : ℕ) → Quiet s → All (IsSteady s.files) xs → All (λ x. HasSeen x.seen (counts_of s x.target)) xs → Changed (record s { watches = xs; added = added })
+quiet_watches s xs added h steady seen = record { waiters = h.waiters; now = h.now; placed = h.placed; lives = (filed s h).lives; watches = steady; seen = seen }
 
 quiet_add : (s : State) (e fd d mask tag : ℕ) → Quiet s → IsSteady s.files (new_watch s e fd d mask tag) → Changed (add s e fd d mask tag).1
-quiet_add s e fd d mask tag h steady = quiet_watches s _ (s.added + 1) h (All-push (IsSteady s.files) s.watches (new_watch s e fd d mask tag) h.watches steady)
+quiet_add s e fd d mask tag h steady =
+    let x = new_watch s e fd d mask tag in
+    quiet_watches s _ (s.added + 1) h (All-push (IsSteady s.files) s.watches x h.watches steady) (All-push (λ y. HasSeen y.seen (counts_of s y.target)) s.watches x h.seen tt)
 
 -- DEL.
 quiet_delete : (s : State) (e fd d : ℕ) → Quiet s → Changed (delete s e fd d).1
-quiet_delete s e fd d h = quiet_watches s _ s.added h (All-filter (λ x. not (has_key e fd d x)) (IsSteady s.files) s.watches h.watches)
+quiet_delete s e fd d h =
+    let stays : Watch → Bool = λ x. not (has_key e fd d x) in
+    quiet_watches s _ s.added h (All-filter stays (IsSteady s.files) s.watches h.watches) (All-filter stays (λ y. HasSeen y.seen (counts_of s y.target)) s.watches h.seen)
 
 -- MOD.
-steady_modified : (s : State) (e fd d mask tag : ℕ) (x : Watch) → has_bit mask ET ≡ false → IsSteady s.files x → IsSteady s.files (modified e fd d mask tag x)
-steady_modified s e fd d mask tag x level h =
+steady_modified : (s : State) (e fd d mask tag : ℕ) (x : Watch) → IsSteady s.files x → IsSteady s.files (modified e fd d mask tag x)
+steady_modified s e fd d mask tag x h =
     elim (has_key e fd d x) as (λ b. IsSteady s.files (cond b (record x { mask = mask; tag = tag; armed = true; seen = None }) x)) [
-      | true ↦ record { instance_lives = h.instance_lives; target_lives = h.target_lives; target_shows = h.target_shows; level = level }
+      | true ↦ record { instance_lives = h.instance_lives; target_lives = h.target_lives; target_shows = h.target_shows }
       | false ↦ h
     ]
 
-quiet_modify : (s : State) (e fd d mask tag : ℕ) → Quiet s → has_bit mask ET ≡ false → Changed (modify s e fd d mask tag).1
-quiet_modify s e fd d mask tag h level =
-    quiet_watches s _ s.added h (All-map (IsSteady s.files) (modified e fd d mask tag) s.watches (λ k x lt. steady_modified s e fd d mask tag (get_or s.watches k x) level (h.watches k x lt)))
+seen_modified : (s : State) (e fd d mask tag : ℕ) (x : Watch) → HasSeen x.seen (counts_of s x.target) → HasSeen (modified e fd d mask tag x).seen (counts_of s (modified e fd d mask tag x).target)
+seen_modified s e fd d mask tag x h =
+    elim (has_key e fd d x) as (λ b. let y : Watch = cond b (record x { mask = mask; tag = tag; armed = true; seen = None }) x in HasSeen y.seen (counts_of s y.target)) [
+      | true ↦ tt
+      | false ↦ h
+    ]
+
+quiet_modify : (s : State) (e fd d mask tag : ℕ) → Quiet s → Changed (modify s e fd d mask tag).1
+quiet_modify s e fd d mask tag h =
+    quiet_watches s _ s.added h (All-map (IsSteady s.files) (modified e fd d mask tag) s.watches (λ k x lt. steady_modified s e fd d mask tag (get_or s.watches k x) (h.watches k x lt)))
+    (All-map (λ y. HasSeen y.seen (counts_of s y.target)) (modified e fd d mask tag) s.watches (λ k x lt. seen_modified s e fd d mask tag (get_or s.watches k x) (h.seen k x lt)))
 
 quiet_if : (b : Bool) (c d : Change) → (b ≡ true → Changed c.1) → (b ≡ false → Changed d.1) → Changed (cond b c d).1
 quiet_if true c d h k = h refl
 quiet_if false c d h k = k refl
-
--- the mask of what is no removal
-not_later : (a b : Bool) → (not a && b) ≡ false → a ≡ false → b ≡ false
-not_later true b h k = cc
-not_later false b h k = h
 
 quiet_ctl : (limits : Limits) (s : State) (p : ℕ) (epfd op fd : ℤ) (mask tag : ℕ) → Quiet s → AllByRecursion (λ t. t.0 ≡ false) (ctl_refusals limits s p epfd op fd mask) → Changed (ctl s p epfd op fd mask tag).1
 quiet_ctl limits s p epfd op fd mask tag h tests =
     let e = named_by s.files p epfd in
     let d = named_by s.files p fd in
     let k = number_in fd in
-    let level = not_later (is_del op) (is_later_mask mask) tests.1.1.1.1.1.1.1.0 in
-    let steady : is_del op ≡ false → IsSteady s.files (new_watch s e k d mask tag) = λ other. record {
+    let steady : IsSteady s.files (new_watch s e k d mask tag) = record {
       instance_lives = named_lives s.files p epfd (filed s h) tests.0;
       target_lives = named_lives s.files p fd (filed s h) tests.1.0;
       target_shows = shows_from_tests (object_of s.files d) tests.1.1.0 tests.1.1.1.1.0;
-      level = level other;
     } in
     quiet_if (is_add op) (add s e k d mask tag) (if is_del op then delete s e k d else modify s e k d mask tag)
-    (λ adds. quiet_add s e k d mask tag h (steady (add_is_no_del op adds)))
-    (λ _. quiet_if (is_del op) (delete s e k d) (modify s e k d mask tag) (λ _. quiet_delete s e k d h) (λ other. quiet_modify s e k d mask tag h (level other)))
+    (λ _. quiet_add s e k d mask tag h steady)
+    (λ _. quiet_if (is_del op) (delete s e k d) (modify s e k d mask tag) (λ _. quiet_delete s e k d h) (λ _. quiet_modify s e k d mask tag h))
 
 -- A wait.
 reported_steady : (s : State) (ks : List ℕ) (x : Watch) → IsSteady s.files x → IsSteady s.files (reported s ks x)
 reported_steady s ks x h =
     let y : Watch = record x { seen = Some (counts_of s x.target); rep = s.n; from = s.n; armed = x.armed && not (has_bit x.mask ONESHOT) } in
     elim (is_among ks x.number) as (λ b. IsSteady s.files (cond b y x)) [
-      | true ↦ record { instance_lives = h.instance_lives; target_lives = h.target_lives; target_shows = h.target_shows; level = h.level }
+      | true ↦ record { instance_lives = h.instance_lives; target_lives = h.target_lives; target_shows = h.target_shows }
+      | false ↦ h
+    ]
+
+reported_seen : (s : State) (ks : List ℕ) (x : Watch) → HasSeen x.seen (counts_of s x.target) → HasSeen (reported s ks x).seen (counts_of s (reported s ks x).target)
+reported_seen s ks x h =
+    elim (is_among ks x.number) as (λ b. let y : Watch = cond b (record x { seen = Some (counts_of s x.target); rep = s.n; from = s.n; armed = x.armed && not (has_bit x.mask ONESHOT) }) x in HasSeen y.seen (counts_of s y.target)) [
+      | true ↦ past_itself (counts_of s x.target)
       | false ↦ h
     ]
 
 quiet_reported : (s : State) (ks : List ℕ) → Quiet s → Changed (record s { watches = map (reported s ks) s.watches })
-quiet_reported s ks h = record { waiters = h.waiters; now = h.now; placed = h.placed; lives = (filed s h).lives; watches = All-map (IsSteady s.files) (reported s ks) s.watches (λ k d lt. reported_steady s ks (get_or s.watches k d) (h.watches k d lt)) }
+quiet_reported s ks h =
+    quiet_watches s _ s.added h (All-map (IsSteady s.files) (reported s ks) s.watches (λ k d lt. reported_steady s ks (get_or s.watches k d) (h.watches k d lt)))
+    (All-map (λ y. HasSeen y.seen (counts_of s y.target)) (reported s ks) s.watches (λ k d lt. reported_seen s ks (get_or s.watches k d) (h.seen k d lt)))
 
 Fine : Option Change → Type 0
 Fine c = MatchOption c (Unit {0}) (λ o. Changed o.1)
@@ -261,7 +271,7 @@ not_above a b h = grind (arith, nat_tests)
 
 fine_tick : (s : State) (k : ℕ) (ks : List ℕ) → Quiet s → nat_lt last_moment (s.now + k) ≡ false → Fine (plainly ks (tick s k))
 fine_tick s k ks h allowed =
-    fine_plainly ks (tick s k) (record { waiters = h.waiters; now = not_above last_moment (s.now + k) allowed; placed = h.placed; lives = (filed s h).lives; watches = h.watches })
+    fine_plainly ks (tick s k) (record { waiters = h.waiters; now = not_above last_moment (s.now + k) allowed; placed = h.placed; lives = (filed s h).lives; watches = h.watches; seen = h.seen })
 
 fine_change : (limits : Limits) (s : State) (caller : ℕ) (event : Event) (ks : List ℕ) → Quiet s → first (refusals limits s caller event) ≡ None → Fine (change limits s caller event ks)
 fine_change limits s caller (CallOf p call) ks h allowed =
@@ -280,7 +290,7 @@ IsStep o = MatchOption o (Unit {0}) (λ c. Quiet c.1)
 fine_settled : (before : State) (c : Option Change) → Fine c → IsStep (settled before c)
 unfolding Fine IsStep
 fine_settled before None h = tt
-fine_settled before (Some c) h = quiet_settled c.1 h (settle before c.1 c.2) (settle_changed before c.1 c.2 h)
+fine_settled before (Some c) h = quiet_settled c.1 h c.2 (settle before c.1 c.2) (settle_changed before c.1 c.2 h)
 
 fine_refused : (e : Option Errno) (s : State) (ks : List ℕ) (c : Option Change) → Quiet s → (e ≡ None → Fine c) → IsStep (refused_or e s ks c)
 unfolding IsStep
@@ -289,10 +299,10 @@ fine_refused (Some e) s [] c h k = h
 fine_refused (Some e) s (x ∷ ks) c h k = tt
 
 pub quiet_begun : (s : State) → Quiet s → Quiet (begun s)
-quiet_begun s h = record { waiters = h.waiters; now = h.now; placed = h.placed; named = h.named; watches = h.watches }
+quiet_begun s h = record { waiters = h.waiters; now = h.now; placed = h.placed; named = h.named; watches = h.watches; seen = h.seen }
 
 pub quiet_opening : Quiet opening
-quiet_opening = record { waiters = refl; now = omega arith; placed = filed_opening.placed; named = named_opening; watches = λ k d lt. absurd (omega arith) }
+quiet_opening = record { waiters = refl; now = omega arith; placed = filed_opening.placed; named = named_opening; watches = λ k d lt. absurd (omega arith); seen = λ k d lt. absurd (omega arith) }
 
 pub quiet_step : (limits : Limits) (s t : State) (caller : ℕ) (event : Event) (picked : List ℕ) (a : Answer) → Quiet s → step limits s caller event picked ≡ Some (a, t) → Quiet t
 unfolding IsStep
@@ -307,6 +317,6 @@ quiet_run limits past s e = run_keeps Quiet limits (quiet_step limits) opening s
 
 -- a step that isn't refused, as far as registrations are kept
 pub step_quiet : (limits : Limits) (s : State) (caller : ℕ) (event : Event) (picked : List ℕ) (c : Change) → Quiet s → first (refusals limits (begun s) caller event) ≡ None → change limits (begun s) caller event picked ≡ Some c
-    → (t : State) × (step limits s caller event picked ≡ Some (c.0, t)) × IsSettled c.1 t
+    → (t : State) × (step limits s caller event picked ≡ Some (c.0, t)) × IsSettled c.1 c.2 t
 step_quiet limits s caller event picked c h allowed e =
     (settle (begun s) c.1 c.2, step_changed limits s caller event picked c allowed e, settle_changed (begun s) c.1 c.2 (quiet_change limits (begun s) caller event picked c (quiet_begun s h) allowed e))

@@ -36,34 +36,34 @@ map_swaps f xs [] = refl
 map_swaps f xs (p ∷ ps) = map_swap f (apply_swaps xs ps) p.0 p.1 ∙ ap (λ (ys : List Watch). swap ys p.0 p.1) (map_swaps f xs ps)
 
 -- another order of the kept ones is that of another order
-lifted : (xs found : List Watch) → IsPermutation (kept_all xs) found → (ys : List Watch) × IsPermutation xs ys × (kept_all ys ≡ found)
-lifted xs found moved =
-    let below : SwapsInRange (length xs) moved.moves = subst (λ (n : ℕ). SwapsInRange n moved.moves) (length-map xs kept_of) moved.below in
-    (apply_swaps xs moved.moves, record { moves = moved.moves; below = below; is = refl }, map_swaps kept_of xs moved.moves ∙ sym moved.is)
+lifted : (s : State) (xs found : List Watch) → IsPermutation (kept_all s xs) found → (ys : List Watch) × IsPermutation xs ys × (kept_all s ys ≡ found)
+lifted s xs found moved =
+    let below : SwapsInRange (length xs) moved.moves = subst (λ (n : ℕ). SwapsInRange n moved.moves) (length-map xs (kept_of s)) moved.below in
+    (apply_swaps xs moved.moves, record { moves = moved.moves; below = below; is = refl }, map_swaps (kept_of s) xs moved.moves ∙ sym moved.is)
 
-kept_numbers : (xs : List Watch) → numbers (kept_all xs) ≡ numbers xs
-kept_numbers [] = refl
-kept_numbers (x ∷ xs) = ap (λ (ks : List ℕ). x.number ∷ ks) (kept_numbers xs)
+kept_numbers : (s : State) (xs : List Watch) → numbers (kept_all s xs) ≡ numbers xs
+kept_numbers s [] = refl
+kept_numbers s (x ∷ xs) = ap (λ (ks : List ℕ). x.number ∷ ks) (kept_numbers s xs)
 
-kept_reports : (s : State) (xs : List Watch) → All (IsSteady s.files) xs → map (report_of s) xs ≡ map (report_at s.files s.now) (kept_all xs)
+kept_reports : (s : State) (xs : List Watch) → All (IsSteady s.files) xs → map (report_of s) xs ≡ map (report_at s.files s.now) (kept_all s xs)
 kept_reports s [] h = refl
 kept_reports s (x ∷ xs) h = let one = report_quiet s x (h 0 x (omega arith)) in let rest = kept_reports s xs (λ k d lt. h (suc k) d (omega arith)) in λ i. one i ∷ rest i
 
-kept_sorted : (ys : List Watch) → IsNonDecreasingBy (λ x. x.rep) (kept_all ys) → IsNonDecreasingBy (λ x. x.rep) ys
-kept_sorted ys h i j d le lt =
-    let at : (k : ℕ) → (get_or (kept_all ys) k (kept_of d)).rep ≡ (get_or ys k d).rep = λ k. ap (λ (x : Watch). x.rep) (get_or-map kept_of ys k d) in
-    let sorted = h i j (kept_of d) le (omega (arith, lt, length-map ys kept_of)) in
+kept_sorted : (s : State) (ys : List Watch) → IsNonDecreasingBy (λ x. x.rep) (kept_all s ys) → IsNonDecreasingBy (λ x. x.rep) ys
+kept_sorted s ys h i j d le lt =
+    let at : (k : ℕ) → (get_or (kept_all s ys) k (kept_of s d)).rep ≡ (get_or ys k d).rep = λ k. ap (λ (x : Watch). x.rep) (get_or-map (kept_of s) ys k d) in
+    let sorted = h i j (kept_of s d) le (omega (arith, lt, length-map ys (kept_of s))) in
     omega (arith, sorted, at i, at j)
 
-pub report_kept : (s : State) (e most : ℕ) (found : List Watch) → Sound s → Quiet s → IsPermutation (filter (shows_in s.files s.now e) (kept_all s.watches)) found → IsNonDecreasingBy (λ x. x.rep) found
+pub report_kept : (s : State) (e most : ℕ) (found : List Watch) → Sound s → Quiet s → IsPermutation (filter (shows_in s.files s.now e) (kept_all s s.watches)) found → IsNonDecreasingBy (λ x. x.rep) found
     → report s e most (numbers (take most found)) ≡ Some (Events (map (report_at s.files s.now) (take most found)), record s { watches = map (reported s (numbers (take most found))) s.watches }, [])
 report_kept s e most found sound quiet moved sorted =
-    let real = lifted (reportables s e) found (subst (λ (xs : List Watch). IsPermutation xs found) (sym (reportables_kept s e quiet)) moved) in
+    let real = lifted s (reportables s e) found (subst (λ (xs : List Watch). IsPermutation xs found) (sym (reportables_kept s e quiet)) moved) in
     let ys = real.0 in
     let steady : All (IsSteady s.files) (take most ys) = All-take (IsSteady s.files) most ys (All-permutation (IsSteady s.files) (reportables s e) ys real.1 (All-filter _ (IsSteady s.files) s.watches quiet.watches)) in
-    let base = report_sorted s e most ys sound real.1 (kept_sorted ys (subst (λ (xs : List Watch). IsNonDecreasingBy (λ x. x.rep) xs) (sym real.2) sorted)) in
-    let same : kept_all (take most ys) ≡ take most found = sym (take-map kept_of most ys) ∙ ap (take most) real.2 in
-    let told : numbers (take most found) ≡ numbers (take most ys) = ap numbers (sym same) ∙ kept_numbers (take most ys) in
+    let base = report_sorted s e most ys sound real.1 (kept_sorted s ys (subst (λ (xs : List Watch). IsNonDecreasingBy (λ x. x.rep) xs) (sym real.2) sorted)) in
+    let same : kept_all s (take most ys) ≡ take most found = sym (take-map (kept_of s) most ys) ∙ ap (take most) real.2 in
+    let told : numbers (take most found) ≡ numbers (take most ys) = ap numbers (sym same) ∙ kept_numbers s (take most ys) in
     let out : List ℕ → List Report → Change = λ ks rs. (Events rs, record s { watches = map (reported s ks) s.watches }, []) in
     let reports : map (report_of s) (take most ys) ≡ map (report_at s.files s.now) (take most found) = kept_reports s (take most ys) steady ∙ ap (map (report_at s.files s.now)) same in
     ap (report s e most) told ∙ (base ∙ λ i. Some (out (sym told i) (reports i)))
@@ -94,7 +94,7 @@ nothing_told s caller p e most (pos (suc k)) z = cc
 nothing_told s caller p e most (negsuc k) z = cc
 
 -- a wait that doesn't park, with something to report or without
-pub wait_kept : (s : State) (caller p e most : ℕ) (timeout : ℤ) (found : List Watch) → Sound s → Quiet s → is_zero timeout ≡ true → IsPermutation (filter (shows_in s.files s.now e) (kept_all s.watches)) found → IsNonDecreasingBy (λ x. x.rep) found
+pub wait_kept : (s : State) (caller p e most : ℕ) (timeout : ℤ) (found : List Watch) → Sound s → Quiet s → is_zero timeout ≡ true → IsPermutation (filter (shows_in s.files s.now e) (kept_all s s.watches)) found → IsNonDecreasingBy (λ x. x.rep) found
     → wait s caller p e most timeout (numbers (take most found)) ≡ Some (Events (map (report_at s.files s.now) (take most found)), record s { watches = map (reported s (numbers (take most found))) s.watches }, [])
 wait_kept s caller p e most timeout found sound quiet z moved sorted =
     let out : List Watch → Option Change = λ xs. Some (Events (map (report_at s.files s.now) xs), record s { watches = map (reported s (numbers xs)) s.watches }, []) in
@@ -102,7 +102,7 @@ wait_kept s caller p e most timeout found sound quiet z moved sorted =
     let rest : List Watch → Option Change = λ xs. plainly (numbers xs) (wait_for s caller p e most timeout) in
     let when_ready : is_ready s e ≡ true → cond (is_ready s e) told (rest (take most found)) ≡ out (take most found) = λ r. ap (λ (b : Bool). cond b told (rest (take most found))) r ∙ report_kept s e most found sound quiet moved sorted in
     let otherwise : is_ready s e ≡ false → cond (is_ready s e) told (rest (take most found)) ≡ out (take most found) = λ r.
-    let none : filter (shows_in s.files s.now e) (kept_all s.watches) ≡ [] = none_any (shows_in s.files s.now e) (kept_all s.watches) (sym (ready_kept s e quiet) ∙ r) in
+    let none : filter (shows_in s.files s.now e) (kept_all s s.watches) ≡ [] = none_any (shows_in s.files s.now e) (kept_all s s.watches) (sym (ready_kept s e quiet) ∙ r) in
     let empty : take most found ≡ [] = take_none most found (no_elements found (length_permutation _ found moved ∙ ap length none)) in
     ap (λ (b : Bool). cond b told (rest (take most found))) r
     ∙ (ap rest empty

@@ -1,25 +1,27 @@
 -- What a settling leaves where nobody waits.
-use Rattle.std.proofs.Common.{◌≡◌, ℕ, zero, suc, ◌<◌, ◌≤◌, ◌==◌, ◌&&◌, ◌||◌, ◌++◌, ◌∙◌, All, Bool, List, [], ◌∷◌, None, Option, Some, true, false, not, ap, arith, cond, filter, get_or, if◌then◌else◌, inl, inr, is_some, length, map, nat_lt, refl, subst, sym}
+use Rattle.std.proofs.Common.{◌≡◌, ℕ, zero, suc, ◌<◌, ◌≤◌, ◌==◌, ◌&&◌, ◌||◌, ◌++◌, ◌∙◌, All, Bool, List, [], ◌∷◌, None, Option, Some, true, false, not, ap, arith, cond, filter, get_or, if◌then◌else◌, inl, inr, is_some, map, nat_lt, refl, subst, sym}
 use Rattle.std.proofs.lemmas.Bool.{cases_Bool, false≢true}
 use Rattle.std.proofs.lemmas.List.{append-nil}
 use Rattle.std.proofs.lemmas.List.Elements.{All-cons, All-map}
 use Rattle.std.proofs.lemmas.Bool.Decides.{nat_tests}
-use Rattle.ep_machine.specs.Bits.{ONESHOT, has_bit}
+use Rattle.ep_base.specs.declared.counts.Counts.{Counts}
+use Rattle.ep_machine.specs.Bits.{ERR, HUP, IN, ONESHOT, OUT, RDHUP, asked, has_bit}
+use Rattle.ep_machine.specs.Counts.{arrived_since, brings, every_shown_bit, holds_wanted, no_counts}
 use Rattle.ep_machine.specs.Deaths.{buried, die_all, dying, is_kept, named, named_in_tables}
 use Rattle.ep_machine.specs.Files.{Files, Place, Table, is_live, object_of, place_of}
 use Rattle.ep_machine.specs.Lists.{is_among}
-use Rattle.ep_machine.specs.Quiet.{Changed, IsSettled, IsSteady, Quiet, can_be_watched, is_backed, kept_all, kept_of, reported_in, stays_in}
-use Rattle.ep_machine.specs.Readiness.{is_reportable}
+use Rattle.ep_machine.specs.Quiet.{Changed, HasSeen, IsSettled, IsSteady, Quiet, can_be_watched, freshened, is_backed, kept_all, kept_of, reported_in, seen_where, stays_in}
+use Rattle.ep_machine.specs.Readiness.{is_fresh, is_reportable}
 use Rattle.ep_machine.specs.Report.{reported}
 use Rattle.ep_machine.specs.Settle.{came, reportable_numbers, settle, with_from}
-use Rattle.ep_machine.specs.Spread.{arrived}
+use Rattle.ep_machine.specs.Spread.{arrived, raised_of}
 use Rattle.ep_machine.specs.State.{State, Waiter, Watch, counts_of}
 use Rattle.ep_machine.specs.Timer.{last_moment}
 use Rattle.ep_machine.specs.Waits.{marked_first, marked_if_due, with_due}
 use Rattle.ep_machine.proofs.Burying.{Buried, all_buried}
 use Rattle.ep_machine.proofs.Living.{dying_distinct, dying_placed, dying_unnamed, unnamed_dying}
 use Rattle.ep_machine.proofs.Dying.{ArePlaced, after_all, differs, numbers, raised_before, same_nat, same_or_not}
-use Rattle.ep_machine.proofs.Showing.{kept_filter}
+use Rattle.ep_machine.proofs.Freshening.{fresh_arrived, seen_arrived}
 
 pub among_left : (xs ys : List ℕ) (d : ℕ) → is_among xs d ≡ true → is_among (xs ++ ys) d ≡ true
 among_left [] ys d h = cc
@@ -32,40 +34,36 @@ among_left (x ∷ xs) ys d h =
 pub lt_test : (a b : ℕ) → a < b → nat_lt a b ≡ true
 lt_test a b h = grind (arith, nat_tests)
 
-kept_came : (earlier : List ℕ) (s : State) (xs : List Watch) → kept_all (map (came earlier s) xs) ≡ kept_all xs
+kept_came : (earlier : List ℕ) (s : State) (xs : List Watch) → kept_all s (map (came earlier s) xs) ≡ kept_all s xs
 kept_came earlier s [] = refl
 kept_came earlier s (x ∷ xs) =
-    let one : kept_of (came earlier s x) ≡ kept_of x = elim (not (is_among earlier x.number) && is_reportable s x) as (λ b. kept_of (cond b (record x { from = s.n }) x) ≡ kept_of x) [ true ↦ refl | false ↦ refl ] in
+    let one : kept_of s (came earlier s x) ≡ kept_of s x = elim (not (is_among earlier x.number) && is_reportable s x) as (λ b. kept_of s (cond b (record x { from = s.n }) x) ≡ kept_of s x) [ true ↦ refl | false ↦ refl ] in
     let rest = kept_came earlier s xs in
     λ i. one i ∷ rest i
 
--- the settling of a change
-pub settle_changed : (before after : State) (raised : List (ℕ × ℕ)) → Changed after → IsSettled after (settle before after raised)
-settle_changed before after raised h =
-    let g = (die_all (after.files, raised) (dying after)).0 in
-    let left = buried after raised in
-    record {
-      n = refl;
-      now = refl;
-      files = raised_before after.files raised (dying after);
-      watches = kept_came (reportable_numbers before) (arrived left.0 left.1) (filter (is_kept (record after { files = g })) after.watches) ∙ kept_filter (stays_in g) after.watches;
-      added = refl;
-      waiters = ap (λ (ws : List Waiter). marked_first (with_due (with_from before (arrived left.0 left.1))) [] (map (marked_if_due after.now) ws)) h.waiters ∙ sym h.waiters;
-    }
+to_kept : (files : Files) (s : State) (x : Watch) → IsSteady files x → IsSteady files (kept_of s x)
+to_kept files s x h = record { instance_lives = h.instance_lives; target_lives = h.target_lives; target_shows = h.target_shows }
 
-to_kept : (files : Files) (x : Watch) → IsSteady files x → IsSteady files (kept_of x)
-to_kept files x h = record { instance_lives = h.instance_lives; target_lives = h.target_lives; target_shows = h.target_shows; level = h.level }
+from_kept : (files : Files) (s : State) (x : Watch) → IsSteady files (kept_of s x) → IsSteady files x
+from_kept files s x h = record { instance_lives = h.instance_lives; target_lives = h.target_lives; target_shows = h.target_shows }
 
-from_kept : (files : Files) (x : Watch) → IsSteady files (kept_of x) → IsSteady files x
-from_kept files x h = record { instance_lives = h.instance_lives; target_lives = h.target_lives; target_shows = h.target_shows; level = h.level }
+all_from_kept : (files : Files) (s : State) (xs : List Watch) → All (IsSteady files) (kept_all s xs) → All (IsSteady files) xs
+all_from_kept files s [] h k d lt = absurd (omega arith)
+all_from_kept files s (x ∷ xs) h zero d lt = from_kept files s x (h 0 d (omega arith))
+all_from_kept files s (x ∷ xs) h (suc k) d lt = all_from_kept files s xs (λ j c l. h (suc j) c (omega arith)) k d (omega arith)
 
-all_from_kept : (files : Files) (xs : List Watch) → All (IsSteady files) (kept_all xs) → All (IsSteady files) xs
-all_from_kept files [] h k d lt = absurd (omega arith)
-all_from_kept files (x ∷ xs) h zero d lt = from_kept files x (h 0 d (omega arith))
-all_from_kept files (x ∷ xs) h (suc k) d lt = all_from_kept files xs (λ j c l. h (suc j) c (omega arith)) k d (omega arith)
+all_to_kept : (files : Files) (s : State) (xs : List Watch) → All (IsSteady files) xs → All (IsSteady files) (kept_all s xs)
+all_to_kept files s xs h = All-map (IsSteady files) (kept_of s) xs (λ k d lt. to_kept files s (get_or xs k d) (h k d lt))
 
-all_to_kept : (files : Files) (xs : List Watch) → All (IsSteady files) xs → All (IsSteady files) (kept_all xs)
-all_to_kept files xs h = All-map (IsSteady files) kept_of xs (λ k d lt. to_kept files (get_or xs k d) (h k d lt))
+steady_fresh : (files : Files) (raised : List (ℕ × ℕ)) (x : Watch) → IsSteady files x → IsSteady files (freshened raised x)
+steady_fresh files raised x h =
+    elim (brings x.mask (raised_of raised x.target)) as (λ b. IsSteady files (cond b (record x { seen = None }) x)) [
+      | true ↦ record { instance_lives = h.instance_lives; target_lives = h.target_lives; target_shows = h.target_shows }
+      | false ↦ h
+    ]
+
+all_fresh : (files : Files) (raised : List (ℕ × ℕ)) (xs : List Watch) → All (IsSteady files) xs → All (IsSteady files) (map (freshened raised) xs)
+all_fresh files raised xs h = All-map (IsSteady files) (freshened raised) xs (λ k d lt. steady_fresh files raised (get_or xs k d) (h k d lt))
 
 both_true : (a b : Bool) → (a && b) ≡ true → (a ≡ true) × (b ≡ true)
 both_true true b h = (refl, h)
@@ -81,7 +79,7 @@ steady_left f g (x ∷ xs) shows h =
     elim (cases_Bool (stays_in g x)) [
       | inl holds ↦
           let both = both_true (is_live g x.instance) (is_live g x.target) holds in
-          let steady : IsSteady g x = record { instance_lives = both.0; target_lives = both.1; target_shows = shows x.target both.1 one.target_shows; level = one.level } in
+          let steady : IsSteady g x = record { instance_lives = both.0; target_lives = both.1; target_shows = shows x.target both.1 one.target_shows } in
           subst (λ (b : Bool). All (IsSteady g) (cond b (x ∷ filter (stays_in g) xs) (filter (stays_in g) xs))) (sym holds) (All-cons (IsSteady g) x (filter (stays_in g) xs) steady rest)
       | inr fails ↦ subst (λ (b : Bool). All (IsSteady g) (cond b (x ∷ filter (stays_in g) xs) (filter (stays_in g) xs))) (sym fails) rest
     ]
@@ -121,31 +119,119 @@ module _ (after : State) (h : Changed after) where
         ]
   ]
 
-  pub quiet_settled : (t : State) → IsSettled after t → Quiet t
-  quiet_settled t same =
+  pub quiet_settled : (raised : List (ℕ × ℕ)) (t : State) → IsSettled after raised t → Quiet t
+  quiet_settled raised t same =
       let files : (P : Files → Type 0) → P g → P t.files = λ P. subst P (sym same.files) in
+      let came = (die_all (after.files, raised) (dying after)).1 in
       record {
         waiters = same.waiters ∙ h.waiters;
         now = subst (λ (k : ℕ). k ≤ last_moment) (sym same.now) h.now;
         placed = files (λ u. (d : ℕ) → is_backed u (place_of u d) ≡ true) left.placed;
         named = files (λ u. (d : ℕ) → is_among (named_in_tables u.tables) d ≡ is_live u d) (λ d. ap (λ (ts : List (Option Table)). is_among (named_in_tables ts) d) left.tables ∙ sym (live_after d));
-        watches = all_from_kept t.files t.watches (subst (λ (xs : List Watch). All (IsSteady t.files) xs) (sym same.watches)
-            (files (λ u. All (IsSteady u) (filter (stays_in u) (kept_all after.watches))) (steady_left f g (kept_all after.watches) left.shows (all_to_kept f after.watches h.watches))));
+        watches = all_from_kept t.files t t.watches (subst (λ (xs : List Watch). All (IsSteady t.files) xs) (sym same.watches)
+            (files (λ u. All (IsSteady u) (map (freshened came) (filter (stays_in u) (kept_all after after.watches))))
+            (all_fresh g came _ (steady_left f g (kept_all after after.watches) left.shows (all_to_kept f after after.watches h.watches)))));
+        seen = same.seen;
       }
 
-reported_one : (s : State) (ks : List ℕ) (x : Watch) → kept_of (reported s ks x) ≡ reported_in s.n ks (kept_of x)
+seen_joined : (fresh brought : Bool) (x : Watch) → record x { seen = seen_where (fresh || brought) } ≡ cond brought (record x { seen = None }) (record x { seen = seen_where fresh })
+seen_joined true true x = refl
+seen_joined true false x = refl
+seen_joined false true x = refl
+seen_joined false false x = refl
+
+-- the registrations after arrivals in a state of other files
+module _ (after : State) (g : Files) (ws : List Watch) (raised : List (ℕ × ℕ)) (shows : (d : ℕ) → is_live g d ≡ true → can_be_watched (object_of after.files d) ≡ true → can_be_watched (object_of g d) ≡ true) where
+  abbrev b : State
+  b = record after { files = g; watches = ws }
+
+  abbrev a : State
+  a = arrived b raised
+
+  kept_one : (x : Watch) → IsSteady after.files x → HasSeen x.seen (counts_of after x.target) → stays_in g x ≡ true → kept_of a x ≡ freshened raised (kept_of after x)
+  kept_one x steady seen stays =
+      let lives = (both_true (is_live g x.instance) (is_live g x.target) stays).1 in
+      let fresh = fresh_arrived b raised x.target lives (shows x.target lives steady.target_shows) x refl seen in
+      ap (λ (t : Bool). let y : Watch = record x { seen = seen_where t; from = 0 } in y) fresh ∙ seen_joined (is_fresh after x) (brings x.mask (raised_of raised x.target)) (record x { from = 0 })
+
+  settled_kept : (xs : List Watch) → All (IsSteady after.files) xs → All (λ x. HasSeen x.seen (counts_of after x.target)) xs → kept_all a (filter (stays_in g) xs) ≡ map (freshened raised) (filter (stays_in g) (kept_all after xs))
+  settled_kept [] steady seen = refl
+  settled_kept (x ∷ xs) steady seen =
+      let rest = settled_kept xs (λ j c l. steady (suc j) c (omega arith)) (λ j c l. seen (suc j) c (omega arith)) in
+      let one = kept_one x (steady 0 x (omega arith)) (seen 0 x (omega arith)) in
+      with_one (stays_in g x) one rest where
+        with_one : (t : Bool) → (t ≡ true → kept_of a x ≡ freshened raised (kept_of after x)) → kept_all a (filter (stays_in g) xs) ≡ map (freshened raised) (filter (stays_in g) (kept_all after xs))
+            → kept_all a (cond t (x ∷ filter (stays_in g) xs) (filter (stays_in g) xs)) ≡ map (freshened raised) (cond t (kept_of after x ∷ filter (stays_in g) (kept_all after xs)) (filter (stays_in g) (kept_all after xs)))
+        with_one true one rest = λ i. one refl i ∷ rest i
+        with_one false one rest = rest
+
+  settled_seen : (xs : List Watch) → All (IsSteady after.files) xs → All (λ x. HasSeen x.seen (counts_of after x.target)) xs → All (λ x. HasSeen x.seen (counts_of a x.target)) (filter (stays_in g) xs)
+  settled_seen [] steady seen = λ k d lt. absurd (omega arith)
+  settled_seen (x ∷ xs) steady seen =
+      let rest = settled_seen xs (λ j c l. steady (suc j) c (omega arith)) (λ j c l. seen (suc j) c (omega arith)) in
+      let first_steady = steady 0 x (omega arith) in
+      let first_seen = seen 0 x (omega arith) in
+      with_one (stays_in g x) refl first_steady first_seen rest where
+        with_one : (t : Bool) → stays_in g x ≡ t → IsSteady after.files x → HasSeen x.seen (counts_of after x.target) → All (λ y. HasSeen y.seen (counts_of a y.target)) (filter (stays_in g) xs)
+            → All (λ y. HasSeen y.seen (counts_of a y.target)) (cond t (x ∷ filter (stays_in g) xs) (filter (stays_in g) xs))
+        with_one true stays one sees rest =
+            let lives = (both_true (is_live g x.instance) (is_live g x.target) stays).1 in
+            All-cons (λ y. HasSeen y.seen (counts_of a y.target)) x (filter (stays_in g) xs) (seen_arrived b raised x.target lives (shows x.target lives one.target_shows) x refl sees) rest
+        with_one false stays one sees rest = rest
+
+-- neither marks nor `from` show in what was seen
+seen_came : (earlier : List ℕ) (a : State) (xs : List Watch) → All (λ x. HasSeen x.seen (counts_of a x.target)) xs → All (λ x. HasSeen x.seen (counts_of a x.target)) (map (came earlier a) xs)
+seen_came earlier a xs h = All-map (λ x. HasSeen x.seen (counts_of a x.target)) (came earlier a) xs (λ k d lt. one (get_or xs k d) (h k d lt)) where
+  one : (x : Watch) → HasSeen x.seen (counts_of a x.target) → HasSeen (came earlier a x).seen (counts_of a (came earlier a x).target)
+  one x h = elim (not (is_among earlier x.number) && is_reportable a x) as (λ b. HasSeen (cond b (record x { from = a.n }) x).seen (counts_of a (cond b (record x { from = a.n }) x).target)) [ true ↦ h | false ↦ h ]
+
+-- the settling of a change
+pub settle_changed : (before after : State) (raised : List (ℕ × ℕ)) → Changed after → IsSettled after raised (settle before after raised)
+settle_changed before after raised h =
+    let g = (die_all (after.files, raised) (dying after)).0 in
+    let buried_now = buried after raised in
+    let same : g ≡ after_all after.files (dying after) = raised_before after.files raised (dying after) in
+    let gone = all_buried after.files (dying after) (dying_distinct after) (dying_placed after) h.placed in
+    let shows = subst (λ (u : Files). (d : ℕ) → is_live u d ≡ true → can_be_watched (object_of after.files d) ≡ true → can_be_watched (object_of u d) ≡ true) (sym same) gone.shows in
+    let left = filter (is_kept (record after { files = g })) after.watches in
+    record {
+      n = refl;
+      now = refl;
+      files = same;
+      watches = kept_came (reportable_numbers before) (arrived buried_now.0 buried_now.1) left ∙ settled_kept after g left buried_now.1 shows after.watches h.watches h.seen;
+      added = refl;
+      waiters = ap (λ (ws : List Waiter). marked_first (with_due (with_from before (arrived buried_now.0 buried_now.1))) [] (map (marked_if_due after.now) ws)) h.waiters ∙ sym h.waiters;
+      seen = seen_came (reportable_numbers before) (arrived buried_now.0 buried_now.1) left (settled_seen after g left buried_now.1 shows after.watches h.watches h.seen);
+    }
+
+-- a report, by registrations as they are kept
+no_news : (wanted : ℕ) (c : Counts) → arrived_since wanted c c ≡ false
+no_news wanted c =
+    (λ i. has_bit wanted IN && itself c.of_in i || has_bit wanted OUT && itself c.of_out i || has_bit wanted ERR && itself c.of_err i || has_bit wanted HUP && itself c.of_hup i || has_bit wanted RDHUP && itself c.of_rdhup i)
+    ∙ none (has_bit wanted IN) (has_bit wanted OUT) (has_bit wanted ERR) (has_bit wanted HUP) (has_bit wanted RDHUP) where
+      itself : (k : ℕ) → nat_lt k k ≡ false
+      itself k = grind (arith, nat_tests)
+
+      none : (p q r s t : Bool) → (p && false || q && false || r && false || s && false || t && false) ≡ false
+      none p q r s t = λ i. never p i || never q i || never r i || never s i || never t i where
+        never : (b : Bool) → (b && false) ≡ false
+        never true = refl
+        never false = refl
+
+reported_one : (s : State) (ks : List ℕ) (x : Watch) → kept_of s (reported s ks x) ≡ reported_in s.n ks (kept_of s x)
 reported_one s ks x =
-    elim (is_among ks x.number) as (λ b. kept_of (cond b (record x { seen = Some (counts_of s x.target); rep = s.n; from = s.n; armed = x.armed && not (has_bit x.mask ONESHOT) }) x) ≡ cond b (record (kept_of x) { rep = s.n; armed = x.armed && not (has_bit x.mask ONESHOT) }) (kept_of x)) [
-      | true ↦ refl
+    elim (is_among ks x.number) as (λ b. kept_of s (cond b (record x { seen = Some (counts_of s x.target); rep = s.n; from = s.n; armed = x.armed && not (has_bit x.mask ONESHOT) }) x)
+    ≡ cond b (record (kept_of s x) { seen = Some no_counts; rep = s.n; armed = x.armed && not (has_bit x.mask ONESHOT) }) (kept_of s x)) [
+      | true ↦ ap (λ (t : Bool). let y : Watch = record x { seen = seen_where t; rep = s.n; from = 0; armed = x.armed && not (has_bit x.mask ONESHOT) } in y) (no_news (asked x.mask every_shown_bit) (counts_of s x.target))
       | false ↦ refl
     ]
 
-reported_all : (s : State) (ks : List ℕ) (xs : List Watch) → kept_all (map (reported s ks) xs) ≡ map (reported_in s.n ks) (kept_all xs)
+reported_all : (s : State) (ks : List ℕ) (xs : List Watch) → kept_all s (map (reported s ks) xs) ≡ map (reported_in s.n ks) (kept_all s xs)
 reported_all s ks [] = refl
 reported_all s ks (x ∷ xs) = let one = reported_one s ks x in let rest = reported_all s ks xs in λ i. one i ∷ rest i
 
 -- what a report does to registrations, as they are kept
-pub reported_kept : (s : State) (ks : List ℕ) → kept_all (map (reported s ks) s.watches) ≡ map (reported_in s.n ks) (kept_all s.watches)
+pub reported_kept : (s : State) (ks : List ℕ) → kept_all s (map (reported s ks) s.watches) ≡ map (reported_in s.n ks) (kept_all s s.watches)
 reported_kept s ks = reported_all s ks s.watches
 
 -- Which descriptions die, where nobody waits: those that live and that tables do not name.
@@ -196,12 +282,29 @@ all_stay f (x ∷ xs) h =
     let rest = all_stay f xs (λ k d lt. h (suc k) d (omega arith)) in
     ap (λ (b : Bool). cond b (x ∷ filter (stays_in f) xs) (filter (stays_in f) xs)) keeps ∙ ap (λ (ys : List Watch). x ∷ ys) rest
 
-pub settled_quiet : (s : State) → Quiet s → IsSettled s s
+-- what is raised nowhere freshens nothing
+fresh_none : (xs : List Watch) → map (freshened []) xs ≡ xs
+fresh_none [] = refl
+fresh_none (x ∷ xs) = λ i. nothing_new x i ∷ fresh_none xs i where
+  never : (p : Bool) → (p && false) ≡ false
+  never true = refl
+  never false = refl
+
+  nothing_new : (y : Watch) → freshened [] y ≡ y
+  nothing_new y = ap (λ (b : Bool). cond b (record y { seen = None }) y) (none (asked y.mask every_shown_bit)) where
+    none : (w : ℕ) → holds_wanted w 0 ≡ false
+    none w = λ i. never (has_bit w IN) i || never (has_bit w OUT) i || never (has_bit w ERR) i || never (has_bit w HUP) i || never (has_bit w RDHUP) i
+
+pub settled_quiet : (s : State) → Quiet s → IsSettled s [] s
 settled_quiet s h = record {
   n = refl;
   now = refl;
   files = ap (λ (xs : List (ℕ × Place)). (die_all (s.files, []) xs).0) (sym (none_dying s h));
-  watches = sym (all_stay s.files (kept_all s.watches) (all_to_kept s.files s.watches h.watches));
+  watches =
+      sym (all_stay s.files (kept_all s s.watches) (all_to_kept s.files s s.watches h.watches))
+      ∙ (sym (fresh_none (filter (stays_in s.files) (kept_all s s.watches)))
+      ∙ ap (λ (xs : List (ℕ × Place)). map (freshened (die_all (s.files, []) xs).1) (filter (stays_in s.files) (kept_all s s.watches))) (sym (none_dying s h)));
   added = refl;
   waiters = refl;
+  seen = h.seen;
 }

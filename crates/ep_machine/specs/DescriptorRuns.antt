@@ -3,7 +3,7 @@ use Rattle.std.specs.Prelude.{List, [], false, negsuc, pos, true, ℕ, ◌∷◌
 use Rattle.ep_base.specs.declared.answer.Answer.TheVariants.{Bytes, Done, Num, Refused}
 use Rattle.ep_base.specs.declared.call.Call.TheVariants.{Exec, Exit, Fork, Pipe as PipeCall}
 use Rattle.ep_base.specs.declared.errno.Errno.{Errno}
-use Rattle.ep_base.specs.declared.errno.Errno.TheVariants.{Eagain, Ebadf, Emfile, Enfile, Epipe, Esrch}
+use Rattle.ep_base.specs.declared.errno.Errno.TheVariants.{Ebadf, Emfile, Enfile, Epipe, Esrch}
 use Rattle.ep_base.specs.declared.record.Record.{Record}
 use Rattle.ep_machine.specs.Records.{add_call, answered, by_process, close_call, counter_call, create_call, del_call, dup2_call, dup_call, pair_call, pipe_call, read_call, refused, report, reporting, two, wait_call, write_call}
 

@@ -30,6 +30,7 @@ pub mod TimerRuns
 pub mod SocketRuns
 pub mod DescriptorRuns
 pub mod RegistrationRuns
+pub mod EdgeRuns
 pub mod Sound
 pub mod Quiet
 pub mod Laws

@@ -1,5 +1,5 @@
 -- The six kinds of object. What an instance shows is judged in Readiness.
-use Rattle.std.specs.Prelude.{Bool, List, [], false, length, nat_lt, not, true, ℕ, ◌||◌, ◌∷◌}
+use Rattle.std.specs.Prelude.{Bool, List, [], false, length, not, true, ℕ, ◌∷◌}
 use Rattle.ep_base.specs.declared.answer.Answer.TheVariants.{Bytes, Done, Num}
 use Rattle.ep_base.specs.declared.call.Call.{Call}
 use Rattle.ep_base.specs.declared.call.Call.TheVariants.{GetTime, Read, SetTime, Shutdown, Write}

@@ -2,7 +2,7 @@
 use Rattle.std.specs.Prelude.{Bool, List, [], false, pos, ℕ, ℤ}
 use Rattle.ep_base.specs.Limits.{Limits}
 use Rattle.ep_base.specs.declared.answer.Answer.{Answer}
-use Rattle.ep_base.specs.declared.answer.Answer.TheVariants.{Done, Events, Refused, Time, Two}
+use Rattle.ep_base.specs.declared.answer.Answer.TheVariants.{Done, Events, Refused, Two}
 use Rattle.ep_base.specs.declared.answer.Report.{Report}
 use Rattle.ep_base.specs.declared.call.Call.{Call}
 use Rattle.ep_base.specs.declared.call.Call.TheVariants.{Close, Dup, Dup2, EpollCreate, EpollCtl, EpollWait, EventFd, GetTime, Pipe as PipeCall, Plain, Read, SetTime, Shutdown, SocketPair, TimerFd, Write}

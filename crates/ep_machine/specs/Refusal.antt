@@ -7,7 +7,7 @@ use Rattle.ep_base.specs.declared.call.Event.{Event}
 use Rattle.ep_base.specs.declared.call.Event.TheVariants.{Call as CallOf, Tick}
 use Rattle.ep_base.specs.declared.errno.Errno.{Errno}
 use Rattle.ep_base.specs.declared.errno.Errno.TheVariants.{Eagain, Ebadf, Ebusy, Eexist, Einval, Eloop, Emfile, Enoent, Enospc, Eperm, Esrch}
-use Rattle.ep_machine.specs.Bits.{ET, EXCLUSIVE, has_bit}
+use Rattle.ep_machine.specs.Bits.{EXCLUSIVE, has_bit}
 use Rattle.ep_machine.specs.Files.{named_by, names_nothing, numbers_of, object_under, side_under, table_of}
 use Rattle.ep_machine.specs.Lists.{numbered}
 use Rattle.ep_machine.specs.Objects.{is_instance, is_plain, object_refusals}
@@ -22,10 +22,6 @@ is_zero (pos zero) = true
 is_zero (pos (suc k)) = false
 is_zero (negsuc k) = false
 
--- What the calls of a later version will accept: until then it is refused.
-abbrev pub is_later_mask : ℕ → Bool
-is_later_mask mask = has_bit mask ET
-
 abbrev pub ctl_refusals : Limits → State → ℕ → ℤ → ℤ → ℤ → ℕ → List (Bool × Errno)
 ctl_refusals limits s p epfd op fd mask =
     let e = named_by s.files p epfd in
@@ -39,7 +35,6 @@ ctl_refusals limits s p epfd op fd mask =
     ∷ (is_instance target, Einval)
     ∷ (not (is_add op || is_del op || is_mod op), Einval)
     ∷ (not (is_del op) && has_bit mask EXCLUSIVE, Einval)
-    ∷ (not (is_del op) && is_later_mask mask, Einval)
     ∷ (not (is_add op) && not there, Enoent)
     ∷ (is_add op && there, Eexist)
     ∷ (is_add op && is_instance target && not (is_legal ((e, d) ∷ links s)), Eloop)

@@ -6,6 +6,7 @@ ghost use Rattle.ep_base.specs.declared.answer.Answer.TheVariants.{Done, Num, Re
 ghost use Rattle.ep_base.specs.declared.errno.Errno.TheVariants.{Eagain, Ebadf, Eexist, Einval, Emfile, Enoent, Enfile, Enospc, Enotsock, Eperm, Epipe, Esrch};
 ghost use Rattle.ep_machine.specs.CounterRuns.{greatest_run, semaphore_run};
 ghost use Rattle.ep_machine.specs.DescriptorRuns.{closed_reader_run, closed_socket_run, exec_run, full_tables_run, numbers_run};
+ghost use Rattle.ep_machine.specs.EdgeRuns.{armed_again_run, drained_run, edge_run, modified_run, periodic_run, shut_again_run};
 ghost use Rattle.ep_machine.specs.FairRun.{both_readable, first_told, second_told};
 ghost use Rattle.ep_machine.specs.FullPipeRun.{full_pipe_run};
 ghost use Rattle.ep_machine.specs.LevelRun.{level_run};
@@ -75,8 +76,8 @@ pub fn ctl()
 
 /// EINVAL and EEXIST of epoll_ctl(2), by its operation, its mask and its key.
 pub fn masks()
-    ensures run { is_run default_limits (masks_run (Refused Einval)) ≡ true }
-    ensures no_run { is_run default_limits (masks_run Done) ≡ false }
+    ensures run { is_run default_limits (masks_run Done) ≡ true }
+    ensures no_run { is_run default_limits (masks_run (Refused Einval)) ≡ false }
 {}
 
 /// ENOSPC of epoll_ctl(2).
@@ -197,4 +198,40 @@ pub fn one_shot()
 pub fn key()
     ensures run { is_run default_limits (key_run Enoent) ≡ true }
     ensures no_run { is_run default_limits (key_run Eexist) ≡ false }
+{}
+
+/// EPOLLET of epoll(7): an arrival is reported once, whatever goes on being readable.
+pub fn edge()
+    ensures run { is_run default_limits (edge_run [] []) ≡ true }
+    ensures no_run { is_run default_limits (edge_run (report 1 3 ∷ []) (1 ∷ [])) ≡ false }
+{}
+
+/// timerfd_create(2): a periodic timer becomes readable again only after a read.
+pub fn periodic()
+    ensures run { is_run default_limits (periodic_run [] []) ≡ true }
+    ensures no_run { is_run default_limits (periodic_run (report 1 9 ∷ []) (1 ∷ [])) ≡ false }
+{}
+
+/// EPOLL_CTL_MOD of epoll_ctl(2) looks at the target anew.
+pub fn modified()
+    ensures run { is_run default_limits (modified_run (report 1 5 ∷ []) (1 ∷ [])) ≡ true }
+    ensures no_run { is_run default_limits (modified_run [] []) ≡ false }
+{}
+
+/// shutdown(2) of an end that is shut.
+pub fn shut_again()
+    ensures run { is_run default_limits (shut_again_run [] []) ≡ true }
+    ensures no_run { is_run default_limits (shut_again_run (report 8193 3 ∷ []) (1 ∷ [])) ≡ false }
+{}
+
+/// pipe(7): the read that makes room for 4,096 bytes makes the other end writable.
+pub fn drained()
+    ensures run { is_run (small_limits 16 16 8) (drained_run [] []) ≡ true }
+    ensures no_run { is_run (small_limits 16 16 8) (drained_run (report 4 4 ∷ []) (1 ∷ [])) ≡ false }
+{}
+
+/// timerfd_settime(2) to a moment that has passed.
+pub fn armed_again()
+    ensures run { is_run default_limits (armed_again_run (report 1 3 ∷ []) (1 ∷ [])) ≡ true }
+    ensures no_run { is_run default_limits (armed_again_run [] []) ≡ false }
 {}

@@ -5,24 +5,28 @@ use Rattle.std.proofs.lemmas.Bool.Decides.{nat_tests}
 use Rattle.std.proofs.lemmas.List.{append-nil}
 use Rattle.std.proofs.lemmas.List.Elements.{All-head, All-tail}
 use Rattle.ep_base.specs.declared.ids.DescId.{DescId}
-use Rattle.ep_machine.specs.Deaths.{dying, named_in_tables}
+use Rattle.ep_machine.specs.Counts.{brings}
+use Rattle.ep_machine.specs.Deaths.{die_all, dying, named_in_tables}
 use Rattle.ep_machine.specs.Files.{Files, Place, is_live, place_of}
 use Rattle.ep_machine.specs.Lists.{are_distinct, is_among}
-use Rattle.ep_machine.specs.Quiet.{Changed, IsSettled, is_backed, stays_in}
+use Rattle.ep_machine.specs.Quiet.{Changed, IsSettled, freshened, is_backed, kept_all, stays_in}
+use Rattle.ep_machine.specs.Spread.{raised_of}
 use Rattle.ep_machine.specs.State.{State, Watch}
+use Rattle.ep_machine.proofs.Arriving.{deaths_raise, fresh_filter, fresh_parts}
+use Rattle.ep_machine.proofs.Survivors.{Apart, same_raised}
 use Rattle.ep_machine.proofs.Burying.{Buried, all_buried}
 use Rattle.ep_machine.proofs.Living.{dying_distinct, dying_placed}
 use Rattle.ep_machine.proofs.Dying.{ArePlaced, after_all, numbers, same_dead}
 use Rattle.ep_machine.proofs.Settling.{dying_test}
 use Rattle.ep_interest.specs.declared.entry.Entry.{Entry}
 use Rattle.ep_plain.specs.Burial.{Burial, is_untouched}
-use Rattle.ep_plain.specs.Moves.{Parts, StandFor, Unheld}
+use Rattle.ep_plain.specs.Moves.{Parts, StandFor, StandsRaised, Unheld}
 use Rattle.ep_plain.specs.Stands.{AreLinked, IsLinked, number_at, watch_at}
 use Rattle.ep_plain.proofs.Keys.{under_key}
 use Rattle.ep_table.specs.Value.{Sound, holds_of}
 
 module _ (mid new : Parts) (burial : Burial mid.tables mid.interest new.tables new.interest) (clock : new.now ≡ mid.now) (linked : AreLinked mid.tables mid.interest) (unheld : Unheld mid.tables)
-    (after t : State) (changed : Changed after) (settled : IsSettled after t) (stands : StandFor mid after) where
+    (after t : State) (raised : List (ℕ × ℕ)) (changed : Changed after) (settled : IsSettled after raised t) (stands : StandsRaised mid raised after) where
   abbrev dead : List (ℕ × Place)
   dead = burial.buries.dead
 
@@ -89,13 +93,64 @@ module _ (mid new : Parts) (burial : Burial mid.tables mid.interest new.tables n
       let rest = stay_all xs (All-tail (IsLinked mid.tables.keys) x xs h) in
       λ i. cond (one i) (watch_at mid.tables.keys x ∷ rest i) (rest i)
 
+  apart_mid : Apart mid.tables.files
+  apart_mid = sound.apart
+
+  -- what the deaths of the machine raise, and those of the kernel
+  abbrev of_machine : List (ℕ × ℕ)
+  of_machine = (die_all (after.files, []) (dying after)).1
+
+  abbrev of_kernel : List (ℕ × ℕ)
+  of_kernel = (die_all (mid.tables.files, []) dead).1
+
+  placed_dying : ArePlaced mid.tables.files (dying after)
+  placed_dying = subst (λ (f : Files). ArePlaced f (dying after)) stands.files (dying_placed after)
+
+  live_place : (f : Files) (d : ℕ) → is_live f d ≡ true → (p : Place) × (place_of f d ≡ Some p)
+  live_place f d h = at (place_of f d) h where
+    at : (o : Option Place) → is_some o ≡ true → (p : Place) × (o ≡ Some p)
+    at None e = absurd (false≢true e)
+    at (Some p) e = (p, refl)
+
+  -- at what lives on both are the same
+  raised_same : (d : ℕ) → is_live t.files d ≡ true → raised_of of_machine d ≡ raised_of of_kernel d
+  raised_same d lives =
+      let p = live_place t.files d lives in
+      let here : place_of (after_all mid.tables.files (dying after)) d ≡ Some p.0 = ap (λ (f : Files). place_of (after_all f (dying after)) d) (sym stands.files) ∙ (ap (λ (f : Files). place_of f d) (sym settled.files) ∙ p.1) in
+      ap (λ (f : Files). raised_of (die_all (f, []) (dying after)).1 d) stands.files
+      ∙ same_raised mid.tables.files (dying after) dead (dying_distinct after) distinct placed_dying burial.buries.placed apart_mid same_among d p.0 here
+
+  both_true : (a b : Bool) → (a && b) ≡ true → (a ≡ true) × (b ≡ true)
+  both_true true b h = (refl, h)
+  both_true false b h = absurd (false≢true h)
+
+  fresh_one : (x : Watch) → stays_in t.files x ≡ true → freshened of_machine x ≡ freshened of_kernel x
+  fresh_one x stays =
+      let lives = (both_true (is_live t.files x.instance) (is_live t.files x.target) stays).1 in
+      ap (λ (n : ℕ). cond (brings x.mask n) (record x { seen = None }) x) (raised_same x.target lives)
+
+  fresh_left : (ws : List Watch) → map (freshened of_machine) (filter (stays_in t.files) ws) ≡ map (freshened of_kernel) (filter (stays_in t.files) ws)
+  fresh_left [] = refl
+  fresh_left (w ∷ ws) = with_one (stays_in t.files w) refl (fresh_left ws) where
+    with_one : (b : Bool) → stays_in t.files w ≡ b → map (freshened of_machine) (filter (stays_in t.files) ws) ≡ map (freshened of_kernel) (filter (stays_in t.files) ws)
+        → map (freshened of_machine) (cond b (w ∷ filter (stays_in t.files) ws) (filter (stays_in t.files) ws)) ≡ map (freshened of_kernel) (cond b (w ∷ filter (stays_in t.files) ws) (filter (stays_in t.files) ws))
+    with_one true e rest = λ i. fresh_one w e i ∷ rest i
+    with_one false e rest = rest
+
   pub buried_stands : StandFor new t
-  buried_stands = record {
-    now = settled.now ∙ (stands.now ∙ sym clock);
-    files = files_left ∙ sym burial.buries.files;
-    watches =
-        settled.watches
-        ∙ (ap (λ (ws : List Watch). filter (stays_in t.files) ws) stands.watches
-        ∙ (stay_all mid.interest.entries linked ∙ sym burial.buries.watches));
-    added = settled.added ∙ (stands.added ∙ sym burial.buries.added);
-  }
+  buried_stands =
+      let kept = kept_all after after.watches in
+      let ws = map (watch_at mid.tables.keys) mid.interest.entries in
+      record {
+        now = settled.now ∙ (stands.now ∙ sym clock);
+        files = files_left ∙ sym burial.buries.files;
+        watches =
+            settled.watches
+            ∙ (ap (λ (rs : List (ℕ × ℕ)). map (freshened rs) (filter (stays_in t.files) kept)) (deaths_raise after.files raised (dying after))
+            ∙ (fresh_parts raised of_machine (filter (stays_in t.files) kept)
+            ∙ (ap (map (freshened of_machine)) (sym (fresh_filter t.files raised kept))
+            ∙ (ap (λ (us : List Watch). map (freshened of_machine) (filter (stays_in t.files) us)) stands.watches
+            ∙ (fresh_left ws
+            ∙ (ap (map (freshened of_kernel)) (stay_all mid.interest.entries linked) ∙ sym burial.buries.watches))))));
+        added = settled.added ∙ (stands.added ∙ sym burial.buries.added);
+      }

@@ -1,21 +1,34 @@
 -- Descriptions die one by one, and the registrations that go with each.
-use Rattle.std.proofs.Common.{◌≡◌, ◌∙◌, ◌==◌, ◌&&◌, ◌||◌, ◌++◌, ℕ, zero, suc, All, Bool, true, false, IsSome, List, [], ◌∷◌, None, Option, Some, ap, append_assoc, arith, cond, filter, get_or, inl, inr, length, map, not, refl, set, slice_index_or, subst, sym, unwrap_or}
+use Rattle.std.proofs.Common.{◌≡◌, ◌≢◌, ◌∙◌, ◌==◌, ◌&&◌, ◌||◌, ◌++◌, ℕ, zero, suc, All, Bool, true, false, IsSome, List, [], ◌∷◌, None, Option, Some, ap, append_assoc, arith, cond, filter, get_or, inl, inr, length, map, not, refl, set, slice_index_or, subst, sym, unwrap_or}
 use Rattle.std.proofs.lemmas.Bool.{cases_Bool, false≢true}
 use Rattle.std.proofs.lemmas.Bool.Decides.{nat_tests}
 use Rattle.std.proofs.lemmas.List.{length-set, map-append}
 use Rattle.std.proofs.lemmas.Option.{none-some}
 use Rattle.std.proofs.lemmas.List.Elements.{All-cons, All-head, All-nil, All-tail}
 use Rattle.ep_base.specs.declared.ids.DescId.{DescId}
-use Rattle.ep_machine.specs.Deaths.{die}
-use Rattle.ep_machine.specs.Files.{Files, Place, place_of}
+use Rattle.ep_base.specs.declared.mask.Mask.{Mask}
+use Rattle.ep_base.specs.declared.object.End.{End}
+use Rattle.ep_base.specs.declared.object.Raised.{Raised}
+use Rattle.ep_machine.specs.Bits.{at_end, when}
+use Rattle.ep_machine.specs.Counts.{brings}
+use Rattle.ep_machine.specs.Deaths.{die, die_all}
+use Rattle.ep_machine.specs.Files.{Files, Place, object_at, place_of, raised_at}
 use Rattle.ep_machine.specs.Lists.{is_among}
+use Rattle.ep_machine.specs.Objects.{close_end, plain}
+use Rattle.ep_machine.specs.Quiet.{freshened}
+use Rattle.ep_machine.specs.Spread.{raised_of}
 use Rattle.ep_machine.specs.State.{Watch}
-use Rattle.ep_machine.proofs.Dying.{ArePlaced, after_all, after_first, numbers, raised_before}
-use Rattle.ep_interest.specs.Registrations.{Registrations, is_apart_from}
+use Rattle.ep_machine.proofs.Arriving.{fresh_parts, raised_live, raised_place}
+use Rattle.ep_machine.proofs.Dying.{ArePlaced, after_all, after_first, get_place, numbers, raised_before}
+use Rattle.ep_interest.specs.Registrations.{Registrations, is_apart_from, is_on}
 use Rattle.ep_interest.specs.declared.entry.Entry.{Entry}
 use Rattle.ep_plain.specs.Burial.{Buries, is_untouched}
+use Rattle.ep_machine.proofs.Survivors.{Apart}
+use Rattle.ep_plain.specs.Raising.{raised_there}
 use Rattle.ep_plain.specs.Stands.{AreLinked, IsLinked, number_at, watch_at}
-use Rattle.ep_plain.proofs.Keys.{same_keys}
+use Rattle.ep_plain.proofs.Across.{a_place, elsewhere, link_fresh, watch_fresh, zero_brings}
+use Rattle.ep_plain.proofs.Keys.{same_keys, under_key}
+use Rattle.ep_table.specs.Closing.{opposite}
 use Rattle.ep_table.specs.Closing.{Takes}
 use Rattle.ep_table.specs.Value.{Seen, Sound, number_under}
 use Rattle.ep_table.specs.declared.words.Dead.{Dead}
@@ -158,6 +171,125 @@ module _ (v w : Seen) (dead : Dead) (takes : Takes v w dead) (sound : Sound v) w
         | inr gone ↦ subst (λ (b : Bool). All (IsLinked w.keys) (cond b (x ∷ filter (is_apart_from dead.desc) xs) (filter (is_apart_from dead.desc) xs))) (sym gone) rest
       ]
 
+-- what is raised nowhere freshens nothing
+fresh_none : (ws : List Watch) → map (freshened []) ws ≡ ws
+fresh_none [] = refl
+fresh_none (w ∷ ws) = λ i. cond (zero_brings w.mask i) (record w { seen = None }) w ∷ fresh_none ws i
+
+-- what goes has nothing to do with what is fresh
+leaves_fresh : (d : ℕ) (a : Bool) (w : Watch) → leaves d (cond a (record w { seen = None }) w) ≡ leaves d w
+leaves_fresh d true w = refl
+leaves_fresh d false w = refl
+
+fresh_leaves : (d : ℕ) (rs : List (ℕ × ℕ)) (ws : List Watch) → filter (leaves d) (map (freshened rs) ws) ≡ map (freshened rs) (filter (leaves d) ws)
+fresh_leaves d rs [] = refl
+fresh_leaves d rs (w ∷ ws) =
+    let rest = fresh_leaves d rs ws in
+    (λ i. cond (leaves_fresh d (brings w.mask (raised_of rs w.target)) w i) (freshened rs w ∷ rest i) (rest i))
+    ∙ elim (leaves d w) as (λ b. cond b (freshened rs w ∷ map (freshened rs) (filter (leaves d) ws)) (map (freshened rs) (filter (leaves d) ws)) ≡ map (freshened rs) (cond b (w ∷ filter (leaves d) ws) (filter (leaves d) ws))) [
+      | true ↦ refl
+      | false ↦ refl
+    ]
+
+-- what one death more raises
+raised_more : (f : Files) (rs : List (ℕ × ℕ)) (xs : List (ℕ × Place)) (x : ℕ × Place) → (die_all (f, rs) (xs ++ x ∷ [])).1 ≡ (die_all (f, rs) xs).1 ++ (die ((die_all (f, rs) xs).0, []) x).1
+raised_more f rs [] x = refl
+raised_more f rs (y ∷ ys) x = raised_more (die (f, rs) y).0 (die (f, rs) y).1 ys x
+
+-- what is there after some deaths was there before
+get_before : (ds : List (Option Place)) (k d : ℕ) (p : Place) → get_or (set ds k None) d None ≡ Some p → get_or ds d None ≡ Some p
+get_before [] k d p h = h
+get_before (q ∷ ds) zero zero p h = absurd (none-some p h)
+get_before (q ∷ ds) zero (suc d) p h = h
+get_before (q ∷ ds) (suc k) zero p h = h
+get_before (q ∷ ds) (suc k) (suc d) p h = get_before ds k d p h
+
+pub placed_before : (s : Files) (xs : List (ℕ × Place)) (d : ℕ) (p : Place) → place_of (after_all s xs) d ≡ Some p → place_of s d ≡ Some p
+placed_before s [] d p h = h
+placed_before s (x ∷ xs) d p h = get_before s.descriptions x.0 d p (placed_before (after_all s (x ∷ [])) xs d p (ap (λ (f : Files). place_of f d) (sym (after_first s x xs)) ∙ h))
+
+-- What one death raises, at each registration that it leaves.
+module _ (v w : Seen) (dead : Dead) (takes : Takes v w dead) (sound : Sound v) (m : Mask) (m_is : m.0 ≡ at_end dead.raised (opposite dead.end)) where
+  abbrev x0 : ℕ × Place
+  x0 = (takes.number, takes.place)
+
+  abbrev k : ℕ
+  k = takes.place.object
+
+  abbrev closed : Raised
+  closed = (close_end (unwrap_or (slice_index_or v.files.objects k None) plain) takes.place.side).1
+
+  closed_is : dead.raised ≡ closed
+  closed_is = takes.raised_is ∙ ap (λ (o : Option Place). (close_end (unwrap_or (object_at v.files o) plain) takes.place.side).1) takes.place_is
+
+  abbrev rest : Files
+  rest = record v.files { descriptions = set v.files.descriptions takes.number None }
+
+  key_before : (j : DescId) (d : ℕ) → slice_index_or w.keys j.0 None ≡ Some d → slice_index_or v.keys j.0 None ≡ Some d
+  key_before j d h = keys_before v.keys dead.desc.0 j.0 d (ap (λ (ks : List (Option ℕ)). get_or ks j.0 None) (sym takes.keys) ∙ h) where
+    keys_before : (ks : List (Option ℕ)) (i n d : ℕ) → get_or (set ks i None) n None ≡ Some d → get_or ks n None ≡ Some d
+    keys_before [] i n d h = h
+    keys_before (q ∷ ks) zero zero d h = absurd (none-some d h)
+    keys_before (q ∷ ks) zero (suc n) d h = h
+    keys_before (q ∷ ks) (suc i) zero d h = h
+    keys_before (q ∷ ks) (suc i) (suc n) d h = keys_before ks i n d h
+
+  one_key : (a b : DescId) (d : ℕ) → slice_index_or w.keys a.0 None ≡ Some d → slice_index_or w.keys b.0 None ≡ Some d → a.0 ≡ b.0
+  one_key a b d h i = sound.one a b d (key_before a d h) (key_before b d i)
+
+  place_before : (d : ℕ) (p : Place) → place_of w.files d ≡ Some p → place_of v.files d ≡ Some p
+  place_before d p h = get_before v.files.descriptions takes.number d p (ap (λ (f : Files). place_of f d) (sym takes.files) ∙ h)
+
+  apart_now : Apart w.files
+  apart_now = λ d e p i j. sound.apart d e p (place_before d p i) (place_before e p j)
+
+  -- the dead key is no key any more
+  gone_key : (d : ℕ) → slice_index_or w.keys dead.desc.0 None ≡ Some d → ⊥
+  gone_key d h = none-some d (sym (gone v.keys dead.desc.0) ∙ (ap (λ (ks : List (Option ℕ)). get_or ks dead.desc.0 None) (sym takes.keys) ∙ h)) where
+    gone : (ks : List (Option ℕ)) (i : ℕ) → get_or (set ks i None) i None ≡ None
+    gone [] i = refl
+    gone (q ∷ ks) zero = refl
+    gone (q ∷ ks) (suc i) = gone ks i
+
+  other_number : (y : DescId) (d : ℕ) → slice_index_or w.keys y.0 None ≡ Some d → takes.number ≢ d
+  other_number y d h e =
+      let same : y.0 ≡ dead.desc.0 = sound.one y dead.desc d (key_before y d h) (takes.key_is ∙ ap (λ (n : ℕ). Some n) e) in
+      gone_key d (ap (λ (n : ℕ). slice_index_or w.keys n None) (sym same) ∙ h)
+
+  raised_one : (x : Entry) → IsLinked w.keys x → watch_at w.keys (raised_there dead.other m x) ≡ freshened (die (v.files, []) x0).1 (watch_at w.keys x)
+  raised_one x link =
+      let u = under_key w.keys x.desc link.desc in
+      let t = number_at w.keys x.desc in
+      let t_is : t ≡ u.number = ap (λ (o : Option ℕ). unwrap_or o 0) u.is in
+      let ne = other_number x.desc u.number u.is in
+      let q = a_place (place_of v.files u.number) (sound.place x.desc u.number (key_before x.desc u.number u.is)) in
+      let left : place_of rest u.number ≡ Some q.0 = get_place v.files.descriptions takes.number u.number None ne ∙ q.1 in
+      let there : place_of w.files t ≡ Some q.0 = ap (place_of w.files) t_is ∙ (ap (λ (f : Files). place_of f u.number) takes.files ∙ left) in
+      let not_same : q.0 ≢ takes.place = λ e. ne (sound.apart takes.number u.number takes.place takes.place_is (q.1 ∙ ap (λ (z : Place). Some z) e)) in
+      let m_there : m.0 ≡ at_end dead.raised (opposite takes.place.side) = m_is ∙ ap (λ (e : End). at_end dead.raised (opposite e)) takes.end_is in
+      let bits : raised_of (die (v.files, []) x0).1 t ≡ when (q.0.object == k) (at_end dead.raised q.0.side) =
+      ap (raised_of (raised_at rest k closed)) t_is
+      ∙ (raised_live (λ z. z.object == k) (λ z. at_end closed z.side) rest u.number
+      ∙ (ap (raised_place (λ z. z.object == k) (λ z. at_end closed z.side)) left ∙ ap (λ (r : Raised). when (q.0.object == k) (at_end r q.0.side)) (sym closed_is))) in
+      ap (watch_at w.keys) (elsewhere w.keys w.files takes.place dead.raised dead.other takes.other one_key apart_now m m_there x link q.0 there not_same)
+      ∙ (watch_fresh w.keys (brings x.mask.0 (when (q.0.object == k) (at_end dead.raised q.0.side))) x
+      ∙ ap (λ (n : ℕ). cond (brings x.mask.0 n) (record (watch_at w.keys x) { seen = None }) (watch_at w.keys x)) (sym bits))
+
+  raised_all : (xs : List Entry) → All (IsLinked w.keys) xs → map (watch_at w.keys) (map (raised_there dead.other m) xs) ≡ map (freshened (die (v.files, []) x0).1) (map (watch_at w.keys) xs)
+  raised_all [] h = refl
+  raised_all (x ∷ xs) h =
+      let one = raised_one x (All-head (IsLinked w.keys) x xs h) in
+      let others = raised_all xs (All-tail (IsLinked w.keys) x xs h) in λ i. one i ∷ others i
+
+link_there : (keys : List (Option ℕ)) (o : Option DescId) (m : Mask) (x : Entry) → IsLinked keys x → IsLinked keys (raised_there o m x)
+link_there keys None m x h = h
+link_there keys (Some d) m x h = link_fresh keys (is_on d x && brings x.mask.0 m.0) x h
+
+linked_there : (keys : List (Option ℕ)) (o : Option DescId) (m : Mask) (xs : List Entry) → All (IsLinked keys) xs → All (IsLinked keys) (map (raised_there o m) xs)
+linked_there keys o m [] h = h
+linked_there keys o m (x ∷ xs) h =
+    All-cons (IsLinked keys) (raised_there o m x) (map (raised_there o m) xs) (link_there keys o m x (All-head (IsLinked keys) x xs h)) (linked_there keys o m xs (All-tail (IsLinked keys) x xs h))
+
 pub buries_none : (v : Seen) (r : Registrations) → AreLinked v r → Buries v r v r
 buries_none v r linked = record {
   dead = [];
@@ -168,7 +300,7 @@ buries_none v r linked = record {
   objects = refl;
   limits = refl;
   holds = refl;
-  watches = sym (all_stay (map (watch_at v.keys) r.entries));
+  watches = sym (fresh_none (filter (is_untouched []) (map (watch_at v.keys) r.entries)) ∙ all_stay (map (watch_at v.keys) r.entries));
   linked = linked;
   added = refl;
 } where
@@ -178,7 +310,7 @@ buries_none v r linked = record {
 
 -- one death more
 module _ (v0 v w : Seen) (r0 r q : Registrations) (dead : Dead) (before : Buries v0 r0 v r) (takes : Takes v w dead) (sound : Sound v)
-    (entries : q.entries ≡ filter (is_apart_from dead.desc) r.entries) (added : q.added ≡ r.added)
+    (m : Mask) (m_is : m.0 ≡ at_end dead.raised (opposite dead.end)) (entries : q.entries ≡ map (raised_there dead.other m) (filter (is_apart_from dead.desc) r.entries)) (added : q.added ≡ r.added)
     (placed : place_of v0.files takes.number ≡ Some takes.place) where
   abbrev one : ℕ × Place
   one = (takes.number, takes.place)
@@ -200,22 +332,19 @@ module _ (v0 v w : Seen) (r0 r q : Registrations) (dead : Dead) (before : Buries
     limits = takes.limits ∙ before.limits;
     holds = takes.holds ∙ before.holds;
     watches =
+        let first = (die_all (v0.files, []) before.dead).1 in
+        let more = (die (v.files, []) one).1 in
+        let left = linked_left v w dead takes sound r.entries before.linked in
+        let all : first ++ more ≡ (die_all (v0.files, []) (before.dead ++ one ∷ [])).1 =
+        sym (raised_more v0.files [] before.dead one ∙ ap (λ (f : Files). first ++ (die (f, []) one).1) (sym before.files)) in
         ap (λ (xs : List Entry). map (watch_at w.keys) xs) entries
-        ∙ (watches_left v w dead takes sound r.entries before.linked
-        ∙ (ap (λ (ws : List Watch). filter (leaves takes.number) ws) before.watches
-        ∙ sym (filter_more before.dead one (map (watch_at v0.keys) r0.entries))));
-    linked = subst (λ (xs : List Entry). All (IsLinked w.keys) xs) (sym entries) (linked_left v w dead takes sound r.entries before.linked);
+        ∙ (raised_all v w dead takes sound m m_is (filter (is_apart_from dead.desc) r.entries) left
+        ∙ (ap (map (freshened more)) (watches_left v w dead takes sound r.entries before.linked)
+        ∙ (ap (λ (ws : List Watch). map (freshened more) (filter (leaves takes.number) ws)) before.watches
+        ∙ (ap (map (freshened more)) (fresh_leaves takes.number first (filter (is_untouched (numbers before.dead)) (map (watch_at v0.keys) r0.entries)))
+        ∙ (sym (fresh_parts first more (filter (leaves takes.number) (filter (is_untouched (numbers before.dead)) (map (watch_at v0.keys) r0.entries))))
+        ∙ ((λ i. map (freshened (all i)) (filter (leaves takes.number) (filter (is_untouched (numbers before.dead)) (map (watch_at v0.keys) r0.entries))))
+        ∙ ap (map (freshened (die_all (v0.files, []) (before.dead ++ one ∷ [])).1)) (sym (filter_more before.dead one (map (watch_at v0.keys) r0.entries)))))))));
+    linked = subst (λ (xs : List Entry). All (IsLinked w.keys) xs) (sym entries) (linked_there w.keys dead.other m (filter (is_apart_from dead.desc) r.entries) (linked_left v w dead takes sound r.entries before.linked));
     added = added ∙ before.added;
   }
-
--- what is there after some deaths was there before
-get_before : (ds : List (Option Place)) (k d : ℕ) (p : Place) → get_or (set ds k None) d None ≡ Some p → get_or ds d None ≡ Some p
-get_before [] k d p h = h
-get_before (q ∷ ds) zero zero p h = absurd (none-some p h)
-get_before (q ∷ ds) zero (suc d) p h = h
-get_before (q ∷ ds) (suc k) zero p h = h
-get_before (q ∷ ds) (suc k) (suc d) p h = get_before ds k d p h
-
-pub placed_before : (s : Files) (xs : List (ℕ × Place)) (d : ℕ) (p : Place) → place_of (after_all s xs) d ≡ Some p → place_of s d ≡ Some p
-placed_before s [] d p h = h
-placed_before s (x ∷ xs) d p h = get_before s.descriptions x.0 d p (placed_before (after_all s (x ∷ [])) xs d p (ap (λ (f : Files). place_of f d) (sym (after_first s x xs)) ∙ h))

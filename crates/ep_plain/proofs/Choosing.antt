@@ -1,5 +1,5 @@
 -- The longest unreported registrations, and what noting them leaves.
-use Rattle.std.proofs.Common.{◌≡◌, ◌==◌, ◌&&◌, ◌||◌, ◌<◌, ◌++◌, ℕ, zero, suc, Bool, false, true, List, [], ◌∷◌, Some, None, cond, get_or, length, map, not, inl, inr, refl, ap, sym, ◌∙◌, arith}
+use Rattle.std.proofs.Common.{◌≡◌, ◌==◌, ◌&&◌, ◌||◌, ◌<◌, ◌++◌, ℕ, zero, suc, Bool, false, true, List, [], ◌∷◌, Some, cond, get_or, length, map, not, inl, inr, refl, ap, sym, ◌∙◌, arith}
 use Rattle.std.specs.List.{AllByRecursion}
 use Rattle.std.specs.List.Sorted.{IsNonDecreasingBy}
 use Rattle.std.proofs.lemmas.Bool.{cases_Bool}
@@ -7,6 +7,7 @@ use Rattle.std.proofs.lemmas.List.{length-map}
 use Rattle.ep_interest.specs.Registrations.{noted, numbered}
 use Rattle.ep_interest.specs.declared.entry.Entry.{Entry}
 use Rattle.ep_machine.specs.Bits.{ONESHOT, has_bit}
+use Rattle.ep_machine.specs.Counts.{no_counts}
 use Rattle.ep_machine.specs.Lists.{is_among}
 use Rattle.ep_plain.proofs.Found.{from_test, some_one}
 use Rattle.ep_plain.specs.Wait.{noted_in}
@@ -37,7 +38,7 @@ among_more [] k n = or_false (n == k)
 among_more (x ∷ ks) k n = ap (λ (b : Bool). n == x || b) (among_more ks k n) ∙ or_assoc (n == x) (is_among ks n) (n == k)
 
 abbrev disarmed : ℕ → Entry → Entry
-disarmed n x = record x { armed = x.armed && not (has_bit x.mask.0 ONESHOT); seen = None; rep = n; from = 0 }
+disarmed n x = record x { armed = x.armed && not (has_bit x.mask.0 ONESHOT); seen = Some no_counts; rep = n; from = 0 }
 
 -- a one-shot that is disarmed stays so
 twice : (a b : Bool) → ((a && not b) && not b) ≡ (a && not b)
@@ -47,7 +48,7 @@ twice false b = refl
 
 -- one registration noted after others
 noted_one : (n : ℕ) (b c : Bool) (x : Entry) → cond c (disarmed n (cond b (disarmed n x) x)) (cond b (disarmed n x) x) ≡ cond (b || c) (disarmed n x) x
-noted_one n true true x = ap (λ (a : Bool). let y : Entry = record x { armed = a; seen = None; rep = n; from = 0 } in y) (twice x.armed (has_bit x.mask.0 ONESHOT))
+noted_one n true true x = ap (λ (a : Bool). let y : Entry = record x { armed = a; seen = Some no_counts; rep = n; from = 0 } in y) (twice x.armed (has_bit x.mask.0 ONESHOT))
 noted_one n true false x = refl
 noted_one n false true x = refl
 noted_one n false false x = refl
@@ -68,12 +69,12 @@ noted_more n k ks (x ∷ xs) =
     λ i. one i ∷ noted_more n k ks xs i
 
 -- what is noted of the registration with a number, where each of that number has these fields
-pub noted_at : (n k : ℕ) (armed : Bool) (xs : List Entry) → AllByRecursion (λ x. (x.number == k) ≡ true → (x.armed && not (has_bit x.mask.0 ONESHOT)) ≡ armed) xs → map (noted k armed None n 0) xs ≡ map (noted_in n (k ∷ [])) xs
+pub noted_at : (n k : ℕ) (armed : Bool) (xs : List Entry) → AllByRecursion (λ x. (x.number == k) ≡ true → (x.armed && not (has_bit x.mask.0 ONESHOT)) ≡ armed) xs → map (noted k armed (Some no_counts) n 0) xs ≡ map (noted_in n (k ∷ [])) xs
 noted_at n k armed [] h = refl
 noted_at n k armed (x ∷ xs) h =
     let rest = noted_at n k armed xs h.1 in
-    let set : Bool → Entry = λ a. record x { armed = a; seen = None; rep = n; from = 0 } in
-    let one : noted k armed None n 0 x ≡ noted_in n (k ∷ []) x =
+    let set : Bool → Entry = λ a. record x { armed = a; seen = Some no_counts; rep = n; from = 0 } in
+    let one : noted k armed (Some no_counts) n 0 x ≡ noted_in n (k ∷ []) x =
     elim (cases_Bool (x.number == k)) [
       | inl e ↦
           ap (λ (b : Bool). cond b (set armed) x) e

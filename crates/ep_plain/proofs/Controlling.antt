@@ -9,7 +9,7 @@ use Rattle.ep_machine.specs.Bits.{EXCLUSIVE, has_bit}
 use Rattle.ep_machine.specs.Effect.{first}
 use Rattle.ep_machine.specs.Files.{Files, named_by, names_nothing, object_under}
 use Rattle.ep_machine.specs.Objects.{is_instance, is_plain}
-use Rattle.ep_machine.specs.Refusal.{ctl_refusals, is_later_mask}
+use Rattle.ep_machine.specs.Refusal.{ctl_refusals}
 use Rattle.ep_machine.specs.State.{Change, State}
 use Rattle.ep_machine.specs.Watches.{is_add, is_del, is_legal, is_mod, is_there, links, number_in}
 use Rattle.std.specs.List.{AllByRecursion, list_any}
@@ -48,34 +48,30 @@ first_none ((true, a) ∷ xs) ys h = absurd (none-some a (sym h))
 first_none ((false, a) ∷ xs) ys h = first_none xs ys h
 
 -- the tests of the operation and of the mask
-abbrev op_refusals : Bool → Bool → Bool → Bool → Bool → List (Bool × Errno) → List (Bool × Errno)
-op_refusals a d m x l rest = (not (a || d || m), Einval) ∷ (not d && x, Einval) ∷ (not d && l, Einval) ∷ rest
+abbrev op_refusals : Bool → Bool → Bool → Bool → List (Bool × Errno) → List (Bool × Errno)
+op_refusals a d m x rest = (not (a || d || m), Einval) ∷ (not d && x, Einval) ∷ rest
 
-refused_op : (a d m x l : Bool) (rest : List (Bool × Errno)) → (not (a || d || m) || not d && (x || l)) ≡ true → first (op_refusals a d m x l rest) ≡ Some Einval
-refused_op false false false x l rest h = refl
-refused_op true true m x l rest h = cc
-refused_op false true m x l rest h = cc
-refused_op true false m true l rest h = refl
-refused_op true false m false true rest h = refl
-refused_op true false m false false rest h = cc
-refused_op false false true true l rest h = refl
-refused_op false false true false true rest h = refl
-refused_op false false true false false rest h = cc
+refused_op : (a d m x : Bool) (rest : List (Bool × Errno)) → (not (a || d || m) || not d && x) ≡ true → first (op_refusals a d m x rest) ≡ Some Einval
+refused_op false false false x rest h = refl
+refused_op true true m x rest h = cc
+refused_op false true m x rest h = cc
+refused_op true false m true rest h = refl
+refused_op true false m false rest h = cc
+refused_op false false true true rest h = refl
+refused_op false false true false rest h = cc
 
-accepted_op : (a d m x l : Bool) (rest : List (Bool × Errno)) → (not (a || d || m) || not d && (x || l)) ≡ false → first (op_refusals a d m x l rest) ≡ first rest
-accepted_op true true m x l rest h = refl
-accepted_op false true m x l rest h = refl
-accepted_op true false m false false rest h = refl
-accepted_op false false true false false rest h = refl
-accepted_op true false m true l rest h = cc
-accepted_op true false m false true rest h = cc
-accepted_op false false true true l rest h = cc
-accepted_op false false true false true rest h = cc
-accepted_op false false false x l rest h = cc
+accepted_op : (a d m x : Bool) (rest : List (Bool × Errno)) → (not (a || d || m) || not d && x) ≡ false → first (op_refusals a d m x rest) ≡ first rest
+accepted_op true true m x rest h = refl
+accepted_op false true m x rest h = refl
+accepted_op true false m false rest h = refl
+accepted_op false false true false rest h = refl
+accepted_op true false m true rest h = cc
+accepted_op false false true true rest h = cc
+accepted_op false false false x rest h = cc
 
 -- what the tests of the names leave
 abbrev after_names : Limits → State → ℕ → ℤ → ℤ → ℤ → ℕ → List (Bool × Errno)
-after_names limits s p epfd op fd mask = op_refusals (is_add op) (is_del op) (is_mod op) (has_bit mask EXCLUSIVE) (is_later_mask mask) (
+after_names limits s p epfd op fd mask = op_refusals (is_add op) (is_del op) (is_mod op) (has_bit mask EXCLUSIVE) (
     (not (is_add op) && not (is_there s (named_by s.files p epfd) (number_in fd) (named_by s.files p fd)), Enoent)
     ∷ (is_add op && is_there s (named_by s.files p epfd) (number_in fd) (named_by s.files p fd), Eexist)
     ∷ (is_add op && is_instance (object_under s.files p fd) && not (is_legal ((named_by s.files p epfd, named_by s.files p fd) ∷ links s)), Eloop)
@@ -91,7 +87,7 @@ module _ (limits : Limits) (s : State) (p : ℕ) (epfd op fd : ℤ) (mask : ℕ)
   pub refused_mask : first (naming_refusals s.files p epfd fd) ≡ None → is_refused_op op mask ≡ true → first (ctl_refusals limits s p epfd op fd mask) ≡ Some Einval
   refused_mask h i =
       first_none (naming_refusals s.files p epfd fd) (after_names limits s p epfd op fd mask) h
-      ∙ refused_op (is_add op) (is_del op) (is_mod op) (has_bit mask EXCLUSIVE) (is_later_mask mask) _ i
+      ∙ refused_op (is_add op) (is_del op) (is_mod op) (has_bit mask EXCLUSIVE) _ i
 
   -- the target is no instance
   room_left : (a t i l w : Bool) → i ≡ false → first ((not a && not t, Enoent) ∷ (a && t, Eexist) ∷ (a && i && not l, Eloop) ∷ (a && w, Enospc) ∷ []) ≡ first ((not a && not t, Enoent) ∷ (a && t, Eexist) ∷ (a && w, Enospc) ∷ [])
@@ -105,7 +101,7 @@ module _ (limits : Limits) (s : State) (p : ℕ) (epfd op fd : ℤ) (mask : ℕ)
       → first (ctl_refusals limits s p epfd op fd mask) ≡ first (room_refusals (is_add op) (is_there s (named_by s.files p epfd) (number_in fd) (named_by s.files p fd)) limits.watches (length s.watches))
   refused_room h i j =
       first_none (naming_refusals s.files p epfd fd) (after_names limits s p epfd op fd mask) h
-      ∙ (accepted_op (is_add op) (is_del op) (is_mod op) (has_bit mask EXCLUSIVE) (is_later_mask mask) _ i
+      ∙ (accepted_op (is_add op) (is_del op) (is_mod op) (has_bit mask EXCLUSIVE) _ i
       ∙ room_left (is_add op) _ (is_instance (object_under s.files p fd)) _ _ j)
 
 -- a number that names something is not negative
@@ -211,7 +207,7 @@ module _ (limits : Limits) (v : Seen) (r : Registrations) (s : State) (p : ℕ) 
       now = stands.now;
       files = stands.files;
       watches =
-          kept_filter (λ x. not (has_numbers e fd d x)) s.watches
+          kept_filter s (λ x. not (has_numbers e fd d x)) s.watches
           ∙ ((λ i. filter (λ x. not (has_numbers (instance_is i) fd (desc_is i) x)) (stands.watches i))
           ∙ (without v named.instance args.fd.0 named.desc k sound names.instance_lives names.desc_lives under_number r.entries linked has
           ∙ ap (map (watch_at v.keys)) (sym entries)));
@@ -223,7 +219,7 @@ module _ (limits : Limits) (v : Seen) (r : Registrations) (s : State) (p : ℕ) 
       now = stands.now;
       files = stands.files;
       watches =
-          all_modified e fd d args.mask.0 args.tag s.watches
+          all_modified s e fd d args.mask.0 args.tag s.watches
           ∙ ((λ i. map (modified_watch (instance_is i) fd (desc_is i) args.mask.0 args.tag) (stands.watches i))
           ∙ (changed v named.instance args.fd.0 named.desc k sound names.instance_lives names.desc_lives under_number args.mask args.tag r.entries linked has
           ∙ ap (map (watch_at v.keys)) (sym entries)));
@@ -241,7 +237,7 @@ module _ (limits : Limits) (v : Seen) (r : Registrations) (s : State) (p : ℕ) 
 
   -- Of one that is not.
   module _ (absent : list_any (has_key named.instance args.fd named.desc) r.entries ≡ false) (op_accepted : is_refused_op args.op args.mask.0 ≡ false) where
-    watch_is : kept_of (new_watch s e fd d args.mask.0 args.tag) ≡ watch_at v.keys (new_entry (r.added + 1) named.instance args.fd named.desc args.mask args.tag)
+    watch_is : kept_of s (new_watch s e fd d args.mask.0 args.tag) ≡ watch_at v.keys (new_entry (r.added + 1) named.instance args.fd named.desc args.mask args.tag)
     watch_is = λ i. record { number = stands.added i + 1; instance = instance_is i; fd = fd; target = desc_is i; mask = args.mask.0; tag = args.tag; armed = true; seen = None; rep = 0; from = 0 }
 
     more : (new : Registrations) → new.entries ≡ r.entries ++ new_entry (r.added + 1) named.instance args.fd named.desc args.mask args.tag ∷ [] → new.added ≡ r.added + 1 → Stands v new now (add s e fd d args.mask.0 args.tag).1
@@ -249,7 +245,7 @@ module _ (limits : Limits) (v : Seen) (r : Registrations) (s : State) (p : ℕ) 
       now = stands.now;
       files = stands.files;
       watches =
-          map-append kept_of s.watches (new_watch s e fd d args.mask.0 args.tag ∷ [])
+          map-append (kept_of s) s.watches (new_watch s e fd d args.mask.0 args.tag ∷ [])
           ∙ ((λ i. stands.watches i ++ watch_is i ∷ [])
           ∙ (sym (map-append (watch_at v.keys) r.entries (new_entry (r.added + 1) named.instance args.fd named.desc args.mask args.tag ∷ []))
           ∙ ap (λ (xs : List Entry). map (watch_at v.keys) xs) (sym entries)));

@@ -11,7 +11,7 @@ use Rattle.ep_base.specs.declared.mask.Mask.{Mask}
 use Rattle.ep_interest.specs.Registrations.{IsSound, Registrations, RisesFrom, has_key, is_other, modified, numbered}
 use Rattle.ep_interest.specs.declared.entry.Entry.{Entry}
 use Rattle.ep_machine.specs.Quiet.{kept_all, kept_of}
-use Rattle.ep_machine.specs.State.{Watch}
+use Rattle.ep_machine.specs.State.{State, Watch}
 use Rattle.ep_machine.specs.Watches.{has_key as has_numbers, modified as modified_watch, number_in}
 use Rattle.ep_plain.specs.Stands.{IsLinked, number_at, watch_at}
 use Rattle.ep_plain.proofs.Linking.{same_key_test}
@@ -131,16 +131,16 @@ module _ (v : Seen) (instance : DescId) (fd : ℤ) (desc : DescId) (k : ℕ) (so
       λ i. one i ∷ rest i
 
 -- what MOD does sees neither what a registration has seen nor since when it is reportable
-kept_modified : (e fd d mask tag : ℕ) (x : Watch) → kept_of (modified_watch e fd d mask tag x) ≡ modified_watch e fd d mask tag (kept_of x)
-kept_modified e fd d mask tag x =
-    elim (has_numbers e fd d x) as (λ b. kept_of (cond b (record x { mask = mask; tag = tag; armed = true; seen = None }) x) ≡ cond b (record (kept_of x) { mask = mask; tag = tag; armed = true; seen = None }) (kept_of x)) [
+kept_modified : (s : State) (e fd d mask tag : ℕ) (x : Watch) → kept_of s (modified_watch e fd d mask tag x) ≡ modified_watch e fd d mask tag (kept_of s x)
+kept_modified s e fd d mask tag x =
+    elim (has_numbers e fd d x) as (λ b. kept_of s (cond b (record x { mask = mask; tag = tag; armed = true; seen = None }) x) ≡ cond b (record (kept_of s x) { mask = mask; tag = tag; armed = true; seen = None }) (kept_of s x)) [
       | true ↦ refl
       | false ↦ refl
     ]
 
-pub all_modified : (e fd d mask tag : ℕ) (xs : List Watch) → kept_all (map (modified_watch e fd d mask tag) xs) ≡ map (modified_watch e fd d mask tag) (kept_all xs)
-all_modified e fd d mask tag [] = refl
-all_modified e fd d mask tag (x ∷ xs) = let one = kept_modified e fd d mask tag x in let rest = all_modified e fd d mask tag xs in λ i. one i ∷ rest i
+pub all_modified : (s : State) (e fd d mask tag : ℕ) (xs : List Watch) → kept_all s (map (modified_watch e fd d mask tag) xs) ≡ map (modified_watch e fd d mask tag) (kept_all s xs)
+all_modified s e fd d mask tag [] = refl
+all_modified s e fd d mask tag (x ∷ xs) = let one = kept_modified s e fd d mask tag x in let rest = all_modified s e fd d mask tag xs in λ i. one i ∷ rest i
 
 -- what is modified stays linked
 link_modified : (keys : List (Option ℕ)) (k : ℕ) (mask : Mask) (tag : ℕ) (x : Entry) → IsLinked keys x → IsLinked keys (modified k mask tag x)

@@ -4,6 +4,12 @@ pub mod Growing
 pub mod Keys
 pub mod Linking
 pub mod Found
+pub mod Across
+pub mod Due
+pub mod Stirring
+pub mod Unraised
+pub mod ObjectRaising
+pub mod Ticking
 pub mod ObjectCalling
 pub mod Waiting
 pub mod Choosing

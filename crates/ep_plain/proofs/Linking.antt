@@ -1,12 +1,15 @@
 -- Registrations as the machine has them.
-use Rattle.std.proofs.Common.{◌≡◌, ◌==◌, ◌&&◌, ◌||◌, ℕ, ℤ, pos, List, [], ◌∷◌, None, IsSome, All, length, map, refl, ap, sym, ◌∙◌}
+use Rattle.std.proofs.Common.{slice_index_or, Bool, ◌≡◌, ◌==◌, ◌&&◌, ◌||◌, ℕ, ℤ, pos, List, [], ◌∷◌, IsSome, All, length, map, refl, ap, sym, ◌∙◌}
 use Rattle.std.specs.List.{list_any}
 use Rattle.std.specs.Ordering.{int_eq}
 use Rattle.std.proofs.lemmas.Bool.Decides.{Decides-int_eq, Decides-eqb, same_from_decides}
 use Rattle.std.proofs.lemmas.List.{length-map}
 use Rattle.std.proofs.lemmas.List.Elements.{All-head, All-tail}
 use Rattle.ep_base.specs.declared.ids.DescId.{DescId}
-use Rattle.ep_machine.specs.Quiet.{kept_all, kept_of}
+use Rattle.ep_machine.specs.Bits.{asked}
+use Rattle.ep_machine.specs.Counts.{every_shown_bit, no_counts}
+use Rattle.ep_machine.specs.Quiet.{kept_all, kept_of, seen_where}
+use Rattle.ep_machine.specs.Readiness.{is_fresh_since}
 use Rattle.ep_machine.specs.State.{State, Watch}
 use Rattle.ep_machine.specs.Watches.{has_key as has_numbers, is_there, number_in}
 use Rattle.ep_interest.specs.Registrations.{Registrations, has_key}
@@ -16,9 +19,9 @@ use Rattle.ep_interest.specs.declared.entry.Entry.{Entry}
 use Rattle.ep_plain.proofs.Keys.{number_kept, same_keys, some_kept}
 
 -- the test of a key sees neither what a registration has seen nor since when it is reportable
-there_kept : (e fd d : ℕ) (xs : List Watch) → list_any (has_numbers e fd d) (kept_all xs) ≡ list_any (has_numbers e fd d) xs
-there_kept e fd d [] = refl
-there_kept e fd d (x ∷ xs) = rw (there_kept e fd d xs) refl
+there_kept : (s : State) (e fd d : ℕ) (xs : List Watch) → list_any (has_numbers e fd d) (kept_all s xs) ≡ list_any (has_numbers e fd d) xs
+there_kept s e fd d [] = refl
+there_kept s e fd d (x ∷ xs) = ap (λ (b : Bool). has_numbers e fd d x || b) (there_kept s e fd d xs)
 
 same_descriptor : (x y : ℤ) → x ≡ pos (number_in x) → y ≡ pos (number_in y) → (number_in x == number_in y) ≡ int_eq x y
 same_descriptor x y h i =
@@ -46,11 +49,11 @@ pub there_is : (v : Seen) (r : Registrations) (now : ℕ) (s : State) (instance 
     → is_there s (number_at v.keys instance) (number_in fd) (number_at v.keys desc) ≡ list_any (has_key instance (record { 0 = fd }) desc) r.entries
 there_is v r now s instance desc fd sound h linked hi hd hf =
     let f = list_any (has_numbers (number_at v.keys instance) (number_in fd) (number_at v.keys desc)) in
-    sym (there_kept _ _ _ s.watches) ∙ (ap f h.watches ∙ there_linked v instance desc fd sound hi hd hf r.entries linked)
+    sym (there_kept s _ _ _ s.watches) ∙ (ap f h.watches ∙ there_linked v instance desc fd sound hi hd hf r.entries linked)
 
 -- as many registrations
 pub count_is : (v : Seen) (r : Registrations) (now : ℕ) (s : State) → Stands v r now s → length s.watches ≡ length r.entries
-count_is v r now s h = sym (length-map s.watches kept_of) ∙ (ap (λ (xs : List Watch). length xs) h.watches ∙ length-map r.entries (watch_at v.keys))
+count_is v r now s h = sym (length-map s.watches (kept_of s)) ∙ (ap (λ (xs : List Watch). length xs) h.watches ∙ length-map r.entries (watch_at v.keys))
 
 watches_kept : (old new : Seen) → KeepsKeys old new → (xs : List Entry) → All (IsLinked old.keys) xs → map (watch_at new.keys) xs ≡ map (watch_at old.keys) xs
 watches_kept old new keeps [] linked = refl
@@ -59,7 +62,7 @@ watches_kept old new keeps (x ∷ xs) linked =
     let a = number_kept old new x.instance keeps link.instance in
     let b = number_kept old new x.desc keeps link.desc in
     let rest = watches_kept old new keeps xs (All-tail (IsLinked old.keys) x xs linked) in
-    λ i. record { number = x.number; instance = a i; fd = number_in x.fd.0; target = b i; mask = x.mask.0; tag = x.tag; armed = x.armed; seen = None; rep = x.rep; from = 0 } ∷ rest i
+    λ i. record { number = x.number; instance = a i; fd = number_in x.fd.0; target = b i; mask = x.mask.0; tag = x.tag; armed = x.armed; seen = x.seen; rep = x.rep; from = 0 } ∷ rest i
 
 link_kept : (old new : Seen) → KeepsKeys old new → (x : Entry) → IsLinked old.keys x → IsLinked new.keys x
 link_kept old new keeps x h = record { instance = some_kept old new x.instance keeps h.instance; desc = some_kept old new x.desc keeps h.desc; fd = h.fd }
@@ -67,11 +70,16 @@ link_kept old new keeps x h = record { instance = some_kept old new x.instance k
 pub linked_kept : (old new : Seen) (r : Registrations) → KeepsKeys old new → AreLinked old r → AreLinked new r
 linked_kept old new r keeps h = λ k d lt. link_kept old new keeps _ (h k d lt)
 
+-- what is fresh goes by arrivals alone
+kept_same : (s t : State) → t.arrivals ≡ s.arrivals → (xs : List Watch) → kept_all t xs ≡ kept_all s xs
+kept_same s t e [] = refl
+kept_same s t e (x ∷ xs) = λ i. record x { seen = seen_where (is_fresh_since x.seen (asked x.mask every_shown_bit) (slice_index_or (e i) x.target no_counts)); from = 0 } ∷ kept_same s t e xs i
+
 -- a call on the tables that keeps each key keeps the registrations
-pub stands_kept : (old new : Seen) (r : Registrations) (now : ℕ) (s t : State) → KeepsKeys old new → AreLinked old r → Stands old r now s → t.now ≡ s.now → t.files ≡ new.files → t.watches ≡ s.watches → t.added ≡ s.added → Stands new r now t
-stands_kept old new r now s t keeps linked h clock files watches added = record {
+pub stands_kept : (old new : Seen) (r : Registrations) (now : ℕ) (s t : State) → KeepsKeys old new → AreLinked old r → Stands old r now s → t.now ≡ s.now → t.files ≡ new.files → t.watches ≡ s.watches → t.added ≡ s.added → t.arrivals ≡ s.arrivals → Stands new r now t
+stands_kept old new r now s t keeps linked h clock files watches added arrivals = record {
   now = clock ∙ h.now;
   files = files;
-  watches = ap kept_all watches ∙ (h.watches ∙ sym (watches_kept old new keeps r.entries linked));
+  watches = ap (kept_all t) watches ∙ (kept_same s t arrivals s.watches ∙ (h.watches ∙ sym (watches_kept old new keeps r.entries linked)));
   added = added ∙ h.added;
 }

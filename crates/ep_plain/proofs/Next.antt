@@ -13,9 +13,12 @@ use Rattle.ep_machine.specs.Step.{step}
 use Rattle.ep_machine.proofs.Stepping.{run_next}
 use Rattle.ep_plain.specs.Acts.{Adds}
 use Rattle.ep_plain.specs.Book.{state_of}
-use Rattle.ep_plain.specs.Moves.{Grows, Moves, Parts, Unheld}
+use Rattle.ep_plain.specs.Moves.{Grows, Moves, Parts, RaisesEvent, Unheld}
+use Rattle.ep_plain.specs.Raising.{IsRaising, Stirs}
+use Rattle.ep_plain.specs.declared.raising.Raising.{Raising}
+use Rattle.ep_plain.proofs.Stirring.{stirs_added}
 use Rattle.ep_plain.specs.Burial.{Burial}
-use Rattle.ep_table.specs.Value.{count_at}
+use Rattle.ep_table.specs.Value.{Seen, Sound as SoundTables, count_at}
 use Rattle.ep_plain.specs.Standing.{IsStanding, book_of}
 use Rattle.ep_plain.specs.Stands.{AreLinked}
 use Rattle.ep_plain.specs.declared.plain.PlainKernel.TheInside.{Inside}
@@ -24,16 +27,22 @@ use Rattle.ep_plain.proofs.Stepped.{Leads, leads}
 abbrev pub record_of : CallerId → Event → Answer → List ℕ → Record
 record_of caller event answer picked = record { caller = caller; event = event; answer = answer; picked = picked }
 
-module _ (old new : Inside) (mid : Parts) (standing : IsStanding old) (caller : CallerId) (event : Event) (answer : Answer) (picked : List ℕ)
+module _ (old new : Inside) (mid stirred : Parts) (raising : Raising) (standing : IsStanding old) (caller : CallerId) (event : Event) (answer : Answer) (picked : List ℕ)
     (limits : new.limits ≡ old.limits) (kept : mid.tables.limits ≡ old.tables.limits)
     (history : new.history.items ≡ old.history.items ++ record_of caller event answer picked ∷ [])
     (moves : (who : ℕ) → Moves old.limits (length old.history.items + 1) who event answer picked (record { tables = old.tables; interest = old.interest; now = old.now }) mid)
+    (raises : (who : ℕ) → RaisesEvent old.limits (length old.history.items + 1) who event picked raising (record { tables = old.tables; interest = old.interest; now = old.now }) mid.tables mid.now)
+    (same_tables : stirred.tables ≡ mid.tables) (same_stirred : stirred.now ≡ mid.now) (stirs : Stirs raising mid.tables mid.now mid.interest stirred.interest) (is : IsRaising raising mid.tables) (sound_mid : SoundTables mid.tables)
     (linked : AreLinked mid.tables mid.interest) (unheld : Unheld old.tables → Unheld mid.tables) (grows : Grows old.tables.files mid.tables.files) (added : mid.interest.added ≤ old.interest.added + 1)
-    (burial : Burial mid.tables mid.interest new.tables new.interest) (same_clock : new.now ≡ mid.now) (clock : mid.now ≤ last_moment) where
+    (burial : Burial stirred.tables stirred.interest new.tables new.interest) (same_clock : new.now ≡ stirred.now) (clock : mid.now ≤ last_moment) where
+  unheld_stirred : Unheld stirred.tables
+  unheld_stirred = subst Unheld (sym same_tables) (unheld standing.unheld)
+
   next : Leads old.limits standing.state caller.0 event answer picked (record { tables = new.tables; interest = new.interest; now = new.now })
   next =
-      leads old.limits standing.state caller.0 event answer picked mid (record { tables = new.tables; interest = new.interest; now = new.now }) standing.sound standing.quiet burial same_clock linked (unheld standing.unheld) (record { tables = old.tables; interest = old.interest; now = old.now }) standing.stands
+      leads old.limits standing.state caller.0 event answer picked mid stirred (record { tables = new.tables; interest = new.interest; now = new.now }) raising standing.sound standing.quiet same_tables same_stirred stirs is sound_mid burial same_clock linked unheld_stirred (record { tables = old.tables; interest = old.interest; now = old.now }) standing.stands
       (subst (λ (n : ℕ). Moves old.limits (n + 1) caller.0 event answer picked (record { tables = old.tables; interest = old.interest; now = old.now }) mid) (sym standing.n) (moves caller.0))
+      (subst (λ (n : ℕ). RaisesEvent old.limits (n + 1) caller.0 event picked raising (record { tables = old.tables; interest = old.interest; now = old.now }) mid.tables mid.now) (sym standing.n) (raises caller.0))
 
   leads_on : run old.limits opening new.history.items ≡ Some next.to
   leads_on = ap (λ (rs : List Record). run old.limits opening rs) history ∙ run_next old.limits standing.state next.to old.history.items (record_of caller event answer picked) standing.leads next.goes
@@ -48,14 +57,14 @@ module _ (old new : Inside) (mid : Parts) (standing : IsStanding old) (caller : 
     n = next.n ∙ (ap (λ (n : ℕ). n + 1) standing.n ∙ sym length_is);
     sound = next.sound;
     quiet = next.quiet;
-    clock = subst (λ (n : ℕ). n ≤ last_moment) (sym same_clock) clock;
+    clock = subst (λ (n : ℕ). n ≤ last_moment) (sym (same_clock ∙ same_stirred)) clock;
     stands = next.stands;
     linked = burial.buries.linked;
-    unheld = λ d. ap (λ (hs : List ℕ). count_at hs d) burial.buries.holds ∙ unheld standing.unheld d;
-    limits = burial.buries.limits ∙ (kept ∙ (standing.limits ∙ sym limits));
-    added = omega (arith, added, standing.added, length_is, burial.buries.added);
-    descriptions = omega (arith, grows.descriptions, standing.descriptions, length_is, burial.buries.descriptions);
-    objects = omega (arith, grows.objects, standing.objects, length_is, burial.buries.objects);
+    unheld = λ d. ap (λ (hs : List ℕ). count_at hs d) burial.buries.holds ∙ unheld_stirred d;
+    limits = burial.buries.limits ∙ (ap (λ (v : Seen). v.limits) same_tables ∙ (kept ∙ (standing.limits ∙ sym limits)));
+    added = omega (arith, added, standing.added, length_is, burial.buries.added, stirs_added raising mid.tables mid.now mid.interest stirred.interest stirs);
+    descriptions = omega (arith, grows.descriptions, standing.descriptions, length_is, burial.buries.descriptions, ap (λ (v : Seen). length v.files.descriptions) same_tables);
+    objects = omega (arith, grows.objects, standing.objects, length_is, burial.buries.objects, ap (λ (v : Seen). length v.files.objects) same_tables);
   }
 
   pub adds_next : Adds old.limits caller event answer (state_of (book_of old)) (state_of (book_of new)) old.history.items new.history.items

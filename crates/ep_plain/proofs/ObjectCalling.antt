@@ -126,11 +126,11 @@ module _ (old new : Seen) (d now : ℕ) (call : Call) (answer : Answer) (lives :
   opens is tables = opens_by (first (object_refusals content side now call)) is tables
 
 -- what a descriptor that is found names
-named_some : (n : Option ℕ) → IsSome n → is_none n ≡ false
+pub named_some : (n : Option ℕ) → IsSome n → is_none n ≡ false
 named_some None h = absurd (false≢true h)
 named_some (Some d) h = refl
 
-past_first : (b : Bool) (e : Errno) (rest : List (Bool × Errno)) → b ≡ false → first ((b, e) ∷ rest) ≡ first rest
+pub past_first : (b : Bool) (e : Errno) (rest : List (Bool × Errno)) → b ≡ false → first ((b, e) ∷ rest) ≡ first rest
 past_first false e rest h = refl
 past_first true e rest h = absurd (false≢true (sym h))
 

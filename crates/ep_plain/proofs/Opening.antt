@@ -49,7 +49,7 @@ module _ (refusals : List (Bool × Errno)) (to : Answer) (after : Files) (answer
           made = (to, record s { files = after }, raised);
           is = refl;
           answers = sym o.answers;
-          stands = stands_kept v new r now s (record s { files = after }) opens_keys linked stands refl (sym o.files) refl refl;
+          stands = stands_kept v new r now s (record s { files = after }) opens_keys linked stands refl (sym o.files) refl refl refl;
         })
         (λ e stayed. record {
           answers = stayed.answers;

@@ -12,6 +12,7 @@ use Rattle.ep_base.specs.declared.ids.DescId.{DescId}
 use Rattle.ep_interest.specs.Registrations.{Registrations, is_of}
 use Rattle.ep_interest.specs.declared.entry.Entry.{Entry}
 use Rattle.ep_machine.specs.Bits.{ONESHOT, has_bit}
+use Rattle.ep_machine.specs.Counts.{no_counts}
 use Rattle.ep_machine.specs.Lists.{is_among}
 use Rattle.ep_machine.specs.Quiet.{Quiet, kept_all, report_at, reported_in, shows_in}
 use Rattle.ep_machine.specs.Readiness.{is_ready}
@@ -73,7 +74,7 @@ reports_are v now r (x ∷ xs) h =
 
 -- a registration is noted as the machine reports it
 noted_is : (keys : List (Option ℕ)) (n : ℕ) (b : Bool) (x : Entry)
-    → (if b then record (watch_at keys x) { rep = n; armed = x.armed && not (has_bit x.mask.0 ONESHOT) } else watch_at keys x) ≡ watch_at keys (if b then record x { armed = x.armed && not (has_bit x.mask.0 ONESHOT); seen = None; rep = n; from = 0 } else x)
+    → (if b then record (watch_at keys x) { seen = Some no_counts; rep = n; armed = x.armed && not (has_bit x.mask.0 ONESHOT) } else watch_at keys x) ≡ watch_at keys (if b then record x { armed = x.armed && not (has_bit x.mask.0 ONESHOT); seen = Some no_counts; rep = n; from = 0 } else x)
 noted_is keys n true x = refl
 noted_is keys n false x = refl
 
@@ -83,7 +84,7 @@ noted_all keys n ks (x ∷ xs) =
     let one = noted_is keys n (is_among ks x.number) x in
     let rest = noted_all keys n ks xs in λ i. one i ∷ rest i
 
-link_noted : (keys : List (Option ℕ)) (n : ℕ) (b : Bool) (x : Entry) → IsLinked keys x → IsLinked keys (if b then record x { armed = x.armed && not (has_bit x.mask.0 ONESHOT); seen = None; rep = n; from = 0 } else x)
+link_noted : (keys : List (Option ℕ)) (n : ℕ) (b : Bool) (x : Entry) → IsLinked keys x → IsLinked keys (if b then record x { armed = x.armed && not (has_bit x.mask.0 ONESHOT); seen = Some no_counts; rep = n; from = 0 } else x)
 link_noted keys n true x h = record { instance = h.instance; desc = h.desc; fd = h.fd }
 link_noted keys n false x h = h
 
@@ -104,7 +105,7 @@ module _ (v : Seen) (now : ℕ) (r new : Registrations) (s : State) (n : ℕ) (i
   abbrev e : ℕ
   e = number_at v.keys instance
 
-  scan : filter (shows_in s.files s.now e) (kept_all s.watches) ≡ map (watch_at v.keys) (filter (entry_shows v now) (filter (is_of instance) r.entries))
+  scan : filter (shows_in s.files s.now e) (kept_all s s.watches) ≡ map (watch_at v.keys) (filter (entry_shows v now) (filter (is_of instance) r.entries))
   scan = (λ i. filter (shows_in (stands.files i) (stands.now i) e) (stands.watches i)) ∙ scanned v now instance sound lives r.entries linked
 
   abbrev found : List Watch
@@ -113,7 +114,7 @@ module _ (v : Seen) (now : ℕ) (r new : Registrations) (s : State) (n : ℕ) (i
   told : take most found ≡ map (watch_at v.keys) (entries_in chosen)
   told = take-map (watch_at v.keys) most is.found ∙ ap (map (watch_at v.keys)) (sym is.taken)
 
-  moved : IsPermutation (filter (shows_in s.files s.now e) (kept_all s.watches)) found
+  moved : IsPermutation (filter (shows_in s.files s.now e) (kept_all s s.watches)) found
   moved = subst (λ (xs : List Watch). IsPermutation xs found) (sym scan) (IsPermutation-map (watch_at v.keys) _ is.found is.moved)
 
   -- the report of the machine that picks these
@@ -137,8 +138,8 @@ module _ (v : Seen) (now : ℕ) (r new : Registrations) (s : State) (n : ℕ) (i
 
   quiet_found : is_ready s e ≡ false → chosen ≡ []
   quiet_found h =
-      let none : filter (shows_in s.files s.now e) (kept_all s.watches) ≡ [] = none_any (shows_in s.files s.now e) (kept_all s.watches) (sym (ready_kept s e quiet) ∙ h) in
-      let same : length found ≡ 0 = length_permutation (filter (shows_in s.files s.now e) (kept_all s.watches)) found moved ∙ ap (λ (xs : List Watch). length xs) none in
+      let none : filter (shows_in s.files s.now e) (kept_all s s.watches) ≡ [] = none_any (shows_in s.files s.now e) (kept_all s s.watches) (sym (ready_kept s e quiet) ∙ h) in
+      let same : length found ≡ 0 = length_permutation (filter (shows_in s.files s.now e) (kept_all s s.watches)) found moved ∙ ap (λ (xs : List Watch). length xs) none in
       let few : length (map (watch_at v.keys) (entries_in chosen)) ≡ min most (length found) = ap (λ (xs : List Watch). length xs) (sym told) ∙ length-take most found in
       nil_from_length chosen (omega (arith, same, few, length-map (entries_in chosen) (watch_at v.keys), length-map chosen (λ (x : Reportable). x.entry)))
 

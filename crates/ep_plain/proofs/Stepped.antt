@@ -1,6 +1,7 @@
 -- An event of the kernel as a step of the machine.
-use Rattle.std.proofs.Common.{◌≡◌, ◌+◌, ℕ, ℤ, zero, suc, pos, negsuc, Bool, true, false, List, [], ◌∷◌, Option, Some, None, if◌then◌else◌, refl, ap, sym, ◌∙◌, subst}
+use Rattle.std.proofs.Common.{◌≡◌, ◌+◌, ℕ, ℤ, zero, suc, pos, negsuc, All, Bool, true, false, List, [], ◌∷◌, Option, Some, None, cond, if◌then◌else◌, map, refl, ap, sym, ◌∙◌, subst}
 use Rattle.std.specs.Prelude.{MatchOption}
+use Rattle.std.proofs.lemmas.List.Elements.{All-head, All-tail}
 use Rattle.std.proofs.lemmas.Option.{none-some}
 use Rattle.ep_base.specs.Limits.{Limits}
 use Rattle.ep_base.specs.declared.answer.Answer.{Answer}
@@ -11,13 +12,14 @@ use Rattle.ep_base.specs.declared.call.Event.TheVariants.{Call as CallOf, Tick}
 use Rattle.ep_base.specs.declared.errno.Errno.{Errno}
 use Rattle.ep_machine.specs.Effect.{first}
 use Rattle.ep_machine.specs.Files.{named_by}
-use Rattle.ep_machine.specs.Quiet.{Quiet}
+use Rattle.ep_machine.specs.Counts.{brings}
+use Rattle.ep_machine.specs.Quiet.{IsSteady, Quiet, freshened, kept_all, kept_of}
 use Rattle.ep_machine.specs.Readiness.{is_ready}
 use Rattle.ep_machine.specs.Refusal.{refusals}
 use Rattle.ep_machine.specs.Report.{is_pick, plainly, report}
 use Rattle.ep_machine.specs.Settle.{settle}
 use Rattle.ep_machine.specs.Sound.{Sound}
-use Rattle.ep_machine.specs.State.{Change, State}
+use Rattle.ep_machine.specs.State.{Change, State, Watch}
 use Rattle.ep_machine.specs.Step.{begun, change, step}
 use Rattle.ep_machine.specs.Waits.{wait_for}
 use Rattle.ep_machine.specs.Watches.{is_add, is_del, number_in}
@@ -26,9 +28,13 @@ use Rattle.ep_machine.proofs.Settling.{settle_changed, settled_quiet}
 use Rattle.ep_machine.proofs.Soundness.{sound_begun, sound_step}
 use Rattle.ep_machine.proofs.Stepping.{refused_step, step_changed}
 use Rattle.ep_plain.specs.Burial.{Burial}
-use Rattle.ep_plain.specs.Stands.{AreLinked}
+use Rattle.ep_plain.specs.Raising.{AsRaised, AsRaisedIn, IsRaising, Stirs, freshened_by, raised_bits}
+use Rattle.ep_plain.specs.Stands.{AreLinked, IsLinked, watch_at}
+use Rattle.ep_plain.specs.declared.raising.Raising.{Raising}
+use Rattle.ep_plain.proofs.Stirring.{Freshens, stirs_added, stirs_watches}
+use Rattle.ep_table.specs.Value.{Seen, Sound as SoundTables}
 use Rattle.ep_plain.proofs.Buried.{buried_stands}
-use Rattle.ep_plain.specs.Moves.{Unheld, Makes, Moves, Parts, Refuses, StandFor}
+use Rattle.ep_plain.specs.Moves.{Makes, Moves, Parts, RaisesEvent, Refuses, StandFor, StandsRaised, Unheld}
 
 -- A change leaves the number of events.
 n_of : Option Change → ℕ
@@ -101,26 +107,66 @@ pub record Leads (limits : Limits) (s : State) (caller : ℕ) (event : Event) (a
   pub quiet : Quiet to
   pub stands : StandFor new to
 
-module _ (limits : Limits) (s : State) (caller : ℕ) (event : Event) (answer : Answer) (picked : List ℕ) (mid new : Parts) (sound : Sound s) (quiet : Quiet s)
-    (burial : Burial mid.tables mid.interest new.tables new.interest) (clock : new.now ≡ mid.now) (linked : AreLinked mid.tables mid.interest) (unheld : Unheld mid.tables) where
-  by_refusal : (e : Errno) → first (refusals limits (begun s) caller event) ≡ Some e → Refuses (begun s) e answer picked mid → Leads limits s caller event answer picked new
-  by_refusal e h r =
+-- what the kernel noted of what the machine raised
+module _ (mid stirred : Parts) (raising : Raising) (made : State) (raised : List (ℕ × ℕ)) (same_tables : stirred.tables ≡ mid.tables) (same_clock : stirred.now ≡ mid.now)
+    (stirs : Stirs raising mid.tables mid.now mid.interest stirred.interest) (sound : SoundTables mid.tables) (is : IsRaising raising mid.tables) (linked : AreLinked mid.tables mid.interest)
+    (stands : StandFor mid made) (steady : All (IsSteady made.files) made.watches) (as_raised : AsRaisedIn made.files raising mid.tables mid.now raised) where
+  abbrev bits : ℕ → ℕ
+  bits = raised_bits raising mid.tables mid.now
+
+  noted : Freshens mid.tables bits mid.interest.entries stirred.interest.entries
+  noted = stirs_watches raising mid.tables mid.now mid.interest stirred.interest stirs sound is linked
+
+  noted_all : (ws : List Watch) → All (IsSteady made.files) ws → map (freshened raised) (kept_all made ws) ≡ map (freshened_by bits) (kept_all made ws)
+  noted_all [] h = refl
+  noted_all (w ∷ ws) h =
+      let one = ap (λ (n : ℕ). cond (brings w.mask n) (record (kept_of made w) { seen = None }) (kept_of made w)) (as_raised w.target (All-head (IsSteady made.files) w ws h).target_shows) in
+      let rest = noted_all ws (All-tail (IsSteady made.files) w ws h) in λ i. one i ∷ rest i
+
+  pub stirred_stands : StandsRaised stirred raised made
+  stirred_stands = record {
+    now = stands.now ∙ sym same_clock;
+    files = stands.files ∙ ap (λ (v : Seen). v.files) (sym same_tables);
+    watches =
+        noted_all made.watches steady
+        ∙ (ap (map (freshened_by bits)) stands.watches
+        ∙ (sym noted.watches ∙ ap (λ (v : Seen). map (watch_at v.keys) stirred.interest.entries) (sym same_tables)));
+    added = stands.added ∙ sym (stirs_added raising mid.tables mid.now mid.interest stirred.interest stirs);
+  }
+
+  pub stirred_linked : AreLinked stirred.tables stirred.interest
+  stirred_linked = subst (λ (v : Seen). All (IsLinked v.keys) stirred.interest.entries) (sym same_tables) noted.linked
+
+module _ (limits : Limits) (s : State) (caller : ℕ) (event : Event) (answer : Answer) (picked : List ℕ) (mid stirred new : Parts) (raising : Raising) (sound : Sound s) (quiet : Quiet s)
+    (same_tables : stirred.tables ≡ mid.tables) (same_clock : stirred.now ≡ mid.now) (stirs : Stirs raising mid.tables mid.now mid.interest stirred.interest) (is : IsRaising raising mid.tables) (sound_mid : SoundTables mid.tables)
+    (burial : Burial stirred.tables stirred.interest new.tables new.interest) (clock : new.now ≡ stirred.now) (linked : AreLinked mid.tables mid.interest) (unheld : Unheld stirred.tables) where
+  stands_after : (made : State) (raised : List (ℕ × ℕ)) → StandFor mid made → All (IsSteady made.files) made.watches → AsRaisedIn made.files raising mid.tables mid.now raised → StandsRaised stirred raised made
+  stands_after made raised stands steady arises = stirred_stands mid stirred raising made raised same_tables same_clock stirs sound_mid is linked stands steady arises
+
+  linked_after : (made : State) (raised : List (ℕ × ℕ)) → StandFor mid made → All (IsSteady made.files) made.watches → AsRaisedIn made.files raising mid.tables mid.now raised → AreLinked stirred.tables stirred.interest
+  linked_after made raised stands steady arises = stirred_linked mid stirred raising made raised same_tables same_clock stirs sound_mid is linked stands steady arises
+
+  by_refusal : (e : Errno) → first (refusals limits (begun s) caller event) ≡ Some e → Refuses (begun s) e answer picked mid → AsRaised raising mid.tables mid.now [] → Leads limits s caller event answer picked new
+  by_refusal e h r none =
       let P : Answer → List ℕ → Type 0 = λ a ks. step limits s caller event ks ≡ Some (a, begun s) in
       let still = quiet_begun s quiet in
+      let arises : AsRaisedIn s.files raising mid.tables mid.now [] = λ d w. none d in
       record {
         to = begun s;
         goes = subst (λ (a : Answer). P a picked) (sym r.answers) (subst (P (Refused e)) (sym r.unpicked) (refused_step limits s caller event e h));
         n = refl;
         sound = sound_begun s sound;
         quiet = still;
-        stands = buried_stands mid new burial clock linked unheld (begun s) (begun s) (weaken (begun s) still) (settled_quiet (begun s) still) r.stands;
+        stands = buried_stands stirred new burial clock (linked_after (begun s) [] r.stands still.watches arises) unheld (begun s) (begun s) [] (weaken (begun s) still) (settled_quiet (begun s) still) (stands_after (begun s) [] r.stands still.watches arises);
       }
 
-  by_change : first (refusals limits (begun s) caller event) ≡ None → Makes (change limits (begun s) caller event picked) answer mid → Leads limits s caller event answer picked new
-  by_change h m =
+  by_change : first (refusals limits (begun s) caller event) ≡ None → Makes (change limits (begun s) caller event picked) answer mid
+      → ((made : Change) → change limits (begun s) caller event picked ≡ Some made → AsRaisedIn made.1.files raising mid.tables mid.now made.2) → Leads limits s caller event answer picked new
+  by_change h m raises =
       let t = settle (begun s) m.made.1 m.made.2 in
       let changed = quiet_change limits (begun s) caller event picked m.made (quiet_begun s quiet) h m.is in
       let same = settle_changed (begun s) m.made.1 m.made.2 changed in
+      let arises = raises m.made m.is in
       let goes : step limits s caller event picked ≡ Some (answer, t) = step_changed limits s caller event picked m.made h m.is ∙ ap (λ (a : Answer). Some (a, t)) m.answers in
       record {
         to = t;
@@ -128,14 +174,15 @@ module _ (limits : Limits) (s : State) (caller : ℕ) (event : Event) (answer : 
         n = settle_n (begun s) m.made.1 m.made.2 ∙ change_n limits (begun s) caller event picked m.made m.is;
         sound = sound_step limits s t caller event picked answer sound goes;
         quiet = quiet_step limits s t caller event picked answer quiet goes;
-        stands = buried_stands mid new burial clock linked unheld m.made.1 t changed same m.stands;
+        stands = buried_stands stirred new burial clock (linked_after m.made.1 m.made.2 m.stands changed.watches arises) unheld m.made.1 t m.made.2 changed same (stands_after m.made.1 m.made.2 m.stands changed.watches arises);
       }
 
-  by_cases : (o : Option Errno) → first (refusals limits (begun s) caller event) ≡ o → MatchOption o (Makes (change limits (begun s) caller event picked) answer mid) (λ e. Refuses (begun s) e answer picked mid) → Leads limits s caller event answer picked new
-  by_cases None h m = by_change h m
-  by_cases (Some e) h r = by_refusal e h r
+  by_cases : (o : Option Errno) → first (refusals limits (begun s) caller event) ≡ o → MatchOption o (Makes (change limits (begun s) caller event picked) answer mid) (λ e. Refuses (begun s) e answer picked mid)
+      → MatchOption o ((made : Change) → change limits (begun s) caller event picked ≡ Some made → AsRaisedIn made.1.files raising mid.tables mid.now made.2) (λ e. AsRaised raising mid.tables mid.now []) → Leads limits s caller event answer picked new
+  by_cases None h m raises = by_change h m raises
+  by_cases (Some e) h r raises = by_refusal e h r raises
 
-  pub leads : (old : Parts) → StandFor old s → Moves limits (s.n + 1) caller event answer picked old mid → Leads limits s caller event answer picked new
-  leads old stands moves =
+  pub leads : (old : Parts) → StandFor old s → Moves limits (s.n + 1) caller event answer picked old mid → RaisesEvent limits (s.n + 1) caller event picked raising old mid.tables mid.now → Leads limits s caller event answer picked new
+  leads old stands moves raises =
       let there : StandFor old (begun s) = record { now = stands.now; files = stands.files; watches = stands.watches; added = stands.added } in
-      by_cases (first (refusals limits (begun s) caller event)) refl (moves (begun s) refl (sound_begun s sound) (quiet_begun s quiet) there)
+      by_cases (first (refusals limits (begun s) caller event)) refl (moves (begun s) refl (sound_begun s sound) (quiet_begun s quiet) there) (raises (begun s) refl (sound_begun s sound) (quiet_begun s quiet) there)

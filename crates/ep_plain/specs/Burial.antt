@@ -4,6 +4,7 @@ use Rattle.std.specs.Prelude.{◌≡◌, Bool, List, Some, [], filter, length, m
 use Rattle.ep_machine.specs.Deaths.{die_all}
 use Rattle.ep_machine.specs.Files.{Place, place_of}
 use Rattle.ep_machine.specs.Lists.{is_among}
+use Rattle.ep_machine.specs.Quiet.{freshened}
 use Rattle.ep_machine.specs.State.{Watch}
 use Rattle.ep_interest.specs.Registrations.{Registrations}
 use Rattle.ep_plain.specs.Stands.{AreLinked, watch_at}
@@ -13,7 +14,7 @@ use Rattle.ep_table.specs.Value.{Seen, Sound}
 abbrev pub is_untouched : List ℕ → Watch → Bool
 is_untouched ks x = not (is_among ks x.instance) && not (is_among ks x.target)
 
--- these died, the first of those that nothing names, with their registrations
+-- these died, the first of those that nothing names, with their registrations, and what that raised is noted
 pub record Buries (old_tables : Seen) (old_interest : Registrations) (tables : Seen) (interest : Registrations) : Type 0 where
   pub dead : List (ℕ × Place)
   pub numbers : map (λ x. x.0) dead ++ tables.dying ≡ old_tables.dying
@@ -23,7 +24,7 @@ pub record Buries (old_tables : Seen) (old_interest : Registrations) (tables : S
   pub objects : length tables.files.objects ≡ length old_tables.files.objects
   pub limits : tables.limits ≡ old_tables.limits
   pub holds : tables.holds ≡ old_tables.holds
-  pub watches : map (watch_at tables.keys) interest.entries ≡ filter (is_untouched (map (λ x. x.0) dead)) (map (watch_at old_tables.keys) old_interest.entries)
+  pub watches : map (watch_at tables.keys) interest.entries ≡ map (freshened (die_all (old_tables.files, []) dead).1) (filter (is_untouched (map (λ x. x.0) dead)) (map (watch_at old_tables.keys) old_interest.entries))
   pub linked : AreLinked tables interest
   pub added : interest.added ≡ old_interest.added
 

@@ -13,7 +13,6 @@ use Rattle.ep_machine.specs.Bits.{EXCLUSIVE, has_bit}
 use Rattle.ep_machine.specs.Effect.{first}
 use Rattle.ep_machine.specs.Files.{Files, named_by, names_nothing, object_under, under}
 use Rattle.ep_machine.specs.Objects.{is_instance, is_plain}
-use Rattle.ep_machine.specs.Refusal.{is_later_mask}
 use Rattle.ep_machine.specs.Watches.{is_add, is_del, is_mod}
 use Rattle.ep_table.specs.Value.{Seen, number_under}
 use Rattle.ep_plain.specs.declared.control.Control.{Control}
@@ -35,7 +34,7 @@ naming_refusals files p epfd fd =
 
 -- the operation or the mask is not accepted
 abbrev pub is_refused_op : ℤ → ℕ → Bool
-is_refused_op op mask = not (is_add op || is_del op || is_mod op) || not (is_del op) && (has_bit mask EXCLUSIVE || is_later_mask mask)
+is_refused_op op mask = not (is_add op || is_del op || is_mod op) || not (is_del op) && has_bit mask EXCLUSIVE
 
 -- where the operation and the mask are accepted
 abbrev pub room_refusals : Bool → Bool → ℕ → ℕ → List (Bool × Errno)

@@ -5,6 +5,7 @@ pub mod Book
 pub mod Control
 pub mod Clock
 pub mod ObjectCall
+pub mod Raising
 pub mod Wait
 pub mod Reports
 pub mod Standing

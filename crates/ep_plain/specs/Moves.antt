@@ -1,5 +1,5 @@
 -- What an event does to the parts of a kernel.
-use Rattle.std.specs.Prelude.{◌≡◌, ◌+◌, ◌≤◌, Bool, List, MatchOption, Option, Some, [], length, ℕ}
+use Rattle.std.specs.Prelude.{◌≡◌, ◌+◌, ◌≤◌, Bool, List, MatchOption, Option, Some, [], length, map, ℕ}
 use Rattle.ep_base.specs.Limits.{Limits}
 use Rattle.ep_base.specs.declared.answer.Answer.{Answer}
 use Rattle.ep_base.specs.declared.answer.Answer.TheVariants.{Refused}
@@ -8,13 +8,15 @@ use Rattle.ep_base.specs.declared.call.Event.{Event}
 use Rattle.ep_base.specs.declared.errno.Errno.{Errno}
 use Rattle.ep_machine.specs.Effect.{first}
 use Rattle.ep_machine.specs.Files.{Files}
-use Rattle.ep_machine.specs.Quiet.{Quiet}
+use Rattle.ep_machine.specs.Quiet.{Quiet, freshened, kept_all}
 use Rattle.ep_machine.specs.Refusal.{call_refusals, refusals}
 use Rattle.ep_machine.specs.Sound.{Sound}
 use Rattle.ep_machine.specs.State.{Change, State}
 use Rattle.ep_machine.specs.Step.{call_change, change}
 use Rattle.ep_interest.specs.Registrations.{Registrations}
-use Rattle.ep_plain.specs.Stands.{KeepsKeys, Stands}
+use Rattle.ep_plain.specs.Raising.{Raises}
+use Rattle.ep_plain.specs.declared.raising.Raising.{Raising}
+use Rattle.ep_plain.specs.Stands.{watch_at, KeepsKeys, Stands}
 use Rattle.ep_table.specs.Value.{Seen, holds_of}
 
 -- what an event leaves: the tables, the interest sets and the clock
@@ -25,6 +27,13 @@ pub record Parts : Type 0 where
 
 abbrev pub StandFor : Parts → State → Type 0
 StandFor p s = Stands p.tables p.interest p.now s
+
+-- the same once what was raised is noted in the registrations
+pub record StandsRaised (p : Parts) (raised : List (ℕ × ℕ)) (s : State) : Type 0 where
+  pub now : s.now ≡ p.now
+  pub files : s.files ≡ p.tables.files
+  pub watches : map (freshened raised) (kept_all s s.watches) ≡ map (watch_at p.tables.keys) p.interest.entries
+  pub added : s.added ≡ p.interest.added
 
 -- the machine makes this change, with this answer, to a state for which the parts stand
 pub record Makes (o : Option Change) (answer : Answer) (new : Parts) : Type 0 where
@@ -52,6 +61,13 @@ MovesCall limits n caller p call answer picked old new = MovesBy n old (λ s. Go
 
 abbrev pub Moves : Limits → ℕ → ℕ → Event → Answer → List ℕ → Parts → Parts → Type 0
 Moves limits n caller event answer picked old new = MovesBy n old (λ s. Goes (refusals limits s caller event) (change limits s caller event picked) s answer picked new)
+
+-- and what it raises is noted
+abbrev pub RaisesCall : Limits → ℕ → ℕ → ℕ → Call → List ℕ → Raising → Parts → Seen → ℕ → Type 0
+RaisesCall limits n caller p call picked raising old tables now = MovesBy n old (λ s. Raises (call_refusals limits s p call) (call_change limits s caller p call picked) raising tables now)
+
+abbrev pub RaisesEvent : Limits → ℕ → ℕ → Event → List ℕ → Raising → Parts → Seen → ℕ → Type 0
+RaisesEvent limits n caller event picked raising old tables now = MovesBy n old (λ s. Raises (refusals limits s caller event) (change limits s caller event picked) raising tables now)
 
 -- no waiter holds a description
 abbrev pub Unheld : Seen → Type 0

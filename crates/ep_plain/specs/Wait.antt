@@ -1,5 +1,5 @@
 -- epoll_wait over the parts of a kernel.
-use Rattle.std.specs.Prelude.{◌≡◌, All, Bool, IsSome, List, None, Some, [], filter, if◌then◌else◌, map, nat_lt, not, take, ℕ, ◌&&◌, ◌∷◌}
+use Rattle.std.specs.Prelude.{is_none, ◌≡◌, All, Bool, IsSome, List, None, Some, [], filter, if◌then◌else◌, map, nat_lt, not, take, ℕ, ◌&&◌, ◌||◌, ◌∷◌}
 use Rattle.std.specs.List.Sorted.{IsNonDecreasingBy, IsPermutation}
 use Rattle.ep_base.specs.declared.answer.Report.{Report}
 use Rattle.ep_base.specs.declared.call.Call.{Call}
@@ -9,7 +9,8 @@ use Rattle.ep_base.specs.declared.errno.Errno.TheVariants.{Ebadf, Einval}
 use Rattle.ep_base.specs.declared.ids.DescId.{DescId}
 use Rattle.ep_interest.specs.Registrations.{Registrations, is_of, number_under as number_of_entry}
 use Rattle.ep_interest.specs.declared.entry.Entry.{Entry}
-use Rattle.ep_machine.specs.Bits.{ONESHOT, asked, has_bit, when}
+use Rattle.ep_machine.specs.Bits.{ET, ONESHOT, asked, has_bit, when}
+use Rattle.ep_machine.specs.Counts.{no_counts}
 use Rattle.ep_machine.specs.Effect.{first}
 use Rattle.ep_machine.specs.Files.{Files, names_nothing, object_under, side_of, under}
 use Rattle.ep_machine.specs.Lists.{is_among}
@@ -41,8 +42,9 @@ pub record Waits (tables : Seen) (p : ℕ) (args : Wait) (desc : DescId) : Type 
 abbrev pub entry_bits : Seen → ℕ → Entry → ℕ
 entry_bits tables now x = let d = number_of tables x.desc in when x.armed (asked x.mask.0 (object_present (content_of tables.files d) (side_of tables.files d) now))
 
+-- an edge-triggered one shows nothing twice
 abbrev pub entry_shows : Seen → ℕ → Entry → Bool
-entry_shows tables now x = nat_lt 0 (entry_bits tables now x)
+entry_shows tables now x = nat_lt 0 (entry_bits tables now x) && (not (has_bit x.mask.0 ET) || is_none x.seen)
 
 -- it has the key of its registration and the bits that this shows
 pub record IsKeyed (tables : Seen) (now : ℕ) (interest : Registrations) (x : Reportable) : Type 0 where
@@ -68,4 +70,4 @@ report_of x = record { bits = x.bits; tag = x.entry.tag }
 
 -- those that are reported in event n: a one-shot is disarmed
 abbrev pub noted_in : ℕ → List ℕ → Entry → Entry
-noted_in n ks x = if is_among ks x.number then record x { armed = x.armed && not (has_bit x.mask.0 ONESHOT); seen = None; rep = n; from = 0 } else x
+noted_in n ks x = if is_among ks x.number then record x { armed = x.armed && not (has_bit x.mask.0 ONESHOT); seen = Some no_counts; rep = n; from = 0 } else x

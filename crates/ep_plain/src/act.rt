@@ -3,7 +3,8 @@ ghost use Rattle.std.specs.Prelude.{◌≡◌, ◌+◌, ◌<◌, ◌≤◌, ◌^
 ghost use Rattle.ep_machine.specs.Files.{table_of};
 ghost use Rattle.ep_machine.specs.Timer.{last_moment};
 ghost use Rattle.ep_plain.specs.Acts.{is_no_memory};
-ghost use Rattle.ep_plain.specs.Moves.{Grows, Moves, MovesCall, Unheld};
+ghost use Rattle.ep_plain.specs.Moves.{Grows, Moves, MovesCall, RaisesCall, RaisesEvent, Unheld};
+ghost use Rattle.ep_plain.specs.Raising.{IsRaising};
 ghost use Rattle.ep_plain.specs.Stands.{AreLinked};
 
 use crate::acted::Acted;
@@ -39,6 +40,8 @@ fn act_call(
     requires objects { length tables.old.files.objects + 2 < 2 ^ 64 }
     ensures ok { IfOk result (λ acted. (caller : ℕ) → MovesCall limits.now step caller pid.0 call.now acted.answer acted.picked (record { tables = tables.old; interest = interest.old; now = now }) (record { tables = tables.new; interest = interest.new; now = now })) }
     ensures copy { IfOk result (λ acted. acted.copy ≡ acted.answer) }
+    ensures raised { IfOk result (λ acted. (caller : ℕ) → RaisesCall limits.now step caller pid.0 call.now acted.picked acted.raising (record { tables = tables.old; interest = interest.old; now = now }) tables.new now) }
+    ensures raising { IfOk result (λ acted. IsRaising acted.raising tables.new) }
     ensures real { IfOk result (λ acted. is_no_memory acted.answer ≡ false) }
     ensures kept { tables.new.limits ≡ tables.old.limits }
     ensures linked { AreLinked tables.new interest.new }
@@ -156,6 +159,8 @@ pub fn act(
     requires objects { length tables.old.files.objects + 2 < 2 ^ 64 }
     ensures ok { IfOk result (λ acted. (caller : ℕ) → Moves limits.now step caller event.now acted.answer acted.picked (record { tables = tables.old; interest = interest.old; now = now.old }) (record { tables = tables.new; interest = interest.new; now = now.new })) }
     ensures copy { IfOk result (λ acted. acted.copy ≡ acted.answer) }
+    ensures raised { IfOk result (λ acted. (caller : ℕ) → RaisesEvent limits.now step caller event.now acted.picked acted.raising (record { tables = tables.old; interest = interest.old; now = now.old }) tables.new now.new) }
+    ensures raising { IfOk result (λ acted. IsRaising acted.raising tables.new) }
     ensures real { IfOk result (λ acted. is_no_memory acted.answer ≡ false) }
     ensures kept { tables.new.limits ≡ tables.old.limits }
     ensures clock { now.new ≤ last_moment }

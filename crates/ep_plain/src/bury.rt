@@ -1,8 +1,9 @@
-//! The end of an event: descriptions that nothing names die, and their registrations go.
+//! The end of an event: descriptions that nothing names die, their registrations go, and what that raises is noted.
 ghost use Rattle.std.specs.Prelude.{◌≡◌, []};
 ghost use Rattle.ep_plain.specs.Burial.{Buries, Burial};
 ghost use Rattle.ep_plain.specs.Stands.{AreLinked};
 
+use crate::raising::{at_end, other_end, raise_there};
 use ep_interest::Interest;
 use ep_table::Tables;
 
@@ -18,6 +19,11 @@ fn end_each(tables: &mut Tables, interest: &mut Interest)
             return;
         };
         interest.purge(dead.desc);
+        raise_there(
+            interest,
+            dead.other,
+            at_end(dead.raised, other_end(dead.end)),
+        );
     }
 }
 

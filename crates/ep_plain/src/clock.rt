@@ -2,9 +2,10 @@
 ghost use Rattle.std.specs.Prelude.{◌≡◌, ◌≤◌, [], false};
 ghost use Rattle.ep_machine.specs.Timer.{last_moment};
 ghost use Rattle.ep_plain.specs.Acts.{is_no_memory};
-ghost use Rattle.ep_plain.specs.Clock.{Ticks};
+ghost use Rattle.ep_plain.specs.Clock.{Sets, Ticks};
 
 use crate::acted::Acted;
+use crate::raising::Raising;
 use ep_base::{Answer, Errno};
 use std::alloc::Global;
 
@@ -17,12 +18,16 @@ pub fn tick(alloc: Global, now: &mut u64, n: u64) -> Acted
     ensures ticks { Ticks now.old n now.new result.answer }
     ensures copy { result.copy ≡ result.answer }
     ensures picked { result.picked ≡ [] }
+    ensures raising { Sets now.old n result.raising }
     ensures real { is_no_memory result.answer ≡ false }
     ensures range { now.new ≤ last_moment }
 {
     if n > LAST_MOMENT - *now {
         return Acted::refused(alloc, Errno::Einval);
     }
+    let since = *now;
     *now += n;
-    Acted::settled(alloc, Answer::Done)
+    let mut acted = Acted::settled(alloc, Answer::Done);
+    acted.raising = Raising::Clock { since };
+    acted
 }

@@ -85,7 +85,7 @@ fn operation_of(args: Control) -> Option<Operation>
         3 => Operation::Modify,
         _ => return None,
     };
-    if args.mask.intersects(Mask::EXCLUSIVE) || args.mask.intersects(Mask::ET) {
+    if args.mask.intersects(Mask::EXCLUSIVE) {
         return None;
     }
     Some(operation)

@@ -8,6 +8,7 @@ ghost use Rattle.ep_machine.specs.Refusal.{is_clock};
 ghost use Rattle.ep_machine.specs.Sockets.{new_pair};
 ghost use Rattle.ep_machine.specs.Tables.{answer_one, answer_two, create_one, create_two, one_refusals, two_refusals};
 ghost use Rattle.ep_machine.specs.Timer.{new_timer};
+ghost use Rattle.ep_plain.specs.declared.raising.Raising.TheVariants.{Nowhere};
 ghost use Rattle.ep_plain.specs.Acts.{is_no_memory};
 ghost use Rattle.ep_plain.specs.Moves.{Grows, Opens, Unheld};
 
@@ -32,6 +33,7 @@ pub fn create_single(
     ensures ok { IfOk result (λ acted. Opens (one_refusals tables.old.limits tables.old.files pid.0) (answer_one tables.old.files pid.0) (create_one tables.old.files pid.0 object cloexec) acted.answer tables.old tables.new) }
     ensures copy { IfOk result (λ acted. acted.copy ≡ acted.answer) }
     ensures picked { IfOk result (λ acted. acted.picked ≡ []) }
+    ensures raising { IfOk result (λ acted. acted.raising ≡ Nowhere) }
     ensures real { IfOk result (λ acted. is_no_memory acted.answer ≡ false) }
     ensures grows { OnOk result (Grows tables.old.files tables.new.files) }
     ensures unheld { OnOk result (Unheld tables.old → Unheld tables.new) }
@@ -59,6 +61,7 @@ pub fn create_timer(
     ensures ok { IfOk result (λ acted. Opens ((not (is_clock clock), AnErrno.Einval) ∷ one_refusals tables.old.limits tables.old.files pid.0) (answer_one tables.old.files pid.0) (create_one tables.old.files pid.0 (timer new_timer) cloexec) acted.answer tables.old tables.new) }
     ensures copy { IfOk result (λ acted. acted.copy ≡ acted.answer) }
     ensures picked { IfOk result (λ acted. acted.picked ≡ []) }
+    ensures raising { IfOk result (λ acted. acted.raising ≡ Nowhere) }
     ensures real { IfOk result (λ acted. is_no_memory acted.answer ≡ false) }
     ensures grows { OnOk result (Grows tables.old.files tables.new.files) }
     ensures unheld { OnOk result (Unheld tables.old → Unheld tables.new) }
@@ -86,6 +89,7 @@ pub fn create_pipe(
     ensures ok { IfOk result (λ acted. Opens (two_refusals tables.old.limits tables.old.files pid.0) (answer_two tables.old.files pid.0) (create_two tables.old.files pid.0 (pipe (new_pipe capacity)) cloexec) acted.answer tables.old tables.new) }
     ensures copy { IfOk result (λ acted. acted.copy ≡ acted.answer) }
     ensures picked { IfOk result (λ acted. acted.picked ≡ []) }
+    ensures raising { IfOk result (λ acted. acted.raising ≡ Nowhere) }
     ensures real { IfOk result (λ acted. is_no_memory acted.answer ≡ false) }
     ensures grows { OnOk result (Grows tables.old.files tables.new.files) }
     ensures unheld { OnOk result (Unheld tables.old → Unheld tables.new) }
@@ -115,6 +119,7 @@ pub fn create_pair(
     ensures ok { IfOk result (λ acted. Opens (two_refusals tables.old.limits tables.old.files pid.0) (answer_two tables.old.files pid.0) (create_two tables.old.files pid.0 (pair (new_pair capacity)) cloexec) acted.answer tables.old tables.new) }
     ensures copy { IfOk result (λ acted. acted.copy ≡ acted.answer) }
     ensures picked { IfOk result (λ acted. acted.picked ≡ []) }
+    ensures raising { IfOk result (λ acted. acted.raising ≡ Nowhere) }
     ensures real { IfOk result (λ acted. is_no_memory acted.answer ≡ false) }
     ensures grows { OnOk result (Grows tables.old.files tables.new.files) }
     ensures unheld { OnOk result (Unheld tables.old → Unheld tables.new) }

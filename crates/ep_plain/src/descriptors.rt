@@ -6,6 +6,7 @@ ghost use Rattle.ep_machine.specs.Files.{named_by, names_nothing, numbers_of, ta
 ghost use Rattle.ep_machine.specs.Lists.{numbered};
 ghost use Rattle.ep_machine.specs.Tables.{answer_one, close as closed, dup as duplicated, dup2 as duplicated_to, exec as executed, exit as exited, fork as forked, is_in_range, one_free};
 ghost use Rattle.ep_machine.specs.Watches.{number_in};
+ghost use Rattle.ep_plain.specs.declared.raising.Raising.TheVariants.{Nowhere};
 ghost use Rattle.ep_plain.specs.Acts.{is_no_memory};
 ghost use Rattle.ep_plain.specs.Moves.{Grows, Opens, Unheld};
 
@@ -21,6 +22,7 @@ pub fn dup(alloc: Global, tables: &mut Tables, pid: Pid, fd: Fd) -> Result<Acted
     ensures ok { IfOk result (λ acted. Opens ((names_nothing tables.old.files pid.0 fd.0, AnErrno.Ebadf) ∷ (nat_le tables.old.limits.descriptors (one_free (numbers_of tables.old.files pid.0)), AnErrno.Emfile) ∷ []) (answer_one tables.old.files pid.0) (duplicated tables.old.files pid.0 (named_by tables.old.files pid.0 fd.0)) acted.answer tables.old tables.new) }
     ensures copy { IfOk result (λ acted. acted.copy ≡ acted.answer) }
     ensures picked { IfOk result (λ acted. acted.picked ≡ []) }
+    ensures raising { IfOk result (λ acted. acted.raising ≡ Nowhere) }
     ensures real { IfOk result (λ acted. is_no_memory acted.answer ≡ false) }
     ensures grows { OnOk result (Grows tables.old.files tables.new.files) }
     ensures unheld { OnOk result (Unheld tables.old → Unheld tables.new) }
@@ -44,6 +46,7 @@ pub fn dup2(
     ensures ok { IfOk result (λ acted. Opens ((names_nothing tables.old.files pid.0 fd.0, AnErrno.Ebadf) ∷ (not (is_in_range tables.old.limits to.0), AnErrno.Ebadf) ∷ []) (Num (number_in to.0)) (duplicated_to tables.old.files pid.0 fd.0 to.0 (named_by tables.old.files pid.0 fd.0)) acted.answer tables.old tables.new) }
     ensures copy { IfOk result (λ acted. acted.copy ≡ acted.answer) }
     ensures picked { IfOk result (λ acted. acted.picked ≡ []) }
+    ensures raising { IfOk result (λ acted. acted.raising ≡ Nowhere) }
     ensures real { IfOk result (λ acted. is_no_memory acted.answer ≡ false) }
     ensures grows { OnOk result (Grows tables.old.files tables.new.files) }
     ensures unheld { OnOk result (Unheld tables.old → Unheld tables.new) }
@@ -59,6 +62,7 @@ pub fn close(alloc: Global, tables: &mut Tables, pid: Pid, fd: Fd) -> Acted
     ensures ok { Opens ((names_nothing tables.old.files pid.0 fd.0, AnErrno.Ebadf) ∷ []) Done (closed tables.old.files pid.0 fd.0) result.answer tables.old tables.new }
     ensures copy { result.copy ≡ result.answer }
     ensures picked { result.picked ≡ [] }
+    ensures raising { result.raising ≡ Nowhere }
     ensures real { is_no_memory result.answer ≡ false }
     ensures grows { Grows tables.old.files tables.new.files }
     ensures unheld { Unheld tables.old → Unheld tables.new }
@@ -74,6 +78,7 @@ pub fn fork(alloc: Global, tables: &mut Tables, pid: Pid) -> Result<Acted, Alloc
     ensures ok { IfOk result (λ acted. Opens ((nat_le tables.old.limits.processes (length (numbered 0 tables.old.files.tables)), AnErrno.Eagain) ∷ []) (Num (length tables.old.files.tables)) (forked tables.old.files pid.0) acted.answer tables.old tables.new) }
     ensures copy { IfOk result (λ acted. acted.copy ≡ acted.answer) }
     ensures picked { IfOk result (λ acted. acted.picked ≡ []) }
+    ensures raising { IfOk result (λ acted. acted.raising ≡ Nowhere) }
     ensures real { IfOk result (λ acted. is_no_memory acted.answer ≡ false) }
     ensures grows { OnOk result (Grows tables.old.files tables.new.files) }
     ensures unheld { OnOk result (Unheld tables.old → Unheld tables.new) }
@@ -89,6 +94,7 @@ pub fn exec(alloc: Global, tables: &mut Tables, pid: Pid) -> Acted
     ensures ok { Opens ([]) Done (executed tables.old.files pid.0) result.answer tables.old tables.new }
     ensures copy { result.copy ≡ result.answer }
     ensures picked { result.picked ≡ [] }
+    ensures raising { result.raising ≡ Nowhere }
     ensures real { is_no_memory result.answer ≡ false }
     ensures grows { Grows tables.old.files tables.new.files }
     ensures unheld { Unheld tables.old → Unheld tables.new }
@@ -103,6 +109,7 @@ pub fn exit(alloc: Global, tables: &mut Tables, pid: Pid) -> Acted
     ensures ok { Opens ([]) Done (exited tables.old.files pid.0) result.answer tables.old tables.new }
     ensures copy { result.copy ≡ result.answer }
     ensures picked { result.picked ≡ [] }
+    ensures raising { result.raising ≡ Nowhere }
     ensures real { is_no_memory result.answer ≡ false }
     ensures grows { Grows tables.old.files tables.new.files }
     ensures unheld { Unheld tables.old → Unheld tables.new }

@@ -11,6 +11,7 @@ mod descriptors;
 mod kernel;
 mod object_call;
 mod plain;
+mod raising;
 mod runs;
 mod wait;
 

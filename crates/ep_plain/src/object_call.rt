@@ -9,10 +9,12 @@ ghost use Rattle.ep_object.specs.Memory.{asked_of, object_waiting};
 ghost use Rattle.ep_plain.specs.Moves.{Grows, Opens, Unheld};
 ghost use Rattle.ep_plain.specs.ObjectCall.{FitsRoom, IsObjectCall, given};
 ghost use Rattle.ep_plain.specs.Acts.{is_no_memory};
+ghost use Rattle.ep_plain.specs.Raising.{IsRaising, RaisesByCall};
 ghost use Rattle.ep_table.specs.Value.{content_of, number_of, number_under};
 ghost use Rattle.smallvec.specs.SmallVec.{HasRoomFor};
 
 use crate::acted::Acted;
+use crate::raising::Raising;
 use ep_base::{Answer, Bytes, Call, DescId, Errno, Fd, Pid};
 use ep_table::Tables;
 use smallvec::SmallVec;
@@ -75,6 +77,8 @@ pub fn object_call(
     ensures ok { IfOk result (λ acted. Opens ((names_nothing tables.old.files pid.0 fd.0, AnErrno.Ebadf) ∷ object_refusals (object_under tables.old.files pid.0 fd.0) (side_under tables.old.files pid.0 fd.0) now call.now) (given tables.old.files pid.0 fd.0 now call.now).0 (affected tables.old.files (named_by tables.old.files pid.0 fd.0) (given tables.old.files pid.0 fd.0 now call.now)) acted.answer tables.old tables.new) }
     ensures copy { IfOk result (λ acted. acted.copy ≡ acted.answer) }
     ensures picked { IfOk result (λ acted. acted.picked ≡ []) }
+    ensures raised { IfOk result (λ acted. RaisesByCall tables.old tables.new pid.0 fd.0 now call.now acted.raising) }
+    ensures raising { IfOk result (λ acted. IsRaising acted.raising tables.new) }
     ensures real { IfOk result (λ acted. is_no_memory acted.answer ≡ false) }
     ensures grows { OnOk result (Grows tables.old.files tables.new.files) }
     ensures unheld { OnOk result (Unheld tables.old → Unheld tables.new) }
@@ -85,7 +89,9 @@ pub fn object_call(
     };
     tables.known();
     let room = room_for_copy(alloc, tables, desc, call)?;
-    let (answer, _) = tables.apply(desc, now, call)?;
+    let (answer, raised) = tables.apply(desc, now, call)?;
     let copy = answer_copy(&answer, room);
-    Ok(Acted::unpicked(alloc, answer, copy))
+    let mut acted = Acted::unpicked(alloc, answer, copy);
+    acted.raising = Raising::Object { desc, raised };
+    Ok(acted)
 }

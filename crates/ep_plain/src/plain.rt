@@ -7,6 +7,7 @@ use crate::Kernel;
 use crate::act::act;
 use crate::acted::Acted;
 use crate::bury::bury;
+use crate::raising::raise;
 use ep_base::{Answer, CallerId, Errno, Event, Limits, Record};
 use ep_interest::Interest;
 use ep_table::Tables;
@@ -66,6 +67,7 @@ impl PlainKernel {
             answer,
             copy,
             picked,
+            raising,
         } = act(
             self.alloc,
             &self.limits,
@@ -75,6 +77,8 @@ impl PlainKernel {
             step,
             &event,
         )?;
+        self.tables.known();
+        raise(&self.tables, &mut self.interest, raising, self.now);
         bury(&mut self.tables, &mut self.interest);
         self.history.push_reserved(Record {
             caller,

@@ -1,8 +1,9 @@
 //! epoll_wait.
-ghost use Rattle.std.specs.Prelude.{◌≡◌, ◌<◌, ◌≤◌, ◌^◌, ◌&&◌, ◌∷◌, [], ℕ, All, IfOk, IfSome, IsNone, IsSome, MatchOption, MatchResult, None, OnErr, Some, false, filter, true, length, map, min, nat_lt, not, pos, take, unwrap_or};
-ghost use Rattle.ep_machine.specs.Bits.{ONESHOT, asked, has_bit};
+ghost use Rattle.std.specs.Prelude.{◌≡◌, ◌<◌, ◌≤◌, ◌^◌, ◌&&◌, ◌||◌, ◌∷◌, [], ℕ, All, IfOk, IfSome, IsNone, IsSome, MatchOption, MatchResult, None, OnErr, Some, false, filter, is_none, true, length, map, min, nat_lt, not, pos, take, unwrap_or};
+ghost use Rattle.ep_machine.specs.Bits.{ET, ONESHOT, asked, has_bit};
 ghost use Rattle.ep_machine.specs.Effect.{first};
 ghost use Rattle.ep_machine.specs.Files.{under};
+ghost use Rattle.ep_plain.specs.declared.raising.Raising.TheVariants.{Nowhere};
 ghost use Rattle.ep_plain.specs.Acts.{is_no_memory};
 ghost use Rattle.ep_plain.specs.Moves.{MovesCall};
 ghost use Rattle.ep_plain.specs.Stands.{AreLinked};
@@ -17,14 +18,24 @@ ghost use Rattle.ep_base.specs.Limits.{Limits as Numbers};
 ghost use Rattle.ep_table.specs.Value.{number_under};
 
 use crate::acted::Acted;
+use crate::raising::Raising;
 use bitflags::Flags;
 use ep_base::{
-    Answer, DescId, EntryId, Errno, Fd, Mask, Picked, Pid, Report, Reports as ReportList,
+    Answer, Counts, DescId, EntryId, Errno, Fd, Mask, Picked, Pid, Report, Reports as ReportList,
 };
 use ep_interest::{Entry, Interest};
 use ep_table::Tables;
 use smallvec::SmallVec;
 use std::alloc::{AllocError, Global};
+
+/// What a registration has seen that was reported and at which nothing arrived since.
+const SEEN: Counts = Counts {
+    of_in: 0,
+    of_out: 0,
+    of_err: 0,
+    of_hup: 0,
+    of_rdhup: 0,
+};
 
 /// The arguments of an epoll_wait.
 #[derive(Clone, Copy)]
@@ -74,7 +85,15 @@ fn shown(tables: &Tables, now: u64, entry: &Entry) -> Mask
     present.intersection(entry.mask.union(Mask::ERR.union(Mask::HUP)))
 }
 
-/// The registrations of an instance that show something, in order of registration.
+/// Whether a registration that shows these bits is reportable: an edge-triggered one needs something that arrived since
+/// its last report.
+fn is_reportable(entry: &Entry, bits: Mask) -> bool
+    ensures { result ≡ (nat_lt 0 bits.0 && (not (has_bit entry.now.mask.0 ET) || is_none entry.now.seen)) }
+{
+    !bits.is_empty() && (!entry.mask.intersects(Mask::ET) || entry.seen.is_none())
+}
+
+/// The registrations of an instance that are reportable, in order of registration.
 fn reportables(
     alloc: Global,
     tables: &Tables,
@@ -90,7 +109,7 @@ fn reportables(
     let mut found = Vec::new(alloc);
     for (id, entry) in interest.entries(instance) {
         let bits = shown(tables, now, entry);
-        if !bits.is_empty() {
+        if is_reportable(entry, bits) {
             found.push(Reportable {
                 id,
                 entry: *entry,
@@ -170,7 +189,7 @@ fn note_one(interest: &mut Interest, step: u64, id: EntryId)
 {
     interest.known();
     let armed = stays_armed(interest.entry(id));
-    interest.note(id, armed, None, step, 0);
+    interest.note(id, armed, Some(SEEN), step, 0);
 }
 
 /// Notes that they are reported in this step.
@@ -190,6 +209,7 @@ fn reported(alloc: Global, chosen: &[Reportable]) -> Result<Acted, AllocError>
     ensures answer { IfOk result (λ acted. acted.answer ≡ Events (map report_of chosen.now)) }
     ensures copy { IfOk result (λ acted. acted.copy ≡ acted.answer) }
     ensures picked { IfOk result (λ acted. acted.picked ≡ numbers_of chosen.now) }
+    ensures raising { IfOk result (λ acted. acted.raising ≡ Nowhere) }
 {
     let answer = Answer::Events(reports_of(alloc, chosen)?);
     let copy = Answer::Events(reports_of(alloc, chosen)?);
@@ -197,6 +217,7 @@ fn reported(alloc: Global, chosen: &[Reportable]) -> Result<Acted, AllocError>
         answer,
         copy,
         picked: picked_of(alloc, chosen)?,
+        raising: Raising::Nowhere,
     })
 }
 
@@ -215,6 +236,7 @@ fn report(
     requires clock { now ≤ last_moment }
     ensures ok { IfOk result (λ acted. Reports tables.now now interest.old interest.new step instance (number_in args.max) acted.answer acted.picked) }
     ensures copy { IfOk result (λ acted. acted.copy ≡ acted.answer) }
+    ensures raising { IfOk result (λ acted. acted.raising ≡ Nowhere) }
     ensures err { OnErr result (interest.new ≡ interest.old) }
 {
     let chosen = choose(alloc, tables, now, interest, instance, args)?;
@@ -239,6 +261,7 @@ pub fn epoll_wait(
     requires clock { now ≤ last_moment }
     ensures ok { IfOk result (λ acted. (limits : Numbers) (caller : ℕ) → MovesCall limits step caller pid.0 (wait_call args) acted.answer acted.picked (record { tables = tables.now; interest = interest.old; now = now }) (record { tables = tables.now; interest = interest.new; now = now })) }
     ensures copy { IfOk result (λ acted. acted.copy ≡ acted.answer) }
+    ensures raising { IfOk result (λ acted. acted.raising ≡ Nowhere) }
     ensures real { IfOk result (λ acted. is_no_memory acted.answer ≡ false) }
     ensures linked { AreLinked tables.now interest.new }
     ensures added { interest.new.added ≡ interest.old.added }

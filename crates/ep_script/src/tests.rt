@@ -1,5 +1,6 @@
 //! Whole scripts.
 
+mod edges;
 mod plain;
 mod registrations;
 mod runs;

@@ -105,6 +105,7 @@ sound_inside k inv s = record {
   object = s.object;
   named = λ p d fd h. named_is k (value_of k) inv refl p d fd h;
   keyed = s.keyed;
+  apart = s.apart;
   held = s.held;
   distinct = s.queue.distinct;
   dying = λ d.

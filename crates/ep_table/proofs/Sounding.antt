@@ -1,5 +1,5 @@
 -- What always holds of descriptions and objects.
-use Rattle.std.proofs.Common.{IsSome, List, None, Option, Some, ap, arith, false, get_or, inl, inr, is_some, map, refl, subst, sym, true, ℕ, ◌∙◌, ◌≡◌}
+use Rattle.std.proofs.Common.{IsSome, List, None, Option, Some, ap, arith, false, get_or, inl, inr, is_some, map, refl, subst, sym, true, unwrap_or, ℕ, ◌∙◌, ◌≡◌}
 use Rattle.std.proofs.lemmas.Bool.{false≢true}
 use Rattle.std.proofs.lemmas.List.{get_or_past}
 use Rattle.std.proofs.lemmas.List.FromFn.{get_or-map-range_with_len}
@@ -7,10 +7,11 @@ use Rattle.ep_base.specs.declared.ids.DescId.{DescId}
 use Rattle.ep_machine.specs.Files.{Place, object_of, place_of}
 use Rattle.ep_machine.specs.Objects.{Object}
 use Rattle.ep_table.specs.ByNumber.{NumberedBy, contents_by, with_by}
-use Rattle.ep_table.specs.Stored.{IsStore, count_in, counts, holds_in, key_number, names_in, number_in, place_in, places, things}
+use Rattle.ep_table.specs.Stored.{IsStore, key_at as key_of_end, count_in, counts, holds_in, key_number, names_in, number_in, place_in, places, things}
 use Rattle.ep_table.specs.Value.{SoundThings, Things, count_at, files_in, number_at}
 use Rattle.ep_table.specs.declared.store.Store.TheInside.{Inside}
 use Rattle.ep_table.specs.declared.words.Description.{Description}
+use Rattle.ep_table.specs.declared.words.Shared.{Shared}
 use Rattle.ep_table.proofs.Closing.{contents_has}
 use Rattle.ep_table.proofs.Numbers.{below_or, content_there, contents_length, has_or, with_none}
 use Rattle.ep_table.proofs.Recounting.{counts_at, counts_length}
@@ -58,6 +59,32 @@ held_of slots n num d h =
     ] in
     counts_at holds_in (contents_by number_in holds_in slots n) d ∙ ap count_in none
 
+some_shared : (x y : Shared) → Some x ≡ Some y → x ≡ y
+some_shared x y h = ap (λ (o : Option Shared). unwrap_or o x) h
+
+some_key : (a b : DescId) → Some a ≡ Some b → a.0 ≡ b.0
+some_key a b h = ap (λ (o : Option DescId). (unwrap_or o a).0) h
+
+some_description : (x y : Description) → Some x ≡ Some y → x ≡ y
+some_description x y h = ap (λ (o : Option Description). unwrap_or o x) h
+
+-- an object has one description at each end
+apart_of : {A : Type 0} (k : Inside A) → IsStore k → (d e : ℕ) (p : Place) → place_of (files_in (things k)) d ≡ Some p → place_of (files_in (things k)) e ≡ Some p → d ≡ e
+apart_of k inv d e p i j =
+    let ds = k.descriptions.slots in
+    let os = k.objects.slots in
+    let a = contents_has ds k.described inv.descriptions d p i in
+    let b = contents_has ds k.described inv.descriptions e p j in
+    let x = inv.backed a.0.key a.0.it a.0.is in
+    let y = inv.backed b.0.key b.0.it b.0.is in
+    let places : place_in a.0.it ≡ place_in b.0.it = a.1 ∙ sym b.1 in
+    let at : a.0.it.object ≡ b.0.it.object = inv.objects.one a.0.it.object b.0.it.object x.it y.it x.is y.is (x.number ∙ (ap (λ (q : Place). q.object) places ∙ sym y.number)) in
+    let shared : x.it ≡ y.it = some_shared x.it y.it (sym x.is ∙ (ap (λ (n : ℕ). get_or os n None) at ∙ y.is)) in
+    let keys : a.0.key ≡ b.0.key =
+    some_key (record { 0 = a.0.key }) (record { 0 = b.0.key }) (sym x.key_is ∙ ((λ t. key_of_end (shared t) ((places t).side)) ∙ y.key_is)) in
+    let same : a.0.it ≡ b.0.it = some_description a.0.it b.0.it (sym a.0.is ∙ (ap (λ (n : ℕ). get_or ds n None) keys ∙ b.0.is)) in
+    sym a.0.num ∙ (ap number_in same ∙ b.0.num)
+
 sound_inside : {A : Type 0} (k : Inside A) → IsStore k → SoundThings (things k)
 sound_inside k inv = record {
   one = λ i j d p q. let a = there k (things k) refl i d p in let b = there k (things k) refl j d q in inv.descriptions.one i.0 j.0 a.it b.it a.is b.is (a.number ∙ sym b.number);
@@ -72,6 +99,7 @@ sound_inside k inv = record {
       let n = thing_is k (things k) inv refl key a.it a.is ∙ a.number in
       subst (λ (o : Option Object). IsSome o) (sym (ap (λ (m : ℕ). object_of (files_in (things k)) m) (sym n) ∙ e)) refl;
   keyed = λ d h. keyed_of k.descriptions.slots k.described inv.descriptions d h;
+  apart = apart_of k inv;
   held = λ d h. held_of k.descriptions.slots k.described inv.descriptions d h;
   names_length = counts_length names_in k.descriptions.slots k.described ∙ sym (contents_length number_in place_in k.descriptions.slots k.described);
   holds_length = counts_length holds_in k.descriptions.slots k.described ∙ sym (contents_length number_in place_in k.descriptions.slots k.described);

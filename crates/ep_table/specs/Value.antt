@@ -154,6 +154,7 @@ pub record Sound (v : Seen) : Type 0 where
   pub object : (k : DescId) (d : ℕ) → number_under v k ≡ Some d → IsSome (object_of v.files d)
   pub named : (p d : ℕ) (fd : ℤ) → under v.files p fd ≡ Some d → (key : DescId) × (number_under v key ≡ Some d)
   pub keyed : (d : ℕ) → is_live v.files d ≡ true → (key : DescId) × (number_under v key ≡ Some d)
+  pub apart : (d e : ℕ) (p : Place) → place_of v.files d ≡ Some p → place_of v.files e ≡ Some p → d ≡ e  -- an end of an object has one description
   pub held : (d : ℕ) → is_live v.files d ≡ false → holds_of v d ≡ 0
   pub distinct : are_distinct v.dying ≡ true
   pub dying : (d : ℕ) → is_among v.dying d ≡ is_dying v d
@@ -188,6 +189,7 @@ pub record SoundThings (v : Things) : Type 0 where
   pub place : (k : DescId) (d : ℕ) → number_at v.keys k ≡ Some d → IsSome (place_of (files_in v) d)
   pub object : (k : DescId) (d : ℕ) → number_at v.keys k ≡ Some d → IsSome (object_of (files_in v) d)
   pub keyed : (d : ℕ) → is_live (files_in v) d ≡ true → (key : DescId) × (number_at v.keys key ≡ Some d)
+  pub apart : (d e : ℕ) (p : Place) → place_of (files_in v) d ≡ Some p → place_of (files_in v) e ≡ Some p → d ≡ e
   pub held : (d : ℕ) → is_live (files_in v) d ≡ false → count_at v.holds d ≡ 0
   pub names_length : length v.names ≡ length v.descriptions
   pub holds_length : length v.holds ≡ length v.descriptions

@@ -1,6 +1,6 @@
 //! Whole scripts over the scanning kernel.
 
-use crate::tests::scripts::{DESCRIPTORS, LEVEL, OBJECTS, REGISTRATIONS, SINGLE_LINES, Script};
+use crate::tests::scripts::{DESCRIPTORS, EDGES, LEVEL, OBJECTS, REGISTRATIONS, SINGLE_LINES, Script};
 use crate::{ScriptFault, Summary, Watched, run_script};
 use ep_base::Limits;
 use ep_plain::{Kernel, PlainKernel};
@@ -97,6 +97,14 @@ fn answers_scripts_about_descriptors(rt: HostRuntime) -> Result<(), Fail> {
 #[test]
 fn answers_scripts_about_registrations(rt: HostRuntime) -> Result<(), Fail> {
     for script in REGISTRATIONS {
+        expect_lines(&rt, script)?;
+    }
+    Ok(())
+}
+
+#[test]
+fn answers_scripts_about_edges(rt: HostRuntime) -> Result<(), Fail> {
+    for script in EDGES {
         expect_lines(&rt, script)?;
     }
     Ok(())

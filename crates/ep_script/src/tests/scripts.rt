@@ -1,5 +1,6 @@
 //! Scripts over the scanning kernel, each line with its answer.
 
+use crate::tests::edges::{EDGE, MODIFIED, PERIODIC};
 use crate::tests::registrations::{KEY, KINDS, ONE_SHOT};
 
 /// A script over a new kernel of these limits.
@@ -355,6 +356,22 @@ pub(crate) const REGISTRATIONS: &[Script] = &[
     Script {
         limits: DEFAULT,
         lines: KINDS,
+    },
+];
+
+/// What edge-triggered registrations report.
+pub(crate) const EDGES: &[Script] = &[
+    Script {
+        limits: DEFAULT,
+        lines: EDGE,
+    },
+    Script {
+        limits: DEFAULT,
+        lines: PERIODIC,
+    },
+    Script {
+        limits: DEFAULT,
+        lines: MODIFIED,
     },
 ];
 

@@ -22,6 +22,9 @@ use Rattle.ep_machine.specs.Watches.{number_in}
 use Rattle.ep_machine.specs.Timer.{new_timer}
 use Rattle.ep_plain.specs.Moves.{Goes, Opens, Parts}
 use Rattle.ep_plain.proofs.Opening.{files_goes, object_called, object_limits, object_linked, on_object_is, one_goes, opens_linked, two_goes}
+use Rattle.ep_plain.specs.Raising.{Raises}
+use Rattle.ep_plain.proofs.ObjectRaising.{object_raises}
+use Rattle.ep_plain.proofs.Unraised.{IsOffObject, nowhere_raises}
 use Rattle.ep_plain.proofs.act.act_call.Goals as goal
 
 pub returns-in_ok-acted-in-Pipe-clause-ok : goal.returns-in_ok-acted-in-Pipe-clause-ok
@@ -301,3 +304,52 @@ returns-in-Exit-clause-ok c = λ caller s at sound quiet stands.
     subst (λ (call : Call). P call acted.picked) (sym x.is) (subst (P Exit) (sym c.exit-acted.ensures.picked)
     (subst (λ (b : Bool). Goes ((b, Ebusy) ∷ []) (Some (files_change s Done (exit s.files p))) s acted.answer [] (record { tables = new; interest = r; now = c.args.now })) (sym (ap (λ (ws : List Waiter). list_any (λ w. w.process == p) ws) quiet.waiters))
     (files_goes limits v new r c.args.now s p acted.answer c.requires.linked stands c.requires.limits tests to after c.exit-acted.ensures.ok)))
+
+pub returns-in_ok-acted-in-Pipe-clause-raised : goal.returns-in_ok-acted-in-Pipe-clause-raised
+returns-in_ok-acted-in-Pipe-clause-raised c = λ caller. nowhere_raises c.args.limits.now c.args.step caller c.args.pid.0 c.args.call.now c.in_ok-acted-in-Pipe.acted.picked c.in_ok-acted-in-Pipe.acted.raising _ _ _ c.in_ok-acted-in-Pipe.ensures.raising (subst IsOffObject (sym c.in-Pipe.is) tt)
+
+pub returns-in_ok-acted-in-SocketPair-clause-raised : goal.returns-in_ok-acted-in-SocketPair-clause-raised
+returns-in_ok-acted-in-SocketPair-clause-raised c = λ caller. nowhere_raises c.args.limits.now c.args.step caller c.args.pid.0 c.args.call.now c.in_ok-acted-in-SocketPair.acted.picked c.in_ok-acted-in-SocketPair.acted.raising _ _ _ c.in_ok-acted-in-SocketPair.ensures.raising (subst IsOffObject (sym c.in-SocketPair.is) tt)
+
+pub returns-in_ok-acted-in-EventFd-clause-raised : goal.returns-in_ok-acted-in-EventFd-clause-raised
+returns-in_ok-acted-in-EventFd-clause-raised c = λ caller. nowhere_raises c.args.limits.now c.args.step caller c.args.pid.0 c.args.call.now c.in_ok-acted-in-EventFd.acted.picked c.in_ok-acted-in-EventFd.acted.raising _ _ _ c.in_ok-acted-in-EventFd.ensures.raising (subst IsOffObject (sym c.in-EventFd.is) tt)
+
+pub returns-in_ok-acted-in-TimerFd-clause-raised : goal.returns-in_ok-acted-in-TimerFd-clause-raised
+returns-in_ok-acted-in-TimerFd-clause-raised c = λ caller. nowhere_raises c.args.limits.now c.args.step caller c.args.pid.0 c.args.call.now c.in_ok-acted-in-TimerFd.acted.picked c.in_ok-acted-in-TimerFd.acted.raising _ _ _ c.in_ok-acted-in-TimerFd.ensures.raising (subst IsOffObject (sym c.in-TimerFd.is) tt)
+
+pub returns-in_ok-acted-in-Plain-clause-raised : goal.returns-in_ok-acted-in-Plain-clause-raised
+returns-in_ok-acted-in-Plain-clause-raised c = λ caller. nowhere_raises c.args.limits.now c.args.step caller c.args.pid.0 c.args.call.now c.in_ok-acted-in-Plain.acted.picked c.in_ok-acted-in-Plain.acted.raising _ _ _ c.in_ok-acted-in-Plain.ensures.raising (subst IsOffObject (sym c.in-Plain.is) tt)
+
+pub returns-in_ok-acted-in-EpollCreate-clause-raised : goal.returns-in_ok-acted-in-EpollCreate-clause-raised
+returns-in_ok-acted-in-EpollCreate-clause-raised c = λ caller. nowhere_raises c.args.limits.now c.args.step caller c.args.pid.0 c.args.call.now c.in_ok-acted-in-EpollCreate.acted.picked c.in_ok-acted-in-EpollCreate.acted.raising _ _ _ c.in_ok-acted-in-EpollCreate.ensures.raising (subst IsOffObject (sym c.in-EpollCreate.is) tt)
+
+pub returns-in_ok-acted-in-EpollWait-clause-raised : goal.returns-in_ok-acted-in-EpollWait-clause-raised
+returns-in_ok-acted-in-EpollWait-clause-raised c = λ caller. nowhere_raises c.args.limits.now c.args.step caller c.args.pid.0 c.args.call.now c.in_ok-acted-in-EpollWait.acted.picked c.in_ok-acted-in-EpollWait.acted.raising _ _ _ c.in_ok-acted-in-EpollWait.ensures.raising (subst IsOffObject (sym c.in-EpollWait.is) tt)
+
+pub returns-in_ok-acted-in-Dup-clause-raised : goal.returns-in_ok-acted-in-Dup-clause-raised
+returns-in_ok-acted-in-Dup-clause-raised c = λ caller. nowhere_raises c.args.limits.now c.args.step caller c.args.pid.0 c.args.call.now c.in_ok-acted-in-Dup.acted.picked c.in_ok-acted-in-Dup.acted.raising _ _ _ c.in_ok-acted-in-Dup.ensures.raising (subst IsOffObject (sym c.in-Dup.is) tt)
+
+pub returns-in_ok-acted-in-Dup2-clause-raised : goal.returns-in_ok-acted-in-Dup2-clause-raised
+returns-in_ok-acted-in-Dup2-clause-raised c = λ caller. nowhere_raises c.args.limits.now c.args.step caller c.args.pid.0 c.args.call.now c.in_ok-acted-in-Dup2.acted.picked c.in_ok-acted-in-Dup2.acted.raising _ _ _ c.in_ok-acted-in-Dup2.ensures.raising (subst IsOffObject (sym c.in-Dup2.is) tt)
+
+pub returns-in_ok-acted-in-Fork-clause-raised : goal.returns-in_ok-acted-in-Fork-clause-raised
+returns-in_ok-acted-in-Fork-clause-raised c = λ caller. nowhere_raises c.args.limits.now c.args.step caller c.args.pid.0 c.args.call.now c.in_ok-acted-in-Fork.acted.picked c.in_ok-acted-in-Fork.acted.raising _ _ _ c.in_ok-acted-in-Fork.ensures.raising (subst IsOffObject (sym c.in-Fork.is) tt)
+
+pub returns-in_ok-answer-in-EpollCtl-clause-raised : goal.returns-in_ok-answer-in-EpollCtl-clause-raised
+returns-in_ok-answer-in-EpollCtl-clause-raised c = λ caller. nowhere_raises c.args.limits.now c.args.step caller c.args.pid.0 c.args.call.now c.settled.result.picked c.settled.result.raising _ _ _ c.settled.ensures.raising (subst IsOffObject (sym c.in-EpollCtl.is) tt)
+
+pub returns-in-Close-clause-raised : goal.returns-in-Close-clause-raised
+returns-in-Close-clause-raised c = λ caller. nowhere_raises c.args.limits.now c.args.step caller c.args.pid.0 c.args.call.now c.close-acted.result.picked c.close-acted.result.raising _ _ _ c.close-acted.ensures.raising (subst IsOffObject (sym c.in-Close.is) tt)
+
+pub returns-in-Exec-clause-raised : goal.returns-in-Exec-clause-raised
+returns-in-Exec-clause-raised c = λ caller. nowhere_raises c.args.limits.now c.args.step caller c.args.pid.0 c.args.call.now c.exec-acted.result.picked c.exec-acted.result.raising _ _ _ c.exec-acted.ensures.raising (subst IsOffObject (sym c.in-Exec.is) tt)
+
+pub returns-in-Exit-clause-raised : goal.returns-in-Exit-clause-raised
+returns-in-Exit-clause-raised c = λ caller. nowhere_raises c.args.limits.now c.args.step caller c.args.pid.0 c.args.call.now c.exit-acted.result.picked c.exit-acted.result.raising _ _ _ c.exit-acted.ensures.raising (subst IsOffObject (sym c.in-Exit.is) tt)
+
+pub returns-in_ok-acted-in-Read-clause-raised : goal.returns-in_ok-acted-in-Read-clause-raised
+returns-in_ok-acted-in-Read-clause-raised c = λ caller s at sound quiet stands.
+    let acted = c.in_ok-acted-in-Read.acted in
+    let P : List ℕ → Type 0 = λ ks. Raises (call_refusals c.args.limits.now s c.args.pid.0 c.args.call.now) (call_change c.args.limits.now s caller c.args.pid.0 c.args.call.now ks) acted.raising c.object_call.new.tables c.args.now in
+    subst P (sym c.in_ok-acted-in-Read.ensures.picked)
+    (object_raises c.args.tables.now c.object_call.new.tables c.args.pid.0 c.in-Read.fd c.args.now c.args.call.now acted.raising c.in_ok-acted-in-Read.ensures.raised c.args.limits.now c.args.interest.now s caller stands (on_object_is c.in-Read.fd c.args.call.now c.in-Read.is))

@@ -1,4 +1,6 @@
-use Rattle.std.proofs.Common.{◌∙◌, ap, sym}
+use Rattle.std.proofs.Common.{◌∙◌, ap, map, sym}
+use Rattle.ep_machine.specs.Bits.{at_end}
+use Rattle.ep_plain.specs.Raising.{raised_there}
 use Rattle.ep_machine.specs.Files.{Files, place_of}
 use Rattle.ep_plain.proofs.Burying.{buries_more, buries_none, placed_before}
 use Rattle.ep_plain.proofs.bury.end_each.Goals as goal
@@ -11,5 +13,6 @@ loop-dead-preserved c =
     let takes = c.in-Some.ensures.some in
     let before = c.loop-dead.invariant in
     let there = ap (λ (f : Files). place_of f takes.number) (sym before.files) ∙ takes.place_is in
-    buries_more c.args.tables.now c.loop-dead.tables c.take_dead.new.self c.args.interest.now c.loop-dead.interest c.purge.new.self c.in-Some.dead before takes c.known.ensures c.purge.ensures.entries c.purge.ensures.added
+    buries_more c.args.tables.now c.loop-dead.tables c.take_dead.new.self c.args.interest.now c.loop-dead.interest c.raise_there.new.interest c.in-Some.dead before takes c.known.ensures c.at_end.result (c.at_end.ensures ∙ ap (at_end c.in-Some.dead.raised) c.other_end.ensures)
+    (c.raise_there.ensures.entries ∙ ap (map (raised_there c.in-Some.dead.other c.at_end.result)) c.purge.ensures.entries) (c.raise_there.ensures.added ∙ c.purge.ensures.added)
     (placed_before c.args.tables.now.files before.dead takes.number takes.place there)

@@ -1,0 +1,93 @@
+-- What a closure leaves that is called at each registration, and what an arrival keeps.
+use Rattle.std.proofs.Common.{◌≡◌, ◌∙◌, ◌+◌, ◌<◌, ◌≤◌, ◌==◌, ◌&&◌, ℕ, zero, suc, Bool, true, false, List, [], ◌∷◌, None, Option, Some, MutBor, ap, cond, get_or, map, refl, subst, sym, unwrap_or}
+use Rattle.std.proofs.lemmas.Option.{none-some}
+use Rattle.std.specs.List.{cons_option, filter_map, range_with_len}
+use Rattle.std.specs.Option.{option_map}
+use Rattle.slab.specs.Slab.{CalledAt, RetainsFrom}
+use Rattle.ep_base.specs.declared.ids.DescId.{DescId}
+use Rattle.ep_base.specs.declared.mask.Mask.{Mask}
+use Rattle.ep_machine.specs.Counts.{brings}
+use Rattle.ep_base.specs.declared.ids.EntryId.{EntryId}
+use Rattle.ep_interest.specs.ByNumber.{NumberedBy, found_by, in_order}
+use Rattle.ep_interest.specs.Registrations.{is_on, raised_on}
+use Rattle.ep_interest.specs.View.{IsIndex, number_in}
+use Rattle.ep_interest.specs.declared.entry.Entry.{Entry}
+
+module _ {F : Type 0} (step : F → ℕ → MutBor Entry → Bool → MutBor Entry → F → Type 0) (P : F → Type 0) (g : Entry → Entry)
+    (each : (f : F) (key : ℕ) (old : Entry) (keep : Bool) (new : Entry) (next : F) → P f → CalledAt step f key old keep new next → (keep ≡ true) × (new ≡ g old) × P next) where
+  pub retained_map : (f : F) (key : ℕ) (old new : List (Option Entry)) → P f → RetainsFrom step f key old new → new ≡ map (option_map g) old
+  retained_map f key [] new h r = r
+  retained_map f key (None ∷ old) new h r = r.1 ∙ ap (λ (xs : List (Option Entry)). None ∷ xs) (retained_map f (key + 1) old r.0 h r.2)
+  retained_map f key (Some x ∷ old) new h r =
+      let one = each f key x r.0 r.1 r.2 h r.3 in
+      r.5
+      ∙ (ap (λ (b : Bool). cond b (Some r.1) None ∷ r.4) one.0
+      ∙ ((λ i. Some (one.1 i) ∷ r.4) ∙ ap (λ (xs : List (Option Entry)). Some (g x) ∷ xs) (retained_map r.2 (key + 1) old r.4 one.2 r.6)))
+
+-- Each registration changed in place, with its number kept.
+module _ (f : Entry → Entry) (number : (x : Entry) → (f x).number ≡ x.number) where
+  abbrev changed : List (Option Entry) → List (Option Entry)
+  changed slots = map (option_map f) slots
+
+  get_changed : (slots : List (Option Entry)) (k : ℕ) → get_or (changed slots) k None ≡ option_map f (get_or slots k None)
+  get_changed [] k = refl
+  get_changed (x ∷ slots) zero = refl
+  get_changed (x ∷ slots) (suc k) = get_changed slots k
+
+  was : (o : Option Entry) (y : Entry) → option_map f o ≡ Some y → (x : Entry) × (o ≡ Some x) × (f x ≡ y)
+  was None y h = absurd (none-some y h)
+  was (Some x) y h = (x, refl, ap (λ (o : Option Entry). unwrap_or o (f x)) h)
+
+  -- what stood there before
+  before : (slots : List (Option Entry)) (k : ℕ) (y : Entry) → get_or (changed slots) k None ≡ Some y → (x : Entry) × (get_or slots k None ≡ Some x) × (f x ≡ y)
+  before slots k y h = was (get_or slots k None) y (sym (get_changed slots k) ∙ h)
+
+  pub keys_changed : (slots : List (Option Entry)) → map number_in (changed slots) ≡ map number_in slots
+  keys_changed [] = refl
+  keys_changed (None ∷ slots) = ap (λ (xs : List (Option ℕ)). None ∷ xs) (keys_changed slots)
+  keys_changed (Some x ∷ slots) = λ i. Some (number x i) ∷ keys_changed slots i
+
+  found_changed : (slots : List (Option Entry)) (n : ℕ) → found_by (changed slots) n ≡ option_map f (found_by slots n)
+  found_changed [] n = refl
+  found_changed (None ∷ slots) n = found_changed slots n
+  found_changed (Some x ∷ slots) n =
+      (λ i. cond (number x i == n) (Some (f x)) (found_changed slots n i))
+      ∙ elim (x.number == n) as (λ b. cond b (Some (f x)) (option_map f (found_by slots n)) ≡ option_map f (cond b (Some x) (found_by slots n))) [ true ↦ refl | false ↦ refl ]
+
+  all_found : (slots : List (Option Entry)) (ns : List ℕ) → filter_map (found_by (changed slots)) ns ≡ map f (filter_map (found_by slots) ns)
+  all_found slots [] = refl
+  all_found slots (n ∷ ns) =
+      (λ i. cons_option (found_changed slots n i) (all_found slots ns i))
+      ∙ elim (found_by slots n) as (λ o. cons_option (option_map f o) (map f (filter_map (found_by slots) ns)) ≡ map f (cons_option o (filter_map (found_by slots) ns))) [ None ↦ refl | Some x ↦ refl ]
+
+  pub in_order_changed : (slots : List (Option Entry)) (n : ℕ) → in_order (changed slots) n ≡ map f (in_order slots n)
+  in_order_changed slots n = all_found slots (range_with_len 1 n)
+
+  pub numbered_changed : (slots : List (Option Entry)) (n : ℕ) → NumberedBy slots n → NumberedBy (changed slots) n
+  numbered_changed slots n h = record {
+    above = λ k y e. let x = before slots k y e in subst (λ (z : Entry). 0 < z.number) x.2 (subst (λ (m : ℕ). 0 < m) (sym (number x.0)) (h.above k x.0 x.1));
+    below = λ k y e. let x = before slots k y e in subst (λ (z : Entry). z.number ≤ n) x.2 (subst (λ (m : ℕ). m ≤ n) (sym (number x.0)) (h.below k x.0 x.1));
+    one = λ j k y z d e same.
+        let x = before slots j y d in
+        let w = before slots k z e in
+        h.one j k x.0 w.0 x.1 w.1 (sym (number x.0) ∙ (ap (λ (v : Entry). v.number) x.2 ∙ (same ∙ (sym (ap (λ (v : Entry). v.number) w.2) ∙ number w.0))));
+  }
+
+  pub index_changed : {K : Type 0} (key : Entry → K) (slots : List (Option Entry)) (get : K → Option EntryId) → ((x : Entry) → key (f x) ≡ key x) → IsIndex key slots get → IsIndex key (changed slots) get
+  index_changed key slots get same h = record {
+    kept = λ k y e. let x = before slots k y e in ap get (sym (ap key x.2) ∙ same x.0) ∙ h.kept k x.0 x.1;
+    live = λ q id e. let x = h.live q id e in (f x.0, get_changed slots id.0 ∙ ap (option_map f) x.1, same x.0 ∙ x.2);
+  }
+
+-- an arrival keeps what a registration is found by
+pub same_number : (desc : DescId) (bits : Mask) (x : Entry) → (raised_on desc bits x).number ≡ x.number
+same_number desc bits x = elim (is_on desc x && brings x.mask.0 bits.0) as (λ b. (cond b (record x { seen = None }) x).number ≡ x.number) [ true ↦ refl | false ↦ refl ]
+
+pub same_instance : (desc : DescId) (bits : Mask) (x : Entry) → (raised_on desc bits x).instance ≡ x.instance
+same_instance desc bits x = elim (is_on desc x && brings x.mask.0 bits.0) as (λ b. (cond b (record x { seen = None }) x).instance ≡ x.instance) [ true ↦ refl | false ↦ refl ]
+
+pub same_target : (desc : DescId) (bits : Mask) (x : Entry) → (raised_on desc bits x).desc ≡ x.desc
+same_target desc bits x = elim (is_on desc x && brings x.mask.0 bits.0) as (λ b. (cond b (record x { seen = None }) x).desc ≡ x.desc) [ true ↦ refl | false ↦ refl ]
+
+pub same_descriptor : (desc : DescId) (bits : Mask) (x : Entry) → (raised_on desc bits x).fd ≡ x.fd
+same_descriptor desc bits x = elim (is_on desc x && brings x.mask.0 bits.0) as (λ b. (cond b (record x { seen = None }) x).fd ≡ x.fd) [ true ↦ refl | false ↦ refl ]

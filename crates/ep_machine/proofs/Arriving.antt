@@ -1,0 +1,215 @@
+-- What is raised in parts, and what that freshens.
+use Rattle.std.proofs.Common.{◌≡◌, ℕ, zero, suc, ◌+◌, ◌<◌, ◌==◌, ◌&&◌, ◌||◌, ◌++◌, ◌∙◌, All, Bool, true, false, List, [], ◌∷◌, None, Option, Some, ap, append_assoc, append-nil, arith, bit_and, bit_or, cond, filter, get_or, map, max, min, not, refl, sym}
+use Rattle.std.specs.Int.{bit_at}
+use Rattle.std.specs.Int.Bits.{or_zero_r}
+use Rattle.std.proofs.lemmas.Bool.Decides.{nat_tests}
+use Rattle.std.proofs.lemmas.Nat.{le_or_l, le_or_r}
+use Rattle.std.proofs.lemmas.Nat.Bits.{bit_at_and, bit_at_or, same_from_bits}
+use Rattle.ep_machine.specs.Bits.{ERR, HUP, IN, OUT, RDHUP, asked, has_bit, when}
+use Rattle.ep_machine.specs.Counts.{brings, every_shown_bit, holds_wanted}
+use Rattle.ep_machine.specs.Deaths.{die, die_all}
+use Rattle.ep_machine.specs.Files.{Files, Place, live}
+use Rattle.ep_machine.specs.Lists.{numbered}
+use Rattle.ep_machine.specs.Quiet.{freshened, stays_in}
+use Rattle.ep_machine.specs.Spread.{raised_of}
+use Rattle.ep_machine.specs.State.{Watch}
+
+-- Bits of unions.
+max_min : (a b c : ℕ) → min (max a b) c ≡ max (min a c) (min b c)
+max_min a b c = omega arith
+
+pub and_or : (a b k : ℕ) → bit_and (bit_or a b) k ≡ bit_or (bit_and a k) (bit_and b k)
+and_or a b k =
+    same_from_bits (bit_and (bit_or a b) k) (bit_or (bit_and a k) (bit_and b k)) (λ i.
+    bit_at_and (bit_or a b) k i
+    ∙ (ap (λ (n : ℕ). min n (bit_at k i)) (bit_at_or a b i)
+    ∙ (max_min (bit_at a i) (bit_at b i) (bit_at k i)
+    ∙ sym (bit_at_or (bit_and a k) (bit_and b k) i ∙ (λ j. max (bit_at_and a k i j) (bit_at_and b k i j))))))
+
+zero_test : (n : ℕ) → (n == 0) ≡ true → n ≡ 0
+zero_test n h = grind (arith, nat_tests, h)
+
+is_zero_test : (n : ℕ) → n ≡ 0 → (n == 0) ≡ true
+is_zero_test n h = grind (arith, nat_tests, h)
+
+same_bools : (a b : Bool) → (a ≡ true → b ≡ true) → (b ≡ true → a ≡ true) → a ≡ b
+same_bools true b f g = sym (f refl)
+same_bools false true f g = g refl
+same_bools false false f g = refl
+
+both_zero : (a b : Bool) → (a && b) ≡ true → (a ≡ true) × (b ≡ true)
+both_zero true b h = (refl, h)
+both_zero false b h = cc
+
+or_is_zero : (a b : ℕ) → (bit_or a b == 0) ≡ ((a == 0) && (b == 0))
+or_is_zero a b =
+    same_bools (bit_or a b == 0) ((a == 0) && (b == 0))
+    (λ h.
+    let none = zero_test (bit_or a b) h in
+    let l = le_or_l a b in
+    let r = le_or_r a b in λ i. is_zero_test a (omega (arith, none, l)) i && is_zero_test b (omega (arith, none, r)) i)
+    (λ h. let both = both_zero (a == 0) (b == 0) h in is_zero_test (bit_or a b) (λ i. bit_or (zero_test a both.0 i) (zero_test b both.1 i)))
+
+not_and : (a b : Bool) → not (a && b) ≡ (not a || not b)
+not_and true b = refl
+not_and false b = refl
+
+pub has_either : (a b k : ℕ) → has_bit (bit_or a b) k ≡ (has_bit a k || has_bit b k)
+has_either a b k = ap (λ (n : ℕ). not (n == 0)) (and_or a b k) ∙ (ap not (or_is_zero (bit_and a k) (bit_and b k)) ∙ not_and (bit_and a k == 0) (bit_and b k == 0))
+
+-- tests of several bits, each of one set and of another
+join_one : (p a b : Bool) → (p && (a || b)) ≡ (p && a || p && b)
+join_one true a b = refl
+join_one false a b = refl
+
+join_next : (x y p a b : Bool) → ((x || y) || p && (a || b)) ≡ ((x || p && a) || (y || p && b))
+join_next true y p a b = refl
+join_next false true true true b = refl
+join_next false true true false b = refl
+join_next false true false a b = refl
+join_next false false p a b = join_one p a b
+
+wanted_either : (w a b : ℕ) → holds_wanted w (bit_or a b) ≡ (holds_wanted w a || holds_wanted w b)
+wanted_either w a b =
+    let p = has_bit w IN in
+    let q = has_bit w OUT in
+    let r = has_bit w ERR in
+    let s = has_bit w HUP in
+    let t = has_bit w RDHUP in
+    let one = ap (λ (x : Bool). p && x) (has_either a b IN) ∙ join_one p (has_bit a IN) (has_bit b IN) in
+    let two = (λ i. one i || q && has_either a b OUT i) ∙ join_next (p && has_bit a IN) (p && has_bit b IN) q (has_bit a OUT) (has_bit b OUT) in
+    let three = (λ i. two i || r && has_either a b ERR i) ∙ join_next (p && has_bit a IN || q && has_bit a OUT) (p && has_bit b IN || q && has_bit b OUT) r (has_bit a ERR) (has_bit b ERR) in
+    let four = (λ i. three i || s && has_either a b HUP i) ∙ join_next (p && has_bit a IN || q && has_bit a OUT || r && has_bit a ERR) (p && has_bit b IN || q && has_bit b OUT || r && has_bit b ERR) s (has_bit a HUP) (has_bit b HUP) in
+    (λ i. four i || t && has_either a b RDHUP i) ∙ join_next (p && has_bit a IN || q && has_bit a OUT || r && has_bit a ERR || s && has_bit a HUP) (p && has_bit b IN || q && has_bit b OUT || r && has_bit b ERR || s && has_bit b HUP) t (has_bit a RDHUP) (has_bit b RDHUP)
+
+pub brings_either : (mask a b : ℕ) → brings mask (bit_or a b) ≡ (brings mask a || brings mask b)
+brings_either mask a b = wanted_either (asked mask every_shown_bit) a b
+
+-- What is raised by parts.
+or_assoc : (a b c : ℕ) → bit_or a (bit_or b c) ≡ bit_or (bit_or a b) c
+or_assoc a b c = same_from_bits (bit_or a (bit_or b c)) (bit_or (bit_or a b) c) (λ i.
+    bit_at_or a (bit_or b c) i
+    ∙ (ap (λ (n : ℕ). max (bit_at a i) n) (bit_at_or b c i)
+    ∙ (three (bit_at a i) (bit_at b i) (bit_at c i)
+    ∙ sym (bit_at_or (bit_or a b) c i ∙ ap (λ (n : ℕ). max n (bit_at c i)) (bit_at_or a b i))))) where
+      three : (x y z : ℕ) → max x (max y z) ≡ max (max x y) z
+      three x y z = omega arith
+
+pub raised_parts : (xs ys : List (ℕ × ℕ)) (d : ℕ) → raised_of (xs ++ ys) d ≡ bit_or (raised_of xs d) (raised_of ys d)
+raised_parts [] ys d = refl
+raised_parts (x ∷ xs) ys d = ap (bit_or (when (x.0 == d) x.1)) (raised_parts xs ys d) ∙ or_assoc (when (x.0 == d) x.1) (raised_of xs d) (raised_of ys d)
+
+abbrev fresh_if : Bool → Watch → Watch
+fresh_if b x = cond b (record x { seen = None }) x
+
+joined : (a b : Bool) (x : Watch) → fresh_if (a || b) x ≡ fresh_if b (fresh_if a x)
+joined true true x = refl
+joined true false x = refl
+joined false true x = refl
+joined false false x = refl
+
+kept_target : (a : Bool) (x : Watch) → ((fresh_if a x).mask ≡ x.mask) × ((fresh_if a x).target ≡ x.target)
+kept_target true x = (refl, refl)
+kept_target false x = (refl, refl)
+
+-- what is freshened by one part, then by the other
+pub fresh_parts : (rs qs : List (ℕ × ℕ)) (xs : List Watch) → map (freshened (rs ++ qs)) xs ≡ map (freshened qs) (map (freshened rs) xs)
+fresh_parts rs qs [] = refl
+fresh_parts rs qs (x ∷ xs) =
+    let a = brings x.mask (raised_of rs x.target) in
+    let b = brings x.mask (raised_of qs x.target) in
+    let both : brings x.mask (raised_of (rs ++ qs) x.target) ≡ (a || b) = ap (brings x.mask) (raised_parts rs qs x.target) ∙ brings_either x.mask (raised_of rs x.target) (raised_of qs x.target) in
+    let at = kept_target a x in
+    let same : b ≡ brings (fresh_if a x).mask (raised_of qs (fresh_if a x).target) = λ i. brings (sym at.0 i) (raised_of qs (sym at.1 i)) in
+    let one : freshened (rs ++ qs) x ≡ freshened qs (freshened rs x) = ap (λ (c : Bool). fresh_if c x) both ∙ (joined a b x ∙ ap (λ (c : Bool). fresh_if c (fresh_if a x)) same) in
+    λ i. one i ∷ fresh_parts rs qs xs i
+
+-- where the same is raised at each target
+pub fresh_same : (rs qs : List (ℕ × ℕ)) (xs : List Watch) → All (λ x. raised_of rs x.target ≡ raised_of qs x.target) xs → map (freshened rs) xs ≡ map (freshened qs) xs
+fresh_same rs qs [] h = refl
+fresh_same rs qs (x ∷ xs) h =
+    let one : freshened rs x ≡ freshened qs x = ap (λ (n : ℕ). fresh_if (brings x.mask n) x) (h 0 x (omega arith)) in
+    let rest = fresh_same rs qs xs (λ k d lt. h (suc k) d (omega arith)) in
+    λ i. one i ∷ rest i
+
+stays_fresh : (f : Files) (a : Bool) (x : Watch) → stays_in f (fresh_if a x) ≡ stays_in f x
+stays_fresh f true x = refl
+stays_fresh f false x = refl
+
+-- which registrations stay has nothing to do with what is fresh
+pub fresh_filter : (f : Files) (rs : List (ℕ × ℕ)) (xs : List Watch) → filter (stays_in f) (map (freshened rs) xs) ≡ map (freshened rs) (filter (stays_in f) xs)
+fresh_filter f rs [] = refl
+fresh_filter f rs (x ∷ xs) =
+    let rest = fresh_filter f rs xs in
+    (λ i. cond (stays_fresh f (brings x.mask (raised_of rs x.target)) x i) (freshened rs x ∷ rest i) (rest i))
+    ∙ elim (stays_in f x) as (λ b. cond b (freshened rs x ∷ map (freshened rs) (filter (stays_in f) xs)) (map (freshened rs) (filter (stays_in f) xs)) ≡ map (freshened rs) (cond b (x ∷ filter (stays_in f) xs) (filter (stays_in f) xs))) [
+      | true ↦ refl
+      | false ↦ refl
+    ]
+
+-- Deaths add what they raise to what was raised.
+pub deaths_raise : (f : Files) (rs : List (ℕ × ℕ)) (xs : List (ℕ × Place)) → (die_all (f, rs) xs).1 ≡ rs ++ (die_all (f, []) xs).1
+deaths_raise f rs [] = sym (append-nil rs)
+deaths_raise f rs (x ∷ xs) =
+    let next = die (f, []) x in
+    deaths_raise next.0 (rs ++ next.1) xs
+    ∙ (append_assoc rs next.1 (die_all (next.0, []) xs).1
+    ∙ ap (λ (qs : List (ℕ × ℕ)). rs ++ qs) (sym (deaths_raise next.0 next.1 xs)))
+
+-- What is raised at some of the live descriptions, by their places.
+module _ (chosen : Place → Bool) (bits : Place → ℕ) where
+  abbrev at_places : ℕ → List (Option Place) → List (ℕ × ℕ)
+  at_places k ds = map (λ x. (x.0, bits x.1)) (filter (λ x. chosen x.1) (numbered k ds))
+
+  abbrev pub raised_place : Option Place → ℕ
+  raised_place None = 0
+  raised_place (Some p) = when (chosen p) (bits p)
+
+  apart : (a b : ℕ) → a < b → (b == a) ≡ false
+  apart a b lt = grind (arith, nat_tests, lt)
+
+  -- nothing is raised at a number below the first
+  below : (k d : ℕ) (ds : List (Option Place)) → d < k → raised_of (at_places k ds) d ≡ 0
+  below k d [] lt = refl
+  below k d (None ∷ ds) lt = below (k + 1) d ds (omega (arith, lt))
+  below k d (Some p ∷ ds) lt =
+      let rest = below (k + 1) d ds (omega (arith, lt)) in
+      elim (chosen p) as (λ b. raised_of (map (λ x. (x.0, bits x.1)) (cond b ((k, p) ∷ filter (λ x. chosen x.1) (numbered (k + 1) ds)) (filter (λ x. chosen x.1) (numbered (k + 1) ds)))) d ≡ 0) [
+        | true ↦ ap (λ (c : Bool). bit_or (when c (bits p)) (raised_of (at_places (k + 1) ds) d)) (apart d k lt) ∙ rest
+        | false ↦ rest
+      ]
+
+  here : (k : ℕ) → k + 0 ≡ k
+  here k = omega arith
+
+  next : (k j : ℕ) → k + 1 + j ≡ k + suc j
+  next k j = omega arith
+
+  same_nat : (k : ℕ) → (k == k) ≡ true
+  same_nat k = grind (arith, nat_tests)
+
+  raised_from : (k j : ℕ) (ds : List (Option Place)) → raised_of (at_places k ds) (k + j) ≡ raised_place (get_or ds j None)
+  raised_from k j [] = refl
+  raised_from k zero (None ∷ ds) = below (k + 1) (k + 0) ds (omega arith)
+  raised_from k (suc j) (None ∷ ds) = ap (raised_of (at_places (k + 1) ds)) (sym (next k j)) ∙ raised_from (k + 1) j ds
+  raised_from k zero (Some p ∷ ds) =
+      let none = below (k + 1) k ds (omega arith) in
+      ap (raised_of (at_places k (Some p ∷ ds))) (here k)
+      ∙ elim (chosen p) as (λ b. raised_of (map (λ x. (x.0, bits x.1)) (cond b ((k, p) ∷ filter (λ x. chosen x.1) (numbered (k + 1) ds)) (filter (λ x. chosen x.1) (numbered (k + 1) ds)))) k ≡ when b (bits p)) [
+        | true ↦ (λ i. bit_or (when (same_nat k i) (bits p)) (none i)) ∙ or_zero_r (bits p)
+        | false ↦ none
+      ]
+  raised_from k (suc j) (Some p ∷ ds) =
+      let rest = ap (raised_of (at_places (k + 1) ds)) (sym (next k j)) ∙ raised_from (k + 1) j ds in
+      elim (chosen p) as (λ b. raised_of (map (λ x. (x.0, bits x.1)) (cond b ((k, p) ∷ filter (λ x. chosen x.1) (numbered (k + 1) ds)) (filter (λ x. chosen x.1) (numbered (k + 1) ds)))) (k + suc j) ≡ raised_place (get_or ds j None)) [
+        | true ↦ ap (λ (c : Bool). bit_or (when c (bits p)) (raised_of (at_places (k + 1) ds) (k + suc j))) (other k j) ∙ rest
+        | false ↦ rest
+      ] where
+        other : (a b : ℕ) → (a == a + suc b) ≡ false
+        other a b = grind (arith, nat_tests)
+
+  from_zero : (d : ℕ) → 0 + d ≡ d
+  from_zero d = omega arith
+
+  pub raised_live : (f : Files) (d : ℕ) → raised_of (map (λ x. (x.0, bits x.1)) (filter (λ x. chosen x.1) (live f))) d ≡ raised_place (get_or f.descriptions d None)
+  raised_live f d = ap (raised_of (at_places 0 f.descriptions)) (sym (from_zero d)) ∙ raised_from 0 d f.descriptions

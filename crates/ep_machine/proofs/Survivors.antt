@@ -1,0 +1,229 @@
+-- What deaths raise at the descriptions that live on: the order of the deaths plays no part.
+use Rattle.std.proofs.Common.{◌≡◌, ◌≢◌, ℕ, zero, suc, ◌==◌, ◌||◌, ◌⊎◌, ◌∙◌, Bool, true, false, List, [], ◌∷◌, None, Option, Some, ap, arith, bit_or, get_or, if◌then◌else◌, inl, inr, refl, set, sym, unwrap_or}
+use Rattle.std.specs.Int.Bits.{or_zero_r}
+use Rattle.std.specs.List.{list_any}
+use Rattle.std.proofs.lemmas.Bool.{cases_Bool, false≢true}
+use Rattle.std.proofs.lemmas.Bool.Decides.{nat_tests}
+use Rattle.std.proofs.lemmas.Option.{none-some}
+use Rattle.ep_base.specs.declared.object.End.{End}
+use Rattle.ep_base.specs.declared.object.End.TheVariants.{First, Second}
+use Rattle.ep_base.specs.declared.object.Raised.{Raised}
+use Rattle.ep_machine.specs.Bits.{at_end, when}
+use Rattle.ep_machine.specs.Deaths.{die_all, kept_object}
+use Rattle.ep_machine.specs.Files.{Files, Place, place_of, raised_at}
+use Rattle.ep_machine.specs.Lists.{are_distinct, is_among}
+use Rattle.ep_machine.specs.Objects.{Object, close_end, plain}
+use Rattle.ep_machine.specs.Spread.{raised_of}
+use Rattle.ep_machine.proofs.Arriving.{deaths_raise, raised_live, raised_parts}
+use Rattle.ep_machine.proofs.Dying.{ArePlaced, after_all, apart_from_rest, differs, get_other, numbers, raised_before, same_dead, same_nat, same_or_not, still_placed}
+use Rattle.ep_machine.proofs.Living.{places_left}
+
+-- no two descriptions have the same end of an object
+abbrev pub Apart : Files → Type 0
+Apart f = (d e : ℕ) (p : Place) → place_of f d ≡ Some p → place_of f e ≡ Some p → d ≡ e
+
+abbrev pub content_at : Files → ℕ → Object
+content_at f k = unwrap_or (get_or f.objects k None) plain
+
+abbrev pub across_from : End → End
+across_from First = Second
+across_from Second = First
+
+other_end : (a b : End) → a ≢ b → b ≡ across_from a
+other_end First First h = absurd (h refl)
+other_end First Second h = refl
+other_end Second First h = refl
+other_end Second Second h = absurd (h refl)
+
+-- a description of this object is among the dead
+abbrev pub loses : ℕ → List (ℕ × Place) → Bool
+loses k xs = list_any (λ x. x.1.object == k) xs
+
+-- what the death across raises at a place
+abbrev pub raised_across : Files → List (ℕ × Place) → Place → ℕ
+raised_across f xs p = when (loses p.object xs) (at_end (close_end (content_at f p.object) (across_from p.side)).1 p.side)
+
+some_place : (p q : Place) → Some p ≡ Some q → p ≡ q
+some_place p q h = ap (λ (o : Option Place). unwrap_or o p) h
+
+same_test : (a b : ℕ) → a ≡ b → (a == b) ≡ true
+same_test a b e = grind (arith, nat_tests, e)
+
+from_test : (a b : ℕ) → (a == b) ≡ true → a ≡ b
+from_test a b h = grind (arith, nat_tests, h)
+
+or_false : (a b : Bool) → (a || b) ≡ false → (a ≡ false) × (b ≡ false)
+or_false true b h = cc
+or_false false b h = (refl, h)
+
+-- what lives on was not among the dead, and had its place
+module _ (f : Files) (xs : List (ℕ × Place)) (apart : are_distinct (numbers xs) ≡ true) (placed : ArePlaced f xs) (d : ℕ) (p : Place) (here : place_of (after_all f xs) d ≡ Some p) where
+  chosen : (if is_among (numbers xs) d then None else place_of f d) ≡ Some p
+  chosen = sym (places_left f xs apart placed d) ∙ here
+
+  pub lives_on : is_among (numbers xs) d ≡ false
+  lives_on = elim (cases_Bool (is_among (numbers xs) d)) [
+    | inl dies ↦ absurd (none-some p (ap (λ (b : Bool). if b then None else place_of f d) (sym dies) ∙ chosen))
+    | inr stays ↦ stays
+  ]
+
+  pub lived : place_of f d ≡ Some p
+  lived = ap (λ (b : Bool). if b then None else place_of f d) (sym lives_on) ∙ chosen
+
+was_there : (ds : List (Option Place)) (k d : ℕ) (p : Place) → get_or (set ds k None) d None ≡ Some p → get_or ds d None ≡ Some p
+was_there [] k d p h = h
+was_there (q ∷ ds) zero zero p h = cc
+was_there (q ∷ ds) zero (suc d) p h = h
+was_there (q ∷ ds) (suc k) zero p h = h
+was_there (q ∷ ds) (suc k) (suc d) p h = was_there ds k d p h
+
+apart_left : (f : Files) (x : ℕ × Place) → Apart f → Apart (after_all f (x ∷ []))
+apart_left f x h = λ d e p i j. h d e p (was_there f.descriptions x.0 d p i) (was_there f.descriptions x.0 e p j)
+
+-- nobody else among the dead has an end of the same object
+module _ (f : Files) (x : ℕ × Place) (d : ℕ) (p : Place) (is : place_of f x.0 ≡ Some x.1) (lives : place_of f d ≡ Some p) (h : Apart f) (same : p.object ≡ x.1.object) (ne : d ≢ x.0) where
+  sides : p.side ≢ x.1.side
+  sides e = ne (h d x.0 p lives (is ∙ ap (λ (q : Place). Some q) (λ i. record { object = sym same i; side = sym e i })))
+
+  side_is : x.1.side ≡ across_from p.side
+  side_is = other_end p.side x.1.side sides
+
+  two_ends : (a b c : End) → b ≡ across_from a → (c ≡ a) → (c ≢ b)
+  two_ends First b First e i = λ j. cc
+  two_ends Second b Second e i = λ j. cc
+  two_ends First b Second e i = cc
+  two_ends Second b First e i = cc
+
+  which_end : (a c : End) → c ≢ a → c ≡ across_from a
+  which_end First First n = absurd (n refl)
+  which_end First Second n = refl
+  which_end Second First n = refl
+  which_end Second Second n = absurd (n refl)
+
+  end_or : (a b : End) → (a ≡ b) ⊎ (a ≢ b)
+  end_or First First = inl refl
+  end_or First Second = inr (λ e. cc)
+  end_or Second First = inr (λ e. cc)
+  end_or Second Second = inl refl
+
+  nobody : (ys : List (ℕ × Place)) → ArePlaced f ys → is_among (numbers ys) x.0 ≡ false → is_among (numbers ys) d ≡ false → loses p.object ys ≡ false
+  nobody [] placed not_x not_d = refl
+  nobody (y ∷ ys) placed not_x not_d =
+      let a = or_false (x.0 == y.0) (is_among (numbers ys) x.0) not_x in
+      let b = or_false (d == y.0) (is_among (numbers ys) d) not_d in
+      let rest = nobody ys placed.1 a.1 b.1 in
+      elim (cases_Bool (y.1.object == p.object)) [
+        | inr other ↦ λ i. other i || rest i
+        | inl at ↦
+            let k : y.1.object ≡ p.object = from_test y.1.object p.object at in
+            elim (end_or y.1.side p.side) [
+              | inl e ↦
+                  let q : y.1 ≡ p = λ i. record { object = k i; side = e i } in
+                  let one : y.0 ≡ d = h y.0 d p (placed.0 ∙ ap (λ (z : Place). Some z) q) lives in
+                  absurd (false≢true (sym b.0 ∙ same_test d y.0 (sym one)))
+              | inr e ↦
+                  let s : y.1.side ≡ x.1.side = which_end p.side y.1.side e ∙ sym side_is in
+                  let q : y.1 ≡ x.1 = λ i. record { object = (k ∙ same) i; side = s i } in
+                  let one : y.0 ≡ x.0 = h y.0 x.0 x.1 (placed.0 ∙ ap (λ (z : Place). Some z) q) is in
+                  absurd (false≢true (sym a.0 ∙ same_test x.0 y.0 (sym one)))
+            ]
+      ]
+
+pub survivor_raised : (f : Files) (xs : List (ℕ × Place)) → are_distinct (numbers xs) ≡ true → ArePlaced f xs → Apart f → (d : ℕ) (p : Place) → place_of (after_all f xs) d ≡ Some p → raised_of (die_all (f, []) xs).1 d ≡ raised_across f xs p
+survivor_raised f [] apart placed h d p here = refl
+survivor_raised f (x ∷ xs) apart placed h d p here =
+    let k = x.1.object in
+    let g = after_all f (x ∷ []) in
+    let rest : Files = record f { descriptions = set f.descriptions x.0 None } in
+    let r = (close_end (content_at f k) x.1.side).1 in
+    let more = raised_at rest k r in
+    let left = apart_from_rest x xs apart in
+    let later : place_of (after_all g xs) d ≡ Some p = ap (λ (u : Files). place_of u d) (sym (raised_before g more xs)) ∙ here in
+    let placed_later = still_placed f x xs left.0 placed.1 in
+    let there : place_of g d ≡ Some p = lived g xs left.1 placed_later d p later in
+    let lives : place_of f d ≡ Some p = was_there f.descriptions x.0 d p there in
+    let none = or_false (d == x.0) (is_among (numbers xs) d) (lives_on f (x ∷ xs) apart placed d p here) in
+    let ne : d ≢ x.0 = λ e. false≢true (sym none.0 ∙ same_test d x.0 e) in
+    let one : raised_of more d ≡ when (p.object == k) (at_end r p.side) =
+    raised_live (λ q. q.object == k) (λ q. at_end r q.side) rest d ∙ ap (raised_at_place k r) there in
+    let others = survivor_raised g xs left.1 placed_later (apart_left f x h) d p later in
+    let parts : raised_of (die_all (f, []) (x ∷ xs)).1 d ≡ bit_or (when (p.object == k) (at_end r p.side)) (raised_across g xs p) =
+    ap (λ (rs : List (ℕ × ℕ)). raised_of rs d) (deaths_raise g more xs) ∙ (raised_parts more (die_all (g, []) xs).1 d ∙ (λ i. bit_or (one i) (others i))) in
+    elim (same_or_not p.object k) [
+      | inl same ↦
+          let nobody_else : loses p.object xs ≡ false = nobody f x d p placed.0 lives h same ne xs placed.1 left.0 none.1 in
+          let a : (p.object == k) ≡ true = same_test p.object k same in
+          let b : (k == p.object) ≡ true = same_test k p.object (sym same) in
+          let side : x.1.side ≡ across_from p.side = side_is f x d p placed.0 lives h same ne in
+          parts
+          ∙ ((λ i. bit_or (when (a i) (at_end r p.side)) (when (nobody_else i) (at_end (close_end (content_at g p.object) (across_from p.side)).1 p.side)))
+          ∙ (or_zero_r (at_end r p.side)
+          ∙ ((λ i. at_end (close_end (content_at f (sym same i)) (side i)).1 p.side)
+          ∙ ap (λ (c : Bool). when (c || loses p.object xs) (at_end (close_end (content_at f p.object) (across_from p.side)).1 p.side)) (sym b))))
+      | inr other ↦
+          let a : (p.object == k) ≡ false = differs p.object k other in
+          let b : (k == p.object) ≡ false = differs k p.object (λ e. other (sym e)) in
+          let content : content_at g p.object ≡ content_at f p.object = ap (λ (o : Option Object). unwrap_or o plain) (get_other f.objects k p.object (kept_object rest k (close_end (content_at f k) x.1.side).0) (λ e. other (sym e))) in
+          parts
+          ∙ (ap (λ (c : Bool). bit_or (when c (at_end r p.side)) (raised_across g xs p)) a
+          ∙ ((λ i. when (loses p.object xs) (at_end (close_end (content i) (across_from p.side)).1 p.side))
+          ∙ ap (λ (c : Bool). when (c || loses p.object xs) (at_end (close_end (content_at f p.object) (across_from p.side)).1 p.side)) (sym b)))
+    ] where
+      raised_at_place : ℕ → Raised → Option Place → ℕ
+      raised_at_place j w None = 0
+      raised_at_place j w (Some q) = when (q.object == j) (at_end w q.side)
+
+-- Two lists of the same dead lose the same objects.
+record Loser (f : Files) (k : ℕ) (xs : List (ℕ × Place)) : Type 0 where
+  pub number : ℕ
+  pub place : Place
+  pub among : is_among (numbers xs) number ≡ true
+  pub placed : place_of f number ≡ Some place
+  pub at : (place.object == k) ≡ true
+
+or_right : (a b : Bool) → b ≡ true → (a || b) ≡ true
+or_right true b h = refl
+or_right false b h = h
+
+or_left : (a b : Bool) → a ≡ true → (a || b) ≡ true
+or_left true b h = refl
+or_left false b h = cc
+
+loser_of : (f : Files) (k : ℕ) (xs : List (ℕ × Place)) → ArePlaced f xs → loses k xs ≡ true → Loser f k xs
+loser_of f k [] placed h = absurd (false≢true h)
+loser_of f k (x ∷ xs) placed h = elim (cases_Bool (x.1.object == k)) [
+  | inl e ↦ record { number = x.0; place = x.1; among = or_left (x.0 == x.0) (is_among (numbers xs) x.0) (same_nat x.0); placed = placed.0; at = e }
+  | inr e ↦
+      let rest = loser_of f k xs placed.1 (ap (λ (b : Bool). b || loses k xs) (sym e) ∙ h) in
+      record { number = rest.number; place = rest.place; among = or_right (rest.number == x.0) (is_among (numbers xs) rest.number) rest.among; placed = rest.placed; at = rest.at }
+]
+
+loses_by : (f : Files) (k n : ℕ) (q : Place) (ys : List (ℕ × Place)) → ArePlaced f ys → is_among (numbers ys) n ≡ true → place_of f n ≡ Some q → (q.object == k) ≡ true → loses k ys ≡ true
+loses_by f k n q [] placed among is at = absurd (false≢true among)
+loses_by f k n q (y ∷ ys) placed among is at = elim (cases_Bool (n == y.0)) [
+  | inl e ↦
+      let same : y.1 ≡ q = some_place y.1 q (sym placed.0 ∙ (ap (place_of f) (sym (from_test n y.0 e)) ∙ is)) in
+      or_left (y.1.object == k) (loses k ys) (ap (λ (z : Place). z.object == k) same ∙ at)
+  | inr e ↦ or_right (y.1.object == k) (loses k ys) (loses_by f k n q ys placed.1 (ap (λ (b : Bool). b || is_among (numbers ys) n) (sym e) ∙ among) is at)
+]
+
+same_bools : (a b : Bool) → (a ≡ true → b ≡ true) → (b ≡ true → a ≡ true) → a ≡ b
+same_bools true b f g = sym (f refl)
+same_bools false true f g = g refl
+same_bools false false f g = refl
+
+module _ (f : Files) (xs ys : List (ℕ × Place)) (x_apart : are_distinct (numbers xs) ≡ true) (y_apart : are_distinct (numbers ys) ≡ true) (x_placed : ArePlaced f xs) (y_placed : ArePlaced f ys) (h : Apart f)
+    (same : (d : ℕ) → is_among (numbers xs) d ≡ is_among (numbers ys) d) where
+  same_loses : (k : ℕ) → loses k xs ≡ loses k ys
+  same_loses k =
+      same_bools (loses k xs) (loses k ys)
+      (λ e. let l = loser_of f k xs x_placed e in loses_by f k l.number l.place ys y_placed (sym (same l.number) ∙ l.among) l.placed l.at)
+      (λ e. let l = loser_of f k ys y_placed e in loses_by f k l.number l.place xs x_placed (same l.number ∙ l.among) l.placed l.at)
+
+  -- what the same deaths raise at what lives on
+  pub same_raised : (d : ℕ) (p : Place) → place_of (after_all f xs) d ≡ Some p → raised_of (die_all (f, []) xs).1 d ≡ raised_of (die_all (f, []) ys).1 d
+  same_raised d p here =
+      let there : place_of (after_all f ys) d ≡ Some p = ap (λ (u : Files). place_of u d) (sym (same_dead f xs ys x_apart y_apart x_placed y_placed same)) ∙ here in
+      survivor_raised f xs x_apart x_placed h d p here
+      ∙ (ap (λ (b : Bool). when b (at_end (close_end (content_at f p.object) (across_from p.side)).1 p.side)) (same_loses p.object)
+      ∙ sym (survivor_raised f ys y_apart y_placed h d p there))
