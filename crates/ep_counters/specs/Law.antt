@@ -3,14 +3,10 @@ use Rattle.std.specs.Prelude.{Bool, Option, None, Some, bit_and, false, nat_le, 
 use Rattle.ep_base.specs.declared.object.End.TheVariants.{First}
 use Rattle.ep_base.specs.declared.object.Raised.{Raised}
 use Rattle.ep_counters.specs.Timer.{IsNextArrival}
-use Rattle.ep_machine.specs.Bits.{IN, at_end, beginning, when}
+use Rattle.ep_machine.specs.Bits.{IN, at_end, IsCovered, beginning, when}
 use Rattle.ep_machine.specs.Counters.{Counter, counter_present, counter_read, counter_read_refusals, counter_write, counter_write_refusals}
 use Rattle.ep_machine.specs.Effect.{attempt}
 use Rattle.ep_machine.specs.Timer.{Timer, timer_advance, timer_present, timer_read, timer_read_refusals, timer_set_refusals, timer_settime}
-
--- each bit that begins to hold is among those that are raised
-abbrev pub IsCovered : ℕ → ℕ → ℕ → Type 0
-IsCovered before after raised = bit_and (beginning before after) raised ≡ beginning before after
 
 -- so it is at the first end, the only one here
 abbrev pub RaisesArrivals : ℕ → ℕ → Raised → Type 0

@@ -1,4 +1,5 @@
 -- What begins to hold at a description is in the event's spread.
+use Rattle.ep_machine.specs.Bits.{IsCovered}
 use Rattle.std.specs.Prelude.{List, None, Some, true, ℕ, ◌≡◌}
 use Rattle.ep_base.specs.Limits.{Limits}
 use Rattle.ep_base.specs.declared.call.Event.{Event}
@@ -13,7 +14,6 @@ use Rattle.ep_machine.specs.Settle.{settle}
 use Rattle.ep_machine.specs.Spread.{raised_alive, spread}
 use Rattle.ep_machine.specs.State.{Change, State, opening}
 use Rattle.ep_machine.specs.Step.{begun, change}
-use Rattle.ep_stream.specs.Law.{IsCovered}
 
 -- the spread of an event's change at a description
 abbrev pub spread_of : Change → ℕ → ℕ

@@ -1,5 +1,5 @@
 -- Sets of bits.
-use Rattle.std.specs.Prelude.{Bool, List, [], bit_and, bit_or, if◌then◌else◌, not, ℕ, ◌-◌, ◌==◌, ◌∷◌}
+use Rattle.std.specs.Prelude.{Bool, List, [], bit_and, bit_or, if◌then◌else◌, not, ℕ, ◌-◌, ◌==◌, ◌≡◌, ◌∷◌}
 use Rattle.ep_base.specs.declared.object.End.{End}
 use Rattle.ep_base.specs.declared.object.End.TheVariants.{First, Second}
 use Rattle.ep_base.specs.declared.object.Raised.{Raised}
@@ -46,6 +46,10 @@ asked mask bits = bit_and bits (union (mask ∷ ERR ∷ HUP ∷ []))
 -- those that hold after and not before
 abbrev pub beginning : ℕ → ℕ → ℕ
 beginning before after = after - bit_and after before
+
+-- each bit that begins to hold is among those that are raised
+abbrev pub IsCovered : ℕ → ℕ → ℕ → Type 0
+IsCovered before after raised = bit_and (beginning before after) raised ≡ beginning before after
 
 -- raised at the first end and at the second
 abbrev pub raises : ℕ → ℕ → Raised

@@ -9,7 +9,7 @@ use Rattle.ep_base.specs.declared.object.End.TheVariants.{First, Second}
 use Rattle.ep_base.specs.declared.object.End.{End}
 use Rattle.ep_base.specs.declared.object.Raised.{Raised}
 use Rattle.ep_counters.specs.Law.{CounterReadLaw, CounterWriteLaw, TimerAdvanceLaw, TimerReadLaw, TimerSettimeLaw}
-use Rattle.ep_machine.specs.Bits.{at_end, nothing}
+use Rattle.ep_machine.specs.Bits.{IsCovered, at_end, nothing}
 use Rattle.ep_machine.specs.Counters.{counter_present, counter_read, counter_read_refusals, counter_write, counter_write_refusals}
 use Rattle.ep_machine.specs.Effect.{Effect, attempt, first, unless}
 use Rattle.ep_machine.specs.Objects.{Object, counter, effect_on, gettime, instance, is_pair, is_timer, object_present, pair, pipe, plain, read, read_refusals, settime, shutdown, timer, write, write_refusals}
@@ -18,7 +18,7 @@ use Rattle.ep_machine.specs.Sockets.{pair_present, pair_read, pair_read_refusals
 use Rattle.ep_machine.specs.Timer.{timer_present, timer_read, timer_read_refusals, timer_set_refusals, timer_settime}
 use Rattle.ep_object.specs.Law.{AdvanceLaw, ApplyLaw, CloseLaw, is_first, object_has, present_at}
 use Rattle.ep_stream.proofs.Arrivals.{unchanged}
-use Rattle.ep_stream.specs.Law.{IsCovered, PairCloseLaw, PairReadLaw, PairShutdownLaw, PairWriteLaw, PipeCloseLaw, PipeReadLaw, PipeWriteLaw, RaisesArrivals}
+use Rattle.ep_stream.specs.Law.{PairCloseLaw, PairReadLaw, PairShutdownLaw, PairWriteLaw, PipeCloseLaw, PipeReadLaw, PipeWriteLaw, RaisesArrivals}
 
 -- what an event leaves as it was raises enough
 stays : (now : ℕ) (x : Object) (raised : Raised) → RaisesArrivals object_has (present_at now) x x raised

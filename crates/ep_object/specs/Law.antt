@@ -3,10 +3,10 @@ use Rattle.std.specs.Prelude.{Bool, IsTrue, false, true, ℕ}
 use Rattle.ep_base.specs.declared.call.Call.{Call}
 use Rattle.ep_base.specs.declared.object.End.{End}
 use Rattle.ep_base.specs.declared.object.End.TheVariants.{First, Second}
-use Rattle.ep_machine.specs.Bits.{at_end, raises}
+use Rattle.ep_machine.specs.Bits.{IsCovered, at_end, raises}
 use Rattle.ep_machine.specs.Effect.{attempt}
 use Rattle.ep_machine.specs.Objects.{Object, advance, close_end, object_effect, object_present, object_refusals, pair, pipe}
-use Rattle.ep_stream.specs.Law.{IsCovered, RaisesArrivals, pair_has, pipe_has}
+use Rattle.ep_stream.specs.Law.{RaisesArrivals, pair_has, pipe_has}
 
 -- an object that is no pipe and no pair has the first end alone
 abbrev pub is_first : End → Bool

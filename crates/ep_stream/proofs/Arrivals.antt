@@ -9,11 +9,11 @@ use Rattle.std.specs.Prelude.{bit_and, nat_le, not}
 use Rattle.ep_base.specs.declared.errno.Errno.{Errno}
 use Rattle.ep_base.specs.declared.object.End.TheVariants.{First, Second}
 use Rattle.ep_base.specs.declared.object.End.{End}
-use Rattle.ep_machine.specs.Bits.{ERR, HUP, IN, OUT, at_end, beginning, nothing, union, when}
+use Rattle.ep_machine.specs.Bits.{IsCovered, ERR, HUP, IN, OUT, at_end, beginning, nothing, union, when}
 use Rattle.ep_machine.specs.Effect.{Effect, attempt, first, unless}
 use Rattle.ep_machine.specs.Lists.{is_empty}
 use Rattle.ep_machine.specs.Pipe.{Pipe, pipe_present, pipe_read, pipe_read_refusals, pipe_room, pipe_taken, pipe_write, pipe_write_refusals}
-use Rattle.ep_stream.specs.Law.{IsCovered, PipeCloseLaw, PipeReadLaw, PipeWriteLaw, RaisesArrivals, pipe_has}
+use Rattle.ep_stream.specs.Law.{PipeCloseLaw, PipeReadLaw, PipeWriteLaw, RaisesArrivals, pipe_has}
 use Rattle.ep_stream.proofs.Truths.{narrowed, of_three, of_two}
 
 -- what doesn't change begins nowhere

@@ -6,11 +6,11 @@ use Rattle.std.proofs.lemmas.List.{append-nil}
 use Rattle.std.specs.Prelude.{bit_and, if◌then◌else◌, not}
 use Rattle.ep_base.specs.declared.object.End.TheVariants.{First, Second}
 use Rattle.ep_base.specs.declared.object.End.{End}
-use Rattle.ep_machine.specs.Bits.{HUP, IN, OUT, RDHUP, at_end, beginning, nothing, union, when}
+use Rattle.ep_machine.specs.Bits.{IsCovered, HUP, IN, OUT, RDHUP, at_end, beginning, nothing, union, when}
 use Rattle.ep_machine.specs.Lists.{is_empty}
 use Rattle.ep_machine.specs.Sockets.{Socket, SocketPair, pair_present, pair_read, pair_read_refusals, pair_room, pair_write, pair_write_refusals, raised_ends, socket_present}
 use Rattle.ep_stream.specs.Ends.{opposite}
-use Rattle.ep_stream.specs.Law.{IsCovered, PairCloseLaw, PairReadLaw, PairShutdownLaw, PairWriteLaw, RaisesArrivals, pair_has}
+use Rattle.ep_stream.specs.Law.{PairCloseLaw, PairReadLaw, PairShutdownLaw, PairWriteLaw, RaisesArrivals, pair_has}
 use Rattle.ep_stream.proofs.Arrivals.{attempted, covered, covers, unchanged, waited}
 use Rattle.ep_stream.proofs.Truths.{narrowed, of_five, of_six}
 

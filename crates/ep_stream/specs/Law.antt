@@ -3,14 +3,10 @@ use Rattle.std.specs.Prelude.{Bool, IsTrue, List, bit_and, not, ℕ, ◌≡◌}
 use Rattle.ep_base.specs.declared.object.End.{End}
 use Rattle.ep_base.specs.declared.object.End.TheVariants.{First, Second}
 use Rattle.ep_base.specs.declared.object.Raised.{Raised}
-use Rattle.ep_machine.specs.Bits.{at_end, beginning}
+use Rattle.ep_machine.specs.Bits.{at_end, IsCovered, beginning}
 use Rattle.ep_machine.specs.Effect.{attempt}
 use Rattle.ep_machine.specs.Pipe.{Pipe, pipe_close, pipe_present, pipe_read, pipe_read_refusals, pipe_write, pipe_write_refusals}
 use Rattle.ep_machine.specs.Sockets.{SocketPair, own, pair_close, pair_present, pair_read, pair_read_refusals, pair_shutdown, pair_write, pair_write_refusals}
-
--- each bit that begins to hold is among those that are raised
-abbrev pub IsCovered : ℕ → ℕ → ℕ → Type 0
-IsCovered before after raised = bit_and (beginning before after) raised ≡ beginning before after
 
 -- so it is at each end that is there before and after
 abbrev pub RaisesArrivals : {X : Type 0} → (X → End → Bool) → (X → End → ℕ) → X → X → Raised → Type 0
