@@ -1,5 +1,5 @@
 -- What a kernel keeps.
-use Rattle.std.specs.Prelude.{◌≡◌, ◌*◌, ◌+◌, ◌≤◌, Some, length}
+use Rattle.std.specs.Prelude.{◌≡◌, ◌*◌, ◌+◌, ◌≤◌, Some, length, vec_capacity}
 use Rattle.ep_machine.specs.Quiet.{Quiet}
 use Rattle.ep_machine.specs.Run.{run}
 use Rattle.ep_machine.specs.Sound.{Sound}
@@ -11,7 +11,7 @@ use Rattle.ep_plain.specs.Stands.{AreLinked, Stands}
 use Rattle.ep_plain.specs.declared.plain.PlainKernel.TheInside.{Inside}
 
 abbrev pub book_of : Inside → Book
-book_of k = record { limits = k.limits; past = k.history.items }
+book_of k = record { limits = k.limits; past = k.history.items; capacity = vec_capacity k.history }
 
 -- the history leads to a state for which the parts stand
 pub record IsStanding (k : Inside) : Type 0 where

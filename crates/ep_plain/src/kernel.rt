@@ -1,5 +1,5 @@
 //! What every kernel promises.
-ghost use Rattle.std.specs.Prelude.{◌≡◌, List, Some};
+ghost use Rattle.std.specs.Prelude.{◌≡◌, ◌+◌, ◌≤◌, ℕ, List, OnOk, Some, length};
 ghost use Rattle.ep_base.specs.Limits.{Limits as Numbers};
 ghost use Rattle.ep_base.specs.declared.record.Record.{Record as Entry};
 ghost use Rattle.ep_machine.specs.Run.{run};
@@ -21,14 +21,21 @@ pub trait Kernel {
     /// The limits that it was made with.
     ghost bounds: { Self → Numbers };
 
+    /// How many records fit before the history asks for memory. A kernel that tells nothing of it has room for none.
+    ghost capacity: { Self → ℕ } = { λ _. 0 };
+
     /// One event. The answer is one that the machine allows here, a refusal too, and the history gains its record.
     /// ENOMEM is answered only where a growth was refused: then nothing changes, and there is no record.
+    /// Room for records is never given back.
     fn step(&mut self, caller: CallerId, event: Event) -> Answer
         ensures limits { bounds self.new ≡ bounds self.old }
+        ensures capacity { capacity self.old ≤ capacity self.new }
         ensures acts { Acts (bounds self.old) caller event result (state self.old) (state self.new) (past self.old) (past self.new) };
 
     /// Makes room for this many further records, or fails where memory is refused. State and history stay in both cases.
     fn reserve(&mut self, additional: usize) -> Result<(), AllocError>
+        ensures room { OnOk result (length (past self.new) + additional ≤ capacity self.new) }
+        ensures capacity { capacity self.old ≤ capacity self.new }
         ensures limits { bounds self.new ≡ bounds self.old }
         ensures state { state self.new ≡ state self.old }
         ensures history { past self.new ≡ past self.old };

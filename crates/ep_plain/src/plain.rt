@@ -1,5 +1,5 @@
 //! The kernel that scans.
-ghost use Rattle.std.specs.Prelude.{◌≡◌, [], IfOk, OnErr, false};
+ghost use Rattle.std.specs.Prelude.{◌≡◌, ◌≤◌, [], IfOk, OnErr, false};
 ghost use Rattle.ep_plain.specs.Acts.{Adds, is_no_memory};
 ghost use Rattle.ep_plain.specs.Book.{state_of};
 
@@ -15,7 +15,7 @@ use std::alloc::{AllocError, Global};
 use std::marker::Model;
 
 /// A kernel that keeps no ready list: a wait looks at each registration of its instance.
-/// Contracts see its limits and its history.
+/// Contracts see its limits, its history, and how many records fit.
 #[derive(Drop)]
 pub struct PlainKernel {
     alloc: Global,
@@ -42,7 +42,7 @@ impl PlainKernel {
     /// A kernel in the opening state: process 1, whose descriptors 0, 1 and 2 name one plain object,
     /// and an empty history. An `Err` is want of memory.
     pub fn new(alloc: Global, limits: Limits) -> Result<PlainKernel, AllocError>
-        ensures { IfOk result (λ kernel. kernel ≡ record { limits = limits; past = [] }) }
+        ensures { IfOk result (λ kernel. kernel ≡ record { limits = limits; past = []; capacity = 0 }) }
     {
         Ok(PlainKernel {
             alloc,
@@ -54,12 +54,13 @@ impl PlainKernel {
         })
     }
 
-    /// One event. An `AllocError` has changed nothing.
+    /// One event. An `AllocError` has changed nothing, but that there may be more room for records.
     fn try_step(&mut self, caller: CallerId, event: Event) -> Result<Answer, AllocError>
         ensures limits { self.new.limits ≡ self.old.limits }
+        ensures capacity { self.old.capacity ≤ self.new.capacity }
         ensures ok { IfOk result (λ answer. Adds self.old.limits caller event answer (state_of self.old) (state_of self.new) self.old.past self.new.past) }
         ensures real { IfOk result (λ answer. is_no_memory answer ≡ false) }
-        ensures err { OnErr result (self.new ≡ self.old) }
+        ensures err { OnErr result (self.new ≡ record self.old { capacity = self.new.capacity }) }
     {
         self.history.reserve(1)?;
         let step = self.history.len() as u64 + 1;
@@ -96,6 +97,8 @@ impl Kernel for PlainKernel {
     ghost past = { λ book. book.past };
 
     ghost bounds = { λ book. book.limits };
+
+    ghost capacity = { λ book. book.capacity };
 
     fn step(&mut self, caller: CallerId, event: Event) -> Answer {
         match self.try_step(caller, event) {

@@ -15,6 +15,7 @@ pub record Lowering (old now : Things) (all rest : List ℕ) : Type 0 where
 pub record Raising (old now : Things) (all rest : List ℕ) : Type 0 where
   pub same : now ≡ record old { names = now.names; named = now.named }
   pub names : (d : ℕ) → count_at now.names d + times d rest ≡ count_at old.names d + times d all
+  pub named : now.named + length rest ≡ old.named + length all
 
 pub live_at_slot : (keys : List (Option ℕ)) (t : List (Option Descriptor)) (i : ℕ) (y : Option Descriptor) → i < length t → LiveTable keys t → LiveSlot keys (get_or t i y)
 live_at_slot keys [] i y l h = absurd (omega arith)

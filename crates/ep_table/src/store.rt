@@ -270,12 +270,14 @@ impl<A: Allocator> Store<A> {
         let _ = &self.descriptions;
     }
 
-    /// Whether so many names can be added: none is refused before there were 2^64 of them.
+    /// Whether so many names can be added, which is refused exactly where 2^64 - 2 or more would then
+    /// have been added, those that were dropped again too.
     pub fn fits(&self, additional: usize) -> Result<(), AllocError>
-        ensures { OnOk result (self.now.named + additional + 2 < 2 ^ 64) }
+        ensures ok { OnOk result (self.now.named + additional + 2 < 2 ^ 64) }
+        ensures err { OnErr result (2 ^ 64 ≤ self.now.named + additional + 2) }
     {
         match self.named.checked_add(additional) {
-            Some(total) if total < usize::MAX - 2 => Ok(()),
+            Some(total) if total < usize::MAX - 1 => Ok(()),
             _ => Err(AllocError),
         }
     }
@@ -316,6 +318,7 @@ impl<A: Allocator> Store<A> {
         requires used { is_among self.old.dying (thing_number self.old key) ≡ false }
         ensures ok { OnOk result (self.new ≡ record self.old { holds = more_at self.old.holds (thing_number self.old key) }) }
         ensures err { OnErr result (self.new ≡ self.old) }
+        ensures room { count_at self.old.holds (thing_number self.old key) + 1 < 2 ^ 64 → IsOk result }
     {
         if self.descriptions[key.0].holds == usize::MAX {
             return Err(AllocError);

@@ -502,6 +502,7 @@ impl<A: Allocator> Tables<A> {
         requires used { is_among self.old.dying (number_of self.old desc) ≡ false }
         ensures ok { OnOk result (self.new ≡ record self.old { holds = more_at self.old.holds (number_of self.old desc) }) }
         ensures err { OnErr result (self.new ≡ self.old) }
+        ensures room { holds_of self.old (number_of self.old desc) + 1 < 2 ^ 64 → IsOk result }
     {
         self.store.hold(desc)
     }

@@ -1,5 +1,7 @@
 //! The program, over any reader and writers.
-ghost use Rattle.std.specs.Prelude.{◌≡◌, ◌≤◌, IfSome, IsNone, Some};
+ghost use Rattle.std.specs.Prelude.{◌≡◌, ◌≢◌, ◌≤◌, IfSome, IsNone, Some};
+ghost use Rattle.std.specs.IoError.{error_kind};
+ghost use Rattle.clap.specs.Words.{kind_of};
 ghost use Rattle.ep_base.specs.Limits.{Limits as Numbers, default_limits};
 ghost use Rattle.ep_text.specs.Limits.{IsLimitsText};
 
@@ -9,7 +11,7 @@ use ep_base::Limits;
 use ep_plain::PlainKernel;
 use ep_script::{ScriptFault, Summary, Watched, parse_limits, run_script};
 use std::alloc::Global;
-use std::io::{self, Read, Write};
+use std::io::{self, ErrorKind as IoKind, Read, Write};
 
 /// The end of the input was reached, or help was asked for.
 const DONE: u8 = 0;
@@ -34,9 +36,10 @@ fn fail<E: Write>(fault: &ScriptFault, errors: &mut E) -> u8
 /// What the program answers where the words of the command line are not to be had: status 1 for
 /// want of memory, else 2, since a word is no text.
 pub(crate) fn no_words<E: Write>(error: &io::Error, errors: &mut E) -> u8
-    ensures { result ≤ 2 }
+    ensures memory { error_kind error.now ≡ IoKind.OutOfMemory → result ≡ 1 }
+    ensures no_text { error_kind error.now ≢ IoKind.OutOfMemory → result ≡ 2 }
 {
-    if error.kind() == io::ErrorKind::OutOfMemory {
+    if error.kind() == IoKind::OutOfMemory {
         return fail(&ScriptFault::Memory, errors);
     }
     let _ = write!(
@@ -61,7 +64,9 @@ fn write_text<W: Write>(text: &clap::Error, writer: &mut W) -> io::Result<()> {
 
 /// Tells what `clap` found: help on the output, a mistake in the words on `errors`.
 fn tell<W: Write, E: Write>(found: &clap::Error, output: &mut W, errors: &mut E) -> u8
-    ensures { result ≤ 2 }
+    ensures memory { kind_of found.now ≡ ErrorKind.OutOfMemory → result ≡ 1 }
+    ensures help { kind_of found.now ≡ ErrorKind.DisplayHelp → result ≤ 1 }
+    ensures mistake { kind_of found.now ≢ ErrorKind.OutOfMemory → kind_of found.now ≢ ErrorKind.DisplayHelp → result ≡ 2 }
 {
     match found.kind() {
         ErrorKind::OutOfMemory => fail(&ScriptFault::Memory, errors),

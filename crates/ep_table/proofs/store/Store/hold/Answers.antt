@@ -1,6 +1,6 @@
 use Rattle.std.proofs.Common.{ap, arith, refl, sym, ◌+◌, ◌∙◌}
 use Rattle.ep_table.specs.Value.{Things}
-use Rattle.ep_table.proofs.Changing.{held_tests, more_holds, store_stays, things_holds, used_tests}
+use Rattle.ep_table.proofs.Changing.{held_tests, holds_are, more_holds, store_stays, things_holds, used_tests}
 use Rattle.ep_table.proofs.store.Store.hold.Goals as goal
 
 pub invariant_of-self : goal.invariant_of-self
@@ -15,3 +15,9 @@ returns-clause-ok g c =
     let d = c.index_mut-description.result.now in
     things_holds c.self.inside c.args.self.now c.self.invariant c.self.view_is c.args.key c.index_mut-description.result.now c.index_mut-description.ensures.value d.names (d.holds + 1) c.self.inside.named c.self.inside.dying refl
     ∙ (λ i. record v { holds = more_holds c.self.inside c.args.self.now c.self.invariant c.self.view_is c.args.key c.index_mut-description.result.now c.index_mut-description.ensures.value i; dying = ap (λ (w : Things). w.dying) c.self.view_is i; named = ap (λ (w : Things). w.named) c.self.view_is i })
+
+pub returns-then-index-clause-room : goal.returns-then-index-clause-room
+returns-then-index-clause-room g c = λ h.
+    let d = c.index.result.now in
+    let held = holds_are c.self.inside c.args.self.now c.self.invariant c.self.view_is c.args.key d c.index.ensures in
+    absurd (omega (arith, h, held, c.if-index.true))
