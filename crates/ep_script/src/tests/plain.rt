@@ -1,6 +1,8 @@
 //! Whole scripts over the scanning kernel.
 
-use crate::tests::scripts::{DESCRIPTORS, EDGES, LEVEL, OBJECTS, REGISTRATIONS, SINGLE_LINES, Script};
+use crate::tests::scripts::{
+    DESCRIPTORS, EDGES, LEVEL, OBJECTS, REGISTRATIONS, SINGLE_LINES, Script,
+};
 use crate::{ScriptFault, Summary, Watched, run_script};
 use ep_base::Limits;
 use ep_plain::{Kernel, PlainKernel};
