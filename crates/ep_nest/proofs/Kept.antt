@@ -13,7 +13,7 @@ use Rattle.ep_nest.specs.Scratch.{HasGrown, IsKept}
 use Rattle.ep_nest.specs.declared.link.Link.{Link}
 use Rattle.ep_nest.specs.declared.link.Way.TheVariants.{Down, Up}
 use Rattle.ep_nest.specs.declared.scratch.Scratch.{Scratch}
-use Rattle.std.proofs.Common.{Bool, Contains, List, [], ap, arith, false, filter, get_or, inl, inr, length, not, refl, replicate, slice_index, subst, suc, sym, true, zero, ℕ, ◌++◌, ◌-◌, ◌<◌, ◌∙◌, ◌∷◌, ◌≡◌, ◌≤◌}
+use Rattle.std.proofs.Common.{Bool, Contains, List, [], ap, arith, false, filter, get_or, inl, inr, length, not, refl, replicate, slice_index, subst, suc, sym, true, vec_capacity, zero, ℕ, ◌++◌, ◌-◌, ◌<◌, ◌∙◌, ◌∷◌, ◌≡◌, ◌≤◌}
 use Rattle.std.proofs.lemmas.Bool.{and_from, and_parts, cases_Bool, cases_lt, not-true}
 use Rattle.std.proofs.lemmas.List.{get_or-append_right, get_or_append_left, get_or_past, length-append, map-append}
 use Rattle.std.proofs.lemmas.List.Elements.{All-contains, Contains-get_or, Contains-push_cases}
@@ -91,7 +91,7 @@ kept_edge p ls e c =
     let there = Contains-from_filter p ls m.0 m.1 in
     subst (λ (e : ℕ × ℕ). Contains (edges ls) e) m.2 (Contains-map (ends_of Down) ls m.0 there.0)
 
-pub legal_part : (p : Link → Bool) (ls : List Link) → is_legal (edges ls) ≡ true → is_legal (edges (filter p ls)) ≡ true
+legal_part : (p : Link → Bool) (ls : List Link) → is_legal (edges ls) ≡ true → is_legal (edges (filter p ls)) ≡ true
 legal_part p ls h =
     is_legal_from_short (edges (filter p ls)) (short_part (edges (filter p ls)) (edges ls) (λ a b c. kept_edge p ls (a, b) c) (short_from_is_legal (edges ls) h))
 
@@ -101,7 +101,7 @@ kept_entry p ls k h =
     let there = Contains-from_filter p ls m.0 m.1 in
     among (entries ls) k (subst (λ (k : ℕ). Contains (entries ls) k) m.2 (Contains-map (λ (l : Link). l.entry.0) ls m.0 there.0))
 
-pub distinct_part : (p : Link → Bool) (ls : List Link) → are_distinct (entries ls) ≡ true → are_distinct (entries (filter p ls)) ≡ true
+distinct_part : (p : Link → Bool) (ls : List Link) → are_distinct (entries ls) ≡ true → are_distinct (entries (filter p ls)) ≡ true
 distinct_part p [] h = refl
 distinct_part p (l ∷ ls) h =
     let parts = and_parts (not (is_among (entries ls) l.entry.0)) (are_distinct (entries ls)) h in
@@ -118,6 +118,28 @@ distinct_part p (l ∷ ls) h =
 pub length_part : (p : Link → Bool) (ls : List Link) → length (filter p ls) ≤ length ls
 length_part p [] = omega arith
 length_part p (l ∷ ls) = let rest = length_part p ls in elim (cases_Bool (p l)) [ inl is ↦ rw is (omega arith) | inr otherwise ↦ rw otherwise (omega arith) ]
+
+-- what a filter leaves of the links
+module _ (p : Link → Bool) (ls left : List Link) (is : left ≡ filter p ls) where
+  pub legal_left : is_legal (edges ls) ≡ true → is_legal (edges left) ≡ true
+  legal_left h = ap (λ (ls : List Link). is_legal (edges ls)) is ∙ legal_part p ls h
+
+  pub places_left : (room : ℕ) → HasPlaces (edges ls) room → HasPlaces (edges left) room
+  places_left room h = subst (λ (ls : List Link). HasPlaces (edges ls) room) (sym is) (places_part (edges (filter p ls)) (edges ls) room (kept_edge p ls) h)
+
+  -- once the tables say the chains of what is left
+  pub kept_left : {A : Type 0} (old new : Scratch A) → IsKept ls old → AreLengths (along Down left) new.heights.items → AreLengths (along Up left) new.depths.items → new.marks.items ≡ old.marks.items → vec_capacity new.admitted ≡ vec_capacity old.admitted → vec_capacity new.reached ≡ vec_capacity old.reached → IsKept left new
+  kept_left old new kept heights depths marks admitted reached =
+      let few : length left ≤ length ls = omega (arith, ap (λ (ls : List Link). length ls) is, length_part p ls) in
+      record {
+        legal = legal_left kept.legal;
+        distinct = ap (λ (ls : List Link). are_distinct (entries ls)) is ∙ distinct_part p ls kept.distinct;
+        heights = heights;
+        depths = depths;
+        marks = subst (λ (ms : List Bool). HasPlaces (edges left) (length ms)) (sym marks) (places_left (length old.marks.items) kept.marks);
+        admitted = omega (arith, few, kept.admitted, admitted);
+        reached = omega (arith, few, kept.reached, reached);
+      }
 
 -- a table with more places says the same
 grown_same : (xs : List ℕ) (n y : ℕ) → get_or (xs ++ replicate n 0) y 0 ≡ get_or xs y 0

@@ -29,6 +29,10 @@ is_of entry l = l.entry.0 == entry
 abbrev pub without : ℕ → List Link → List Link
 without entry ls = filter (λ l. not (is_of entry l)) ls
 
+-- neither from nor to an instance
+abbrev pub is_apart_from : ℕ → Link → Bool
+is_apart_from d l = not (l.outer.0 == d) && not (l.inner.0 == d)
+
 -- the links of the entries that a rule admits
 abbrev pub admitted_by : (ℕ → Bool) → List Link → List Link
 admitted_by admits ls = filter (λ l. admits l.entry.0) ls

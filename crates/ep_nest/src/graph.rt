@@ -1,12 +1,12 @@
 //! The graph.
-ghost use Rattle.std.specs.Prelude.{◌≡◌, ◌++◌, ◌∷◌, ◌↔◌, [], IfErr, IsOk, OnErr, OnOk, Bool, false, true, ℕ, ⊤};
+ghost use Rattle.std.specs.Prelude.{◌≡◌, ◌++◌, ◌∷◌, ◌↔◌, [], IfErr, IsOk, OnErr, OnOk, Bool, false, filter, true, ℕ, ⊤};
 ghost use Rattle.std.specs.Borrow.{follows_so, sem};
 ghost use Rattle.std.specs.List.{All};
 ghost use mathlib.Core.Option.{none};
 ghost use Rattle.ep_machine.specs.Lists.{are_distinct, is_among};
 ghost use Rattle.ep_machine.specs.Watches.{is_legal};
 ghost use Rattle.ep_nest.specs.Chains.{IsAbove, IsLegalGraph};
-ghost use Rattle.ep_nest.specs.Links.{admitted_by, edges, entries, keys, without};
+ghost use Rattle.ep_nest.specs.Links.{admitted_by, edges, entries, is_apart_from, keys, without};
 ghost use Rattle.ep_nest.specs.contracts.graph.Graph.{the_row};
 
 use crate::lengths::{LONGEST, length_at};
@@ -57,6 +57,13 @@ impl<A: Allocator> Graph<A> {
         ensures one_each { are_distinct (entries self.now) ≡ true }
     {
         let _links = &self.links;
+    }
+
+    /// The links, in the order in which they were made. It takes no memory.
+    pub fn links(&self) -> &[Link]
+        ensures { result.now ≡ self.now }
+    {
+        &self.links
     }
 
     /// Whether an entry has a link. Its cost grows as the number of links.
@@ -110,6 +117,16 @@ impl<A: Allocator> Graph<A> {
         ensures { self.new ≡ without entry.0 self.old }
     {
         self.links.retain(|link| link.entry != entry);
+        self.scratch.measure(&self.links);
+    }
+
+    /// Takes the links from or to an instance away, as its death does; the others stay.
+    /// Its cost grows as the number of links.
+    pub fn purge(&mut self, instance: DescId)
+        ensures { self.new ≡ filter (is_apart_from instance.0) self.old }
+    {
+        self.links
+            .retain(|link| link.outer != instance && link.inner != instance);
         self.scratch.measure(&self.links);
     }
 

@@ -4,7 +4,7 @@ ghost use Rattle.ep_machine.specs.Lists.{is_among};
 ghost use Rattle.ep_nest.specs.Chains.{IsAbove};
 ghost use Rattle.ep_nest.specs.Links.{admitted_by, edges, keys};
 
-use crate::Graph;
+use crate::{Graph, Link};
 use ep_base::{DescId, EntryId, Errno};
 use linked_list_allocator::LocalHeap;
 use std::alloc::AllocError;
@@ -100,6 +100,29 @@ fn finds_above(rt: HostRuntime) {
     assert_eq!(rt; above_past(&mut graph, DescId(5), 1).len(), 2);
     graph.unlink(EntryId(2));
     assert!(rt; is_above(&mut graph, 5, &[1, 2, 3, 4], &[2, 3]));
+}
+
+/// The links from an instance and to it go, and the others stay in their order; what is left has room again.
+#[test]
+fn purges_an_instance(rt: HostRuntime) {
+    let mut graph = Graph::new(rt.alloc());
+    add_chain(&rt, &mut graph, &[3, 4, 5, 6, 7]);
+    assert_eq!(rt; graph.may_add(DescId(7), DescId(8)), Err(Errno::Eloop));
+    graph.purge(DescId(5));
+    let left = [
+        Link {
+            outer: DescId(3),
+            inner: DescId(4),
+            entry: EntryId(4),
+        },
+        Link {
+            outer: DescId(6),
+            inner: DescId(7),
+            entry: EntryId(7),
+        },
+    ];
+    assert!(rt; graph.links() == left.as_slice());
+    assert_eq!(rt; add(&rt, &mut graph, 7, 3, 20), Ok(()));
 }
 
 /// Whether a link is refused over a heap of so many bytes. A refused link leaves the graph as it was.

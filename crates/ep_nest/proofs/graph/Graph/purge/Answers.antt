@@ -1,0 +1,46 @@
+use Rattle.std.proofs.Common.{Bool, List, ap, filter, length, rules, subst, ◌∙◌, ◌≡◌}
+use Rattle.std.proofs.lemmas.Fn.{filter_same}
+use Rattle.ep_nest.proofs.Kept.{kept_left, legal_left, places_down, places_left}
+use Rattle.ep_nest.specs.Links.{is_apart_from}
+use Rattle.ep_nest.specs.Scratch.{IsKept}
+use Rattle.ep_nest.specs.declared.link.Link.{Link}
+use Rattle.ep_nest.proofs.graph.Graph.purge.Goals as goal
+
+pub measure-requires-clause-legal : goal.measure-requires-clause-legal
+measure-requires-clause-legal g c =
+    let ls = c.self.inside.links.items in
+    let test : Link → Bool = is_apart_from c.args.instance.0 in
+    let left : c.retain.new.self.items ≡ filter test ls = filter_same _ test _ (λ x b f' k. search rules) _ _ c.retain.ensures.filtered in
+    legal_left test ls c.deref.result.now (c.deref.ensures.value ∙ left) c.self.invariant.legal
+
+pub measure-requires-clause-heights_fit : goal.measure-requires-clause-heights_fit
+measure-requires-clause-heights_fit g c =
+    let ls = c.self.inside.links.items in
+    let test : Link → Bool = is_apart_from c.args.instance.0 in
+    let left : c.retain.new.self.items ≡ filter test ls = filter_same _ test _ (λ x b f' k. search rules) _ _ c.retain.ensures.filtered in
+    places_left test ls c.deref.result.now (c.deref.ensures.value ∙ left) (length c.self.inside.scratch.heights.items) c.self.invariant.heights.places
+
+pub measure-requires-clause-depths_fit : goal.measure-requires-clause-depths_fit
+measure-requires-clause-depths_fit g c =
+    let ls = c.self.inside.links.items in
+    let test : Link → Bool = is_apart_from c.args.instance.0 in
+    let left : c.retain.new.self.items ≡ filter test ls = filter_same _ test _ (λ x b f' k. search rules) _ _ c.retain.ensures.filtered in
+    let room = length c.self.inside.scratch.depths.items in
+    places_left test ls c.deref.result.now (c.deref.ensures.value ∙ left) room (places_down ls room c.self.invariant.depths.places)
+
+pub invariant_of-self : goal.invariant_of-self
+invariant_of-self g c =
+    let ls = c.self.inside.links.items in
+    let test : Link → Bool = is_apart_from c.args.instance.0 in
+    let left : c.retain.new.self.items ≡ filter test ls = filter_same _ test _ (λ x b f' k. search rules) _ _ c.retain.ensures.filtered in
+    let told = c.measure.ensures in
+    let new = c.measure.new.self in
+    let kept = kept_left test ls c.deref.result.now (c.deref.ensures.value ∙ left) c.self.inside.scratch new c.self.invariant told.heights told.depths told.marks told.admitted told.reached in
+    subst (λ (ls : List Link). IsKept ls new) c.deref.ensures.value kept
+
+pub returns : goal.returns
+returns g c =
+    let ls = c.self.inside.links.items in
+    let test : Link → Bool = is_apart_from c.args.instance.0 in
+    let left : c.retain.new.self.items ≡ filter test ls = filter_same _ test _ (λ x b f' k. search rules) _ _ c.retain.ensures.filtered in
+    left ∙ ap (λ (ls : List Link). filter test ls) c.self.view_is
