@@ -1,3 +1,4 @@
 pub mod Limits
 pub mod Errno
 pub mod Answer
+pub mod Call

@@ -1,5 +1,5 @@
 //! The bytes of a write, which contracts see as a list.
-ghost use Rattle.std.specs.Prelude.{◌≡◌, IfOk};
+ghost use Rattle.std.specs.Prelude.{◌≡◌, [], IfOk, IsOk};
 
 use std::alloc::AllocError;
 use std::marker::Model;
@@ -40,12 +40,13 @@ impl Buffer {
         self.values
     }
 
-    /// The same bytes in another buffer.
+    /// The same bytes in another buffer; it can fail for some bytes alone.
     pub fn copy(&self) -> Result<Buffer, AllocError>
-        ensures { IfOk result (λ copy. copy ≡ self.now) }
+        ensures ok { IfOk result (λ copy. copy ≡ self.now) }
+        ensures no_bytes { self.now ≡ [] → IsOk result }
     {
-        Ok(Buffer {
-            values: Vec::from_slice(*self.values.allocator(), self.as_slice())?,
-        })
+        let mut values = Vec::new(*self.values.allocator());
+        values.extend_from_slice(self.as_slice())?;
+        Ok(Buffer::new(values))
     }
 }

@@ -1,5 +1,6 @@
 //! Calls and events.
-ghost use Rattle.std.specs.Prelude.{◌≡◌, IfOk};
+ghost use Rattle.std.specs.Prelude.{◌≡◌, IfOk, IsOk};
+ghost use Rattle.ep_base.specs.Call.{EventHasNoBytes, HasNoBytes};
 
 use crate::buffer::Buffer;
 use crate::ids::{Fd, Pid};
@@ -98,9 +99,10 @@ pub enum Call {
 }
 
 impl Call {
-    /// The same call once more.
+    /// The same call once more; it can fail for a write of bytes alone.
     pub fn copy(&self) -> Result<Call, AllocError>
-        ensures { IfOk result (λ copy. copy ≡ self.now) }
+        ensures ok { IfOk result (λ copy. copy ≡ self.now) }
+        ensures no_bytes { HasNoBytes self.now → IsOk result }
     {
         Ok(match *self {
             Call::Pipe { cloexec } => Call::Pipe { cloexec },
@@ -169,9 +171,10 @@ pub enum Event {
 }
 
 impl Event {
-    /// The same event once more.
+    /// The same event once more; it can fail for a write of bytes alone.
     pub fn copy(&self) -> Result<Event, AllocError>
-        ensures { IfOk result (λ copy. copy ≡ self.now) }
+        ensures ok { IfOk result (λ copy. copy ≡ self.now) }
+        ensures no_bytes { EventHasNoBytes self.now → IsOk result }
     {
         Ok(match self {
             Event::Call { pid, call } => Event::Call {
