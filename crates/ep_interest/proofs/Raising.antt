@@ -1,16 +1,21 @@
 -- What a closure leaves that is called at each registration, and what an arrival keeps.
-use Rattle.std.proofs.Common.{◌≡◌, ◌∙◌, ◌+◌, ◌<◌, ◌≤◌, ◌==◌, ◌&&◌, ℕ, zero, suc, Bool, true, false, List, [], ◌∷◌, None, Option, Some, MutBor, ap, cond, get_or, map, refl, subst, sym, unwrap_or}
+use Rattle.std.proofs.Common.{if◌then◌else◌, ◌≡◌, ◌∙◌, ◌+◌, ◌<◌, ◌≤◌, ◌==◌, ◌&&◌, ℕ, zero, suc, Bool, true, false, List, [], ◌∷◌, None, Option, Some, MutBor, ap, cond, get_or, map, nat_lt, refl, subst, sym, unwrap_or}
 use Rattle.std.proofs.lemmas.Option.{none-some}
 use Rattle.std.specs.List.{cons_option, filter_map, range_with_len}
 use Rattle.std.specs.Option.{option_map}
-use Rattle.slab.specs.Slab.{CalledAt, RetainsFrom}
+use Rattle.slab.specs.Slab.{Slab, CalledAt, RetainsFrom}
 use Rattle.ep_base.specs.declared.ids.DescId.{DescId}
 use Rattle.ep_base.specs.declared.mask.Mask.{Mask}
+use Rattle.ep_machine.specs.Bits.{asked}
 use Rattle.ep_machine.specs.Counts.{brings}
 use Rattle.ep_base.specs.declared.ids.EntryId.{EntryId}
 use Rattle.ep_interest.specs.ByNumber.{NumberedBy, found_by, in_order}
-use Rattle.ep_interest.specs.Registrations.{is_on, raised_on}
-use Rattle.ep_interest.specs.View.{IsIndex, number_in}
+use Rattle.ep_interest.specs.Registrations.{freshened_on, is_on, raised_on, settled}
+use Rattle.std.specs.BTreeMap as tree
+use Rattle.std.specs.HashMap as hash
+use Rattle.ep_interest.specs.Places.{place_cmp}
+use Rattle.ep_interest.specs.View.{IsIndex, IsInterest, instance_of, key_of, number_in, place_of, same_key, target_of}
+use Rattle.ep_interest.specs.declared.interest.Interest.TheInside.{Inside}
 use Rattle.ep_interest.specs.declared.entry.Entry.{Entry}
 
 module _ {F : Type 0} (step : F → ℕ → MutBor Entry → Bool → MutBor Entry → F → Type 0) (P : F → Type 0) (g : Entry → Entry)
@@ -79,15 +84,45 @@ module _ (f : Entry → Entry) (number : (x : Entry) → (f x).number ≡ x.numb
     live = λ q id e. let x = h.live q id e in (f x.0, get_changed slots id.0 ∙ ap (option_map f) x.1, same x.0 ∙ x.2);
   }
 
--- an arrival keeps what a registration is found by
-pub same_number : (desc : DescId) (bits : Mask) (x : Entry) → (raised_on desc bits x).number ≡ x.number
-same_number desc bits x = elim (is_on desc x && brings x.mask.0 bits.0) as (λ b. (cond b (record x { seen = None }) x).number ≡ x.number) [ true ↦ refl | false ↦ refl ]
+-- what a registration is found by stays
+pub record Keeps (f : Entry → Entry) : Type 0 where
+  pub number : (x : Entry) → (f x).number ≡ x.number
+  pub instance : (x : Entry) → (f x).instance ≡ x.instance
+  pub target : (x : Entry) → (f x).desc ≡ x.desc
+  pub descriptor : (x : Entry) → (f x).fd ≡ x.fd
 
-pub same_instance : (desc : DescId) (bits : Mask) (x : Entry) → (raised_on desc bits x).instance ≡ x.instance
-same_instance desc bits x = elim (is_on desc x && brings x.mask.0 bits.0) as (λ b. (cond b (record x { seen = None }) x).instance ≡ x.instance) [ true ↦ refl | false ↦ refl ]
+pub freshened_keeps : (desc : DescId) (bits : Mask) → Keeps (freshened_on desc bits)
+freshened_keeps desc bits = record {
+  number = λ x. elim (is_on desc x && brings x.mask.0 bits.0) as (λ b. (cond b (record x { seen = None }) x).number ≡ x.number) [ true ↦ refl | false ↦ refl ];
+  instance = λ x. elim (is_on desc x && brings x.mask.0 bits.0) as (λ b. (cond b (record x { seen = None }) x).instance ≡ x.instance) [ true ↦ refl | false ↦ refl ];
+  target = λ x. elim (is_on desc x && brings x.mask.0 bits.0) as (λ b. (cond b (record x { seen = None }) x).desc ≡ x.desc) [ true ↦ refl | false ↦ refl ];
+  descriptor = λ x. elim (is_on desc x && brings x.mask.0 bits.0) as (λ b. (cond b (record x { seen = None }) x).fd ≡ x.fd) [ true ↦ refl | false ↦ refl ];
+}
 
-pub same_target : (desc : DescId) (bits : Mask) (x : Entry) → (raised_on desc bits x).desc ≡ x.desc
-same_target desc bits x = elim (is_on desc x && brings x.mask.0 bits.0) as (λ b. (cond b (record x { seen = None }) x).desc ≡ x.desc) [ true ↦ refl | false ↦ refl ]
+pub raised_keeps : (desc : DescId) (bits : Mask) (event : ℕ) → Keeps (raised_on desc bits event)
+raised_keeps desc bits event = record {
+  number = λ x. elim (is_on desc x) as (λ b. (cond b (changed x) x).number ≡ x.number) [ true ↦ refl | false ↦ refl ];
+  instance = λ x. elim (is_on desc x) as (λ b. (cond b (changed x) x).instance ≡ x.instance) [ true ↦ refl | false ↦ refl ];
+  target = λ x. elim (is_on desc x) as (λ b. (cond b (changed x) x).desc ≡ x.desc) [ true ↦ refl | false ↦ refl ];
+  descriptor = λ x. elim (is_on desc x) as (λ b. (cond b (changed x) x).fd ≡ x.fd) [ true ↦ refl | false ↦ refl ];
+} where
+  changed : Entry → Entry
+  changed x = record x { seen = if brings x.mask.0 bits.0 then None else x.seen; from = if x.armed && nat_lt 0 (asked x.mask.0 bits.0) then event else x.from }
 
-pub same_descriptor : (desc : DescId) (bits : Mask) (x : Entry) → (raised_on desc bits x).fd ≡ x.fd
-same_descriptor desc bits x = elim (is_on desc x && brings x.mask.0 bits.0) as (λ b. (cond b (record x { seen = None }) x).fd ≡ x.fd) [ true ↦ refl | false ↦ refl ]
+pub settled_keeps : Keeps settled
+settled_keeps = record { number = λ x. refl; instance = λ x. refl; target = λ x. refl; descriptor = λ x. refl }
+
+-- the same registrations changed in place are those of an `Interest` again
+pub interest_changed : {A : Type 0} (k : Inside A) (f : Entry → Entry) (slots : Slab Entry) → Keeps f → slots.slots ≡ map (option_map f) k.slots.slots → IsInterest k → IsInterest (record k { slots = slots })
+interest_changed k f slots keeps same h =
+    let old = k.slots.slots in
+    let a = numbered_changed f keeps.number old k.added h.numbered in
+    let b = index_changed f keeps.number key_of old (hash.get same_key k.by_key) (λ x i. record { instance = (keeps.instance x i).0; fd = (keeps.descriptor x i).0; desc = (keeps.target x i).0 }) h.by_key in
+    let d = index_changed f keeps.number (place_of instance_of) old (tree.get place_cmp k.by_instance) (λ x i. record { owner = (keeps.instance x i).0; number = keeps.number x i }) h.by_instance in
+    let e = index_changed f keeps.number (place_of target_of) old (tree.get place_cmp k.by_target) (λ x i. record { owner = (keeps.target x i).0; number = keeps.number x i }) h.by_target in
+    record {
+      numbered = subst (λ (xs : List (Option Entry)). NumberedBy xs k.added) (sym same) a;
+      by_key = subst (λ (xs : List (Option Entry)). IsIndex key_of xs (hash.get same_key k.by_key)) (sym same) b;
+      by_instance = subst (λ (xs : List (Option Entry)). IsIndex (place_of instance_of) xs (tree.get place_cmp k.by_instance)) (sym same) d;
+      by_target = subst (λ (xs : List (Option Entry)). IsIndex (place_of target_of) xs (tree.get place_cmp k.by_target)) (sym same) e;
+    }

@@ -1,11 +1,12 @@
 //! All interest sets together.
-ghost use Rattle.std.specs.Prelude.{◌≡◌, ◌+◌, ◌<◌, ◌^◌, [], ◌∷◌, ◌++◌, false, IfOk, IfNone, IfSome, OnErr, IsSome, Some, is_some, All, filter, length, map, slice_index_or, slice_set, None, unwrap_or};
+ghost use Rattle.std.specs.Prelude.{nat_lt, ◌≡◌, ◌+◌, ◌<◌, ◌^◌, [], ◌∷◌, ◌++◌, false, IfOk, IfNone, IfSome, OnErr, IsSome, Some, is_some, All, filter, length, map, slice_index_or, slice_set, None, unwrap_or};
 ghost use Rattle.std.specs.Map.Iter.{ShowsInOrder};
 ghost use Rattle.std.specs.Option.{option_map};
 ghost use Rattle.ep_base.specs.declared.ids.EntryId.{EntryId};
 ghost use Rattle.ep_interest.specs.Listed.{shown};
 ghost use Rattle.std.specs.List.{find as first_where, list_any};
-ghost use Rattle.ep_interest.specs.Registrations.{GainsKey, IsSound, Touches, is_apart_from, left_number, has_key, id_of, ids, is_of, is_on, is_other, modified, new_entry, noted, number_under, numbered, raised_on, with_ids};
+ghost use Rattle.ep_interest.specs.Registrations.{GainsKey, IsSound, Touches, is_apart_from, left_number, has_key, id_of, ids, is_of, is_on, is_other, modified, new_entry, noted, number_under, numbered, freshened_on, raised_on, settled, with_ids};
+ghost use Rattle.ep_machine.specs.Bits.{asked};
 ghost use Rattle.ep_machine.specs.Counts.{brings};
 
 use crate::entries::{Entries, Watchers};
@@ -55,13 +56,44 @@ fn asks_for(mask: Mask, bits: Mask) -> bool
         || wanted.intersects(Mask::RDHUP) && bits.intersects(Mask::RDHUP)
 }
 
-/// Notes in a registration that these bits arrived at a description.
-fn arrive(entry: &mut Entry, desc: DescId, bits: Mask)
-    ensures { entry.new ≡ raised_on desc bits entry.old }
+/// Whether a mask asks for any of these bits, those that are never shown included; ERR and HUP belong to every mask.
+fn is_asked(mask: Mask, bits: Mask) -> bool
+    ensures { result ≡ nat_lt 0 (asked mask.0 bits.0) }
+{
+    !bits
+        .intersection(mask.union(Mask::ERR.union(Mask::HUP)))
+        .is_empty()
+}
+
+/// Makes a registration on a description fresh where it asks for one of these bits.
+fn refresh(entry: &mut Entry, desc: DescId, bits: Mask)
+    ensures { entry.new ≡ freshened_on desc bits entry.old }
 {
     if entry.desc.0 == desc.0 && asks_for(entry.mask, bits) {
         entry.seen = None;
     }
+}
+
+/// Notes in a registration that these bits were raised at a description in an event.
+fn note_raise(entry: &mut Entry, desc: DescId, bits: Mask, event: u64)
+    ensures { entry.new ≡ raised_on desc bits event entry.old }
+{
+    if entry.desc.0 != desc.0 {
+        return;
+    }
+    if entry.armed && is_asked(entry.mask, bits) {
+        entry.from = event;
+    }
+    if asks_for(entry.mask, bits) {
+        entry.seen = None;
+    }
+}
+
+/// Forgets in which event a registration passed something on.
+fn rest(entry: &mut Entry)
+    ensures { entry.new ≡ settled entry.old }
+{
+    entry.from = 0;
 }
 
 /// The registrations of every instance. Contracts see them in order of registration, the number under each key, and how many
@@ -236,15 +268,49 @@ impl<A: Allocator> Interest<A> {
         };
     }
 
-    /// Notes that these bits arrived at a description: each registration on it whose mask asks for one of them, ERR and HUP
-    /// unasked, counts as not reported since. Every registration is looked at.
-    pub fn raise(&mut self, desc: DescId, bits: Mask)
-        ensures entries { self.new.entries ≡ map (raised_on desc bits) self.old.entries }
+    /// The number that the next registration gets: it is above each that was ever given.
+    pub fn next_number(&self) -> u64
+        requires { self.now.added + 1 < 2 ^ 64 }
+        ensures { result ≡ self.now.added + 1 }
+    {
+        self.added + 1
+    }
+
+    /// Notes that an event raised these bits at a description. Each registration on it whose mask asks for one of them, ERR
+    /// and HUP unasked, counts as not reported since; one that is armed passes them on, and notes the event as `from`.
+    /// Every registration is looked at.
+    pub fn raise(&mut self, desc: DescId, bits: Mask, event: u64)
+        ensures entries { self.new.entries ≡ map (raised_on desc bits event) self.old.entries }
         ensures keys { self.new.keys ≡ self.old.keys }
         ensures added { self.new.added ≡ self.old.added }
     {
         self.slots.retain(|_, entry| {
-            arrive(entry, desc, bits);
+            note_raise(entry, desc, bits, event);
+            true
+        });
+    }
+
+    /// The same of what reached a description from below, where nothing is left to pass on: each registration on it whose mask
+    /// asks for one of these bits counts as not reported since. Every registration is looked at.
+    pub fn freshen(&mut self, desc: DescId, bits: Mask)
+        ensures entries { self.new.entries ≡ map (freshened_on desc bits) self.old.entries }
+        ensures keys { self.new.keys ≡ self.old.keys }
+        ensures added { self.new.added ≡ self.old.added }
+    {
+        self.slots.retain(|_, entry| {
+            refresh(entry, desc, bits);
+            true
+        });
+    }
+
+    /// Forgets of every registration in which event it last passed something on: `from` is 0 again.
+    pub fn settle(&mut self)
+        ensures entries { self.new.entries ≡ map settled self.old.entries }
+        ensures keys { self.new.keys ≡ self.old.keys }
+        ensures added { self.new.added ≡ self.old.added }
+    {
+        self.slots.retain(|_, entry| {
+            rest(entry);
             true
         });
     }

@@ -1,16 +1,16 @@
 -- What is raised in parts, and what that freshens.
-use Rattle.std.proofs.Common.{◌≡◌, ℕ, zero, suc, ◌+◌, ◌<◌, ◌==◌, ◌&&◌, ◌||◌, ◌++◌, ◌∙◌, All, Bool, true, false, List, [], ◌∷◌, None, Option, Some, ap, append_assoc, append-nil, arith, bit_and, bit_or, cond, filter, get_or, map, max, min, not, refl, sym}
+use Rattle.std.proofs.Common.{◌≡◌, ℕ, zero, suc, ◌+◌, ◌<◌, ◌==◌, ◌&&◌, ◌||◌, ◌++◌, ◌∙◌, All, Bool, true, false, List, [], ◌∷◌, None, Option, Some, ap, append_assoc, append-nil, arith, bit_and, bit_or, cond, filter, get_or, map, max, min, nat_lt, not, refl, sym}
 use Rattle.std.specs.Int.{bit_at}
 use Rattle.std.specs.Int.Bits.{or_zero_r}
 use Rattle.std.proofs.lemmas.Bool.Decides.{nat_tests}
 use Rattle.std.proofs.lemmas.Nat.{le_or_l, le_or_r}
 use Rattle.std.proofs.lemmas.Nat.Bits.{bit_at_and, bit_at_or, same_from_bits}
-use Rattle.ep_machine.specs.Bits.{ERR, HUP, IN, OUT, RDHUP, asked, has_bit, when}
+use Rattle.ep_machine.specs.Bits.{ERR, HUP, IN, OUT, RDHUP, asked, has_bit, union, when}
 use Rattle.ep_machine.specs.Counts.{brings, every_shown_bit, holds_wanted}
 use Rattle.ep_machine.specs.Deaths.{die, die_all}
 use Rattle.ep_machine.specs.Files.{Files, Place, live}
 use Rattle.ep_machine.specs.Lists.{numbered}
-use Rattle.ep_machine.specs.Quiet.{freshened, stays_in}
+use Rattle.ep_machine.specs.Kept.{freshened, stays_in, stirred}
 use Rattle.ep_machine.specs.Spread.{raised_of}
 use Rattle.ep_machine.specs.State.{Watch}
 
@@ -99,52 +99,66 @@ pub raised_parts : (xs ys : List (ℕ × ℕ)) (d : ℕ) → raised_of (xs ++ ys
 raised_parts [] ys d = refl
 raised_parts (x ∷ xs) ys d = ap (bit_or (when (x.0 == d) x.1)) (raised_parts xs ys d) ∙ or_assoc (when (x.0 == d) x.1) (raised_of xs d) (raised_of ys d)
 
-abbrev fresh_if : Bool → Watch → Watch
-fresh_if b x = cond b (record x { seen = None }) x
+joined : (n : ℕ) (a b p q : Bool) (x : Watch) → stirred n (a || b) (p || q) x ≡ stirred n b q (stirred n a p x)
+joined n true true true true x = refl
+joined n true true true false x = refl
+joined n true true false true x = refl
+joined n true true false false x = refl
+joined n true false true true x = refl
+joined n true false true false x = refl
+joined n true false false true x = refl
+joined n true false false false x = refl
+joined n false b true true x = refl
+joined n false b true false x = refl
+joined n false b false q x = refl
 
-joined : (a b : Bool) (x : Watch) → fresh_if (a || b) x ≡ fresh_if b (fresh_if a x)
-joined true true x = refl
-joined true false x = refl
-joined false true x = refl
-joined false false x = refl
+positive : (n : ℕ) → nat_lt 0 n ≡ not (n == 0)
+positive n = grind (arith, nat_tests)
 
-kept_target : (a : Bool) (x : Watch) → ((fresh_if a x).mask ≡ x.mask) × ((fresh_if a x).target ≡ x.target)
-kept_target true x = (refl, refl)
-kept_target false x = (refl, refl)
+-- some bit that is asked for is among those of a union
+pub asked_either : (mask a b : ℕ) → nat_lt 0 (asked mask (bit_or a b)) ≡ (nat_lt 0 (asked mask a) || nat_lt 0 (asked mask b))
+asked_either mask a b =
+    let u = union (mask ∷ ERR ∷ HUP ∷ []) in
+    ap (nat_lt 0) (and_or a b u)
+    ∙ (positive (bit_or (bit_and a u) (bit_and b u))
+    ∙ (ap not (or_is_zero (bit_and a u) (bit_and b u))
+    ∙ (not_and (bit_and a u == 0) (bit_and b u == 0)
+    ∙ (λ i. sym (positive (bit_and a u)) i || sym (positive (bit_and b u)) i))))
 
--- what is freshened by one part, then by the other
-pub fresh_parts : (rs qs : List (ℕ × ℕ)) (xs : List Watch) → map (freshened (rs ++ qs)) xs ≡ map (freshened qs) (map (freshened rs) xs)
-fresh_parts rs qs [] = refl
-fresh_parts rs qs (x ∷ xs) =
-    let a = brings x.mask (raised_of rs x.target) in
-    let b = brings x.mask (raised_of qs x.target) in
-    let both : brings x.mask (raised_of (rs ++ qs) x.target) ≡ (a || b) = ap (brings x.mask) (raised_parts rs qs x.target) ∙ brings_either x.mask (raised_of rs x.target) (raised_of qs x.target) in
-    let at = kept_target a x in
-    let same : b ≡ brings (fresh_if a x).mask (raised_of qs (fresh_if a x).target) = λ i. brings (sym at.0 i) (raised_of qs (sym at.1 i)) in
-    let one : freshened (rs ++ qs) x ≡ freshened qs (freshened rs x) = ap (λ (c : Bool). fresh_if c x) both ∙ (joined a b x ∙ ap (λ (c : Bool). fresh_if c (fresh_if a x)) same) in
-    λ i. one i ∷ fresh_parts rs qs xs i
+and_either : (p a b : Bool) → (p && (a || b)) ≡ (p && a || p && b)
+and_either true a b = refl
+and_either false a b = refl
+
+-- what is noted of one part, then of the other
+pub fresh_parts : (n : ℕ) (rs qs : List (ℕ × ℕ)) (xs : List Watch) → map (freshened n (rs ++ qs)) xs ≡ map (freshened n qs) (map (freshened n rs) xs)
+fresh_parts n rs qs [] = refl
+fresh_parts n rs qs (x ∷ xs) =
+    let a = raised_of rs x.target in
+    let b = raised_of qs x.target in
+    let both = raised_parts rs qs x.target in
+    let arrives : brings x.mask (raised_of (rs ++ qs) x.target) ≡ (brings x.mask a || brings x.mask b) = ap (brings x.mask) both ∙ brings_either x.mask a b in
+    let passes : (x.armed && nat_lt 0 (asked x.mask (raised_of (rs ++ qs) x.target))) ≡ (x.armed && nat_lt 0 (asked x.mask a) || x.armed && nat_lt 0 (asked x.mask b)) =
+    ap (λ (k : ℕ). x.armed && nat_lt 0 (asked x.mask k)) both ∙ (ap (λ (t : Bool). x.armed && t) (asked_either x.mask a b) ∙ and_either x.armed (nat_lt 0 (asked x.mask a)) (nat_lt 0 (asked x.mask b))) in
+    let one : freshened n (rs ++ qs) x ≡ freshened n qs (freshened n rs x) =
+    (λ i. stirred n (arrives i) (passes i) x) ∙ joined n (brings x.mask a) (brings x.mask b) (x.armed && nat_lt 0 (asked x.mask a)) (x.armed && nat_lt 0 (asked x.mask b)) x in
+    λ i. one i ∷ fresh_parts n rs qs xs i
 
 -- where the same is raised at each target
-pub fresh_same : (rs qs : List (ℕ × ℕ)) (xs : List Watch) → All (λ x. raised_of rs x.target ≡ raised_of qs x.target) xs → map (freshened rs) xs ≡ map (freshened qs) xs
-fresh_same rs qs [] h = refl
-fresh_same rs qs (x ∷ xs) h =
-    let one : freshened rs x ≡ freshened qs x = ap (λ (n : ℕ). fresh_if (brings x.mask n) x) (h 0 x (omega arith)) in
-    let rest = fresh_same rs qs xs (λ k d lt. h (suc k) d (omega arith)) in
+pub fresh_same : (n : ℕ) (rs qs : List (ℕ × ℕ)) (xs : List Watch) → All (λ x. raised_of rs x.target ≡ raised_of qs x.target) xs → map (freshened n rs) xs ≡ map (freshened n qs) xs
+fresh_same n rs qs [] h = refl
+fresh_same n rs qs (x ∷ xs) h =
+    let one : freshened n rs x ≡ freshened n qs x = ap (λ (k : ℕ). stirred n (brings x.mask k) (x.armed && nat_lt 0 (asked x.mask k)) x) (h 0 x (omega arith)) in
+    let rest = fresh_same n rs qs xs (λ k d lt. h (suc k) d (omega arith)) in
     λ i. one i ∷ rest i
 
-stays_fresh : (f : Files) (a : Bool) (x : Watch) → stays_in f (fresh_if a x) ≡ stays_in f x
-stays_fresh f true x = refl
-stays_fresh f false x = refl
-
--- which registrations stay has nothing to do with what is fresh
-pub fresh_filter : (f : Files) (rs : List (ℕ × ℕ)) (xs : List Watch) → filter (stays_in f) (map (freshened rs) xs) ≡ map (freshened rs) (filter (stays_in f) xs)
-fresh_filter f rs [] = refl
-fresh_filter f rs (x ∷ xs) =
-    let rest = fresh_filter f rs xs in
-    (λ i. cond (stays_fresh f (brings x.mask (raised_of rs x.target)) x i) (freshened rs x ∷ rest i) (rest i))
-    ∙ elim (stays_in f x) as (λ b. cond b (freshened rs x ∷ map (freshened rs) (filter (stays_in f) xs)) (map (freshened rs) (filter (stays_in f) xs)) ≡ map (freshened rs) (cond b (x ∷ filter (stays_in f) xs) (filter (stays_in f) xs))) [
-      | true ↦ refl
-      | false ↦ refl
+-- which registrations stay has nothing to do with what is noted
+pub fresh_filter : (n : ℕ) (f : Files) (rs : List (ℕ × ℕ)) (xs : List Watch) → filter (stays_in f) (map (freshened n rs) xs) ≡ map (freshened n rs) (filter (stays_in f) xs)
+fresh_filter n f rs [] = refl
+fresh_filter n f rs (x ∷ xs) =
+    let rest = fresh_filter n f rs xs in
+    elim (stays_in f x) as (λ b. cond b (freshened n rs x ∷ filter (stays_in f) (map (freshened n rs) xs)) (filter (stays_in f) (map (freshened n rs) xs)) ≡ map (freshened n rs) (cond b (x ∷ filter (stays_in f) xs) (filter (stays_in f) xs))) [
+      | true ↦ ap (λ (ys : List Watch). freshened n rs x ∷ ys) rest
+      | false ↦ rest
     ]
 
 -- Deaths add what they raise to what was raised.

@@ -7,27 +7,27 @@ use Rattle.ep_machine.specs.Deaths.{kept_object}
 use Rattle.ep_machine.specs.Files.{Files, Place, is_live, object_at, object_of, place_of}
 use Rattle.ep_machine.specs.Lists.{are_distinct, is_among}
 use Rattle.ep_machine.specs.Objects.{Object, close_end, counter, instance, pair, pipe, plain, timer}
-use Rattle.ep_machine.specs.Quiet.{can_be_watched, is_backed}
+use Rattle.ep_machine.specs.Quiet.{can_be_watched, is_backed, kind_of}
 use Rattle.ep_machine.proofs.Dying.{ArePlaced, after_all, after_first, apart_from_rest, get_other, get_place, has_here, numbers, same_or_not, still_placed}
 use Rattle.ep_machine.proofs.Living.{get_none, if_twice, place_after}
-use Rattle.ep_machine.proofs.Naming.{some_set, watched_set}
+use Rattle.ep_machine.proofs.Naming.{some_set, watched_same, watched_set}
 
 -- The files after some descriptions died.
 pub record Buried (f g : Files) (xs : List (ℕ × Place)) : Type 0 where
   pub tables : g.tables ≡ f.tables
   pub places : (d : ℕ) → place_of g d ≡ (if is_among (numbers xs) d then None else place_of f d)
   pub placed : (d : ℕ) → is_backed g (place_of g d) ≡ true
-  pub shows : (d : ℕ) → is_live g d ≡ true → can_be_watched (object_of f d) ≡ true → can_be_watched (object_of g d) ≡ true
+  pub shows : (d : ℕ) → is_live g d ≡ true → can_be_watched (object_of f d) ≡ true → kind_of (object_of g d) ≡ kind_of (object_of f d)
 
-close_watch : (o : Option Object) (e : End) → can_be_watched o ≡ true → can_be_watched (Some (close_end (unwrap_or o plain) e).0) ≡ true
+close_watch : (o : Option Object) (e : End) → can_be_watched o ≡ true → kind_of (Some (close_end (unwrap_or o plain) e).0) ≡ kind_of o
 close_watch None e h = absurd (false≢true h)
-close_watch (Some plain) e h = h
+close_watch (Some plain) e h = refl
 close_watch (Some (pipe p)) First h = refl
 close_watch (Some (pipe p)) Second h = refl
 close_watch (Some (pair p)) e h = refl
 close_watch (Some (counter c)) e h = refl
 close_watch (Some (timer t)) e h = refl
-close_watch (Some instance) e h = h
+close_watch (Some instance) e h = refl
 
 -- one death
 module _ (f : Files) (x : ℕ × Place) (is : place_of f x.0 ≡ Some x.1) (backed : (d : ℕ) → is_backed f (place_of f d) ≡ true) where
@@ -63,11 +63,11 @@ module _ (f : Files) (x : ℕ × Place) (is : place_of f x.0 ≡ Some x.1) (back
     | inr ne ↦ ap (is_backed f) (get_place f.descriptions x.0 d None (λ e. ne (sym e))) ∙ backed d
   ]
 
-  shows_after : (d : ℕ) (o : Option Place) → get_or gone d None ≡ o → is_some o ≡ true → can_be_watched (object_at f o) ≡ true → can_be_watched (object_at g o) ≡ true
+  shows_after : (d : ℕ) (o : Option Place) → get_or gone d None ≡ o → is_some o ≡ true → can_be_watched (object_at f o) ≡ true → kind_of (object_at g o) ≡ kind_of (object_at f o)
   shows_after d None here live h = absurd (false≢true live)
   shows_after d (Some p) here live h = elim (object_after d p here) [
-    | inl e ↦ ap (λ (os : List (Option Object)). can_be_watched (get_or os p.object None)) e ∙ watched_set f.objects k p.object shut (close_watch (get_or f.objects k None) x.1.side) h
-    | inr e ↦ ap can_be_watched e ∙ h
+    | inl e ↦ ap (λ (os : List (Option Object)). kind_of (get_or os p.object None)) e ∙ watched_set f.objects k p.object shut (close_watch (get_or f.objects k None) x.1.side) h
+    | inr e ↦ ap kind_of e
   ]
 
   same_there : (d : ℕ) → is_live g d ≡ true → get_or gone d None ≡ place_of f d
@@ -81,11 +81,11 @@ module _ (f : Files) (x : ℕ × Place) (is : place_of f x.0 ≡ Some x.1) (back
     tables = refl;
     places = place_after f x;
     placed = λ d. backed_after d (get_or gone d None) refl (backed_before d);
-    shows = λ d live h. shows_after d (get_or gone d None) refl live (ap (λ (o : Option Place). can_be_watched (object_at f o)) (same_there d live) ∙ h);
+    shows = λ d live h. shows_after d (get_or gone d None) refl live (ap (λ (o : Option Place). can_be_watched (object_at f o)) (same_there d live) ∙ h) ∙ ap (λ (o : Option Place). kind_of (object_at f o)) (same_there d live);
   }
 
 buried_none : (f : Files) → ((d : ℕ) → is_backed f (place_of f d) ≡ true) → Buried f f []
-buried_none f backed = record { tables = refl; places = λ d. refl; placed = backed; shows = λ d live h. h }
+buried_none f backed = record { tables = refl; places = λ d. refl; placed = backed; shows = λ d live h. refl }
 
 live_if : (b : Bool) (o : Option Place) → is_some (if b then None else o) ≡ true → is_some o ≡ true
 live_if true o h = absurd (false≢true h)
@@ -99,7 +99,9 @@ buried_more f g h x xs one more = record {
       ∙ (ap (λ (o : Option Place). if is_among (numbers xs) d then None else o) (one.places d)
       ∙ if_twice (d == x.0) (is_among (numbers xs) d) (place_of f d));
   placed = more.placed;
-  shows = λ d live there. more.shows d live (one.shows d (live_if (is_among (numbers xs) d) (place_of g d) (sym (ap is_some (more.places d)) ∙ live)) there);
+  shows = λ d live there.
+      let same = one.shows d (live_if (is_among (numbers xs) d) (place_of g d) (sym (ap is_some (more.places d)) ∙ live)) there in
+      more.shows d live (watched_same _ _ same there) ∙ same;
 }
 
 pub all_buried : (f : Files) (xs : List (ℕ × Place)) → are_distinct (numbers xs) ≡ true → ArePlaced f xs → ((d : ℕ) → is_backed f (place_of f d) ≡ true) → Buried f (after_all f xs) xs

@@ -2,15 +2,13 @@
 use Rattle.std.proofs.Common.{◌≡◌, ℕ, zero, suc, ◌+◌, ◌≤◌, ◌==◌, ◌&&◌, ◌||◌, ◌∙◌, Bool, true, false, List, [], ◌∷◌, None, Option, Some, ap, arith, bit_or, cond, filter, get_or, inl, inr, is_some, nat_lt, refl, subst, sym}
 use Rattle.std.proofs.lemmas.Bool.{cases_Bool, false≢true}
 use Rattle.std.proofs.lemmas.Bool.Decides.{nat_tests}
-use Rattle.std.specs.Int.Bits.{or_zero_r}
 use Rattle.ep_base.specs.declared.counts.Counts.{Counts}
 use Rattle.ep_machine.specs.Bits.{ERR, HUP, IN, OUT, RDHUP, asked, has_bit, when}
 use Rattle.ep_machine.specs.Counts.{arrived_since, brings, counted, every_shown_bit, holds_wanted, no_counts}
-use Rattle.ep_machine.specs.Files.{Files, Place, is_live, object_of}
-use Rattle.ep_machine.specs.Objects.{Object, counter, instance, pair, pipe, plain, timer}
-use Rattle.ep_machine.specs.Quiet.{HasSeen, IsPast, can_be_watched}
+use Rattle.ep_machine.specs.Files.{Files, Place, is_live}
+use Rattle.ep_machine.specs.Quiet.{HasSeen, IsPast}
 use Rattle.ep_machine.specs.Readiness.{is_fresh, is_fresh_since}
-use Rattle.ep_machine.specs.Spread.{arrived, counts_from, is_reached, raised_alive, raised_of, reaching_of, spread}
+use Rattle.ep_machine.specs.Spread.{arrived, counts_from, raised_alive, raised_of, spread}
 use Rattle.ep_machine.specs.State.{State, Watch, counts_of}
 
 or_true : (b : Bool) → (b || true) ≡ true
@@ -90,7 +88,7 @@ same_number : (a b : ℕ) → (a == b) ≡ true → a ≡ b
 same_number a b h = grind (arith, nat_tests, h)
 
 -- what is raised at dead descriptions is raised at no live one
-alive_raised : (f : Files) (raised : List (ℕ × ℕ)) (d : ℕ) → is_live f d ≡ true → raised_of (filter (λ r. is_live f r.0) raised) d ≡ raised_of raised d
+pub alive_raised : (f : Files) (raised : List (ℕ × ℕ)) (d : ℕ) → is_live f d ≡ true → raised_of (filter (λ r. is_live f r.0) raised) d ≡ raised_of raised d
 alive_raised f [] d h = refl
 alive_raised f (r ∷ rest) d h =
     let same = alive_raised f rest d h in
@@ -106,37 +104,29 @@ alive_raised f (r ∷ rest) d h =
         | inr e ↦ e
       ]
 
-reaches_nothing : (r : ℕ → Bool) (d : ℕ) (o : Option Object) → can_be_watched o ≡ true → reaching_of r d o ≡ 0
-reaches_nothing r d None h = cc
-reaches_nothing r d (Some plain) h = cc
-reaches_nothing r d (Some (pipe p)) h = refl
-reaches_nothing r d (Some (pair p)) h = refl
-reaches_nothing r d (Some (counter c)) h = refl
-reaches_nothing r d (Some (timer t)) h = refl
-reaches_nothing r d (Some instance) h = cc
+module _ (s : State) (raised : List (ℕ × ℕ)) (d : ℕ) (lives : is_live s.files d ≡ true) where
+  abbrev bits : ℕ
+  bits = spread s (raised_alive s raised) d
 
-module _ (s : State) (raised : List (ℕ × ℕ)) (d : ℕ) (lives : is_live s.files d ≡ true) (shows : can_be_watched (object_of s.files d) ≡ true) where
-  counts_arrived : counts_of (arrived s raised) d ≡ counted (raised_of raised d) (counts_of s d)
+  counts_arrived : counts_of (arrived s raised) d ≡ counted bits (counts_of s d)
   counts_arrived =
       let live = raised_alive s raised in
-      let bits : spread s live d ≡ raised_of raised d = ap (bit_or (raised_of live d)) (reaches_nothing (is_reached s live) d (object_of s.files d) shows) ∙ (or_zero_r (raised_of live d) ∙ alive_raised s.files raised d lives) in
-      counts_at s live 0 d s.files.descriptions lives
-      ∙ (ap (λ (k : ℕ). counted (spread s live k) (counts_of s k)) (zero_plus d) ∙ (λ i. counted (bits i) (counts_of s d)))
+      counts_at s live 0 d s.files.descriptions lives ∙ ap (λ (k : ℕ). counted (spread s live k) (counts_of s k)) (zero_plus d)
     where
       zero_plus : (k : ℕ) → 0 + k ≡ k
       zero_plus k = omega arith
 
   -- a registration on it is fresh where it was, or where something that it asks for arrives
-  pub fresh_arrived : (x : Watch) → x.target ≡ d → HasSeen x.seen (counts_of s x.target) → is_fresh (arrived s raised) x ≡ (is_fresh s x || brings x.mask (raised_of raised x.target))
+  pub fresh_arrived : (x : Watch) → x.target ≡ d → HasSeen x.seen (counts_of s x.target) → is_fresh (arrived s raised) x ≡ (is_fresh s x || brings x.mask (spread s (raised_alive s raised) x.target))
   fresh_arrived x at seen =
       let wanted = asked x.mask every_shown_bit in
       ap (λ (k : ℕ). is_fresh_since x.seen wanted (counts_of (arrived s raised) k)) at
       ∙ (ap (is_fresh_since x.seen wanted) counts_arrived
-      ∙ (fresh_counted x.seen wanted (raised_of raised d) (counts_of s d) (subst (λ (k : ℕ). HasSeen x.seen (counts_of s k)) at seen)
-      ∙ ap (λ (k : ℕ). is_fresh_since x.seen wanted (counts_of s k) || holds_wanted wanted (raised_of raised k)) (sym at)))
+      ∙ (fresh_counted x.seen wanted bits (counts_of s d) (subst (λ (k : ℕ). HasSeen x.seen (counts_of s k)) at seen)
+      ∙ ap (λ (k : ℕ). is_fresh_since x.seen wanted (counts_of s k) || holds_wanted wanted (spread s (raised_alive s raised) k)) (sym at)))
 
   pub seen_arrived : (x : Watch) → x.target ≡ d → HasSeen x.seen (counts_of s x.target) → HasSeen x.seen (counts_of (arrived s raised) x.target)
   seen_arrived x at seen =
       subst (λ (k : ℕ). HasSeen x.seen (counts_of (arrived s raised) k)) (sym at)
       (subst (λ (c : Counts). HasSeen x.seen c) (sym counts_arrived)
-      (past_counted x.seen (raised_of raised d) (counts_of s d) (subst (λ (k : ℕ). HasSeen x.seen (counts_of s k)) at seen)))
+      (past_counted x.seen bits (counts_of s d) (subst (λ (k : ℕ). HasSeen x.seen (counts_of s k)) at seen)))

@@ -4,9 +4,12 @@ pub mod Dying
 pub mod Living
 pub mod Naming
 pub mod Burying
+pub mod Counting
 pub mod Quietness
+pub mod Extending
 pub mod Freshening
 pub mod Arriving
+pub mod Reaching
 pub mod Survivors
 pub mod Settling
 pub mod Showing

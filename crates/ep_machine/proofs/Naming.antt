@@ -1,5 +1,5 @@
 -- What tables name, and what descriptions and objects are there after a creation or a change of an object.
-use Rattle.std.proofs.Common.{◌≡◌, ◌≢◌, ℕ, zero, suc, ◌==◌, ◌||◌, ◌⊎◌, ◌++◌, ◌∙◌, Bool, List, [], ◌∷◌, None, Option, Some, ℤ, pos, negsuc, true, false, ap, arith, get_or, if◌then◌else◌, inl, inr, is_none, is_some, length, map, refl, set, subst, sym, unwrap_or}
+use Rattle.std.proofs.Common.{nat_lt, ◌≡◌, ◌≢◌, ℕ, zero, suc, ◌==◌, ◌||◌, ◌⊎◌, ◌++◌, ◌∙◌, Bool, List, [], ◌∷◌, None, Option, Some, ℤ, pos, negsuc, true, false, ap, arith, get_or, if◌then◌else◌, inl, inr, is_none, is_some, length, map, refl, set, subst, sym, unwrap_or}
 use Rattle.std.specs.List.{filter_map}
 use Rattle.std.proofs.lemmas.Bool.{false≢true}
 use Rattle.std.proofs.lemmas.Bool.Decides.{nat_tests}
@@ -8,7 +8,7 @@ use Rattle.ep_machine.specs.Deaths.{named_in, named_in_tables}
 use Rattle.ep_machine.specs.Files.{Files, Place, Slot, Table, description_in, is_live, named_by, names_nothing, numbers_of, object_at, object_of, opening_files, place_of, slot_under, table_of, with_object}
 use Rattle.ep_machine.specs.Lists.{enter, is_among, place_at}
 use Rattle.ep_machine.specs.Objects.{Object}
-use Rattle.ep_machine.specs.Quiet.{can_be_watched, is_backed}
+use Rattle.ep_machine.specs.Quiet.{can_be_watched, is_backed, kind_of}
 use Rattle.ep_machine.specs.Tables.{close, create_one, create_two, describe, dup, dup2, exec, exit, fork, kept_by_exec, new_object, same_number, slot, with_table}
 use Rattle.ep_machine.proofs.Dying.{same_or_not}
 
@@ -17,13 +17,16 @@ pub record Filed (f : Files) : Type 0 where
   pub placed : (d : ℕ) → is_backed f (place_of f d) ≡ true
   pub lives : (d : ℕ) → is_among (named_in_tables f.tables) d ≡ true → is_live f d ≡ true
 
--- what lives and what can be watched stays so
+-- what lives stays so, and what can be watched keeps its kind
 pub record Extends (f g : Files) : Type 0 where
   pub lives : (d : ℕ) → is_live f d ≡ true → is_live g d ≡ true
-  pub shows : (d : ℕ) → can_be_watched (object_of f d) ≡ true → can_be_watched (object_of g d) ≡ true
+  pub shows : (d : ℕ) → can_be_watched (object_of f d) ≡ true → kind_of (object_of g d) ≡ kind_of (object_of f d)
+
+pub watched_same : (o p : Option Object) → kind_of p ≡ kind_of o → can_be_watched o ≡ true → can_be_watched p ≡ true
+watched_same o p same h = ap (nat_lt 0) same ∙ h
 
 pub extends_trans : (f g h : Files) → Extends f g → Extends g h → Extends f h
-extends_trans f g h a b = record { lives = λ d e. b.lives d (a.lives d e); shows = λ d e. b.shows d (a.shows d e) }
+extends_trans f g h a b = record { lives = λ d e. b.lives d (a.lives d e); shows = λ d e. let same = a.shows d e in b.shows d (watched_same _ _ same e) ∙ same }
 
 -- Bools.
 or_comm : (a b : Bool) → (a || b) ≡ (b || a)
@@ -118,12 +121,12 @@ some_set (y ∷ xs) zero (suc j) x h = h
 some_set (y ∷ xs) (suc k) zero x h = h
 some_set (y ∷ xs) (suc k) (suc j) x h = some_set xs k j x h
 
--- an object that can be watched gives way to one that can
-pub watched_set : (xs : List (Option Object)) (k j : ℕ) (x : Object) → (can_be_watched (get_or xs k None) ≡ true → can_be_watched (Some x) ≡ true) → can_be_watched (get_or xs j None) ≡ true → can_be_watched (get_or (set xs k (Some x)) j None) ≡ true
-watched_set [] k j x keep h = h
+-- an object that can be watched gives way to one of its kind
+pub watched_set : (xs : List (Option Object)) (k j : ℕ) (x : Object) → (can_be_watched (get_or xs k None) ≡ true → kind_of (Some x) ≡ kind_of (get_or xs k None)) → can_be_watched (get_or xs j None) ≡ true → kind_of (get_or (set xs k (Some x)) j None) ≡ kind_of (get_or xs j None)
+watched_set [] k j x keep h = refl
 watched_set (y ∷ xs) zero zero x keep h = keep h
-watched_set (y ∷ xs) zero (suc j) x keep h = h
-watched_set (y ∷ xs) (suc k) zero x keep h = h
+watched_set (y ∷ xs) zero (suc j) x keep h = refl
+watched_set (y ∷ xs) (suc k) zero x keep h = refl
 watched_set (y ∷ xs) (suc k) (suc j) x keep h = watched_set xs k j x keep h
 
 watched_is_some : (o : Option Object) → can_be_watched o ≡ true → is_some o ≡ true
@@ -145,9 +148,9 @@ from_test a b h = grind (arith, nat_tests, h)
 -- A new object.
 pub extends_new_object : (f : Files) (x : Object) → Extends f (new_object f x)
 extends_new_object f x = record { lives = λ d e. e; shows = λ d e. shows_at (place_of f d) e } where
-  shows_at : (p : Option Place) → can_be_watched (object_at f p) ≡ true → can_be_watched (object_at (new_object f x) p) ≡ true
-  shows_at None e = e
-  shows_at (Some p) e = ap can_be_watched (some_append f.objects (Some x ∷ []) p.object (watched_is_some _ e)) ∙ e
+  shows_at : (p : Option Place) → can_be_watched (object_at f p) ≡ true → kind_of (object_at (new_object f x) p) ≡ kind_of (object_at f p)
+  shows_at None e = refl
+  shows_at (Some p) e = ap kind_of (some_append f.objects (Some x ∷ []) p.object (watched_is_some _ e))
 
 pub filed_new_object : (f : Files) (x : Object) → Filed f → Filed (new_object f x)
 filed_new_object f x h = record { placed = λ d. placed_at (place_of f d) (h.placed d); lives = h.lives } where
@@ -161,7 +164,7 @@ extends_describe f p k e cloexec =
     let new : List (Option Place) = Some (record { object = k; side = e }) ∷ [] in
     record {
       lives = λ d h. ap is_some (some_append f.descriptions new d h) ∙ h;
-      shows = λ d h. ap (λ (q : Option Place). can_be_watched (object_at f q)) (some_append f.descriptions new d (watched_lives f (place_of f d) h)) ∙ h;
+      shows = λ d h. ap (λ (q : Option Place). kind_of (object_at f q)) (some_append f.descriptions new d (watched_lives f (place_of f d) h));
     }
 
 push_other : (ds : List (Option Place)) (p : Option Place) (d : ℕ) → d ≢ length ds → get_or (ds ++ p ∷ []) d None ≡ get_or ds d None
@@ -205,10 +208,10 @@ pub filed_two : (f : Files) (p : ℕ) (x : Object) (cloexec : Bool) → is_none 
 filed_two f p x cloexec there h = filed_describe (create_one f p x cloexec) p (length f.objects) _ cloexec (table_after f.tables p _ there) (ap is_some (some_push f.objects x)) (filed_one f p x cloexec there h)
 
 -- Another object in the place of one.
-pub extends_with_object : (f : Files) (k : ℕ) (x : Object) → (can_be_watched (get_or f.objects k None) ≡ true → can_be_watched (Some x) ≡ true) → Extends f (with_object f k x)
+pub extends_with_object : (f : Files) (k : ℕ) (x : Object) → (can_be_watched (get_or f.objects k None) ≡ true → kind_of (Some x) ≡ kind_of (get_or f.objects k None)) → Extends f (with_object f k x)
 extends_with_object f k x keep = record { lives = λ d e. e; shows = λ d e. shows_at (place_of f d) e } where
-  shows_at : (p : Option Place) → can_be_watched (object_at f p) ≡ true → can_be_watched (object_at (with_object f k x) p) ≡ true
-  shows_at None e = e
+  shows_at : (p : Option Place) → can_be_watched (object_at f p) ≡ true → kind_of (object_at (with_object f k x) p) ≡ kind_of (object_at f p)
+  shows_at None e = refl
   shows_at (Some p) e = watched_set f.objects k p.object x keep e
 
 pub filed_with_object : (f : Files) (k : ℕ) (x : Object) → Filed f → Filed (with_object f k x)
@@ -300,7 +303,7 @@ among_last (t ∷ ts) u d h = elim (in_either t (ts ++ u ∷ []) d h) [
 
 -- The calls on tables alone.
 pub same_tables : (f : Files) (ts : List (Option Table)) → Extends f (record f { tables = ts })
-same_tables f ts = record { lives = λ d e. e; shows = λ d e. e }
+same_tables f ts = record { lives = λ d e. e; shows = λ d e. refl }
 
 pub filed_dup : (f : Files) (p d : ℕ) → Filed f → is_live f d ≡ true → Filed (dup f p d)
 filed_dup f p d h lives = filed_table f p (Some (enter (numbers_of f p) (slot d false))) h (λ e named. elim (among_entered (numbers_of f p) (slot d false) e named) [
@@ -323,12 +326,12 @@ filed_dup2 f p fd (pos k) d h lives = filed_if (same_number fd (pos k)) f (with_
 filed_dup2 f p fd (negsuc k) d h lives = h
 
 extends_if : (b : Bool) (f g : Files) → Extends f g → Extends f (if b then f else g)
-extends_if true f g h = record { lives = λ d e. e; shows = λ d e. e }
+extends_if true f g h = record { lives = λ d e. e; shows = λ d e. refl }
 extends_if false f g h = h
 
 pub extends_dup2 : (f : Files) (p : ℕ) (fd to : ℤ) (d : ℕ) → Extends f (dup2 f p fd to d)
 extends_dup2 f p fd (pos k) d = extends_if (same_number fd (pos k)) f (with_table f p (place_at (numbers_of f p) k (slot d false))) (same_tables f (set f.tables p (Some (place_at (numbers_of f p) k (slot d false)))))
-extends_dup2 f p fd (negsuc k) d = record { lives = λ e live. live; shows = λ e shown. shown }
+extends_dup2 f p fd (negsuc k) d = record { lives = λ e live. live; shows = λ e shown. refl }
 
 pub filed_close : (f : Files) (p : ℕ) (fd : ℤ) → Filed f → Filed (close f p fd)
 filed_close f p (pos k) h = filed_table f p (Some (set (numbers_of f p) k None)) h (λ e named. numbers_live f p h e (among_unset (numbers_of f p) k e named))

@@ -1,5 +1,5 @@
 -- Each state that the calls of this version reach is quiet.
-use Rattle.std.proofs.Common.{◌≡◌, ℕ, zero, suc, ◌+◌, ◌≤◌, ◌&&◌, All, Bool, List, [], ◌∷◌, MatchOption, None, Option, Some, ℤ, pos, negsuc, true, false, not, arith, cond, get_or, if◌then◌else◌, is_none, is_some, length, map, nat_lt, refl, subst, sym, ◌∙◌, unwrap_or}
+use Rattle.std.proofs.Common.{◌≡◌, ◌==◌, ℕ, zero, suc, ◌+◌, ◌≤◌, ◌&&◌, All, Bool, List, [], ◌∷◌, MatchOption, None, Option, Some, ℤ, pos, negsuc, true, false, not, arith, cond, get_or, if◌then◌else◌, is_none, is_some, length, map, nat_lt, refl, subst, sym, ◌∙◌, unwrap_or}
 use Rattle.std.specs.List.{AllByRecursion}
 use Rattle.std.proofs.lemmas.Bool.Decides.{nat_tests}
 use Rattle.std.proofs.lemmas.List.Elements.{All-filter, All-map, All-push, All-weaker}
@@ -21,9 +21,9 @@ use Rattle.ep_machine.specs.Bits.{ONESHOT, has_bit}
 use Rattle.ep_machine.specs.Effect.{first}
 use Rattle.ep_machine.specs.Files.{Files, Place, named_by, names_nothing, object_at, object_number, object_of, object_under, place_of, side_under}
 use Rattle.ep_machine.specs.Lists.{is_among}
-use Rattle.ep_machine.specs.Objects.{Object, counter, instance, is_instance, is_plain, object_effect, pair, pipe, plain, timer}
+use Rattle.ep_machine.specs.Objects.{Object, counter, instance, is_plain, object_effect, pair, pipe, plain, timer}
 use Rattle.ep_machine.specs.Pipe.{new_pipe}
-use Rattle.ep_machine.specs.Quiet.{Changed, HasSeen, IsSettled, IsSteady, Quiet, can_be_watched}
+use Rattle.ep_machine.specs.Quiet.{Changed, HasSeen, IsSettled, IsSteady, Quiet, can_be_watched, kind_of}
 use Rattle.ep_machine.specs.Readiness.{is_ready}
 use Rattle.ep_machine.specs.Refusal.{call_refusals, ctl_refusals, is_zero, refusals}
 use Rattle.ep_machine.specs.Report.{is_pick, plainly, report, report_of, reported, watches_at}
@@ -34,8 +34,9 @@ use Rattle.ep_machine.specs.Tables.{answer_one, close, dup, dup2, exec, exit, fo
 use Rattle.ep_machine.specs.Timer.{last_moment, new_timer}
 use Rattle.ep_machine.specs.Waits.{tick, wait, wait_for}
 use Rattle.ep_machine.specs.Watches.{add, ctl, delete, has_key, is_add, is_del, modified, modify, new_watch, number_in}
-use Rattle.ep_machine.proofs.Naming.{Extends, Filed, extends_dup2, extends_one, extends_two, extends_with_object, filed_close, filed_dup, filed_dup2, filed_exec, filed_exit, filed_fork, filed_one, filed_opening, filed_two, filed_with_object, named_lives, named_opening, same_tables}
+use Rattle.ep_machine.proofs.Naming.{Extends, Filed, extends_dup2, extends_one, extends_two, extends_with_object, filed_close, filed_dup, filed_dup2, filed_exec, filed_exit, filed_fork, filed_one, filed_opening, filed_two, filed_with_object, named_lives, named_opening, same_tables, watched_same}
 use Rattle.ep_machine.proofs.Freshening.{past_itself}
+use Rattle.ep_machine.proofs.Counting.{change_counted}
 use Rattle.ep_machine.proofs.Settling.{quiet_settled, settle_changed}
 
 -- no test of a list that refuses nothing holds
@@ -51,7 +52,7 @@ from_not false h = cc
 
 -- Other files under the same registrations.
 steady_in : (f g : Files) → Extends f g → (x : Watch) → IsSteady f x → IsSteady g x
-steady_in f g e x h = record { instance_lives = e.lives x.instance h.instance_lives; target_lives = e.lives x.target h.target_lives; target_shows = e.shows x.target h.target_shows }
+steady_in f g e x h = record { instance_lives = e.lives x.instance h.instance_lives; target_lives = e.lives x.target h.target_lives; target_shows = watched_same _ _ (e.shows x.target h.target_shows) h.target_shows }
 
 filed : (s : State) → Quiet s → Filed s.files
 filed s h = record { placed = h.placed; lives = λ d e. sym (h.named d) ∙ e }
@@ -63,68 +64,74 @@ quiet_files : (s : State) (g : Files) → Quiet s → Filed g → Extends s.file
 quiet_files s g h k e = record { waiters = h.waiters; now = h.now; placed = k.placed; lives = k.lives; watches = All-weaker (IsSteady s.files) (IsSteady g) (steady_in s.files g e) s.watches h.watches; seen = h.seen }
 
 -- A call on an object keeps its kind.
-effect_shows : (x : Object) (e : End) (now : ℕ) (call : Call) → can_be_watched (Some x) ≡ true → can_be_watched (Some (object_effect x e now call).1) ≡ true
-effect_shows plain e now (Read fd n) h = h
-effect_shows (pipe p) e now (Read fd n) h = refl
-effect_shows (pair p) e now (Read fd n) h = refl
-effect_shows (counter c) e now (Read fd n) h = refl
-effect_shows (timer t) e now (Read fd n) h = refl
-effect_shows instance e now (Read fd n) h = h
-effect_shows plain e now (Write fd bytes) h = h
-effect_shows (pipe p) e now (Write fd bytes) h = refl
-effect_shows (pair p) e now (Write fd bytes) h = refl
-effect_shows (counter c) e now (Write fd bytes) h = refl
-effect_shows (timer t) e now (Write fd bytes) h = refl
-effect_shows instance e now (Write fd bytes) h = h
-effect_shows plain e now (Shutdown fd) h = h
-effect_shows (pipe p) e now (Shutdown fd) h = refl
-effect_shows (pair p) e now (Shutdown fd) h = refl
-effect_shows (counter c) e now (Shutdown fd) h = refl
-effect_shows (timer t) e now (Shutdown fd) h = refl
-effect_shows instance e now (Shutdown fd) h = h
-effect_shows plain e now (SetTime fd absolute value interval) h = h
-effect_shows (pipe p) e now (SetTime fd absolute value interval) h = refl
-effect_shows (pair p) e now (SetTime fd absolute value interval) h = refl
-effect_shows (counter c) e now (SetTime fd absolute value interval) h = refl
-effect_shows (timer t) e now (SetTime fd absolute value interval) h = refl
-effect_shows instance e now (SetTime fd absolute value interval) h = h
-effect_shows plain e now (GetTime fd) h = h
-effect_shows (pipe p) e now (GetTime fd) h = refl
-effect_shows (pair p) e now (GetTime fd) h = refl
-effect_shows (counter c) e now (GetTime fd) h = refl
-effect_shows (timer t) e now (GetTime fd) h = refl
-effect_shows instance e now (GetTime fd) h = h
-effect_shows x e now call h = h
+effect_kind : (x : Object) (e : End) (now : ℕ) (call : Call) → kind_of (Some (object_effect x e now call).1) ≡ kind_of (Some x)
+effect_kind plain e now (Read fd n) = refl
+effect_kind (pipe p) e now (Read fd n) = refl
+effect_kind (pair p) e now (Read fd n) = refl
+effect_kind (counter c) e now (Read fd n) = refl
+effect_kind (timer t) e now (Read fd n) = refl
+effect_kind instance e now (Read fd n) = refl
+effect_kind plain e now (Write fd bytes) = refl
+effect_kind (pipe p) e now (Write fd bytes) = refl
+effect_kind (pair p) e now (Write fd bytes) = refl
+effect_kind (counter c) e now (Write fd bytes) = refl
+effect_kind (timer t) e now (Write fd bytes) = refl
+effect_kind instance e now (Write fd bytes) = refl
+effect_kind plain e now (Shutdown fd) = refl
+effect_kind (pipe p) e now (Shutdown fd) = refl
+effect_kind (pair p) e now (Shutdown fd) = refl
+effect_kind (counter c) e now (Shutdown fd) = refl
+effect_kind (timer t) e now (Shutdown fd) = refl
+effect_kind instance e now (Shutdown fd) = refl
+effect_kind plain e now (SetTime fd absolute value interval) = refl
+effect_kind (pipe p) e now (SetTime fd absolute value interval) = refl
+effect_kind (pair p) e now (SetTime fd absolute value interval) = refl
+effect_kind (counter c) e now (SetTime fd absolute value interval) = refl
+effect_kind (timer t) e now (SetTime fd absolute value interval) = refl
+effect_kind instance e now (SetTime fd absolute value interval) = refl
+effect_kind plain e now (GetTime fd) = refl
+effect_kind (pipe p) e now (GetTime fd) = refl
+effect_kind (pair p) e now (GetTime fd) = refl
+effect_kind (counter c) e now (GetTime fd) = refl
+effect_kind (timer t) e now (GetTime fd) = refl
+effect_kind instance e now (GetTime fd) = refl
+effect_kind x e now call = refl
 
-watched_there : (o : Option Object) → can_be_watched o ≡ true → can_be_watched (Some (unwrap_or o plain)) ≡ true
-watched_there None h = cc
-watched_there (Some x) h = h
+kind_there : (o : Option Object) → kind_of (Some (unwrap_or o plain)) ≡ kind_of o
+kind_there None = refl
+kind_there (Some x) = refl
 
-watched_at : (f : Files) (p : Option Place) → is_none p ≡ false → can_be_watched (get_or f.objects (object_number p) None) ≡ true → can_be_watched (object_at f p) ≡ true
-watched_at f None live h = cc
-watched_at f (Some p) live h = h
+kind_at : (f : Files) (p : Option Place) → is_none p ≡ false → kind_of (object_at f p) ≡ kind_of (get_or f.objects (object_number p) None)
+kind_at f None live = cc
+kind_at f (Some p) live = refl
 
 some_is_no_none : {X : Type 0} (o : Option X) → is_some o ≡ true → is_none o ≡ false
 some_is_no_none None h = cc
 some_is_no_none (Some x) h = refl
 
-quiet_object_change : (s : State) (p : ℕ) (fd : ℤ) (call : Call) → Quiet s → names_nothing s.files p fd ≡ false → Changed (object_change s p fd call).1
-quiet_object_change s p fd call h there =
+pub object_extends : (s : State) (p : ℕ) (fd : ℤ) (call : Call) → Quiet s → names_nothing s.files p fd ≡ false → Extends s.files (object_change s p fd call).1.files
+object_extends s p fd call h there =
     let d = named_by s.files p fd in
     let k = object_number (place_of s.files d) in
     let x = (object_effect (object_under s.files p fd) (side_under s.files p fd) s.now call).1 in
     let live = some_is_no_none (place_of s.files d) (named_lives s.files p fd (filed s h) there) in
-    quiet_files s _ h (filed_with_object s.files k x (filed s h))
-    (extends_with_object s.files k x (λ shows. effect_shows _ (side_under s.files p fd) s.now call (watched_there (object_of s.files d) (watched_at s.files (place_of s.files d) live shows))))
+    extends_with_object s.files k x (λ shows. effect_kind _ (side_under s.files p fd) s.now call ∙ (kind_there (object_of s.files d) ∙ kind_at s.files (place_of s.files d) live))
+
+quiet_object_change : (s : State) (p : ℕ) (fd : ℤ) (call : Call) → Quiet s → names_nothing s.files p fd ≡ false → Changed (object_change s p fd call).1
+quiet_object_change s p fd call h there =
+    let k = object_number (place_of s.files (named_by s.files p fd)) in
+    let x = (object_effect (object_under s.files p fd) (side_under s.files p fd) s.now call).1 in
+    quiet_files s _ h (filed_with_object s.files k x (filed s h)) (object_extends s p fd call h there)
 
 -- ADD.
-shows_from_tests : (o : Option Object) → is_plain (unwrap_or o plain) ≡ false → is_instance (unwrap_or o plain) ≡ false → can_be_watched o ≡ true
-shows_from_tests None p i = cc
-shows_from_tests (Some x) p i = both (is_plain x) (is_instance x) p i where
-  both : (a b : Bool) → a ≡ false → b ≡ false → (not a && not b) ≡ true
-  both true b h k = cc
-  both false true h k = cc
-  both false false h k = refl
+shows_from_tests : (o : Option Object) → is_plain (unwrap_or o plain) ≡ false → can_be_watched o ≡ true
+shows_from_tests None p = cc
+shows_from_tests (Some plain) p = cc
+shows_from_tests (Some (pipe q)) p = refl
+shows_from_tests (Some (pair q)) p = refl
+shows_from_tests (Some (counter q)) p = refl
+shows_from_tests (Some (timer q)) p = refl
+shows_from_tests (Some instance) p = refl
 
 quiet_watches : (s : State) (xs : List Watch) (added : ℕ) → Quiet s → All (IsSteady s.files) xs → All (λ x. HasSeen x.seen (counts_of s x.target)) xs → Changed (record s { watches = xs; added = added })
 quiet_watches s xs added h steady seen = record { waiters = h.waiters; now = h.now; placed = h.placed; lives = (filed s h).lives; watches = steady; seen = seen }
@@ -172,7 +179,7 @@ quiet_ctl limits s p epfd op fd mask tag h tests =
     let steady : IsSteady s.files (new_watch s e k d mask tag) = record {
       instance_lives = named_lives s.files p epfd (filed s h) tests.0;
       target_lives = named_lives s.files p fd (filed s h) tests.1.0;
-      target_shows = shows_from_tests (object_of s.files d) tests.1.1.0 tests.1.1.1.1.0;
+      target_shows = shows_from_tests (object_of s.files d) tests.1.1.0;
     } in
     quiet_if (is_add op) (add s e k d mask tag) (if is_del op then delete s e k d else modify s e k d mask tag)
     (λ _. quiet_add s e k d mask tag h steady)
@@ -287,16 +294,20 @@ quiet_change limits s caller event picked c h allowed e = subst Fine e (fine_cha
 IsStep : Option (Answer × State) → Type 0
 IsStep o = MatchOption o (Unit {0}) (λ c. Quiet c.1)
 
-fine_settled : (before : State) (c : Option Change) → Fine c → IsStep (settled before c)
-unfolding Fine IsStep
-fine_settled before None h = tt
-fine_settled before (Some c) h = quiet_settled c.1 h c.2 (settle before c.1 c.2) (settle_changed before c.1 c.2 h)
+-- of an event
+abbrev IsCounted : Option Change → Type 0
+IsCounted c = (made : Change) → c ≡ Some made → (0 == made.1.n) ≡ false
 
-fine_refused : (e : Option Errno) (s : State) (ks : List ℕ) (c : Option Change) → Quiet s → (e ≡ None → Fine c) → IsStep (refused_or e s ks c)
+fine_settled : (before : State) (c : Option Change) → IsCounted c → Fine c → IsStep (settled before c)
+unfolding Fine IsStep
+fine_settled before None k h = tt
+fine_settled before (Some c) k h = quiet_settled c.1 h c.2 (settle before c.1 c.2) (settle_changed before c.1 c.2 (k c refl) h)
+
+fine_refused : (e : Option Errno) (s : State) (ks : List ℕ) (c : Option Change) → Quiet s → IsCounted c → (e ≡ None → Fine c) → IsStep (refused_or e s ks c)
 unfolding IsStep
-fine_refused None s ks c h k = fine_settled s c (k refl)
-fine_refused (Some e) s [] c h k = h
-fine_refused (Some e) s (x ∷ ks) c h k = tt
+fine_refused None s ks c h n k = fine_settled s c n (k refl)
+fine_refused (Some e) s [] c h n k = h
+fine_refused (Some e) s (x ∷ ks) c h n k = tt
 
 pub quiet_begun : (s : State) → Quiet s → Quiet (begun s)
 quiet_begun s h = record { waiters = h.waiters; now = h.now; placed = h.placed; named = h.named; watches = h.watches; seen = h.seen }
@@ -309,7 +320,7 @@ unfolding IsStep
 quiet_step limits s t caller event picked a h e =
     let now = begun s in
     let start = quiet_begun s h in
-    subst IsStep e (fine_refused (first (refusals limits now caller event)) now picked (change limits now caller event picked) start (fine_change limits now caller event picked start))
+    subst IsStep e (fine_refused (first (refusals limits now caller event)) now picked (change limits now caller event picked) start (change_counted limits s caller event picked) (fine_change limits now caller event picked start))
 
 -- each state of a run
 pub quiet_run : (limits : Limits) (past : List Record) (s : State) → run limits opening past ≡ Some s → Quiet s
@@ -319,4 +330,4 @@ quiet_run limits past s e = run_keeps Quiet limits (quiet_step limits) opening s
 pub step_quiet : (limits : Limits) (s : State) (caller : ℕ) (event : Event) (picked : List ℕ) (c : Change) → Quiet s → first (refusals limits (begun s) caller event) ≡ None → change limits (begun s) caller event picked ≡ Some c
     → (t : State) × (step limits s caller event picked ≡ Some (c.0, t)) × IsSettled c.1 c.2 t
 step_quiet limits s caller event picked c h allowed e =
-    (settle (begun s) c.1 c.2, step_changed limits s caller event picked c allowed e, settle_changed (begun s) c.1 c.2 (quiet_change limits (begun s) caller event picked c (quiet_begun s h) allowed e))
+    (settle (begun s) c.1 c.2, step_changed limits s caller event picked c allowed e, settle_changed (begun s) c.1 c.2 (change_counted limits s caller event picked c e) (quiet_change limits (begun s) caller event picked c (quiet_begun s h) allowed e))

@@ -6,22 +6,27 @@ use Rattle.std.proofs.lemmas.List.Elements.{All-cons, All-map}
 use Rattle.std.proofs.lemmas.Bool.Decides.{nat_tests}
 use Rattle.ep_base.specs.declared.counts.Counts.{Counts}
 use Rattle.ep_machine.specs.Bits.{ERR, HUP, IN, ONESHOT, OUT, RDHUP, asked, has_bit}
-use Rattle.ep_machine.specs.Counts.{arrived_since, brings, every_shown_bit, holds_wanted, no_counts}
+use Rattle.ep_machine.specs.Counts.{arrived_since, brings, every_shown_bit, no_counts}
 use Rattle.ep_machine.specs.Deaths.{buried, die_all, dying, is_kept, named, named_in_tables}
 use Rattle.ep_machine.specs.Files.{Files, Place, Table, is_live, object_of, place_of}
 use Rattle.ep_machine.specs.Lists.{is_among}
-use Rattle.ep_machine.specs.Quiet.{Changed, HasSeen, IsSettled, IsSteady, Quiet, can_be_watched, freshened, is_backed, kept_all, kept_of, reported_in, seen_where, stays_in}
-use Rattle.ep_machine.specs.Readiness.{is_fresh, is_reportable}
+use Rattle.ep_machine.specs.Kept.{carries, climbed, climbed_all, freshened, kept_all, kept_of, reached_now, reached_within, reported_in, seen_where, settled_watches, stays_in, stirred, watches_instance}
+use Rattle.ep_machine.specs.Quiet.{Changed, HasSeen, IsSettled, IsSteady, Quiet, can_be_watched, is_backed, kind_of}
+use Rattle.ep_machine.specs.Readiness.{is_reportable}
 use Rattle.ep_machine.specs.Report.{reported}
 use Rattle.ep_machine.specs.Settle.{came, reportable_numbers, settle, with_from}
-use Rattle.ep_machine.specs.Spread.{arrived, raised_of}
+use Rattle.ep_machine.specs.Spread.{arrived}
 use Rattle.ep_machine.specs.State.{State, Waiter, Watch, counts_of}
 use Rattle.ep_machine.specs.Timer.{last_moment}
 use Rattle.ep_machine.specs.Waits.{marked_first, marked_if_due, with_due}
 use Rattle.ep_machine.proofs.Burying.{Buried, all_buried}
 use Rattle.ep_machine.proofs.Living.{dying_distinct, dying_placed, dying_unnamed, unnamed_dying}
 use Rattle.ep_machine.proofs.Dying.{ArePlaced, after_all, differs, numbers, raised_before, same_nat, same_or_not}
+use Rattle.ep_machine.proofs.Naming.{watched_same}
 use Rattle.ep_machine.proofs.Freshening.{fresh_arrived, seen_arrived}
+use Rattle.ep_machine.proofs.Reaching.{kept_arrived, reached, zero_asked, zero_brings}
+use Rattle.ep_machine.proofs.Showing.{kept_filter}
+use Rattle.std.specs.List.{list_any}
 
 pub among_left : (xs ys : List ℕ) (d : ℕ) → is_among xs d ≡ true → is_among (xs ++ ys) d ≡ true
 among_left [] ys d h = cc
@@ -55,22 +60,27 @@ all_from_kept files s (x ∷ xs) h (suc k) d lt = all_from_kept files s xs (λ j
 all_to_kept : (files : Files) (s : State) (xs : List Watch) → All (IsSteady files) xs → All (IsSteady files) (kept_all s xs)
 all_to_kept files s xs h = All-map (IsSteady files) (kept_of s) xs (λ k d lt. to_kept files s (get_or xs k d) (h k d lt))
 
-steady_fresh : (files : Files) (raised : List (ℕ × ℕ)) (x : Watch) → IsSteady files x → IsSteady files (freshened raised x)
-steady_fresh files raised x h =
-    elim (brings x.mask (raised_of raised x.target)) as (λ b. IsSteady files (cond b (record x { seen = None }) x)) [
-      | true ↦ record { instance_lives = h.instance_lives; target_lives = h.target_lives; target_shows = h.target_shows }
-      | false ↦ h
-    ]
+-- what is noted in registrations leaves them steady
+all_noted : (files : Files) (f : Watch → Watch) (xs : List Watch) → ((x : Watch) → IsSteady files x → IsSteady files (f x)) → All (IsSteady files) xs → All (IsSteady files) (map f xs)
+all_noted files f xs keeps h = All-map (IsSteady files) f xs (λ k d lt. keeps (get_or xs k d) (h k d lt))
 
-all_fresh : (files : Files) (raised : List (ℕ × ℕ)) (xs : List Watch) → All (IsSteady files) xs → All (IsSteady files) (map (freshened raised) xs)
-all_fresh files raised xs h = All-map (IsSteady files) (freshened raised) xs (λ k d lt. steady_fresh files raised (get_or xs k d) (h k d lt))
+steady_fresh : (files : Files) (n : ℕ) (raised : List (ℕ × ℕ)) (x : Watch) → IsSteady files x → IsSteady files (freshened n raised x)
+steady_fresh files n raised x h = record { instance_lives = h.instance_lives; target_lives = h.target_lives; target_shows = h.target_shows }
+
+steady_climbed : (files : Files) (reached : ℕ → Bool) (g : Files) (x : Watch) → IsSteady files x → IsSteady files (climbed reached g x)
+steady_climbed files reached g x h = record { instance_lives = h.instance_lives; target_lives = h.target_lives; target_shows = h.target_shows }
+
+all_settled : (files : Files) (n : ℕ) (g : Files) (raised : List (ℕ × ℕ)) (xs : List Watch) → All (IsSteady files) xs → All (IsSteady files) (settled_watches n g (freshened n raised) xs)
+all_settled files n g raised xs h =
+    let ys = map (freshened n raised) xs in
+    all_noted files (climbed (reached_now g n ys) g) ys (steady_climbed files (reached_now g n ys) g) (all_noted files (freshened n raised) xs (steady_fresh files n raised) h)
 
 both_true : (a b : Bool) → (a && b) ≡ true → (a ≡ true) × (b ≡ true)
 both_true true b h = (refl, h)
 both_true false b h = absurd (false≢true h)
 
 -- the registrations whose instance and target live stay steady
-steady_left : (f g : Files) (xs : List Watch) → ((d : ℕ) → is_live g d ≡ true → can_be_watched (object_of f d) ≡ true → can_be_watched (object_of g d) ≡ true)
+steady_left : (f g : Files) (xs : List Watch) → ((d : ℕ) → is_live g d ≡ true → can_be_watched (object_of f d) ≡ true → kind_of (object_of g d) ≡ kind_of (object_of f d))
     → All (IsSteady f) xs → All (IsSteady g) (filter (stays_in g) xs)
 steady_left f g [] shows h = λ k d lt. absurd (omega arith)
 steady_left f g (x ∷ xs) shows h =
@@ -79,7 +89,7 @@ steady_left f g (x ∷ xs) shows h =
     elim (cases_Bool (stays_in g x)) [
       | inl holds ↦
           let both = both_true (is_live g x.instance) (is_live g x.target) holds in
-          let steady : IsSteady g x = record { instance_lives = both.0; target_lives = both.1; target_shows = shows x.target both.1 one.target_shows } in
+          let steady : IsSteady g x = record { instance_lives = both.0; target_lives = both.1; target_shows = watched_same _ _ (shows x.target both.1 one.target_shows) one.target_shows } in
           subst (λ (b : Bool). All (IsSteady g) (cond b (x ∷ filter (stays_in g) xs) (filter (stays_in g) xs))) (sym holds) (All-cons (IsSteady g) x (filter (stays_in g) xs) steady rest)
       | inr fails ↦ subst (λ (b : Bool). All (IsSteady g) (cond b (x ∷ filter (stays_in g) xs) (filter (stays_in g) xs))) (sym fails) rest
     ]
@@ -129,55 +139,58 @@ module _ (after : State) (h : Changed after) where
         placed = files (λ u. (d : ℕ) → is_backed u (place_of u d) ≡ true) left.placed;
         named = files (λ u. (d : ℕ) → is_among (named_in_tables u.tables) d ≡ is_live u d) (λ d. ap (λ (ts : List (Option Table)). is_among (named_in_tables ts) d) left.tables ∙ sym (live_after d));
         watches = all_from_kept t.files t t.watches (subst (λ (xs : List Watch). All (IsSteady t.files) xs) (sym same.watches)
-            (files (λ u. All (IsSteady u) (map (freshened came) (filter (stays_in u) (kept_all after after.watches))))
-            (all_fresh g came _ (steady_left f g (kept_all after after.watches) left.shows (all_to_kept f after after.watches h.watches)))));
+            (files (λ u. All (IsSteady u) (settled_watches after.n u (freshened after.n came) (filter (stays_in u) (kept_all after after.watches))))
+            (all_settled g after.n g came _ (steady_left f g (kept_all after after.watches) left.shows (all_to_kept f after after.watches h.watches)))));
         seen = same.seen;
       }
 
-seen_joined : (fresh brought : Bool) (x : Watch) → record x { seen = seen_where (fresh || brought) } ≡ cond brought (record x { seen = None }) (record x { seen = seen_where fresh })
-seen_joined true true x = refl
-seen_joined true false x = refl
-seen_joined false true x = refl
-seen_joined false false x = refl
-
 -- the registrations after arrivals in a state of other files
-module _ (after : State) (g : Files) (ws : List Watch) (raised : List (ℕ × ℕ)) (shows : (d : ℕ) → is_live g d ≡ true → can_be_watched (object_of after.files d) ≡ true → can_be_watched (object_of g d) ≡ true) where
+module _ (after : State) (g : Files) (raised : List (ℕ × ℕ)) (counted : (0 == after.n) ≡ false) where
+  abbrev remaining : List Watch
+  remaining = filter (stays_in g) after.watches
+
   abbrev b : State
-  b = record after { files = g; watches = ws }
+  b = record after { files = g; watches = remaining }
 
   abbrev a : State
   a = arrived b raised
 
-  kept_one : (x : Watch) → IsSteady after.files x → HasSeen x.seen (counts_of after x.target) → stays_in g x ≡ true → kept_of a x ≡ freshened raised (kept_of after x)
-  kept_one x steady seen stays =
-      let lives = (both_true (is_live g x.instance) (is_live g x.target) stays).1 in
-      let fresh = fresh_arrived b raised x.target lives (shows x.target lives steady.target_shows) x refl seen in
-      ap (λ (t : Bool). let y : Watch = record x { seen = seen_where t; from = 0 } in y) fresh ∙ seen_joined (is_fresh after x) (brings x.mask (raised_of raised x.target)) (record x { from = 0 })
+  abbrev noted : Watch → Watch
+  noted x = climbed (reached after g after.n raised counted) g (freshened after.n raised (kept_of after x))
 
-  settled_kept : (xs : List Watch) → All (IsSteady after.files) xs → All (λ x. HasSeen x.seen (counts_of after x.target)) xs → kept_all a (filter (stays_in g) xs) ≡ map (freshened raised) (filter (stays_in g) (kept_all after xs))
-  settled_kept [] steady seen = refl
-  settled_kept (x ∷ xs) steady seen =
-      let rest = settled_kept xs (λ j c l. steady (suc j) c (omega arith)) (λ j c l. seen (suc j) c (omega arith)) in
-      let one = kept_one x (steady 0 x (omega arith)) (seen 0 x (omega arith)) in
-      with_one (stays_in g x) one rest where
-        with_one : (t : Bool) → (t ≡ true → kept_of a x ≡ freshened raised (kept_of after x)) → kept_all a (filter (stays_in g) xs) ≡ map (freshened raised) (filter (stays_in g) (kept_all after xs))
-            → kept_all a (cond t (x ∷ filter (stays_in g) xs) (filter (stays_in g) xs)) ≡ map (freshened raised) (cond t (kept_of after x ∷ filter (stays_in g) (kept_all after xs)) (filter (stays_in g) (kept_all after xs)))
+  lives_in : (x : Watch) → stays_in g x ≡ true → is_live g x.target ≡ true
+  lives_in x stays = (both_true (is_live g x.instance) (is_live g x.target) stays).1
+
+  settled_kept : (xs : List Watch) → All (λ x. HasSeen x.seen (counts_of after x.target)) xs → kept_all a (filter (stays_in g) xs) ≡ map noted (filter (stays_in g) xs)
+  settled_kept [] seen = refl
+  settled_kept (x ∷ xs) seen =
+      let rest = settled_kept xs (λ j c l. seen (suc j) c (omega arith)) in
+      let sees = seen 0 x (omega arith) in
+      with_one (stays_in g x) (λ stays. kept_arrived after g after.n raised counted x stays (fresh_arrived b raised x.target (lives_in x stays) x refl sees)) rest where
+        with_one : (t : Bool) → (t ≡ true → kept_of a x ≡ noted x) → kept_all a (filter (stays_in g) xs) ≡ map noted (filter (stays_in g) xs) → kept_all a (cond t (x ∷ filter (stays_in g) xs) (filter (stays_in g) xs)) ≡ map noted (cond t (x ∷ filter (stays_in g) xs) (filter (stays_in g) xs))
         with_one true one rest = λ i. one refl i ∷ rest i
         with_one false one rest = rest
 
-  settled_seen : (xs : List Watch) → All (IsSteady after.files) xs → All (λ x. HasSeen x.seen (counts_of after x.target)) xs → All (λ x. HasSeen x.seen (counts_of a x.target)) (filter (stays_in g) xs)
-  settled_seen [] steady seen = λ k d lt. absurd (omega arith)
-  settled_seen (x ∷ xs) steady seen =
-      let rest = settled_seen xs (λ j c l. steady (suc j) c (omega arith)) (λ j c l. seen (suc j) c (omega arith)) in
-      let first_steady = steady 0 x (omega arith) in
-      let first_seen = seen 0 x (omega arith) in
-      with_one (stays_in g x) refl first_steady first_seen rest where
-        with_one : (t : Bool) → stays_in g x ≡ t → IsSteady after.files x → HasSeen x.seen (counts_of after x.target) → All (λ y. HasSeen y.seen (counts_of a y.target)) (filter (stays_in g) xs)
+  map_thrice : (xs : List Watch) → map noted xs ≡ map (climbed (reached after g after.n raised counted) g) (map (freshened after.n raised) (kept_all after xs))
+  map_thrice [] = refl
+  map_thrice (x ∷ xs) = ap (λ (ys : List Watch). noted x ∷ ys) (map_thrice xs)
+
+  -- by registrations as they are kept
+  settled_all : All (λ x. HasSeen x.seen (counts_of after x.target)) after.watches → kept_all a remaining ≡ settled_watches after.n g (freshened after.n raised) (filter (stays_in g) (kept_all after after.watches))
+  settled_all seen =
+      settled_kept after.watches seen
+      ∙ (map_thrice remaining
+      ∙ ap (λ (xs : List Watch). settled_watches after.n g (freshened after.n raised) xs) (kept_filter after (stays_in g) after.watches))
+
+  settled_seen : (xs : List Watch) → All (λ x. HasSeen x.seen (counts_of after x.target)) xs → All (λ x. HasSeen x.seen (counts_of a x.target)) (filter (stays_in g) xs)
+  settled_seen [] seen = λ k d lt. absurd (omega arith)
+  settled_seen (x ∷ xs) seen =
+      let rest = settled_seen xs (λ j c l. seen (suc j) c (omega arith)) in
+      with_one (stays_in g x) refl (seen 0 x (omega arith)) rest where
+        with_one : (t : Bool) → stays_in g x ≡ t → HasSeen x.seen (counts_of after x.target) → All (λ y. HasSeen y.seen (counts_of a y.target)) (filter (stays_in g) xs)
             → All (λ y. HasSeen y.seen (counts_of a y.target)) (cond t (x ∷ filter (stays_in g) xs) (filter (stays_in g) xs))
-        with_one true stays one sees rest =
-            let lives = (both_true (is_live g x.instance) (is_live g x.target) stays).1 in
-            All-cons (λ y. HasSeen y.seen (counts_of a y.target)) x (filter (stays_in g) xs) (seen_arrived b raised x.target lives (shows x.target lives one.target_shows) x refl sees) rest
-        with_one false stays one sees rest = rest
+        with_one true stays sees rest = All-cons (λ y. HasSeen y.seen (counts_of a y.target)) x (filter (stays_in g) xs) (seen_arrived b raised x.target (lives_in x stays) x refl sees) rest
+        with_one false stays sees rest = rest
 
 -- neither marks nor `from` show in what was seen
 seen_came : (earlier : List ℕ) (a : State) (xs : List Watch) → All (λ x. HasSeen x.seen (counts_of a x.target)) xs → All (λ x. HasSeen x.seen (counts_of a x.target)) (map (came earlier a) xs)
@@ -186,22 +199,20 @@ seen_came earlier a xs h = All-map (λ x. HasSeen x.seen (counts_of a x.target))
   one x h = elim (not (is_among earlier x.number) && is_reportable a x) as (λ b. HasSeen (cond b (record x { from = a.n }) x).seen (counts_of a (cond b (record x { from = a.n }) x).target)) [ true ↦ h | false ↦ h ]
 
 -- the settling of a change
-pub settle_changed : (before after : State) (raised : List (ℕ × ℕ)) → Changed after → IsSettled after raised (settle before after raised)
-settle_changed before after raised h =
+pub settle_changed : (before after : State) (raised : List (ℕ × ℕ)) → (0 == after.n) ≡ false → Changed after → IsSettled after raised (settle before after raised)
+settle_changed before after raised counted h =
     let g = (die_all (after.files, raised) (dying after)).0 in
     let buried_now = buried after raised in
     let same : g ≡ after_all after.files (dying after) = raised_before after.files raised (dying after) in
-    let gone = all_buried after.files (dying after) (dying_distinct after) (dying_placed after) h.placed in
-    let shows = subst (λ (u : Files). (d : ℕ) → is_live u d ≡ true → can_be_watched (object_of after.files d) ≡ true → can_be_watched (object_of u d) ≡ true) (sym same) gone.shows in
     let left = filter (is_kept (record after { files = g })) after.watches in
     record {
       n = refl;
       now = refl;
       files = same;
-      watches = kept_came (reportable_numbers before) (arrived buried_now.0 buried_now.1) left ∙ settled_kept after g left buried_now.1 shows after.watches h.watches h.seen;
+      watches = kept_came (reportable_numbers before) (arrived buried_now.0 buried_now.1) left ∙ settled_all after g buried_now.1 counted h.seen;
       added = refl;
       waiters = ap (λ (ws : List Waiter). marked_first (with_due (with_from before (arrived buried_now.0 buried_now.1))) [] (map (marked_if_due after.now) ws)) h.waiters ∙ sym h.waiters;
-      seen = seen_came (reportable_numbers before) (arrived buried_now.0 buried_now.1) left (settled_seen after g left buried_now.1 shows after.watches h.watches h.seen);
+      seen = seen_came (reportable_numbers before) (arrived buried_now.0 buried_now.1) left (settled_seen after g buried_now.1 counted after.watches h.seen);
     }
 
 -- a report, by registrations as they are kept
@@ -282,28 +293,61 @@ all_stay f (x ∷ xs) h =
     let rest = all_stay f xs (λ k d lt. h (suc k) d (omega arith)) in
     ap (λ (b : Bool). cond b (x ∷ filter (stays_in f) xs) (filter (stays_in f) xs)) keeps ∙ ap (λ (ys : List Watch). x ∷ ys) rest
 
--- what is raised nowhere freshens nothing
-fresh_none : (xs : List Watch) → map (freshened []) xs ≡ xs
-fresh_none [] = refl
-fresh_none (x ∷ xs) = λ i. nothing_new x i ∷ fresh_none xs i where
-  never : (p : Bool) → (p && false) ≡ false
-  never true = refl
-  never false = refl
+-- what is raised nowhere is noted nowhere, and reaches no instance
+module _ (s : State) (counted : (0 == s.n) ≡ false) where
+  unnoted : (xs : List Watch) → map (freshened s.n []) xs ≡ xs
+  unnoted [] = refl
+  unnoted (x ∷ xs) = λ i. nothing_new x i ∷ unnoted xs i where
+    never : (p : Bool) → (p && false) ≡ false
+    never true = refl
+    never false = refl
 
-  nothing_new : (y : Watch) → freshened [] y ≡ y
-  nothing_new y = ap (λ (b : Bool). cond b (record y { seen = None }) y) (none (asked y.mask every_shown_bit)) where
-    none : (w : ℕ) → holds_wanted w 0 ≡ false
-    none w = λ i. never (has_bit w IN) i || never (has_bit w OUT) i || never (has_bit w ERR) i || never (has_bit w HUP) i || never (has_bit w RDHUP) i
+    nothing_new : (y : Watch) → freshened s.n [] y ≡ y
+    nothing_new y = λ i. stirred s.n (zero_brings y.mask i) ((ap (λ (t : Bool). y.armed && t) (zero_asked y.mask) ∙ never y.armed) i) y
 
-pub settled_quiet : (s : State) → Quiet s → IsSettled s [] s
-settled_quiet s h = record {
+  carries_nothing : (files : Files) (x : Watch) → carries (λ d. false) files s.n (kept_of s x) ≡ false
+  carries_nothing files x = λ i. counted i || none x.armed (watches_instance files x) (nat_lt 0 (asked x.mask IN)) i where
+    none : (a w q : Bool) → (a && w && false && q) ≡ false
+    none true true q = refl
+    none true false q = refl
+    none false w q = refl
+
+  nobody : (r : ℕ → Bool) (files : Files) (e : ℕ) (xs : List Watch) → r ≡ (λ d. false) → list_any (λ x. x.instance == e && carries r files s.n x) (kept_all s xs) ≡ false
+  nobody r files e [] h = refl
+  nobody r files e (x ∷ xs) h = λ i. never (x.instance == e) ((ap (λ (q : ℕ → Bool). carries q files s.n (kept_of s x)) h ∙ carries_nothing files x)) i || nobody r files e xs h i where
+    never : (p : Bool) {q : Bool} → q ≡ false → (p && q) ≡ false
+    never true e = e
+    never false e = refl
+
+  reaches_none : (k : ℕ) (files : Files) (xs : List Watch) → reached_within k files s.n (kept_all s xs) ≡ (λ d. false)
+  reaches_none zero files xs = refl
+  reaches_none (suc k) files xs = λ i e. nobody (reached_within k files s.n (kept_all s xs)) files e xs (reaches_none k files xs) i
+
+  reached_none : (files : Files) (xs : List Watch) → reached_now files s.n (kept_all s xs) ≡ (λ d. false)
+  unfolding reached_now
+  reached_none files xs = reaches_none 5 files xs
+
+  unclimbed : (files : Files) (xs : List Watch) → map (climbed (λ d. false) files) (kept_all s xs) ≡ kept_all s xs
+  unclimbed files [] = refl
+  unclimbed files (x ∷ xs) = λ i. still (watches_instance files x) i ∷ unclimbed files xs i where
+    still : (w : Bool) → record (kept_of s x) { seen = if w && false && brings x.mask IN then None else (kept_of s x).seen; from = 0 } ≡ kept_of s x
+    still true = refl
+    still false = refl
+
+  quiet_watches : (files : Files) (xs : List Watch) → settled_watches s.n files (freshened s.n []) (kept_all s xs) ≡ kept_all s xs
+  quiet_watches files xs =
+      ap (climbed_all s.n files) (unnoted (kept_all s xs))
+      ∙ (ap (λ (r : ℕ → Bool). map (climbed r files) (kept_all s xs)) (reached_none files xs) ∙ unclimbed files xs)
+
+pub settled_quiet : (s : State) → (0 == s.n) ≡ false → Quiet s → IsSettled s [] s
+settled_quiet s counted h = record {
   n = refl;
   now = refl;
   files = ap (λ (xs : List (ℕ × Place)). (die_all (s.files, []) xs).0) (sym (none_dying s h));
   watches =
-      sym (all_stay s.files (kept_all s s.watches) (all_to_kept s.files s s.watches h.watches))
-      ∙ (sym (fresh_none (filter (stays_in s.files) (kept_all s s.watches)))
-      ∙ ap (λ (xs : List (ℕ × Place)). map (freshened (die_all (s.files, []) xs).1) (filter (stays_in s.files) (kept_all s s.watches))) (sym (none_dying s h)));
+      sym (quiet_watches s counted s.files s.watches)
+      ∙ (ap (settled_watches s.n s.files (freshened s.n [])) (sym (all_stay s.files (kept_all s s.watches) (all_to_kept s.files s s.watches h.watches)))
+      ∙ ap (λ (xs : List (ℕ × Place)). settled_watches s.n s.files (freshened s.n (die_all (s.files, []) xs).1) (filter (stays_in s.files) (kept_all s s.watches))) (sym (none_dying s h)));
   added = refl;
   waiters = refl;
   seen = h.seen;

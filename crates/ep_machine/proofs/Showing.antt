@@ -1,66 +1,31 @@
--- What is reportable where no instance is watched.
-use Rattle.std.proofs.Common.{◌≡◌, ℕ, suc, ◌==◌, ◌&&◌, ◌||◌, ◌∙◌, All, Bool, List, [], ◌∷◌, None, Option, Some, true, false, not, nat_lt, ap, arith, cond, filter, get_or, is_none, refl, unwrap_or}
+-- What is reportable, by registrations as they are kept.
+use Rattle.std.proofs.Common.{◌≡◌, ℕ, zero, suc, ◌==◌, ◌&&◌, ◌||◌, ◌∙◌, Bool, List, [], ◌∷◌, true, false, not, nat_lt, ap, cond, filter, is_none, refl}
 use Rattle.std.specs.List.{list_any}
 use Rattle.ep_base.specs.declared.answer.Report.{Report}
-use Rattle.ep_base.specs.declared.object.End.{End}
-use Rattle.ep_machine.specs.Bits.{ET, asked, has_bit, when}
-use Rattle.ep_machine.specs.Files.{object_of, side_of}
-use Rattle.ep_machine.specs.Objects.{Object, counter, instance, object_present, pair, pipe, plain, timer}
-use Rattle.ep_machine.specs.Quiet.{IsSteady, Quiet, can_be_watched, kept_all, kept_of, report_at, seen_where, shown_at, shows, shows_in}
-use Rattle.ep_machine.specs.Readiness.{is_fresh, is_ready, is_ready_within, is_reportable, is_reportable_by, present_of, reportables, shown, shown_by}
+use Rattle.ep_machine.specs.Bits.{ET, has_bit}
+use Rattle.ep_machine.specs.Kept.{kept_all, kept_of, ready_now, ready_within, report_at, seen_where, shown_at, shows, shows_in}
+use Rattle.ep_machine.specs.Readiness.{is_fresh, is_ready, is_ready_within, is_reportable, is_reportable_by, reportables, shown, shown_by}
 use Rattle.ep_machine.specs.Report.{report_of}
 use Rattle.ep_machine.specs.State.{State, Watch}
-
-present_quiet : (r : ℕ → Bool) (d : ℕ) (o : Option Object) (e : End) (now : ℕ) → can_be_watched o ≡ true → present_of r d o e now ≡ object_present (unwrap_or o plain) e now
-present_quiet r d None e now h = cc
-present_quiet r d (Some plain) e now h = cc
-present_quiet r d (Some (pipe p)) e now h = refl
-present_quiet r d (Some (pair p)) e now h = refl
-present_quiet r d (Some (counter c)) e now h = refl
-present_quiet r d (Some (timer t)) e now h = refl
-present_quiet r d (Some instance) e now h = cc
-
-shown_by_quiet : (r : ℕ → Bool) (s : State) (x : Watch) → IsSteady s.files x → shown_by r s x ≡ shown_at s.files s.now x
-shown_by_quiet r s x h =
-    ap (λ (bits : ℕ). when x.armed (asked x.mask bits)) (present_quiet r x.target (object_of s.files x.target) (side_of s.files x.target) s.now h.target_shows)
+use Rattle.ep_machine.specs.Watches.{is_legal, links}
+use Rattle.ep_machine.proofs.Levels.{ready_equation}
 
 none_where : (b : Bool) → b ≡ is_none (seen_where b)
 none_where true = refl
 none_where false = refl
 
-reportable_by_quiet : (r : ℕ → Bool) (s : State) (x : Watch) → IsSteady s.files x → is_reportable_by r s x ≡ shows s.files s.now (kept_of s x)
-reportable_by_quiet r s x h = λ i. nat_lt 0 (shown_by_quiet r s x h i) && (not (has_bit x.mask ET) || none_where (is_fresh s x) i)
+reportable_by_kept : (r : ℕ → Bool) (s : State) (x : Watch) → is_reportable_by r s x ≡ shows r s.files s.now (kept_of s x)
+reportable_by_kept r s x = λ i. nat_lt 0 (shown_by r s x) && (not (has_bit x.mask ET) || none_where (is_fresh s x) i)
 
-pub shown_quiet : (s : State) (x : Watch) → IsSteady s.files x → shown s x ≡ shown_at s.files s.now x
-shown_quiet s x h = shown_by_quiet (is_ready s) s x h
+any_where : (p q : Watch → Bool) (xs : List Watch) → ((x : Watch) → p x ≡ q x) → list_any p xs ≡ list_any q xs
+any_where p q [] h = refl
+any_where p q (x ∷ xs) h = let one = h x in let rest = any_where p q xs h in λ i. one i || rest i
 
-pub reportable_quiet : (s : State) (x : Watch) → IsSteady s.files x → is_reportable s x ≡ shows s.files s.now (kept_of s x)
-reportable_quiet s x h = reportable_by_quiet (is_ready s) s x h
+filter_where : (p q : Watch → Bool) (xs : List Watch) → ((x : Watch) → p x ≡ q x) → filter p xs ≡ filter q xs
+filter_where p q [] h = refl
+filter_where p q (x ∷ xs) h = let one = h x in let rest = filter_where p q xs h in λ i. cond (one i) (x ∷ rest i) (rest i)
 
-pub filter_same : {X : Type 0} (p q : X → Bool) (xs : List X) → All (λ x. p x ≡ q x) xs → filter p xs ≡ filter q xs
-filter_same p q [] h = refl
-filter_same p q (x ∷ xs) h = let one : p x ≡ q x = h 0 x (omega arith) in let rest = filter_same p q xs (λ k d lt. h (suc k) d (omega arith)) in λ i. cond (one i) (x ∷ rest i) (rest i)
-
-pub any_same : {X : Type 0} (p q : X → Bool) (xs : List X) → All (λ x. p x ≡ q x) xs → list_any p xs ≡ list_any q xs
-any_same p q [] h = refl
-any_same p q (x ∷ xs) h = let one : p x ≡ q x = h 0 x (omega arith) in let rest = any_same p q xs (λ k d lt. h (suc k) d (omega arith)) in λ i. one i || rest i
-
-in_instance : {a b : Bool} (e : ℕ) (x : Watch) → a ≡ b → (x.instance == e && a) ≡ (x.instance == e && b)
-in_instance e x h = ap (λ (b : Bool). x.instance == e && b) h
-
-pub reportables_quiet : (s : State) (e : ℕ) → Quiet s → reportables s e ≡ filter (λ x. shows_in s.files s.now e (kept_of s x)) s.watches
-reportables_quiet s e h =
-    filter_same _ (λ x. shows_in s.files s.now e (kept_of s x)) s.watches (λ k d lt. in_instance e (get_or s.watches k d) (reportable_quiet s (get_or s.watches k d) (h.watches k d lt)))
-
-pub ready_quiet : (s : State) (e : ℕ) → Quiet s → is_ready s e ≡ list_any (λ x. shows_in s.files s.now e (kept_of s x)) s.watches
-unfolding is_ready
-ready_quiet s e h =
-    any_same _ (λ x. shows_in s.files s.now e (kept_of s x)) s.watches (λ k d lt. in_instance e (get_or s.watches k d) (reportable_by_quiet (is_ready_within 4 s) s (get_or s.watches k d) (h.watches k d lt)))
-
-pub report_quiet : (s : State) (x : Watch) → IsSteady s.files x → report_of s x ≡ report_at s.files s.now x
-report_quiet s x h = ap (λ (k : ℕ). let r : Report = record { bits = record { 0 = k }; tag = x.tag } in r) (shown_quiet s x h)
-
--- The same of registrations as they are kept.
+-- tests and filters go through it
 pub kept_filter : (s : State) (p : Watch → Bool) (xs : List Watch) → kept_all s (filter (λ x. p (kept_of s x)) xs) ≡ filter p (kept_all s xs)
 kept_filter s p [] = refl
 kept_filter s p (x ∷ xs) =
@@ -74,8 +39,46 @@ kept_any : (s : State) (p : Watch → Bool) (xs : List Watch) → list_any (λ x
 kept_any s p [] = refl
 kept_any s p (x ∷ xs) = ap (λ (b : Bool). p (kept_of s x) || b) (kept_any s p xs)
 
-pub reportables_kept : (s : State) (e : ℕ) → Quiet s → kept_all s (reportables s e) ≡ filter (shows_in s.files s.now e) (kept_all s s.watches)
-reportables_kept s e h = ap (kept_all s) (reportables_quiet s e h) ∙ kept_filter s (shows_in s.files s.now e) s.watches
+in_instance : {a b : Bool} (e : ℕ) (x : Watch) → a ≡ b → (x.instance == e && a) ≡ (x.instance == e && b)
+in_instance e x h = ap (λ (b : Bool). x.instance == e && b) h
 
-pub ready_kept : (s : State) (e : ℕ) → Quiet s → is_ready s e ≡ list_any (shows_in s.files s.now e) (kept_all s s.watches)
-ready_kept s e h = ready_quiet s e h ∙ kept_any s (shows_in s.files s.now e) s.watches
+ready_within_kept : (k : ℕ) (s : State) (e : ℕ) → is_ready_within k s e ≡ ready_within k s.files s.now (kept_all s s.watches) e
+ready_within_kept zero s e = refl
+ready_within_kept (suc k) s e =
+    let r : ℕ → Bool = ready_within k s.files s.now (kept_all s s.watches) in
+    let same : is_ready_within k s ≡ r = λ i d. ready_within_kept k s d i in
+    any_where (λ x. x.instance == e && is_reportable_by (is_ready_within k s) s x) (λ x. shows_in r s.files s.now e (kept_of s x)) s.watches
+    (λ x. in_instance e x (ap (λ (q : ℕ → Bool). is_reportable_by q s x) same ∙ reportable_by_kept r s x))
+    ∙ kept_any s (shows_in r s.files s.now e) s.watches
+
+-- the instances that are ready
+abbrev pub readiness : State → ℕ → Bool
+readiness s = ready_now s.files s.now (kept_all s s.watches)
+
+pub ready_kept : (s : State) (e : ℕ) → is_ready s e ≡ readiness s e
+unfolding is_ready ready_now
+ready_kept s e = ready_within_kept 5 s e
+
+same_ready : (s : State) → is_ready s ≡ readiness s
+same_ready s = λ i e. ready_kept s e i
+
+pub shown_kept : (s : State) (x : Watch) → shown s x ≡ shown_at (readiness s) s.files s.now x
+shown_kept s x = ap (λ (r : ℕ → Bool). shown_by r s x) (same_ready s)
+
+pub reportable_kept : (s : State) (x : Watch) → is_reportable s x ≡ shows (readiness s) s.files s.now (kept_of s x)
+reportable_kept s x = ap (λ (r : ℕ → Bool). is_reportable_by r s x) (same_ready s) ∙ reportable_by_kept (readiness s) s x
+
+pub report_one : (s : State) (x : Watch) → report_of s x ≡ report_at (readiness s) s.files s.now (kept_of s x)
+report_one s x = ap (λ (k : ℕ). let r : Report = record { bits = record { 0 = k }; tag = x.tag } in r) (shown_kept s x)
+
+pub reportables_kept : (s : State) (e : ℕ) → kept_all s (reportables s e) ≡ filter (shows_in (readiness s) s.files s.now e) (kept_all s s.watches)
+reportables_kept s e =
+    ap (kept_all s) (filter_where (λ x. x.instance == e && is_reportable s x) (λ x. shows_in (readiness s) s.files s.now e (kept_of s x)) s.watches (λ x. in_instance e x (reportable_kept s x)))
+    ∙ kept_filter s (shows_in (readiness s) s.files s.now e) s.watches
+
+-- an instance is ready where one of its registrations shows something
+pub any_kept : (s : State) (e : ℕ) → is_legal (links s) ≡ true → is_ready s e ≡ list_any (shows_in (readiness s) s.files s.now e) (kept_all s s.watches)
+any_kept s e legal =
+    ready_equation s e legal
+    ∙ (any_where (λ x. x.instance == e && is_reportable s x) (λ x. shows_in (readiness s) s.files s.now e (kept_of s x)) s.watches (λ x. in_instance e x (reportable_kept s x))
+    ∙ kept_any s (shows_in (readiness s) s.files s.now e) s.watches)

@@ -31,6 +31,8 @@ pub mod SocketRuns
 pub mod DescriptorRuns
 pub mod RegistrationRuns
 pub mod EdgeRuns
+pub mod NestRuns
 pub mod Sound
+pub mod Kept
 pub mod Quiet
 pub mod Laws

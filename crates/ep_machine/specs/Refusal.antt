@@ -32,7 +32,6 @@ ctl_refusals limits s p epfd op fd mask =
     ∷ (names_nothing s.files p fd, Ebadf)
     ∷ (is_plain target, Eperm)
     ∷ (not (is_instance (object_under s.files p epfd)) || e == d, Einval)
-    ∷ (is_instance target, Einval)
     ∷ (not (is_add op || is_del op || is_mod op), Einval)
     ∷ (not (is_del op) && has_bit mask EXCLUSIVE, Einval)
     ∷ (not (is_add op) && not there, Enoent)

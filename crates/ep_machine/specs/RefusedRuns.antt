@@ -68,7 +68,6 @@ abbrev pub masks_run : Answer → List Record
 masks_run of_bits =
     opened
     ++ answered create_call (Num 6)
-    ∷ refused (add_call 3 6 1 0) Einval
     ∷ refused (del_call 3 4) Enoent
     ∷ refused (mod_call 3 4 1 0) Enoent
     ∷ refused (add_call 3 4 268435457 0) Einval

@@ -3,13 +3,14 @@
 ghost use Rattle.std.specs.Prelude.{◌≡◌, ◌∷◌, ◌++◌, [], true, false, Some};
 ghost use Rattle.ep_base.specs.Limits.{default_limits};
 ghost use Rattle.ep_base.specs.declared.answer.Answer.TheVariants.{Done, Num, Refused};
-ghost use Rattle.ep_base.specs.declared.errno.Errno.TheVariants.{Eagain, Ebadf, Eexist, Einval, Emfile, Enoent, Enfile, Enospc, Enotsock, Eperm, Epipe, Esrch};
+ghost use Rattle.ep_base.specs.declared.errno.Errno.TheVariants.{Eagain, Ebadf, Eexist, Einval, Eloop, Emfile, Enoent, Enfile, Enospc, Enotsock, Eperm, Epipe, Esrch};
 ghost use Rattle.ep_machine.specs.CounterRuns.{greatest_run, semaphore_run};
 ghost use Rattle.ep_machine.specs.DescriptorRuns.{closed_reader_run, closed_socket_run, exec_run, full_tables_run, numbers_run};
 ghost use Rattle.ep_machine.specs.EdgeRuns.{armed_again_run, drained_run, edge_run, modified_run, periodic_run, shut_again_run};
 ghost use Rattle.ep_machine.specs.FairRun.{both_readable, first_told, second_told};
 ghost use Rattle.ep_machine.specs.FullPipeRun.{full_pipe_run};
 ghost use Rattle.ep_machine.specs.LevelRun.{level_run};
+ghost use Rattle.ep_machine.specs.NestRuns.{added_below_run, depth_run, disarmed_run, emptied_run, levels_run, loop_first_run};
 ghost use Rattle.ep_machine.specs.Records.{answered, create_call, pipe_call, report, small_limits, socket_limits, tight_limits, two};
 ghost use Rattle.ep_machine.specs.RefusedRuns.{ctl_run, descriptors_first_run, descriptors_run, files_run, masks_run, process_run, read_run, wait_run, watches_run, write_run};
 ghost use Rattle.ep_machine.specs.RegistrationRuns.{key_run, one_shot_run};
@@ -234,4 +235,40 @@ pub fn drained()
 pub fn armed_again()
     ensures run { is_run default_limits (armed_again_run (report 1 3 ∷ []) (1 ∷ [])) ≡ true }
     ensures no_run { is_run default_limits (armed_again_run [] []) ≡ false }
+{}
+
+/// ELOOP of epoll_ctl(2): five instances may watch each other in a chain.
+pub fn depth()
+    ensures run { is_run default_limits (depth_run Eloop) ≡ true }
+    ensures no_run { is_run default_limits (depth_run Einval) ≡ false }
+{}
+
+/// ELOOP is tested before ENOSPC.
+pub fn loop_first()
+    ensures run { is_run (small_limits 16 16 1) (loop_first_run Eloop) ≡ true }
+    ensures no_run { is_run (small_limits 16 16 1) (loop_first_run Enospc) ≡ false }
+{}
+
+/// epoll(7): an instance is readable while something is ready in it.
+pub fn emptied()
+    ensures run { is_run default_limits (emptied_run [] []) ≡ true }
+    ensures no_run { is_run default_limits (emptied_run (report 1 4 ∷ []) (2 ∷ [])) ≡ false }
+{}
+
+/// EPOLLONESHOT of epoll_ctl(2), within an instance that is watched.
+pub fn disarmed()
+    ensures run { is_run default_limits (disarmed_run [] []) ≡ true }
+    ensures no_run { is_run default_limits (disarmed_run (report 1 5 ∷ []) (3 ∷ [])) ≡ false }
+{}
+
+/// EPOLLET of epoll(7), through five instances.
+pub fn levels()
+    ensures run { is_run default_limits (levels_run (report 1 7 ∷ []) (5 ∷ [])) ≡ true }
+    ensures no_run { is_run default_limits (levels_run [] []) ≡ false }
+{}
+
+/// EPOLL_CTL_ADD of epoll_ctl(2) looks at its target at once, and so do the instances above.
+pub fn added_below()
+    ensures run { is_run default_limits (added_below_run (report 1 7 ∷ []) (1 ∷ [])) ≡ true }
+    ensures no_run { is_run default_limits (added_below_run [] []) ≡ false }
 {}

@@ -1,5 +1,5 @@
 -- What is raised at the description across, at each registration.
-use Rattle.std.proofs.Common.{◌≡◌, ◌≢◌, ◌==◌, ◌&&◌, ◌||◌, ◌⊎◌, ◌∙◌, ℕ, Bool, true, false, IsSome, List, None, Option, Some, ap, arith, cond, inl, inr, refl, slice_index_or, sym, unwrap_or}
+use Rattle.std.proofs.Common.{if◌then◌else◌, nat_lt, ◌≡◌, ◌≢◌, ◌==◌, ◌&&◌, ◌⊎◌, ◌∙◌, ℕ, Bool, true, false, IsSome, List, None, Option, Some, ap, arith, cond, inl, inr, refl, slice_index_or, sym, unwrap_or}
 use Rattle.std.proofs.lemmas.Bool.{cases_Bool, false≢true}
 use Rattle.std.proofs.lemmas.Bool.Decides.{nat_tests}
 use Rattle.ep_base.specs.declared.ids.DescId.{DescId}
@@ -9,8 +9,10 @@ use Rattle.ep_base.specs.declared.object.End.TheVariants.{First, Second}
 use Rattle.ep_base.specs.declared.object.Raised.{Raised}
 use Rattle.ep_interest.specs.Registrations.{is_on}
 use Rattle.ep_interest.specs.declared.entry.Entry.{Entry}
-use Rattle.ep_machine.specs.Bits.{ERR, HUP, IN, OUT, RDHUP, asked, at_end, has_bit, when}
-use Rattle.ep_machine.specs.Counts.{brings, every_shown_bit, holds_wanted}
+use Rattle.ep_machine.specs.Bits.{asked, at_end, when}
+use Rattle.ep_machine.specs.Counts.{brings}
+use Rattle.ep_machine.specs.Kept.{stirred}
+use Rattle.ep_machine.proofs.Reaching.{zero_asked, zero_brings}
 use Rattle.ep_machine.specs.Files.{Files, Place, place_of}
 use Rattle.ep_machine.proofs.Survivors.{Apart}
 use Rattle.ep_plain.specs.Raising.{raised_there}
@@ -22,26 +24,19 @@ pub never : (p : Bool) → (p && false) ≡ false
 never true = refl
 never false = refl
 
--- no bits bring nothing
-pub zero_brings : (mask : ℕ) → brings mask 0 ≡ false
-zero_brings mask = none (asked mask every_shown_bit) where
-  none : (w : ℕ) → holds_wanted w 0 ≡ false
-  none w = λ i. never (has_bit w IN) i || never (has_bit w OUT) i || never (has_bit w ERR) i || never (has_bit w HUP) i || never (has_bit w RDHUP) i
+-- what a registration notes of these bits, raised at its target in event n
+abbrev pub noted : ℕ → ℕ → Entry → Entry
+noted n bits x = record x { seen = if brings x.mask.0 bits then None else x.seen; from = if x.armed && nat_lt 0 (asked x.mask.0 bits) then n else x.from }
 
-abbrev pub fresh : Entry → Entry
-fresh x = record x { seen = None }
+-- of no bits nothing
+pub zero_noted : (n : ℕ) (x : Entry) → noted n 0 x ≡ x
+zero_noted n x = λ i. record x { seen = if zero_brings x.mask.0 i then None else x.seen; from = if (ap (λ (b : Bool). x.armed && b) (zero_asked x.mask.0) ∙ never x.armed) i then n else x.from }
 
-abbrev pub fresh_if : Bool → Entry → Entry
-fresh_if b x = cond b (fresh x) x
+pub watch_noted : (keys : List (Option ℕ)) (n bits : ℕ) (x : Entry) → watch_at keys (noted n bits x) ≡ stirred n (brings x.mask.0 bits) (x.armed && nat_lt 0 (asked x.mask.0 bits)) (watch_at keys x)
+watch_noted keys n bits x = refl
 
--- a registration that bits at its target freshen, or not
-pub watch_fresh : (keys : List (Option ℕ)) (b : Bool) (x : Entry) → watch_at keys (fresh_if b x) ≡ cond b (record (watch_at keys x) { seen = None }) (watch_at keys x)
-watch_fresh keys true x = refl
-watch_fresh keys false x = refl
-
-pub link_fresh : (keys : List (Option ℕ)) (b : Bool) (x : Entry) → IsLinked keys x → IsLinked keys (fresh_if b x)
-link_fresh keys true x h = record { instance = h.instance; desc = h.desc; fd = h.fd }
-link_fresh keys false x h = h
+pub link_noted : (keys : List (Option ℕ)) (n bits : ℕ) (x : Entry) → IsLinked keys x → IsLinked keys (noted n bits x)
+link_noted keys n bits x h = record { instance = h.instance; desc = h.desc; fd = h.fd }
 
 same_nat : (k : ℕ) → (k == k) ≡ true
 same_nat k = grind (arith, nat_tests)
@@ -69,9 +64,9 @@ pub not_opposite : (a : End) → opposite a ≢ a
 not_opposite First = λ e. cc
 not_opposite Second = λ e. cc
 
-there_off : (o : Option DescId) (m : Mask) (y : Entry) → ((k : DescId) → o ≡ Some k → is_on k y ≡ false) → raised_there o m y ≡ y
-there_off None m y off = refl
-there_off (Some k) m y off = ap (λ (b : Bool). cond (b && brings y.mask.0 m.0) (fresh y) y) (off k refl)
+there_off : (n : ℕ) (o : Option DescId) (m : Mask) (y : Entry) → ((k : DescId) → o ≡ Some k → is_on k y ≡ false) → raised_there o m n y ≡ y
+there_off n None m y off = refl
+there_off n (Some k) m y off = ap (λ (b : Bool). cond b (noted n m.0 y) y) (off k refl)
 
 not_true : (b : Bool) → (b ≡ true → ⊥) → b ≡ false
 not_true true h = absurd (h refl)
@@ -83,7 +78,7 @@ other_cases (Some k) = inr (k, refl)
 
 -- at what is across from a place, for a registration whose target has a place of its own
 module _ (keys : List (Option ℕ)) (files : Files) (p : Place) (raised : Raised) (other : Option DescId) (is_at : IsAt files keys (across (Some p)) other)
-    (one : (j k : DescId) (d : ℕ) → slice_index_or keys j.0 None ≡ Some d → slice_index_or keys k.0 None ≡ Some d → j.0 ≡ k.0) (apart : Apart files) (m : Mask) (m_is : m.0 ≡ at_end raised (opposite p.side))
+    (one : (j k : DescId) (d : ℕ) → slice_index_or keys j.0 None ≡ Some d → slice_index_or keys k.0 None ≡ Some d → j.0 ≡ k.0) (apart : Apart files) (n : ℕ) (m : Mask) (m_is : m.0 ≡ at_end raised (opposite p.side))
     (x : Entry) (link : IsLinked keys x) (q : Place) (there : place_of files (number_at keys x.desc) ≡ Some q) where
   abbrev t : ℕ
   t = number_at keys x.desc
@@ -107,10 +102,10 @@ module _ (keys : List (Option ℕ)) (files : Files) (p : Place) (raised : Raised
       same_test x.desc.0 o.0 (one x.desc o a.0 (u.is ∙ ap (λ (n : ℕ). Some n) same) a.1)
 
   -- where it is at the place itself, it is not on the one across
-  pub off_own : q ≡ p → (y : Entry) → y.desc ≡ x.desc → raised_there other m y ≡ y
-  off_own same y d = there_off other m y (λ k h. not_true (is_on k y) (λ on. not_opposite p.side (ap (λ (z : Place). z.side) (sym (is_across k h (ap (λ (e : DescId). e.0 == k.0) (sym d) ∙ on)) ∙ same))))
+  pub off_own : q ≡ p → (y : Entry) → y.desc ≡ x.desc → raised_there other m n y ≡ y
+  off_own same y d = there_off n other m y (λ k h. not_true (is_on k y) (λ on. not_opposite p.side (ap (λ (z : Place). z.side) (sym (is_across k h (ap (λ (e : DescId). e.0 == k.0) (sym d) ∙ on)) ∙ same))))
 
-  pub elsewhere : q ≢ p → raised_there other m x ≡ fresh_if (brings x.mask.0 (when (q.object == p.object) (at_end raised q.side))) x
+  pub elsewhere : q ≢ p → raised_there other m n x ≡ noted n (when (q.object == p.object) (at_end raised q.side)) x
   elsewhere ne = elim (cases_Bool (q.object == p.object)) [
     | inl at ↦
         let object : q.object ≡ p.object = from_test q.object p.object at in
@@ -122,14 +117,14 @@ module _ (keys : List (Option ℕ)) (files : Files) (p : Place) (raised : Raised
                 | inl none ↦ absurd (is_at.none none t (there ∙ ap (λ (z : Place). Some z) qa))
                 | inr k ↦
                     let on = key_across k.0 k.1 qa in
-                    ap (λ (z : Option DescId). raised_there z m x) k.1
-                    ∙ (ap (λ (b : Bool). cond (b && brings x.mask.0 m.0) (fresh x) x) on
-                    ∙ ((λ i. fresh_if (brings x.mask.0 (m_is i)) x)
-                    ∙ sym (λ i. fresh_if (brings x.mask.0 (when (at i) (at_end raised (e i)))) x)))
+                    ap (λ (z : Option DescId). raised_there z m n x) k.1
+                    ∙ (ap (λ (b : Bool). cond b (noted n m.0 x) x) on
+                    ∙ ((λ i. noted n (m_is i) x)
+                    ∙ sym (λ i. noted n (when (at i) (at_end raised (e i))) x)))
               ]
         ]
     | inr apart_object ↦
         let off : (k : DescId) → other ≡ Some k → is_on k x ≡ false = λ k h. not_true (is_on k x) (λ on. false≢true (sym apart_object ∙ same_test q.object p.object (ap (λ (z : Place). z.object) (is_across k h on)))) in
-        there_off other m x off
-        ∙ sym (ap (λ (b : Bool). fresh_if (brings x.mask.0 (when b (at_end raised q.side))) x) apart_object ∙ ap (λ (b : Bool). fresh_if b x) (zero_brings x.mask.0))
+        there_off n other m x off
+        ∙ sym (ap (λ (b : Bool). noted n (when b (at_end raised q.side)) x) apart_object ∙ zero_noted n x)
   ]

@@ -1,15 +1,17 @@
 -- The parts of a kernel after the burial, and the state of the machine after settling.
-use Rattle.std.proofs.Common.{◌≡◌, ◌∙◌, ◌==◌, ◌&&◌, ℕ, All, Bool, true, false, IsSome, List, [], ◌∷◌, ◌++◌, None, Option, Some, ap, arith, cond, filter, if◌then◌else◌, is_some, map, not, refl, slice_index_or, subst, sym, unwrap_or}
+use Rattle.std.proofs.Common.{nat_lt, ◌≡◌, ◌∙◌, ◌==◌, ◌&&◌, ℕ, All, Bool, true, false, IsSome, List, [], ◌∷◌, ◌++◌, None, Option, Some, ap, arith, cond, filter, if◌then◌else◌, is_some, map, not, refl, slice_index_or, subst, sym, unwrap_or}
 use Rattle.std.proofs.lemmas.Bool.{false≢true}
 use Rattle.std.proofs.lemmas.Bool.Decides.{nat_tests}
 use Rattle.std.proofs.lemmas.List.{append-nil}
-use Rattle.std.proofs.lemmas.List.Elements.{All-head, All-tail}
+use Rattle.std.proofs.lemmas.List.Elements.{All-cons, All-head, All-map, All-nil, All-tail}
 use Rattle.ep_base.specs.declared.ids.DescId.{DescId}
+use Rattle.ep_machine.specs.Bits.{asked}
 use Rattle.ep_machine.specs.Counts.{brings}
 use Rattle.ep_machine.specs.Deaths.{die_all, dying, named_in_tables}
-use Rattle.ep_machine.specs.Files.{Files, Place, is_live, place_of}
+use Rattle.ep_machine.specs.Files.{Files, Place, is_live, object_of, place_of}
 use Rattle.ep_machine.specs.Lists.{are_distinct, is_among}
-use Rattle.ep_machine.specs.Quiet.{Changed, IsSettled, freshened, is_backed, kept_all, stays_in}
+use Rattle.ep_machine.specs.Kept.{climbed_all, freshened, kept_all, kept_of, settled_watches, stays_in, stirred}
+use Rattle.ep_machine.specs.Quiet.{Changed, IsSettled, can_be_watched, is_backed, kind_of}
 use Rattle.ep_machine.specs.Spread.{raised_of}
 use Rattle.ep_machine.specs.State.{State, Watch}
 use Rattle.ep_machine.proofs.Arriving.{deaths_raise, fresh_filter, fresh_parts}
@@ -19,14 +21,17 @@ use Rattle.ep_machine.proofs.Living.{dying_distinct, dying_placed}
 use Rattle.ep_machine.proofs.Dying.{ArePlaced, after_all, numbers, same_dead}
 use Rattle.ep_machine.proofs.Settling.{dying_test}
 use Rattle.ep_interest.specs.declared.entry.Entry.{Entry}
+use Rattle.ep_nest.specs.declared.link.Link.{Link}
 use Rattle.ep_plain.specs.Burial.{Burial, is_untouched}
-use Rattle.ep_plain.specs.Moves.{Parts, StandFor, StandsRaised, Unheld}
+use Rattle.ep_plain.specs.Climb.{AreNested, KeepsLinks}
+use Rattle.ep_plain.specs.Moves.{Parts, StandsBuried, StandsRaised, Unheld}
 use Rattle.ep_plain.specs.Stands.{AreLinked, IsLinked, number_at, watch_at}
 use Rattle.ep_plain.proofs.Keys.{under_key}
+use Rattle.ep_plain.proofs.Watched.{KeepKinds, nested_left}
 use Rattle.ep_table.specs.Value.{Sound, holds_of}
 
-module _ (mid new : Parts) (burial : Burial mid.tables mid.interest new.tables new.interest) (clock : new.now ≡ mid.now) (linked : AreLinked mid.tables mid.interest) (unheld : Unheld mid.tables)
-    (after t : State) (raised : List (ℕ × ℕ)) (changed : Changed after) (settled : IsSettled after raised t) (stands : StandsRaised mid raised after) where
+module _ (n : ℕ) (mid new : Parts) (burial : Burial n mid.tables mid.interest new.tables new.interest) (clock : new.now ≡ mid.now) (linked : AreLinked mid.tables mid.interest) (unheld : Unheld mid.tables)
+    (after t : State) (raised : List (ℕ × ℕ)) (changed : Changed after) (settled : IsSettled after raised t) (at : after.n ≡ n) (stands : StandsRaised n mid raised after) where
   abbrev dead : List (ℕ × Place)
   dead = burial.buries.dead
 
@@ -107,10 +112,10 @@ module _ (mid new : Parts) (burial : Burial mid.tables mid.interest new.tables n
   placed_dying = subst (λ (f : Files). ArePlaced f (dying after)) stands.files (dying_placed after)
 
   live_place : (f : Files) (d : ℕ) → is_live f d ≡ true → (p : Place) × (place_of f d ≡ Some p)
-  live_place f d h = at (place_of f d) h where
-    at : (o : Option Place) → is_some o ≡ true → (p : Place) × (o ≡ Some p)
-    at None e = absurd (false≢true e)
-    at (Some p) e = (p, refl)
+  live_place f d h = some_at (place_of f d) h where
+    some_at : (o : Option Place) → is_some o ≡ true → (p : Place) × (o ≡ Some p)
+    some_at None e = absurd (false≢true e)
+    some_at (Some p) e = (p, refl)
 
   -- at what lives on both are the same
   raised_same : (d : ℕ) → is_live t.files d ≡ true → raised_of of_machine d ≡ raised_of of_kernel d
@@ -124,33 +129,76 @@ module _ (mid new : Parts) (burial : Burial mid.tables mid.interest new.tables n
   both_true true b h = (refl, h)
   both_true false b h = absurd (false≢true h)
 
-  fresh_one : (x : Watch) → stays_in t.files x ≡ true → freshened of_machine x ≡ freshened of_kernel x
+  fresh_one : (x : Watch) → stays_in t.files x ≡ true → freshened n of_machine x ≡ freshened n of_kernel x
   fresh_one x stays =
       let lives = (both_true (is_live t.files x.instance) (is_live t.files x.target) stays).1 in
-      ap (λ (n : ℕ). cond (brings x.mask n) (record x { seen = None }) x) (raised_same x.target lives)
+      ap (λ (b : ℕ). stirred n (brings x.mask b) (x.armed && nat_lt 0 (asked x.mask b)) x) (raised_same x.target lives)
 
-  fresh_left : (ws : List Watch) → map (freshened of_machine) (filter (stays_in t.files) ws) ≡ map (freshened of_kernel) (filter (stays_in t.files) ws)
+  fresh_left : (ws : List Watch) → map (freshened n of_machine) (filter (stays_in t.files) ws) ≡ map (freshened n of_kernel) (filter (stays_in t.files) ws)
   fresh_left [] = refl
   fresh_left (w ∷ ws) = with_one (stays_in t.files w) refl (fresh_left ws) where
-    with_one : (b : Bool) → stays_in t.files w ≡ b → map (freshened of_machine) (filter (stays_in t.files) ws) ≡ map (freshened of_kernel) (filter (stays_in t.files) ws)
-        → map (freshened of_machine) (cond b (w ∷ filter (stays_in t.files) ws) (filter (stays_in t.files) ws)) ≡ map (freshened of_kernel) (cond b (w ∷ filter (stays_in t.files) ws) (filter (stays_in t.files) ws))
+    with_one : (b : Bool) → stays_in t.files w ≡ b → map (freshened n of_machine) (filter (stays_in t.files) ws) ≡ map (freshened n of_kernel) (filter (stays_in t.files) ws)
+        → map (freshened n of_machine) (cond b (w ∷ filter (stays_in t.files) ws) (filter (stays_in t.files) ws)) ≡ map (freshened n of_kernel) (cond b (w ∷ filter (stays_in t.files) ws) (filter (stays_in t.files) ws))
     with_one true e rest = λ i. fresh_one w e i ∷ rest i
     with_one false e rest = rest
 
-  pub buried_stands : StandFor new t
-  buried_stands =
+  -- what was raised, by the event and by deaths, is noted
+  all_noted : map (freshened n (die_all (after.files, raised) (dying after)).1) (filter (stays_in t.files) (kept_all after after.watches)) ≡ map (watch_at new.tables.keys) new.interest.entries
+  all_noted =
       let kept = kept_all after after.watches in
       let ws = map (watch_at mid.tables.keys) mid.interest.entries in
+      ap (λ (rs : List (ℕ × ℕ)). map (freshened n rs) (filter (stays_in t.files) kept)) (deaths_raise after.files raised (dying after))
+      ∙ (fresh_parts n raised of_machine (filter (stays_in t.files) kept)
+      ∙ (ap (map (freshened n of_machine)) (sym (fresh_filter n t.files raised kept))
+      ∙ (ap (λ (us : List Watch). map (freshened n of_machine) (filter (stays_in t.files) us)) stands.watches
+      ∙ (fresh_left ws
+      ∙ (ap (map (freshened n of_kernel)) (stay_all mid.interest.entries linked) ∙ sym burial.buries.watches)))))
+
+  pub buried_stands : StandsBuried n new t
+  buried_stands =
+      let same : t.files ≡ new.tables.files = files_left ∙ sym burial.buries.files in
       record {
         now = settled.now ∙ (stands.now ∙ sym clock);
-        files = files_left ∙ sym burial.buries.files;
+        files = same;
         watches =
             settled.watches
-            ∙ (ap (λ (rs : List (ℕ × ℕ)). map (freshened rs) (filter (stays_in t.files) kept)) (deaths_raise after.files raised (dying after))
-            ∙ (fresh_parts raised of_machine (filter (stays_in t.files) kept)
-            ∙ (ap (map (freshened of_machine)) (sym (fresh_filter t.files raised kept))
-            ∙ (ap (λ (us : List Watch). map (freshened of_machine) (filter (stays_in t.files) us)) stands.watches
-            ∙ (fresh_left ws
-            ∙ (ap (map (freshened of_kernel)) (stay_all mid.interest.entries linked) ∙ sym burial.buries.watches))))));
+            ∙ ((λ i. settled_watches (at i) t.files (freshened (at i) (die_all (after.files, raised) (dying after)).1) (filter (stays_in t.files) (kept_all after after.watches)))
+            ∙ (ap (climbed_all n t.files) all_noted ∙ ap (λ (f : Files). climbed_all n f (map (watch_at new.tables.keys) new.interest.entries)) same));
         added = settled.added ∙ (stands.added ∙ sym burial.buries.added);
       }
+
+  -- each registration that is left keeps the kind of its target
+  abbrev Shown : Watch → Type 0
+  Shown w = (is_live mid.tables.files w.target ≡ true) × (can_be_watched (object_of mid.tables.files w.target) ≡ true)
+
+  abbrev SameKind : Watch → Type 0
+  SameKind w = kind_of (object_of (after_all mid.tables.files dead) w.target) ≡ kind_of (object_of mid.tables.files w.target)
+
+  shown_mid : All Shown (map (watch_at mid.tables.keys) mid.interest.entries)
+  shown_mid =
+      let P : Files → Watch → Type 0 = λ f w. (is_live f w.target ≡ true) × (can_be_watched (object_of f w.target) ≡ true) in
+      let steady : All (P after.files) after.watches = λ k d lt. ((changed.watches k d lt).target_lives, (changed.watches k d lt).target_shows) in
+      subst (λ (f : Files). All (P f) (map (watch_at mid.tables.keys) mid.interest.entries)) stands.files
+      (subst (All (P after.files)) stands.watches (All-map (P after.files) (freshened n raised) (kept_all after after.watches) (All-map (P after.files) (kept_of after) after.watches steady)))
+
+  same_kind : (w : Watch) → Shown w → is_untouched (numbers dead) w ≡ true → SameKind w
+  same_kind w shown untouched =
+      let stays = (both_true (not (is_among (numbers dead) w.instance)) (not (is_among (numbers dead) w.target)) untouched).1 in
+      left.shows w.target (ap is_some (left.places w.target) ∙ (live_or (is_among (numbers dead) w.target) (place_of mid.tables.files w.target) shown.0 ∙ stays)) shown.1
+
+  same_kinds : (ws : List Watch) → All Shown ws → All SameKind (filter (is_untouched (numbers dead)) ws)
+  same_kinds [] h = All-nil SameKind
+  same_kinds (w ∷ ws) h = with_one (is_untouched (numbers dead) w) refl (All-head Shown w ws h) (same_kinds ws (All-tail Shown w ws h)) where
+    with_one : (b : Bool) → is_untouched (numbers dead) w ≡ b → Shown w → All SameKind (filter (is_untouched (numbers dead)) ws) → All SameKind (cond b (w ∷ filter (is_untouched (numbers dead)) ws) (filter (is_untouched (numbers dead)) ws))
+    with_one true e shown rest = All-cons SameKind w (filter (is_untouched (numbers dead)) ws) (same_kind w shown e) rest
+    with_one false e shown rest = rest
+
+  kinds_left : KeepKinds mid.tables.files new.tables.files (map (watch_at new.tables.keys) new.interest.entries)
+  kinds_left =
+      let ws = map (watch_at mid.tables.keys) mid.interest.entries in
+      subst (λ (f : Files). KeepKinds mid.tables.files f (map (watch_at new.tables.keys) new.interest.entries)) (sym burial.buries.files)
+      (subst (All SameKind) (sym burial.buries.watches) (All-map SameKind (freshened n of_kernel) (filter (is_untouched (numbers dead)) ws) (same_kinds ws shown_mid)))
+
+  -- so the graph is that of the registrations that are left
+  pub buried_nested : (graph links_left : List Link) → KeepsLinks mid.interest graph new.interest links_left → AreNested mid.tables mid.interest graph → AreNested new.tables new.interest links_left
+  buried_nested graph links_left keeps nested = nested_left mid.tables new.tables new.interest links_left burial.buries.keys burial.buries.linked kinds_left (keeps mid.tables nested)

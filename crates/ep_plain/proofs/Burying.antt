@@ -1,5 +1,5 @@
 -- Descriptions die one by one, and the registrations that go with each.
-use Rattle.std.proofs.Common.{◌≡◌, ◌≢◌, ◌∙◌, ◌==◌, ◌&&◌, ◌||◌, ◌++◌, ℕ, zero, suc, All, Bool, true, false, IsSome, List, [], ◌∷◌, None, Option, Some, ap, append_assoc, arith, cond, filter, get_or, inl, inr, length, map, not, refl, set, slice_index_or, subst, sym, unwrap_or}
+use Rattle.std.proofs.Common.{nat_lt, ◌≡◌, ◌≢◌, ◌∙◌, ◌==◌, ◌&&◌, ◌||◌, ◌++◌, ℕ, zero, suc, All, Bool, true, false, IsSome, List, [], ◌∷◌, None, Option, Some, ap, append_assoc, arith, cond, filter, get_or, inl, inr, length, map, not, refl, set, slice_index_or, subst, sym, unwrap_or}
 use Rattle.std.proofs.lemmas.Bool.{cases_Bool, false≢true}
 use Rattle.std.proofs.lemmas.Bool.Decides.{nat_tests}
 use Rattle.std.proofs.lemmas.List.{length-set, map-append}
@@ -9,13 +9,13 @@ use Rattle.ep_base.specs.declared.ids.DescId.{DescId}
 use Rattle.ep_base.specs.declared.mask.Mask.{Mask}
 use Rattle.ep_base.specs.declared.object.End.{End}
 use Rattle.ep_base.specs.declared.object.Raised.{Raised}
-use Rattle.ep_machine.specs.Bits.{at_end, when}
+use Rattle.ep_machine.specs.Bits.{asked, at_end, when}
 use Rattle.ep_machine.specs.Counts.{brings}
 use Rattle.ep_machine.specs.Deaths.{die, die_all}
 use Rattle.ep_machine.specs.Files.{Files, Place, object_at, place_of, raised_at}
 use Rattle.ep_machine.specs.Lists.{is_among}
 use Rattle.ep_machine.specs.Objects.{close_end, plain}
-use Rattle.ep_machine.specs.Quiet.{freshened}
+use Rattle.ep_machine.specs.Kept.{freshened, stirred}
 use Rattle.ep_machine.specs.Spread.{raised_of}
 use Rattle.ep_machine.specs.State.{Watch}
 use Rattle.ep_machine.proofs.Arriving.{fresh_parts, raised_live, raised_place}
@@ -26,7 +26,8 @@ use Rattle.ep_plain.specs.Burial.{Buries, is_untouched}
 use Rattle.ep_machine.proofs.Survivors.{Apart}
 use Rattle.ep_plain.specs.Raising.{raised_there}
 use Rattle.ep_plain.specs.Stands.{AreLinked, IsLinked, number_at, watch_at}
-use Rattle.ep_plain.proofs.Across.{a_place, elsewhere, link_fresh, watch_fresh, zero_brings}
+use Rattle.ep_machine.proofs.Reaching.{zero_asked, zero_brings}
+use Rattle.ep_plain.proofs.Across.{a_place, elsewhere, link_noted, noted, watch_noted}
 use Rattle.ep_plain.proofs.Keys.{same_keys, under_key}
 use Rattle.ep_table.specs.Closing.{opposite}
 use Rattle.ep_table.specs.Closing.{Takes}
@@ -171,24 +172,23 @@ module _ (v w : Seen) (dead : Dead) (takes : Takes v w dead) (sound : Sound v) w
         | inr gone ↦ subst (λ (b : Bool). All (IsLinked w.keys) (cond b (x ∷ filter (is_apart_from dead.desc) xs) (filter (is_apart_from dead.desc) xs))) (sym gone) rest
       ]
 
--- what is raised nowhere freshens nothing
-fresh_none : (ws : List Watch) → map (freshened []) ws ≡ ws
-fresh_none [] = refl
-fresh_none (w ∷ ws) = λ i. cond (zero_brings w.mask i) (record w { seen = None }) w ∷ fresh_none ws i
+-- what is raised nowhere is noted nowhere
+never : (p : Bool) → (p && false) ≡ false
+never true = refl
+never false = refl
 
--- what goes has nothing to do with what is fresh
-leaves_fresh : (d : ℕ) (a : Bool) (w : Watch) → leaves d (cond a (record w { seen = None }) w) ≡ leaves d w
-leaves_fresh d true w = refl
-leaves_fresh d false w = refl
+fresh_none : (n : ℕ) (ws : List Watch) → map (freshened n []) ws ≡ ws
+fresh_none n [] = refl
+fresh_none n (w ∷ ws) = λ i. stirred n (zero_brings w.mask i) ((ap (λ (b : Bool). w.armed && b) (zero_asked w.mask) ∙ never w.armed) i) w ∷ fresh_none n ws i
 
-fresh_leaves : (d : ℕ) (rs : List (ℕ × ℕ)) (ws : List Watch) → filter (leaves d) (map (freshened rs) ws) ≡ map (freshened rs) (filter (leaves d) ws)
-fresh_leaves d rs [] = refl
-fresh_leaves d rs (w ∷ ws) =
-    let rest = fresh_leaves d rs ws in
-    (λ i. cond (leaves_fresh d (brings w.mask (raised_of rs w.target)) w i) (freshened rs w ∷ rest i) (rest i))
-    ∙ elim (leaves d w) as (λ b. cond b (freshened rs w ∷ map (freshened rs) (filter (leaves d) ws)) (map (freshened rs) (filter (leaves d) ws)) ≡ map (freshened rs) (cond b (w ∷ filter (leaves d) ws) (filter (leaves d) ws))) [
-      | true ↦ refl
-      | false ↦ refl
+-- what goes has nothing to do with what is noted
+fresh_leaves : (n d : ℕ) (rs : List (ℕ × ℕ)) (ws : List Watch) → filter (leaves d) (map (freshened n rs) ws) ≡ map (freshened n rs) (filter (leaves d) ws)
+fresh_leaves n d rs [] = refl
+fresh_leaves n d rs (w ∷ ws) =
+    let rest = fresh_leaves n d rs ws in
+    elim (leaves d w) as (λ b. cond b (freshened n rs w ∷ filter (leaves d) (map (freshened n rs) ws)) (filter (leaves d) (map (freshened n rs) ws)) ≡ map (freshened n rs) (cond b (w ∷ filter (leaves d) ws) (filter (leaves d) ws))) [
+      | true ↦ ap (λ (us : List Watch). freshened n rs w ∷ us) rest
+      | false ↦ rest
     ]
 
 -- what one death more raises
@@ -209,7 +209,7 @@ placed_before s [] d p h = h
 placed_before s (x ∷ xs) d p h = get_before s.descriptions x.0 d p (placed_before (after_all s (x ∷ [])) xs d p (ap (λ (f : Files). place_of f d) (sym (after_first s x xs)) ∙ h))
 
 -- What one death raises, at each registration that it leaves.
-module _ (v w : Seen) (dead : Dead) (takes : Takes v w dead) (sound : Sound v) (m : Mask) (m_is : m.0 ≡ at_end dead.raised (opposite dead.end)) where
+module _ (v w : Seen) (dead : Dead) (takes : Takes v w dead) (sound : Sound v) (n : ℕ) (m : Mask) (m_is : m.0 ≡ at_end dead.raised (opposite dead.end)) where
   abbrev x0 : ℕ × Place
   x0 = (takes.number, takes.place)
 
@@ -256,7 +256,7 @@ module _ (v w : Seen) (dead : Dead) (takes : Takes v w dead) (sound : Sound v) (
       let same : y.0 ≡ dead.desc.0 = sound.one y dead.desc d (key_before y d h) (takes.key_is ∙ ap (λ (n : ℕ). Some n) e) in
       gone_key d (ap (λ (n : ℕ). slice_index_or w.keys n None) (sym same) ∙ h)
 
-  raised_one : (x : Entry) → IsLinked w.keys x → watch_at w.keys (raised_there dead.other m x) ≡ freshened (die (v.files, []) x0).1 (watch_at w.keys x)
+  raised_one : (x : Entry) → IsLinked w.keys x → watch_at w.keys (raised_there dead.other m n x) ≡ freshened n (die (v.files, []) x0).1 (watch_at w.keys x)
   raised_one x link =
       let u = under_key w.keys x.desc link.desc in
       let t = number_at w.keys x.desc in
@@ -271,27 +271,27 @@ module _ (v w : Seen) (dead : Dead) (takes : Takes v w dead) (sound : Sound v) (
       ap (raised_of (raised_at rest k closed)) t_is
       ∙ (raised_live (λ z. z.object == k) (λ z. at_end closed z.side) rest u.number
       ∙ (ap (raised_place (λ z. z.object == k) (λ z. at_end closed z.side)) left ∙ ap (λ (r : Raised). when (q.0.object == k) (at_end r q.0.side)) (sym closed_is))) in
-      ap (watch_at w.keys) (elsewhere w.keys w.files takes.place dead.raised dead.other takes.other one_key apart_now m m_there x link q.0 there not_same)
-      ∙ (watch_fresh w.keys (brings x.mask.0 (when (q.0.object == k) (at_end dead.raised q.0.side))) x
-      ∙ ap (λ (n : ℕ). cond (brings x.mask.0 n) (record (watch_at w.keys x) { seen = None }) (watch_at w.keys x)) (sym bits))
+      ap (watch_at w.keys) (elsewhere w.keys w.files takes.place dead.raised dead.other takes.other one_key apart_now n m m_there x link q.0 there not_same)
+      ∙ (watch_noted w.keys n (when (q.0.object == k) (at_end dead.raised q.0.side)) x
+      ∙ ap (λ (b : ℕ). stirred n (brings x.mask.0 b) (x.armed && nat_lt 0 (asked x.mask.0 b)) (watch_at w.keys x)) (sym bits))
 
-  raised_all : (xs : List Entry) → All (IsLinked w.keys) xs → map (watch_at w.keys) (map (raised_there dead.other m) xs) ≡ map (freshened (die (v.files, []) x0).1) (map (watch_at w.keys) xs)
+  raised_all : (xs : List Entry) → All (IsLinked w.keys) xs → map (watch_at w.keys) (map (raised_there dead.other m n) xs) ≡ map (freshened n (die (v.files, []) x0).1) (map (watch_at w.keys) xs)
   raised_all [] h = refl
   raised_all (x ∷ xs) h =
       let one = raised_one x (All-head (IsLinked w.keys) x xs h) in
       let others = raised_all xs (All-tail (IsLinked w.keys) x xs h) in λ i. one i ∷ others i
 
-link_there : (keys : List (Option ℕ)) (o : Option DescId) (m : Mask) (x : Entry) → IsLinked keys x → IsLinked keys (raised_there o m x)
-link_there keys None m x h = h
-link_there keys (Some d) m x h = link_fresh keys (is_on d x && brings x.mask.0 m.0) x h
+link_there : (keys : List (Option ℕ)) (o : Option DescId) (m : Mask) (n : ℕ) (x : Entry) → IsLinked keys x → IsLinked keys (raised_there o m n x)
+link_there keys None m n x h = h
+link_there keys (Some d) m n x h = elim (is_on d x) as (λ b. IsLinked keys (cond b (noted n m.0 x) x)) [ true ↦ link_noted keys n m.0 x h | false ↦ h ]
 
-linked_there : (keys : List (Option ℕ)) (o : Option DescId) (m : Mask) (xs : List Entry) → All (IsLinked keys) xs → All (IsLinked keys) (map (raised_there o m) xs)
-linked_there keys o m [] h = h
-linked_there keys o m (x ∷ xs) h =
-    All-cons (IsLinked keys) (raised_there o m x) (map (raised_there o m) xs) (link_there keys o m x (All-head (IsLinked keys) x xs h)) (linked_there keys o m xs (All-tail (IsLinked keys) x xs h))
+linked_there : (keys : List (Option ℕ)) (o : Option DescId) (m : Mask) (n : ℕ) (xs : List Entry) → All (IsLinked keys) xs → All (IsLinked keys) (map (raised_there o m n) xs)
+linked_there keys o m n [] h = h
+linked_there keys o m n (x ∷ xs) h =
+    All-cons (IsLinked keys) (raised_there o m n x) (map (raised_there o m n) xs) (link_there keys o m n x (All-head (IsLinked keys) x xs h)) (linked_there keys o m n xs (All-tail (IsLinked keys) x xs h))
 
-pub buries_none : (v : Seen) (r : Registrations) → AreLinked v r → Buries v r v r
-buries_none v r linked = record {
+pub buries_none : (n : ℕ) (v : Seen) (r : Registrations) → AreLinked v r → Buries n v r v r
+buries_none n v r linked = record {
   dead = [];
   numbers = refl;
   placed = tt;
@@ -300,7 +300,8 @@ buries_none v r linked = record {
   objects = refl;
   limits = refl;
   holds = refl;
-  watches = sym (fresh_none (filter (is_untouched []) (map (watch_at v.keys) r.entries)) ∙ all_stay (map (watch_at v.keys) r.entries));
+  keys = λ key d h. h;
+  watches = sym (fresh_none n (filter (is_untouched []) (map (watch_at v.keys) r.entries)) ∙ all_stay (map (watch_at v.keys) r.entries));
   linked = linked;
   added = refl;
 } where
@@ -309,8 +310,8 @@ buries_none v r linked = record {
   all_stay (w ∷ ws) = ap (λ (us : List Watch). w ∷ us) (all_stay ws)
 
 -- one death more
-module _ (v0 v w : Seen) (r0 r q : Registrations) (dead : Dead) (before : Buries v0 r0 v r) (takes : Takes v w dead) (sound : Sound v)
-    (m : Mask) (m_is : m.0 ≡ at_end dead.raised (opposite dead.end)) (entries : q.entries ≡ map (raised_there dead.other m) (filter (is_apart_from dead.desc) r.entries)) (added : q.added ≡ r.added)
+module _ (n : ℕ) (v0 v w : Seen) (r0 r q : Registrations) (dead : Dead) (before : Buries n v0 r0 v r) (takes : Takes v w dead) (sound : Sound v)
+    (m : Mask) (m_is : m.0 ≡ at_end dead.raised (opposite dead.end)) (entries : q.entries ≡ map (raised_there dead.other m n) (filter (is_apart_from dead.desc) r.entries)) (added : q.added ≡ r.added)
     (placed : place_of v0.files takes.number ≡ Some takes.place) where
   abbrev one : ℕ × Place
   one = (takes.number, takes.place)
@@ -318,7 +319,7 @@ module _ (v0 v w : Seen) (r0 r q : Registrations) (dead : Dead) (before : Buries
   files_next : w.files ≡ after_all v0.files (before.dead ++ one ∷ [])
   files_next = takes.files ∙ (ap (λ (f : Files). after_all f (one ∷ [])) before.files ∙ sym (after_more v0.files before.dead one))
 
-  pub buries_more : Buries v0 r0 w q
+  pub buries_more : Buries n v0 r0 w q
   buries_more = record {
     dead = before.dead ++ one ∷ [];
     numbers =
@@ -331,6 +332,7 @@ module _ (v0 v w : Seen) (r0 r q : Registrations) (dead : Dead) (before : Buries
     objects = ap (λ (f : Files). length f.objects) takes.files ∙ (length-set v.files.objects takes.place.object _ ∙ before.objects);
     limits = takes.limits ∙ before.limits;
     holds = takes.holds ∙ before.holds;
+    keys = λ key d h. before.keys key d (key_before v w dead takes sound n m m_is key d h);
     watches =
         let first = (die_all (v0.files, []) before.dead).1 in
         let more = (die (v.files, []) one).1 in
@@ -338,13 +340,13 @@ module _ (v0 v w : Seen) (r0 r q : Registrations) (dead : Dead) (before : Buries
         let all : first ++ more ≡ (die_all (v0.files, []) (before.dead ++ one ∷ [])).1 =
         sym (raised_more v0.files [] before.dead one ∙ ap (λ (f : Files). first ++ (die (f, []) one).1) (sym before.files)) in
         ap (λ (xs : List Entry). map (watch_at w.keys) xs) entries
-        ∙ (raised_all v w dead takes sound m m_is (filter (is_apart_from dead.desc) r.entries) left
-        ∙ (ap (map (freshened more)) (watches_left v w dead takes sound r.entries before.linked)
-        ∙ (ap (λ (ws : List Watch). map (freshened more) (filter (leaves takes.number) ws)) before.watches
-        ∙ (ap (map (freshened more)) (fresh_leaves takes.number first (filter (is_untouched (numbers before.dead)) (map (watch_at v0.keys) r0.entries)))
-        ∙ (sym (fresh_parts first more (filter (leaves takes.number) (filter (is_untouched (numbers before.dead)) (map (watch_at v0.keys) r0.entries))))
-        ∙ ((λ i. map (freshened (all i)) (filter (leaves takes.number) (filter (is_untouched (numbers before.dead)) (map (watch_at v0.keys) r0.entries))))
-        ∙ ap (map (freshened (die_all (v0.files, []) (before.dead ++ one ∷ [])).1)) (sym (filter_more before.dead one (map (watch_at v0.keys) r0.entries)))))))));
-    linked = subst (λ (xs : List Entry). All (IsLinked w.keys) xs) (sym entries) (linked_there w.keys dead.other m (filter (is_apart_from dead.desc) r.entries) (linked_left v w dead takes sound r.entries before.linked));
+        ∙ (raised_all v w dead takes sound n m m_is (filter (is_apart_from dead.desc) r.entries) left
+        ∙ (ap (map (freshened n more)) (watches_left v w dead takes sound r.entries before.linked)
+        ∙ (ap (λ (ws : List Watch). map (freshened n more) (filter (leaves takes.number) ws)) before.watches
+        ∙ (ap (map (freshened n more)) (fresh_leaves n takes.number first (filter (is_untouched (numbers before.dead)) (map (watch_at v0.keys) r0.entries)))
+        ∙ (sym (fresh_parts n first more (filter (leaves takes.number) (filter (is_untouched (numbers before.dead)) (map (watch_at v0.keys) r0.entries))))
+        ∙ ((λ i. map (freshened n (all i)) (filter (leaves takes.number) (filter (is_untouched (numbers before.dead)) (map (watch_at v0.keys) r0.entries))))
+        ∙ ap (map (freshened n (die_all (v0.files, []) (before.dead ++ one ∷ [])).1)) (sym (filter_more before.dead one (map (watch_at v0.keys) r0.entries)))))))));
+    linked = subst (λ (xs : List Entry). All (IsLinked w.keys) xs) (sym entries) (linked_there w.keys dead.other m n (filter (is_apart_from dead.desc) r.entries) (linked_left v w dead takes sound r.entries before.linked));
     added = added ∙ before.added;
   }

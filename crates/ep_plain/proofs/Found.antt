@@ -10,7 +10,7 @@ use Rattle.ep_base.specs.declared.ids.Fd.{Fd}
 use Rattle.ep_base.specs.declared.mask.Mask.{Mask}
 use Rattle.ep_interest.specs.Registrations.{IsSound, Registrations, RisesFrom, has_key, is_other, modified, numbered}
 use Rattle.ep_interest.specs.declared.entry.Entry.{Entry}
-use Rattle.ep_machine.specs.Quiet.{kept_all, kept_of}
+use Rattle.ep_machine.specs.Kept.{kept_all, kept_of}
 use Rattle.ep_machine.specs.State.{State, Watch}
 use Rattle.ep_machine.specs.Watches.{has_key as has_numbers, modified as modified_watch, number_in}
 use Rattle.ep_plain.specs.Stands.{IsLinked, number_at, watch_at}
@@ -26,7 +26,7 @@ above : (m n : ℕ) (xs : List Entry) → m < n → AllByRecursion (λ x. n < x.
 above m n [] lt h = tt
 above m n (x ∷ xs) lt h = (omega (arith, lt, h.0), above m n xs lt h.1)
 
-rises_above : (m : ℕ) (xs : List Entry) → RisesFrom m xs → AllByRecursion (λ x. m < x.number) xs
+pub rises_above : (m : ℕ) (xs : List Entry) → RisesFrom m xs → AllByRecursion (λ x. m < x.number) xs
 rises_above m [] h = tt
 rises_above m (x ∷ xs) h = (h.0, above m x.number xs h.0 (rises_above x.number xs h.1))
 

@@ -8,7 +8,7 @@ use Rattle.std.proofs.lemmas.List.Elements.{All-head, All-tail}
 use Rattle.ep_base.specs.declared.ids.DescId.{DescId}
 use Rattle.ep_machine.specs.Bits.{asked}
 use Rattle.ep_machine.specs.Counts.{every_shown_bit, no_counts}
-use Rattle.ep_machine.specs.Quiet.{kept_all, kept_of, seen_where}
+use Rattle.ep_machine.specs.Kept.{kept_all, kept_of, seen_where}
 use Rattle.ep_machine.specs.Readiness.{is_fresh_since}
 use Rattle.ep_machine.specs.State.{State, Watch}
 use Rattle.ep_machine.specs.Watches.{has_key as has_numbers, is_there, number_in}
@@ -62,7 +62,7 @@ watches_kept old new keeps (x ∷ xs) linked =
     let a = number_kept old new x.instance keeps link.instance in
     let b = number_kept old new x.desc keeps link.desc in
     let rest = watches_kept old new keeps xs (All-tail (IsLinked old.keys) x xs linked) in
-    λ i. record { number = x.number; instance = a i; fd = number_in x.fd.0; target = b i; mask = x.mask.0; tag = x.tag; armed = x.armed; seen = x.seen; rep = x.rep; from = 0 } ∷ rest i
+    λ i. record { number = x.number; instance = a i; fd = number_in x.fd.0; target = b i; mask = x.mask.0; tag = x.tag; armed = x.armed; seen = x.seen; rep = x.rep; from = x.from } ∷ rest i
 
 link_kept : (old new : Seen) → KeepsKeys old new → (x : Entry) → IsLinked old.keys x → IsLinked new.keys x
 link_kept old new keeps x h = record { instance = some_kept old new x.instance keeps h.instance; desc = some_kept old new x.desc keeps h.desc; fd = h.fd }

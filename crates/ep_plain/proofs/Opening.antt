@@ -116,8 +116,8 @@ module _ (v new : Seen) (p : ℕ) (fd : Fd) (now : ℕ) (call : Call) (answer : 
   pub object_limits : new.limits ≡ v.limits
   object_limits = opens_limits ((names_nothing v.files p fd.0, Ebadf) ∷ object_refusals (object_under v.files p fd.0) (side_under v.files p fd.0) now call) (given v.files p fd.0 now call).0 (affected v.files (named_by v.files p fd.0) (given v.files p fd.0 now call)) answer v new calls
 
-  pub object_linked : (r : Registrations) → AreLinked v r → AreLinked new r
-  object_linked r linked = opens_linked ((names_nothing v.files p fd.0, Ebadf) ∷ object_refusals (object_under v.files p fd.0) (side_under v.files p fd.0) now call) (given v.files p fd.0 now call).0 (affected v.files (named_by v.files p fd.0) (given v.files p fd.0 now call)) answer v new calls r linked
+  pub object_keys : KeepsKeys v new
+  object_keys = opens_keys ((names_nothing v.files p fd.0, Ebadf) ∷ object_refusals (object_under v.files p fd.0) (side_under v.files p fd.0) now call) (given v.files p fd.0 now call).0 (affected v.files (named_by v.files p fd.0) (given v.files p fd.0 now call)) answer v new calls
 
   pub object_called : (limits : Limits) (r : Registrations) (s : State) (caller : ℕ) → AreLinked v r → Stands v r now s → v.limits ≡ limits → IsOnObject fd call
       → Goes (call_refusals limits s p call) (call_change limits s caller p call []) s answer [] (record { tables = new; interest = r; now = now })

@@ -14,7 +14,7 @@ use Rattle.ep_interest.specs.declared.entry.Entry.{Entry}
 use Rattle.ep_machine.specs.Bits.{ONESHOT, has_bit}
 use Rattle.ep_machine.specs.Counts.{no_counts}
 use Rattle.ep_machine.specs.Lists.{is_among}
-use Rattle.ep_machine.specs.Quiet.{Quiet, kept_all, report_at, reported_in, shows_in}
+use Rattle.ep_machine.specs.Kept.{kept_all, ready_now, report_at, reported_in, shows_in}
 use Rattle.ep_machine.specs.Readiness.{is_ready}
 use Rattle.ep_machine.specs.Refusal.{is_zero}
 use Rattle.ep_machine.specs.Report.{plainly, report, reported}
@@ -24,10 +24,12 @@ use Rattle.ep_machine.specs.Waits.{wait, wait_for}
 use Rattle.ep_machine.proofs.Picking.{numbers}
 use Rattle.ep_machine.proofs.Reporting.{report_kept}
 use Rattle.ep_machine.proofs.Settling.{reported_kept}
-use Rattle.ep_machine.proofs.Showing.{ready_kept}
+use Rattle.ep_machine.proofs.Showing.{any_kept, readiness as machine_readiness}
+use Rattle.ep_machine.specs.Watches.{is_legal, links}
 use Rattle.ep_plain.specs.Moves.{Makes}
 use Rattle.ep_plain.specs.Stands.{AreLinked, IsLinked, Stands, number_at, watch_at}
-use Rattle.ep_plain.specs.Wait.{AreKeyed, IsChosen, IsKeyed, entry_shows, noted_in, numbers_of, report_of}
+use Rattle.ep_plain.specs.Readiness.{entry_shows, readiness}
+use Rattle.ep_plain.specs.Wait.{AreKeyed, IsChosen, IsKeyed, noted_in, numbers_of, report_of}
 use Rattle.ep_plain.specs.declared.wait.Reportable.{Reportable}
 use Rattle.ep_plain.proofs.Choosing.{noted_none}
 use Rattle.ep_plain.proofs.Keys.{same_keys}
@@ -35,24 +37,24 @@ use Rattle.ep_plain.proofs.Waiting.{entries_in}
 use Rattle.ep_table.specs.Value.{Seen, Sound as SoundTables, number_under}
 
 -- what the machine scans is what the interest set gives
-module _ (v : Seen) (now : ℕ) (instance : DescId) (sound : SoundTables v) (lives : IsSome (number_under v instance)) where
+module _ (ready : ℕ → Bool) (v : Seen) (now : ℕ) (instance : DescId) (sound : SoundTables v) (lives : IsSome (number_under v instance)) where
   cond_map : (d : Bool) (x : Entry) (xs : List Entry) (ys : List Watch) → map (watch_at v.keys) xs ≡ ys → cond d (watch_at v.keys x ∷ ys) ys ≡ map (watch_at v.keys) (cond d (x ∷ xs) xs)
   cond_map true x xs ys h = ap (λ (zs : List Watch). watch_at v.keys x ∷ zs) (sym h)
   cond_map false x xs ys h = sym h
 
-  filter_twice : (b c : Bool) (x : Entry) (xs : List Entry) (ys : List Watch) → map (watch_at v.keys) (filter (entry_shows v now) xs) ≡ ys
-      → c ≡ entry_shows v now x → cond (b && c) (watch_at v.keys x ∷ ys) ys ≡ map (watch_at v.keys) (filter (entry_shows v now) (cond b (x ∷ xs) xs))
-  filter_twice true c x xs ys h e = ap (λ (b : Bool). cond b (watch_at v.keys x ∷ ys) ys) e ∙ cond_map (entry_shows v now x) x (filter (entry_shows v now) xs) ys h
+  filter_twice : (b c : Bool) (x : Entry) (xs : List Entry) (ys : List Watch) → map (watch_at v.keys) (filter (entry_shows ready v now) xs) ≡ ys
+      → c ≡ entry_shows ready v now x → cond (b && c) (watch_at v.keys x ∷ ys) ys ≡ map (watch_at v.keys) (filter (entry_shows ready v now) (cond b (x ∷ xs) xs))
+  filter_twice true c x xs ys h e = ap (λ (b : Bool). cond b (watch_at v.keys x ∷ ys) ys) e ∙ cond_map (entry_shows ready v now x) x (filter (entry_shows ready v now) xs) ys h
   filter_twice false c x xs ys h e = sym h
 
-  pub scanned : (xs : List Entry) → All (IsLinked v.keys) xs → filter (shows_in v.files now (number_at v.keys instance)) (map (watch_at v.keys) xs) ≡ map (watch_at v.keys) (filter (entry_shows v now) (filter (is_of instance) xs))
+  pub scanned : (xs : List Entry) → All (IsLinked v.keys) xs → filter (shows_in ready v.files now (number_at v.keys instance)) (map (watch_at v.keys) xs) ≡ map (watch_at v.keys) (filter (entry_shows ready v now) (filter (is_of instance) xs))
   scanned [] h = refl
   scanned (x ∷ xs) h =
       let rest = scanned xs (All-tail (IsLinked v.keys) x xs h) in
       let link = All-head (IsLinked v.keys) x xs h in
       let same : (number_at v.keys x.instance == number_at v.keys instance) ≡ is_of instance x = same_keys v x.instance instance sound link.instance lives in
-      ap (λ (b : Bool). cond (b && entry_shows v now x) (watch_at v.keys x ∷ filter (shows_in v.files now (number_at v.keys instance)) (map (watch_at v.keys) xs)) (filter (shows_in v.files now (number_at v.keys instance)) (map (watch_at v.keys) xs))) same
-      ∙ filter_twice (is_of instance x) (entry_shows v now x) x (filter (is_of instance) xs) _ (sym rest) refl
+      ap (λ (b : Bool). cond (b && entry_shows ready v now x) (watch_at v.keys x ∷ filter (shows_in ready v.files now (number_at v.keys instance)) (map (watch_at v.keys) xs)) (filter (shows_in ready v.files now (number_at v.keys instance)) (map (watch_at v.keys) xs))) same
+      ∙ filter_twice (is_of instance x) (entry_shows ready v now x) x (filter (is_of instance) xs) _ (sym rest) refl
 
 get_rep : (keys : List (Option ℕ)) (xs : List Entry) → IsNonDecreasingBy (λ (x : Entry). x.rep) xs → IsNonDecreasingBy (λ (x : Watch). x.rep) (map (watch_at keys) xs)
 get_rep keys xs h = λ i j d le lt.
@@ -65,7 +67,7 @@ numbers_are : (keys : List (Option ℕ)) (xs : List Reportable) → numbers (map
 numbers_are keys [] = refl
 numbers_are keys (x ∷ xs) = ap (λ (ks : List ℕ). x.entry.number ∷ ks) (numbers_are keys xs)
 
-reports_are : (v : Seen) (now : ℕ) (r : Registrations) (xs : List Reportable) → AreKeyed v now r xs → map (report_at v.files now) (map (watch_at v.keys) (entries_in xs)) ≡ map report_of xs
+reports_are : (v : Seen) (now : ℕ) (r : Registrations) (xs : List Reportable) → AreKeyed v now r xs → map (report_at (readiness v now r) v.files now) (map (watch_at v.keys) (entries_in xs)) ≡ map report_of xs
 reports_are v now r [] h = refl
 reports_are v now r (x ∷ xs) h =
     let one = All-head (IsKeyed v now r) x xs h in
@@ -74,7 +76,7 @@ reports_are v now r (x ∷ xs) h =
 
 -- a registration is noted as the machine reports it
 noted_is : (keys : List (Option ℕ)) (n : ℕ) (b : Bool) (x : Entry)
-    → (if b then record (watch_at keys x) { seen = Some no_counts; rep = n; armed = x.armed && not (has_bit x.mask.0 ONESHOT) } else watch_at keys x) ≡ watch_at keys (if b then record x { armed = x.armed && not (has_bit x.mask.0 ONESHOT); seen = Some no_counts; rep = n; from = 0 } else x)
+    → (if b then record (watch_at keys x) { seen = Some no_counts; rep = n; armed = x.armed && not (has_bit x.mask.0 ONESHOT) } else watch_at keys x) ≡ watch_at keys (if b then record x { armed = x.armed && not (has_bit x.mask.0 ONESHOT); seen = Some no_counts; rep = n } else x)
 noted_is keys n true x = refl
 noted_is keys n false x = refl
 
@@ -84,7 +86,7 @@ noted_all keys n ks (x ∷ xs) =
     let one = noted_is keys n (is_among ks x.number) x in
     let rest = noted_all keys n ks xs in λ i. one i ∷ rest i
 
-link_noted : (keys : List (Option ℕ)) (n : ℕ) (b : Bool) (x : Entry) → IsLinked keys x → IsLinked keys (if b then record x { armed = x.armed && not (has_bit x.mask.0 ONESHOT); seen = Some no_counts; rep = n; from = 0 } else x)
+link_noted : (keys : List (Option ℕ)) (n : ℕ) (b : Bool) (x : Entry) → IsLinked keys x → IsLinked keys (if b then record x { armed = x.armed && not (has_bit x.mask.0 ONESHOT); seen = Some no_counts; rep = n } else x)
 link_noted keys n true x h = record { instance = h.instance; desc = h.desc; fd = h.fd }
 link_noted keys n false x h = h
 
@@ -99,14 +101,21 @@ none_any p [] h = refl
 none_any p (x ∷ xs) h = elim (p x) as (λ b. (b || list_any p xs) ≡ false → cond b (x ∷ filter p xs) (filter p xs) ≡ []) [ true ↦ λ e. absurd (false≢true (sym e)) | false ↦ λ e. none_any p xs e ] h
 
 module _ (v : Seen) (now : ℕ) (r new : Registrations) (s : State) (n : ℕ) (instance : DescId) (most : ℕ) (chosen : List Reportable)
-    (at : s.n ≡ n) (steady : Sound s) (quiet : Quiet s) (stands : Stands v r now s) (linked : AreLinked v r)
+    (at : s.n ≡ n) (steady : Sound s) (legal : is_legal (links s) ≡ true) (stands : Stands v r now s) (linked : AreLinked v r)
     (sound : SoundTables v) (lives : IsSome (number_under v instance)) (is : IsChosen v now r instance most chosen)
     (entries : new.entries ≡ map (noted_in n (numbers_of chosen)) r.entries) (added : new.added ≡ r.added) where
   abbrev e : ℕ
   e = number_at v.keys instance
 
-  scan : filter (shows_in s.files s.now e) (kept_all s s.watches) ≡ map (watch_at v.keys) (filter (entry_shows v now) (filter (is_of instance) r.entries))
-  scan = (λ i. filter (shows_in (stands.files i) (stands.now i) e) (stands.watches i)) ∙ scanned v now instance sound lives r.entries linked
+  abbrev ready : ℕ → Bool
+  ready = readiness v now r
+
+  -- the machine finds the same instances ready
+  same_ready : machine_readiness s ≡ ready
+  same_ready = λ i. ready_now (stands.files i) (stands.now i) (stands.watches i)
+
+  scan : filter (shows_in (machine_readiness s) s.files s.now e) (kept_all s s.watches) ≡ map (watch_at v.keys) (filter (entry_shows ready v now) (filter (is_of instance) r.entries))
+  scan = (λ i. filter (shows_in (same_ready i) (stands.files i) (stands.now i) e) (stands.watches i)) ∙ scanned ready v now instance sound lives r.entries linked
 
   abbrev found : List Watch
   found = map (watch_at v.keys) is.found
@@ -114,7 +123,7 @@ module _ (v : Seen) (now : ℕ) (r new : Registrations) (s : State) (n : ℕ) (i
   told : take most found ≡ map (watch_at v.keys) (entries_in chosen)
   told = take-map (watch_at v.keys) most is.found ∙ ap (map (watch_at v.keys)) (sym is.taken)
 
-  moved : IsPermutation (filter (shows_in s.files s.now e) (kept_all s s.watches)) found
+  moved : IsPermutation (filter (shows_in (machine_readiness s) s.files s.now e) (kept_all s s.watches)) found
   moved = subst (λ (xs : List Watch). IsPermutation xs found) (sym scan) (IsPermutation-map (watch_at v.keys) _ is.found is.moved)
 
   -- the report of the machine that picks these
@@ -122,8 +131,8 @@ module _ (v : Seen) (now : ℕ) (r new : Registrations) (s : State) (n : ℕ) (i
   reports =
       let P : List ℕ → List Report → Type 0 = λ ks rs. report s e most ks ≡ Some (Events rs, record s { watches = map (reported s ks) s.watches }, []) in
       let ks : numbers (take most found) ≡ numbers_of chosen = ap numbers told ∙ numbers_are v.keys chosen in
-      let rs : map (report_at s.files s.now) (take most found) ≡ map report_of chosen = (λ i. map (report_at (stands.files i) (stands.now i)) (told i)) ∙ reports_are v now r chosen is.keyed in
-      subst (λ (xs : List ℕ). P xs (map report_of chosen)) ks (subst (λ (ys : List Report). P (numbers (take most found)) ys) rs (report_kept s e most found steady quiet moved (get_rep v.keys is.found is.sorted)))
+      let rs : map (report_at (machine_readiness s) s.files s.now) (take most found) ≡ map report_of chosen = (λ i. map (report_at (same_ready i) (stands.files i) (stands.now i)) (told i)) ∙ reports_are v now r chosen is.keyed in
+      subst (λ (xs : List ℕ). P xs (map report_of chosen)) ks (subst (λ (ys : List Report). P (numbers (take most found)) ys) rs (report_kept s e most found steady moved (get_rep v.keys is.found is.sorted)))
 
   after : Stands v new now (record s { watches = map (reported s (numbers_of chosen)) s.watches })
   after = record {
@@ -138,8 +147,8 @@ module _ (v : Seen) (now : ℕ) (r new : Registrations) (s : State) (n : ℕ) (i
 
   quiet_found : is_ready s e ≡ false → chosen ≡ []
   quiet_found h =
-      let none : filter (shows_in s.files s.now e) (kept_all s s.watches) ≡ [] = none_any (shows_in s.files s.now e) (kept_all s s.watches) (sym (ready_kept s e quiet) ∙ h) in
-      let same : length found ≡ 0 = length_permutation (filter (shows_in s.files s.now e) (kept_all s s.watches)) found moved ∙ ap (λ (xs : List Watch). length xs) none in
+      let none : filter (shows_in (machine_readiness s) s.files s.now e) (kept_all s s.watches) ≡ [] = none_any (shows_in (machine_readiness s) s.files s.now e) (kept_all s s.watches) (sym (any_kept s e legal) ∙ h) in
+      let same : length found ≡ 0 = length_permutation (filter (shows_in (machine_readiness s) s.files s.now e) (kept_all s s.watches)) found moved ∙ ap (λ (xs : List Watch). length xs) none in
       let few : length (map (watch_at v.keys) (entries_in chosen)) ≡ min most (length found) = ap (λ (xs : List Watch). length xs) (sym told) ∙ length-take most found in
       nil_from_length chosen (omega (arith, same, few, length-map (entries_in chosen) (watch_at v.keys), length-map chosen (λ (x : Reportable). x.entry)))
 

@@ -1,5 +1,5 @@
 -- What an event raises, at each registration.
-use Rattle.std.proofs.Common.{◌≡◌, ◌≢◌, ◌==◌, ◌&&◌, ◌||◌, ◌⊎◌, ◌+◌, ◌∙◌, ℕ, zero, suc, All, Bool, true, false, IsSome, List, [], ◌∷◌, None, Option, Some, ap, arith, cond, get_or, inl, inr, map, refl, subst, sym, unwrap_or}
+use Rattle.std.proofs.Common.{nat_lt, ◌≡◌, ◌≢◌, ◌==◌, ◌&&◌, ◌||◌, ◌⊎◌, ◌+◌, ◌∙◌, ℕ, zero, suc, All, Bool, true, false, IsSome, List, [], ◌∷◌, None, Option, Some, ap, arith, cond, get_or, if◌then◌else◌, inl, inr, map, refl, subst, sym, unwrap_or}
 use Rattle.std.specs.List.{list_any}
 use Rattle.std.proofs.lemmas.Bool.{cases_Bool, false≢true}
 use Rattle.std.proofs.lemmas.Bool.Decides.{nat_tests}
@@ -12,36 +12,38 @@ use Rattle.ep_base.specs.declared.object.End.TheVariants.{First}
 use Rattle.ep_base.specs.declared.object.Raised.{Raised}
 use Rattle.ep_interest.specs.Registrations.{Registrations, is_on, raised_on}
 use Rattle.ep_interest.specs.declared.entry.Entry.{Entry}
-use Rattle.ep_machine.specs.Bits.{at_end, when}
+use Rattle.ep_machine.specs.Bits.{IN, asked, at_end, when}
 use Rattle.ep_machine.specs.Counts.{brings}
 use Rattle.ep_machine.specs.Files.{Place, object_at, object_number, place_of, side_of}
 use Rattle.ep_machine.specs.Objects.{advance, plain}
-use Rattle.ep_plain.specs.Raising.{IsRaising, Stirs, bits_of, clock_bits, due_bits, freshened_by, object_bits, raised_bits, raised_each, raised_there}
+use Rattle.ep_plain.specs.Raising.{IsRaising, Stirs, bits_of, clock_bits, due_bits, object_bits, raised_bits, raised_each, raised_there}
 use Rattle.ep_plain.specs.Stands.{AreLinked, IsLinked, number_at, watch_at}
 use Rattle.ep_plain.specs.declared.raising.Raising.{Raising}
-use Rattle.ep_plain.specs.declared.raising.Raising.TheVariants.{Clock, Nowhere, Object}
-use Rattle.ep_plain.proofs.Across.{a_place, elsewhere, fresh, fresh_if, from_test, link_fresh, off_own, same_test, some_place, watch_fresh, zero_brings}
+use Rattle.ep_plain.specs.declared.raising.Raising.TheVariants.{Clock, Instance, Nowhere, Object}
+use Rattle.ep_base.specs.declared.counts.Counts.{Counts}
+use Rattle.ep_machine.specs.Kept.{freshened_by}
+use Rattle.ep_plain.proofs.Across.{a_place, elsewhere, from_test, link_noted, noted, off_own, same_test, some_place, watch_noted, zero_noted}
 use Rattle.ep_plain.proofs.Keys.{same_keys, under_key}
 use Rattle.ep_table.specs.Closing.{IsAt, across, opposite}
 use Rattle.ep_table.specs.Live.{live_from, live_ids}
 use Rattle.ep_table.specs.Value.{Seen, Sound, number_of, number_under}
 
 -- where each registration is freshened by what is raised at its target
-pub record Freshens (v : Seen) (bits : ℕ → ℕ) (old new : List Entry) : Type 0 where
-  pub watches : map (watch_at v.keys) new ≡ map (freshened_by bits) (map (watch_at v.keys) old)
+pub record Freshens (v : Seen) (n : ℕ) (bits : ℕ → ℕ) (old new : List Entry) : Type 0 where
+  pub watches : map (watch_at v.keys) new ≡ map (freshened_by n bits) (map (watch_at v.keys) old)
   pub linked : All (IsLinked v.keys) new
 
-module _ (v : Seen) (bits : ℕ → ℕ) (f : Entry → Entry) (each : (x : Entry) → IsLinked v.keys x → f x ≡ fresh_if (brings x.mask.0 (bits (number_at v.keys x.desc))) x) where
-  freshens : (xs : List Entry) → All (IsLinked v.keys) xs → Freshens v bits xs (map f xs)
+module _ (v : Seen) (n : ℕ) (bits : ℕ → ℕ) (f : Entry → Entry) (each : (x : Entry) → IsLinked v.keys x → f x ≡ noted n (bits (number_at v.keys x.desc)) x) where
+  freshens : (xs : List Entry) → All (IsLinked v.keys) xs → Freshens v n bits xs (map f xs)
   freshens [] h = record { watches = refl; linked = h }
   freshens (x ∷ xs) h =
       let link = All-head (IsLinked v.keys) x xs h in
       let rest = freshens xs (All-tail (IsLinked v.keys) x xs h) in
-      let b = brings x.mask.0 (bits (number_at v.keys x.desc)) in
-      let one : watch_at v.keys (f x) ≡ freshened_by bits (watch_at v.keys x) = ap (watch_at v.keys) (each x link) ∙ watch_fresh v.keys b x in
+      let b = bits (number_at v.keys x.desc) in
+      let one : watch_at v.keys (f x) ≡ freshened_by n bits (watch_at v.keys x) = ap (watch_at v.keys) (each x link) ∙ watch_noted v.keys n b x in
       record {
         watches = λ i. one i ∷ rest.watches i;
-        linked = All-cons (IsLinked v.keys) (f x) (map f xs) (subst (IsLinked v.keys) (sym (each x link)) (link_fresh v.keys b x link)) rest.linked;
+        linked = All-cons (IsLinked v.keys) (f x) (map f xs) (subst (IsLinked v.keys) (sym (each x link)) (link_noted v.keys n b x link)) rest.linked;
       }
 
 map_twice : (f g : Entry → Entry) (xs : List Entry) → map g (map f xs) ≡ map (λ x. g (f x)) xs
@@ -57,16 +59,12 @@ same_nat k = grind (arith, nat_tests)
 same_or_not : (a b : ℕ) → (a ≡ b) ⊎ (a ≢ b)
 same_or_not a b = elim (cases_Bool (a == b)) [ inl e ↦ inl (from_test a b e) | inr e ↦ inr (λ h. false≢true (sym e ∙ same_test a b h)) ]
 
-keeps_fresh : (b : Bool) (x : Entry) → ((fresh_if b x).desc ≡ x.desc) × ((fresh_if b x).mask ≡ x.mask)
-keeps_fresh true x = (refl, refl)
-keeps_fresh false x = (refl, refl)
-
 -- At the two ends of an object.
 abbrev side_at : Option Place → End
 side_at None = First
 side_at (Some q) = q.side
 
-module _ (v : Seen) (desc : DescId) (raised : Raised) (sound : Sound v) (lives : IsSome (number_under v desc)) (other : Option DescId) (is_at : IsAt v.files v.keys (across (place_of v.files (number_of v desc))) other) where
+module _ (v : Seen) (desc : DescId) (raised : Raised) (n : ℕ) (sound : Sound v) (lives : IsSome (number_under v desc)) (other : Option DescId) (is_at : IsAt v.files v.keys (across (place_of v.files (number_of v desc))) other) where
   abbrev d : ℕ
   d = number_of v desc
 
@@ -94,7 +92,7 @@ module _ (v : Seen) (desc : DescId) (raised : Raised) (sound : Sound v) (lives :
   there_at : IsAt v.files v.keys (across (Some p)) other
   there_at = subst (λ (o : Option Place). IsAt v.files v.keys (across o) other) place.1 is_at
 
-  object_each : (x : Entry) → IsLinked v.keys x → raised_there other at_other (raised_on desc at_own x) ≡ fresh_if (brings x.mask.0 (object_bits (object_number (place_of v.files d)) raised (place_of v.files (number_at v.keys x.desc)))) x
+  object_each : (x : Entry) → IsLinked v.keys x → raised_there other at_other n (raised_on desc at_own n x) ≡ noted n (object_bits (object_number (place_of v.files d)) raised (place_of v.files (number_at v.keys x.desc))) x
   object_each x link =
       let t = number_at v.keys x.desc in
       let target = placed x.desc link.desc in
@@ -105,58 +103,70 @@ module _ (v : Seen) (desc : DescId) (raised : Raised) (sound : Sound v) (lives :
       elim (same_or_not t d) [
         | inl same ↦
             let qp : q ≡ p = some_place q p (sym target.1 ∙ (ap (place_of v.files) same ∙ place.1)) in
-            let own : raised_on desc at_own x ≡ fresh_if (brings x.mask.0 at_own.0) x = ap (λ (b : Bool). cond (b && brings x.mask.0 at_own.0) (fresh x) x) (sym on_own ∙ same_test t d same) in
+            let own : raised_on desc at_own n x ≡ noted n at_own.0 x = ap (λ (b : Bool). cond b (noted n at_own.0 x) x) (sym on_own ∙ same_test t d same) in
             let here : when (q.object == p.object) (at_end raised q.side) ≡ at_own.0 =
             (λ i. when ((qp i).object == p.object) (at_end raised (qp i).side)) ∙ (ap (λ (b : Bool). when b (at_end raised p.side)) (same_nat p.object) ∙ ap (at_end raised) (sym side_is)) in
-            ap (raised_there other at_other) own
-            ∙ (off_own v.keys v.files p raised other there_at sound.one sound.apart at_other m_is x link q target.1 qp (fresh_if (brings x.mask.0 at_own.0) x) (keeps_fresh (brings x.mask.0 at_own.0) x).0
-            ∙ ap (λ (n : ℕ). fresh_if (brings x.mask.0 n) x) (sym (bits ∙ here)))
+            ap (raised_there other at_other n) own
+            ∙ (off_own v.keys v.files p raised other there_at sound.one sound.apart n at_other m_is x link q target.1 qp (noted n at_own.0 x) refl
+            ∙ ap (λ (k : ℕ). noted n k x) (sym (bits ∙ here)))
         | inr ne ↦
-            let off : raised_on desc at_own x ≡ x = ap (λ (b : Bool). cond (b && brings x.mask.0 at_own.0) (fresh x) x) (sym on_own ∙ differs t d ne) in
+            let off : raised_on desc at_own n x ≡ x = ap (λ (b : Bool). cond b (noted n at_own.0 x) x) (sym on_own ∙ differs t d ne) in
             let not_same : q ≢ p = λ e. ne (sound.apart t d p (target.1 ∙ ap (λ (z : Place). Some z) e) place.1) in
-            ap (raised_there other at_other) off
-            ∙ (elsewhere v.keys v.files p raised other there_at sound.one sound.apart at_other m_is x link q target.1 not_same
-            ∙ ap (λ (n : ℕ). fresh_if (brings x.mask.0 n) x) (sym bits))
+            ap (raised_there other at_other n) off
+            ∙ (elsewhere v.keys v.files p raised other there_at sound.one sound.apart n at_other m_is x link q target.1 not_same
+            ∙ ap (λ (k : ℕ). noted n k x) (sym bits))
       ]
 
 -- At timers, one after another.
-abbrev arrive_each : (DescId → Mask) → List DescId → Entry → Entry
-arrive_each f [] x = x
-arrive_each f (id ∷ ids) x = arrive_each f ids (raised_on id (f id) x)
+abbrev arrive_each : (DescId → Mask) → ℕ → List DescId → Entry → Entry
+arrive_each f n [] x = x
+arrive_each f n (id ∷ ids) x = arrive_each f n ids (raised_on id (f id) n x)
 
-each_map : (f : DescId → Mask) (ids : List DescId) (xs : List Entry) → raised_each f ids xs ≡ map (arrive_each f ids) xs
-each_map f [] xs = sym (map_same xs) where
+each_map : (f : DescId → Mask) (n : ℕ) (ids : List DescId) (xs : List Entry) → raised_each f n ids xs ≡ map (arrive_each f n ids) xs
+each_map f n [] xs = sym (map_same xs) where
   map_same : (ys : List Entry) → map (λ y. y) ys ≡ ys
   map_same [] = refl
   map_same (y ∷ ys) = ap (λ (zs : List Entry). y ∷ zs) (map_same ys)
-each_map f (id ∷ ids) xs = each_map f ids (map (raised_on id (f id)) xs) ∙ map_twice (raised_on id (f id)) (arrive_each f ids) xs
+each_map f n (id ∷ ids) xs = each_map f n ids (map (raised_on id (f id) n) xs) ∙ map_twice (raised_on id (f id) n) (arrive_each f n ids) xs
 
 abbrev among_ids : List DescId → ℕ → Bool
 among_ids ids k = list_any (λ id. k == id.0) ids
 
-fresh_twice : (a b c : Bool) (x : Entry) → fresh_if (b && c) (fresh_if (a && c) x) ≡ fresh_if ((a || b) && c) x
-fresh_twice true true true x = refl
-fresh_twice true true false x = refl
-fresh_twice true false true x = refl
-fresh_twice true false false x = refl
-fresh_twice false b c x = refl
+-- noted twice is noted once
+noted_again : (n k : ℕ) (x : Entry) → noted n k (noted n k x) ≡ noted n k x
+noted_again n k x = λ i. record x { seen = seen_again (brings x.mask.0 k) x.seen i; from = from_again (x.armed && nat_lt 0 (asked x.mask.0 k)) x.from i } where
+  seen_again : (b : Bool) (o : Option Counts) → (if b then None else if b then None else o) ≡ (if b then None else o)
+  seen_again true o = refl
+  seen_again false o = refl
 
-and_same : (b m n : Bool) → (b ≡ true → m ≡ n) → (b && m) ≡ (b && n)
-and_same true m n h = h refl
-and_same false m n h = refl
+  from_again : (b : Bool) (m : ℕ) → (if b then n else if b then n else m) ≡ (if b then n else m)
+  from_again true m = refl
+  from_again false m = refl
 
-arrive_is : (f : DescId → Mask) (ids : List DescId) (x : Entry) → arrive_each f ids x ≡ fresh_if (among_ids ids x.desc.0 && brings x.mask.0 (f x.desc).0) x
-arrive_is f [] x = refl
-arrive_is f (id ∷ ids) x =
+noted_either : (a b : Bool) (n k : ℕ) (x : Entry) → cond b (noted n k (cond a (noted n k x) x)) (cond a (noted n k x) x) ≡ cond (a || b) (noted n k x) x
+noted_either true true n k x = noted_again n k x
+noted_either true false n k x = refl
+noted_either false b n k x = refl
+
+same_desc : (a : Bool) (n k : ℕ) (x : Entry) → (cond a (noted n k x) x).desc ≡ x.desc
+same_desc true n k x = refl
+same_desc false n k x = refl
+
+on_same : (n : ℕ) (x : Entry) (b : Bool) (m k : ℕ) → (b ≡ true → m ≡ k) → cond b (noted n m x) x ≡ cond b (noted n k x) x
+on_same n x true m k h = ap (λ (j : ℕ). noted n j x) (h refl)
+on_same n x false m k h = refl
+
+arrive_is : (f : DescId → Mask) (n : ℕ) (ids : List DescId) (x : Entry) → arrive_each f n ids x ≡ cond (among_ids ids x.desc.0) (noted n (f x.desc).0 x) x
+arrive_is f n [] x = refl
+arrive_is f n (id ∷ ids) x =
     let a = x.desc.0 == id.0 in
-    let c = brings x.mask.0 (f x.desc).0 in
-    let same : (a && brings x.mask.0 (f id).0) ≡ (a && c) =
-    and_same a (brings x.mask.0 (f id).0) c (λ on. let e = from_test x.desc.0 id.0 on in λ i. brings x.mask.0 (f (record { 0 = sym e i })).0) in
-    let y = fresh_if (a && c) x in
-    let k = keeps_fresh (a && c) x in
-    ap (arrive_each f ids) (ap (λ (b : Bool). fresh_if b x) same)
-    ∙ (arrive_is f ids y
-    ∙ ((λ i. fresh_if (among_ids ids (k.0 i).0 && brings (k.1 i).0 (f (k.0 i)).0) y) ∙ fresh_twice a (among_ids ids x.desc.0) c x))
+    let k = (f x.desc).0 in
+    let y = cond a (noted n k x) x in
+    let one : raised_on id (f id) n x ≡ y = on_same n x a (f id).0 k (λ on. let e = from_test x.desc.0 id.0 on in λ i. (f (record { 0 = sym e i })).0) in
+    let d = same_desc a n k x in
+    ap (arrive_each f n ids) one
+    ∙ (arrive_is f n ids y
+    ∙ ((λ i. cond (among_ids ids (d i).0) (noted n (f (d i)).0 y) y) ∙ noted_either a (among_ids ids x.desc.0) n k x))
 
 next_key : (j i : ℕ) → j + 1 + i ≡ j + suc i
 next_key j i = omega arith
@@ -173,39 +183,56 @@ in_live j zero (Some m ∷ keys) n h = ap (λ (b : Bool). b || among_ids (live_f
 in_live j (suc i) (Some m ∷ keys) n h =
     or_right (j + suc i == j) (among_ids (live_from (j + 1) keys) (j + suc i)) (ap (among_ids (live_from (j + 1) keys)) (sym (next_key j i)) ∙ in_live (j + 1) i keys n h)
 
-module _ (v : Seen) (since now : ℕ) (sound : Sound v) where
-  clock_each : (x : Entry) → IsLinked v.keys x → arrive_each (due_bits v since now) (live_ids v.keys) x ≡ fresh_if (brings x.mask.0 (clock_bits v.files since now (place_of v.files (number_at v.keys x.desc)))) x
+module _ (v : Seen) (since now n : ℕ) (sound : Sound v) where
+  clock_each : (x : Entry) → IsLinked v.keys x → arrive_each (due_bits v since now) n (live_ids v.keys) x ≡ noted n (clock_bits v.files since now (place_of v.files (number_at v.keys x.desc))) x
   clock_each x link =
       let u = under_key v.keys x.desc link.desc in
       let t_is : number_at v.keys x.desc ≡ u.number = ap (λ (o : Option ℕ). unwrap_or o 0) u.is in
       let q = a_place (place_of v.files u.number) (sound.place x.desc u.number u.is) in
       let there : place_of v.files (number_at v.keys x.desc) ≡ Some q.0 = ap (place_of v.files) t_is ∙ q.1 in
       let among : among_ids (live_ids v.keys) x.desc.0 ≡ true = ap (among_ids (live_ids v.keys)) (zero_plus x.desc.0) ∙ in_live 0 x.desc.0 v.keys u.number u.is in
-      arrive_is (due_bits v since now) (live_ids v.keys) x
-      ∙ (ap (λ (b : Bool). fresh_if (b && brings x.mask.0 (due_bits v since now x.desc).0) x) among
-      ∙ (λ i. fresh_if (brings x.mask.0 (clock_at (there i))) x)
-      ∙ ap (λ (o : Option Place). fresh_if (brings x.mask.0 (clock_bits v.files since now o)) x) (sym there)) where
+      arrive_is (due_bits v since now) n (live_ids v.keys) x
+      ∙ (ap (λ (b : Bool). cond b (noted n (due_bits v since now x.desc).0 x) x) among
+      ∙ (λ i. noted n (clock_at (there i)) x)
+      ∙ ap (λ (o : Option Place). noted n (clock_bits v.files since now o) x) (sym there)) where
         zero_plus : (k : ℕ) → k ≡ 0 + k
         zero_plus k = omega arith
 
         clock_at : Option Place → ℕ
         clock_at o = advance (unwrap_or (object_at v.files o) plain) since now
 
-pub stirs_watches : (raising : Raising) (v : Seen) (now : ℕ) (old new : Registrations) → Stirs raising v now old new → Sound v → IsRaising raising v → AreLinked v old → Freshens v (raised_bits raising v now) old.entries new.entries
-stirs_watches Nowhere v now old new h sound is linked =
-    subst (λ (xs : List Entry). Freshens v (λ d. 0) old.entries xs) (map_itself old.entries ∙ ap (λ (r : Registrations). r.entries) (sym h))
-    (freshens v (λ d. 0) (λ x. x) (λ x link. ap (λ (b : Bool). fresh_if b x) (sym (zero_brings x.mask.0))) old.entries linked) where
+-- at an instance
+instance_each : (v : Seen) (desc : DescId) (n : ℕ) → Sound v → IsSome (number_under v desc) → (x : Entry) → IsLinked v.keys x → raised_on desc (bits_of IN) n x ≡ noted n (when (number_of v desc == number_at v.keys x.desc) IN) x
+instance_each v desc n sound lives x link =
+    let on : (number_at v.keys x.desc == number_of v desc) ≡ is_on desc x = same_keys v x.desc desc sound link.desc lives in
+    let turned : is_on desc x ≡ (number_of v desc == number_at v.keys x.desc) = sym on ∙ turn (number_at v.keys x.desc) (number_of v desc) in
+    ap (λ (b : Bool). cond b (noted n IN x) x) turned ∙ by_test (number_of v desc == number_at v.keys x.desc) where
+      turn : (a b : ℕ) → (a == b) ≡ (b == a)
+      turn a b = grind (arith, nat_tests)
+
+      by_test : (b : Bool) → cond b (noted n IN x) x ≡ noted n (when b IN) x
+      by_test true = refl
+      by_test false = sym (zero_noted n x)
+
+pub stirs_watches : (raising : Raising) (v : Seen) (now n : ℕ) (old new : Registrations) → Stirs raising v now n old new → Sound v → IsRaising raising v → AreLinked v old → Freshens v n (raised_bits raising v now) old.entries new.entries
+stirs_watches Nowhere v now n old new h sound is linked =
+    subst (λ (xs : List Entry). Freshens v n (λ d. 0) old.entries xs) (map_itself old.entries ∙ ap (λ (r : Registrations). r.entries) (sym h))
+    (freshens v n (λ d. 0) (λ x. x) (λ x link. sym (zero_noted n x)) old.entries linked) where
       map_itself : (ys : List Entry) → map (λ y. y) ys ≡ ys
       map_itself [] = refl
       map_itself (y ∷ ys) = ap (λ (zs : List Entry). y ∷ zs) (map_itself ys)
-stirs_watches (Object desc raised) v now old new h sound is linked =
-    subst (λ (xs : List Entry). Freshens v (raised_bits (Object desc raised) v now) old.entries xs) (sym (map_twice _ _ old.entries) ∙ sym h.entries)
-    (freshens v (raised_bits (Object desc raised) v now) _ (λ x link. object_each v desc raised sound is h.other h.is_at x link) old.entries linked)
-stirs_watches (Clock since) v now old new h sound is linked =
-    subst (λ (xs : List Entry). Freshens v (raised_bits (Clock since) v now) old.entries xs) (sym (each_map (due_bits v since now) (live_ids v.keys) old.entries) ∙ sym h.0)
-    (freshens v (raised_bits (Clock since) v now) (arrive_each (due_bits v since now) (live_ids v.keys)) (λ x link. clock_each v since now sound x link) old.entries linked)
+stirs_watches (Object desc raised) v now n old new h sound is linked =
+    subst (λ (xs : List Entry). Freshens v n (raised_bits (Object desc raised) v now) old.entries xs) (sym (map_twice _ _ old.entries) ∙ sym h.entries)
+    (freshens v n (raised_bits (Object desc raised) v now) _ (λ x link. object_each v desc raised n sound is h.other h.is_at x link) old.entries linked)
+stirs_watches (Instance desc) v now n old new h sound is linked =
+    subst (λ (xs : List Entry). Freshens v n (raised_bits (Instance desc) v now) old.entries xs) (sym h.0)
+    (freshens v n (raised_bits (Instance desc) v now) (raised_on desc (bits_of IN) n) (λ x link. instance_each v desc n sound is x link) old.entries linked)
+stirs_watches (Clock since) v now n old new h sound is linked =
+    subst (λ (xs : List Entry). Freshens v n (raised_bits (Clock since) v now) old.entries xs) (sym (each_map (due_bits v since now) n (live_ids v.keys) old.entries) ∙ sym h.0)
+    (freshens v n (raised_bits (Clock since) v now) (arrive_each (due_bits v since now) n (live_ids v.keys)) (λ x link. clock_each v since now n sound x link) old.entries linked)
 
-pub stirs_added : (raising : Raising) (v : Seen) (now : ℕ) (old new : Registrations) → Stirs raising v now old new → new.added ≡ old.added
-stirs_added Nowhere v now old new h = ap (λ (r : Registrations). r.added) h
-stirs_added (Object desc raised) v now old new h = h.added
-stirs_added (Clock since) v now old new h = h.1
+pub stirs_added : (raising : Raising) (v : Seen) (now n : ℕ) (old new : Registrations) → Stirs raising v now n old new → new.added ≡ old.added
+stirs_added Nowhere v now n old new h = ap (λ (r : Registrations). r.added) h
+stirs_added (Object desc raised) v now n old new h = h.added
+stirs_added (Instance desc) v now n old new h = h.1
+stirs_added (Clock since) v now n old new h = h.1

@@ -57,5 +57,5 @@ module _ (limits : Limits) (n caller k : ℕ) (answer : Answer) (raising : Raisi
   by_cases (Some e) s stands t h = λ d. ap (λ (r : Raising). raised_bits r new.tables new.now d) (sym h)
 
   pub tick_raises : Ticks old.now k new.now answer → Sets old.now k raising → RaisesEvent limits n caller (Tick k) [] raising old new.tables new.now
-  tick_raises t h = λ s at sound quiet stands.
+  tick_raises t h = λ s at sound quiet legal stands.
       subst (λ (m : ℕ). Told m new k raising s) (sym stands.now) (by_cases (first ((nat_lt last_moment (old.now + k), Einval) ∷ [])) s stands t h)

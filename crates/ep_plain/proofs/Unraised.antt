@@ -1,35 +1,31 @@
 -- Calls that raise nothing at what can be watched.
-use Rattle.std.proofs.Common.{◌≡◌, ◌==◌, ◌||◌, ◌∙◌, ℕ, ℤ, zero, suc, pos, negsuc, Bool, true, false, List, [], ◌∷◌, None, Option, Some, ap, arith, bit_or, cond, inl, inr, not, refl, subst, sym, unwrap_or}
+use Rattle.std.proofs.Common.{◌≡◌, ◌∙◌, ℕ, ℤ, zero, suc, pos, negsuc, Bool, true, false, List, [], ◌∷◌, None, Option, Some, ap, cond, refl, subst, sym, unwrap_or}
 use Rattle.std.specs.Prelude.{MatchOption}
-use Rattle.std.proofs.lemmas.Bool.{cases_Bool, false≢true}
-use Rattle.std.proofs.lemmas.Bool.Decides.{nat_tests}
 use Rattle.std.proofs.lemmas.Option.{none-some}
 use Rattle.ep_base.specs.Limits.{Limits}
 use Rattle.ep_base.specs.declared.call.Call.{Call}
 use Rattle.ep_base.specs.declared.call.Call.TheVariants.{Close, Dup, Dup2, EpollCreate, EpollCtl, EpollWait, EventFd, Exec, Exit, Fork, GetTime, Pipe as PipeCall, Plain, Read, SetTime, Shutdown, SocketPair, TimerFd, Write}
 use Rattle.ep_base.specs.declared.errno.Errno.{Errno}
-use Rattle.ep_machine.specs.Bits.{IN, when}
 use Rattle.ep_machine.specs.Effect.{first}
-use Rattle.ep_machine.specs.Files.{Files, named_by, object_of, object_under}
-use Rattle.ep_machine.specs.Objects.{Object, counter, instance, is_instance, pair, pipe, plain, timer}
+use Rattle.ep_machine.specs.Files.{named_by, object_of}
 use Rattle.ep_machine.specs.Quiet.{can_be_watched}
 use Rattle.ep_machine.specs.Readiness.{is_ready}
-use Rattle.ep_machine.specs.Refusal.{call_refusals, ctl_refusals}
+use Rattle.ep_machine.specs.Refusal.{call_refusals}
 use Rattle.ep_machine.specs.Report.{is_pick, plainly, report}
 use Rattle.ep_machine.specs.Spread.{raised_of}
 use Rattle.ep_machine.specs.State.{Change, State}
 use Rattle.ep_machine.specs.Step.{call_change}
 use Rattle.ep_machine.specs.Waits.{wait_for}
-use Rattle.ep_machine.specs.Watches.{add, ctl, delete, is_add, is_del, modify, number_in}
-use Rattle.ep_machine.proofs.Quietness.{none_holds}
+use Rattle.ep_machine.specs.Watches.{number_in}
 use Rattle.ep_plain.specs.Moves.{Parts, RaisesCall}
 use Rattle.ep_plain.specs.Raising.{AsRaised, AsRaisedIn, raised_bits}
 use Rattle.ep_plain.specs.declared.raising.Raising.{Raising}
 use Rattle.ep_plain.specs.declared.raising.Raising.TheVariants.{Nowhere}
 use Rattle.ep_table.specs.Value.{Seen}
 
--- any call but one on the object that a descriptor names
+-- any call but one on the object that a descriptor names, and epoll_ctl
 abbrev pub IsOffObject : Call → Type 0
+IsOffObject (EpollCtl epfd op fd mask tag) = ⊥
 IsOffObject (Read fd n) = ⊥
 IsOffObject (Write fd bytes) = ⊥
 IsOffObject (Shutdown fd) = ⊥
@@ -60,43 +56,6 @@ if_unraising : (b : Bool) (x y : Option Change) → Unraising x → Unraising y 
 if_unraising true x y h i = h
 if_unraising false x y h i = i
 
--- ADD and MOD raise at an instance alone, which nothing watches
-instance_unwatched : (o : Option Object) → is_instance (unwrap_or o plain) ≡ true → can_be_watched o ≡ false
-instance_unwatched None h = refl
-instance_unwatched (Some plain) h = cc
-instance_unwatched (Some (pipe p)) h = cc
-instance_unwatched (Some (pair p)) h = cc
-instance_unwatched (Some (counter c)) h = cc
-instance_unwatched (Some (timer t)) h = cc
-instance_unwatched (Some instance) h = refl
-
-from_test : (a b : ℕ) → (a == b) ≡ true → a ≡ b
-from_test a b h = grind (arith, nat_tests, h)
-
-at_instance : (f : Files) (e d : ℕ) (b : Bool) → is_instance (unwrap_or (object_of f e) plain) ≡ true → can_be_watched (object_of f d) ≡ true → raised_of ((e, when b IN) ∷ []) d ≡ 0
-at_instance f e d b is watched = elim (cases_Bool (e == d)) [
-  | inl same ↦ absurd (false≢true (sym (instance_unwatched (object_of f e) is) ∙ (ap (λ (k : ℕ). can_be_watched (object_of f k)) (from_test e d same) ∙ watched)))
-  | inr other ↦ ap (λ (c : Bool). bit_or (when c (when b IN)) 0) other
-]
-
-first_false : (a b : Bool) → (not a || b) ≡ false → a ≡ true
-first_false true b h = refl
-first_false false b h = cc
-
-three : (a b : Bool) (x y z : Change) → RaisesNothing x → RaisesNothing y → RaisesNothing z → RaisesNothing (cond a x (cond b y z))
-three true b x y z h i j = h
-three false true x y z h i j = i
-three false false x y z h i j = j
-
-ctl_unraising : (limits : Limits) (s : State) (p : ℕ) (epfd op fd : ℤ) (mask tag : ℕ) → first (ctl_refusals limits s p epfd op fd mask) ≡ None → RaisesNothing (ctl s p epfd op fd mask tag)
-ctl_unraising limits s p epfd op fd mask tag allowed =
-    let e = named_by s.files p epfd in
-    let t = named_by s.files p fd in
-    let k = number_in fd in
-    let tests = none_holds (ctl_refusals limits s p epfd op fd mask) allowed in
-    let is : is_instance (unwrap_or (object_of s.files e) plain) ≡ true = first_false (is_instance (object_under s.files p epfd)) (e == t) tests.1.1.1.0 in
-    three (is_add op) (is_del op) (add s e k t mask tag) (delete s e k t) (modify s e k t mask tag) (λ d w. at_instance s.files e d _ is w) (λ d w. refl) (λ d w. at_instance s.files e d _ is w)
-
 wait_raises : (s : State) (caller p e most : ℕ) (timeout : ℤ) → RaisesNothing (wait_for s caller p e most timeout)
 wait_raises s caller p e most (pos zero) = λ d w. refl
 wait_raises s caller p e most (pos (suc k)) = λ d w. refl
@@ -109,7 +68,6 @@ call_unraising limits s caller p (TimerFd clock cloexec) ks t h = plain_unraisin
 call_unraising limits s caller p (SocketPair cloexec) ks t h = plain_unraising ks _ (λ d w. refl)
 call_unraising limits s caller p (Plain cloexec) ks t h = plain_unraising ks _ (λ d w. refl)
 call_unraising limits s caller p (EpollCreate cloexec) ks t h = plain_unraising ks _ (λ d w. refl)
-call_unraising limits s caller p (EpollCtl epfd op fd mask tag) ks t h = plain_unraising ks _ (ctl_unraising limits s p epfd.0 op fd.0 mask.0 tag h)
 call_unraising limits s caller p (EpollWait epfd most timeout) ks t h =
     let e = named_by s.files p epfd.0 in
     if_unraising (is_ready s e) (report s e (number_in most) ks) (plainly ks (wait_for s caller p e (number_in most) timeout))
@@ -121,6 +79,7 @@ call_unraising limits s caller p (Close fd) ks t h = plain_unraising ks _ (λ d 
 call_unraising limits s caller p Fork ks t h = plain_unraising ks _ (λ d w. refl)
 call_unraising limits s caller p Exec ks t h = plain_unraising ks _ (λ d w. refl)
 call_unraising limits s caller p Exit ks t h = plain_unraising ks _ (λ d w. refl)
+call_unraising limits s caller p (EpollCtl epfd op fd mask tag) ks t h = absurd t
 call_unraising limits s caller p (Read fd n) ks t h = absurd t
 call_unraising limits s caller p (Write fd bytes) ks t h = absurd t
 call_unraising limits s caller p (Shutdown fd) ks t h = absurd t
@@ -131,7 +90,7 @@ nowhere_bits : (raising : Raising) (v : Seen) (now d : ℕ) → raising ≡ Nowh
 nowhere_bits raising v now d h = ap (λ (r : Raising). raised_bits r v now d) h
 
 pub nowhere_raises : (limits : Limits) (n caller p : ℕ) (call : Call) (picked : List ℕ) (raising : Raising) (old : Parts) (tables : Seen) (now : ℕ) → raising ≡ Nowhere → IsOffObject call → RaisesCall limits n caller p call picked raising old tables now
-nowhere_raises limits n caller p call picked raising old tables now h t = λ s at sound quiet stands. by_cases s (first (call_refusals limits s p call)) refl where
+nowhere_raises limits n caller p call picked raising old tables now h t = λ s at sound quiet legal stands. by_cases s (first (call_refusals limits s p call)) refl where
   by_cases : (s : State) (o : Option Errno) → first (call_refusals limits s p call) ≡ o
       → MatchOption o ((made : Change) → call_change limits s caller p call picked ≡ Some made → AsRaisedIn made.1.files raising tables now made.2) (λ e. AsRaised raising tables now [])
   by_cases s None e = λ made is d watched. call_unraising limits s caller p call picked t e made is d watched ∙ sym (nowhere_bits raising tables now d h)

@@ -1,13 +1,13 @@
 -- What is collected for a wait.
-use Rattle.std.proofs.Common.{◌≡◌, ◌==◌, ◌++◌, ℕ, Bool, false, true, List, [], ◌∷◌, Some, All, append_assoc, cond, filter, map, nat_lt, ap, sym, ◌∙◌, arith, subst}
-use Rattle.std.proofs.lemmas.Bool.Decides.{nat_tests}
+use Rattle.std.proofs.Common.{◌≡◌, ◌++◌, ℕ, Bool, false, true, List, [], ◌∷◌, Some, All, append_assoc, cond, filter, map, ap, sym, ◌∙◌, subst}
 use Rattle.std.proofs.lemmas.List.{map-append}
 use Rattle.std.proofs.lemmas.List.Elements.{All-append, All-cons, All-head, All-nil, All-tail}
 use Rattle.ep_base.specs.declared.ids.EntryId.{EntryId}
 use Rattle.ep_interest.specs.Registrations.{Registrations, number_under as number_of_entry}
 use Rattle.ep_interest.specs.declared.entry.Entry.{Entry}
+use Rattle.ep_plain.specs.Readiness.{entry_bits, entry_shows, readiness}
 use Rattle.ep_plain.specs.Stands.{IsLinked}
-use Rattle.ep_plain.specs.Wait.{AreKeyed, IsKeyed, entry_bits, entry_shows}
+use Rattle.ep_plain.specs.Wait.{AreKeyed, IsKeyed}
 use Rattle.ep_plain.specs.declared.wait.Reportable.{Reportable}
 use Rattle.ep_table.specs.Value.{Seen}
 
@@ -20,16 +20,16 @@ entries_in xs = map (λ x. x.entry) xs
 
 -- what a collection has gone through, and what it still has to
 pub record Collects (tables : Seen) (now : ℕ) (interest : Registrations) (found : List Reportable) (rest : List (EntryId × Entry)) (all : List Entry) : Type 0 where
-  pub told : entries_in found ++ filter (entry_shows tables now) (entries_of rest) ≡ all
+  pub told : entries_in found ++ filter (entry_shows (readiness tables now interest) tables now) (entries_of rest) ≡ all
   pub keyed : AreKeyed tables now interest found
   pub rest_keyed : All (λ p. number_of_entry interest p.0 ≡ Some p.1.number) rest
   pub rest_linked : All (IsLinked tables.keys) (entries_of rest)
 
 module _ (tables : Seen) (now : ℕ) (interest : Registrations) where
   pub begins : (rest : List (EntryId × Entry)) (of : List Entry) → entries_of rest ≡ of → All (λ p. number_of_entry interest p.0 ≡ Some p.1.number) rest → All (IsLinked tables.keys) of
-      → Collects tables now interest [] rest (filter (entry_shows tables now) of)
+      → Collects tables now interest [] rest (filter (entry_shows (readiness tables now interest) tables now) of)
   begins rest of is keyed linked = record {
-    told = ap (λ (xs : List Entry). filter (entry_shows tables now) xs) is;
+    told = ap (λ (xs : List Entry). filter (entry_shows (readiness tables now interest) tables now) xs) is;
     keyed = All-nil (IsKeyed tables now interest);
     rest_keyed = keyed;
     rest_linked = subst (λ (xs : List Entry). All (IsLinked tables.keys) xs) (sym is) linked;
@@ -42,33 +42,26 @@ module _ (tables : Seen) (now : ℕ) (interest : Registrations) where
     key : number_of_entry interest id ≡ Some x.number
     key = All-head (λ (p : EntryId × Entry). number_of_entry interest p.0 ≡ Some p.1.number) (id, x) rest c.rest_keyed
 
-    pub collects_more : (r : Reportable) → r.id ≡ id → r.entry ≡ x → r.bits.0 ≡ entry_bits tables now x → entry_shows tables now x ≡ true → Collects tables now interest (found ++ r ∷ []) rest all
+    pub collects_more : (r : Reportable) → r.id ≡ id → r.entry ≡ x → r.bits.0 ≡ entry_bits (readiness tables now interest) tables now x → entry_shows (readiness tables now interest) tables now x ≡ true → Collects tables now interest (found ++ r ∷ []) rest all
     collects_more r same_id same bits shows = record {
       told =
-          ap (λ (xs : List Entry). xs ++ filter (entry_shows tables now) (entries_of rest)) (map-append (λ (y : Reportable). y.entry) found (r ∷ []))
-          ∙ (append_assoc (entries_in found) (r.entry ∷ []) (filter (entry_shows tables now) (entries_of rest))
-          ∙ (ap (λ (y : Entry). entries_in found ++ y ∷ filter (entry_shows tables now) (entries_of rest)) same
-          ∙ (ap (λ (b : Bool). entries_in found ++ cond b (x ∷ filter (entry_shows tables now) (entries_of rest)) (filter (entry_shows tables now) (entries_of rest))) (sym shows) ∙ c.told)));
+          ap (λ (xs : List Entry). xs ++ filter (entry_shows (readiness tables now interest) tables now) (entries_of rest)) (map-append (λ (y : Reportable). y.entry) found (r ∷ []))
+          ∙ (append_assoc (entries_in found) (r.entry ∷ []) (filter (entry_shows (readiness tables now interest) tables now) (entries_of rest))
+          ∙ (ap (λ (y : Entry). entries_in found ++ y ∷ filter (entry_shows (readiness tables now interest) tables now) (entries_of rest)) same
+          ∙ (ap (λ (b : Bool). entries_in found ++ cond b (x ∷ filter (entry_shows (readiness tables now interest) tables now) (entries_of rest)) (filter (entry_shows (readiness tables now interest) tables now) (entries_of rest))) (sym shows) ∙ c.told)));
       keyed =
           let one : IsKeyed tables now interest r = record {
             key = ap (λ (i : EntryId). number_of_entry interest i) same_id ∙ (key ∙ ap (λ (y : Entry). Some y.number) (sym same));
-            bits = bits ∙ ap (entry_bits tables now) (sym same);
+            bits = bits ∙ ap (entry_bits (readiness tables now interest) tables now) (sym same);
           } in All-append (IsKeyed tables now interest) found (r ∷ []) c.keyed (All-cons (IsKeyed tables now interest) r [] one (All-nil (IsKeyed tables now interest)));
       rest_keyed = All-tail (λ (p : EntryId × Entry). number_of_entry interest p.0 ≡ Some p.1.number) (id, x) rest c.rest_keyed;
       rest_linked = All-tail (IsLinked tables.keys) x (entries_of rest) c.rest_linked;
     }
 
-    pub collects_same : entry_shows tables now x ≡ false → Collects tables now interest found rest all
+    pub collects_same : entry_shows (readiness tables now interest) tables now x ≡ false → Collects tables now interest found rest all
     collects_same hides = record {
-      told = ap (λ (b : Bool). entries_in found ++ cond b (x ∷ filter (entry_shows tables now) (entries_of rest)) (filter (entry_shows tables now) (entries_of rest))) (sym hides) ∙ c.told;
+      told = ap (λ (b : Bool). entries_in found ++ cond b (x ∷ filter (entry_shows (readiness tables now interest) tables now) (entries_of rest)) (filter (entry_shows (readiness tables now interest) tables now) (entries_of rest))) (sym hides) ∙ c.told;
       keyed = c.keyed;
       rest_keyed = All-tail (λ (p : EntryId × Entry). number_of_entry interest p.0 ≡ Some p.1.number) (id, x) rest c.rest_keyed;
       rest_linked = All-tail (IsLinked tables.keys) x (entries_of rest) c.rest_linked;
     }
-
--- a mask without bits shows nothing
-pub shows_some : (b : Bool) (bits : ℕ) → b ≡ (bits == 0) → b ≡ false → nat_lt 0 bits ≡ true
-shows_some b bits is h = let e : (bits == 0) ≡ false = sym is ∙ h in grind (arith, nat_tests, e)
-
-pub shows_none : (b : Bool) (bits : ℕ) → b ≡ (bits == 0) → b ≡ true → nat_lt 0 bits ≡ false
-shows_none b bits is h = let e : (bits == 0) ≡ true = sym is ∙ h in grind (arith, nat_tests, e)

@@ -4,10 +4,10 @@ use Rattle.std.specs.Prelude.{◌≡◌, Bool, List, Some, [], filter, length, m
 use Rattle.ep_machine.specs.Deaths.{die_all}
 use Rattle.ep_machine.specs.Files.{Place, place_of}
 use Rattle.ep_machine.specs.Lists.{is_among}
-use Rattle.ep_machine.specs.Quiet.{freshened}
+use Rattle.ep_machine.specs.Kept.{freshened}
 use Rattle.ep_machine.specs.State.{Watch}
 use Rattle.ep_interest.specs.Registrations.{Registrations}
-use Rattle.ep_plain.specs.Stands.{AreLinked, watch_at}
+use Rattle.ep_plain.specs.Stands.{AreLinked, KeepsKeys, watch_at}
 use Rattle.ep_table.specs.Value.{Seen, Sound}
 
 -- neither its instance nor its target is among these
@@ -15,7 +15,7 @@ abbrev pub is_untouched : List ℕ → Watch → Bool
 is_untouched ks x = not (is_among ks x.instance) && not (is_among ks x.target)
 
 -- these died, the first of those that nothing names, with their registrations, and what that raised is noted
-pub record Buries (old_tables : Seen) (old_interest : Registrations) (tables : Seen) (interest : Registrations) : Type 0 where
+pub record Buries (n : ℕ) (old_tables : Seen) (old_interest : Registrations) (tables : Seen) (interest : Registrations) : Type 0 where
   pub dead : List (ℕ × Place)
   pub numbers : map (λ x. x.0) dead ++ tables.dying ≡ old_tables.dying
   pub placed : AllByRecursion (λ x. place_of old_tables.files x.0 ≡ Some x.1) dead
@@ -24,12 +24,13 @@ pub record Buries (old_tables : Seen) (old_interest : Registrations) (tables : S
   pub objects : length tables.files.objects ≡ length old_tables.files.objects
   pub limits : tables.limits ≡ old_tables.limits
   pub holds : tables.holds ≡ old_tables.holds
-  pub watches : map (watch_at tables.keys) interest.entries ≡ map (freshened (die_all (old_tables.files, []) dead).1) (filter (is_untouched (map (λ x. x.0) dead)) (map (watch_at old_tables.keys) old_interest.entries))
+  pub keys : KeepsKeys tables old_tables  -- what is left has kept its key
+  pub watches : map (watch_at tables.keys) interest.entries ≡ map (freshened n (die_all (old_tables.files, []) dead).1) (filter (is_untouched (map (λ x. x.0) dead)) (map (watch_at old_tables.keys) old_interest.entries))
   pub linked : AreLinked tables interest
   pub added : interest.added ≡ old_interest.added
 
 -- all of them
-pub record Burial (old_tables : Seen) (old_interest : Registrations) (tables : Seen) (interest : Registrations) : Type 0 where
+pub record Burial (n : ℕ) (old_tables : Seen) (old_interest : Registrations) (tables : Seen) (interest : Registrations) : Type 0 where
   pub sound : Sound old_tables
-  pub buries : Buries old_tables old_interest tables interest
+  pub buries : Buries n old_tables old_interest tables interest
   pub none : tables.dying ≡ []

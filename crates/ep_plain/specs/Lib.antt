@@ -6,7 +6,9 @@ pub mod Control
 pub mod Clock
 pub mod ObjectCall
 pub mod Raising
+pub mod Readiness
 pub mod Wait
 pub mod Reports
 pub mod Standing
 pub mod Burial
+pub mod Climb

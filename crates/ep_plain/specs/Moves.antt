@@ -1,5 +1,5 @@
 -- What an event does to the parts of a kernel.
-use Rattle.std.specs.Prelude.{◌≡◌, ◌+◌, ◌≤◌, Bool, List, MatchOption, Option, Some, [], length, map, ℕ}
+use Rattle.std.specs.Prelude.{true, ◌≡◌, ◌+◌, ◌≤◌, Bool, List, MatchOption, Option, Some, [], length, map, ℕ}
 use Rattle.ep_base.specs.Limits.{Limits}
 use Rattle.ep_base.specs.declared.answer.Answer.{Answer}
 use Rattle.ep_base.specs.declared.answer.Answer.TheVariants.{Refused}
@@ -8,11 +8,13 @@ use Rattle.ep_base.specs.declared.call.Event.{Event}
 use Rattle.ep_base.specs.declared.errno.Errno.{Errno}
 use Rattle.ep_machine.specs.Effect.{first}
 use Rattle.ep_machine.specs.Files.{Files}
-use Rattle.ep_machine.specs.Quiet.{Quiet, freshened, kept_all}
+use Rattle.ep_machine.specs.Kept.{climbed_all, freshened, kept_all}
+use Rattle.ep_machine.specs.Quiet.{Quiet}
 use Rattle.ep_machine.specs.Refusal.{call_refusals, refusals}
 use Rattle.ep_machine.specs.Sound.{Sound}
 use Rattle.ep_machine.specs.State.{Change, State}
 use Rattle.ep_machine.specs.Step.{call_change, change}
+use Rattle.ep_machine.specs.Watches.{is_legal, links}
 use Rattle.ep_interest.specs.Registrations.{Registrations}
 use Rattle.ep_plain.specs.Raising.{Raises}
 use Rattle.ep_plain.specs.declared.raising.Raising.{Raising}
@@ -28,11 +30,18 @@ pub record Parts : Type 0 where
 abbrev pub StandFor : Parts → State → Type 0
 StandFor p s = Stands p.tables p.interest p.now s
 
--- the same once what was raised is noted in the registrations
-pub record StandsRaised (p : Parts) (raised : List (ℕ × ℕ)) (s : State) : Type 0 where
+-- the same once what event n raised is noted in the registrations
+pub record StandsRaised (n : ℕ) (p : Parts) (raised : List (ℕ × ℕ)) (s : State) : Type 0 where
   pub now : s.now ≡ p.now
   pub files : s.files ≡ p.tables.files
-  pub watches : map (freshened raised) (kept_all s s.watches) ≡ map (watch_at p.tables.keys) p.interest.entries
+  pub watches : map (freshened n raised) (kept_all s s.watches) ≡ map (watch_at p.tables.keys) p.interest.entries
+  pub added : s.added ≡ p.interest.added
+
+-- and once the dead are gone, before what was raised climbs through instances
+pub record StandsBuried (n : ℕ) (p : Parts) (s : State) : Type 0 where
+  pub now : s.now ≡ p.now
+  pub files : s.files ≡ p.tables.files
+  pub watches : kept_all s s.watches ≡ climbed_all n p.tables.files (map (watch_at p.tables.keys) p.interest.entries)
   pub added : s.added ≡ p.interest.added
 
 -- the machine makes this change, with this answer, to a state for which the parts stand
@@ -54,7 +63,7 @@ Goes refusals o s answer picked new = MatchOption (first refusals) (Makes o answ
 
 -- from every state of the machine for which the old parts stand, at event n
 abbrev pub MovesBy : ℕ → Parts → (State → Type 0) → Type 0
-MovesBy n old Then = (s : State) → s.n ≡ n → Sound s → Quiet s → StandFor old s → Then s
+MovesBy n old Then = (s : State) → s.n ≡ n → Sound s → Quiet s → is_legal (links s) ≡ true → StandFor old s → Then s
 
 abbrev pub MovesCall : Limits → ℕ → ℕ → ℕ → Call → Answer → List ℕ → Parts → Parts → Type 0
 MovesCall limits n caller p call answer picked old new = MovesBy n old (λ s. Goes (call_refusals limits s p call) (call_change limits s caller p call picked) s answer picked new)

@@ -1,5 +1,5 @@
 -- What an event raises before any description dies, and what that does to registrations.
-use Rattle.std.specs.Prelude.{◌≡◌, ◌≤◌, Bool, IsSome, List, MatchOption, None, Option, Some, [], if◌then◌else◌, map, unwrap_or, true, ℕ, ℤ, ◌==◌, ◌∷◌}
+use Rattle.std.specs.Prelude.{◌≡◌, ◌≤◌, Bool, IsSome, List, MatchOption, None, Option, Some, [], map, unwrap_or, true, ℕ, ℤ, ◌==◌, ◌∷◌}
 use Rattle.ep_base.specs.declared.call.Call.{Call}
 use Rattle.ep_base.specs.declared.errno.Errno.{Errno}
 use Rattle.ep_base.specs.declared.errno.Errno.TheVariants.{Ebadf}
@@ -8,19 +8,18 @@ use Rattle.ep_base.specs.declared.mask.Mask.{Mask}
 use Rattle.ep_base.specs.declared.object.Raised.{Raised}
 use Rattle.ep_interest.specs.Registrations.{Registrations, raised_on}
 use Rattle.ep_interest.specs.declared.entry.Entry.{Entry}
-use Rattle.ep_machine.specs.Bits.{at_end, when}
-use Rattle.ep_machine.specs.Counts.{brings}
+use Rattle.ep_machine.specs.Bits.{IN, at_end, when}
 use Rattle.ep_machine.specs.Effect.{first}
 use Rattle.ep_machine.specs.Files.{Files, Place, named_by, names_nothing, object_at, object_number, object_of, object_under, place_of, side_of, side_under}
 use Rattle.ep_machine.specs.Objects.{advance, object_refusals, plain}
 use Rattle.ep_machine.specs.Quiet.{can_be_watched}
 use Rattle.ep_machine.specs.Spread.{raised_of}
-use Rattle.ep_machine.specs.State.{Change, Watch}
+use Rattle.ep_machine.specs.State.{Change}
 use Rattle.ep_machine.specs.Tables.{affected_raises}
 use Rattle.ep_machine.specs.Timer.{last_moment}
 use Rattle.ep_plain.specs.ObjectCall.{given}
 use Rattle.ep_plain.specs.declared.raising.Raising.{Raising}
-use Rattle.ep_plain.specs.declared.raising.Raising.TheVariants.{Clock, Nowhere, Object}
+use Rattle.ep_plain.specs.declared.raising.Raising.TheVariants.{Clock, Instance, Nowhere, Object}
 use Rattle.ep_table.specs.Closing.{IsAt, across, opposite}
 use Rattle.ep_table.specs.Live.{live_ids}
 use Rattle.ep_table.specs.Value.{Seen, content_of, number_of, number_under}
@@ -29,21 +28,22 @@ use Rattle.ep_table.specs.Value.{Seen, content_of, number_of, number_under}
 abbrev pub IsRaising : Raising → Seen → Type 0
 IsRaising Nowhere v = Unit {0}
 IsRaising (Object desc raised) v = IsSome (number_under v desc)
+IsRaising (Instance desc) v = IsSome (number_under v desc)
 IsRaising (Clock since) v = since ≤ last_moment
 
 -- at a description, where there is one
-abbrev pub raised_there : Option DescId → Mask → Entry → Entry
-raised_there None bits x = x
-raised_there (Some desc) bits x = raised_on desc bits x
+abbrev pub raised_there : Option DescId → Mask → ℕ → Entry → Entry
+raised_there None bits n x = x
+raised_there (Some desc) bits n x = raised_on desc bits n x
 
 abbrev pub bits_of : ℕ → Mask
 bits_of bits = record { 0 = bits }
 
 -- what is raised at a description and at the one across
-pub record RaisesObject (v : Seen) (desc : DescId) (raised : Raised) (old new : Registrations) : Type 0 where
+pub record RaisesObject (v : Seen) (desc : DescId) (raised : Raised) (n : ℕ) (old new : Registrations) : Type 0 where
   pub other : Option DescId
   pub is_at : IsAt v.files v.keys (across (place_of v.files (number_of v desc))) other
-  pub entries : new.entries ≡ map (raised_there other (bits_of (at_end raised (opposite (side_of v.files (number_of v desc)))))) (map (raised_on desc (bits_of (at_end raised (side_of v.files (number_of v desc))))) old.entries)
+  pub entries : new.entries ≡ map (raised_there other (bits_of (at_end raised (opposite (side_of v.files (number_of v desc))))) n) (map (raised_on desc (bits_of (at_end raised (side_of v.files (number_of v desc)))) n) old.entries)
   pub added : new.added ≡ old.added
 
 -- what is raised at a description by the clock going on
@@ -51,14 +51,16 @@ abbrev pub due_bits : Seen → ℕ → ℕ → DescId → Mask
 due_bits v since now desc = bits_of (advance (content_of v.files (number_of v desc)) since now)
 
 -- at each of these in turn
-abbrev pub raised_each : (DescId → Mask) → List DescId → List Entry → List Entry
-raised_each bits [] xs = xs
-raised_each bits (id ∷ ids) xs = raised_each bits ids (map (raised_on id (bits id)) xs)
+abbrev pub raised_each : (DescId → Mask) → ℕ → List DescId → List Entry → List Entry
+raised_each bits n [] xs = xs
+raised_each bits n (id ∷ ids) xs = raised_each bits n ids (map (raised_on id (bits id) n) xs)
 
-abbrev pub Stirs : Raising → Seen → ℕ → Registrations → Registrations → Type 0
-Stirs Nowhere v now old new = new ≡ old
-Stirs (Object desc raised) v now old new = RaisesObject v desc raised old new
-Stirs (Clock since) v now old new = (new.entries ≡ raised_each (due_bits v since now) (live_ids v.keys) old.entries) × (new.added ≡ old.added)
+-- in event n
+abbrev pub Stirs : Raising → Seen → ℕ → ℕ → Registrations → Registrations → Type 0
+Stirs Nowhere v now n old new = new ≡ old
+Stirs (Object desc raised) v now n old new = RaisesObject v desc raised n old new
+Stirs (Instance desc) v now n old new = (new.entries ≡ map (raised_on desc (bits_of IN) n) old.entries) × (new.added ≡ old.added)
+Stirs (Clock since) v now n old new = (new.entries ≡ raised_each (due_bits v since now) n (live_ids v.keys) old.entries) × (new.added ≡ old.added)
 
 -- The bits that are raised at each description.
 abbrev pub object_bits : ℕ → Raised → Option Place → ℕ
@@ -72,11 +74,8 @@ clock_bits files since now (Some p) = advance (unwrap_or (object_at files (Some 
 abbrev pub raised_bits : Raising → Seen → ℕ → ℕ → ℕ
 raised_bits Nowhere v now d = 0
 raised_bits (Object desc raised) v now d = object_bits (object_number (place_of v.files (number_of v desc))) raised (place_of v.files d)
+raised_bits (Instance desc) v now d = when (number_of v desc == d) IN
 raised_bits (Clock since) v now d = clock_bits v.files since now (place_of v.files d)
-
--- a registration after these bits were raised at its target
-abbrev pub freshened_by : (ℕ → ℕ) → Watch → Watch
-freshened_by bits x = if brings x.mask (bits x.target) then record x { seen = None } else x
 
 -- the kernel notes what the machine raises, at each description
 abbrev pub AsRaised : Raising → Seen → ℕ → List (ℕ × ℕ) → Type 0

@@ -6,6 +6,7 @@ use Rattle.ep_machine.specs.Sound.{Sound}
 use Rattle.ep_machine.specs.Timer.{last_moment}
 use Rattle.ep_machine.specs.State.{State, opening}
 use Rattle.ep_plain.specs.Book.{Book}
+use Rattle.ep_plain.specs.Climb.{AreNested}
 use Rattle.ep_plain.specs.Moves.{Unheld}
 use Rattle.ep_plain.specs.Stands.{AreLinked, Stands}
 use Rattle.ep_plain.specs.declared.plain.PlainKernel.TheInside.{Inside}
@@ -23,6 +24,7 @@ pub record IsStanding (k : Inside) : Type 0 where
   pub clock : k.now ≤ last_moment
   pub stands : Stands k.tables k.interest k.now state
   pub linked : AreLinked k.tables k.interest
+  pub nested : AreNested k.tables k.interest k.graph
   pub unheld : Unheld k.tables
   pub limits : k.tables.limits ≡ k.limits
   pub added : k.interest.added ≤ length k.history.items

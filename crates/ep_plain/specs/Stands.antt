@@ -1,7 +1,7 @@
 -- Which states of the machine the parts of a kernel stand for.
 use Rattle.std.specs.Prelude.{Some, ◌≡◌, All, IsSome, List, None, Option, [], map, pos, slice_index_or, unwrap_or, ℕ}
 use Rattle.ep_base.specs.declared.ids.DescId.{DescId}
-use Rattle.ep_machine.specs.Quiet.{kept_all}
+use Rattle.ep_machine.specs.Kept.{kept_all}
 use Rattle.ep_machine.specs.State.{State, Watch}
 use Rattle.ep_machine.specs.Watches.{number_in}
 use Rattle.ep_interest.specs.declared.entry.Entry.{Entry}
@@ -14,7 +14,7 @@ number_at keys key = unwrap_or (slice_index_or keys key.0 None) 0
 
 -- the machine's registration: numbers of descriptions stand in place of their keys
 abbrev pub watch_at : List (Option ℕ) → Entry → Watch
-watch_at keys x = record { number = x.number; instance = number_at keys x.instance; fd = number_in x.fd.0; target = number_at keys x.desc; mask = x.mask.0; tag = x.tag; armed = x.armed; seen = x.seen; rep = x.rep; from = 0 }
+watch_at keys x = record { number = x.number; instance = number_at keys x.instance; fd = number_in x.fd.0; target = number_at keys x.desc; mask = x.mask.0; tag = x.tag; armed = x.armed; seen = x.seen; rep = x.rep; from = x.from }
 
 -- its keys have descriptions, and it stands under a descriptor number
 pub record IsLinked (keys : List (Option ℕ)) (x : Entry) : Type 0 where

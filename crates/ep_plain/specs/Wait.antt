@@ -1,5 +1,5 @@
 -- epoll_wait over the parts of a kernel.
-use Rattle.std.specs.Prelude.{is_none, ◌≡◌, All, Bool, IsSome, List, None, Some, [], filter, if◌then◌else◌, map, nat_lt, not, take, ℕ, ◌&&◌, ◌||◌, ◌∷◌}
+use Rattle.std.specs.Prelude.{◌≡◌, All, Bool, IsSome, List, None, Some, [], filter, if◌then◌else◌, map, not, take, ℕ, ◌&&◌, ◌∷◌}
 use Rattle.std.specs.List.Sorted.{IsNonDecreasingBy, IsPermutation}
 use Rattle.ep_base.specs.declared.answer.Report.{Report}
 use Rattle.ep_base.specs.declared.call.Call.{Call}
@@ -9,15 +9,16 @@ use Rattle.ep_base.specs.declared.errno.Errno.TheVariants.{Ebadf, Einval}
 use Rattle.ep_base.specs.declared.ids.DescId.{DescId}
 use Rattle.ep_interest.specs.Registrations.{Registrations, is_of, number_under as number_of_entry}
 use Rattle.ep_interest.specs.declared.entry.Entry.{Entry}
-use Rattle.ep_machine.specs.Bits.{ET, ONESHOT, asked, has_bit, when}
+use Rattle.ep_machine.specs.Bits.{ONESHOT, has_bit}
 use Rattle.ep_machine.specs.Counts.{no_counts}
 use Rattle.ep_machine.specs.Effect.{first}
-use Rattle.ep_machine.specs.Files.{Files, names_nothing, object_under, side_of, under}
+use Rattle.ep_machine.specs.Files.{Files, names_nothing, object_under, under}
 use Rattle.ep_machine.specs.Lists.{is_among}
-use Rattle.ep_machine.specs.Objects.{is_instance, object_present}
+use Rattle.ep_machine.specs.Objects.{is_instance}
 use Rattle.ep_machine.specs.Refusal.{is_zero}
 use Rattle.ep_machine.specs.Waits.{is_positive}
-use Rattle.ep_table.specs.Value.{Seen, content_of, number_of, number_under}
+use Rattle.ep_table.specs.Value.{Seen, number_under}
+use Rattle.ep_plain.specs.Readiness.{entry_bits, entry_shows, readiness}
 use Rattle.ep_plain.specs.declared.wait.Reportable.{Reportable}
 use Rattle.ep_plain.specs.declared.wait.Wait.{Wait}
 
@@ -38,18 +39,10 @@ pub record Waits (tables : Seen) (p : ℕ) (args : Wait) (desc : DescId) : Type 
   pub named : number_under tables desc ≡ under tables.files p args.epfd.0
   pub lives : IsSome (number_under tables desc)
 
--- the bits that a registration shows
-abbrev pub entry_bits : Seen → ℕ → Entry → ℕ
-entry_bits tables now x = let d = number_of tables x.desc in when x.armed (asked x.mask.0 (object_present (content_of tables.files d) (side_of tables.files d) now))
-
--- an edge-triggered one shows nothing twice
-abbrev pub entry_shows : Seen → ℕ → Entry → Bool
-entry_shows tables now x = nat_lt 0 (entry_bits tables now x) && (not (has_bit x.mask.0 ET) || is_none x.seen)
-
 -- it has the key of its registration and the bits that this shows
 pub record IsKeyed (tables : Seen) (now : ℕ) (interest : Registrations) (x : Reportable) : Type 0 where
   pub key : number_of_entry interest x.id ≡ Some x.entry.number
-  pub bits : x.bits.0 ≡ entry_bits tables now x.entry
+  pub bits : x.bits.0 ≡ entry_bits (readiness tables now interest) tables now x.entry
 
 abbrev pub AreKeyed : Seen → ℕ → Registrations → List Reportable → Type 0
 AreKeyed tables now interest xs = All (IsKeyed tables now interest) xs
@@ -57,7 +50,7 @@ AreKeyed tables now interest xs = All (IsKeyed tables now interest) xs
 -- the longest unreported of those that show something, at most so many
 pub record IsChosen (tables : Seen) (now : ℕ) (interest : Registrations) (instance : DescId) (most : ℕ) (chosen : List Reportable) : Type 0 where
   pub found : List Entry
-  pub moved : IsPermutation (filter (entry_shows tables now) (filter (is_of instance) interest.entries)) found
+  pub moved : IsPermutation (filter (entry_shows (readiness tables now interest) tables now) (filter (is_of instance) interest.entries)) found
   pub sorted : IsNonDecreasingBy (λ x. x.rep) found
   pub taken : map (λ x. x.entry) chosen ≡ take most found
   pub keyed : AreKeyed tables now interest chosen
@@ -70,4 +63,4 @@ report_of x = record { bits = x.bits; tag = x.entry.tag }
 
 -- those that are reported in event n: a one-shot is disarmed
 abbrev pub noted_in : ℕ → List ℕ → Entry → Entry
-noted_in n ks x = if is_among ks x.number then record x { armed = x.armed && not (has_bit x.mask.0 ONESHOT); seen = Some no_counts; rep = n; from = 0 } else x
+noted_in n ks x = if is_among ks x.number then record x { armed = x.armed && not (has_bit x.mask.0 ONESHOT); seen = Some no_counts; rep = n } else x

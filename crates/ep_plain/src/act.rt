@@ -5,7 +5,8 @@ ghost use Rattle.ep_machine.specs.Timer.{last_moment};
 ghost use Rattle.ep_plain.specs.Acts.{is_no_memory};
 ghost use Rattle.ep_plain.specs.Moves.{Grows, Moves, MovesCall, RaisesCall, RaisesEvent, Unheld};
 ghost use Rattle.ep_plain.specs.Raising.{IsRaising};
-ghost use Rattle.ep_plain.specs.Stands.{AreLinked};
+ghost use Rattle.ep_plain.specs.Climb.{AreNested};
+ghost use Rattle.ep_plain.specs.Stands.{AreLinked, KeepsKeys};
 
 use crate::acted::Acted;
 use crate::clock::tick;
@@ -16,6 +17,7 @@ use crate::object_call::object_call;
 use crate::wait::{Wait, epoll_wait};
 use ep_base::{Call, Errno, Event, Limits, Pid};
 use ep_interest::Interest;
+use ep_nest::Graph;
 use ep_object::Object;
 use ep_table::Tables;
 use std::alloc::{AllocError, Global};
@@ -26,6 +28,7 @@ fn act_call(
     limits: &Limits,
     tables: &mut Tables,
     interest: &mut Interest,
+    graph: &mut Graph,
     now: u64,
     step: u64,
     pid: Pid,
@@ -35,6 +38,7 @@ fn act_call(
     requires limits { tables.old.limits ≡ limits.now }
     requires clock { now ≤ last_moment }
     requires linked { AreLinked tables.old interest.old }
+    requires nested { AreNested tables.old interest.old graph.old }
     requires room { interest.old.added + 1 < 2 ^ 64 }
     requires descriptions { length tables.old.files.descriptions + 2 < 2 ^ 64 }
     requires objects { length tables.old.files.objects + 2 < 2 ^ 64 }
@@ -44,11 +48,13 @@ fn act_call(
     ensures raising { IfOk result (λ acted. IsRaising acted.raising tables.new) }
     ensures real { IfOk result (λ acted. is_no_memory acted.answer ≡ false) }
     ensures kept { tables.new.limits ≡ tables.old.limits }
-    ensures linked { AreLinked tables.new interest.new }
+    ensures keys { KeepsKeys tables.old tables.new }
+    ensures linked { AreLinked tables.old interest.new }
+    ensures nested { AreNested tables.old interest.new graph.new }
     ensures grows { Grows tables.old.files tables.new.files }
     ensures unheld { Unheld tables.old → Unheld tables.new }
     ensures added { interest.new.added ≤ interest.old.added + 1 }
-    ensures err { OnErr result ((tables.new ≡ tables.old) × (interest.new ≡ interest.old)) }
+    ensures err { OnErr result ((tables.new ≡ tables.old) × (interest.new ≡ interest.old) × (graph.new ≡ graph.old)) }
 {
     match call {
         Call::Pipe { cloexec } => {
@@ -94,8 +100,8 @@ fn act_call(
                 mask: *mask,
                 tag: *tag,
             };
-            let answer = epoll_ctl(limits, tables, interest, pid, args)?;
-            Ok(Acted::settled(alloc, answer))
+            let acted = epoll_ctl(alloc, limits, tables, now, interest, graph, pid, args)?;
+            Ok(acted)
         }
         Call::EpollWait { epfd, max, timeout } => {
             let args = Wait {
@@ -147,6 +153,7 @@ pub fn act(
     limits: &Limits,
     tables: &mut Tables,
     interest: &mut Interest,
+    graph: &mut Graph,
     now: &mut u64,
     step: u64,
     event: &Event,
@@ -154,6 +161,7 @@ pub fn act(
     requires limits { tables.old.limits ≡ limits.now }
     requires clock { now.old ≤ last_moment }
     requires linked { AreLinked tables.old interest.old }
+    requires nested { AreNested tables.old interest.old graph.old }
     requires room { interest.old.added + 1 < 2 ^ 64 }
     requires descriptions { length tables.old.files.descriptions + 2 < 2 ^ 64 }
     requires objects { length tables.old.files.objects + 2 < 2 ^ 64 }
@@ -164,18 +172,22 @@ pub fn act(
     ensures real { IfOk result (λ acted. is_no_memory acted.answer ≡ false) }
     ensures kept { tables.new.limits ≡ tables.old.limits }
     ensures clock { now.new ≤ last_moment }
-    ensures linked { AreLinked tables.new interest.new }
+    ensures keys { KeepsKeys tables.old tables.new }
+    ensures linked { AreLinked tables.old interest.new }
+    ensures nested { AreNested tables.old interest.new graph.new }
     ensures grows { Grows tables.old.files tables.new.files }
     ensures unheld { Unheld tables.old → Unheld tables.new }
     ensures added { interest.new.added ≤ interest.old.added + 1 }
-    ensures err { OnErr result ((tables.new ≡ tables.old) × (interest.new ≡ interest.old) × (now.new ≡ now.old)) }
+    ensures err { OnErr result ((tables.new ≡ tables.old) × (interest.new ≡ interest.old) × (graph.new ≡ graph.old) × (now.new ≡ now.old)) }
 {
     match event {
         Event::Call { pid, call } => {
             if !tables.has_process(*pid) {
                 return Ok(Acted::refused(alloc, Errno::Esrch));
             }
-            let acted = act_call(alloc, limits, tables, interest, *now, step, *pid, call)?;
+            let acted = act_call(
+                alloc, limits, tables, interest, graph, *now, step, *pid, call,
+            )?;
             Ok(acted)
         }
         Event::Tick { n } => Ok(tick(alloc, now, *n)),

@@ -1,17 +1,20 @@
 //! The end of an event: descriptions that nothing names die, their registrations go, and what that raises is noted.
 ghost use Rattle.std.specs.Prelude.{◌≡◌, []};
 ghost use Rattle.ep_plain.specs.Burial.{Buries, Burial};
+ghost use Rattle.ep_plain.specs.Climb.{KeepsLinks};
 ghost use Rattle.ep_plain.specs.Stands.{AreLinked};
 
 use crate::raising::{at_end, other_end, raise_there};
 use ep_interest::Interest;
+use ep_nest::Graph;
 use ep_table::Tables;
 
 /// Ends the descriptions that wait for it, one after another.
-fn end_each(tables: &mut Tables, interest: &mut Interest)
+fn end_each(tables: &mut Tables, interest: &mut Interest, graph: &mut Graph, step: u64)
     requires { AreLinked tables.old interest.old }
-    ensures buries { Buries tables.old interest.old tables.new interest.new }
+    ensures buries { Buries step tables.old interest.old tables.new interest.new }
     ensures none { tables.new.dying ≡ [] }
+    ensures nested { KeepsLinks interest.old graph.old interest.new graph.new }
 {
     loop {
         tables.known();
@@ -19,19 +22,22 @@ fn end_each(tables: &mut Tables, interest: &mut Interest)
             return;
         };
         interest.purge(dead.desc);
+        graph.purge(dead.desc);
         raise_there(
             interest,
             dead.other,
             at_end(dead.raised, other_end(dead.end)),
+            step,
         );
     }
 }
 
 /// Ends each description that no descriptor names any more, and takes its registrations and those in it away.
-pub fn bury(tables: &mut Tables, interest: &mut Interest)
+pub fn bury(tables: &mut Tables, interest: &mut Interest, graph: &mut Graph, step: u64)
     requires { AreLinked tables.old interest.old }
-    ensures { Burial tables.old interest.old tables.new interest.new }
+    ensures burial { Burial step tables.old interest.old tables.new interest.new }
+    ensures nested { KeepsLinks interest.old graph.old interest.new graph.new }
 {
     tables.known();
-    end_each(tables, interest);
+    end_each(tables, interest, graph, step);
 }

@@ -1,20 +1,31 @@
 //! epoll_ctl.
-ghost use Rattle.std.specs.Prelude.{◌≡◌, ◌==◌, ◌+◌, ◌<◌, ◌≤◌, ◌^◌, ℕ, [], IfNone, IfOk, IfSome, IsSome, MatchResult, OnErr, Some, false, true, unwrap_or};
+ghost use Rattle.std.specs.Prelude.{◌≡◌, ◌==◌, ◌+◌, ◌++◌, ◌∷◌, ◌<◌, ◌≤◌, ◌^◌, ℕ, [], if◌then◌else◌, IfNone, IfOk, IfSome, IsSome, MatchResult, OnErr, Some, false, true, unwrap_or};
 ghost use Rattle.std.specs.List.{list_any};
 ghost use Rattle.ep_base.specs.Answer.{FitsInline};
 ghost use Rattle.ep_machine.specs.Effect.{first};
 ghost use Rattle.ep_plain.specs.Acts.{is_no_memory};
-ghost use Rattle.ep_plain.specs.Control.{Alters, Enters, Names, code_of, control_call, is_refused_op, naming_refusals};
+ghost use Rattle.ep_machine.specs.Lists.{is_among};
+ghost use Rattle.ep_machine.specs.Watches.{is_legal};
+ghost use Rattle.ep_nest.specs.Links.{edges, entries};
+ghost use Rattle.ep_plain.specs.Climb.{AreNested, KeepsLinks, link_of};
+ghost use Rattle.ep_plain.specs.Control.{Alters, Enters, Names, code_of, control_call, is_deep_at, is_done, is_refused_op, looked, naming_refusals};
 ghost use Rattle.ep_interest.specs.Registrations.{has_key, new_entry, number_under as number_of_entry};
-ghost use Rattle.ep_plain.specs.Moves.{MovesCall};
+ghost use Rattle.ep_machine.specs.Timer.{last_moment};
+ghost use Rattle.ep_plain.specs.Moves.{MovesCall, RaisesCall};
+ghost use Rattle.ep_plain.specs.Raising.{IsRaising};
 ghost use Rattle.ep_plain.specs.Stands.{AreLinked};
+ghost use Rattle.ep_plain.specs.declared.raising.Raising.TheVariants.{Nowhere};
 ghost use Rattle.ep_table.specs.Value.{number_under};
 
+use crate::acted::Acted;
+use crate::raising::Raising;
+use crate::readiness::{is_reportable, shown};
 use bitflags::Flags;
 use ep_base::{Answer, DescId, EntryId, Errno, Fd, Limits, Mask, Pid};
 use ep_interest::Interest;
+use ep_nest::Graph;
 use ep_table::Tables;
-use std::alloc::AllocError;
+use std::alloc::{AllocError, Global};
 
 /// The arguments of an epoll_ctl.
 #[derive(Clone, Copy)]
@@ -58,9 +69,6 @@ fn find_named(tables: &Tables, pid: Pid, epfd: Fd, fd: Fd) -> Result<Named, Errn
     if !tables.object(instance).is_instance() || is_same(tables, instance, desc) {
         return Err(Errno::Einval);
     }
-    if target.is_instance() {
-        return Err(Errno::Einval);
-    }
     Ok(Named { instance, desc })
 }
 
@@ -91,17 +99,33 @@ fn operation_of(args: Control) -> Option<Operation>
     Some(operation)
 }
 
+/// The name of a registration's link in the graph: its number, which is never used again.
+fn link_name(number: u64) -> EntryId
+    ensures { result.0 ≡ number }
+{
+    EntryId(number as usize)
+}
+
 /// Deletes or modifies a registration that is there. EEXIST, and it stays, for an addition.
-fn alter(interest: &mut Interest, id: EntryId, operation: Operation, args: Control) -> Answer
+fn alter(
+    interest: &mut Interest,
+    graph: &mut Graph,
+    id: EntryId,
+    operation: Operation,
+    args: Control,
+) -> Answer
     requires { IsSome (number_of_entry interest.old id) }
     ensures alters { Alters operation (unwrap_or (number_of_entry interest.old id) 0) args.mask args.tag interest.old interest.new result }
+    ensures nested { KeepsLinks interest.old graph.old interest.new graph.new }
     ensures inline { FitsInline result }
     ensures real { is_no_memory result ≡ false }
-    ensures added { interest.new.added ≤ interest.old.added + 1 }
+    ensures added { interest.new.added ≡ interest.old.added }
 {
     match operation {
         Operation::Add => Answer::Refused(Errno::Eexist),
         Operation::Delete => {
+            let number = interest.entry(id).number;
+            graph.unlink(link_name(number));
             interest.remove(id);
             Answer::Done
         }
@@ -112,66 +136,185 @@ fn alter(interest: &mut Interest, id: EntryId, operation: Operation, args: Contr
     }
 }
 
-/// Adds a registration that is not there. ENOENT for any other operation, and ENOSPC past `watches`.
+/// Adds a registration with its link to an instance. An `Err` is want of memory and leaves both.
+fn add_linked(
+    interest: &mut Interest,
+    graph: &mut Graph,
+    named: Named,
+    args: Control,
+) -> Result<(), AllocError>
+    requires absent { list_any (has_key named.instance args.fd named.desc) interest.old.entries ≡ false }
+    requires room { interest.old.added + 1 < 2 ^ 64 }
+    requires legal { is_legal ((named.instance.0, named.desc.0) ∷ edges graph.old) ≡ true }
+    requires fresh { is_among (entries graph.old) (interest.old.added + 1) ≡ false }
+    ensures entries { IfOk result (λ _. interest.new.entries ≡ interest.old.entries ++ new_entry (interest.old.added + 1) named.instance args.fd named.desc args.mask args.tag ∷ []) }
+    ensures added { IfOk result (λ _. interest.new.added ≡ interest.old.added + 1) }
+    ensures linked { IfOk result (λ _. graph.new ≡ graph.old ++ link_of (new_entry (interest.old.added + 1) named.instance args.fd named.desc args.mask args.tag) ∷ []) }
+    ensures err { OnErr result ((interest.new ≡ interest.old) × (graph.new ≡ graph.old)) }
+{
+    let link = link_name(interest.next_number());
+    graph.link(named.instance, named.desc, link)?;
+    match interest.add(named.instance, args.fd, named.desc, args.mask, args.tag) {
+        Ok(_) => Ok(()),
+        Err(error) => {
+            graph.unlink(link);
+            Err(error)
+        }
+    }
+}
+
+/// Adds a registration, with its link where it watches an instance. An `Err` is want of memory and leaves both.
+fn add(
+    interest: &mut Interest,
+    graph: &mut Graph,
+    named: Named,
+    is_nested: bool,
+    args: Control,
+) -> Result<(), AllocError>
+    requires absent { list_any (has_key named.instance args.fd named.desc) interest.old.entries ≡ false }
+    requires room { interest.old.added + 1 < 2 ^ 64 }
+    requires legal { is_nested ≡ true → is_legal ((named.instance.0, named.desc.0) ∷ edges graph.old) ≡ true }
+    requires fresh { is_among (entries graph.old) (interest.old.added + 1) ≡ false }
+    ensures entries { IfOk result (λ _. interest.new.entries ≡ interest.old.entries ++ new_entry (interest.old.added + 1) named.instance args.fd named.desc args.mask args.tag ∷ []) }
+    ensures added { IfOk result (λ _. interest.new.added ≡ interest.old.added + 1) }
+    ensures linked { IfOk result (λ _. graph.new ≡ graph.old ++ (if is_nested then link_of (new_entry (interest.old.added + 1) named.instance args.fd named.desc args.mask args.tag) ∷ [] else [])) }
+    ensures err { OnErr result ((interest.new ≡ interest.old) × (graph.new ≡ graph.old)) }
+{
+    if is_nested {
+        return add_linked(interest, graph, named, args);
+    }
+    interest.add(named.instance, args.fd, named.desc, args.mask, args.tag)?;
+    Ok(())
+}
+
+/// Adds a registration that is not there. ENOENT for any other operation, ELOOP where instances would watch each other
+/// in a loop or in too long a chain, and ENOSPC past `watches`.
 /// A refusal and an `Err`, which is want of memory, leave the registrations.
 fn enter(
     limits: &Limits,
+    tables: &Tables,
     interest: &mut Interest,
+    graph: &mut Graph,
     named: Named,
     operation: Operation,
     args: Control,
 ) -> Result<Answer, AllocError>
+    requires desc { IsSome (number_under tables.now named.desc) }
     requires absent { list_any (has_key named.instance args.fd named.desc) interest.old.entries ≡ false }
     requires room { interest.old.added + 1 < 2 ^ 64 }
-    ensures ok { IfOk result (λ answer. Enters operation limits.now.watches (new_entry (interest.old.added + 1) named.instance args.fd named.desc args.mask args.tag) interest.old interest.new answer) }
+    requires nested { AreNested tables.now interest.old graph.old }
+    ensures ok { IfOk result (λ answer. Enters operation (is_deep_at tables.now graph.old named) limits.now.watches (new_entry (interest.old.added + 1) named.instance args.fd named.desc args.mask args.tag) interest.old interest.new answer) }
+    ensures nested { AreNested tables.now interest.new graph.new }
     ensures inline { IfOk result FitsInline }
     ensures real { IfOk result (λ answer. is_no_memory answer ≡ false) }
     ensures added { interest.new.added ≤ interest.old.added + 1 }
-    ensures err { OnErr result (interest.new ≡ interest.old) }
+    ensures err { OnErr result ((interest.new ≡ interest.old) × (graph.new ≡ graph.old)) }
 {
     let Operation::Add = operation else {
         return Ok(Answer::Refused(Errno::Enoent));
     };
+    interest.known();
+    let is_nested = tables.object(named.desc).is_instance();
+    if is_nested && graph.may_add(named.instance, named.desc).is_err() {
+        return Ok(Answer::Refused(Errno::Eloop));
+    }
     if limits.watches() as usize <= interest.count() {
         return Ok(Answer::Refused(Errno::Enospc));
     }
-    interest.add(named.instance, args.fd, named.desc, args.mask, args.tag)?;
+    add(interest, graph, named, is_nested, args)?;
     Ok(Answer::Done)
+}
+
+/// What it raises that a registration was added or modified: IN at its instance, where it is reportable.
+fn look_at(tables: &Tables, now: u64, interest: &Interest, named: Named, fd: Fd) -> Raising
+    requires linked { AreLinked tables.now interest.now }
+    requires clock { now ≤ last_moment }
+    ensures { result ≡ looked tables.now now interest.now named fd }
+{
+    interest.known();
+    let Some(id) = interest.find(named.instance, fd, named.desc) else {
+        return Raising::Nowhere;
+    };
+    let entry = interest.entry(id);
+    if !is_reportable(entry, shown(tables, now, interest, entry)) {
+        return Raising::Nowhere;
+    }
+    Raising::Instance {
+        desc: named.instance,
+    }
+}
+
+/// What epoll_ctl comes to with an answer: where it is done, the registration is looked at.
+fn controlled(
+    alloc: Global,
+    tables: &Tables,
+    now: u64,
+    interest: &Interest,
+    named: Named,
+    fd: Fd,
+    answer: Answer,
+) -> Acted
+    requires inline { FitsInline answer }
+    requires linked { AreLinked tables.now interest.now }
+    requires clock { now ≤ last_moment }
+    ensures answer { result.answer ≡ answer }
+    ensures copy { result.copy ≡ answer }
+    ensures picked { result.picked ≡ [] }
+    ensures raising { result.raising ≡ (if is_done answer then looked tables.now now interest.now named fd else Nowhere) }
+{
+    let raising = match answer {
+        Answer::Done => look_at(tables, now, interest, named, fd),
+        _ => Raising::Nowhere,
+    };
+    let mut acted = Acted::settled(alloc, answer);
+    acted.raising = raising;
+    acted
 }
 
 /// epoll_ctl(2): adds, modifies or deletes a registration, or answers the refusal that comes first, in this order:
 /// EBADF where a descriptor names nothing, EPERM for a target that can't be polled, EINVAL where `epfd` is no instance or
-/// the target is one, EINVAL for an operation or a mask that this version doesn't accept, ENOENT for MOD and DEL of what
-/// is not there, EEXIST for ADD of what is, and ENOSPC past `watches`.
+/// both name the same, EINVAL for an operation or a mask that this version doesn't accept, ENOENT for MOD and DEL of what
+/// is not there, EEXIST for ADD of what is, ELOOP where instances would watch each other in a loop or in a chain of more
+/// than five, and ENOSPC past `watches`.
+/// What is added or modified and reportable at once raises IN at its instance.
 /// A refusal and an `Err`, which is want of memory and comes of ADD alone, leave the registrations.
 pub fn epoll_ctl(
+    alloc: Global,
     limits: &Limits,
     tables: &Tables,
+    now: u64,
     interest: &mut Interest,
+    graph: &mut Graph,
     pid: Pid,
     args: Control,
-) -> Result<Answer, AllocError>
+) -> Result<Acted, AllocError>
     requires room { interest.old.added + 1 < 2 ^ 64 }
+    requires clock { now ≤ last_moment }
     requires linked { AreLinked tables.now interest.old }
-    ensures ok { IfOk result (λ answer. (n caller now : ℕ) → MovesCall limits.now n caller pid.0 (control_call args) answer [] (record { tables = tables.now; interest = interest.old; now = now }) (record { tables = tables.now; interest = interest.new; now = now })) }
-    ensures real { IfOk result (λ answer. is_no_memory answer ≡ false) }
-    ensures inline { IfOk result FitsInline }
+    requires nested { AreNested tables.now interest.old graph.old }
+    ensures ok { IfOk result (λ acted. (n caller : ℕ) → MovesCall limits.now n caller pid.0 (control_call args) acted.answer acted.picked (record { tables = tables.now; interest = interest.old; now = now }) (record { tables = tables.now; interest = interest.new; now = now })) }
+    ensures copy { IfOk result (λ acted. acted.copy ≡ acted.answer) }
+    ensures raised { IfOk result (λ acted. (n caller : ℕ) → RaisesCall limits.now n caller pid.0 (control_call args) acted.picked acted.raising (record { tables = tables.now; interest = interest.old; now = now }) tables.now now) }
+    ensures raising { IfOk result (λ acted. IsRaising acted.raising tables.now) }
+    ensures real { IfOk result (λ acted. is_no_memory acted.answer ≡ false) }
     ensures linked { AreLinked tables.now interest.new }
+    ensures nested { AreNested tables.now interest.new graph.new }
     ensures added { interest.new.added ≤ interest.old.added + 1 }
-    ensures err { OnErr result (interest.new ≡ interest.old) }
+    ensures err { OnErr result ((interest.new ≡ interest.old) × (graph.new ≡ graph.old)) }
 {
     tables.known();
     interest.known();
     let named = match find_named(tables, pid, args.epfd, args.fd) {
         Ok(named) => named,
-        Err(errno) => return Ok(Answer::Refused(errno)),
+        Err(errno) => return Ok(Acted::refused(alloc, errno)),
     };
     let Some(operation) = operation_of(args) else {
-        return Ok(Answer::Refused(Errno::Einval));
+        return Ok(Acted::refused(alloc, Errno::Einval));
     };
     if let Some(id) = interest.find(named.instance, args.fd, named.desc) {
-        return Ok(alter(interest, id, operation, args));
+        let answer = alter(interest, graph, id, operation, args);
+        return Ok(controlled(alloc, tables, now, interest, named, args.fd, answer));
     }
-    let answer = enter(limits, interest, named, operation, args)?;
-    Ok(answer)
+    let answer = enter(limits, tables, interest, graph, named, operation, args)?;
+    Ok(controlled(alloc, tables, now, interest, named, args.fd, answer))
 }

@@ -4,6 +4,7 @@
 mod act;
 mod acted;
 mod bury;
+mod climb;
 mod clock;
 mod control;
 mod create;
@@ -12,6 +13,7 @@ mod kernel;
 mod object_call;
 mod plain;
 mod raising;
+mod readiness;
 mod runs;
 mod wait;
 

@@ -7,9 +7,11 @@ use crate::Kernel;
 use crate::act::act;
 use crate::acted::Acted;
 use crate::bury::bury;
+use crate::climb::climb;
 use crate::raising::raise;
 use ep_base::{Answer, CallerId, Errno, Event, Limits, Record};
 use ep_interest::Interest;
+use ep_nest::Graph;
 use ep_table::Tables;
 use std::alloc::{AllocError, Global};
 use std::marker::Model;
@@ -22,6 +24,7 @@ pub struct PlainKernel {
     limits: Limits,
     tables: Tables,
     interest: Interest,
+    graph: Graph,
     now: u64,
     history: Vec<Record>,
 }
@@ -49,6 +52,7 @@ impl PlainKernel {
             limits,
             tables: Tables::new(alloc, limits)?,
             interest: Interest::new(alloc),
+            graph: Graph::new(alloc),
             now: 0,
             history: Vec::new(alloc),
         })
@@ -74,13 +78,15 @@ impl PlainKernel {
             &self.limits,
             &mut self.tables,
             &mut self.interest,
+            &mut self.graph,
             &mut self.now,
             step,
             &event,
         )?;
         self.tables.known();
-        raise(&self.tables, &mut self.interest, raising, self.now);
-        bury(&mut self.tables, &mut self.interest);
+        raise(&self.tables, &mut self.interest, raising, self.now, step);
+        bury(&mut self.tables, &mut self.interest, &mut self.graph, step);
+        climb(&self.tables, &mut self.interest, &self.graph, step);
         self.history.push_reserved(Record {
             caller,
             event,

@@ -20,6 +20,8 @@ pub enum Raising {
     Nowhere,
     /// At the two ends of the object of a description.
     Object { desc: DescId, raised: Raised },
+    /// At an instance, in which a registration is reportable that was added or modified.
+    Instance { desc: DescId },
     /// At timers, by the clock going on from this moment.
     Clock { since: u64 },
 }
@@ -45,56 +47,62 @@ pub fn other_end(end: End) -> End
 }
 
 /// Raises bits at a description. Where there are none no registration is looked at.
-fn raise_at(interest: &mut Interest, desc: DescId, bits: Mask)
-    ensures entries { interest.new.entries ≡ map (raised_on desc bits) interest.old.entries }
+fn raise_at(interest: &mut Interest, desc: DescId, bits: Mask, step: u64)
+    ensures entries { interest.new.entries ≡ map (raised_on desc bits step) interest.old.entries }
     ensures added { interest.new.added ≡ interest.old.added }
 {
     if !bits.is_empty() {
-        interest.raise(desc, bits);
+        interest.raise(desc, bits, step);
     }
 }
 
 /// Raises bits at a description, where there is one.
-pub fn raise_there(interest: &mut Interest, desc: Option<DescId>, bits: Mask)
-    ensures entries { interest.new.entries ≡ map (raised_there desc bits) interest.old.entries }
+pub fn raise_there(interest: &mut Interest, desc: Option<DescId>, bits: Mask, step: u64)
+    ensures entries { interest.new.entries ≡ map (raised_there desc bits step) interest.old.entries }
     ensures added { interest.new.added ≡ interest.old.added }
 {
     if let Some(desc) = desc {
-        raise_at(interest, desc, bits);
+        raise_at(interest, desc, bits, step);
     }
 }
 
 /// Raises bits at the two ends of the object of a description.
-fn raise_object(tables: &Tables, interest: &mut Interest, desc: DescId, raised: Raised)
+fn raise_object(tables: &Tables, interest: &mut Interest, desc: DescId, raised: Raised, step: u64)
     requires { IsSome (number_under tables.now desc) }
-    ensures { RaisesObject tables.now desc raised interest.old interest.new }
+    ensures { RaisesObject tables.now desc raised step interest.old interest.new }
 {
     let end = tables.end(desc);
-    raise_at(interest, desc, at_end(raised, end));
-    raise_there(interest, tables.other(desc), at_end(raised, other_end(end)));
+    raise_at(interest, desc, at_end(raised, end), step);
+    raise_there(
+        interest,
+        tables.other(desc),
+        at_end(raised, other_end(end)),
+        step,
+    );
 }
 
 /// Raises what timers raise by the clock going on from one moment to another.
-fn raise_due(tables: &Tables, interest: &mut Interest, since: u64, now: u64)
+fn raise_due(tables: &Tables, interest: &mut Interest, since: u64, now: u64, step: u64)
     requires since { since ≤ last_moment }
     requires now { now ≤ last_moment }
-    ensures entries { interest.new.entries ≡ raised_each (due_bits tables.now since now) (live_ids tables.now.keys) interest.old.entries }
+    ensures entries { interest.new.entries ≡ raised_each (due_bits tables.now since now) step (live_ids tables.now.keys) interest.old.entries }
     ensures added { interest.new.added ≡ interest.old.added }
 {
     for desc in tables.live() {
-        raise_at(interest, desc, tables.advance(desc, since, now).first);
+        raise_at(interest, desc, tables.advance(desc, since, now).first, step);
     }
 }
 
 /// Notes in registrations what an event raised.
-pub fn raise(tables: &Tables, interest: &mut Interest, raising: Raising, now: u64)
+pub fn raise(tables: &Tables, interest: &mut Interest, raising: Raising, now: u64, step: u64)
     requires raising { IsRaising raising tables.now }
     requires now { now ≤ last_moment }
-    ensures { Stirs raising tables.now now interest.old interest.new }
+    ensures { Stirs raising tables.now now step interest.old interest.new }
 {
     match raising {
         Raising::Nowhere => {}
-        Raising::Object { desc, raised } => raise_object(tables, interest, desc, raised),
-        Raising::Clock { since } => raise_due(tables, interest, since, now),
+        Raising::Object { desc, raised } => raise_object(tables, interest, desc, raised, step),
+        Raising::Instance { desc } => raise_at(interest, desc, Mask::IN, step),
+        Raising::Clock { since } => raise_due(tables, interest, since, now, step),
     }
 }

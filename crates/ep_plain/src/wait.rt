@@ -1,13 +1,16 @@
 //! epoll_wait.
-ghost use Rattle.std.specs.Prelude.{◌≡◌, ◌<◌, ◌≤◌, ◌^◌, ◌&&◌, ◌||◌, ◌∷◌, [], ℕ, All, IfOk, IfSome, IsNone, IsSome, MatchOption, MatchResult, None, OnErr, Some, false, filter, is_none, true, length, map, min, nat_lt, not, pos, take, unwrap_or};
-ghost use Rattle.ep_machine.specs.Bits.{ET, ONESHOT, asked, has_bit};
+ghost use Rattle.std.specs.Prelude.{List, ◌≡◌, ◌<◌, ◌≤◌, ◌^◌, ◌&&◌, ◌||◌, ◌∷◌, [], ℕ, All, IfOk, IfSome, IsNone, IsSome, MatchOption, MatchResult, None, OnErr, Some, false, filter, is_none, true, length, map, min, nat_lt, not, pos, take, unwrap_or};
+ghost use Rattle.ep_machine.specs.Bits.{ONESHOT, has_bit};
 ghost use Rattle.ep_machine.specs.Effect.{first};
 ghost use Rattle.ep_machine.specs.Files.{under};
 ghost use Rattle.ep_plain.specs.declared.raising.Raising.TheVariants.{Nowhere};
 ghost use Rattle.ep_plain.specs.Acts.{is_no_memory};
+ghost use Rattle.ep_nest.specs.declared.link.Link.{Link};
+ghost use Rattle.ep_plain.specs.Climb.{KeepsLinks};
 ghost use Rattle.ep_plain.specs.Moves.{MovesCall};
 ghost use Rattle.ep_plain.specs.Stands.{AreLinked};
-ghost use Rattle.ep_plain.specs.Wait.{AreKeyed, IsChosen, Waits, entry_bits, entry_shows, noted_in, numbers_of, report_of, wait_call, wait_tests};
+ghost use Rattle.ep_plain.specs.Readiness.{entry_shows, readiness};
+ghost use Rattle.ep_plain.specs.Wait.{AreKeyed, IsChosen, Waits, noted_in, numbers_of, report_of, wait_call, wait_tests};
 ghost use Rattle.ep_plain.specs.Reports.{Reports};
 ghost use Rattle.ep_base.specs.declared.answer.Answer.TheVariants.{Events};
 ghost use Rattle.ep_machine.specs.Timer.{last_moment};
@@ -19,6 +22,7 @@ ghost use Rattle.ep_table.specs.Value.{number_under};
 
 use crate::acted::Acted;
 use crate::raising::Raising;
+use crate::readiness::{is_reportable, shown};
 use bitflags::Flags;
 use ep_base::{
     Answer, Counts, DescId, EntryId, Errno, Fd, Mask, Picked, Pid, Report, Reports as ReportList,
@@ -72,27 +76,6 @@ fn find_instance(tables: &Tables, pid: Pid, args: Wait) -> Result<DescId, Errno>
     Ok(desc)
 }
 
-/// The bits that a registration shows: where it is armed, those of its target that its mask asks for, ERR and HUP unasked.
-fn shown(tables: &Tables, now: u64, entry: &Entry) -> Mask
-    requires target { IsSome (number_under tables.now entry.now.desc) }
-    requires clock { now ≤ last_moment }
-    ensures { result.0 ≡ entry_bits tables.now now entry.now }
-{
-    if !entry.armed {
-        return Mask::empty();
-    }
-    let present = tables.present(entry.desc, now);
-    present.intersection(entry.mask.union(Mask::ERR.union(Mask::HUP)))
-}
-
-/// Whether a registration that shows these bits is reportable: an edge-triggered one needs something that arrived since
-/// its last report.
-fn is_reportable(entry: &Entry, bits: Mask) -> bool
-    ensures { result ≡ (nat_lt 0 bits.0 && (not (has_bit entry.now.mask.0 ET) || is_none entry.now.seen)) }
-{
-    !bits.is_empty() && (!entry.mask.intersects(Mask::ET) || entry.seen.is_none())
-}
-
 /// The registrations of an instance that are reportable, in order of registration.
 fn reportables(
     alloc: Global,
@@ -103,12 +86,12 @@ fn reportables(
 ) -> Result<Vec<Reportable>, AllocError>
     requires linked { AreLinked tables.now interest.now }
     requires clock { now ≤ last_moment }
-    ensures entries { IfOk result (λ found. map (λ x. x.entry) found.items ≡ filter (entry_shows tables.now now) (filter (is_of instance) interest.now.entries)) }
+    ensures entries { IfOk result (λ found. map (λ x. x.entry) found.items ≡ filter (entry_shows (readiness tables.now now interest.now) tables.now now) (filter (is_of instance) interest.now.entries)) }
     ensures keyed { IfOk result (λ found. AreKeyed tables.now now interest.now found.items) }
 {
     let mut found = Vec::new(alloc);
     for (id, entry) in interest.entries(instance) {
-        let bits = shown(tables, now, entry);
+        let bits = shown(tables, now, interest, entry);
         if is_reportable(entry, bits) {
             found.push(Reportable {
                 id,
@@ -188,8 +171,8 @@ fn note_one(interest: &mut Interest, step: u64, id: EntryId)
     ensures added { interest.new.added ≡ interest.old.added }
 {
     interest.known();
-    let armed = stays_armed(interest.entry(id));
-    interest.note(id, armed, Some(SEEN), step, 0);
+    let entry = *interest.entry(id);
+    interest.note(id, stays_armed(&entry), Some(SEEN), step, entry.from);
 }
 
 /// Notes that they are reported in this step.
@@ -264,6 +247,7 @@ pub fn epoll_wait(
     ensures raising { IfOk result (λ acted. acted.raising ≡ Nowhere) }
     ensures real { IfOk result (λ acted. is_no_memory acted.answer ≡ false) }
     ensures linked { AreLinked tables.now interest.new }
+    ensures nested { (graph : List Link) → KeepsLinks interest.old graph interest.new graph }
     ensures added { interest.new.added ≡ interest.old.added }
     ensures err { OnErr result (interest.new ≡ interest.old) }
 {

@@ -21,14 +21,14 @@ use Rattle.ep_machine.specs.Tables.{answer_one, answer_two, close, create_one, c
 use Rattle.ep_machine.specs.Watches.{number_in}
 use Rattle.ep_machine.specs.Timer.{new_timer}
 use Rattle.ep_plain.specs.Moves.{Goes, Opens, Parts}
-use Rattle.ep_plain.proofs.Opening.{files_goes, object_called, object_limits, object_linked, on_object_is, one_goes, opens_linked, two_goes}
+use Rattle.ep_plain.proofs.Opening.{files_goes, object_called, object_limits, object_keys, on_object_is, one_goes, opens_keys, two_goes}
 use Rattle.ep_plain.specs.Raising.{Raises}
 use Rattle.ep_plain.proofs.ObjectRaising.{object_raises}
 use Rattle.ep_plain.proofs.Unraised.{IsOffObject, nowhere_raises}
 use Rattle.ep_plain.proofs.act.act_call.Goals as goal
 
 pub returns-in_ok-acted-in-Pipe-clause-ok : goal.returns-in_ok-acted-in-Pipe-clause-ok
-returns-in_ok-acted-in-Pipe-clause-ok c = λ caller s at sound quiet stands.
+returns-in_ok-acted-in-Pipe-clause-ok c = λ caller s at sound quiet legal stands.
     let v = c.args.tables.now in
     let new = c.create_pipe.new.tables in
     let r = c.args.interest.now in
@@ -41,13 +41,13 @@ returns-in_ok-acted-in-Pipe-clause-ok c = λ caller s at sound quiet stands.
     subst (λ (call : Call). P call acted.picked) (sym x.is) (subst (P (PipeCall x.cloexec)) (sym c.in_ok-acted-in-Pipe.ensures.picked)
     (two_goes limits v new r c.args.now s p acted.answer c.requires.linked stands c.requires.limits (pipe (new_pipe limits.pipe_bytes)) x.cloexec (subst O c.pipe_bytes.ensures c.in_ok-acted-in-Pipe.ensures.ok)))
 
-pub returns-in_ok-acted-in-Pipe-clause-linked : goal.returns-in_ok-acted-in-Pipe-clause-linked
-returns-in_ok-acted-in-Pipe-clause-linked c =
+pub returns-in_ok-acted-in-Pipe-clause-keys : goal.returns-in_ok-acted-in-Pipe-clause-keys
+returns-in_ok-acted-in-Pipe-clause-keys c =
     let v = c.args.tables.now in
-    opens_linked (two_refusals v.limits v.files c.args.pid.0) (answer_two v.files c.args.pid.0) (create_two v.files c.args.pid.0 (pipe (new_pipe c.pipe_bytes.result)) c.in-Pipe.cloexec) c.in_ok-acted-in-Pipe.acted.answer v c.create_pipe.new.tables c.in_ok-acted-in-Pipe.ensures.ok c.args.interest.now c.requires.linked
+    opens_keys (two_refusals v.limits v.files c.args.pid.0) (answer_two v.files c.args.pid.0) (create_two v.files c.args.pid.0 (pipe (new_pipe c.pipe_bytes.result)) c.in-Pipe.cloexec) c.in_ok-acted-in-Pipe.acted.answer v c.create_pipe.new.tables c.in_ok-acted-in-Pipe.ensures.ok
 
 pub returns-in_ok-acted-in-SocketPair-clause-ok : goal.returns-in_ok-acted-in-SocketPair-clause-ok
-returns-in_ok-acted-in-SocketPair-clause-ok c = λ caller s at sound quiet stands.
+returns-in_ok-acted-in-SocketPair-clause-ok c = λ caller s at sound quiet legal stands.
     let v = c.args.tables.now in
     let new = c.create_pair.new.tables in
     let r = c.args.interest.now in
@@ -60,13 +60,13 @@ returns-in_ok-acted-in-SocketPair-clause-ok c = λ caller s at sound quiet stand
     subst (λ (call : Call). P call acted.picked) (sym x.is) (subst (P (SocketPair x.cloexec)) (sym c.in_ok-acted-in-SocketPair.ensures.picked)
     (two_goes limits v new r c.args.now s p acted.answer c.requires.linked stands c.requires.limits (pair (new_pair limits.sock_bytes)) x.cloexec (subst O c.sock_bytes.ensures c.in_ok-acted-in-SocketPair.ensures.ok)))
 
-pub returns-in_ok-acted-in-SocketPair-clause-linked : goal.returns-in_ok-acted-in-SocketPair-clause-linked
-returns-in_ok-acted-in-SocketPair-clause-linked c =
+pub returns-in_ok-acted-in-SocketPair-clause-keys : goal.returns-in_ok-acted-in-SocketPair-clause-keys
+returns-in_ok-acted-in-SocketPair-clause-keys c =
     let v = c.args.tables.now in
-    opens_linked (two_refusals v.limits v.files c.args.pid.0) (answer_two v.files c.args.pid.0) (create_two v.files c.args.pid.0 (pair (new_pair c.sock_bytes.result)) c.in-SocketPair.cloexec) c.in_ok-acted-in-SocketPair.acted.answer v c.create_pair.new.tables c.in_ok-acted-in-SocketPair.ensures.ok c.args.interest.now c.requires.linked
+    opens_keys (two_refusals v.limits v.files c.args.pid.0) (answer_two v.files c.args.pid.0) (create_two v.files c.args.pid.0 (pair (new_pair c.sock_bytes.result)) c.in-SocketPair.cloexec) c.in_ok-acted-in-SocketPair.acted.answer v c.create_pair.new.tables c.in_ok-acted-in-SocketPair.ensures.ok
 
 pub returns-in_ok-acted-in-EventFd-clause-ok : goal.returns-in_ok-acted-in-EventFd-clause-ok
-returns-in_ok-acted-in-EventFd-clause-ok c = λ caller s at sound quiet stands.
+returns-in_ok-acted-in-EventFd-clause-ok c = λ caller s at sound quiet legal stands.
     let v = c.args.tables.now in
     let new = c.create_single.new.tables in
     let r = c.args.interest.now in
@@ -79,15 +79,15 @@ returns-in_ok-acted-in-EventFd-clause-ok c = λ caller s at sound quiet stands.
     subst (λ (call : Call). P call acted.picked) (sym x.is) (subst (P (EventFd x.init x.semaphore x.cloexec)) (sym c.in_ok-acted-in-EventFd.ensures.picked)
     (one_goes limits v new r c.args.now s p acted.answer c.requires.linked stands c.requires.limits [] (counter (record { count = x.init; is_semaphore = x.semaphore })) x.cloexec (subst O c.counter-counter.ensures c.in_ok-acted-in-EventFd.ensures.ok)))
 
-pub returns-in_ok-acted-in-EventFd-clause-linked : goal.returns-in_ok-acted-in-EventFd-clause-linked
-returns-in_ok-acted-in-EventFd-clause-linked c =
+pub returns-in_ok-acted-in-EventFd-clause-keys : goal.returns-in_ok-acted-in-EventFd-clause-keys
+returns-in_ok-acted-in-EventFd-clause-keys c =
     let v = c.args.tables.now in
     let p = c.args.pid.0 in
     let x = c.in-EventFd in
-    opens_linked (one_refusals v.limits v.files p) (answer_one v.files p) (create_one v.files p c.counter-counter.result x.cloexec) c.in_ok-acted-in-EventFd.acted.answer v c.create_single.new.tables c.in_ok-acted-in-EventFd.ensures.ok c.args.interest.now c.requires.linked
+    opens_keys (one_refusals v.limits v.files p) (answer_one v.files p) (create_one v.files p c.counter-counter.result x.cloexec) c.in_ok-acted-in-EventFd.acted.answer v c.create_single.new.tables c.in_ok-acted-in-EventFd.ensures.ok
 
 pub returns-in_ok-acted-in-TimerFd-clause-ok : goal.returns-in_ok-acted-in-TimerFd-clause-ok
-returns-in_ok-acted-in-TimerFd-clause-ok c = λ caller s at sound quiet stands.
+returns-in_ok-acted-in-TimerFd-clause-ok c = λ caller s at sound quiet legal stands.
     let v = c.args.tables.now in
     let new = c.create_timer.new.tables in
     let r = c.args.interest.now in
@@ -101,15 +101,15 @@ returns-in_ok-acted-in-TimerFd-clause-ok c = λ caller s at sound quiet stands.
     subst (λ (call : Call). P call acted.picked) (sym x.is) (subst (P (TimerFd x.clock x.cloexec)) (sym c.in_ok-acted-in-TimerFd.ensures.picked)
     (one_goes limits v new r c.args.now s p acted.answer c.requires.linked stands c.requires.limits ((not (is_clock x.clock), Einval) ∷ []) (timer new_timer) x.cloexec (subst T (to_z-of_z w32 x.clock fits) c.in_ok-acted-in-TimerFd.ensures.ok)))
 
-pub returns-in_ok-acted-in-TimerFd-clause-linked : goal.returns-in_ok-acted-in-TimerFd-clause-linked
-returns-in_ok-acted-in-TimerFd-clause-linked c =
+pub returns-in_ok-acted-in-TimerFd-clause-keys : goal.returns-in_ok-acted-in-TimerFd-clause-keys
+returns-in_ok-acted-in-TimerFd-clause-keys c =
     let v = c.args.tables.now in
     let p = c.args.pid.0 in
     let x = c.in-TimerFd in
-    opens_linked ((not (is_clock (to_z w32 (of_z w32 x.clock))), Einval) ∷ one_refusals v.limits v.files p) (answer_one v.files p) (create_one v.files p (timer new_timer) x.cloexec) c.in_ok-acted-in-TimerFd.acted.answer v c.create_timer.new.tables c.in_ok-acted-in-TimerFd.ensures.ok c.args.interest.now c.requires.linked
+    opens_keys ((not (is_clock (to_z w32 (of_z w32 x.clock))), Einval) ∷ one_refusals v.limits v.files p) (answer_one v.files p) (create_one v.files p (timer new_timer) x.cloexec) c.in_ok-acted-in-TimerFd.acted.answer v c.create_timer.new.tables c.in_ok-acted-in-TimerFd.ensures.ok
 
 pub returns-in_ok-acted-in-Plain-clause-ok : goal.returns-in_ok-acted-in-Plain-clause-ok
-returns-in_ok-acted-in-Plain-clause-ok c = λ caller s at sound quiet stands.
+returns-in_ok-acted-in-Plain-clause-ok c = λ caller s at sound quiet legal stands.
     let v = c.args.tables.now in
     let new = c.create_single-in-Plain.new.tables in
     let r = c.args.interest.now in
@@ -122,15 +122,15 @@ returns-in_ok-acted-in-Plain-clause-ok c = λ caller s at sound quiet stands.
     subst (λ (call : Call). P call acted.picked) (sym x.is) (subst (P (Plain x.cloexec)) (sym c.in_ok-acted-in-Plain.ensures.picked)
     (one_goes limits v new r c.args.now s p acted.answer c.requires.linked stands c.requires.limits [] plain x.cloexec (subst O c.plain.ensures c.in_ok-acted-in-Plain.ensures.ok)))
 
-pub returns-in_ok-acted-in-Plain-clause-linked : goal.returns-in_ok-acted-in-Plain-clause-linked
-returns-in_ok-acted-in-Plain-clause-linked c =
+pub returns-in_ok-acted-in-Plain-clause-keys : goal.returns-in_ok-acted-in-Plain-clause-keys
+returns-in_ok-acted-in-Plain-clause-keys c =
     let v = c.args.tables.now in
     let p = c.args.pid.0 in
     let x = c.in-Plain in
-    opens_linked (one_refusals v.limits v.files p) (answer_one v.files p) (create_one v.files p c.plain.result x.cloexec) c.in_ok-acted-in-Plain.acted.answer v c.create_single-in-Plain.new.tables c.in_ok-acted-in-Plain.ensures.ok c.args.interest.now c.requires.linked
+    opens_keys (one_refusals v.limits v.files p) (answer_one v.files p) (create_one v.files p c.plain.result x.cloexec) c.in_ok-acted-in-Plain.acted.answer v c.create_single-in-Plain.new.tables c.in_ok-acted-in-Plain.ensures.ok
 
 pub returns-in_ok-acted-in-EpollCreate-clause-ok : goal.returns-in_ok-acted-in-EpollCreate-clause-ok
-returns-in_ok-acted-in-EpollCreate-clause-ok c = λ caller s at sound quiet stands.
+returns-in_ok-acted-in-EpollCreate-clause-ok c = λ caller s at sound quiet legal stands.
     let v = c.args.tables.now in
     let new = c.create_single-in-EpollCreate.new.tables in
     let r = c.args.interest.now in
@@ -143,29 +143,27 @@ returns-in_ok-acted-in-EpollCreate-clause-ok c = λ caller s at sound quiet stan
     subst (λ (call : Call). P call acted.picked) (sym x.is) (subst (P (EpollCreate x.cloexec)) (sym c.in_ok-acted-in-EpollCreate.ensures.picked)
     (one_goes limits v new r c.args.now s p acted.answer c.requires.linked stands c.requires.limits [] instance x.cloexec (subst O c.instance.ensures c.in_ok-acted-in-EpollCreate.ensures.ok)))
 
-pub returns-in_ok-acted-in-EpollCreate-clause-linked : goal.returns-in_ok-acted-in-EpollCreate-clause-linked
-returns-in_ok-acted-in-EpollCreate-clause-linked c =
+pub returns-in_ok-acted-in-EpollCreate-clause-keys : goal.returns-in_ok-acted-in-EpollCreate-clause-keys
+returns-in_ok-acted-in-EpollCreate-clause-keys c =
     let v = c.args.tables.now in
     let p = c.args.pid.0 in
     let x = c.in-EpollCreate in
-    opens_linked (one_refusals v.limits v.files p) (answer_one v.files p) (create_one v.files p c.instance.result x.cloexec) c.in_ok-acted-in-EpollCreate.acted.answer v c.create_single-in-EpollCreate.new.tables c.in_ok-acted-in-EpollCreate.ensures.ok c.args.interest.now c.requires.linked
+    opens_keys (one_refusals v.limits v.files p) (answer_one v.files p) (create_one v.files p c.instance.result x.cloexec) c.in_ok-acted-in-EpollCreate.acted.answer v c.create_single-in-EpollCreate.new.tables c.in_ok-acted-in-EpollCreate.ensures.ok
 
-pub returns-in_ok-answer-in-EpollCtl-clause-ok : goal.returns-in_ok-answer-in-EpollCtl-clause-ok
-returns-in_ok-answer-in-EpollCtl-clause-ok c = λ caller s at sound quiet stands.
-    let v = c.args.tables.now in
-    let new : Parts = record { tables = v; interest = c.epoll_ctl.new.interest; now = c.args.now } in
+pub returns-in_ok-acted-in-EpollCtl-clause-ok : goal.returns-in_ok-acted-in-EpollCtl-clause-ok
+returns-in_ok-acted-in-EpollCtl-clause-ok c = λ caller s at sound quiet legal stands.
+    let new : Parts = record { tables = c.args.tables.now; interest = c.epoll_ctl.new.interest; now = c.args.now } in
     let limits = c.args.limits.now in
     let p = c.args.pid.0 in
-    let P : Call → List ℕ → Answer → Type 0 = λ call ks a. Goes (call_refusals limits s p call) (call_change limits s caller p call ks) s a ks new in
+    let acted = c.in_ok-acted-in-EpollCtl.acted in
+    let P : Call → Type 0 = λ call. Goes (call_refusals limits s p call) (call_change limits s caller p call acted.picked) s acted.answer acted.picked new in
     let x = c.in-EpollCtl in
     let fits : SFits w32 x.op = search rules in
-    subst (λ (call : Call). P call c.settled.result.picked c.settled.result.answer) (sym x.is)
-    (subst (λ (ks : List ℕ). P (EpollCtl x.epfd x.op x.fd x.mask x.tag) ks c.settled.result.answer) (sym c.settled.ensures.picked)
-    (subst (P (EpollCtl x.epfd x.op x.fd x.mask x.tag) []) (sym c.settled.ensures.answer)
-    (subst (λ (z : ℤ). P (EpollCtl x.epfd z x.fd x.mask x.tag) [] c.in_ok-answer-in-EpollCtl.answer) (to_z-of_z w32 x.op fits) (c.in_ok-answer-in-EpollCtl.ensures.ok c.args.step caller c.args.now s at sound quiet stands))))
+    subst P (sym x.is)
+    (subst (λ (z : ℤ). P (EpollCtl x.epfd z x.fd x.mask x.tag)) (to_z-of_z w32 x.op fits) (c.in_ok-acted-in-EpollCtl.ensures.ok c.args.step caller s at sound quiet legal stands))
 
 pub returns-in_ok-acted-in-EpollWait-clause-ok : goal.returns-in_ok-acted-in-EpollWait-clause-ok
-returns-in_ok-acted-in-EpollWait-clause-ok c = λ caller s at sound quiet stands.
+returns-in_ok-acted-in-EpollWait-clause-ok c = λ caller s at sound quiet legal stands.
     let new : Parts = record { tables = c.args.tables.now; interest = c.epoll_wait.new.interest; now = c.args.now } in
     let limits = c.args.limits.now in
     let p = c.args.pid.0 in
@@ -177,10 +175,10 @@ returns-in_ok-acted-in-EpollWait-clause-ok c = λ caller s at sound quiet stands
     subst P (sym x.is)
     (subst (λ (z : ℤ). P (EpollWait x.epfd z x.timeout)) (to_z-of_z w32 x.max max_fits)
     (subst (λ (z : ℤ). P (EpollWait x.epfd (to_z w32 (of_z w32 x.max)) z)) (to_z-of_z w64 x.timeout timeout_fits)
-    (c.in_ok-acted-in-EpollWait.ensures.ok limits caller s at sound quiet stands)))
+    (c.in_ok-acted-in-EpollWait.ensures.ok limits caller s at sound quiet legal stands)))
 
 pub returns-in_ok-acted-in-Read-clause-ok : goal.returns-in_ok-acted-in-Read-clause-ok
-returns-in_ok-acted-in-Read-clause-ok c = λ caller s at sound quiet stands.
+returns-in_ok-acted-in-Read-clause-ok c = λ caller s at sound quiet legal stands.
     let new : Parts = record { tables = c.object_call.new.tables; interest = c.args.interest.now; now = c.args.now } in
     let acted = c.in_ok-acted-in-Read.acted in
     let P : List ℕ → Type 0 = λ ks. Goes (call_refusals c.args.limits.now s c.args.pid.0 c.args.call.now) (call_change c.args.limits.now s caller c.args.pid.0 c.args.call.now ks) s acted.answer ks new in
@@ -190,11 +188,11 @@ returns-in_ok-acted-in-Read-clause-ok c = λ caller s at sound quiet stands.
 pub returns-in_ok-acted-in-Read-clause-kept : goal.returns-in_ok-acted-in-Read-clause-kept
 returns-in_ok-acted-in-Read-clause-kept c = object_limits c.args.tables.now c.object_call.new.tables c.args.pid.0 c.in-Read.fd c.args.now c.args.call.now c.in_ok-acted-in-Read.acted.answer c.in_ok-acted-in-Read.ensures.ok
 
-pub returns-in_ok-acted-in-Read-clause-linked : goal.returns-in_ok-acted-in-Read-clause-linked
-returns-in_ok-acted-in-Read-clause-linked c = object_linked c.args.tables.now c.object_call.new.tables c.args.pid.0 c.in-Read.fd c.args.now c.args.call.now c.in_ok-acted-in-Read.acted.answer c.in_ok-acted-in-Read.ensures.ok c.args.interest.now c.requires.linked
+pub returns-in_ok-acted-in-Read-clause-keys : goal.returns-in_ok-acted-in-Read-clause-keys
+returns-in_ok-acted-in-Read-clause-keys c = object_keys c.args.tables.now c.object_call.new.tables c.args.pid.0 c.in-Read.fd c.args.now c.args.call.now c.in_ok-acted-in-Read.acted.answer c.in_ok-acted-in-Read.ensures.ok
 
 pub returns-in_ok-acted-in-Dup-clause-ok : goal.returns-in_ok-acted-in-Dup-clause-ok
-returns-in_ok-acted-in-Dup-clause-ok c = λ caller s at sound quiet stands.
+returns-in_ok-acted-in-Dup-clause-ok c = λ caller s at sound quiet legal stands.
     let v = c.args.tables.now in
     let new = c.dup.new.tables in
     let r = c.args.interest.now in
@@ -209,15 +207,15 @@ returns-in_ok-acted-in-Dup-clause-ok c = λ caller s at sound quiet stands.
     subst (λ (call : Call). P call acted.picked) (sym x.is) (subst (P (Dup x.fd)) (sym c.in_ok-acted-in-Dup.ensures.picked)
     (files_goes limits v new r c.args.now s p acted.answer c.requires.linked stands c.requires.limits tests to after c.in_ok-acted-in-Dup.ensures.ok))
 
-pub returns-in_ok-acted-in-Dup-clause-linked : goal.returns-in_ok-acted-in-Dup-clause-linked
-returns-in_ok-acted-in-Dup-clause-linked c =
+pub returns-in_ok-acted-in-Dup-clause-keys : goal.returns-in_ok-acted-in-Dup-clause-keys
+returns-in_ok-acted-in-Dup-clause-keys c =
     let v = c.args.tables.now in
     let p = c.args.pid.0 in
     let x = c.in-Dup in
-    opens_linked ((names_nothing v.files p x.fd.0, Ebadf) ∷ (nat_le v.limits.descriptors (one_free (numbers_of v.files p)), Emfile) ∷ []) (answer_one v.files p) (dup v.files p (named_by v.files p x.fd.0)) c.in_ok-acted-in-Dup.acted.answer v c.dup.new.tables c.in_ok-acted-in-Dup.ensures.ok c.args.interest.now c.requires.linked
+    opens_keys ((names_nothing v.files p x.fd.0, Ebadf) ∷ (nat_le v.limits.descriptors (one_free (numbers_of v.files p)), Emfile) ∷ []) (answer_one v.files p) (dup v.files p (named_by v.files p x.fd.0)) c.in_ok-acted-in-Dup.acted.answer v c.dup.new.tables c.in_ok-acted-in-Dup.ensures.ok
 
 pub returns-in_ok-acted-in-Dup2-clause-ok : goal.returns-in_ok-acted-in-Dup2-clause-ok
-returns-in_ok-acted-in-Dup2-clause-ok c = λ caller s at sound quiet stands.
+returns-in_ok-acted-in-Dup2-clause-ok c = λ caller s at sound quiet legal stands.
     let v = c.args.tables.now in
     let new = c.dup2.new.tables in
     let r = c.args.interest.now in
@@ -232,15 +230,15 @@ returns-in_ok-acted-in-Dup2-clause-ok c = λ caller s at sound quiet stands.
     subst (λ (call : Call). P call acted.picked) (sym x.is) (subst (P (Dup2 x.fd x.to)) (sym c.in_ok-acted-in-Dup2.ensures.picked)
     (files_goes limits v new r c.args.now s p acted.answer c.requires.linked stands c.requires.limits tests to after c.in_ok-acted-in-Dup2.ensures.ok))
 
-pub returns-in_ok-acted-in-Dup2-clause-linked : goal.returns-in_ok-acted-in-Dup2-clause-linked
-returns-in_ok-acted-in-Dup2-clause-linked c =
+pub returns-in_ok-acted-in-Dup2-clause-keys : goal.returns-in_ok-acted-in-Dup2-clause-keys
+returns-in_ok-acted-in-Dup2-clause-keys c =
     let v = c.args.tables.now in
     let p = c.args.pid.0 in
     let x = c.in-Dup2 in
-    opens_linked ((names_nothing v.files p x.fd.0, Ebadf) ∷ (not (is_in_range v.limits x.to.0), Ebadf) ∷ []) (Num (number_in x.to.0)) (dup2 v.files p x.fd.0 x.to.0 (named_by v.files p x.fd.0)) c.in_ok-acted-in-Dup2.acted.answer v c.dup2.new.tables c.in_ok-acted-in-Dup2.ensures.ok c.args.interest.now c.requires.linked
+    opens_keys ((names_nothing v.files p x.fd.0, Ebadf) ∷ (not (is_in_range v.limits x.to.0), Ebadf) ∷ []) (Num (number_in x.to.0)) (dup2 v.files p x.fd.0 x.to.0 (named_by v.files p x.fd.0)) c.in_ok-acted-in-Dup2.acted.answer v c.dup2.new.tables c.in_ok-acted-in-Dup2.ensures.ok
 
 pub returns-in-Close-clause-ok : goal.returns-in-Close-clause-ok
-returns-in-Close-clause-ok c = λ caller s at sound quiet stands.
+returns-in-Close-clause-ok c = λ caller s at sound quiet legal stands.
     let v = c.args.tables.now in
     let new = c.close-acted.new.tables in
     let r = c.args.interest.now in
@@ -256,7 +254,7 @@ returns-in-Close-clause-ok c = λ caller s at sound quiet stands.
     (files_goes limits v new r c.args.now s p acted.answer c.requires.linked stands c.requires.limits tests to after c.close-acted.ensures.ok))
 
 pub returns-in_ok-acted-in-Fork-clause-ok : goal.returns-in_ok-acted-in-Fork-clause-ok
-returns-in_ok-acted-in-Fork-clause-ok c = λ caller s at sound quiet stands.
+returns-in_ok-acted-in-Fork-clause-ok c = λ caller s at sound quiet legal stands.
     let v = c.args.tables.now in
     let new = c.fork.new.tables in
     let r = c.args.interest.now in
@@ -272,7 +270,7 @@ returns-in_ok-acted-in-Fork-clause-ok c = λ caller s at sound quiet stands.
     (files_goes limits v new r c.args.now s p acted.answer c.requires.linked stands c.requires.limits tests to after c.in_ok-acted-in-Fork.ensures.ok))
 
 pub returns-in-Exec-clause-ok : goal.returns-in-Exec-clause-ok
-returns-in-Exec-clause-ok c = λ caller s at sound quiet stands.
+returns-in-Exec-clause-ok c = λ caller s at sound quiet legal stands.
     let v = c.args.tables.now in
     let new = c.exec-acted.new.tables in
     let r = c.args.interest.now in
@@ -289,7 +287,7 @@ returns-in-Exec-clause-ok c = λ caller s at sound quiet stands.
     (files_goes limits v new r c.args.now s p acted.answer c.requires.linked stands c.requires.limits tests to after c.exec-acted.ensures.ok)))
 
 pub returns-in-Exit-clause-ok : goal.returns-in-Exit-clause-ok
-returns-in-Exit-clause-ok c = λ caller s at sound quiet stands.
+returns-in-Exit-clause-ok c = λ caller s at sound quiet legal stands.
     let v = c.args.tables.now in
     let new = c.exit-acted.new.tables in
     let r = c.args.interest.now in
@@ -335,8 +333,16 @@ returns-in_ok-acted-in-Dup2-clause-raised c = λ caller. nowhere_raises c.args.l
 pub returns-in_ok-acted-in-Fork-clause-raised : goal.returns-in_ok-acted-in-Fork-clause-raised
 returns-in_ok-acted-in-Fork-clause-raised c = λ caller. nowhere_raises c.args.limits.now c.args.step caller c.args.pid.0 c.args.call.now c.in_ok-acted-in-Fork.acted.picked c.in_ok-acted-in-Fork.acted.raising _ _ _ c.in_ok-acted-in-Fork.ensures.raising (subst IsOffObject (sym c.in-Fork.is) tt)
 
-pub returns-in_ok-answer-in-EpollCtl-clause-raised : goal.returns-in_ok-answer-in-EpollCtl-clause-raised
-returns-in_ok-answer-in-EpollCtl-clause-raised c = λ caller. nowhere_raises c.args.limits.now c.args.step caller c.args.pid.0 c.args.call.now c.settled.result.picked c.settled.result.raising _ _ _ c.settled.ensures.raising (subst IsOffObject (sym c.in-EpollCtl.is) tt)
+pub returns-in_ok-acted-in-EpollCtl-clause-raised : goal.returns-in_ok-acted-in-EpollCtl-clause-raised
+returns-in_ok-acted-in-EpollCtl-clause-raised c = λ caller s at sound quiet legal stands.
+    let limits = c.args.limits.now in
+    let p = c.args.pid.0 in
+    let acted = c.in_ok-acted-in-EpollCtl.acted in
+    let P : Call → Type 0 = λ call. Raises (call_refusals limits s p call) (call_change limits s caller p call acted.picked) acted.raising c.args.tables.now c.args.now in
+    let x = c.in-EpollCtl in
+    let fits : SFits w32 x.op = search rules in
+    subst P (sym x.is)
+    (subst (λ (z : ℤ). P (EpollCtl x.epfd z x.fd x.mask x.tag)) (to_z-of_z w32 x.op fits) (c.in_ok-acted-in-EpollCtl.ensures.raised c.args.step caller s at sound quiet legal stands))
 
 pub returns-in-Close-clause-raised : goal.returns-in-Close-clause-raised
 returns-in-Close-clause-raised c = λ caller. nowhere_raises c.args.limits.now c.args.step caller c.args.pid.0 c.args.call.now c.close-acted.result.picked c.close-acted.result.raising _ _ _ c.close-acted.ensures.raising (subst IsOffObject (sym c.in-Close.is) tt)
@@ -348,7 +354,7 @@ pub returns-in-Exit-clause-raised : goal.returns-in-Exit-clause-raised
 returns-in-Exit-clause-raised c = λ caller. nowhere_raises c.args.limits.now c.args.step caller c.args.pid.0 c.args.call.now c.exit-acted.result.picked c.exit-acted.result.raising _ _ _ c.exit-acted.ensures.raising (subst IsOffObject (sym c.in-Exit.is) tt)
 
 pub returns-in_ok-acted-in-Read-clause-raised : goal.returns-in_ok-acted-in-Read-clause-raised
-returns-in_ok-acted-in-Read-clause-raised c = λ caller s at sound quiet stands.
+returns-in_ok-acted-in-Read-clause-raised c = λ caller s at sound quiet legal stands.
     let acted = c.in_ok-acted-in-Read.acted in
     let P : List ℕ → Type 0 = λ ks. Raises (call_refusals c.args.limits.now s c.args.pid.0 c.args.call.now) (call_change c.args.limits.now s caller c.args.pid.0 c.args.call.now ks) acted.raising c.object_call.new.tables c.args.now in
     subst P (sym c.in_ok-acted-in-Read.ensures.picked)

@@ -7,4 +7,4 @@ from_test : (n : ℕ) → (n == 0) ≡ true → n ≡ 0
 from_test n h = grind (arith, nat_tests, h)
 
 pub returns-else-not-is_empty-clause-entries : goal.returns-else-not-is_empty-clause-entries
-returns-else-not-is_empty-clause-entries c = raised_none c.args.desc c.args.bits c.args.interest.now.entries (from_test c.args.bits.0 (sym (c.is_empty.ensures tt) ∙ c.if-not-is_empty.false))
+returns-else-not-is_empty-clause-entries c = raised_none c.args.desc c.args.bits c.args.step c.args.interest.now.entries (from_test c.args.bits.0 (sym (c.is_empty.ensures tt) ∙ c.if-not-is_empty.false))

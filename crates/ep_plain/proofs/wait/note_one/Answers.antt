@@ -13,6 +13,6 @@ returns-clause-entries c =
     let k = unwrap_or (number_under r c.args.id) 0 in
     let is = ap (numbered r.entries) (ap (λ (o : Option ℕ). unwrap_or o 0) c.entry.ensures.number) ∙ c.entry.ensures.entry in
     c.note.ensures.entries
-    ∙ noted_at c.args.step k c.stays_armed-armed.result r.entries
-    (subst (λ (b : Bool). AllByRecursion (λ x. (x.number == k) ≡ true → (x.armed && not (has_bit x.mask.0 ONESHOT)) ≡ b) r.entries) (sym c.stays_armed-armed.ensures)
+    ∙ noted_at c.args.step k c.stays_armed.result y.from r.entries
+    (subst (λ (b : Bool). AllByRecursion (λ x. (x.number == k) ≡ true → ((x.armed && not (has_bit x.mask.0 ONESHOT)) ≡ b) × (x.from ≡ y.from)) r.entries) (sym c.stays_armed.ensures)
     (of_number k y r.entries r.entries is (each_numbered 0 r.entries c.known.ensures.rises)))

@@ -1,0 +1,71 @@
+//! What an event raised climbs through instances.
+ghost use Rattle.std.specs.Prelude.{◌≡◌, ◌&&◌, ◌||◌, ◌==◌, IsSome, map, nat_lt};
+ghost use Rattle.ep_machine.specs.Bits.{IN, asked};
+ghost use Rattle.ep_machine.specs.Kept.{reached_now, reached_within};
+ghost use Rattle.ep_plain.specs.Climb.{AreNested, Climbs, climbs_to};
+ghost use Rattle.ep_plain.specs.Readiness.{watches_of};
+ghost use Rattle.ep_plain.specs.Stands.{AreLinked};
+ghost use Rattle.ep_table.specs.Value.{number_of, number_under};
+
+use bitflags::Flags;
+use ep_base::{DescId, Mask};
+use ep_interest::{Entry, Interest};
+use ep_nest::Graph;
+use ep_table::Tables;
+
+/// How many instances may watch each other in a chain.
+const LONGEST: u8 = 5;
+
+/// Whether a registration passes something of this step on, where `below` says whether IN reaches the instance that it
+/// watches.
+fn carries(entry: &Entry, step: u64, below: bool) -> bool
+    ensures { result ≡ (entry.now.from == step || entry.now.armed && below && nat_lt 0 (asked entry.now.mask.0 IN)) }
+{
+    let asked = entry.mask.union(Mask::ERR.union(Mask::HUP));
+    entry.from == step || entry.armed && below && !Mask::IN.intersection(asked).is_empty()
+}
+
+/// Whether IN reaches an instance from below in this step, looking down through at most so many instances.
+fn is_reached(tables: &Tables, interest: &Interest, instance: DescId, step: u64, levels: u8) -> bool
+    requires live { IsSome (number_under tables.now instance) }
+    requires linked { AreLinked tables.now interest.now }
+    ensures { result ≡ reached_within levels tables.now.files step (watches_of tables.now interest.now) (number_of tables.now instance) }
+{
+    if levels == 0 {
+        return false;
+    }
+    tables.known();
+    for (_, entry) in interest.entries(instance) {
+        let below = tables.object(entry.desc).is_instance()
+            && is_reached(tables, interest, entry.desc, step, levels - 1);
+        if carries(entry, step, below) {
+            return true;
+        }
+    }
+    false
+}
+
+/// Makes the registrations on an instance fresh where IN reaches it in this step.
+fn climb_to(tables: &Tables, interest: &mut Interest, instance: DescId, step: u64)
+    requires live { IsSome (number_under tables.now instance) }
+    requires linked { AreLinked tables.now interest.old }
+    ensures entries { interest.new.entries ≡ map (climbs_to (reached_now tables.now.files step (watches_of tables.now interest.old) (number_of tables.now instance)) instance) interest.old.entries }
+    ensures added { interest.new.added ≡ interest.old.added }
+{
+    if is_reached(tables, interest, instance, step, LONGEST) {
+        interest.freshen(instance, Mask::IN);
+    }
+}
+
+/// Makes fresh what watches an instance that IN reaches, and forgets what was passed on in this step.
+pub fn climb(tables: &Tables, interest: &mut Interest, graph: &Graph, step: u64)
+    requires linked { AreLinked tables.now interest.old }
+    requires nested { AreNested tables.now interest.old graph.now }
+    ensures climbs { Climbs step tables.now interest.old interest.new }
+    ensures nested { AreNested tables.now interest.new graph.now }
+{
+    for link in graph.links() {
+        climb_to(tables, interest, link.inner, step);
+    }
+    interest.settle();
+}
