@@ -1,6 +1,7 @@
 //! Whole scripts.
 
 mod edges;
+mod nests;
 mod plain;
 mod registrations;
 mod runs;

@@ -1,7 +1,7 @@
 //! Whole scripts over the scanning kernel.
 
 use crate::tests::scripts::{
-    DESCRIPTORS, EDGES, LEVEL, OBJECTS, REGISTRATIONS, SINGLE_LINES, Script,
+    CHANGED_NESTS, DESCRIPTORS, EDGES, LEVEL, NESTS, OBJECTS, REGISTRATIONS, SINGLE_LINES, Script,
 };
 use crate::{ScriptFault, Summary, Watched, run_script};
 use ep_base::Limits;
@@ -107,6 +107,22 @@ fn answers_scripts_about_registrations(rt: HostRuntime) -> Result<(), Fail> {
 #[test]
 fn answers_scripts_about_edges(rt: HostRuntime) -> Result<(), Fail> {
     for script in EDGES {
+        expect_lines(&rt, script)?;
+    }
+    Ok(())
+}
+
+#[test]
+fn answers_scripts_about_nests(rt: HostRuntime) -> Result<(), Fail> {
+    for script in NESTS {
+        expect_lines(&rt, script)?;
+    }
+    Ok(())
+}
+
+#[test]
+fn answers_scripts_about_changed_nests(rt: HostRuntime) -> Result<(), Fail> {
+    for script in CHANGED_NESTS {
         expect_lines(&rt, script)?;
     }
     Ok(())

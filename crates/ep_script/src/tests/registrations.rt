@@ -102,3 +102,47 @@ pub(crate) const KINDS: &[(&str, &str)] = &[
         r#"{"err":[22,"EINVAL"]}"#,
     ),
 ];
+
+/// Registrations are reported in turn. Which comes first is free; here it is the first that was made.
+pub(crate) const ROUND: &[(&str, &str)] = &[
+    (r#"{"op":"eventfd","init":1}"#, r#"{"num":3}"#),
+    (r#"{"op":"eventfd","init":1}"#, r#"{"num":4}"#),
+    (r#"{"op":"eventfd","init":1}"#, r#"{"num":5}"#),
+    (r#"{"op":"epoll"}"#, r#"{"num":6}"#),
+    (
+        r#"{"op":"ctl","ep":6,"act":"add","fd":3,"mask":"IN","data":3}"#,
+        r#"{"done":true}"#,
+    ),
+    (
+        r#"{"op":"ctl","ep":6,"act":"add","fd":4,"mask":"IN","data":4}"#,
+        r#"{"done":true}"#,
+    ),
+    (
+        r#"{"op":"ctl","ep":6,"act":"add","fd":5,"mask":"IN","data":5}"#,
+        r#"{"done":true}"#,
+    ),
+    (
+        r#"{"op":"wait","ep":6,"max":1,"timeout":0}"#,
+        r#"{"events":[[1,3]]}"#,
+    ),
+    (
+        r#"{"op":"wait","ep":6,"max":1,"timeout":0}"#,
+        r#"{"events":[[1,4]]}"#,
+    ),
+    (
+        r#"{"op":"wait","ep":6,"max":1,"timeout":0}"#,
+        r#"{"events":[[1,5]]}"#,
+    ),
+    (
+        r#"{"op":"wait","ep":6,"max":1,"timeout":0}"#,
+        r#"{"events":[[1,3]]}"#,
+    ),
+    (
+        r#"{"op":"wait","ep":6,"max":1,"timeout":0}"#,
+        r#"{"events":[[1,4]]}"#,
+    ),
+    (
+        r#"{"op":"wait","ep":6,"max":1,"timeout":0}"#,
+        r#"{"events":[[1,5]]}"#,
+    ),
+];

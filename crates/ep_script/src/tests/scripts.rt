@@ -1,7 +1,10 @@
 //! Scripts over the scanning kernel, each line with its answer.
 
 use crate::tests::edges::{EDGE, MODIFIED, PERIODIC};
-use crate::tests::registrations::{KEY, KINDS, ONE_SHOT};
+use crate::tests::nests::{
+    DEATH_BELOW, DELETED, DEPTH, DISARMED, EMPTIED, EXPIRED_BELOW, LEVELS, LOOP_FIRST, TWO_WAYS,
+};
+use crate::tests::registrations::{KEY, KINDS, ONE_SHOT, ROUND};
 
 /// A script over a new kernel of these limits.
 pub(crate) struct Script {
@@ -357,6 +360,10 @@ pub(crate) const REGISTRATIONS: &[Script] = &[
         limits: DEFAULT,
         lines: KINDS,
     },
+    Script {
+        limits: DEFAULT,
+        lines: ROUND,
+    },
 ];
 
 /// What edge-triggered registrations report.
@@ -375,6 +382,50 @@ pub(crate) const EDGES: &[Script] = &[
     },
 ];
 
+/// What instances that watch instances report.
+pub(crate) const NESTS: &[Script] = &[
+    Script {
+        limits: DEFAULT,
+        lines: DEPTH,
+    },
+    Script {
+        limits: DEFAULT,
+        lines: EMPTIED,
+    },
+    Script {
+        limits: DEFAULT,
+        lines: DISARMED,
+    },
+    Script {
+        limits: DEFAULT,
+        lines: LEVELS,
+    },
+];
+
+/// What is added, deleted, dies or expires in nested instances.
+pub(crate) const CHANGED_NESTS: &[Script] = &[
+    Script {
+        limits: [16, 16, 2, 1, 4_096, 4_096],
+        lines: LOOP_FIRST,
+    },
+    Script {
+        limits: DEFAULT,
+        lines: DELETED,
+    },
+    Script {
+        limits: DEFAULT,
+        lines: DEATH_BELOW,
+    },
+    Script {
+        limits: DEFAULT,
+        lines: EXPIRED_BELOW,
+    },
+    Script {
+        limits: DEFAULT,
+        lines: TWO_WAYS,
+    },
+];
+
 /// Each is the only line of its script.
 pub(crate) const SINGLE_LINES: &[(&str, &str)] = &[
     (r#"{"op":"pi"#, r#"{"bad":1}"#),
@@ -389,6 +440,14 @@ pub(crate) const SINGLE_LINES: &[(&str, &str)] = &[
     (
         r#"{"op":"wait","ep":0,"max":1,"timeout":0}"#,
         r#"{"err":[22,"EINVAL"]}"#,
+    ),
+    (
+        r#"{"op":"wait","ep":99,"max":0,"timeout":0}"#,
+        r#"{"err":[22,"EINVAL"]}"#,
+    ),
+    (
+        r#"{"op":"ctl","ep":98,"act":"add","fd":99,"mask":"IN","data":0}"#,
+        r#"{"err":[9,"EBADF"]}"#,
     ),
     (r#"{"op":"tick","n":1000000000000}"#, r#"{"done":true}"#),
     (
