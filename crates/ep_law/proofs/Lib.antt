@@ -1,3 +1,4 @@
+pub mod Present
 pub mod Bitwise
 pub mod Asking
 pub mod Reaching

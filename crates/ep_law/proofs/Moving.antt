@@ -21,7 +21,7 @@ use Rattle.ep_machine.specs.Files.{Files, Place, live, named_by, names_nothing, 
 use Rattle.ep_machine.specs.Laws.{Member}
 use Rattle.ep_machine.specs.Lists.{is_among}
 use Rattle.ep_machine.specs.Objects.{Object, advance, is_plain, object_effect, object_present, object_refusals, plain}
-use Rattle.ep_machine.specs.Quiet.{present_at}
+use Rattle.ep_law.proofs.Present.{present_at}
 use Rattle.ep_machine.specs.Readiness.{is_ready, is_reportable}
 use Rattle.ep_machine.specs.Refusal.{call_refusals, on_object, refusals}
 use Rattle.ep_machine.specs.Report.{is_pick, plainly, report, report_of, reported, watches_at}

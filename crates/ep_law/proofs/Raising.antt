@@ -13,7 +13,7 @@ use Rattle.ep_machine.specs.Files.{Files, Place, is_live, live, object_at, place
 use Rattle.ep_machine.specs.Laws.{Member}
 use Rattle.ep_machine.specs.Lists.{are_distinct, numbered}
 use Rattle.ep_machine.specs.Objects.{Object, close_end, object_present, plain}
-use Rattle.ep_machine.specs.Quiet.{present_at}
+use Rattle.ep_law.proofs.Present.{present_at}
 use Rattle.ep_machine.specs.Spread.{raised_alive, raised_of}
 use Rattle.ep_machine.specs.State.{State}
 use Rattle.ep_machine.proofs.Dying.{ArePlaced, after_all, apart_from_rest, get_other, numbers, same_nat, same_or_not, still_placed}

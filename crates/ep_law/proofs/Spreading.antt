@@ -16,7 +16,7 @@ use Rattle.ep_machine.specs.Files.{Files, Place, is_live, object_of, opening_fil
 use Rattle.ep_machine.specs.Laws.{Member}
 use Rattle.ep_machine.specs.Lists.{is_among}
 use Rattle.ep_machine.specs.Objects.{Object, counter, instance, is_instance, object_present, pair, pipe, plain, timer}
-use Rattle.ep_machine.specs.Quiet.{present_at}
+use Rattle.ep_law.proofs.Present.{present_at}
 use Rattle.ep_machine.specs.Readiness.{is_ready, is_ready_within, is_reportable, present, present_by, present_of}
 use Rattle.ep_machine.specs.Refusal.{refusals}
 use Rattle.ep_machine.specs.Settle.{came, reportable_numbers, settle}
