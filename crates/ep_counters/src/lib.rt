@@ -4,8 +4,6 @@
 mod event_fd;
 mod law;
 mod outcome;
-#[cfg(test)]
-mod tests;
 mod timer;
 
 pub use crate::event_fd::EventFd;

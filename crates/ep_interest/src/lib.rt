@@ -5,8 +5,6 @@ mod entries;
 mod entry;
 mod interest;
 mod place;
-#[cfg(test)]
-mod tests;
 
 pub use crate::entries::{Entries, Watchers};
 pub use crate::entry::Entry;

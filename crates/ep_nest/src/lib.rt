@@ -5,8 +5,6 @@ mod graph;
 mod lengths;
 mod link;
 mod scratch;
-#[cfg(test)]
-mod tests;
 mod walk;
 
 pub use crate::graph::Graph;

@@ -3,8 +3,6 @@
 
 mod law;
 mod object;
-#[cfg(test)]
-mod tests;
 
 pub use crate::law::arrivals_are_raised;
 pub use crate::object::Object;

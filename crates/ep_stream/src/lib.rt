@@ -7,8 +7,6 @@ mod law;
 mod pipe;
 mod queue;
 mod sock_pair;
-#[cfg(test)]
-mod tests;
 
 pub use crate::law::arrivals_are_raised;
 pub use crate::pipe::Pipe;

@@ -12,8 +12,3 @@ mod words;
 pub use crate::live::Live;
 pub use crate::tables::Tables;
 pub use crate::words::Dead;
-
-#[cfg(test)]
-mod refused;
-#[cfg(test)]
-mod tests;

@@ -1,5 +1,5 @@
 use Rattle.std.proofs.Common.{length, ◌*◌, ◌+◌, ◌≤◌}
-use Rattle.ep_table.proofs.refused.first_refusal.Given as goal
+use Rattle.ep_tests.proofs.refused.first_refusal.Given as goal
 
 abbrev pub invariant-loop-turn : goal.invariant-loop-turn
 invariant-loop-turn l = record {

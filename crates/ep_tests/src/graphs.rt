@@ -4,8 +4,8 @@ ghost use Rattle.ep_machine.specs.Lists.{is_among};
 ghost use Rattle.ep_nest.specs.Chains.{IsAbove};
 ghost use Rattle.ep_nest.specs.Links.{admitted_by, edges, keys};
 
-use crate::{Graph, Link};
 use ep_base::{DescId, EntryId, Errno};
+use ep_nest::{Graph, Link};
 use linked_list_allocator::LocalHeap;
 use std::alloc::AllocError;
 use std::process::Abort;

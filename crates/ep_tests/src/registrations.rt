@@ -1,8 +1,9 @@
+//! The registrations: found, in order, used again, removed with what they touch, and refused memory.
 ghost use Rattle.std.specs.Prelude.{◌≡◌, ◌+◌, ◌<◌, ◌≤◌, ◌^◌, IfOk, IsSome, OnErr, OnOk, filter};
 ghost use Rattle.ep_interest.specs.Registrations.{is_of};
 
-use super::*;
 use ep_base::{Counts, DescId, EntryId, Fd, Mask};
+use ep_interest::{Entry, Interest};
 use linked_list_allocator::LocalHeap;
 use std::alloc::{AllocError, Global};
 use std::process::Abort;

@@ -1,11 +1,11 @@
-//! Values of the manual pages and of worked runs: tables of calls, which one function makes in turn.
+//! Values of the manual pages and worked runs of the objects that count: tables of calls, which one function makes in turn.
 
 use self::CounterCall::{Longer, Read, Shorter, Write};
 use self::TimerCall::{Advance, Get, Next, Set, Take};
 use self::Want::{Done, Number, Refused, Time, Value};
-use crate::{EventFd, Timer};
 use ep_base::Errno::{Eagain, Einval};
 use ep_base::{Answer, Errno, Mask, Raised};
+use ep_counters::{EventFd, Timer};
 use std::process::Abort;
 
 const IN: u32 = 1;

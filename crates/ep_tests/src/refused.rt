@@ -1,10 +1,10 @@
-//! Each call that can grow is refused its memory over heaps of rising size, and leaves the tables.
+//! Each call on the tables that can grow is refused its memory over heaps of rising size, and leaves the tables.
 ghost use Rattle.std.specs.Prelude.{◌≡◌, ◌+◌, ◌<◌, ◌≤◌, ◌^◌, [], length};
 
 use self::Growth::{Create, CreateTwo, Dup, Dup2, Fork};
-use crate::Tables;
 use ep_base::{Answer, Fd, Limits, Pid};
 use ep_object::Object;
+use ep_table::Tables;
 use linked_list_allocator::LocalHeap;
 use std::alloc::{AllocError, Global};
 use std::process::Abort;

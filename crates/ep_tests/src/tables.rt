@@ -1,4 +1,4 @@
-//! Worked runs: tables of calls, which one function makes in turn, after an object is made.
+//! Worked runs of the tables: tables of calls, which one function makes in turn, after an object is made.
 ghost use Rattle.std.specs.Prelude.{◌≡◌, ◌+◌, ◌<◌, ◌^◌, length};
 
 use self::Kind::{Instance, Pipe, Timer};
@@ -8,10 +8,10 @@ use self::Op::{
 use self::View::{Advance, Next, Other, Present, Side, Waiting};
 use self::Want::{Bits, Byte, Died, Done, Named, Nothing, Number, Pair, Refused};
 use self::Who::{First, Nobody, Second, Third};
-use crate::Tables;
 use ep_base::Errno::{Eagain, Ebadf, Emfile, Enfile, Esrch};
 use ep_base::{Answer, Buffer, Call, DescId, End, Errno, Fd, Limits, Pid};
 use ep_object::Object;
+use ep_table::Tables;
 use std::alloc::{AllocError, Global};
 use std::process::Abort;
 

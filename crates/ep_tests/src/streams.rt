@@ -1,11 +1,11 @@
-//! Values of the manual pages and of worked runs: tables of calls, which one function makes in turn.
+//! Values of the manual pages and worked runs of byte streams: tables of calls, which one function makes in turn.
 
 use self::Op::{Close, Read, Shutdown, Waiting, Write};
 use self::Want::{Done, Given, Number, Refused};
-use crate::{Pipe, SockPair};
 use ep_base::End::{First, Second};
 use ep_base::Errno::{Eagain, Ebadf, Epipe};
 use ep_base::{Answer, End, Errno, Mask, Raised};
+use ep_stream::{Pipe, SockPair};
 use std::alloc::{AllocError, Global};
 use std::process::Abort;
 

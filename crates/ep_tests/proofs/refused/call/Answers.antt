@@ -1,7 +1,7 @@
 use Rattle.std.proofs.Common.{false}
 use Rattle.ep_table.specs.Value.{two_refusal}
 use Rattle.ep_table.proofs.Making.{call_makes_two}
-use Rattle.ep_table.proofs.refused.call.Goals as goal
+use Rattle.ep_tests.proofs.refused.call.Goals as goal
 
 pub returns-in_ok-pair-in-CreateTwo-clause-descriptions : goal.returns-in_ok-pair-in-CreateTwo-clause-descriptions
 returns-in_ok-pair-in-CreateTwo-clause-descriptions c =

@@ -1,11 +1,11 @@
-//! Worked runs of each kind: tables of calls, which one function makes in turn.
+//! Worked runs of each kind of object: tables of calls, which one function makes in turn.
 
 use self::Op::{Advance, Close, Create, Get, Next, Read, Set, Shutdown, Waiting, Write};
 use self::Want::{Done, Number, Refused, Text, Time, Value};
-use crate::Object;
 use ep_base::End::{First, Second};
 use ep_base::Errno::{Eagain, Ebadf, Einval, Enotsock, Epipe};
 use ep_base::{Answer, Buffer, Call, End, Errno, Fd, Mask, Raised};
+use ep_object::Object;
 use std::alloc::{AllocError, Global};
 use std::process::Abort;
 
