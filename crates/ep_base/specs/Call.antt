@@ -3,7 +3,7 @@ use Rattle.std.specs.Prelude.{[], ◌≡◌}
 use Rattle.ep_base.specs.declared.call.Call.{Call}
 use Rattle.ep_base.specs.declared.call.Call.TheVariants.{Write}
 use Rattle.ep_base.specs.declared.call.Event.{Event}
-use Rattle.ep_base.specs.declared.call.Event.TheVariants.{Call as CallOf, Tick}
+use Rattle.ep_base.specs.declared.call.Event.TheVariants.{Call as CallOf, Resume, Tick}
 
 -- it writes no bytes
 abbrev pub HasNoBytes : Call → Type 0
@@ -14,3 +14,4 @@ HasNoBytes call = Unit {0}
 abbrev pub EventHasNoBytes : Event → Type 0
 EventHasNoBytes (CallOf pid call) = HasNoBytes call
 EventHasNoBytes (Tick n) = Unit {0}
+EventHasNoBytes Resume = Unit {0}

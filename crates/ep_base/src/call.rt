@@ -166,6 +166,8 @@ impl Call {
 pub enum Event {
     /// A call of a process.
     Call { pid: Pid, call: Call },
+    /// A parked caller asks whether it may go on.
+    Resume,
     /// The clock goes on by `n` milliseconds.
     Tick { n: u64 },
 }
@@ -181,6 +183,7 @@ impl Event {
                 pid: *pid,
                 call: call.copy()?,
             },
+            Event::Resume => Event::Resume,
             Event::Tick { n } => Event::Tick { n: *n },
         })
     }

@@ -27,6 +27,7 @@ fn copies_of_events(rt: HostRuntime) -> Result<(), Fail> {
     assert_eq!(rt; bytes.into_vec().as_slice(), b"abc".as_slice());
     let tick = Event::Tick { n: 5 };
     assert!(rt; matches!(tick.copy()?, Event::Tick { n: 5 }));
+    assert!(rt; matches!(Event::Resume.copy()?, Event::Resume));
     Ok(())
 }
 

@@ -6,11 +6,11 @@ use Rattle.std.proofs.lemmas.Bool.{cases_Bool}
 use Rattle.std.proofs.lemmas.List.{get_or_append_left, get_or-set_same}
 use Rattle.ep_base.specs.Limits.{Limits}
 use Rattle.ep_base.specs.declared.answer.Answer.{Answer}
-use Rattle.ep_base.specs.declared.answer.Answer.TheVariants.{Events}
+use Rattle.ep_base.specs.declared.answer.Answer.TheVariants.{Events, Still}
 use Rattle.ep_base.specs.declared.call.Call.{Call}
 use Rattle.ep_base.specs.declared.call.Call.TheVariants.{Close, Dup, Dup2, EpollCreate, EpollCtl, EpollWait, EventFd, Exec, Exit, Fork, GetTime, Pipe as PipeCall, Plain, Read, SetTime, Shutdown, SocketPair, TimerFd, Write}
 use Rattle.ep_base.specs.declared.call.Event.{Event}
-use Rattle.ep_base.specs.declared.call.Event.TheVariants.{Call as CallOf, Tick}
+use Rattle.ep_base.specs.declared.call.Event.TheVariants.{Call as CallOf, Resume, Tick}
 use Rattle.ep_base.specs.declared.errno.Errno.{Errno}
 use Rattle.ep_base.specs.declared.errno.Errno.TheVariants.{Ebadf, Ebusy, Esrch}
 use Rattle.ep_base.specs.declared.object.End.{End}
@@ -29,7 +29,7 @@ use Rattle.ep_machine.specs.Spread.{raised_of}
 use Rattle.ep_machine.specs.State.{Change, State, Waiter, Watch, counts_of}
 use Rattle.ep_machine.specs.Step.{call_change, change, object_change}
 use Rattle.ep_machine.specs.Tables.{affected, create_one, create_two, dup2, new_object, same_number}
-use Rattle.ep_machine.specs.Waits.{advance_at, is_parked, tick, wait, wait_for}
+use Rattle.ep_machine.specs.Waits.{advance_at, is_due, is_parked, leave, leave_after, resume_by, resume_empty, tick, unmarked, wait, wait_for, waiter_of}
 use Rattle.ep_machine.specs.Watches.{add, ctl, delete, has_key, is_add, is_del, looked_at, modified, modify, new_watch, number_in, with_watch}
 use Rattle.ep_machine.proofs.Chains.{member_of_map}
 use Rattle.ep_machine.proofs.Distinct.{filtered_member}
@@ -311,6 +311,30 @@ moves_wait_for b caller p e most (negsuc k) own = moves_tables b b.files _ refl 
 fine_wait : (b : State) (caller p e most : ℕ) (timeout : ℤ) (ks : List ℕ) → Own b.files → Fine b (wait b caller p e most timeout ks)
 fine_wait b caller p e most timeout ks own = fine_if b (is_ready b e) _ _ (fine_report b e most ks own) (fine_plainly b ks _ (moves_wait_for b caller p e most timeout own))
 
+-- a resumption reports and leaves, or is over, or goes on without its mark
+fine_left : (b : State) (caller e most : ℕ) (ks : List ℕ) → Own b.files → Fine b (leave_after caller (report b e most ks))
+unfolding Fine
+fine_left b caller e most ks own =
+    let c : Change = (Events (map (report_of b) (watches_at b.watches ks)), record b { watches = map (reported b ks) b.watches }, []) in
+    let moves : Moves b (leave caller c).1 [] = record {
+      arrivals = refl;
+      own = own;
+      narrows = narrows_self b.files own.made;
+      shows = λ d p here. covers_self _ _;
+      comes = λ y m. let w = member_of_map (reported b ks) b.watches y m in inl (subst (Kept b) w.2 (kept_reported b ks w.0 w.1));
+    } in
+    elim (is_pick b e most ks) as (λ t. Fine b (leave_after caller (cond t (Some c) None))) [ true ↦ moves | false ↦ tt ]
+
+moves_resume_empty : (b : State) (w : Waiter) → Own b.files → Moves b (resume_empty b w).1 (resume_empty b w).2
+moves_resume_empty b w own =
+    moves_if b (is_due b.now w.deadline) (leave w.caller (Events [], b, [])) (Still, unmarked b w.caller, []) (moves_tables b b.files _ refl refl own) (moves_tables b b.files _ refl refl own)
+
+fine_resume : (b : State) (o : Option Waiter) (ks : List ℕ) → Own b.files → Fine b (resume_by b o ks)
+fine_resume b None ks own = fine_plainly b ks (Still, b, []) (moves_tables b b.files b.waiters refl refl own)
+fine_resume b (Some w) ks own =
+    fine_if b (not w.marked) _ _ (fine_plainly b ks (Still, b, []) (moves_tables b b.files b.waiters refl refl own))
+    (fine_if b (is_ready b w.instance) _ _ (fine_left b w.caller w.instance w.most ks own) (fine_plainly b ks _ (moves_resume_empty b w own)))
+
 first_rest : (t : Bool) (e : Errno) (rows : List (Bool × Errno)) → first ((t, e) ∷ rows) ≡ None → first rows ≡ None
 first_rest true e rows h = cc
 first_rest false e rows h = h
@@ -347,6 +371,7 @@ module _ (apply : ApplyLaw) (clock : AdvanceLaw) (limits : Limits) (b : State) (
   fine_change (CallOf p call) allowed =
       let rows = call_refusals limits b p.0 call in
       fine_call p.0 call (first_rest (is_parked b caller) Ebusy rows (first_rest (is_none (table_of b.files p.0)) Esrch ((is_parked b caller, Ebusy) ∷ rows) allowed))
+  fine_change Resume allowed = fine_resume b (waiter_of b caller) ks own
   fine_change (Tick k) allowed = fine_plainly b ks _ (moves_tick clock b k own)
 
   pub moves_change : (event : Event) (c : Change) → first (refusals limits b caller event) ≡ None → change limits b caller event ks ≡ Some c → Moves b c.1 c.2

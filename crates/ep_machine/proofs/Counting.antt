@@ -5,14 +5,15 @@ use Rattle.std.proofs.lemmas.Option.{none-some}
 use Rattle.ep_base.specs.Limits.{Limits}
 use Rattle.ep_base.specs.declared.call.Call.TheVariants.{Close, Dup, Dup2, EpollCreate, EpollCtl, EpollWait, EventFd, Exec, Exit, Fork, GetTime, Pipe as PipeCall, Plain, Read, SetTime, Shutdown, SocketPair, TimerFd, Write}
 use Rattle.ep_base.specs.declared.call.Event.{Event}
-use Rattle.ep_base.specs.declared.call.Event.TheVariants.{Call as CallOf, Tick}
+use Rattle.ep_base.specs.declared.call.Event.TheVariants.{Call as CallOf, Resume, Tick}
 use Rattle.ep_machine.specs.Files.{named_by}
 use Rattle.ep_machine.specs.Readiness.{is_ready}
 use Rattle.ep_machine.specs.Report.{is_pick, plainly, report}
 use Rattle.ep_machine.specs.State.{Change, State}
 use Rattle.ep_machine.specs.Step.{begun, change}
-use Rattle.ep_machine.specs.Waits.{wait_for}
+use Rattle.ep_machine.specs.Waits.{leave, leave_after, wait_for}
 use Rattle.ep_machine.specs.Watches.{is_add, is_del, number_in}
+use Rattle.ep_machine.proofs.Resuming.{resumes}
 
 n_of : Option Change → ℕ
 n_of None = 0
@@ -46,6 +47,13 @@ wait_for_n s caller p e most (pos zero) = refl
 wait_for_n s caller p e most (pos (suc k)) = refl
 wait_for_n s caller p e most (negsuc k) = refl
 
+keeps_left : (m caller : ℕ) (o : Option Change) → Keeps m o → Keeps m (leave_after caller o)
+keeps_left m caller None h = keeps_none m
+keeps_left m caller (Some c) h = keeps_some m (leave caller c) (h c refl)
+
+keeps_report : (s : State) (e most : ℕ) (ks : List ℕ) → Keeps s.n (report s e most ks)
+keeps_report s e most ks = keeps_if s.n (is_pick s e most ks) _ None (keeps_some s.n _ refl) (keeps_none s.n)
+
 pub change_n : (limits : Limits) (s : State) (caller : ℕ) (event : Event) (ks : List ℕ) → Keeps s.n (change limits s caller event ks)
 change_n limits s caller (CallOf p (PipeCall cloexec)) ks = keeps_plainly s.n ks _ refl
 change_n limits s caller (CallOf p (EventFd init semaphore cloexec)) ks = keeps_plainly s.n ks _ refl
@@ -57,7 +65,7 @@ change_n limits s caller (CallOf p (EpollCtl epfd op fd mask tag)) ks = keeps_pl
 change_n limits s caller (CallOf p (EpollWait epfd most timeout)) ks =
     let e = named_by s.files p.0 epfd.0 in
     keeps_if s.n (is_ready s e) (report s e (number_in most) ks) (plainly ks (wait_for s caller p.0 e (number_in most) timeout))
-    (keeps_if s.n (is_pick s e (number_in most) ks) _ None (keeps_some s.n _ refl) (keeps_none s.n))
+    (keeps_report s e (number_in most) ks)
     (keeps_plainly s.n ks _ (wait_for_n s caller p.0 e (number_in most) timeout))
 change_n limits s caller (CallOf p (Read fd n)) ks = keeps_plainly s.n ks _ refl
 change_n limits s caller (CallOf p (Write fd bytes)) ks = keeps_plainly s.n ks _ refl
@@ -70,6 +78,7 @@ change_n limits s caller (CallOf p (Close fd)) ks = keeps_plainly s.n ks _ refl
 change_n limits s caller (CallOf p Fork) ks = keeps_plainly s.n ks _ refl
 change_n limits s caller (CallOf p Exec) ks = keeps_plainly s.n ks _ refl
 change_n limits s caller (CallOf p Exit) ks = keeps_plainly s.n ks _ refl
+change_n limits s caller Resume ks = resumes (Keeps s.n) s caller ks (keeps_plainly s.n ks _ refl) (λ w. keeps_left s.n w.caller _ (keeps_report s w.instance w.most ks)) (λ w. keeps_plainly s.n ks _ refl) (λ w. keeps_plainly s.n ks _ refl)
 change_n limits s caller (Tick k) ks = keeps_plainly s.n ks _ refl
 
 pub after_first : (n : ℕ) → (0 == n + 1) ≡ false

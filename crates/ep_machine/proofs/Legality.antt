@@ -7,7 +7,7 @@ use Rattle.ep_base.specs.declared.answer.Answer.TheVariants.{Events}
 use Rattle.ep_base.specs.declared.call.Call.{Call}
 use Rattle.ep_base.specs.declared.call.Call.TheVariants.{Close, Dup, Dup2, EpollCreate, EpollCtl, EpollWait, EventFd, Exec, Exit, Fork, GetTime, Pipe as PipeCall, Plain, Read, SetTime, Shutdown, SocketPair, TimerFd, Write}
 use Rattle.ep_base.specs.declared.call.Event.{Event}
-use Rattle.ep_base.specs.declared.call.Event.TheVariants.{Call as CallOf, Tick}
+use Rattle.ep_base.specs.declared.call.Event.TheVariants.{Call as CallOf, Resume, Tick}
 use Rattle.ep_base.specs.declared.errno.Errno.{Errno}
 use Rattle.ep_base.specs.declared.errno.Errno.TheVariants.{Eloop, Eperm}
 use Rattle.ep_machine.specs.Deaths.{buried, die_all, dying, is_kept}
@@ -23,14 +23,15 @@ use Rattle.ep_machine.specs.Run.{run}
 use Rattle.ep_machine.specs.Report.{is_pick, plainly, report, report_of, reported, watches_at}
 use Rattle.ep_machine.specs.Settle.{came, reportable_numbers, settle}
 use Rattle.ep_machine.specs.Spread.{arrived}
-use Rattle.ep_machine.specs.State.{Change, State, Watch, opening}
+use Rattle.ep_machine.specs.State.{Change, State, Waiter, Watch, opening}
 use Rattle.ep_machine.specs.Step.{begun, call_change, change, refused_or, settled, step}
 use Rattle.ep_machine.specs.Tables.{dup2, same_number}
-use Rattle.ep_machine.specs.Waits.{wait, wait_for}
+use Rattle.ep_machine.specs.Waits.{leave_after, wait, wait_for}
 use Rattle.ep_machine.specs.Watches.{ctl, delete, has_key, is_add, is_del, is_legal, links, modified, modify, new_watch, number_in, with_watch}
 use Rattle.ep_machine.proofs.Chains.{Within, has_instance, legal_within, link_from, link_in, link_of, member_of_map}
 use Rattle.ep_machine.proofs.Distinct.{filtered_member}
 use Rattle.ep_machine.proofs.Instances.{AreMade, Narrows, narrows_affected, narrows_deaths, narrows_one, narrows_self, narrows_two, watched_below}
+use Rattle.ep_machine.proofs.Resuming.{left_after, resumes}
 use Rattle.ep_machine.proofs.Stepping.{run_keeps}
 
 -- the graph is legal; places are of objects, and targets of descriptions, that were made
@@ -250,10 +251,17 @@ fine_call limits s caller p Fork ks a b h = fine_plainly ks _ (linked_tables s _
 fine_call limits s caller p Exec ks a b h = fine_plainly ks _ (linked_tables s _ refl refl refl h)
 fine_call limits s caller p Exit ks a b h = fine_plainly ks _ (linked_tables s _ refl refl refl h)
 
+fine_left : (caller : ℕ) (o : Option Change) → Fine o → Fine (leave_after caller o)
+unfolding Fine
+fine_left caller o h = left_after Linked (λ t ws l. linked_tables t _ refl refl refl l) caller o h
+
 fine_change : (limits : Limits) (s : State) (caller : ℕ) (event : Event) (ks : List ℕ) → first (refusals limits s caller event) ≡ None → Linked s → Fine (change limits s caller event ks)
 fine_change limits s caller (CallOf p call) ks allowed h =
     let rows = refusals limits s caller (CallOf p call) in
     fine_call limits s caller p.0 call ks (none_held is_eloop rows allowed) (none_held is_eperm rows allowed) h
+fine_change limits s caller Resume ks allowed h =
+    let same : (t : State) (ws : List Waiter) → Linked t → Linked (record t { waiters = ws }) = λ t ws l. linked_tables t _ refl refl refl l in
+    resumes Fine s caller ks (fine_plainly ks _ h) (λ w. fine_left w.caller _ (fine_report s w.instance w.most ks h)) (λ w. fine_plainly ks _ (same s _ h)) (λ w. fine_plainly ks _ (same s _ h))
 fine_change limits s caller (Tick k) ks allowed h = fine_plainly ks _ (linked_tables s _ refl refl refl h)
 
 linked_settle : (before after : State) (raised : List (ℕ × ℕ)) → Linked after → Linked (settle before after raised)

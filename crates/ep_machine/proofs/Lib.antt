@@ -13,6 +13,10 @@ pub mod Reaching
 pub mod Survivors
 pub mod Settling
 pub mod Showing
+pub mod Resuming
+pub mod Waiters
+pub mod Marks
+pub mod Renaming
 pub mod Picking
 pub mod Reporting
 pub mod Members

@@ -157,7 +157,7 @@ module _ (s : State) (lives : (d : ℕ) → is_among (named s) d ≡ true → is
   left : (d : ℕ) → place_of (after_all s.files (dying s)) d ≡ (if is_among (numbers (dying s)) d then None else place_of s.files d)
   left = places_left s.files (dying s) (dying_distinct s) (dying_placed s)
 
-  live_left : (d : ℕ) → is_live (after_all s.files (dying s)) d ≡ is_among (named s) d
+  pub live_left : (d : ℕ) → is_live (after_all s.files (dying s)) d ≡ is_among (named s) d
   live_left d = ap is_some (left d) ∙ elim (cases_Bool (is_among (named s) d)) [
     | inl holds ↦
         let stays : is_among (numbers (dying s)) d ≡ false = elim (cases_Bool (is_among (numbers (dying s)) d)) [

@@ -1,5 +1,5 @@
 -- What tables name, and what descriptions and objects are there after a creation or a change of an object.
-use Rattle.std.proofs.Common.{nat_lt, ◌≡◌, ◌≢◌, ℕ, zero, suc, ◌==◌, ◌||◌, ◌⊎◌, ◌++◌, ◌∙◌, Bool, List, [], ◌∷◌, None, Option, Some, ℤ, pos, negsuc, true, false, ap, arith, get_or, if◌then◌else◌, inl, inr, is_none, is_some, length, map, refl, set, subst, sym, unwrap_or}
+use Rattle.std.proofs.Common.{nat_lt, ◌<◌, ◌≡◌, ◌≢◌, ℕ, zero, suc, ◌==◌, ◌||◌, ◌⊎◌, ◌++◌, ◌∙◌, Bool, List, [], ◌∷◌, None, Option, Some, ℤ, pos, negsuc, true, false, ap, arith, get_or, if◌then◌else◌, inl, inr, is_none, is_some, length, map, refl, set, subst, sym, unwrap_or}
 use Rattle.std.specs.List.{filter_map}
 use Rattle.std.proofs.lemmas.Bool.{false≢true}
 use Rattle.std.proofs.lemmas.Bool.Decides.{nat_tests}
@@ -9,6 +9,7 @@ use Rattle.ep_machine.specs.Files.{Files, Place, Slot, Table, description_in, is
 use Rattle.ep_machine.specs.Lists.{enter, is_among, place_at}
 use Rattle.ep_machine.specs.Objects.{Object}
 use Rattle.ep_machine.specs.Quiet.{can_be_watched, is_backed, kind_of}
+use Rattle.ep_machine.specs.State.{Waiter}
 use Rattle.ep_machine.specs.Tables.{close, create_one, create_two, describe, dup, dup2, exec, exit, fork, kept_by_exec, new_object, same_number, slot, with_table}
 use Rattle.ep_machine.proofs.Dying.{same_or_not}
 
@@ -51,7 +52,7 @@ same_nat : (n : ℕ) → (n == n) ≡ true
 same_nat n = grind (arith, nat_tests)
 
 -- Names in tables.
-among_append : (xs ys : List ℕ) (d : ℕ) → is_among (xs ++ ys) d ≡ (is_among xs d || is_among ys d)
+pub among_append : (xs ys : List ℕ) (d : ℕ) → is_among (xs ++ ys) d ≡ (is_among xs d || is_among ys d)
 among_append [] ys d = refl
 among_append (x ∷ xs) ys d = ap (λ (b : Bool). (d == x) || b) (among_append xs ys d) ∙ sym (or_assoc (d == x) (is_among xs d) (is_among ys d))
 
@@ -144,6 +145,26 @@ or_case false b h = inr h
 
 from_test : (a b : ℕ) → (a == b) ≡ true → a ≡ b
 from_test a b h = grind (arith, nat_tests, h)
+
+-- what is named in one of two lists
+pub among_either : (xs ys : List ℕ) (d : ℕ) → is_among (xs ++ ys) d ≡ true → (is_among xs d ≡ true) ⊎ (is_among ys d ≡ true)
+among_either xs ys d h = or_case (is_among xs d) (is_among ys d) (sym (among_append xs ys d) ∙ h)
+
+pub among_first : (xs ys : List ℕ) (d : ℕ) → is_among xs d ≡ true → is_among (xs ++ ys) d ≡ true
+among_first xs ys d h = among_append xs ys d ∙ or_left (is_among xs d) (is_among ys d) h
+
+pub among_second : (xs ys : List ℕ) (d : ℕ) → is_among ys d ≡ true → is_among (xs ++ ys) d ≡ true
+among_second xs ys d h = among_append xs ys d ∙ or_right (is_among xs d) (is_among ys d) h
+
+-- what each waiter waits at is named
+pub among_waits : (ws : List Waiter) (k : ℕ) (w : Waiter) → k < length ws → is_among (map (λ v. v.instance) ws) (get_or ws k w).instance ≡ true
+among_waits [] k w lt = absurd (omega (arith, lt))
+among_waits (v ∷ ws) zero w lt = or_left _ _ (same_nat v.instance)
+among_waits (v ∷ ws) (suc k) w lt = or_right _ _ (among_waits ws k w (omega (arith, lt)))
+
+-- an instance stays one
+pub instance_stays : (f g : Files) → Extends f g → (e : ℕ) → kind_of (object_of f e) ≡ 1 → kind_of (object_of g e) ≡ 1
+instance_stays f g x e one = x.shows e (ap (nat_lt 0) one) ∙ one
 
 -- A new object.
 pub extends_new_object : (f : Files) (x : Object) → Extends f (new_object f x)

@@ -1,6 +1,6 @@
--- Each state that the calls of this version reach is quiet.
-use Rattle.std.proofs.Common.{◌≡◌, ◌==◌, ℕ, zero, suc, ◌+◌, ◌≤◌, ◌&&◌, All, Bool, List, [], ◌∷◌, MatchOption, None, Option, Some, ℤ, pos, negsuc, true, false, not, arith, cond, get_or, if◌then◌else◌, is_none, is_some, length, map, nat_lt, refl, subst, sym, ◌∙◌, unwrap_or}
-use Rattle.std.specs.List.{AllByRecursion}
+-- In each state of a run no waiter is forgotten, and the rest of what holds at the end of each event holds.
+use Rattle.std.proofs.Common.{ap, ◌≡◌, ◌==◌, ℕ, zero, suc, ◌+◌, ◌≤◌, ◌&&◌, ◌++◌, All, Bool, List, [], ◌∷◌, MatchOption, None, Option, Some, ℤ, pos, negsuc, true, false, not, arith, cond, filter, get_or, inl, inr, if◌then◌else◌, is_none, is_some, length, map, nat_eq, nat_lt, refl, subst, sym, ◌∙◌, unwrap_or}
+use Rattle.std.specs.List.{AllByRecursion, IsDistinct}
 use Rattle.std.proofs.lemmas.Bool.Decides.{nat_tests}
 use Rattle.std.proofs.lemmas.List.Elements.{All-filter, All-map, All-push, All-weaker}
 use Rattle.ep_base.specs.Limits.{Limits}
@@ -9,7 +9,7 @@ use Rattle.ep_base.specs.declared.answer.Answer.TheVariants.{Done, Events, Num}
 use Rattle.ep_base.specs.declared.call.Call.{Call}
 use Rattle.ep_base.specs.declared.call.Call.TheVariants.{Close, Dup, Dup2, EpollCreate, EpollCtl, EpollWait, EventFd, Exec, Exit, Fork, GetTime, Pipe as PipeCall, Plain, Read, SetTime, Shutdown, SocketPair, TimerFd, Write}
 use Rattle.ep_base.specs.declared.call.Event.{Event}
-use Rattle.ep_base.specs.declared.call.Event.TheVariants.{Call as CallOf, Tick}
+use Rattle.ep_base.specs.declared.call.Event.TheVariants.{Call as CallOf, Resume, Tick}
 use Rattle.ep_base.specs.declared.errno.Errno.{Errno}
 use Rattle.ep_base.specs.declared.errno.Errno.TheVariants.{Esrch}
 use Rattle.ep_base.specs.declared.object.End.{End}
@@ -19,22 +19,25 @@ use Rattle.ep_machine.specs.Settle.{settle}
 use Rattle.ep_machine.proofs.Stepping.{run_keeps, step_changed}
 use Rattle.ep_machine.specs.Bits.{ONESHOT, has_bit}
 use Rattle.ep_machine.specs.Effect.{first}
-use Rattle.ep_machine.specs.Files.{Files, Place, named_by, names_nothing, object_at, object_number, object_of, object_under, place_of, side_under}
+use Rattle.ep_machine.specs.Files.{Files, Place, is_live, named_by, names_nothing, object_at, object_number, object_of, object_under, place_of, side_under}
 use Rattle.ep_machine.specs.Lists.{is_among}
-use Rattle.ep_machine.specs.Objects.{Object, counter, instance, is_plain, object_effect, pair, pipe, plain, timer}
+use Rattle.ep_machine.specs.Objects.{Object, counter, instance, is_instance, is_plain, object_effect, pair, pipe, plain, timer}
 use Rattle.ep_machine.specs.Pipe.{new_pipe}
 use Rattle.ep_machine.specs.Quiet.{Changed, HasSeen, IsSettled, IsSteady, Quiet, can_be_watched, kind_of}
 use Rattle.ep_machine.specs.Readiness.{is_ready}
-use Rattle.ep_machine.specs.Refusal.{call_refusals, ctl_refusals, is_zero, refusals}
+use Rattle.ep_machine.specs.Refusal.{call_refusals, ctl_refusals, refusals, wait_refusals}
 use Rattle.ep_machine.specs.Report.{is_pick, plainly, report, report_of, reported, watches_at}
-use Rattle.ep_machine.specs.State.{Change, State, Watch, counts_of, opening}
+use Rattle.ep_machine.specs.State.{Change, State, Waiter, Watch, counts_of, opening}
 use Rattle.ep_machine.specs.Sockets.{new_pair}
 use Rattle.ep_machine.specs.Step.{begun, call_change, change, files_change, object_change, one_change, refused_or, settled, step, two_change}
 use Rattle.ep_machine.specs.Tables.{answer_one, close, dup, dup2, exec, exit, fork}
 use Rattle.ep_machine.specs.Timer.{last_moment, new_timer}
-use Rattle.ep_machine.specs.Waits.{tick, wait, wait_for}
+use Rattle.ep_machine.specs.Waits.{is_parked, leave_after, resume, tick, unmark, unmarked, wait, wait_for}
 use Rattle.ep_machine.specs.Watches.{add, ctl, delete, has_key, is_add, is_del, modified, modify, new_watch, number_in}
-use Rattle.ep_machine.proofs.Naming.{Extends, Filed, extends_dup2, extends_one, extends_two, extends_with_object, filed_close, filed_dup, filed_dup2, filed_exec, filed_exit, filed_fork, filed_one, filed_opening, filed_two, filed_with_object, named_lives, named_opening, same_tables, watched_same}
+use Rattle.ep_machine.specs.Deaths.{named_in_tables}
+use Rattle.ep_machine.proofs.Waiters.{callers_filter, callers_push, instance_filter, instance_push, unmarked_part}
+use Rattle.ep_machine.proofs.Resuming.{resumes}
+use Rattle.ep_machine.proofs.Naming.{Extends, Filed, among_either, among_first, among_second, extends_dup2, extends_one, extends_two, extends_with_object, filed_close, filed_dup, filed_dup2, filed_exec, filed_exit, filed_fork, filed_one, filed_opening, filed_two, filed_with_object, instance_stays, named_lives, named_opening, same_tables, watched_same}
 use Rattle.ep_machine.proofs.Freshening.{past_itself}
 use Rattle.ep_machine.proofs.Counting.{change_counted}
 use Rattle.ep_machine.proofs.Settling.{quiet_settled, settle_changed}
@@ -45,23 +48,30 @@ none_holds [] h = tt
 none_holds ((true, e) ∷ tests) h = cc
 none_holds ((false, e) ∷ tests) h = (refl, none_holds tests h)
 
--- Bools.
-from_not : (a : Bool) → not a ≡ false → a ≡ true
-from_not true h = refl
-from_not false h = cc
-
 -- Other files under the same registrations.
 steady_in : (f g : Files) → Extends f g → (x : Watch) → IsSteady f x → IsSteady g x
 steady_in f g e x h = record { instance_lives = e.lives x.instance h.instance_lives; target_lives = e.lives x.target h.target_lives; target_shows = watched_same _ _ (e.shows x.target h.target_shows) h.target_shows }
 
 filed : (s : State) → Quiet s → Filed s.files
-filed s h = record { placed = h.placed; lives = λ d e. sym (h.named d) ∙ e }
+filed s h = record { placed = h.placed; lives = λ d e. sym (h.named d) ∙ among_first (named_in_tables s.files.tables) (map (λ w. w.instance) s.waiters) d e }
+
+-- what waiters wait at
+waited_lives : (s : State) → Quiet s → (d : ℕ) → is_among (map (λ w. w.instance) s.waiters) d ≡ true → is_live s.files d ≡ true
+waited_lives s h d e = sym (h.named d) ∙ among_second (named_in_tables s.files.tables) (map (λ w. w.instance) s.waiters) d e
 
 pub weaken : (s : State) → Quiet s → Changed s
-weaken s h = record { waiters = h.waiters; now = h.now; placed = h.placed; lives = (filed s h).lives; watches = h.watches; seen = h.seen }
+weaken s h = record { now = h.now; placed = h.placed; lives = λ d e. sym (h.named d) ∙ e; watches = h.watches; seen = h.seen; waiting = h.waiting; callers = h.callers }
 
 quiet_files : (s : State) (g : Files) → Quiet s → Filed g → Extends s.files g → Changed (record s { files = g })
-quiet_files s g h k e = record { waiters = h.waiters; now = h.now; placed = k.placed; lives = k.lives; watches = All-weaker (IsSteady s.files) (IsSteady g) (steady_in s.files g e) s.watches h.watches; seen = h.seen }
+quiet_files s g h k e = record {
+  now = h.now;
+  placed = k.placed;
+  lives = λ d n. elim (among_either (named_in_tables g.tables) (map (λ w. w.instance) s.waiters) d n) [ inl table ↦ k.lives d table | inr waits ↦ e.lives d (waited_lives s h d waits) ];
+  watches = All-weaker (IsSteady s.files) (IsSteady g) (steady_in s.files g e) s.watches h.watches;
+  seen = h.seen;
+  waiting = All-weaker (λ w. kind_of (object_of s.files w.instance) ≡ 1) (λ w. kind_of (object_of g w.instance) ≡ 1) (λ w. instance_stays s.files g e w.instance) s.waiters h.waiting;
+  callers = h.callers;
+}
 
 -- A call on an object keeps its kind.
 effect_kind : (x : Object) (e : End) (now : ℕ) (call : Call) → kind_of (Some (object_effect x e now call).1) ≡ kind_of (Some x)
@@ -134,7 +144,7 @@ shows_from_tests (Some (timer q)) p = refl
 shows_from_tests (Some instance) p = refl
 
 quiet_watches : (s : State) (xs : List Watch) (added : ℕ) → Quiet s → All (IsSteady s.files) xs → All (λ x. HasSeen x.seen (counts_of s x.target)) xs → Changed (record s { watches = xs; added = added })
-quiet_watches s xs added h steady seen = record { waiters = h.waiters; now = h.now; placed = h.placed; lives = (filed s h).lives; watches = steady; seen = seen }
+quiet_watches s xs added h steady seen = let was = weaken s h in record { now = h.now; placed = h.placed; lives = was.lives; watches = steady; seen = seen; waiting = h.waiting; callers = h.callers }
 
 quiet_add : (s : State) (e fd d mask tag : ℕ) → Quiet s → IsSteady s.files (new_watch s e fd d mask tag) → Changed (add s e fd d mask tag).1
 quiet_add s e fd d mask tag h steady =
@@ -228,13 +238,74 @@ fine_report s e most ks h =
     let c : Change = (Events (map (report_of s) (watches_at s.watches ks)), record s { watches = map (reported s ks) s.watches }, []) in
     fine_option_if (is_pick s e most ks) c (quiet_reported s ks h)
 
-quiet_wait_for : (s : State) (caller p e most : ℕ) (timeout : ℤ) → is_zero timeout ≡ true → Quiet s → Changed (wait_for s caller p e most timeout).1
-quiet_wait_for s caller p e most (pos zero) z h = weaken s h
-quiet_wait_for s caller p e most (pos (suc k)) z h = cc
-quiet_wait_for s caller p e most (negsuc k) z h = cc
+-- Other waiters.
+changed_waiters : (s : State) (ws : List Waiter) → Changed s → ((d : ℕ) → is_among (map (λ w. w.instance) ws) d ≡ true → is_live s.files d ≡ true) → All (λ w. kind_of (object_of s.files w.instance) ≡ 1) ws → IsDistinct nat_eq (map (λ w. w.caller) ws)
+    → Changed (record s { waiters = ws })
+changed_waiters s ws h lives waiting callers = record {
+  now = h.now;
+  placed = h.placed;
+  lives = λ d n. elim (among_either (named_in_tables s.files.tables) (map (λ w. w.instance) ws) d n) [
+    | inl table ↦ h.lives d (among_first (named_in_tables s.files.tables) (map (λ w. w.instance) s.waiters) d table)
+    | inr waits ↦ lives d waits
+  ];
+  watches = h.watches;
+  seen = h.seen;
+  waiting = waiting;
+  callers = callers;
+}
 
-fine_wait : (s : State) (caller p e most : ℕ) (timeout : ℤ) (ks : List ℕ) → is_zero timeout ≡ true → Quiet s → Fine (wait s caller p e most timeout ks)
-fine_wait s caller p e most timeout ks z h = fine_if (is_ready s e) _ _ (fine_report s e most ks h) (fine_plainly ks _ (quiet_wait_for s caller p e most timeout z h))
+held_lives : (s : State) → Changed s → (d : ℕ) → is_among (map (λ w. w.instance) s.waiters) d ≡ true → is_live s.files d ≡ true
+held_lives s h d e = h.lives d (among_second (named_in_tables s.files.tables) (map (λ w. w.instance) s.waiters) d e)
+
+changed_left : (s : State) (p : Waiter → Bool) → Changed s → Changed (record s { waiters = filter p s.waiters })
+changed_left s p h =
+    changed_waiters s (filter p s.waiters) h (λ d e. held_lives s h d (instance_filter p s.waiters d e)) (All-filter p (λ w. kind_of (object_of s.files w.instance) ≡ 1) s.waiters h.waiting) (callers_filter p s.waiters h.callers)
+
+changed_unmarked : (s : State) (caller : ℕ) → Changed s → Changed (unmarked s caller)
+changed_unmarked s caller h =
+    changed_waiters s (map (unmark caller) s.waiters) h (λ d e. held_lives s h d (ap (λ (ds : List ℕ). is_among ds d) (sym (unmarked_part (λ w. w.instance) (λ w b. refl) caller s.waiters)) ∙ e))
+    (All-map (λ w. kind_of (object_of s.files w.instance) ≡ 1) (unmark caller) s.waiters (λ k w lt. h.waiting k w lt))
+    (subst (IsDistinct nat_eq) (sym (unmarked_part (λ w. w.caller) (λ w b. refl) caller s.waiters)) h.callers)
+
+-- a caller that isn't parked, at an instance that lives
+changed_parked : (s : State) (w : Waiter) → Changed s → is_parked s w.caller ≡ false → is_live s.files w.instance ≡ true → kind_of (object_of s.files w.instance) ≡ 1 → Changed (record s { waiters = s.waiters ++ w ∷ [] })
+changed_parked s w h free lives one =
+    changed_waiters s (s.waiters ++ w ∷ []) h
+    (λ d e. elim (instance_push s.waiters w d e) [ inl before ↦ held_lives s h d before | inr same ↦ subst (λ (k : ℕ). is_live s.files k ≡ true) (sym same) lives ])
+    (All-push (λ v. kind_of (object_of s.files v.instance) ≡ 1) s.waiters w h.waiting one)
+    (callers_push s.waiters w free h.callers)
+
+quiet_wait_for : (s : State) (caller p e most : ℕ) (timeout : ℤ) → Quiet s → is_parked s caller ≡ false → is_live s.files e ≡ true → kind_of (object_of s.files e) ≡ 1 → Changed (wait_for s caller p e most timeout).1
+quiet_wait_for s caller p e most (pos zero) h free lives one = weaken s h
+quiet_wait_for s caller p e most (pos (suc k)) h free lives one = changed_parked s _ (weaken s h) free lives one
+quiet_wait_for s caller p e most (negsuc k) h free lives one = changed_parked s _ (weaken s h) free lives one
+
+kind_instance : (o : Option Object) → not (is_instance (unwrap_or o plain)) ≡ false → kind_of o ≡ 1
+kind_instance None h = cc
+kind_instance (Some plain) h = cc
+kind_instance (Some (pipe q)) h = cc
+kind_instance (Some (pair q)) h = cc
+kind_instance (Some (counter q)) h = cc
+kind_instance (Some (timer q)) h = cc
+kind_instance (Some instance) h = refl
+
+fine_wait : (s : State) (caller p : ℕ) (epfd most timeout : ℤ) (ks : List ℕ) → Quiet s → is_parked s caller ≡ false → AllByRecursion (λ t. t.0 ≡ false) (wait_refusals s p epfd most) → Fine (wait s caller p (named_by s.files p epfd) (number_in most) timeout ks)
+fine_wait s caller p epfd most timeout ks h free tests =
+    let e = named_by s.files p epfd in
+    let lives = named_lives s.files p epfd (filed s h) tests.1.0 in
+    let one = kind_instance (object_of s.files e) tests.1.1.0 in
+    fine_if (is_ready s e) _ _ (fine_report s e (number_in most) ks h) (fine_plainly ks _ (quiet_wait_for s caller p e (number_in most) timeout h free lives one))
+
+-- A resumption.
+fine_left : (caller : ℕ) (o : Option Change) → Fine o → Fine (leave_after caller o)
+unfolding Fine
+fine_left caller None h = tt
+fine_left caller (Some c) h = changed_left c.1 (λ w. not (w.caller == caller)) h
+
+fine_resume : (s : State) (caller : ℕ) (ks : List ℕ) → Quiet s → Fine (resume s caller ks)
+fine_resume s caller ks h =
+    let was = weaken s h in
+    resumes Fine s caller ks (fine_plainly ks _ was) (λ w. fine_left w.caller _ (fine_report s w.instance w.most ks h)) (λ w. fine_plainly ks _ (changed_left s (λ v. not (v.caller == w.caller)) was)) (λ w. fine_plainly ks _ (changed_unmarked s w.caller was))
 
 -- A creation.
 fine_one : (s : State) (p : ℕ) (x : Object) (cloexec : Bool) (ks : List ℕ) → is_none (get_or s.files.tables p None) ≡ false → Quiet s → Filed s.files → Fine (plainly ks (one_change s p x cloexec))
@@ -248,29 +319,29 @@ fine_files : (s : State) (answer : Answer) (g : Files) (ks : List ℕ) → Quiet
 fine_files s answer g ks h filed extends = fine_plainly ks _ (quiet_files s g h filed extends)
 
 -- The calls.
-fine_call : (limits : Limits) (s : State) (caller p : ℕ) (call : Call) (ks : List ℕ) → Quiet s → Filed s.files → AllByRecursion (λ t. t.0 ≡ false) ((is_none (get_or s.files.tables p None), Esrch) ∷ call_refusals limits s p call) → Fine (call_change limits s caller p call ks)
-fine_call limits s caller p (PipeCall cloexec) ks h f tests = fine_two s p (pipe (new_pipe limits.pipe_bytes)) cloexec ks tests.0 h f
-fine_call limits s caller p (EventFd init semaphore cloexec) ks h f tests = fine_one s p (counter (record { count = init; is_semaphore = semaphore })) cloexec ks tests.0 h f
-fine_call limits s caller p (TimerFd clock cloexec) ks h f tests = fine_one s p (timer new_timer) cloexec ks tests.0 h f
-fine_call limits s caller p (SocketPair cloexec) ks h f tests = fine_two s p (pair (new_pair limits.sock_bytes)) cloexec ks tests.0 h f
-fine_call limits s caller p (Plain cloexec) ks h f tests = fine_one s p plain cloexec ks tests.0 h f
-fine_call limits s caller p (EpollCreate cloexec) ks h f tests = fine_one s p instance cloexec ks tests.0 h f
-fine_call limits s caller p (EpollCtl epfd op fd mask tag) ks h f tests = fine_plainly ks _ (quiet_ctl limits s p epfd.0 op fd.0 mask.0 tag h tests.1)
-fine_call limits s caller p (EpollWait epfd most timeout) ks h f tests = fine_wait s caller p (named_by s.files p epfd.0) (number_in most) timeout ks (from_not (is_zero timeout) tests.1.1.0) h
-fine_call limits s caller p (Read fd n) ks h f tests = fine_plainly ks _ (quiet_object_change s p fd.0 (Read fd n) h tests.1.0)
-fine_call limits s caller p (Write fd bytes) ks h f tests = fine_plainly ks _ (quiet_object_change s p fd.0 (Write fd bytes) h tests.1.0)
-fine_call limits s caller p (Shutdown fd) ks h f tests = fine_plainly ks _ (quiet_object_change s p fd.0 (Shutdown fd) h tests.1.0)
-fine_call limits s caller p (SetTime fd absolute value interval) ks h f tests = fine_plainly ks _ (quiet_object_change s p fd.0 (SetTime fd absolute value interval) h tests.1.0)
-fine_call limits s caller p (GetTime fd) ks h f tests = fine_plainly ks _ (quiet_object_change s p fd.0 (GetTime fd) h tests.1.0)
-fine_call limits s caller p (Dup fd) ks h f tests = fine_files s (answer_one s.files p) (dup s.files p (named_by s.files p fd.0)) ks h (filed_dup s.files p (named_by s.files p fd.0) f (named_lives s.files p fd.0 f tests.1.0)) (same_tables s.files _)
-fine_call limits s caller p (Dup2 fd to) ks h f tests =
+fine_call : (limits : Limits) (s : State) (caller p : ℕ) (call : Call) (ks : List ℕ) → Quiet s → Filed s.files → is_parked s caller ≡ false → AllByRecursion (λ t. t.0 ≡ false) ((is_none (get_or s.files.tables p None), Esrch) ∷ call_refusals limits s p call) → Fine (call_change limits s caller p call ks)
+fine_call limits s caller p (PipeCall cloexec) ks h f free tests = fine_two s p (pipe (new_pipe limits.pipe_bytes)) cloexec ks tests.0 h f
+fine_call limits s caller p (EventFd init semaphore cloexec) ks h f free tests = fine_one s p (counter (record { count = init; is_semaphore = semaphore })) cloexec ks tests.0 h f
+fine_call limits s caller p (TimerFd clock cloexec) ks h f free tests = fine_one s p (timer new_timer) cloexec ks tests.0 h f
+fine_call limits s caller p (SocketPair cloexec) ks h f free tests = fine_two s p (pair (new_pair limits.sock_bytes)) cloexec ks tests.0 h f
+fine_call limits s caller p (Plain cloexec) ks h f free tests = fine_one s p plain cloexec ks tests.0 h f
+fine_call limits s caller p (EpollCreate cloexec) ks h f free tests = fine_one s p instance cloexec ks tests.0 h f
+fine_call limits s caller p (EpollCtl epfd op fd mask tag) ks h f free tests = fine_plainly ks _ (quiet_ctl limits s p epfd.0 op fd.0 mask.0 tag h tests.1)
+fine_call limits s caller p (EpollWait epfd most timeout) ks h f free tests = fine_wait s caller p epfd.0 most timeout ks h free tests.1
+fine_call limits s caller p (Read fd n) ks h f free tests = fine_plainly ks _ (quiet_object_change s p fd.0 (Read fd n) h tests.1.0)
+fine_call limits s caller p (Write fd bytes) ks h f free tests = fine_plainly ks _ (quiet_object_change s p fd.0 (Write fd bytes) h tests.1.0)
+fine_call limits s caller p (Shutdown fd) ks h f free tests = fine_plainly ks _ (quiet_object_change s p fd.0 (Shutdown fd) h tests.1.0)
+fine_call limits s caller p (SetTime fd absolute value interval) ks h f free tests = fine_plainly ks _ (quiet_object_change s p fd.0 (SetTime fd absolute value interval) h tests.1.0)
+fine_call limits s caller p (GetTime fd) ks h f free tests = fine_plainly ks _ (quiet_object_change s p fd.0 (GetTime fd) h tests.1.0)
+fine_call limits s caller p (Dup fd) ks h f free tests = fine_files s (answer_one s.files p) (dup s.files p (named_by s.files p fd.0)) ks h (filed_dup s.files p (named_by s.files p fd.0) f (named_lives s.files p fd.0 f tests.1.0)) (same_tables s.files _)
+fine_call limits s caller p (Dup2 fd to) ks h f free tests =
     let d = named_by s.files p fd.0 in
     let lives = named_lives s.files p fd.0 f tests.1.0 in
     fine_files s (Num (number_in to.0)) (dup2 s.files p fd.0 to.0 d) ks h (filed_dup2 s.files p fd.0 to.0 d f lives) (extends_dup2 s.files p fd.0 to.0 d)
-fine_call limits s caller p (Close fd) ks h f tests = fine_files s Done (close s.files p fd.0) ks h (filed_close s.files p fd.0 f) (same_tables s.files _)
-fine_call limits s caller p Fork ks h f tests = fine_files s (Num (length s.files.tables)) (fork s.files p) ks h (filed_fork s.files p f) (same_tables s.files _)
-fine_call limits s caller p Exec ks h f tests = fine_files s Done (exec s.files p) ks h (filed_exec s.files p f) (same_tables s.files _)
-fine_call limits s caller p Exit ks h f tests = fine_files s Done (exit s.files p) ks h (filed_exit s.files p f) (same_tables s.files _)
+fine_call limits s caller p (Close fd) ks h f free tests = fine_files s Done (close s.files p fd.0) ks h (filed_close s.files p fd.0 f) (same_tables s.files _)
+fine_call limits s caller p Fork ks h f free tests = fine_files s (Num (length s.files.tables)) (fork s.files p) ks h (filed_fork s.files p f) (same_tables s.files _)
+fine_call limits s caller p Exec ks h f free tests = fine_files s Done (exec s.files p) ks h (filed_exec s.files p f) (same_tables s.files _)
+fine_call limits s caller p Exit ks h f free tests = fine_files s Done (exit s.files p) ks h (filed_exit s.files p f) (same_tables s.files _)
 
 -- The clock goes on within its range.
 not_above : (a b : ℕ) → nat_lt a b ≡ false → b ≤ a
@@ -278,12 +349,13 @@ not_above a b h = grind (arith, nat_tests)
 
 fine_tick : (s : State) (k : ℕ) (ks : List ℕ) → Quiet s → nat_lt last_moment (s.now + k) ≡ false → Fine (plainly ks (tick s k))
 fine_tick s k ks h allowed =
-    fine_plainly ks (tick s k) (record { waiters = h.waiters; now = not_above last_moment (s.now + k) allowed; placed = h.placed; lives = (filed s h).lives; watches = h.watches; seen = h.seen })
+    let was = weaken s h in fine_plainly ks (tick s k) (record { now = not_above last_moment (s.now + k) allowed; placed = h.placed; lives = was.lives; watches = h.watches; seen = h.seen; waiting = h.waiting; callers = h.callers })
 
 fine_change : (limits : Limits) (s : State) (caller : ℕ) (event : Event) (ks : List ℕ) → Quiet s → first (refusals limits s caller event) ≡ None → Fine (change limits s caller event ks)
 fine_change limits s caller (CallOf p call) ks h allowed =
     let tests = none_holds (refusals limits s caller (CallOf p call)) allowed in
-    fine_call limits s caller p.0 call ks h (filed s h) (tests.0, tests.1.1)
+    fine_call limits s caller p.0 call ks h (filed s h) tests.1.0 (tests.0, tests.1.1)
+fine_change limits s caller Resume ks h allowed = fine_resume s caller ks h
 fine_change limits s caller (Tick k) ks h allowed = fine_tick s k ks h (none_holds (refusals limits s caller (Tick k)) allowed).0
 
 -- a change that isn't refused
@@ -310,10 +382,20 @@ fine_refused (Some e) s [] c h n k = h
 fine_refused (Some e) s (x ∷ ks) c h n k = tt
 
 pub quiet_begun : (s : State) → Quiet s → Quiet (begun s)
-quiet_begun s h = record { waiters = h.waiters; now = h.now; placed = h.placed; named = h.named; watches = h.watches; seen = h.seen }
+quiet_begun s h = record { now = h.now; placed = h.placed; named = h.named; watches = h.watches; seen = h.seen; waiting = h.waiting; callers = h.callers; marks = h.marks }
 
 pub quiet_opening : Quiet opening
-quiet_opening = record { waiters = refl; now = omega arith; placed = filed_opening.placed; named = named_opening; watches = λ k d lt. absurd (omega arith); seen = λ k d lt. absurd (omega arith) }
+unfolding IsDistinct
+quiet_opening = record {
+  now = omega arith;
+  placed = filed_opening.placed;
+  named = named_opening;
+  watches = λ k d lt. absurd (omega arith);
+  seen = λ k d lt. absurd (omega arith);
+  waiting = λ k d lt. absurd (omega arith);
+  callers = tt;
+  marks = refl;
+}
 
 pub quiet_step : (limits : Limits) (s t : State) (caller : ℕ) (event : Event) (picked : List ℕ) (a : Answer) → Quiet s → step limits s caller event picked ≡ Some (a, t) → Quiet t
 unfolding IsStep

@@ -11,7 +11,7 @@ use Rattle.ep_base.specs.declared.answer.Answer.TheVariants.{Events}
 use Rattle.ep_base.specs.declared.call.Call.{Call}
 use Rattle.ep_base.specs.declared.call.Call.TheVariants.{Close, Dup, Dup2, EpollCreate, EpollCtl, EpollWait, EventFd, Exec, Exit, Fork, GetTime, Pipe as PipeCall, Plain, Read, SetTime, Shutdown, SocketPair, TimerFd, Write}
 use Rattle.ep_base.specs.declared.call.Event.{Event}
-use Rattle.ep_base.specs.declared.call.Event.TheVariants.{Call as CallOf, Tick}
+use Rattle.ep_base.specs.declared.call.Event.TheVariants.{Call as CallOf, Resume, Tick}
 use Rattle.ep_base.specs.declared.errno.Errno.{Errno}
 use Rattle.ep_base.specs.declared.record.Record.{Record}
 use Rattle.ep_machine.specs.Bits.{ONESHOT, has_bit}
@@ -29,10 +29,11 @@ use Rattle.ep_machine.specs.Sound.{Sound}
 use Rattle.ep_machine.specs.Spread.{arrived}
 use Rattle.ep_machine.specs.State.{Change, State, Watch, counts_of}
 use Rattle.ep_machine.specs.Step.{begun, call_change, change, refused_or, settled, step}
-use Rattle.ep_machine.specs.Waits.{tick, wait_for}
+use Rattle.ep_machine.specs.Waits.{leave_after, resume, tick, wait_for}
 use Rattle.ep_machine.specs.Watches.{ctl, has_key, is_add, is_del, modified, new_watch, number_in, with_watch}
 use Rattle.ep_machine.proofs.Distinct.{all_member, among_member, among_split, distinct_append, distinct_filtered, each_found, filtered_member, filtered_passes, find_member, found_member, list_all_member, mapped_member, one_number}
 use Rattle.ep_machine.proofs.Members.{among, any_member, first_of_and, member_filter, member_map, second_of_and, test_same}
+use Rattle.ep_machine.proofs.Resuming.{left_after, resumes}
 use Rattle.ep_machine.proofs.Soundness.{sound_begun, sound_run, sound_step}
 
 -- k became reportable by event m; what was told was reported after it
@@ -324,8 +325,14 @@ module _ (limits : Limits) (e k m : ℕ) (told : List ℕ) (s : State) (sound : 
   fine_refused (Some errno) [] c g = good_none s h
   fine_refused (Some errno) (j ∷ ks) c g = tt
 
+  fine_left : (caller : ℕ) (ks : List ℕ) (o : Option Change) → Fine ks o → Fine ks (leave_after caller o)
+  unfolding Fine Good
+  fine_left caller ks o g = left_after (Good ks) (λ t ws f. (same_watches k m (told ++ filter (is_in s e) ks) t _ refl refl refl f.0, f.1)) caller o g
+
   fine_event : (caller : ℕ) (event : Event) (ks : List ℕ) → is_among ks k ≡ false → IsStep ks (refused_or (first (refusals limits s caller event)) s ks (change limits s caller event ks))
   fine_event caller (CallOf p call) ks left = fine_refused (first (refusals limits s caller (CallOf p call))) ks (call_change limits s caller p.0 call ks) (fine_call caller p.0 call ks left)
+  fine_event caller Resume ks left = fine_refused (first (refusals limits s caller Resume)) ks (resume s caller ks)
+      (resumes (Fine ks) s caller ks (fine_plainly ks _ h) (λ w. fine_left w.caller ks _ (fine_report w.instance w.most ks left)) (λ w. fine_plainly ks _ (same_watches k m told s _ refl refl refl h)) (λ w. fine_plainly ks _ (same_watches k m told s _ refl refl refl h)))
   fine_event caller (Tick n) ks left = fine_refused (first (refusals limits s caller (Tick n))) ks (plainly ks (tick s n)) (fine_plainly ks _ (same_watches k m told s _ refl refl refl h))
 
   told_step : (t : State) (caller : ℕ) (event : Event) (ks : List ℕ) (a : Answer) → is_among ks k ≡ false → refused_or (first (refusals limits s caller event)) s ks (change limits s caller event ks) ≡ Some (a, t)

@@ -1,40 +1,32 @@
--- What a settling leaves where nobody waits.
-use Rattle.std.proofs.Common.{◌≡◌, ℕ, zero, suc, ◌<◌, ◌≤◌, ◌==◌, ◌&&◌, ◌||◌, ◌++◌, ◌∙◌, All, Bool, List, [], ◌∷◌, None, Option, Some, true, false, not, ap, arith, cond, filter, get_or, if◌then◌else◌, inl, inr, is_some, map, nat_lt, refl, subst, sym}
+-- What a settling leaves.
+use Rattle.std.proofs.Common.{◌≡◌, ℕ, zero, suc, ◌<◌, ◌≤◌, ◌==◌, ◌&&◌, ◌||◌, ◌++◌, ◌∙◌, All, Bool, List, [], ◌∷◌, None, Some, true, false, not, ap, arith, cond, filter, get_or, if◌then◌else◌, inl, inr, is_some, map, nat_eq, nat_lt, refl, subst, sym}
 use Rattle.std.proofs.lemmas.Bool.{cases_Bool, false≢true}
-use Rattle.std.proofs.lemmas.List.{append-nil}
 use Rattle.std.proofs.lemmas.List.Elements.{All-cons, All-map}
 use Rattle.std.proofs.lemmas.Bool.Decides.{nat_tests}
 use Rattle.ep_base.specs.declared.counts.Counts.{Counts}
 use Rattle.ep_machine.specs.Bits.{ERR, HUP, IN, ONESHOT, OUT, RDHUP, asked, has_bit}
 use Rattle.ep_machine.specs.Counts.{arrived_since, brings, every_shown_bit, no_counts}
 use Rattle.ep_machine.specs.Deaths.{buried, die_all, dying, is_kept, named, named_in_tables}
-use Rattle.ep_machine.specs.Files.{Files, Place, Table, is_live, object_of, place_of}
+use Rattle.ep_machine.specs.Files.{Files, Place, is_live, object_of, place_of}
 use Rattle.ep_machine.specs.Lists.{is_among}
 use Rattle.ep_machine.specs.Kept.{carries, climbed, climbed_all, freshened, kept_all, kept_of, reached_now, reached_within, reported_in, seen_where, settled_watches, stays_in, stirred, watches_instance}
-use Rattle.ep_machine.specs.Quiet.{Changed, HasSeen, IsSettled, IsSteady, Quiet, can_be_watched, is_backed, kind_of}
-use Rattle.ep_machine.specs.Readiness.{is_reportable}
+use Rattle.ep_machine.specs.Quiet.{Changed, HasSeen, IsSettled, IsSteady, Quiet, can_be_watched, is_backed, kind_of, marks_of}
+use Rattle.ep_machine.specs.Readiness.{is_ready, is_reportable}
 use Rattle.ep_machine.specs.Report.{reported}
 use Rattle.ep_machine.specs.Settle.{came, reportable_numbers, settle, with_from}
 use Rattle.ep_machine.specs.Spread.{arrived}
 use Rattle.ep_machine.specs.State.{State, Waiter, Watch, counts_of}
 use Rattle.ep_machine.specs.Timer.{last_moment}
-use Rattle.ep_machine.specs.Waits.{marked_first, marked_if_due, with_due}
+use Rattle.ep_machine.specs.Waits.{is_due, is_marked_at, marked_if_due, waits_at, with_due}
 use Rattle.ep_machine.proofs.Burying.{Buried, all_buried}
-use Rattle.ep_machine.proofs.Living.{dying_distinct, dying_placed, dying_unnamed, unnamed_dying}
+use Rattle.ep_machine.proofs.Marks.{all_due, kept_marks, marked_all, marked_parts, marks_again, none_forgotten}
+use Rattle.ep_machine.proofs.Living.{live_left, dying_distinct, dying_placed, dying_unnamed, unnamed_dying}
 use Rattle.ep_machine.proofs.Dying.{ArePlaced, after_all, differs, numbers, raised_before, same_nat, same_or_not}
-use Rattle.ep_machine.proofs.Naming.{watched_same}
+use Rattle.ep_machine.proofs.Naming.{among_second, among_waits, watched_same}
 use Rattle.ep_machine.proofs.Freshening.{fresh_arrived, seen_arrived}
 use Rattle.ep_machine.proofs.Reaching.{kept_arrived, reached, zero_asked, zero_brings}
-use Rattle.ep_machine.proofs.Showing.{kept_filter}
-use Rattle.std.specs.List.{list_any}
-
-pub among_left : (xs ys : List ℕ) (d : ℕ) → is_among xs d ≡ true → is_among (xs ++ ys) d ≡ true
-among_left [] ys d h = cc
-among_left (x ∷ xs) ys d h =
-    elim (d == x) as (λ b. (b || is_among xs d) ≡ true → (b || is_among (xs ++ ys) d) ≡ true) [
-      | true ↦ λ e. refl
-      | false ↦ λ e. among_left xs ys d e
-    ] h
+use Rattle.ep_machine.proofs.Showing.{kept_filter, readiness, ready_kept}
+use Rattle.std.specs.List.{IsDistinct, list_any}
 
 pub lt_test : (a b : ℕ) → a < b → nat_lt a b ≡ true
 lt_test a b h = grind (arith, nat_tests)
@@ -94,10 +86,6 @@ steady_left f g (x ∷ xs) shows h =
       | inr fails ↦ subst (λ (b : Bool). All (IsSteady g) (cond b (x ∷ filter (stays_in g) xs) (filter (stays_in g) xs))) (sym fails) rest
     ]
 
-not_live : (b : Bool) (o : Option Place) → is_some o ≡ false → is_some (if b then None else o) ≡ false
-not_live true o h = refl
-not_live false o h = h
-
 module _ (after : State) (h : Changed after) where
   abbrev f : Files
   f = after.files
@@ -108,40 +96,36 @@ module _ (after : State) (h : Changed after) where
   left : Buried f g (dying after)
   left = all_buried f (dying after) (dying_distinct after) (dying_placed after) h.placed
 
-  names : (d : ℕ) → is_among (named after) d ≡ is_among (named_in_tables f.tables) d
-  names d =
-      ap (λ (ws : List Waiter). is_among (named_in_tables f.tables ++ map (λ w. w.instance) ws) d) h.waiters
-      ∙ ap (λ (ks : List ℕ). is_among ks d) (append-nil (named_in_tables f.tables))
+  pub live_after : (d : ℕ) → is_live g d ≡ is_among (named after) d
+  live_after d = live_left after h.lives d
 
-  pub live_after : (d : ℕ) → is_live g d ≡ is_among (named_in_tables f.tables) d
-  live_after d = ap is_some (left.places d) ∙ elim (cases_Bool (is_among (named_in_tables f.tables) d)) [
-    | inl holds ↦
-        let lives = h.lives d holds in
-        let stays : is_among (numbers (dying after)) d ≡ false = elim (cases_Bool (is_among (numbers (dying after)) d)) [
-          | inl dies ↦ absurd (false≢true (sym (dying_unnamed after d dies) ∙ (names d ∙ holds)))
-          | inr fails ↦ fails
-        ] in
-        ap (λ (b : Bool). is_some (if b then None else place_of f d)) stays ∙ (lives ∙ sym holds)
-    | inr fails ↦
-        elim (cases_Bool (is_live f d)) [
-          | inl lives ↦ ap (λ (b : Bool). is_some (if b then None else place_of f d)) (unnamed_dying after d lives (names d ∙ fails)) ∙ sym fails
-          | inr dead ↦ not_live (is_among (numbers (dying after)) d) (place_of f d) dead ∙ sym fails
-        ]
-  ]
+  -- whoever waits still waits at an instance
+  waits_on : All (λ w. kind_of (object_of g w.instance) ≡ 1) after.waiters
+  waits_on = λ k w lt.
+      let e = (get_or after.waiters k w).instance in
+      let one = h.waiting k w lt in
+      let lives = live_after e ∙ among_second (named_in_tables f.tables) (map (λ v. v.instance) after.waiters) e (among_waits after.waiters k w lt) in
+      left.shows e lives (ap (nat_lt 0) one) ∙ one
 
   pub quiet_settled : (raised : List (ℕ × ℕ)) (t : State) → IsSettled after raised t → Quiet t
   quiet_settled raised t same =
       let files : (P : Files → Type 0) → P g → P t.files = λ P. subst P (sym same.files) in
       let came = (die_all (after.files, raised) (dying after)).1 in
+      let ready = readiness t in
+      let places : map (λ w. w.instance) t.waiters ≡ map (λ w. w.instance) after.waiters = ap (map (λ (w : Waiter). w.instance)) same.waiters ∙ marked_parts ready (λ w. w.instance) (λ w b. refl) t.now after.waiters in
+      let who : map (λ w. w.caller) t.waiters ≡ map (λ w. w.caller) after.waiters = ap (map (λ (w : Waiter). w.caller)) same.waiters ∙ marked_parts ready (λ w. w.caller) (λ w b. refl) t.now after.waiters in
       record {
-        waiters = same.waiters ∙ h.waiters;
         now = subst (λ (k : ℕ). k ≤ last_moment) (sym same.now) h.now;
         placed = files (λ u. (d : ℕ) → is_backed u (place_of u d) ≡ true) left.placed;
-        named = files (λ u. (d : ℕ) → is_among (named_in_tables u.tables) d ≡ is_live u d) (λ d. ap (λ (ts : List (Option Table)). is_among (named_in_tables ts) d) left.tables ∙ sym (live_after d));
+        named = files (λ u. (d : ℕ) → is_among (named_in_tables u.tables ++ map (λ w. w.instance) t.waiters) d ≡ is_live u d) (λ d. (λ i. is_among (named_in_tables (left.tables i) ++ places i) d) ∙ sym (live_after d));
         watches = all_from_kept t.files t t.watches (subst (λ (xs : List Watch). All (IsSteady t.files) xs) (sym same.watches)
             (files (λ u. All (IsSteady u) (settled_watches after.n u (freshened after.n came) (filter (stays_in u) (kept_all after after.watches))))
             (all_settled g after.n g came _ (steady_left f g (kept_all after after.watches) left.shows (all_to_kept f after after.watches h.watches)))));
         seen = same.seen;
+        waiting = subst (λ (ws : List Waiter). All (λ w. kind_of (object_of t.files w.instance) ≡ 1) ws) (sym same.waiters)
+            (marked_all ready (λ e. kind_of (object_of t.files e) ≡ 1) t.now after.waiters (files (λ u. All (λ w. kind_of (object_of u w.instance) ≡ 1) after.waiters) waits_on));
+        callers = subst (IsDistinct nat_eq) (sym who) h.callers;
+        marks = ap (marks_of t) same.waiters ∙ (marks_again ready t.now after.waiters ∙ sym same.waiters);
       }
 
 -- the registrations after arrivals in a state of other files
@@ -211,7 +195,7 @@ settle_changed before after raised counted h =
       files = same;
       watches = kept_came (reportable_numbers before) (arrived buried_now.0 buried_now.1) left ∙ settled_all after g buried_now.1 counted h.seen;
       added = refl;
-      waiters = ap (λ (ws : List Waiter). marked_first (with_due (with_from before (arrived buried_now.0 buried_now.1))) [] (map (marked_if_due after.now) ws)) h.waiters ∙ sym h.waiters;
+      waiters = kept_marks (with_due (with_from before (arrived buried_now.0 buried_now.1)));
       seen = seen_came (reportable_numbers before) (arrived buried_now.0 buried_now.1) left (settled_seen after g buried_now.1 counted after.watches h.seen);
     }
 
@@ -245,7 +229,7 @@ reported_all s ks (x ∷ xs) = let one = reported_one s ks x in let rest = repor
 pub reported_kept : (s : State) (ks : List ℕ) → kept_all s (map (reported s ks) s.watches) ≡ map (reported_in s.n ks) (kept_all s s.watches)
 reported_kept s ks = reported_all s ks s.watches
 
--- Which descriptions die, where nobody waits: those that live and that tables do not name.
+-- Which descriptions die: those that live and that nothing names.
 among_lives : (f : Files) (xs : List (ℕ × Place)) (d : ℕ) → ArePlaced f xs → is_among (numbers xs) d ≡ true → is_live f d ≡ true
 among_lives f [] d p h = absurd (false≢true h)
 among_lives f (x ∷ xs) d p h = elim (same_or_not d x.0) [
@@ -253,27 +237,22 @@ among_lives f (x ∷ xs) d p h = elim (same_or_not d x.0) [
   | inr ne ↦ among_lives f xs d p.1 (ap (λ (b : Bool). b || is_among (numbers xs) d) (sym (differs d x.0 ne)) ∙ h)
 ]
 
-module _ (s : State) (nobody : s.waiters ≡ []) where
-  names_are : (d : ℕ) → is_among (named s) d ≡ is_among (named_in_tables s.files.tables) d
-  names_are d =
-      ap (λ (ws : List Waiter). is_among (named_in_tables s.files.tables ++ map (λ w. w.instance) ws) d) nobody
-      ∙ ap (λ (ks : List ℕ). is_among ks d) (append-nil (named_in_tables s.files.tables))
-
-  pub dying_test : (d : ℕ) → is_among (numbers (dying s)) d ≡ (is_live s.files d && not (is_among (named_in_tables s.files.tables) d))
+module _ (s : State) where
+  pub dying_test : (d : ℕ) → is_among (numbers (dying s)) d ≡ (is_live s.files d && not (is_among (named s) d))
   dying_test d = elim (cases_Bool (is_among (numbers (dying s)) d)) [
-    | inl dies ↦ dies ∙ sym (λ i. among_lives s.files (dying s) d (dying_placed s) dies i && not ((sym (names_are d) ∙ dying_unnamed s d dies) i))
+    | inl dies ↦ dies ∙ sym (λ i. among_lives s.files (dying s) d (dying_placed s) dies i && not (dying_unnamed s d dies i))
     | inr stays ↦
         elim (cases_Bool (is_live s.files d)) [
           | inl lives ↦
-              elim (cases_Bool (is_among (named_in_tables s.files.tables) d)) [
+              elim (cases_Bool (is_among (named s) d)) [
                 | inl holds ↦ stays ∙ sym (λ i. lives i && not (holds i))
-                | inr fails ↦ absurd (false≢true (sym stays ∙ unnamed_dying s d lives (names_are d ∙ fails)))
+                | inr fails ↦ absurd (false≢true (sym stays ∙ unnamed_dying s d lives fails))
               ]
-          | inr dead ↦ stays ∙ sym (ap (λ (b : Bool). b && not (is_among (named_in_tables s.files.tables) d)) dead)
+          | inr dead ↦ stays ∙ sym (ap (λ (b : Bool). b && not (is_among (named s) d)) dead)
         ]
   ]
 
--- a quiet state is settled
+-- a state in which no waiter is forgotten is settled
 none_among : (xs : List (ℕ × Place)) → ((d : ℕ) → is_among (numbers xs) d ≡ false) → xs ≡ []
 none_among [] h = refl
 none_among (x ∷ xs) h = absurd (false≢true (sym (h x.0) ∙ ap (λ (b : Bool). b || is_among (numbers xs) x.0) (same_nat x.0)))
@@ -283,7 +262,7 @@ not_itself true = refl
 not_itself false = refl
 
 none_dying : (s : State) → Quiet s → dying s ≡ []
-none_dying s h = none_among (dying s) (λ d. dying_test s h.waiters d ∙ (ap (λ (b : Bool). is_live s.files d && not b) (h.named d) ∙ not_itself (is_live s.files d)))
+none_dying s h = none_among (dying s) (λ d. dying_test s d ∙ (ap (λ (b : Bool). is_live s.files d && not b) (h.named d) ∙ not_itself (is_live s.files d)))
 
 all_stay : (f : Files) (xs : List Watch) → All (IsSteady f) xs → filter (stays_in f) xs ≡ xs
 all_stay f [] h = refl
@@ -349,6 +328,18 @@ settled_quiet s counted h = record {
       ∙ (ap (settled_watches s.n s.files (freshened s.n [])) (sym (all_stay s.files (kept_all s s.watches) (all_to_kept s.files s s.watches h.watches)))
       ∙ ap (λ (xs : List (ℕ × Place)). settled_watches s.n s.files (freshened s.n (die_all (s.files, []) xs).1) (filter (stays_in s.files) (kept_all s s.watches))) (sym (none_dying s h)));
   added = refl;
-  waiters = refl;
+  waiters = sym h.marks;
   seen = h.seen;
 }
+
+-- No waiter is forgotten.
+module _ (s : State) (h : Quiet s) where
+  pub ready_has_mark : (e : ℕ) → waits_at s.waiters e ≡ true → is_ready s e ≡ true → is_marked_at s.waiters e ≡ true
+  ready_has_mark e waits ready =
+      let r = readiness s in
+      let due = map (marked_if_due s.now) s.waiters in
+      ap (λ (ws : List Waiter). is_marked_at ws e) (sym h.marks)
+      ∙ none_forgotten r due e (ap (λ (ws : List Waiter). waits_at ws e) h.marks ∙ waits) (sym (ready_kept s e) ∙ ready)
+
+  pub due_is_marked : All (λ w. is_due s.now w.deadline ≡ true → w.marked ≡ true) s.waiters
+  due_is_marked = subst (λ (ws : List Waiter). All (λ w. is_due s.now w.deadline ≡ true → w.marked ≡ true) ws) h.marks (all_due (readiness s) s.now s.waiters)

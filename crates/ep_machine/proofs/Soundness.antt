@@ -9,10 +9,11 @@ use Rattle.ep_base.specs.declared.answer.Answer.TheVariants.{Events}
 use Rattle.ep_base.specs.declared.call.Call.{Call}
 use Rattle.ep_base.specs.declared.call.Call.TheVariants.{Close, Dup, Dup2, EpollCreate, EpollCtl, EpollWait, EventFd, Exec, Exit, Fork, GetTime, Pipe as PipeCall, Plain, Read, SetTime, Shutdown, SocketPair, TimerFd, Write}
 use Rattle.ep_base.specs.declared.call.Event.{Event}
-use Rattle.ep_base.specs.declared.call.Event.TheVariants.{Call as CallOf, Tick}
+use Rattle.ep_base.specs.declared.call.Event.TheVariants.{Call as CallOf, Resume, Tick}
 use Rattle.ep_base.specs.declared.errno.Errno.{Errno}
 use Rattle.ep_base.specs.declared.record.Record.{Record}
 use Rattle.ep_machine.specs.Run.{run}
+use Rattle.ep_machine.proofs.Resuming.{left_after, resumes}
 use Rattle.ep_machine.proofs.Stepping.{run_keeps}
 use Rattle.ep_machine.specs.Bits.{ONESHOT, has_bit}
 use Rattle.ep_machine.specs.Deaths.{buried, die_all, dying, is_kept, without_dead_watches}
@@ -27,7 +28,7 @@ use Rattle.ep_machine.specs.Sound.{Sound}
 use Rattle.ep_machine.specs.Spread.{arrived}
 use Rattle.ep_machine.specs.State.{Change, State, Watch, counts_of, opening}
 use Rattle.ep_machine.specs.Step.{begun, call_change, change, refused_or, settled, step}
-use Rattle.ep_machine.specs.Waits.{wait, wait_for}
+use Rattle.ep_machine.specs.Waits.{leave_after, wait, wait_for}
 use Rattle.ep_machine.specs.Watches.{ctl, has_key, is_add, is_del, modified, new_watch, number_in, with_watch}
 use Rattle.ep_machine.proofs.Picking.{distinct_filter, numbers}
 
@@ -175,8 +176,14 @@ fine_call limits s caller p Fork ks h = fine_plainly ks _ (same_watches s _ refl
 fine_call limits s caller p Exec ks h = fine_plainly ks _ (same_watches s _ refl refl refl h)
 fine_call limits s caller p Exit ks h = fine_plainly ks _ (same_watches s _ refl refl refl h)
 
+fine_left : (caller : ℕ) (o : Option Change) → Fine o → Fine (leave_after caller o)
+unfolding Fine
+fine_left caller o h = left_after Sound (λ t ws l. same_watches t _ refl refl refl l) caller o h
+
 fine_change : (limits : Limits) (s : State) (caller : ℕ) (event : Event) (ks : List ℕ) → Sound s → Fine (change limits s caller event ks)
 fine_change limits s caller (CallOf p call) ks h = fine_call limits s caller p.0 call ks h
+fine_change limits s caller Resume ks h =
+    resumes Fine s caller ks (fine_plainly ks _ h) (λ w. fine_left w.caller _ (fine_report s w.instance w.most ks h)) (λ w. fine_plainly ks _ (same_watches s _ refl refl refl h)) (λ w. fine_plainly ks _ (same_watches s _ refl refl refl h))
 fine_change limits s caller (Tick k) ks h = fine_plainly ks _ (same_watches s _ refl refl refl h)
 
 pub sound_settle : (before after : State) (raised : List (ℕ × ℕ)) → Sound after → Sound (settle before after raised)

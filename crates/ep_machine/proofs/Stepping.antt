@@ -10,7 +10,7 @@ use Rattle.ep_base.specs.declared.call.Event.{Event}
 use Rattle.ep_base.specs.declared.record.Record.{Record}
 use Rattle.ep_machine.specs.Effect.{first}
 use Rattle.ep_base.specs.declared.call.Call.TheVariants.{Close, Dup, Dup2, EpollCreate, EpollCtl, EpollWait, EventFd, Exec, Exit, Fork, GetTime, Pipe as PipeCall, Plain, Read, SetTime, Shutdown, SocketPair, TimerFd, Write}
-use Rattle.ep_base.specs.declared.call.Event.TheVariants.{Call as CallOf, Tick}
+use Rattle.ep_base.specs.declared.call.Event.TheVariants.{Call as CallOf, Resume, Tick}
 use Rattle.ep_machine.specs.Settle.{settle}
 use Rattle.ep_machine.specs.State.{Change, State, opening}
 use Rattle.ep_machine.specs.Tables.{same_number}
@@ -86,6 +86,7 @@ refusals_begun limits s caller (CallOf p (Close fd)) = refl
 refusals_begun limits s caller (CallOf p Fork) = refl
 refusals_begun limits s caller (CallOf p Exec) = refl
 refusals_begun limits s caller (CallOf p Exit) = refl
+refusals_begun limits s caller Resume = refl
 refusals_begun limits s caller (Tick k) = refl
 
 -- What each step keeps holds in each state of a run.

@@ -32,7 +32,9 @@ pub mod DescriptorRuns
 pub mod RegistrationRuns
 pub mod EdgeRuns
 pub mod NestRuns
+pub mod ParkRuns
 pub mod Sound
 pub mod Kept
+pub mod Marks
 pub mod Quiet
 pub mod Laws

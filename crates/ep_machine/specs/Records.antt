@@ -1,4 +1,4 @@
--- Short forms for the records of worked runs. Each call is made by caller 0.
+-- Short forms for the records of worked runs. Each call is made by caller 0 where no other is named.
 use Rattle.std.specs.Prelude.{Bool, List, [], false, pos, ℕ, ℤ}
 use Rattle.ep_base.specs.Limits.{Limits}
 use Rattle.ep_base.specs.declared.answer.Answer.{Answer}
@@ -7,7 +7,7 @@ use Rattle.ep_base.specs.declared.answer.Report.{Report}
 use Rattle.ep_base.specs.declared.call.Call.{Call}
 use Rattle.ep_base.specs.declared.call.Call.TheVariants.{Close, Dup, Dup2, EpollCreate, EpollCtl, EpollWait, EventFd, GetTime, Pipe as PipeCall, Plain, Read, SetTime, Shutdown, SocketPair, TimerFd, Write}
 use Rattle.ep_base.specs.declared.call.Event.{Event}
-use Rattle.ep_base.specs.declared.call.Event.TheVariants.{Call as CallOf, Tick}
+use Rattle.ep_base.specs.declared.call.Event.TheVariants.{Call as CallOf, Resume, Tick}
 use Rattle.ep_base.specs.declared.errno.Errno.{Errno}
 use Rattle.ep_base.specs.declared.ids.Fd.{Fd}
 use Rattle.ep_base.specs.declared.record.Record.{Record}
@@ -119,3 +119,11 @@ refused call errno = answered call (Refused errno)
 -- process 1 is given these reports, of the registrations of these numbers
 abbrev pub reporting : Call → List Report → List ℕ → Record
 reporting call reports picked = by_process 1 call (Events reports) picked
+
+-- the same, asked for by another caller
+abbrev pub by_caller : ℕ → Record → Record
+by_caller c r = record r { caller = record { 0 = c } }
+
+-- a caller asks whether it may go on
+abbrev pub resumed : ℕ → Answer → List ℕ → Record
+resumed c answer picked = by_caller c (of_event Resume answer picked)

@@ -1,10 +1,10 @@
 -- Every refusal of every call, in order. The first that holds is answered.
-use Rattle.std.specs.Prelude.{Bool, List, [], false, is_none, length, nat_le, nat_lt, negsuc, not, pos, suc, true, zero, ℕ, ℤ, ◌&&◌, ◌+◌, ◌==◌, ◌||◌, ◌∷◌}
+use Rattle.std.specs.Prelude.{Bool, List, [], is_none, length, nat_le, nat_lt, not, ℕ, ℤ, ◌&&◌, ◌+◌, ◌==◌, ◌||◌, ◌∷◌}
 use Rattle.ep_base.specs.Limits.{Limits}
 use Rattle.ep_base.specs.declared.call.Call.{Call}
 use Rattle.ep_base.specs.declared.call.Call.TheVariants.{Close, Dup, Dup2, EpollCreate, EpollCtl, EpollWait, EventFd, Exec, Exit, Fork, GetTime, Pipe as PipeCall, Plain, Read, SetTime, Shutdown, SocketPair, TimerFd, Write}
 use Rattle.ep_base.specs.declared.call.Event.{Event}
-use Rattle.ep_base.specs.declared.call.Event.TheVariants.{Call as CallOf, Tick}
+use Rattle.ep_base.specs.declared.call.Event.TheVariants.{Call as CallOf, Resume, Tick}
 use Rattle.ep_base.specs.declared.errno.Errno.{Errno}
 use Rattle.ep_base.specs.declared.errno.Errno.TheVariants.{Eagain, Ebadf, Ebusy, Eexist, Einval, Eloop, Emfile, Enoent, Enospc, Eperm, Esrch}
 use Rattle.ep_machine.specs.Bits.{EXCLUSIVE, has_bit}
@@ -16,11 +16,6 @@ use Rattle.ep_machine.specs.Tables.{is_in_range, one_free, one_refusals, two_ref
 use Rattle.ep_machine.specs.Timer.{last_moment}
 use Rattle.ep_machine.specs.Waits.{has_parked, is_parked, is_positive}
 use Rattle.ep_machine.specs.Watches.{is_add, is_del, is_legal, is_mod, is_op, is_there, links, number_in}
-
-abbrev pub is_zero : ℤ → Bool
-is_zero (pos zero) = true
-is_zero (pos (suc k)) = false
-is_zero (negsuc k) = false
 
 abbrev pub ctl_refusals : Limits → State → ℕ → ℤ → ℤ → ℤ → ℕ → List (Bool × Errno)
 ctl_refusals limits s p epfd op fd mask =
@@ -39,10 +34,9 @@ ctl_refusals limits s p epfd op fd mask =
     ∷ (is_add op && is_instance target && not (is_legal ((e, d) ∷ links s)), Eloop)
     ∷ (is_add op && nat_le limits.watches (length s.watches), Enospc) ∷ []
 
-abbrev pub wait_refusals : State → ℕ → ℤ → ℤ → ℤ → List (Bool × Errno)
-wait_refusals s p epfd most timeout =
+abbrev pub wait_refusals : State → ℕ → ℤ → ℤ → List (Bool × Errno)
+wait_refusals s p epfd most =
     (not (is_positive most), Einval)
-    ∷ (not (is_zero timeout), Einval)
     ∷ (names_nothing s.files p epfd, Ebadf)
     ∷ (not (is_instance (object_under s.files p epfd)), Einval) ∷ []
 
@@ -62,7 +56,7 @@ call_refusals limits s p (SocketPair cloexec) = two_refusals limits s.files p
 call_refusals limits s p (Plain cloexec) = one_refusals limits s.files p
 call_refusals limits s p (EpollCreate cloexec) = one_refusals limits s.files p
 call_refusals limits s p (EpollCtl epfd op fd mask tag) = ctl_refusals limits s p epfd.0 op fd.0 mask.0
-call_refusals limits s p (EpollWait epfd most timeout) = wait_refusals s p epfd.0 most timeout
+call_refusals limits s p (EpollWait epfd most timeout) = wait_refusals s p epfd.0 most
 call_refusals limits s p (Read fd n) = on_object s p fd.0 (Read fd n)
 call_refusals limits s p (Write fd bytes) = on_object s p fd.0 (Write fd bytes)
 call_refusals limits s p (Shutdown fd) = on_object s p fd.0 (Shutdown fd)
@@ -77,4 +71,5 @@ call_refusals limits s p Exit = (has_parked s p, Ebusy) ∷ []
 
 abbrev pub refusals : Limits → State → ℕ → Event → List (Bool × Errno)
 refusals limits s caller (CallOf p call) = (is_none (table_of s.files p.0), Esrch) ∷ (is_parked s caller, Ebusy) ∷ call_refusals limits s p.0 call
+refusals limits s caller Resume = (not (is_parked s caller), Einval) ∷ []
 refusals limits s caller (Tick k) = (nat_lt last_moment (s.now + k), Einval) ∷ []

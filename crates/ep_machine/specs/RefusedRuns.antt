@@ -91,14 +91,15 @@ watches_run errno =
     ∷ refused (add_call 3 5 4 0) errno
     ∷ []
 
--- epoll_wait: max, then timeout, then what its number names
+-- epoll_wait: max, then what its number names, whatever its timeout
 abbrev pub wait_run : Errno → List Record
 wait_run of_max =
     opened
     ++ refused (wait_call 99 0) of_max
     ∷ refused (wait_call_for (pos 99) (negsuc 0) (pos 0)) Einval
-    ∷ refused (wait_call_for (pos 99) (pos 1) (pos 5)) Einval
-    ∷ refused (wait_call_for (pos 3) (pos 1) (negsuc 0)) Einval
+    ∷ refused (wait_call_for (pos 99) (pos 0) (pos 5)) Einval
+    ∷ refused (wait_call_for (pos 99) (pos 1) (pos 5)) Ebadf
+    ∷ refused (wait_call_for (pos 4) (pos 1) (negsuc 0)) Einval
     ∷ refused (wait_call 99 1) Ebadf
     ∷ refused (wait_call_for (negsuc 0) (pos 1) (pos 0)) Ebadf
     ∷ refused (wait_call 0 1) Einval

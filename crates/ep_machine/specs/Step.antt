@@ -6,7 +6,7 @@ use Rattle.ep_base.specs.declared.answer.Answer.TheVariants.{Done, Num, Refused}
 use Rattle.ep_base.specs.declared.call.Call.{Call}
 use Rattle.ep_base.specs.declared.call.Call.TheVariants.{Close, Dup, Dup2, EpollCreate, EpollCtl, EpollWait, EventFd, Exec, Exit, Fork, GetTime, Pipe as PipeCall, Plain, Read, SetTime, Shutdown, SocketPair, TimerFd, Write}
 use Rattle.ep_base.specs.declared.call.Event.{Event}
-use Rattle.ep_base.specs.declared.call.Event.TheVariants.{Call as CallOf, Tick}
+use Rattle.ep_base.specs.declared.call.Event.TheVariants.{Call as CallOf, Resume, Tick}
 use Rattle.ep_base.specs.declared.errno.Errno.{Errno}
 use Rattle.ep_machine.specs.Files.{Files, named_by, object_under, side_under}
 use Rattle.ep_machine.specs.Objects.{Object, counter, instance, object_effect, pair, pipe, plain, timer}
@@ -19,7 +19,7 @@ use Rattle.ep_machine.specs.Sockets.{new_pair}
 use Rattle.ep_machine.specs.State.{Change, State}
 use Rattle.ep_machine.specs.Tables.{affected, affected_raises, answer_one, answer_two, close, create_one, create_two, dup, dup2, exec, exit, fork}
 use Rattle.ep_machine.specs.Timer.{new_timer}
-use Rattle.ep_machine.specs.Waits.{tick, wait}
+use Rattle.ep_machine.specs.Waits.{resume, tick, wait}
 use Rattle.ep_machine.specs.Watches.{ctl, number_in}
 
 -- of a call on the object under a descriptor number
@@ -64,6 +64,7 @@ call_change limits s caller p Exit picked = plainly picked (files_change s Done 
 
 abbrev pub change : Limits → State → ℕ → Event → List ℕ → Option Change
 change limits s caller (CallOf p call) picked = call_change limits s caller p.0 call picked
+change limits s caller Resume picked = resume s caller picked
 change limits s caller (Tick k) picked = plainly picked (tick s k)
 
 abbrev pub settled : State → Option Change → Option (Answer × State)

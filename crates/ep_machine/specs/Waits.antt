@@ -15,6 +15,9 @@ is_positive (negsuc k) = false
 abbrev pub is_parked : State → ℕ → Bool
 is_parked s caller = list_any (λ w. w.caller == caller) s.waiters
 
+abbrev pub is_marked : State → ℕ → Bool
+is_marked s caller = list_any (λ w. w.caller == caller && w.marked) s.waiters
+
 abbrev pub has_parked : State → ℕ → Bool
 has_parked s p = list_any (λ w. w.process == p) s.waiters
 

@@ -2,8 +2,8 @@
 //! list with one answer or one report changed is none.
 ghost use Rattle.std.specs.Prelude.{◌≡◌, ◌∷◌, ◌++◌, [], true, false, Some};
 ghost use Rattle.ep_base.specs.Limits.{default_limits};
-ghost use Rattle.ep_base.specs.declared.answer.Answer.TheVariants.{Done, Num, Refused};
-ghost use Rattle.ep_base.specs.declared.errno.Errno.TheVariants.{Eagain, Ebadf, Eexist, Einval, Eloop, Emfile, Enoent, Enfile, Enospc, Enotsock, Eperm, Epipe, Esrch};
+ghost use Rattle.ep_base.specs.declared.answer.Answer.TheVariants.{Done, Events, Num, Refused, Still};
+ghost use Rattle.ep_base.specs.declared.errno.Errno.TheVariants.{Eagain, Ebadf, Ebusy, Eexist, Einval, Eloop, Emfile, Enoent, Enfile, Enospc, Enotsock, Eperm, Epipe, Esrch};
 ghost use Rattle.ep_machine.specs.CounterRuns.{greatest_run, semaphore_run};
 ghost use Rattle.ep_machine.specs.DescriptorRuns.{closed_reader_run, closed_socket_run, exec_run, full_tables_run, numbers_run};
 ghost use Rattle.ep_machine.specs.EdgeRuns.{armed_again_run, drained_run, edge_run, modified_run, periodic_run, shut_again_run};
@@ -11,7 +11,8 @@ ghost use Rattle.ep_machine.specs.FairRun.{both_readable, first_told, second_tol
 ghost use Rattle.ep_machine.specs.FullPipeRun.{full_pipe_run};
 ghost use Rattle.ep_machine.specs.LevelRun.{level_run};
 ghost use Rattle.ep_machine.specs.NestRuns.{added_below_run, depth_run, disarmed_run, emptied_run, levels_run, loop_first_run};
-ghost use Rattle.ep_machine.specs.Records.{answered, create_call, pipe_call, report, small_limits, socket_limits, tight_limits, two};
+ghost use Rattle.ep_machine.specs.ParkRuns.{busy_run, closed_run, expired_run, taken_run, told, turns_run};
+ghost use Rattle.ep_machine.specs.Records.{answered, create_call, pipe_call, report, resumed, small_limits, socket_limits, tight_limits, two};
 ghost use Rattle.ep_machine.specs.RefusedRuns.{ctl_run, descriptors_first_run, descriptors_run, files_run, masks_run, process_run, read_run, wait_run, watches_run, write_run};
 ghost use Rattle.ep_machine.specs.RegistrationRuns.{key_run, one_shot_run};
 ghost use Rattle.ep_machine.specs.Run.{is_run, run};
@@ -271,4 +272,37 @@ pub fn levels()
 pub fn added_below()
     ensures run { is_run default_limits (added_below_run (report 1 7 ∷ []) (1 ∷ [])) ≡ true }
     ensures no_run { is_run default_limits (added_below_run [] []) ≡ false }
+{}
+
+/// epoll_wait(2): of the callers that wait at one instance the one that was parked first is woken first.
+pub fn turns()
+    ensures run { is_run default_limits (turns_run (resumed 2 Still []) (told 1 3 1) (told 2 4 2)) ≡ true }
+    ensures other_run { is_run default_limits (turns_run (resumed 2 Still []) (told 1 4 2) (told 2 3 1)) ≡ true }
+    ensures no_run { is_run default_limits (turns_run (resumed 2 Still []) (told 1 3 1) (told 2 3 1)) ≡ false }
+    ensures no_turn { is_run default_limits (turns_run (told 2 3 1) (told 1 4 2) (resumed 2 (Refused Einval) [])) ≡ false }
+{}
+
+/// EBUSY of a parked caller, and of exit(2) and execve(2) beside one.
+pub fn busy()
+    ensures run { is_run default_limits (busy_run Ebusy) ≡ true }
+    ensures no_run { is_run default_limits (busy_run Einval) ≡ false }
+{}
+
+/// epoll(7): a wait holds its instance when the last descriptor of it is closed.
+pub fn held()
+    ensures run { is_run (small_limits 16 16 1) (closed_run Done) ≡ true }
+    ensures no_run { is_run (small_limits 16 16 1) (closed_run (Refused Enospc)) ≡ false }
+{}
+
+/// epoll_wait(2): a timeout ends a wait, with what is ready by then.
+pub fn timed_out()
+    ensures run { is_run default_limits (expired_run (report 1 3 ∷ report 1 4 ∷ []) (1 ∷ 2 ∷ [])) ≡ true }
+    ensures other_run { is_run default_limits (expired_run (report 1 4 ∷ report 1 3 ∷ []) (2 ∷ 1 ∷ [])) ≡ true }
+    ensures no_run { is_run default_limits (expired_run [] []) ≡ false }
+{}
+
+/// epoll_wait(2): a caller that is woken for what another caller has taken waits on.
+pub fn taken()
+    ensures run { is_run default_limits (taken_run (resumed 1 Still [])) ≡ true }
+    ensures no_run { is_run default_limits (taken_run (resumed 1 (Events []) [])) ≡ false }
 {}

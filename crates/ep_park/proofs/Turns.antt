@@ -4,9 +4,9 @@ use Rattle.std.proofs.Math.Bool.{or-false, or-true}
 use Rattle.std.proofs.lemmas.Bool.{eq-eqb}
 use Rattle.std.proofs.lemmas.Bool.Decides.{eqb_tells}
 use Rattle.std.specs.List.{list_any}
-use Rattle.ep_machine.specs.Readiness.{is_ready}
-use Rattle.ep_machine.specs.State.{State, Waiter as Parked}
-use Rattle.ep_machine.specs.Waits.{is_marked_at, marked_first, waits_at}
+use Rattle.ep_machine.specs.Marks.{first_marked as first_of_each}
+use Rattle.ep_machine.specs.State.{Waiter as Parked}
+use Rattle.ep_machine.specs.Waits.{is_marked_at, waits_at}
 use Rattle.ep_park.proofs.Views.{either, swapped}
 use Rattle.ep_park.specs.Turns.{NamesReady, marked_in_turn}
 use Rattle.ep_park.specs.Waiters.{first_marked, longest_marked}
@@ -26,9 +26,9 @@ grouped true b r q = refl
 grouped false false r q = refl
 grouped false true r q = refl
 
-as_machine : (s : State) (before ws : List Parked) → first_by (λ e. not (is_marked_at s.waiters e) && is_ready s e) before ws ≡ marked_first s before ws
-as_machine s before [] = refl
-as_machine s before (w ∷ ws) = λ j. record w { marked = sym (grouped w.marked (not (waits_at before w.instance)) (not (is_marked_at s.waiters w.instance)) (is_ready s w.instance)) j } ∷ as_machine s (w ∷ before) ws j
+as_machine : (ready : ℕ → Bool) (all before ws : List Parked) → first_by (λ e. not (is_marked_at all e) && ready e) before ws ≡ first_of_each ready all before ws
+as_machine ready all before [] = refl
+as_machine ready all before (w ∷ ws) = λ j. record w { marked = sym (grouped w.marked (not (waits_at before w.instance)) (not (is_marked_at all w.instance)) (ready w.instance)) j } ∷ as_machine ready all (w ∷ before) ws j
 
 twice : (q r : ℕ → Bool) (after before ws : List Parked) → ((e : ℕ) → waits_at after e ≡ waits_at before e) → first_by q after (first_by r before ws) ≡ first_by (λ e. r e || q e) before ws
 twice q r after before [] same = refl
@@ -119,9 +119,9 @@ in_turn (e ∷ es) ws =
       | inr p ↦ rw (p.0, apart e x ws p.0) refl
     ]
 
-pub marks_agree : (s : State) (es : List ℕ) → NamesReady s es → marked_in_turn es s.waiters ≡ marked_first s [] s.waiters
-marks_agree s es names =
-    in_turn es s.waiters
-    ∙ (alike (λ x. not (is_marked_at s.waiters x) && list_any (λ y. x == y) es) (λ x. not (is_marked_at s.waiters x) && is_ready s x) [] s.waiters
-    (λ x there. ap (λ b. not (is_marked_at s.waiters x) && b) (sym (names x there)))
-    ∙ as_machine s [] s.waiters)
+pub marks_agree : (ready : ℕ → Bool) (ws : List Parked) (es : List ℕ) → NamesReady ready ws es → marked_in_turn es ws ≡ first_of_each ready ws [] ws
+marks_agree ready ws es names =
+    in_turn es ws
+    ∙ (alike (λ x. not (is_marked_at ws x) && list_any (λ y. x == y) es) (λ x. not (is_marked_at ws x) && ready x) [] ws
+    (λ x there. ap (λ b. not (is_marked_at ws x) && b) (sym (names x there)))
+    ∙ as_machine ready ws [] ws)

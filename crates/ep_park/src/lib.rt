@@ -10,4 +10,4 @@ mod tests;
 mod waiter;
 
 pub use crate::park::Park;
-pub use crate::waiter::Waiter;
+pub use crate::waiter::{Waiter, is_due};

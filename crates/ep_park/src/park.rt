@@ -2,7 +2,7 @@
 //!
 //! Waiters stand in a map by caller, in order of parking, and each instance that has waiters has a tally: who waits longest there, and
 //! how many are marked. So what is asked of one caller or of one instance costs the same, however many are parked.
-ghost use Rattle.std.specs.Prelude.{◌≡◌, ◌++◌, ◌∷◌, ◌<◌, [], OnErr, OnOk, false, filter, length, map, nat_eq};
+ghost use Rattle.std.specs.Prelude.{◌≡◌, ◌++◌, ◌∷◌, ◌<◌, [], OnErr, OnOk, false, filter, length, map, nat_eq, slice_index_or};
 ghost use Rattle.std.specs.List.{IsDistinct, find, list_any, position};
 ghost use Rattle.std.specs.Option.{option_map};
 ghost use Rattle.ep_machine.specs.Waits.{is_marked_at, marked_if_due, unmark, waits_at};
@@ -143,6 +143,22 @@ impl<A: Allocator> Park<A> {
         ensures { IsDistinct nat_eq (map (λ w. w.caller) self.now) }
     {
         let _count = self.waiters.len();
+    }
+
+    /// How many callers are parked.
+    pub fn count(&self) -> usize
+        ensures { result ≡ length self.now }
+    {
+        self.waiters.len()
+    }
+
+    /// The instance that a caller waits at, by its place in the order of parking. The cost doesn't grow with the callers that are parked.
+    pub fn instance_at(&self, index: usize) -> DescId
+        requires { index < length self.now }
+        ensures { result.0 ≡ slice_index_or (map (λ w. w.instance) self.now) index 0 }
+    {
+        prove!(index < self.waiters.len());
+        self.waiters[index].instance
     }
 
     /// A caller's waiter, or `None` where it isn't parked. The cost doesn't grow with the callers that are parked.

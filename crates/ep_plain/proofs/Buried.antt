@@ -1,5 +1,5 @@
 -- The parts of a kernel after the burial, and the state of the machine after settling.
-use Rattle.std.proofs.Common.{nat_lt, ◌≡◌, ◌∙◌, ◌==◌, ◌&&◌, ℕ, All, Bool, true, false, IsSome, List, [], ◌∷◌, ◌++◌, None, Option, Some, ap, arith, cond, filter, if◌then◌else◌, is_some, map, not, refl, slice_index_or, subst, sym, unwrap_or}
+use Rattle.std.proofs.Common.{nat_lt, ◌≡◌, ◌∙◌, ◌==◌, ◌&&◌, ◌||◌, ℕ, All, Bool, true, false, IsSome, List, [], ◌∷◌, ◌++◌, None, Option, Some, ap, arith, cond, filter, if◌then◌else◌, is_some, map, not, refl, slice_index_or, subst, sym, unwrap_or, length}
 use Rattle.std.proofs.lemmas.Bool.{false≢true}
 use Rattle.std.proofs.lemmas.Bool.Decides.{nat_tests}
 use Rattle.std.proofs.lemmas.List.{append-nil}
@@ -11,26 +11,35 @@ use Rattle.ep_machine.specs.Deaths.{die_all, dying, named_in_tables}
 use Rattle.ep_machine.specs.Files.{Files, Place, is_live, object_of, place_of}
 use Rattle.ep_machine.specs.Lists.{are_distinct, is_among}
 use Rattle.ep_machine.specs.Kept.{climbed_all, freshened, kept_all, kept_of, settled_watches, stays_in, stirred}
-use Rattle.ep_machine.specs.Quiet.{Changed, IsSettled, can_be_watched, is_backed, kind_of}
+use Rattle.ep_machine.specs.Quiet.{Changed, IsSettled, can_be_watched, is_backed, kind_of, marks_of}
 use Rattle.ep_machine.specs.Spread.{raised_of}
-use Rattle.ep_machine.specs.State.{State, Watch}
+use Rattle.ep_machine.specs.State.{State, Watch, Waiter}
 use Rattle.ep_machine.proofs.Arriving.{deaths_raise, fresh_filter, fresh_parts}
 use Rattle.ep_machine.proofs.Survivors.{Apart, same_raised}
 use Rattle.ep_machine.proofs.Burying.{Buried, all_buried}
 use Rattle.ep_machine.proofs.Living.{dying_distinct, dying_placed}
 use Rattle.ep_machine.proofs.Dying.{ArePlaced, after_all, numbers, same_dead}
+use Rattle.ep_machine.proofs.Naming.{among_append}
 use Rattle.ep_machine.proofs.Settling.{dying_test}
 use Rattle.ep_interest.specs.declared.entry.Entry.{Entry}
 use Rattle.ep_nest.specs.declared.link.Link.{Link}
 use Rattle.ep_plain.specs.Burial.{Burial, is_untouched}
 use Rattle.ep_plain.specs.Climb.{AreNested, KeepsLinks}
-use Rattle.ep_plain.specs.Moves.{Parts, StandsBuried, StandsRaised, Unheld}
-use Rattle.ep_plain.specs.Stands.{AreLinked, IsLinked, number_at, watch_at}
+use Rattle.ep_plain.specs.Moves.{AreHeld, Parts, StandsBuried, StandsRaised}
+use Rattle.ep_plain.specs.Stands.{AreLinked, ArePlaced as ArePlacedAt, IsLinked, IsPlaced, number_at, waiters_at, watch_at}
+use Rattle.ep_plain.proofs.Held.{not_held}
 use Rattle.ep_plain.proofs.Keys.{under_key}
 use Rattle.ep_plain.proofs.Watched.{KeepKinds, nested_left}
-use Rattle.ep_table.specs.Value.{Sound, holds_of}
+use Rattle.ep_table.specs.Value.{Sound, count_at}
 
-module _ (n : ℕ) (mid new : Parts) (burial : Burial n mid.tables mid.interest new.tables new.interest) (clock : new.now ≡ mid.now) (linked : AreLinked mid.tables mid.interest) (unheld : Unheld mid.tables)
+same_nat : (k : ℕ) → (k == k) ≡ true
+same_nat k = grind (arith, nat_tests)
+
+or_right : (a b : Bool) → b ≡ true → (a || b) ≡ true
+or_right true b h = refl
+or_right false b h = h
+
+module _ (n : ℕ) (mid new : Parts) (burial : Burial n mid.tables mid.interest new.tables new.interest) (clock : new.now ≡ mid.now) (linked : AreLinked mid.tables mid.interest) (left_parked : new.parked ≡ mid.parked) (sound_new : Sound new.tables) (waiting : ArePlacedAt mid.tables mid.parked) (held : AreHeld mid.tables mid.parked)
     (after t : State) (raised : List (ℕ × ℕ)) (changed : Changed after) (settled : IsSettled after raised t) (at : after.n ≡ n) (stands : StandsRaised n mid raised after) where
   abbrev dead : List (ℕ × Place)
   dead = burial.buries.dead
@@ -47,20 +56,26 @@ module _ (n : ℕ) (mid new : Parts) (burial : Burial n mid.tables mid.interest 
   placed : ArePlaced after.files dead
   placed = subst (λ (f : Files). ArePlaced f dead) (sym stands.files) burial.buries.placed
 
-  both_last : (a b c : Bool) → c ≡ true → (a && (b && c)) ≡ (a && b)
-  both_last true true c h = h
-  both_last true false c h = refl
-  both_last false b c h = refl
+  three_last : (a b c : Bool) → (a && not (b || c)) ≡ (a && (not b && not c))
+  three_last true true c = refl
+  three_last true false c = refl
+  three_last false b c = refl
 
-  zero_is : (n : ℕ) → n ≡ 0 → (n == 0) ≡ true
-  zero_is n h = grind (arith, nat_tests, h)
+  -- a table or a waiter names what does not die
+  dying_is : (d : ℕ) → is_among (numbers (dying after)) d ≡ (is_live mid.tables.files d && (not (is_among (named_in_tables mid.tables.files.tables) d) && not (is_among (map (λ w. w.instance) (waiters_at mid.tables.keys mid.parked)) d)))
+  dying_is d =
+      let names = named_in_tables mid.tables.files.tables in
+      let ws = waiters_at mid.tables.keys mid.parked in
+      dying_test after d
+      ∙ ((λ i. is_live (stands.files i) d && not (is_among (named_in_tables (stands.files i).tables ++ map (λ w. w.instance) (stands.waiters i)) d))
+      ∙ (ap (λ (b : Bool). is_live mid.tables.files d && not b) (among_append names (map (λ w. w.instance) ws) d)
+      ∙ three_last (is_live mid.tables.files d) (is_among names d) (is_among (map (λ w. w.instance) ws) d)))
 
   same_among : (d : ℕ) → is_among (numbers (dying after)) d ≡ is_among (numbers dead) d
   same_among d =
-      dying_test after changed.waiters d
-      ∙ (ap (λ (f : Files). is_live f d && not (is_among (named_in_tables f.tables) d)) stands.files
-      ∙ (sym (both_last (is_live mid.tables.files d) (not (is_among (named_in_tables mid.tables.files.tables) d)) (holds_of mid.tables d == 0) (zero_is (holds_of mid.tables d) (unheld d)))
-      ∙ (sym (sound.dying d) ∙ ap (λ (ks : List ℕ). is_among ks d) (sym queue))))
+      dying_is d
+      ∙ (ap (λ (b : Bool). is_live mid.tables.files d && (not (is_among (named_in_tables mid.tables.files.tables) d) && b)) (not_held (map (λ w. w.instance) (waiters_at mid.tables.keys mid.parked)) d ∙ ap (λ (k : ℕ). k == 0) (sym (held d)))
+      ∙ (sym (sound.dying d) ∙ ap (λ (ks : List ℕ). is_among ks d) (sym queue)))
 
   files_left : t.files ≡ after_all mid.tables.files dead
   files_left =
@@ -154,6 +169,56 @@ module _ (n : ℕ) (mid new : Parts) (burial : Burial n mid.tables mid.interest 
       ∙ (fresh_left ws
       ∙ (ap (map (freshened n of_kernel)) (stay_all mid.interest.entries linked) ∙ sym burial.buries.watches)))))
 
+  abbrev waited : List ℕ
+  waited = map (λ w. w.instance) (waiters_at mid.tables.keys mid.parked)
+
+  not_dead : (a b c : Bool) → c ≡ true → (a && (not b && not c)) ≡ false
+  not_dead true true c h = refl
+  not_dead true false c h = ap not h
+  not_dead false b c h = refl
+
+  -- an instance at which somebody waits does not die
+  waited_stays : (d : ℕ) → is_among waited d ≡ true → is_among (numbers dead) d ≡ false
+  waited_stays d h = sym (same_among d) ∙ (dying_is d ∙ not_dead (is_live mid.tables.files d) (is_among (named_in_tables mid.tables.files.tables) d) (is_among waited d) h)
+
+  -- and keeps its key
+  waiter_left : (w : Waiter) → IsPlaced mid.tables.keys w → is_among waited (number_at mid.tables.keys (record { 0 = w.instance })) ≡ true → slice_index_or new.tables.keys w.instance None ≡ Some (number_at mid.tables.keys (record { 0 = w.instance }))
+  waiter_left w placed h =
+      let key : DescId = record { 0 = w.instance } in
+      let d = number_at mid.tables.keys key in
+      let u = under_key mid.tables.keys key placed.instance in
+      let is : slice_index_or mid.tables.keys w.instance None ≡ Some d = u.is ∙ ap (λ (k : ℕ). Some k) (sym (ap (λ (o : Option ℕ). unwrap_or o 0) u.is)) in
+      let lives : is_live new.tables.files d ≡ true = ap (λ (f : Files). is_live f d) (sym (files_left ∙ sym burial.buries.files)) ∙ (live_left d (key_lives key placed.instance) ∙ ap not (waited_stays d h)) in
+      let other = sound_new.keyed d lives in
+      let same : other.0.0 ≡ w.instance = sound.one other.0 key d (burial.buries.keys other.0 d other.1) is in
+      ap (λ (k : ℕ). slice_index_or new.tables.keys k None) (sym same) ∙ other.1
+
+  waiters_left_of : (ws : List Waiter) → All (IsPlaced mid.tables.keys) ws → ((d : ℕ) → is_among (map (λ w. w.instance) (waiters_at mid.tables.keys ws)) d ≡ true → is_among waited d ≡ true) → waiters_at mid.tables.keys ws ≡ waiters_at new.tables.keys ws
+  waiters_left_of [] keyed within = refl
+  waiters_left_of (w ∷ ws) keyed within =
+      let number = number_at mid.tables.keys (record { 0 = w.instance }) in
+      let rest = waiters_left_of ws (All-tail (IsPlaced mid.tables.keys) w ws keyed) (λ d h. within d (or_right (d == number) _ h)) in
+      let here = waiter_left w (All-head (IsPlaced mid.tables.keys) w ws keyed) (within number (ap (λ (b : Bool). b || is_among (map (λ u. u.instance) (waiters_at mid.tables.keys ws)) number) (same_nat number))) in
+      λ i. record w { instance = sym (ap (λ (o : Option ℕ). unwrap_or o 0) here) i } ∷ rest i
+
+  waiters_left : waiters_at mid.tables.keys mid.parked ≡ waiters_at new.tables.keys new.parked
+  waiters_left = waiters_left_of mid.parked waiting (λ d h. h) ∙ ap (waiters_at new.tables.keys) (sym left_parked)
+
+  placed_left_of : (ws : List Waiter) → All (IsPlaced mid.tables.keys) ws → ((d : ℕ) → is_among (map (λ w. w.instance) (waiters_at mid.tables.keys ws)) d ≡ true → is_among waited d ≡ true) → All (IsPlaced new.tables.keys) ws
+  placed_left_of [] keyed within = All-nil (IsPlaced new.tables.keys)
+  placed_left_of (w ∷ ws) keyed within =
+      let number = number_at mid.tables.keys (record { 0 = w.instance }) in
+      let rest = placed_left_of ws (All-tail (IsPlaced mid.tables.keys) w ws keyed) (λ d h. within d (or_right (d == number) _ h)) in
+      let one = All-head (IsPlaced mid.tables.keys) w ws keyed in
+      let here = waiter_left w one (within number (ap (λ (b : Bool). b || is_among (map (λ u. u.instance) (waiters_at mid.tables.keys ws)) number) (same_nat number))) in
+      All-cons (IsPlaced new.tables.keys) w ws (record { instance = subst (λ (o : Option ℕ). IsSome o) (sym here) refl; most = one.most }) rest
+
+  pub buried_placed : ArePlacedAt new.tables new.parked
+  buried_placed = subst (λ (ws : List Waiter). ArePlacedAt new.tables ws) (sym left_parked) (placed_left_of mid.parked waiting (λ d h. h))
+
+  pub buried_held : AreHeld new.tables new.parked
+  buried_held = λ d. ap (λ (hs : List ℕ). count_at hs d) burial.buries.holds ∙ (held d ∙ ap (λ (ws : List Waiter). length (filter (λ k. k == d) (map (λ w. w.instance) ws))) waiters_left)
+
   pub buried_stands : StandsBuried n new t
   buried_stands =
       let same : t.files ≡ new.tables.files = files_left ∙ sym burial.buries.files in
@@ -165,6 +230,7 @@ module _ (n : ℕ) (mid new : Parts) (burial : Burial n mid.tables mid.interest 
             ∙ ((λ i. settled_watches (at i) t.files (freshened (at i) (die_all (after.files, raised) (dying after)).1) (filter (stays_in t.files) (kept_all after after.watches)))
             ∙ (ap (climbed_all n t.files) all_noted ∙ ap (λ (f : Files). climbed_all n f (map (watch_at new.tables.keys) new.interest.entries)) same));
         added = settled.added ∙ (stands.added ∙ sym burial.buries.added);
+        waiters = settled.waiters ∙ ap (marks_of t) (stands.waiters ∙ waiters_left);
       }
 
   -- each registration that is left keeps the kind of its target

@@ -13,7 +13,7 @@ use Rattle.ep_nest.specs.declared.link.Link.{Link}
 use Rattle.ep_plain.specs.Climb.{AreNested}
 use Rattle.ep_plain.proofs.Nesting.{legal_both}
 use Rattle.ep_machine.specs.Refusal.{ctl_refusals}
-use Rattle.ep_machine.specs.State.{Change, State}
+use Rattle.ep_machine.specs.State.{Change, State, Waiter}
 use Rattle.ep_machine.specs.Watches.{is_add, is_del, is_legal, is_mod, is_there, links, number_in}
 use Rattle.std.specs.List.{AllByRecursion, list_any}
 use Rattle.ep_base.specs.declared.answer.Answer.{Answer}
@@ -150,7 +150,7 @@ module _ (v : Seen) (r : Registrations) (p : ℕ) (args : Control) (named : Name
   linked_entered deep watches Delete new answer h = subst (λ (q : Registrations). AreLinked v q) (sym h.1) linked
   linked_entered deep watches Modify new answer h = subst (λ (q : Registrations). AreLinked v q) (sym h.1) linked
 
-module _ (limits : Limits) (v : Seen) (r : Registrations) (s : State) (p : ℕ) (args : Control) (named : Named) (names : Names v p args.epfd.0 args.fd.0 named) (sound : SoundTables v) (now : ℕ) (stands : Stands v r now s) (linked : AreLinked v r) (deep : Bool) (deep_is : is_deep limits s p args.epfd.0 args.op args.fd.0 args.mask.0 ≡ deep) where
+module _ {ws : List Waiter} (limits : Limits) (v : Seen) (r : Registrations) (s : State) (p : ℕ) (args : Control) (named : Named) (names : Names v p args.epfd.0 args.fd.0 named) (sound : SoundTables v) (now : ℕ) (stands : Stands v r ws now s) (linked : AreLinked v r) (deep : Bool) (deep_is : is_deep limits s p args.epfd.0 args.op args.fd.0 args.mask.0 ≡ deep) where
   accepted : first (naming_refusals s.files p args.epfd.0 args.fd.0) ≡ None
   accepted = ap (λ (f : Files). first (naming_refusals f p args.epfd.0 args.fd.0)) stands.files ∙ names.accepted
 
@@ -178,12 +178,12 @@ module _ (limits : Limits) (v : Seen) (r : Registrations) (s : State) (p : ℕ) 
 
   -- what the call comes to, with this answer and these registrations
   abbrev GoesBy : ℕ → Answer → Registrations → Type 0
-  GoesBy caller answer new = Goes (ctl_refusals limits s p args.epfd.0 args.op args.fd.0 args.mask.0) (call_change limits s caller p (control_call args) []) s answer [] (record { tables = v; interest = new; now = now })
+  GoesBy caller answer new = Goes (ctl_refusals limits s p args.epfd.0 args.op args.fd.0 args.mask.0) (call_change limits s caller p (control_call args) []) s answer [] (record { tables = v; interest = new; parked = ws; now = now })
 
   -- and what it raises, where it is done by looking at the registration
   abbrev pub GoesTo : ℕ → Answer → Registrations → Type 0
   GoesTo caller answer new =
-      Goes (ctl_refusals limits s p args.epfd.0 args.op args.fd.0 args.mask.0) (call_change limits s caller p (control_call args) []) s answer [] (record { tables = v; interest = new; now = now })
+      Goes (ctl_refusals limits s p args.epfd.0 args.op args.fd.0 args.mask.0) (call_change limits s caller p (control_call args) []) s answer [] (record { tables = v; interest = new; parked = ws; now = now })
       × ((raising : Raising) → raising ≡ (if is_done answer then looked v now new named args.fd else Nowhere) → Raises (ctl_refusals limits s p args.epfd.0 args.op args.fd.0 args.mask.0) (call_change limits s caller p (control_call args) []) raising v now)
 
   refuses : (caller : ℕ) (e : Errno) (answer : Answer) (new : Registrations) → first refusals ≡ Some e → answer ≡ Refused e → new ≡ r → GoesTo caller answer new
@@ -204,7 +204,7 @@ module _ (limits : Limits) (v : Seen) (r : Registrations) (s : State) (p : ℕ) 
   abbrev fd : ℕ
   fd = number_in args.fd.0
 
-  makes : (caller : ℕ) (c : Change) (answer : Answer) (new : Registrations) → first refusals ≡ None → ctl s p args.epfd.0 args.op args.fd.0 args.mask.0 args.tag ≡ c → c.0 ≡ Done → answer ≡ Done → Stands v new now c.1 → ((k : ℕ) → raised_of c.2 k ≡ raised_bits (looked v now new named args.fd) v now k) → GoesTo caller answer new
+  makes : (caller : ℕ) (c : Change) (answer : Answer) (new : Registrations) → first refusals ≡ None → ctl s p args.epfd.0 args.op args.fd.0 args.mask.0 args.tag ≡ c → c.0 ≡ Done → answer ≡ Done → Stands v new ws now c.1 → ((k : ℕ) → raised_of c.2 k ≡ raised_bits (looked v now new named args.fd) v now k) → GoesTo caller answer new
   makes caller c answer new h is done answers after raises = (
     goes_made refusals (change caller) s answer [] _ h (record { made = c; is = ap (λ (b : Change). Some b) is; answers = done ∙ sym answers; stands = after }),
     λ raising told. raises_made refusals (change caller) v now raising c h (ap (λ (b : Change). Some b) is) (λ k. raises k ∙ ap (λ (q : Raising). raised_bits q v now k) (sym (told ∙ ap (λ (b : Answer). if is_done b then looked v now new named args.fd else Nowhere) answers))),
@@ -217,7 +217,7 @@ module _ (limits : Limits) (v : Seen) (r : Registrations) (s : State) (p : ℕ) 
         left_to_refuse op_accepted
         ∙ (λ i. first (room_refusals (other i) (found i) deep limits.watches (length r.entries)))
 
-    removed : (new : Registrations) → new.entries ≡ filter (is_other k) r.entries → new.added ≡ r.added → Stands v new now (delete s e fd d).1
+    removed : (new : Registrations) → new.entries ≡ filter (is_other k) r.entries → new.added ≡ r.added → Stands v new ws now (delete s e fd d).1
     removed new entries added = record {
       now = stands.now;
       files = stands.files;
@@ -227,9 +227,10 @@ module _ (limits : Limits) (v : Seen) (r : Registrations) (s : State) (p : ℕ) 
           ∙ (without v named.instance args.fd.0 named.desc k sound names.instance_lives names.desc_lives under_number r.entries linked has
           ∙ ap (map (watch_at v.keys)) (sym entries)));
       added = stands.added ∙ sym added;
+      waiters = stands.waiters;
     }
 
-    altered : (new : Registrations) → new.entries ≡ map (modified k args.mask args.tag) r.entries → new.added ≡ r.added → Stands v new now (modify s e fd d args.mask.0 args.tag).1
+    altered : (new : Registrations) → new.entries ≡ map (modified k args.mask args.tag) r.entries → new.added ≡ r.added → Stands v new ws now (modify s e fd d args.mask.0 args.tag).1
     altered new entries added = record {
       now = stands.now;
       files = stands.files;
@@ -239,6 +240,7 @@ module _ (limits : Limits) (v : Seen) (r : Registrations) (s : State) (p : ℕ) 
           ∙ (changed v named.instance args.fd.0 named.desc k sound names.instance_lives names.desc_lives under_number args.mask args.tag r.entries linked has
           ∙ ap (map (watch_at v.keys)) (sym entries)));
       added = stands.added ∙ sym added;
+      waiters = stands.waiters;
     }
 
     -- what is deleted raises nothing
@@ -266,7 +268,7 @@ module _ (limits : Limits) (v : Seen) (r : Registrations) (s : State) (p : ℕ) 
     watch_is : kept_of s (new_watch s e fd d args.mask.0 args.tag) ≡ watch_at v.keys (new_entry (r.added + 1) named.instance args.fd named.desc args.mask args.tag)
     watch_is = λ i. record { number = stands.added i + 1; instance = instance_is i; fd = fd; target = desc_is i; mask = args.mask.0; tag = args.tag; armed = true; seen = None; rep = 0; from = 0 }
 
-    more : (new : Registrations) → new.entries ≡ r.entries ++ new_entry (r.added + 1) named.instance args.fd named.desc args.mask args.tag ∷ [] → new.added ≡ r.added + 1 → Stands v new now (add s e fd d args.mask.0 args.tag).1
+    more : (new : Registrations) → new.entries ≡ r.entries ++ new_entry (r.added + 1) named.instance args.fd named.desc args.mask args.tag ∷ [] → new.added ≡ r.added + 1 → Stands v new ws now (add s e fd d args.mask.0 args.tag).1
     more new entries added = record {
       now = stands.now;
       files = stands.files;
@@ -276,6 +278,7 @@ module _ (limits : Limits) (v : Seen) (r : Registrations) (s : State) (p : ℕ) 
           ∙ (sym (map-append (watch_at v.keys) r.entries (new_entry (r.added + 1) named.instance args.fd named.desc args.mask args.tag ∷ []))
           ∙ ap (λ (xs : List Entry). map (watch_at v.keys) xs) (sym entries)));
       added = ap (λ (k : ℕ). k + 1) stands.added ∙ sym added;
+      waiters = stands.waiters;
     }
 
     -- of the registrations that are there after it, the new one alone has this key
@@ -312,7 +315,7 @@ module _ (limits : Limits) (v : Seen) (r : Registrations) (s : State) (p : ℕ) 
     goes_entered n caller Modify new answer code h = refuses caller Enoent answer new (nothing_there (ap is_add code)) h.0 h.1
 
 -- the graph of the kernel shows whether a link would be illegal
-pub deep_is_at : (limits : Limits) (v : Seen) (r : Registrations) (s : State) (p : ℕ) (args : Control) (named : Named) → Names v p args.epfd.0 args.fd.0 named → SoundTables v → (now : ℕ) → Stands v r now s → AreLinked v r → (graph : List Link) → AreNested v r graph
+pub deep_is_at : {ws : List Waiter} (limits : Limits) (v : Seen) (r : Registrations) (s : State) (p : ℕ) (args : Control) (named : Named) → Names v p args.epfd.0 args.fd.0 named → SoundTables v → (now : ℕ) → Stands v r ws now s → AreLinked v r → (graph : List Link) → AreNested v r graph
     → is_deep limits s p args.epfd.0 args.op args.fd.0 args.mask.0 ≡ is_deep_at v graph named
 deep_is_at limits v r s p args named names sound now stands linked graph nested =
     let deep = is_deep limits s p args.epfd.0 args.op args.fd.0 args.mask.0 in

@@ -1,5 +1,5 @@
 -- What an event's answer and parts show.
-use Rattle.std.proofs.Common.{◌≡◌, ◌∙◌, ℕ, Bool, List, [], Option, Some, None, ap, subst, sym, refl, unwrap_or}
+use Rattle.std.proofs.Common.{◌≡◌, ◌∙◌, ℕ, Bool, true, false, List, [], ◌∷◌, Option, Some, None, ap, subst, sym, refl, unwrap_or}
 use Rattle.std.specs.Prelude.{MatchOption}
 use Rattle.ep_base.specs.declared.answer.Answer.{Answer}
 use Rattle.ep_base.specs.declared.answer.Answer.TheVariants.{Refused}
@@ -40,3 +40,16 @@ goes_told refusals o s answer given picked new told none h = subst (λ (a : Answ
 
 pub raises_told : (refusals : List (Bool × Errno)) (o : List ℕ → Option Change) (v : Seen) (now : ℕ) (raising : Raising) (picked : List ℕ) → picked ≡ [] → Raises refusals (o []) raising v now → Raises refusals (o picked) raising v now
 raises_told refusals o v now raising picked none h = subst (λ (ks : List ℕ). Raises refusals (o ks) raising v now) (sym none) h
+
+-- two tests that don't hold are passed
+pub goes_past : (a b : Bool) (e f : Errno) (rest : List (Bool × Errno)) (o : Option Change) (s : State) (answer : Answer) (picked : List ℕ) (new : Parts) → a ≡ false → b ≡ false → Goes rest o s answer picked new → Goes ((a, e) ∷ (b, f) ∷ rest) o s answer picked new
+goes_past a b e f rest o s answer picked new h i goes =
+    subst (λ (x : Bool). Goes ((x, e) ∷ (b, f) ∷ rest) o s answer picked new) (sym h) (subst (λ (y : Bool). Goes ((false, e) ∷ (y, f) ∷ rest) o s answer picked new) (sym i) goes)
+
+pub raises_past : (a b : Bool) (e f : Errno) (rest : List (Bool × Errno)) (o : Option Change) (v : Seen) (now : ℕ) (raising : Raising) → a ≡ false → b ≡ false → Raises rest o raising v now → Raises ((a, e) ∷ (b, f) ∷ rest) o raising v now
+raises_past a b e f rest o v now raising h i raises =
+    subst (λ (x : Bool). Raises ((x, e) ∷ (b, f) ∷ rest) o raising v now) (sym h) (subst (λ (y : Bool). Raises ((false, e) ∷ (y, f) ∷ rest) o raising v now) (sym i) raises)
+
+-- the second test holds, and the first does not
+pub second_holds : (a b : Bool) (e f : Errno) (rest : List (Bool × Errno)) → a ≡ false → b ≡ true → first ((a, e) ∷ (b, f) ∷ rest) ≡ Some f
+second_holds a b e f rest h i = (λ k. first ((h k, e) ∷ (i k, f) ∷ rest))

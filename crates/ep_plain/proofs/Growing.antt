@@ -1,12 +1,12 @@
--- Calls on descriptors make no description and no object.
+-- Calls on descriptors make no description and no object, and hold none.
 use Rattle.std.proofs.Common.{◌≡◌, ◌∙◌, ℕ, ℤ, pos, negsuc, true, false, None, Option, Some, ap, arith, cond, length, refl}
 use Rattle.ep_base.specs.declared.errno.Errno.{Errno}
 use Rattle.ep_machine.specs.Files.{Files, Place, numbers_of}
 use Rattle.ep_machine.specs.Lists.{place_at}
 use Rattle.ep_machine.specs.Objects.{Object}
 use Rattle.ep_machine.specs.Tables.{dup2, same_number, slot, with_table}
-use Rattle.ep_plain.specs.Moves.{Grows}
-use Rattle.ep_table.specs.Value.{Seen}
+use Rattle.ep_plain.specs.Moves.{Grows, KeepsHolds}
+use Rattle.ep_table.specs.Value.{Seen, count_at}
 use Rattle.std.specs.Prelude.{List}
 
 pub dup2_descriptions : (f : Files) (p : ℕ) (fd to : ℤ) (d : ℕ) → (dup2 f p fd to d).descriptions ≡ f.descriptions
@@ -28,3 +28,7 @@ pub grows_by : (refusal : Option Errno) (A : Errno → Type 0) (old new : Seen) 
     → f.descriptions ≡ old.files.descriptions → f.objects ≡ old.files.objects → Grows old.files new.files
 grows_by None A old new f refused done d o = grows_none old.files new.files (ap (λ (g : Files). g.descriptions) (done refl) ∙ d) (ap (λ (g : Files). g.objects) (done refl) ∙ o)
 grows_by (Some e) A old new f refused done d o = let same = (refused e refl).1 in grows_none old.files new.files (ap (λ (v : Seen). v.files.descriptions) same) (ap (λ (v : Seen). v.files.objects) same)
+
+pub holds_by : (refusal : Option Errno) (A : Errno → Type 0) (old new : Seen) → ((e : Errno) → refusal ≡ Some e → A e × (new ≡ old)) → (refusal ≡ None → new.holds ≡ old.holds) → KeepsHolds old new
+holds_by None A old new refused done = λ d. ap (λ (hs : List ℕ). count_at hs d) (done refl)
+holds_by (Some e) A old new refused done = λ d. ap (λ (v : Seen). count_at v.holds d) (refused e refl).1

@@ -25,6 +25,10 @@ pub mod Opening
 pub mod Purging
 pub mod Burying
 pub mod Watched
+pub mod Held
+pub mod Marking
+pub mod Parked
+pub mod Resumed
 pub mod Buried
 pub mod Stepped
 pub mod Next

@@ -1,5 +1,5 @@
 -- Registrations as the machine has them.
-use Rattle.std.proofs.Common.{slice_index_or, Bool, ◌≡◌, ◌==◌, ◌&&◌, ◌||◌, ℕ, ℤ, pos, List, [], ◌∷◌, IsSome, All, length, map, refl, ap, sym, ◌∙◌}
+use Rattle.std.proofs.Common.{slice_index_or, get_or, Bool, ◌≡◌, ◌==◌, ◌&&◌, ◌||◌, ℕ, ℤ, pos, List, [], ◌∷◌, IsSome, All, filter, length, map, refl, ap, sym, ◌∙◌}
 use Rattle.std.specs.List.{list_any}
 use Rattle.std.specs.Ordering.{int_eq}
 use Rattle.std.proofs.lemmas.Bool.Decides.{Decides-int_eq, Decides-eqb, same_from_decides}
@@ -9,11 +9,16 @@ use Rattle.ep_base.specs.declared.ids.DescId.{DescId}
 use Rattle.ep_machine.specs.Bits.{asked}
 use Rattle.ep_machine.specs.Counts.{every_shown_bit, no_counts}
 use Rattle.ep_machine.specs.Kept.{kept_all, kept_of, seen_where}
+use Rattle.ep_machine.specs.Marks.{at_number}
 use Rattle.ep_machine.specs.Readiness.{is_fresh_since}
-use Rattle.ep_machine.specs.State.{State, Watch}
+use Rattle.ep_machine.specs.State.{State, Waiter, Watch}
+use Rattle.ep_machine.specs.Waits.{has_parked, is_marked, is_parked}
+use Rattle.ep_machine.proofs.Renaming.{any_at, of_process_at, parked_at}
 use Rattle.ep_machine.specs.Watches.{has_key as has_numbers, is_there, number_in}
 use Rattle.ep_interest.specs.Registrations.{Registrations, has_key}
-use Rattle.ep_plain.specs.Stands.{AreLinked, IsLinked, KeepsKeys, Stands, number_at, watch_at}
+use Rattle.ep_park.specs.Waiters.{is_caller, is_marked_caller, is_of}
+use Rattle.ep_plain.specs.Moves.{AreHeld, KeepsHolds}
+use Rattle.ep_plain.specs.Stands.{AreLinked, ArePlaced, IsLinked, IsPlaced, KeepsKeys, Stands, number_at, waiters_at, watch_at}
 use Rattle.ep_table.specs.Value.{Seen, Sound, number_under}
 use Rattle.ep_interest.specs.declared.entry.Entry.{Entry}
 use Rattle.ep_plain.proofs.Keys.{number_kept, same_keys, some_kept}
@@ -45,14 +50,14 @@ there_linked v instance desc fd sound hi hd hf (x ∷ xs) linked =
     let one = same_key_test v instance desc fd sound hi hd hf x (All-head (IsLinked v.keys) x xs linked) in
     let rest = there_linked v instance desc fd sound hi hd hf xs (All-tail (IsLinked v.keys) x xs linked) in λ i. one i || rest i
 
-pub there_is : (v : Seen) (r : Registrations) (now : ℕ) (s : State) (instance desc : DescId) (fd : ℤ) → Sound v → Stands v r now s → AreLinked v r → IsSome (number_under v instance) → IsSome (number_under v desc) → fd ≡ pos (number_in fd)
+pub there_is : {ws : List Waiter} (v : Seen) (r : Registrations) (now : ℕ) (s : State) (instance desc : DescId) (fd : ℤ) → Sound v → Stands v r ws now s → AreLinked v r → IsSome (number_under v instance) → IsSome (number_under v desc) → fd ≡ pos (number_in fd)
     → is_there s (number_at v.keys instance) (number_in fd) (number_at v.keys desc) ≡ list_any (has_key instance (record { 0 = fd }) desc) r.entries
 there_is v r now s instance desc fd sound h linked hi hd hf =
     let f = list_any (has_numbers (number_at v.keys instance) (number_in fd) (number_at v.keys desc)) in
     sym (there_kept s _ _ _ s.watches) ∙ (ap f h.watches ∙ there_linked v instance desc fd sound hi hd hf r.entries linked)
 
 -- as many registrations
-pub count_is : (v : Seen) (r : Registrations) (now : ℕ) (s : State) → Stands v r now s → length s.watches ≡ length r.entries
+pub count_is : {ws : List Waiter} (v : Seen) (r : Registrations) (now : ℕ) (s : State) → Stands v r ws now s → length s.watches ≡ length r.entries
 count_is v r now s h = sym (length-map s.watches (kept_of s)) ∙ (ap (λ (xs : List Watch). length xs) h.watches ∙ length-map r.entries (watch_at v.keys))
 
 watches_kept : (old new : Seen) → KeepsKeys old new → (xs : List Entry) → All (IsLinked old.keys) xs → map (watch_at new.keys) xs ≡ map (watch_at old.keys) xs
@@ -75,11 +80,40 @@ kept_same : (s t : State) → t.arrivals ≡ s.arrivals → (xs : List Watch) �
 kept_same s t e [] = refl
 kept_same s t e (x ∷ xs) = λ i. record x { seen = seen_where (is_fresh_since x.seen (asked x.mask every_shown_bit) (slice_index_or (e i) x.target no_counts)); from = 0 } ∷ kept_same s t e xs i
 
--- a call on the tables that keeps each key keeps the registrations
-pub stands_kept : (old new : Seen) (r : Registrations) (now : ℕ) (s t : State) → KeepsKeys old new → AreLinked old r → Stands old r now s → t.now ≡ s.now → t.files ≡ new.files → t.watches ≡ s.watches → t.added ≡ s.added → t.arrivals ≡ s.arrivals → Stands new r now t
-stands_kept old new r now s t keeps linked h clock files watches added arrivals = record {
+-- a key that is there keeps its number
+waiter_kept : (old new : Seen) → KeepsKeys old new → (w : Waiter) → IsPlaced old.keys w → at_number (λ k. number_at new.keys (record { 0 = k })) w ≡ at_number (λ k. number_at old.keys (record { 0 = k })) w
+waiter_kept old new keeps w h = let e = number_kept old new (record { 0 = w.instance }) keeps h.instance in λ i. record w { instance = e i }
+
+pub waiters_kept : (old new : Seen) → KeepsKeys old new → (ws : List Waiter) → ArePlaced old ws → waiters_at new.keys ws ≡ waiters_at old.keys ws
+waiters_kept old new keeps [] h = refl
+waiters_kept old new keeps (w ∷ ws) h =
+    let one = waiter_kept old new keeps w (All-head (IsPlaced old.keys) w ws h) in
+    let rest = waiters_kept old new keeps ws (All-tail (IsPlaced old.keys) w ws h) in
+    λ i. one i ∷ rest i
+
+pub placed_kept : (old new : Seen) (ws : List Waiter) → KeepsKeys old new → ArePlaced old ws → ArePlaced new ws
+placed_kept old new ws keeps h = λ k d lt. let w = h k d lt in record { instance = some_kept old new (record { 0 = (get_or ws k d).instance }) keeps w.instance; most = w.most }
+
+-- who waits is seen by keys as by numbers
+pub process_waits : (v : Seen) (r : Registrations) (ws : List Waiter) (now : ℕ) (s : State) (p : ℕ) → Stands v r ws now s → has_parked s p ≡ list_any (is_of p) ws
+process_waits v r ws now s p stands = ap (λ (us : List Waiter). list_any (is_of p) us) stands.waiters ∙ of_process_at (λ k. number_at v.keys (record { 0 = k })) p ws
+
+pub caller_waits : (v : Seen) (r : Registrations) (ws : List Waiter) (now : ℕ) (s : State) (caller : ℕ) → Stands v r ws now s → is_parked s caller ≡ list_any (is_caller caller) ws
+caller_waits v r ws now s caller stands = ap (λ (us : List Waiter). list_any (is_caller caller) us) stands.waiters ∙ parked_at (λ k. number_at v.keys (record { 0 = k })) caller ws
+
+pub caller_marked : (v : Seen) (r : Registrations) (ws : List Waiter) (now : ℕ) (s : State) (caller : ℕ) → Stands v r ws now s → is_marked s caller ≡ list_any (is_marked_caller caller) ws
+caller_marked v r ws now s caller stands = ap (λ (us : List Waiter). list_any (is_marked_caller caller) us) stands.waiters ∙ any_at (λ k. number_at v.keys (record { 0 = k })) (is_marked_caller caller) (is_marked_caller caller) (λ w. refl) ws
+
+-- what waiters hold stays held
+pub held_kept : (old new : Seen) (ws : List Waiter) → KeepsHolds old new → KeepsKeys old new → ArePlaced old ws → AreHeld old ws → AreHeld new ws
+held_kept old new ws holds keeps placed held = λ d. holds d ∙ (held d ∙ ap (λ (us : List Waiter). length (filter (λ k. k == d) (map (λ w. w.instance) us))) (sym (waiters_kept old new keeps ws placed)))
+
+-- a call on the tables that keeps each key keeps registrations and waiters
+pub stands_kept : (old new : Seen) (r : Registrations) {ws : List Waiter} (now : ℕ) (s t : State) → KeepsKeys old new → AreLinked old r → ArePlaced old ws → Stands old r ws now s → t.now ≡ s.now → t.files ≡ new.files → t.watches ≡ s.watches → t.added ≡ s.added → t.arrivals ≡ s.arrivals → t.waiters ≡ s.waiters → Stands new r ws now t
+stands_kept old new r now s t keeps linked placed h clock files watches added arrivals waiters = record {
   now = clock ∙ h.now;
   files = files;
   watches = ap (kept_all t) watches ∙ (kept_same s t arrivals s.watches ∙ (h.watches ∙ sym (watches_kept old new keeps r.entries linked)));
   added = added ∙ h.added;
+  waiters = waiters ∙ (h.waiters ∙ sym (waiters_kept old new keeps _ placed));
 }

@@ -7,7 +7,7 @@ use Rattle.ep_interest.specs.Registrations.{Registrations}
 use Rattle.ep_interest.specs.declared.entry.Entry.{Entry}
 use Rattle.ep_machine.specs.Kept.{kept_all, kept_of, watches_instance}
 use Rattle.ep_machine.specs.Lists.{is_among, is_empty}
-use Rattle.ep_machine.specs.State.{State, Watch}
+use Rattle.ep_machine.specs.State.{State, Waiter, Watch}
 use Rattle.ep_machine.specs.Watches.{ends_of_chains, is_legal, links}
 use Rattle.ep_nest.specs.Links.{edges}
 use Rattle.ep_nest.specs.declared.link.Link.{Link}
@@ -118,7 +118,7 @@ module _ (v : Seen) where
         with_one true link rest = ((link.instance, link.desc), rest)
         with_one false link rest = rest
 
-  module _ (r : Registrations) (now : ℕ) (s : State) (stands : Stands v r now s) (linked : AreLinked v r) (graph : List Link) (nested : AreNested v r graph) where
+  module _ {ws : List Waiter} (r : Registrations) (now : ℕ) (s : State) (stands : Stands v r ws now s) (linked : AreLinked v r) (graph : List Link) (nested : AreNested v r graph) where
     pub links_are : links s ≡ map (λ e. (number e.0, number e.1)) (edges graph)
     links_are =
         links_kept s s.watches

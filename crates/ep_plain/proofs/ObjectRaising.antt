@@ -16,7 +16,7 @@ use Rattle.ep_machine.specs.Files.{Files, Place, named_by, names_nothing, object
 use Rattle.ep_machine.specs.Objects.{Object, object_effect, object_refusals}
 use Rattle.ep_machine.specs.Refusal.{call_refusals, on_object}
 use Rattle.ep_machine.specs.Spread.{raised_of}
-use Rattle.ep_machine.specs.State.{Change, State}
+use Rattle.ep_machine.specs.State.{Change, State, Waiter}
 use Rattle.ep_machine.specs.Step.{call_change, object_change}
 use Rattle.ep_machine.specs.Tables.{affected_raises}
 use Rattle.ep_machine.proofs.Arriving.{raised_live, raised_place}
@@ -90,7 +90,7 @@ Told new now p fd call raising at f =
     (AsRaised raising new now (affected_raises f (named_by f p fd.0) (object_effect (object_under f p fd.0) (side_under f p fd.0) at call))) (λ e. AsRaised raising new now [])
 
 pub object_raises : (v new : Seen) (p : ℕ) (fd : Fd) (now : ℕ) (call : Call) (raising : Raising) → RaisesByCall v new p fd.0 now call raising
-    → (limits : Limits) (r : Registrations) (s : State) (caller : ℕ) → Stands v r now s → IsOnObject fd call → Raises (call_refusals limits s p call) (call_change limits s caller p call []) raising new now
+    → {ws : List Waiter} (limits : Limits) (r : Registrations) (s : State) (caller : ℕ) → Stands v r ws now s → IsOnObject fd call → Raises (call_refusals limits s p call) (call_change limits s caller p call []) raising new now
 object_raises v new p fd now call raising h limits r s caller stands is =
     let both = is limits s caller p in
     let P : List (Bool × Errno) → Option Change → Type 0 = λ tests o. Raises tests o raising new now in

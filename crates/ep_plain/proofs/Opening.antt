@@ -13,11 +13,11 @@ use Rattle.ep_machine.specs.Effect.{first}
 use Rattle.ep_machine.specs.Files.{Files, named_by, names_nothing, object_under, side_under}
 use Rattle.ep_machine.specs.Objects.{Object, object_effect, object_refusals}
 use Rattle.ep_machine.specs.Refusal.{call_refusals, on_object}
-use Rattle.ep_machine.specs.State.{Change, State}
+use Rattle.ep_machine.specs.State.{Change, State, Waiter}
 use Rattle.ep_machine.specs.Step.{call_change, files_change, object_change, one_change, two_change}
 use Rattle.ep_machine.specs.Tables.{affected, affected_raises, answer_one, answer_two, create_one, create_two, one_refusals, two_refusals}
 use Rattle.ep_plain.specs.Moves.{Goes, Makes, Opened, Opens, Parts, Refuses, Stayed}
-use Rattle.ep_plain.specs.Stands.{AreLinked, KeepsKeys, Stands}
+use Rattle.ep_plain.specs.Stands.{AreLinked, ArePlaced, KeepsKeys, Stands}
 use Rattle.ep_plain.specs.ObjectCall.{given}
 use Rattle.ep_plain.proofs.Linking.{linked_kept, stands_kept}
 use Rattle.ep_table.specs.Value.{Seen}
@@ -39,48 +39,48 @@ module _ (refusals : List (Bool × Errno)) (to : Answer) (after : Files) (answer
   opens_limits = match_one (first refusals) (Opened to after answer v new) (new.limits ≡ v.limits) (λ e. Stayed e answer v new)
       (λ o. o.limits) (λ e stayed. ap (λ (x : Seen). x.limits) stayed.tables) opens
 
-  module _ (r : Registrations) (linked : AreLinked v r) where
-    pub opens_linked : AreLinked new r
-    opens_linked = linked_kept v new r opens_keys linked
+  pub opens_linked : (r : Registrations) → AreLinked v r → AreLinked new r
+  opens_linked r linked = linked_kept v new r opens_keys linked
 
-    pub opens_goes : (now : ℕ) (s : State) (raised : List (ℕ × ℕ)) → Stands v r now s → Goes refusals (Some (to, record s { files = after }, raised)) s answer [] (record { tables = new; interest = r; now = now })
-    opens_goes now s raised stands = match_map (first refusals) (Opened to after answer v new) (Makes (Some (to, record s { files = after }, raised)) answer (record { tables = new; interest = r; now = now })) (λ e. Stayed e answer v new) (λ e. Refuses s e answer [] (record { tables = new; interest = r; now = now }))
+  module _ {ws : List Waiter} (r : Registrations) (linked : AreLinked v r) (placed : ArePlaced v ws) where
+    pub opens_goes : (now : ℕ) (s : State) (raised : List (ℕ × ℕ)) → Stands v r ws now s → Goes refusals (Some (to, record s { files = after }, raised)) s answer [] (record { tables = new; interest = r; parked = ws; now = now })
+    opens_goes now s raised stands = match_map (first refusals) (Opened to after answer v new) (Makes (Some (to, record s { files = after }, raised)) answer (record { tables = new; interest = r; parked = ws; now = now })) (λ e. Stayed e answer v new) (λ e. Refuses s e answer [] (record { tables = new; interest = r; parked = ws; now = now }))
         (λ o. record {
           made = (to, record s { files = after }, raised);
           is = refl;
           answers = sym o.answers;
-          stands = stands_kept v new r now s (record s { files = after }) opens_keys linked stands refl (sym o.files) refl refl refl;
+          stands = stands_kept v new r now s (record s { files = after }) opens_keys linked placed stands refl (sym o.files) refl refl refl refl;
         })
         (λ e stayed. record {
           answers = stayed.answers;
           unpicked = refl;
-          stands = subst (λ (x : Seen). Stands x r now s) (sym stayed.tables) stands;
+          stands = subst (λ (x : Seen). Stands x r ws now s) (sym stayed.tables) stands;
         })
         opens
 
-module _ (limits : Limits) (v new : Seen) (r : Registrations) (now : ℕ) (s : State) (p : ℕ) (answer : Answer) (linked : AreLinked v r) (stands : Stands v r now s) (same : v.limits ≡ limits) where
+module _ {ws : List Waiter} (limits : Limits) (v new : Seen) (r : Registrations) (now : ℕ) (s : State) (p : ℕ) (answer : Answer) (linked : AreLinked v r) (placed : ArePlaced v ws) (stands : Stands v r ws now s) (same : v.limits ≡ limits) where
   abbrev parts : Parts
-  parts = record { tables = new; interest = r; now = now }
+  parts = record { tables = new; interest = r; parked = ws; now = now }
 
   pub two_goes : (x : Object) (cloexec : Bool) → Opens (two_refusals v.limits v.files p) (answer_two v.files p) (create_two v.files p x cloexec) answer v new
       → Goes (two_refusals limits s.files p) (Some (two_change s p x cloexec)) s answer [] parts
   two_goes x cloexec opens =
       let P : Limits → Files → Type 0 = λ l f. Goes (two_refusals l f p) (Some (answer_two f p, record s { files = create_two f p x cloexec }, [])) s answer [] parts in
-      subst (λ (l : Limits). P l s.files) same (subst (P v.limits) (sym stands.files) (opens_goes (two_refusals v.limits v.files p) (answer_two v.files p) (create_two v.files p x cloexec) answer v new opens r linked now s [] stands))
+      subst (λ (l : Limits). P l s.files) same (subst (P v.limits) (sym stands.files) (opens_goes (two_refusals v.limits v.files p) (answer_two v.files p) (create_two v.files p x cloexec) answer v new opens r linked placed now s [] stands))
 
   -- with further tests before those of a creation
   pub one_goes : (tests : List (Bool × Errno)) (x : Object) (cloexec : Bool) → Opens (tests ++ one_refusals v.limits v.files p) (answer_one v.files p) (create_one v.files p x cloexec) answer v new
       → Goes (tests ++ one_refusals limits s.files p) (Some (one_change s p x cloexec)) s answer [] parts
   one_goes tests x cloexec opens =
       let P : Limits → Files → Type 0 = λ l f. Goes (tests ++ one_refusals l f p) (Some (answer_one f p, record s { files = create_one f p x cloexec }, [])) s answer [] parts in
-      subst (λ (l : Limits). P l s.files) same (subst (P v.limits) (sym stands.files) (opens_goes (tests ++ one_refusals v.limits v.files p) (answer_one v.files p) (create_one v.files p x cloexec) answer v new opens r linked now s [] stands))
+      subst (λ (l : Limits). P l s.files) same (subst (P v.limits) (sym stands.files) (opens_goes (tests ++ one_refusals v.limits v.files p) (answer_one v.files p) (create_one v.files p x cloexec) answer v new opens r linked placed now s [] stands))
 
   -- a call on the tables alone
   pub files_goes : (tests : Limits → Files → List (Bool × Errno)) (to : Files → Answer) (after : Files → Files) → Opens (tests v.limits v.files) (to v.files) (after v.files) answer v new
       → Goes (tests limits s.files) (Some (files_change s (to s.files) (after s.files))) s answer [] parts
   files_goes tests to after opens =
       let P : Limits → Files → Type 0 = λ l f. Goes (tests l f) (Some (to f, record s { files = after f }, [])) s answer [] parts in
-      subst (λ (l : Limits). P l s.files) same (subst (P v.limits) (sym stands.files) (opens_goes (tests v.limits v.files) (to v.files) (after v.files) answer v new opens r linked now s [] stands))
+      subst (λ (l : Limits). P l s.files) same (subst (P v.limits) (sym stands.files) (opens_goes (tests v.limits v.files) (to v.files) (after v.files) answer v new opens r linked placed now s [] stands))
 
   pub object_goes : (fd : ℤ) (call : Call)
       → Opens ((names_nothing v.files p fd, Ebadf) ∷ object_refusals (object_under v.files p fd) (side_under v.files p fd) now call) (given v.files p fd now call).0 (affected v.files (named_by v.files p fd) (given v.files p fd now call)) answer v new
@@ -91,7 +91,7 @@ module _ (limits : Limits) (v new : Seen) (r : Registrations) (now : ℕ) (s : S
       let g = object_effect (object_under f p fd) (side_under f p fd) at call in
       Goes ((names_nothing f p fd, Ebadf) ∷ object_refusals (object_under f p fd) (side_under f p fd) at call) (Some (g.0, record s { files = affected f d g }, affected_raises f d g)) s answer [] parts in
       subst (λ (n : ℕ). P n s.files) (sym stands.now) (subst (P now) (sym stands.files)
-      (opens_goes ((names_nothing v.files p fd, Ebadf) ∷ object_refusals (object_under v.files p fd) (side_under v.files p fd) now call) (given v.files p fd now call).0 (affected v.files (named_by v.files p fd) (given v.files p fd now call)) answer v new opens r linked now s
+      (opens_goes ((names_nothing v.files p fd, Ebadf) ∷ object_refusals (object_under v.files p fd) (side_under v.files p fd) now call) (given v.files p fd now call).0 (affected v.files (named_by v.files p fd) (given v.files p fd now call)) answer v new opens r linked placed now s
       (affected_raises v.files (named_by v.files p fd) (given v.files p fd now call)) stands))
 
 -- a call on the object that a descriptor names
@@ -119,10 +119,10 @@ module _ (v new : Seen) (p : ℕ) (fd : Fd) (now : ℕ) (call : Call) (answer : 
   pub object_keys : KeepsKeys v new
   object_keys = opens_keys ((names_nothing v.files p fd.0, Ebadf) ∷ object_refusals (object_under v.files p fd.0) (side_under v.files p fd.0) now call) (given v.files p fd.0 now call).0 (affected v.files (named_by v.files p fd.0) (given v.files p fd.0 now call)) answer v new calls
 
-  pub object_called : (limits : Limits) (r : Registrations) (s : State) (caller : ℕ) → AreLinked v r → Stands v r now s → v.limits ≡ limits → IsOnObject fd call
-      → Goes (call_refusals limits s p call) (call_change limits s caller p call []) s answer [] (record { tables = new; interest = r; now = now })
-  object_called limits r s caller linked stands same is =
+  pub object_called : {ws : List Waiter} (limits : Limits) (r : Registrations) (s : State) (caller : ℕ) → AreLinked v r → ArePlaced v ws → Stands v r ws now s → v.limits ≡ limits → IsOnObject fd call
+      → Goes (call_refusals limits s p call) (call_change limits s caller p call []) s answer [] (record { tables = new; interest = r; parked = ws; now = now })
+  object_called {ws = ws} limits r s caller linked placed stands same is =
       let both = is limits s caller p in
-      let P : List (Bool × Errno) → Option Change → Type 0 = λ tests o. Goes tests o s answer [] (record { tables = new; interest = r; now = now }) in
+      let P : List (Bool × Errno) → Option Change → Type 0 = λ tests o. Goes tests o s answer [] (record { tables = new; interest = r; parked = ws; now = now }) in
       subst (λ (tests : List (Bool × Errno)). P tests (call_change limits s caller p call [])) (sym both.0)
-      (subst (λ (o : Option Change). P (on_object s p fd.0 call) o) (sym both.1) (object_goes limits v new r now s p answer linked stands same fd.0 call calls))
+      (subst (λ (o : Option Change). P (on_object s p fd.0 call) o) (sym both.1) (object_goes limits v new r now s p answer linked placed stands same fd.0 call calls))

@@ -1,37 +1,32 @@
 -- A wait of the machine and one of the kernel.
-use Rattle.std.proofs.Common.{◌≡◌, ◌==◌, ◌&&◌, ◌||◌, ◌<◌, ℕ, ℤ, zero, suc, pos, negsuc, Bool, false, true, List, [], ◌∷◌, Option, Some, None, IsSome, All, cond, filter, length, map, min, not, take, if◌then◌else◌, refl, ap, sym, ◌∙◌, arith, subst, inl, inr}
-use Rattle.std.specs.List.{list_any}
+use Rattle.std.proofs.Common.{◌≡◌, ◌==◌, ◌&&◌, ◌<◌, ℕ, ℤ, zero, suc, pos, Bool, false, true, List, [], ◌∷◌, Option, Some, None, IsSome, All, cond, filter, length, map, not, take, if◌then◌else◌, refl, ap, sym, ◌∙◌, arith, subst}
 use Rattle.std.specs.List.Sorted.{IsNonDecreasingBy, IsPermutation}
-use Rattle.std.proofs.lemmas.Bool.{cases_Bool, false≢true}
-use Rattle.std.proofs.lemmas.List.{get_or-map, length-map, length-take, nil_from_length, take-map}
+use Rattle.std.proofs.lemmas.Bool.{false≢true}
+use Rattle.std.proofs.lemmas.Bool.Decides.{nat_tests}
+use Rattle.std.proofs.lemmas.List.{get_or-map, length-map, take-map}
 use Rattle.std.proofs.lemmas.List.Elements.{All-cons, All-head, All-tail}
-use Rattle.std.proofs.lemmas.List.Sorted.{IsPermutation-map, length_permutation}
+use Rattle.std.proofs.lemmas.List.Sorted.{IsPermutation-map}
 use Rattle.ep_base.specs.declared.answer.Answer.TheVariants.{Events}
-use Rattle.ep_base.specs.declared.answer.Report.{Report}
 use Rattle.ep_base.specs.declared.ids.DescId.{DescId}
 use Rattle.ep_interest.specs.Registrations.{Registrations, is_of}
 use Rattle.ep_interest.specs.declared.entry.Entry.{Entry}
 use Rattle.ep_machine.specs.Bits.{ONESHOT, has_bit}
 use Rattle.ep_machine.specs.Counts.{no_counts}
-use Rattle.ep_machine.specs.Lists.{is_among}
+use Rattle.ep_machine.specs.Lists.{is_among, is_empty}
 use Rattle.ep_machine.specs.Kept.{kept_all, ready_now, report_at, reported_in, shows_in}
-use Rattle.ep_machine.specs.Readiness.{is_ready}
-use Rattle.ep_machine.specs.Refusal.{is_zero}
-use Rattle.ep_machine.specs.Report.{plainly, report, reported}
+use Rattle.ep_machine.specs.Report.{reported}
 use Rattle.ep_machine.specs.Sound.{Sound}
-use Rattle.ep_machine.specs.State.{Change, State, Watch}
-use Rattle.ep_machine.specs.Waits.{wait, wait_for}
+use Rattle.ep_machine.specs.State.{Change, State, Waiter, Watch}
+use Rattle.ep_machine.specs.Waits.{is_due, leave, resume, resume_empty, wait, wait_for, waiter_of}
 use Rattle.ep_machine.proofs.Picking.{numbers}
-use Rattle.ep_machine.proofs.Reporting.{report_kept}
+use Rattle.ep_machine.proofs.Reporting.{resume_due, resume_kept, told_kept, wait_kept, wait_now}
 use Rattle.ep_machine.proofs.Settling.{reported_kept}
-use Rattle.ep_machine.proofs.Showing.{any_kept, readiness as machine_readiness}
+use Rattle.ep_machine.proofs.Showing.{readiness as machine_readiness}
 use Rattle.ep_machine.specs.Watches.{is_legal, links}
-use Rattle.ep_plain.specs.Moves.{Makes}
 use Rattle.ep_plain.specs.Stands.{AreLinked, IsLinked, Stands, number_at, watch_at}
 use Rattle.ep_plain.specs.Readiness.{entry_shows, readiness}
 use Rattle.ep_plain.specs.Wait.{AreKeyed, IsChosen, IsKeyed, noted_in, numbers_of, report_of}
 use Rattle.ep_plain.specs.declared.wait.Reportable.{Reportable}
-use Rattle.ep_plain.proofs.Choosing.{noted_none}
 use Rattle.ep_plain.proofs.Keys.{same_keys}
 use Rattle.ep_plain.proofs.Waiting.{entries_in}
 use Rattle.ep_table.specs.Value.{Seen, Sound as SoundTables, number_under}
@@ -95,13 +90,16 @@ linked_noted keys n ks [] h = h
 linked_noted keys n ks (x ∷ xs) h =
     All-cons (IsLinked keys) (noted_in n ks x) (map (noted_in n ks) xs) (link_noted keys n (is_among ks x.number) x (All-head (IsLinked keys) x xs h)) (linked_noted keys n ks xs (All-tail (IsLinked keys) x xs h))
 
--- where nothing passes a test the filter is empty
-none_any : (p : Watch → Bool) (xs : List Watch) → list_any p xs ≡ false → filter p xs ≡ []
-none_any p [] h = refl
-none_any p (x ∷ xs) h = elim (p x) as (λ b. (b || list_any p xs) ≡ false → cond b (x ∷ filter p xs) (filter p xs) ≡ []) [ true ↦ λ e. absurd (false≢true (sym e)) | false ↦ λ e. none_any p xs e ] h
+not_zero : (n : ℕ) → (suc n == 0) ≡ false
+not_zero n = grind (arith, nat_tests)
 
-module _ (v : Seen) (now : ℕ) (r new : Registrations) (s : State) (n : ℕ) (instance : DescId) (most : ℕ) (chosen : List Reportable)
-    (at : s.n ≡ n) (steady : Sound s) (legal : is_legal (links s) ≡ true) (stands : Stands v r now s) (linked : AreLinked v r)
+-- where nothing is chosen nothing is picked
+pub no_numbers : (xs : List Reportable) → (length xs == 0) ≡ true → numbers_of xs ≡ []
+no_numbers [] h = refl
+no_numbers (x ∷ xs) h = absurd (false≢true (sym (not_zero (length xs)) ∙ h))
+
+module _ {ws : List Waiter} (v : Seen) (now : ℕ) (r new : Registrations) (s : State) (n : ℕ) (instance : DescId) (most : ℕ) (chosen : List Reportable)
+    (at : s.n ≡ n) (steady : Sound s) (legal : is_legal (links s) ≡ true) (stands : Stands v r ws now s) (linked : AreLinked v r)
     (sound : SoundTables v) (lives : IsSome (number_under v instance)) (is : IsChosen v now r instance most chosen)
     (entries : new.entries ≡ map (noted_in n (numbers_of chosen)) r.entries) (added : new.added ≡ r.added) where
   abbrev e : ℕ
@@ -126,15 +124,20 @@ module _ (v : Seen) (now : ℕ) (r new : Registrations) (s : State) (n : ℕ) (i
   moved : IsPermutation (filter (shows_in (machine_readiness s) s.files s.now e) (kept_all s s.watches)) found
   moved = subst (λ (xs : List Watch). IsPermutation xs found) (sym scan) (IsPermutation-map (watch_at v.keys) _ is.found is.moved)
 
-  -- the report of the machine that picks these
-  reports : report s e most (numbers_of chosen) ≡ Some (Events (map report_of chosen), record s { watches = map (reported s (numbers_of chosen)) s.watches }, [])
-  reports =
-      let P : List ℕ → List Report → Type 0 = λ ks rs. report s e most ks ≡ Some (Events rs, record s { watches = map (reported s ks) s.watches }, []) in
-      let ks : numbers (take most found) ≡ numbers_of chosen = ap numbers told ∙ numbers_are v.keys chosen in
-      let rs : map (report_at (machine_readiness s) s.files s.now) (take most found) ≡ map report_of chosen = (λ i. map (report_at (same_ready i) (stands.files i) (stands.now i)) (told i)) ∙ reports_are v now r chosen is.keyed in
-      subst (λ (xs : List ℕ). P xs (map report_of chosen)) ks (subst (λ (ys : List Report). P (numbers (take most found)) ys) rs (report_kept s e most found steady moved (get_rep v.keys is.found is.sorted)))
+  ks : numbers (take most found) ≡ numbers_of chosen
+  ks = ap numbers told ∙ numbers_are v.keys chosen
 
-  after : Stands v new now (record s { watches = map (reported s (numbers_of chosen)) s.watches })
+  rs : map (report_at (machine_readiness s) s.files s.now) (take most found) ≡ map report_of chosen
+  rs = (λ i. map (report_at (same_ready i) (stands.files i) (stands.now i)) (told i)) ∙ reports_are v now r chosen is.keyed
+
+  -- the change that reports these
+  abbrev pub told_change : Change
+  told_change = (Events (map report_of chosen), record s { watches = map (reported s (numbers_of chosen)) s.watches }, [])
+
+  told_is : told_kept s most found ≡ told_change
+  told_is = λ i. (Events (rs i), record s { watches = map (reported s (ks i)) s.watches }, [])
+
+  pub after : Stands v new ws now (record s { watches = map (reported s (numbers_of chosen)) s.watches })
   after = record {
     now = stands.now;
     files = stands.files;
@@ -143,41 +146,49 @@ module _ (v : Seen) (now : ℕ) (r new : Registrations) (s : State) (n : ℕ) (i
         ∙ ((λ i. map (reported_in (at i) (numbers_of chosen)) (stands.watches i))
         ∙ (noted_all v.keys n (numbers_of chosen) r.entries ∙ ap (map (watch_at v.keys)) (sym entries)));
     added = stands.added ∙ sym added;
+    waiters = stands.waiters;
   }
 
-  quiet_found : is_ready s e ≡ false → chosen ≡ []
-  quiet_found h =
-      let none : filter (shows_in (machine_readiness s) s.files s.now e) (kept_all s s.watches) ≡ [] = none_any (shows_in (machine_readiness s) s.files s.now e) (kept_all s s.watches) (sym (any_kept s e legal) ∙ h) in
-      let same : length found ≡ 0 = length_permutation (filter (shows_in (machine_readiness s) s.files s.now e) (kept_all s s.watches)) found moved ∙ ap (λ (xs : List Watch). length xs) none in
-      let few : length (map (watch_at v.keys) (entries_in chosen)) ≡ min most (length found) = ap (λ (xs : List Watch). length xs) (sym told) ∙ length-take most found in
-      nil_from_length chosen (omega (arith, same, few, length-map (entries_in chosen) (watch_at v.keys), length-map chosen (λ (x : Reportable). x.entry)))
+  -- where something is chosen something was found
+  none_found : (k : ℕ) (ys : List Watch) (xs : List Reportable) → take (suc k) ys ≡ map (watch_at v.keys) (entries_in xs) → is_empty ys ≡ (length xs == 0)
+  none_found k [] [] h = refl
+  none_found k [] (x ∷ xs) h = absurd (omega (arith, ap (λ (zs : List Watch). length zs) h))
+  none_found k (y ∷ ys) [] h = absurd (omega (arith, ap (λ (zs : List Watch). length zs) h))
+  none_found k (y ∷ ys) (x ∷ xs) h = sym (not_zero (length xs))
 
-  zero_waits : (caller p : ℕ) (timeout : ℤ) → is_zero timeout ≡ true → wait_for s caller p e most timeout ≡ (Events [], s, [])
-  zero_waits caller p (pos zero) h = refl
-  zero_waits caller p (pos (suc k)) h = absurd (false≢true h)
-  zero_waits caller p (negsuc k) h = absurd (false≢true h)
+  empty_is : 0 < most → is_empty found ≡ (length chosen == 0)
+  empty_is positive = by_most most positive told where
+    by_most : (m : ℕ) → 0 < m → take m found ≡ map (watch_at v.keys) (entries_in chosen) → is_empty found ≡ (length chosen == 0)
+    by_most zero none h = absurd (omega (arith, none))
+    by_most (suc k) some h = none_found k found chosen h
 
-  pub waited : (caller p : ℕ) (timeout : ℤ) → is_zero timeout ≡ true → Makes (wait s caller p e most timeout (numbers_of chosen)) (Events (map report_of chosen)) (record { tables = v; interest = new; now = now })
-  waited caller p timeout zero_timeout = elim (cases_Bool (is_ready s e)) [
-    | inl ready ↦ record {
-      made = (Events (map report_of chosen), record s { watches = map (reported s (numbers_of chosen)) s.watches }, []);
-      is = ap (λ (b : Bool). if b then report s e most (numbers_of chosen) else plainly (numbers_of chosen) (wait_for s caller p e most timeout)) ready ∙ reports;
-      answers = refl;
-      stands = after;
-    }
-    | inr idle ↦
-        let none = quiet_found idle in record {
-          made = (Events [], s, []);
-          is =
-              ap (λ (b : Bool). if b then report s e most (numbers_of chosen) else plainly (numbers_of chosen) (wait_for s caller p e most timeout)) idle
-              ∙ (ap (λ (xs : List Reportable). plainly (numbers_of xs) (wait_for s caller p e most timeout)) none
-              ∙ ap (λ (c : Change). Some c) (zero_waits caller p timeout zero_timeout));
-          answers = ap (λ (xs : List Reportable). Events (map report_of xs)) (sym none);
-          stands = record {
-            now = stands.now;
-            files = stands.files;
-            watches = stands.watches ∙ ap (map (watch_at v.keys)) (sym (entries ∙ (ap (λ (xs : List Reportable). map (noted_in n (numbers_of xs)) r.entries) none ∙ noted_none n r.entries)));
-            added = stands.added ∙ sym added;
-          };
-        }
-  ]
+  -- what a wait comes to
+  pub waits : (caller p : ℕ) (timeout : ℤ) → 0 < most → wait s caller p e most timeout (numbers_of chosen) ≡ Some (if length chosen == 0 then wait_for s caller p e most timeout else told_change)
+  waits caller p timeout positive =
+      ap (λ (js : List ℕ). wait s caller p e most timeout js) (sym ks)
+      ∙ (wait_kept s caller p e most timeout found steady legal moved (get_rep v.keys is.found is.sorted)
+      ∙ (λ i. Some (if empty_is positive i then wait_for s caller p e most timeout else told_is i)))
+
+  -- a wait of no time reports them, or nothing
+  pub waits_now : (caller p : ℕ) → wait s caller p e most (pos 0) (numbers_of chosen) ≡ Some told_change
+  waits_now caller p =
+      ap (λ (js : List ℕ). wait s caller p e most (pos 0) js) (sym ks)
+      ∙ (wait_now s caller p e most found steady legal moved (get_rep v.keys is.found is.sorted) ∙ ap (λ (c : Change). Some c) told_is)
+
+  -- what a resumption of a marked waiter comes to
+  pub resumes : (caller : ℕ) (w : Waiter) → w.instance ≡ e → w.most ≡ most → waiter_of s caller ≡ Some w → w.marked ≡ true → 0 < most → resume s caller (numbers_of chosen) ≡ Some (if length chosen == 0 then resume_empty s w else leave w.caller told_change)
+  resumes caller w at_e takes parked marked positive =
+      let sorted = get_rep v.keys is.found is.sorted in
+      let there : IsPermutation (filter (shows_in (machine_readiness s) s.files s.now w.instance) (kept_all s s.watches)) found = subst (λ (k : ℕ). IsPermutation (filter (shows_in (machine_readiness s) s.files s.now k) (kept_all s s.watches)) found) (sym at_e) moved in
+      ap (λ (js : List ℕ). resume s caller js) (sym ks ∙ ap (λ (m : ℕ). numbers (take m found)) (sym takes))
+      ∙ (resume_kept s caller w found steady legal parked marked there sorted
+      ∙ (λ i. Some (if empty_is positive i then resume_empty s w else leave w.caller ((ap (λ (m : ℕ). told_kept s m found) takes ∙ told_is) i))))
+
+  -- and of one that is due
+  pub resumes_due : (caller : ℕ) (w : Waiter) → w.instance ≡ e → w.most ≡ most → waiter_of s caller ≡ Some w → w.marked ≡ true → is_due s.now w.deadline ≡ true → resume s caller (numbers_of chosen) ≡ Some (leave w.caller told_change)
+  resumes_due caller w at_e takes parked marked due =
+      let sorted = get_rep v.keys is.found is.sorted in
+      let there : IsPermutation (filter (shows_in (machine_readiness s) s.files s.now w.instance) (kept_all s s.watches)) found = subst (λ (k : ℕ). IsPermutation (filter (shows_in (machine_readiness s) s.files s.now k) (kept_all s s.watches)) found) (sym at_e) moved in
+      ap (λ (js : List ℕ). resume s caller js) (sym ks ∙ ap (λ (m : ℕ). numbers (take m found)) (sym takes))
+      ∙ (resume_due s caller w found steady legal parked marked due there sorted
+      ∙ (λ i. Some (leave w.caller ((ap (λ (m : ℕ). told_kept s m found) takes ∙ told_is) i))))

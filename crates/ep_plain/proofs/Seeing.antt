@@ -11,7 +11,7 @@ use Rattle.ep_machine.specs.Bits.{IN, when}
 use Rattle.ep_machine.specs.Kept.{kept_all, ready_now, shows}
 use Rattle.ep_machine.specs.Readiness.{is_reportable}
 use Rattle.ep_machine.specs.Spread.{raised_of}
-use Rattle.ep_machine.specs.State.{State, Watch}
+use Rattle.ep_machine.specs.State.{State, Waiter, Watch}
 use Rattle.ep_machine.specs.Watches.{has_key as has_numbers, looked_at, number_in}
 use Rattle.ep_machine.proofs.Showing.{kept_filter, readiness as machine_readiness, reportable_kept}
 use Rattle.ep_plain.specs.Control.{looked}
@@ -53,7 +53,7 @@ keyed_last e fd d (x ∷ ws) w absent own =
       | false ↦ λ h. keyed_last e fd d ws w h own
     ] absent
 
-module _ (v : Seen) (r : Registrations) (now : ℕ) (t : State) (stands : Stands v r now t) (linked : AreLinked v r) (sound : Sound v) (named : Named) (fd : Fd) (instance_lives : IsSome (number_under v named.instance)) (desc_lives : IsSome (number_under v named.desc)) (descriptor : fd.0 ≡ pos (number_in fd.0)) where
+module _ {ws : List Waiter} (v : Seen) (r : Registrations) (now : ℕ) (t : State) (stands : Stands v r ws now t) (linked : AreLinked v r) (sound : Sound v) (named : Named) (fd : Fd) (instance_lives : IsSome (number_under v named.instance)) (desc_lives : IsSome (number_under v named.desc)) (descriptor : fd.0 ≡ pos (number_in fd.0)) where
   abbrev tests : Watch → Bool
   tests = has_numbers (number_at v.keys named.instance) (number_in fd.0) (number_at v.keys named.desc)
 

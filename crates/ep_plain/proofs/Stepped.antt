@@ -28,16 +28,22 @@ use Rattle.ep_machine.proofs.Stepping.{refused_step, step_changed}
 use Rattle.ep_nest.specs.declared.link.Link.{Link}
 use Rattle.ep_plain.specs.Burial.{Burial}
 use Rattle.ep_plain.specs.Raising.{AsRaised, AsRaisedIn, IsRaising, Stirs, raised_bits}
-use Rattle.ep_plain.specs.Stands.{AreLinked, IsLinked, KeepsKeys, watch_at}
+use Rattle.ep_plain.specs.Stands.{AreLinked, ArePlaced, IsLinked, KeepsKeys, number_at, waiters_at, watch_at}
 use Rattle.ep_plain.specs.declared.raising.Raising.{Raising}
 use Rattle.ep_plain.proofs.Stirring.{Freshens, stirs_added, stirs_watches}
 use Rattle.ep_table.specs.Value.{Seen, Sound as SoundTables}
-use Rattle.ep_plain.proofs.Buried.{buried_nested, buried_stands}
+use Rattle.ep_plain.proofs.Buried.{buried_held, buried_nested, buried_placed, buried_stands}
 use Rattle.ep_plain.proofs.Watched.{WereWatched, nested_moved, were_watched}
 use Rattle.ep_plain.proofs.Linking.{linked_kept}
 use Rattle.ep_plain.proofs.Purging.{links_stirred}
-use Rattle.ep_plain.specs.Moves.{Makes, Moves, Parts, RaisesEvent, Refuses, StandFor, StandsBuried, StandsRaised, Unheld}
+use Rattle.ep_plain.specs.Moves.{Makes, Moves, Parts, RaisesEvent, Refuses, StandFor, AreHeld, StandsBuried, StandsRaised}
 use Rattle.ep_plain.specs.Climb.{AreNested, Climbs, KeepsLinks}
+use Rattle.ep_plain.specs.Parking.{ready_key}
+use Rattle.ep_plain.specs.Readiness.{readiness}
+use Rattle.ep_machine.specs.Kept.{ready_now}
+use Rattle.ep_machine.specs.Marks.{at_number, marked_by}
+use Rattle.ep_machine.proofs.Renaming.{marks_at}
+use Rattle.ep_plain.proofs.Held.{numbers_apart_at}
 
 settle_n : (before after : State) (raised : List (ℕ × ℕ)) → (settle before after raised).n ≡ after.n
 settle_n before after raised = refl
@@ -50,10 +56,12 @@ pub record Leads (limits : Limits) (s : State) (caller : ℕ) (event : Event) (a
   pub sound : Sound to
   pub quiet : Quiet to
   pub stands : StandsBuried events buried to
+  pub placed : ArePlaced buried.tables buried.parked
+  pub held : AreHeld buried.tables buried.parked
   pub nested : AreNested buried.tables buried.interest graph
 
 -- what the kernel noted of what the machine raised in event n
-module _ (n : ℕ) (mid stirred : Parts) (raising : Raising) (made : State) (raised : List (ℕ × ℕ)) (same_tables : stirred.tables ≡ mid.tables) (same_clock : stirred.now ≡ mid.now)
+module _ (n : ℕ) (mid stirred : Parts) (raising : Raising) (made : State) (raised : List (ℕ × ℕ)) (same_tables : stirred.tables ≡ mid.tables) (same_parked : stirred.parked ≡ mid.parked) (same_clock : stirred.now ≡ mid.now)
     (stirs : Stirs raising mid.tables mid.now n mid.interest stirred.interest) (sound : SoundTables mid.tables) (is : IsRaising raising mid.tables) (linked : AreLinked mid.tables mid.interest)
     (stands : StandFor mid made) (steady : All (IsSteady made.files) made.watches) (as_raised : AsRaisedIn made.files raising mid.tables mid.now raised) where
   abbrev bits : ℕ → ℕ
@@ -77,6 +85,7 @@ module _ (n : ℕ) (mid stirred : Parts) (raising : Raising) (made : State) (rai
         ∙ (ap (map (freshened_by n bits)) stands.watches
         ∙ (sym noted.watches ∙ ap (λ (v : Seen). map (watch_at v.keys) stirred.interest.entries) (sym same_tables)));
     added = stands.added ∙ sym (stirs_added raising mid.tables mid.now n mid.interest stirred.interest stirs);
+    waiters = stands.waiters ∙ (λ i. waiters_at (sym same_tables i).keys (sym same_parked i));
   }
 
   pub stirred_linked : AreLinked stirred.tables stirred.interest
@@ -85,14 +94,14 @@ module _ (n : ℕ) (mid stirred : Parts) (raising : Raising) (made : State) (rai
 -- event n, up to the burial
 module _ (limits : Limits) (s : State) (caller : ℕ) (event : Event) (answer : Answer) (picked : List ℕ) (n : ℕ) (at : s.n + 1 ≡ n) (old mid stirred buried : Parts) (graph links_left : List Link) (raising : Raising)
     (sound : Sound s) (quiet : Quiet s) (legal : is_legal (links s) ≡ true) (there : StandFor old s)
-    (same_tables : stirred.tables ≡ mid.tables) (same_clock : stirred.now ≡ mid.now) (stirs : Stirs raising mid.tables mid.now n mid.interest stirred.interest) (is : IsRaising raising mid.tables) (sound_mid : SoundTables mid.tables)
+    (same_tables : stirred.tables ≡ mid.tables) (same_parked : stirred.parked ≡ mid.parked) (same_clock : stirred.now ≡ mid.now) (stirs : Stirs raising mid.tables mid.now n mid.interest stirred.interest) (is : IsRaising raising mid.tables) (sound_mid : SoundTables mid.tables)
     (keys : KeepsKeys old.tables mid.tables) (linked_old : AreLinked old.tables mid.interest) (nested : AreNested old.tables mid.interest graph)
-    (burial : Burial n stirred.tables stirred.interest buried.tables buried.interest) (keeps : KeepsLinks stirred.interest graph buried.interest links_left) (clock : buried.now ≡ stirred.now) (unheld : Unheld stirred.tables) where
+    (burial : Burial n stirred.tables stirred.interest buried.tables buried.interest) (keeps : KeepsLinks stirred.interest graph buried.interest links_left) (clock : buried.now ≡ stirred.now) (left_parked : buried.parked ≡ stirred.parked) (sound_buried : SoundTables buried.tables) (placed : ArePlaced stirred.tables stirred.parked) (held : AreHeld stirred.tables stirred.parked) where
   linked : AreLinked mid.tables mid.interest
   linked = linked_kept old.tables mid.tables mid.interest keys linked_old
 
   there_begun : StandFor old (begun s)
-  there_begun = record { now = there.now; files = there.files; watches = there.watches; added = there.added }
+  there_begun = record { now = there.now; files = there.files; watches = there.watches; added = there.added; waiters = there.waiters }
 
   -- the graph is that of the registrations as they are stirred
   nested_stirred : (made : State) → StandFor mid made → Extends s.files made.files → WereWatched s.files made.watches → AreNested stirred.tables stirred.interest graph
@@ -105,16 +114,22 @@ module _ (limits : Limits) (s : State) (caller : ℕ) (event : Event) (answer : 
   module _ (made t : State) (raised : List (ℕ × ℕ)) (stands : StandFor mid made) (changed : Changed made) (settled : IsSettled made raised t) (made_at : made.n ≡ n) (arises : AsRaisedIn made.files raising mid.tables mid.now raised)
       (extends : Extends s.files made.files) (watched : WereWatched s.files made.watches) where
     stands_after : StandsRaised n stirred raised made
-    stands_after = stirred_stands n mid stirred raising made raised same_tables same_clock stirs sound_mid is linked stands changed.watches arises
+    stands_after = stirred_stands n mid stirred raising made raised same_tables same_parked same_clock stirs sound_mid is linked stands changed.watches arises
 
     linked_after : AreLinked stirred.tables stirred.interest
-    linked_after = stirred_linked n mid stirred raising made raised same_tables same_clock stirs sound_mid is linked stands changed.watches arises
+    linked_after = stirred_linked n mid stirred raising made raised same_tables same_parked same_clock stirs sound_mid is linked stands changed.watches arises
 
     stands_left : StandsBuried n buried t
-    stands_left = buried_stands n stirred buried burial clock linked_after unheld made t raised changed settled made_at stands_after
+    stands_left = buried_stands n stirred buried burial clock linked_after left_parked sound_buried placed held made t raised changed settled made_at stands_after
+
+    placed_after : ArePlaced buried.tables buried.parked
+    placed_after = buried_placed n stirred buried burial clock linked_after left_parked sound_buried placed held made t raised changed settled made_at stands_after
+
+    held_after : AreHeld buried.tables buried.parked
+    held_after = buried_held n stirred buried burial clock linked_after left_parked sound_buried placed held made t raised changed settled made_at stands_after
 
     nested_after : AreNested buried.tables buried.interest links_left
-    nested_after = buried_nested n stirred buried burial clock linked_after unheld made t raised changed settled made_at stands_after graph links_left keeps (nested_stirred made stands extends watched)
+    nested_after = buried_nested n stirred buried burial clock linked_after left_parked sound_buried placed held made t raised changed settled made_at stands_after graph links_left keeps (nested_stirred made stands extends watched)
 
   by_refusal : (e : Errno) → first (refusals limits (begun s) caller event) ≡ Some e → Refuses (begun s) e answer picked mid → AsRaised raising mid.tables mid.now [] → Leads limits s caller event answer picked n buried links_left
   by_refusal e h r none =
@@ -132,6 +147,8 @@ module _ (limits : Limits) (s : State) (caller : ℕ) (event : Event) (answer : 
         sound = sound_begun s sound;
         quiet = still;
         stands = stands_left (begun s) (begun s) [] r.stands changed settled at arises same watched;
+        placed = placed_after (begun s) (begun s) [] r.stands changed settled at arises same watched;
+        held = held_after (begun s) (begun s) [] r.stands changed settled at arises same watched;
         nested = nested_after (begun s) (begun s) [] r.stands changed settled at arises same watched;
       }
 
@@ -154,6 +171,8 @@ module _ (limits : Limits) (s : State) (caller : ℕ) (event : Event) (answer : 
         sound = sound_step limits s t caller event picked answer sound goes;
         quiet = quiet_step limits s t caller event picked answer quiet goes;
         stands = stands_left m.made.1 t m.made.2 m.stands changed settled made_at arises extends watched;
+        placed = placed_after m.made.1 t m.made.2 m.stands changed settled made_at arises extends watched;
+        held = held_after m.made.1 t m.made.2 m.stands changed settled made_at arises extends watched;
         nested = nested_after m.made.1 t m.made.2 m.stands changed settled made_at arises extends watched;
       }
 
@@ -166,11 +185,20 @@ module _ (limits : Limits) (s : State) (caller : ℕ) (event : Event) (answer : 
   leads moves raises =
       by_cases (first (refusals limits (begun s) caller event)) refl (moves (begun s) at (sound_begun s sound) (quiet_begun s quiet) legal there_begun) (raises (begun s) at (sound_begun s sound) (quiet_begun s quiet) legal there_begun)
 
--- and what was raised has climbed
-pub climbed_stands : (n : ℕ) (buried new : Parts) (t : State) → new.tables ≡ buried.tables → new.now ≡ buried.now → Climbs n buried.tables buried.interest new.interest → StandsBuried n buried t → StandFor new t
-climbed_stands n buried new t tables clock climbs h = record {
-  now = h.now ∙ sym clock;
-  files = h.files ∙ ap (λ (v : Seen). v.files) (sym tables);
-  watches = h.watches ∙ (sym climbs.watches ∙ ap (λ (v : Seen). map (watch_at v.keys) new.interest.entries) (sym tables));
-  added = h.added ∙ sym climbs.added;
-}
+-- and what was raised has climbed, and marks are set
+pub climbed_stands : (n : ℕ) (buried new : Parts) (t : State) → new.tables ≡ buried.tables → new.now ≡ buried.now → Climbs n buried.tables buried.interest new.interest → SoundTables buried.tables → ArePlaced buried.tables buried.parked → new.parked ≡ marked_by (ready_key buried.tables buried.now new.interest) buried.now buried.parked → StandsBuried n buried t → StandFor new t
+climbed_stands n buried new t tables clock climbs sound placed marks h =
+    let keys = buried.tables.keys in
+    let number : ℕ → ℕ = λ k. number_at keys (record { 0 = k }) in
+    let watches = h.watches ∙ sym climbs.watches in
+    record {
+      now = h.now ∙ sym clock;
+      files = h.files ∙ ap (λ (v : Seen). v.files) (sym tables);
+      watches = watches ∙ ap (λ (v : Seen). map (watch_at v.keys) new.interest.entries) (sym tables);
+      added = h.added ∙ sym climbs.added;
+      waiters =
+          h.waiters
+          ∙ ((λ i. marked_by (ready_now (h.files i) (h.now i) (watches i)) (h.now i) (waiters_at keys buried.parked))
+          ∙ (marks_at number (readiness buried.tables buried.now new.interest) buried.now buried.parked (numbers_apart_at buried.tables sound buried.parked placed)
+          ∙ (ap (map (at_number number)) (sym marks) ∙ ap (λ (v : Seen). waiters_at v.keys new.parked) (sym tables))));
+    }

@@ -1,19 +1,25 @@
 -- A wait that isn't refused, as the machine makes it.
-use Rattle.std.proofs.Common.{◌≡◌, ◌&&◌, ℕ, Bool, false, true, List, ◌∷◌, Option, None, Some, All, cond, filter, map, not, unwrap_or, refl, ap, sym, ◌∙◌, subst}
-use Rattle.std.proofs.lemmas.Option.{none-some}
+use Rattle.std.proofs.Common.{◌≡◌, ◌&&◌, ◌++◌, ◌<◌, ◌==◌, ◌⊎◌, ℕ, ℤ, Bool, false, true, List, [], ◌∷◌, Option, None, Some, IsSome, All, arith, cond, filter, if◌then◌else◌, inl, inr, length, map, negsuc, not, pos, suc, zero, unwrap_or, refl, ap, sym, ◌∙◌, subst}
+use Rattle.std.proofs.lemmas.Bool.{false≢true}
+use Rattle.std.proofs.lemmas.Bool.Decides.{nat_tests}
+use Rattle.std.proofs.lemmas.List.{map-append}
+use Rattle.std.proofs.lemmas.List.Elements.{All-append, All-cons, All-nil}
 use Rattle.ep_base.specs.declared.answer.Answer.{Answer}
+use Rattle.ep_base.specs.declared.answer.Answer.TheVariants.{Events, Parked}
 use Rattle.ep_base.specs.declared.errno.Errno.{Errno}
 use Rattle.ep_base.specs.declared.errno.Errno.TheVariants.{Einval}
 use Rattle.ep_base.specs.declared.ids.DescId.{DescId}
 use Rattle.ep_interest.specs.Registrations.{Registrations}
 use Rattle.ep_interest.specs.declared.entry.Entry.{Entry}
 use Rattle.ep_machine.specs.Effect.{first}
-use Rattle.ep_machine.specs.Files.{Files, named_by}
-use Rattle.ep_machine.specs.Quiet.{Quiet}
-use Rattle.ep_machine.specs.Refusal.{is_zero, wait_refusals}
+use Rattle.ep_machine.specs.Deaths.{named_in_tables}
+use Rattle.ep_machine.specs.Files.{Files, is_live, named_by, under}
+use Rattle.ep_machine.specs.Marks.{at_number}
+use Rattle.ep_machine.specs.Refusal.{wait_refusals}
+use Rattle.ep_machine.specs.Report.{reported}
 use Rattle.ep_machine.specs.Sound.{Sound}
-use Rattle.ep_machine.specs.State.{State}
-use Rattle.ep_machine.specs.Waits.{is_positive, wait}
+use Rattle.ep_machine.specs.State.{Change, State, Waiter}
+use Rattle.ep_machine.specs.Waits.{is_positive, parked, wait, wait_for}
 use Rattle.ep_machine.specs.Bits.{ONESHOT, has_bit}
 use Rattle.ep_machine.specs.Counts.{no_counts}
 use Rattle.ep_machine.specs.Lists.{is_among}
@@ -21,20 +27,22 @@ use Rattle.ep_machine.specs.Watches.{is_legal, links, number_in}
 use Rattle.ep_nest.specs.declared.link.Link.{Link}
 use Rattle.ep_plain.specs.Climb.{KeepsLinks, is_nested, link_of}
 use Rattle.ep_plain.proofs.Nesting.{links_mapped}
-use Rattle.ep_plain.specs.Moves.{Goes, Makes}
+use Rattle.ep_plain.specs.Moves.{Goes, Parts, StandFor}
 use Rattle.ep_plain.specs.Reports.{Reports}
-use Rattle.ep_plain.specs.Stands.{AreLinked, IsLinked, Stands, number_at}
-use Rattle.ep_plain.specs.Wait.{Waits, noted_in, numbers_of, wait_tests}
+use Rattle.ep_plain.specs.Stands.{AreLinked, ArePlaced, IsLinked, IsPlaced, Stands, number_at, waiters_at, watch_at}
+use Rattle.ep_plain.specs.Wait.{IsChosen, Waits, deadline_of, noted_in, numbers_of, report_of, wait_tests}
+use Rattle.ep_plain.specs.declared.wait.Reportable.{Reportable}
 use Rattle.ep_plain.specs.declared.wait.Wait.{Wait}
 use Rattle.ep_plain.proofs.Going.{goes_made}
-use Rattle.ep_plain.proofs.Reported.{linked_noted, waited}
-use Rattle.ep_table.specs.Value.{Seen, Sound as SoundTables}
+use Rattle.ep_plain.proofs.Keys.{under_key}
+use Rattle.ep_plain.proofs.Reported.{after, linked_noted, no_numbers, waits, waits_now}
+use Rattle.ep_table.specs.Value.{Seen, Sound as SoundTables, holds_of, number_of, number_under}
+use Rattle.ep_table.proofs.Leaving.{under_named}
 
--- neither of the first two tests holds
-past_two : (a z : Bool) (e f : Errno) (rest : List (Bool × Errno)) → first ((not a, e) ∷ (not z, f) ∷ rest) ≡ None → (a ≡ true) × (z ≡ true)
-past_two true true e f rest h = (refl, refl)
-past_two true false e f rest h = absurd (none-some f (sym h))
-past_two false z e f rest h = absurd (none-some e (sym h))
+-- the first test does not hold
+past_one : (a : Bool) (e : Errno) (rest : List (Bool × Errno)) → first ((not a, e) ∷ rest) ≡ None → a ≡ true
+past_one true e rest h = refl
+past_one false e rest h = absurd cc
 
 -- a report leaves links as they are
 link_noted : (n : ℕ) (ks : List ℕ) (x : Entry) → link_of (noted_in n ks x) ≡ link_of x
@@ -46,26 +54,117 @@ nested_noted v n ks x = elim (is_among ks x.number) as (λ b. is_nested v (cond 
 links_noted : (v : Seen) (n : ℕ) (ks : List ℕ) (xs : List Entry) → map link_of (filter (is_nested v) (map (noted_in n ks) xs)) ≡ map link_of (filter (is_nested v) xs)
 links_noted v n ks xs = links_mapped (is_nested v) (noted_in n ks) (link_noted n ks) (nested_noted v n ks) xs
 
-module _ (v : Seen) (p : ℕ) (args : Wait) (instance : DescId) (waits : Waits v p args instance) where
-  both : (is_positive args.max ≡ true) × (is_zero args.timeout ≡ true)
-  both = past_two (is_positive args.max) (is_zero args.timeout) Einval Einval _ waits.accepted
+-- what is reported leaves the rest of a registration
+module _ (v : Seen) (old new : Registrations) (n : ℕ) (chosen : List Reportable) (answer : Answer) (picked : List ℕ) (is : Reports old new n chosen answer picked) where
+  pub still_linked : AreLinked v old → AreLinked v new
+  still_linked linked = subst (λ (xs : List Entry). All (IsLinked v.keys) xs) (sym is.entries) (linked_noted v.keys n (numbers_of chosen) old.entries linked)
 
+  pub still_nested : (graph : List Link) → KeepsLinks old graph new graph
+  still_nested graph = λ tables nested. nested ∙ (sym (links_noted tables n (numbers_of chosen) old.entries) ∙ ap (λ (xs : List Entry). map link_of (filter (is_nested tables) xs)) (sym is.entries))
+
+-- a number of reports that is asked for
+pub some_asked : (max : ℤ) → is_positive max ≡ true → 0 < number_in max
+some_asked (pos (suc k)) h = omega arith
+some_asked (pos zero) h = absurd (false≢true h)
+some_asked (negsuc k) h = absurd (false≢true h)
+
+pub asked_some : (max : ℤ) → 0 < number_in max → is_positive max ≡ true
+asked_some (pos (suc k)) h = grind (arith, nat_tests)
+asked_some (pos zero) h = absurd (omega (arith, h))
+asked_some (negsuc k) h = absurd (omega (arith, h))
+
+-- a wait that has time parks
+wait_parks : (s : State) (caller p e most : ℕ) (timeout : ℤ) → (timeout ≡ pos 0 → ⊥) → wait_for s caller p e most timeout ≡ parked s caller p e most (deadline_of s.now timeout)
+wait_parks s caller p e most (pos zero) some = absurd (some refl)
+wait_parks s caller p e most (pos (suc k)) some = refl
+wait_parks s caller p e most (negsuc k) some = refl
+
+-- what a caller waits for
+abbrev pub waiting : ℕ → ℕ → Wait → DescId → ℕ → Waiter
+waiting caller p args instance now = record { caller = caller; process = p; instance = instance.0; most = number_in args.max; deadline = deadline_of now args.timeout; marked = false }
+
+pub parked_waiting : (ws us : List Waiter) (caller p : ℕ) (args : Wait) (instance : DescId) (now : ℕ) (max timeout : ℤ) (deadline : Option ℕ) → max ≡ args.max → timeout ≡ args.timeout → deadline ≡ deadline_of now timeout
+    → us ≡ ws ++ record { caller = caller; process = p; instance = instance.0; most = number_in max; deadline = deadline; marked = false } ∷ [] → us ≡ ws ++ waiting caller p args instance now ∷ []
+parked_waiting ws us caller p args instance now max timeout deadline same_max same_timeout told more =
+    let until = told ∙ ap (deadline_of now) same_timeout in
+    more ∙ λ i. ws ++ record { caller = caller; process = p; instance = instance.0; most = number_in (same_max i); deadline = until i; marked = false } ∷ []
+
+gone_where : (a b c : Bool) → b ≡ true → (a && (not b && c)) ≡ false
+gone_where true true c h = refl
+gone_where false b c h = refl
+gone_where true false c h = absurd (false≢true h)
+
+-- what a descriptor number names stays
+pub not_dying : (v : Seen) (p : ℕ) (fd : ℤ) (key : DescId) → SoundTables v → number_under v key ≡ under v.files p fd → IsSome (number_under v key) → is_among v.dying (number_of v key) ≡ false
+not_dying v p fd key sound named lives =
+    let u = under_key v.keys key lives in
+    let number : number_of v key ≡ u.number = ap (λ (o : Option ℕ). unwrap_or o 0) u.is in
+    ap (is_among v.dying) number ∙ (sound.dying u.number ∙ gone_where (is_live v.files u.number) (is_among (named_in_tables v.files.tables) u.number) (holds_of v u.number == 0) (under_named v.files p u.number fd (sym u.is ∙ named)))
+
+-- a caller that is parked waits at an instance that has a description
+pub placed_waiting : (v : Seen) (ws us : List Waiter) (caller p : ℕ) (args : Wait) (instance : DescId) (now : ℕ) → Waits v p args instance → ArePlaced v ws → us ≡ ws ++ waiting caller p args instance now ∷ [] → ArePlaced v us
+placed_waiting v ws us caller p args instance now of placed more =
+    let one : IsPlaced v.keys (waiting caller p args instance now) = record { instance = of.lives; most = some_asked args.max (past_one (is_positive args.max) Einval _ of.accepted) } in
+    subst (λ (xs : List Waiter). All (IsPlaced v.keys) xs) (sym more)
+    (All-append (IsPlaced v.keys) ws (waiting caller p args instance now ∷ []) placed (All-cons (IsPlaced v.keys) (waiting caller p args instance now) [] one (All-nil (IsPlaced v.keys))))
+
+module _ (v : Seen) (p : ℕ) (args : Wait) (instance : DescId) (of : Waits v p args instance) where
   pub positive : is_positive args.max ≡ true
-  positive = both.0
+  positive = past_one (is_positive args.max) Einval _ of.accepted
 
-  module _ (now : ℕ) (old new : Registrations) (n : ℕ) (answer : Answer) (picked : List ℕ) (is : Reports v now old new n instance (number_in args.max) answer picked) (linked : AreLinked v old) where
-    pub still_linked : AreLinked v new
-    still_linked = subst (λ (xs : List Entry). All (IsLinked v.keys) xs) (sym is.entries) (linked_noted v.keys n (numbers_of is.chosen) old.entries linked)
+  abbrev most : ℕ
+  most = number_in args.max
 
-    pub still_nested : (graph : List Link) → KeepsLinks old graph new graph
-    still_nested graph = λ tables nested. nested ∙ (sym (links_noted tables n (numbers_of is.chosen) old.entries) ∙ ap (λ (xs : List Entry). map link_of (filter (is_nested tables) xs)) (sym is.entries))
+  abbrev e : ℕ
+  e = number_at v.keys instance
 
-    pub goes_reported : (caller : ℕ) (s : State) → s.n ≡ n → Sound s → Quiet s → is_legal (links s) ≡ true → Stands v old now s → SoundTables v
-        → Goes (wait_refusals s p args.epfd.0 args.max args.timeout) (wait s caller p (named_by s.files p args.epfd.0) (number_in args.max) args.timeout picked) s answer picked (record { tables = v; interest = new; now = now })
-    goes_reported caller s at steady quiet legal stands sound =
-        let e : named_by s.files p args.epfd.0 ≡ number_at v.keys instance = ap (λ (f : Files). named_by f p args.epfd.0) stands.files ∙ ap (λ (o : Option ℕ). unwrap_or o 0) (sym waits.named) in
-        let made = waited v now old new s n instance (number_in args.max) is.chosen at steady legal stands linked sound waits.lives is.is_chosen is.entries is.added caller p args.timeout both.1 in
-        let P : ℕ → List ℕ → Answer → Type 0 = λ d ks a. Makes (wait s caller p d (number_in args.max) args.timeout ks) a (record { tables = v; interest = new; now = now }) in
-        goes_made (wait_refusals s p args.epfd.0 args.max args.timeout) (wait s caller p (named_by s.files p args.epfd.0) (number_in args.max) args.timeout picked) s answer picked (record { tables = v; interest = new; now = now })
-        (ap (λ (f : Files). first (wait_tests f p args)) stands.files ∙ waits.accepted)
-        (subst (λ (d : ℕ). P d picked answer) (sym e) (subst (λ (ks : List ℕ). P (number_at v.keys instance) ks answer) (sym is.picks) (subst (P (number_at v.keys instance) (numbers_of is.chosen)) (sym is.answers) made)))
+  module _ {ws : List Waiter} (now : ℕ) (old : Registrations) (n : ℕ) (chosen : List Reportable) (chooses : IsChosen v now old instance (number_in args.max) chosen) (linked : AreLinked v old) (caller : ℕ) (s : State)
+      (at : s.n ≡ n) (sound : Sound s) (legal : is_legal (links s) ≡ true) (stands : Stands v old ws now s) (tables : SoundTables v) where
+    named : named_by s.files p args.epfd.0 ≡ e
+    named = ap (λ (f : Files). named_by f p args.epfd.0) stands.files ∙ ap (λ (o : Option ℕ). unwrap_or o 0) (sym of.named)
+
+    goes : (c : Change) (answer : Answer) (picked : List ℕ) (new : Parts) → wait s caller p e most args.timeout picked ≡ Some c → c.0 ≡ answer → StandFor new c.1
+        → Goes (wait_refusals s p args.epfd.0 args.max) (wait s caller p (named_by s.files p args.epfd.0) most args.timeout picked) s answer picked new
+    goes c answer picked new is answers stand =
+        goes_made (wait_refusals s p args.epfd.0 args.max) (wait s caller p (named_by s.files p args.epfd.0) most args.timeout picked) s answer picked new (ap (λ (f : Files). first (wait_tests f p args)) stands.files ∙ of.accepted)
+        (record { made = c; is = ap (λ (d : ℕ). wait s caller p d most args.timeout picked) named ∙ is; answers = answers; stands = stand })
+
+    abbrev told : Change
+    told = (Events (map report_of chosen), record s { watches = map (reported s (numbers_of chosen)) s.watches }, [])
+
+    comes : wait s caller p e most args.timeout (numbers_of chosen) ≡ Some (if length chosen == 0 then wait_for s caller p e most args.timeout else told)
+    comes =
+        let new : Registrations = record old { entries = map (noted_in n (numbers_of chosen)) old.entries } in
+        waits v now old new s n instance most chosen at sound legal stands linked tables of.lives chooses refl refl caller p args.timeout (some_asked args.max positive)
+
+    -- with something to report, or without time
+    pub goes_reported : (new : Registrations) (answer : Answer) (picked : List ℕ) → Reports old new n chosen answer picked → ((length chosen == 0) ≡ false) ⊎ (args.timeout ≡ pos 0)
+        → Goes (wait_refusals s p args.epfd.0 args.max) (wait s caller p (named_by s.files p args.epfd.0) most args.timeout picked) s answer picked (record { tables = v; interest = new; parked = ws; now = now })
+    goes_reported new answer picked is why =
+        let reports : wait s caller p e most args.timeout (numbers_of chosen) ≡ Some told = elim why [
+          | inl some ↦ comes ∙ ap (λ (b : Bool). let o : Option Change = Some (if b then wait_for s caller p e most args.timeout else told) in o) some
+          | inr none ↦
+              ap (λ (t : ℤ). wait s caller p e most t (numbers_of chosen)) none
+              ∙ waits_now v now old new s n instance most chosen at sound legal stands linked tables of.lives chooses is.entries is.added caller p
+        ] in
+        goes told answer picked (record { tables = v; interest = new; parked = ws; now = now }) (ap (wait s caller p e most args.timeout) is.picks ∙ reports) (sym is.answers)
+        (after v now old new s n instance most chosen at sound legal stands linked tables of.lives chooses is.entries is.added)
+
+    -- with nothing to report, and with time: the caller is parked
+    pub goes_parked : (t : Seen) (us : List Waiter) → (length chosen == 0) ≡ true → (args.timeout ≡ pos 0 → ⊥) → t.files ≡ v.files → t.keys ≡ v.keys → us ≡ ws ++ waiting caller p args instance now ∷ []
+        → Goes (wait_refusals s p args.epfd.0 args.max) (wait s caller p (named_by s.files p args.epfd.0) most args.timeout []) s Parked [] (record { tables = t; interest = old; parked = us; now = now })
+    goes_parked t us none some files keys more =
+        let number : ℕ → ℕ = λ k. number_at v.keys (record { 0 = k }) in
+        let out : Change → Option Change = λ c. Some c in
+        goes (parked s caller p e most (deadline_of now args.timeout)) Parked [] (record { tables = t; interest = old; parked = us; now = now })
+        (ap (wait s caller p e most args.timeout) (sym (no_numbers chosen none))
+        ∙ (comes
+        ∙ (ap (λ (b : Bool). out (if b then wait_for s caller p e most args.timeout else told)) none
+        ∙ (ap out (wait_parks s caller p e most args.timeout some) ∙ ap (λ (m : ℕ). out (parked s caller p e most (deadline_of m args.timeout))) stands.now)))) refl
+        (record {
+          now = stands.now;
+          files = stands.files ∙ sym files;
+          watches = stands.watches ∙ ap (λ (ks : List (Option ℕ)). map (watch_at ks) old.entries) (sym keys);
+          added = stands.added;
+          waiters = ap (λ (xs : List Waiter). xs ++ at_number number (waiting caller p args instance now) ∷ []) stands.waiters ∙ (sym (map-append (at_number number) ws (waiting caller p args instance now ∷ [])) ∙ λ i. waiters_at (sym keys i) (sym more i));
+        })

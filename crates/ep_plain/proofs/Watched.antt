@@ -1,11 +1,11 @@
 -- What is registered keeps its kind over an event, so that the graph is still that of the registrations.
-use Rattle.std.proofs.Common.{◌≡◌, ◌∙◌, ◌==◌, ◌⊎◌, ℕ, ℤ, zero, suc, pos, negsuc, All, Bool, true, false, List, [], ◌∷◌, None, Option, Some, ap, cond, inl, inr, map, refl, subst, sym, unwrap_or}
+use Rattle.std.proofs.Common.{◌≡◌, ◌∙◌, ◌==◌, ◌⊎◌, ℕ, ℤ, zero, suc, pos, negsuc, All, Bool, true, false, List, [], ◌∷◌, None, Option, Some, ap, cond, inl, inr, map, refl, subst, sym, unwrap_or, not}
 use Rattle.std.proofs.lemmas.List.Elements.{All-cons, All-head, All-map, All-nil, All-tail}
 use Rattle.std.proofs.lemmas.Option.{none-some}
 use Rattle.ep_base.specs.Limits.{Limits}
 use Rattle.ep_base.specs.declared.call.Call.TheVariants.{Close, Dup, Dup2, EpollCreate, EpollCtl, EpollWait, EventFd, Exec, Exit, Fork, GetTime, Pipe as PipeCall, Plain, Read, SetTime, Shutdown, SocketPair, TimerFd, Write}
 use Rattle.ep_base.specs.declared.call.Event.{Event}
-use Rattle.ep_base.specs.declared.call.Event.TheVariants.{Call as CallOf, Tick}
+use Rattle.ep_base.specs.declared.call.Event.TheVariants.{Call as CallOf, Resume, Tick}
 use Rattle.ep_interest.specs.Registrations.{Registrations}
 use Rattle.ep_interest.specs.declared.entry.Entry.{Entry}
 use Rattle.ep_machine.specs.Files.{Files, named_by, object_of}
@@ -14,9 +14,9 @@ use Rattle.ep_machine.specs.Objects.{Object, counter, instance, is_instance, pai
 use Rattle.ep_machine.specs.Quiet.{Changed, Quiet, can_be_watched, kind_of}
 use Rattle.ep_machine.specs.Readiness.{is_ready}
 use Rattle.ep_machine.specs.Report.{is_pick, plainly, report}
-use Rattle.ep_machine.specs.State.{Change, State, Watch}
+use Rattle.ep_machine.specs.State.{Change, State, Waiter, Watch}
 use Rattle.ep_machine.specs.Step.{change}
-use Rattle.ep_machine.specs.Waits.{wait_for}
+use Rattle.ep_machine.specs.Waits.{is_due, leave, leave_after, resume_by, resume_empty, wait_for, waiter_of}
 use Rattle.ep_machine.specs.Watches.{is_add, is_del, number_in}
 use Rattle.ep_machine.proofs.Naming.{Extends}
 use Rattle.ep_nest.specs.declared.link.Link.{Link}
@@ -55,6 +55,22 @@ waits_leave s caller p e most (pos zero) = refl
 waits_leave s caller p e most (pos (suc k)) = refl
 waits_leave s caller p e most (negsuc k) = refl
 
+leaves_left : (s : State) (caller : ℕ) (b : Bool) (c : Change) → c.1.files ≡ s.files → LeavesOne s (leave_after caller (cond b (Some c) None))
+leaves_left s caller true c h = leaves_some s (leave caller c) (inl h)
+leaves_left s caller false c h = leaves_none s
+
+either_files : (f : Files) (b : Bool) (x y : Change) → x.1.files ≡ f → y.1.files ≡ f → (cond b x y).1.files ≡ f
+either_files f true x y h i = h
+either_files f false x y h i = i
+
+resume_leaves : (s : State) (o : Option Waiter) (ks : List ℕ) → LeavesOne s (resume_by s o ks)
+resume_leaves s None ks = leaves_plainly s ks _ (inl refl)
+resume_leaves s (Some w) ks =
+    leaves_if s (not w.marked) _ _ (leaves_plainly s ks _ (inl refl))
+    (leaves_if s (is_ready s w.instance) (leave_after w.caller (report s w.instance w.most ks)) (plainly ks (resume_empty s w))
+    (leaves_left s w.caller (is_pick s w.instance w.most ks) _ refl)
+    (leaves_plainly s ks (resume_empty s w) (inl (either_files s.files (is_due s.now w.deadline) _ _ refl refl))))
+
 pub change_leaves : (limits : Limits) (s : State) (caller : ℕ) (event : Event) (ks : List ℕ) → LeavesOne s (change limits s caller event ks)
 change_leaves limits s caller (CallOf p (PipeCall cloexec)) ks = leaves_plainly s ks _ (inr refl)
 change_leaves limits s caller (CallOf p (EventFd init semaphore cloexec)) ks = leaves_plainly s ks _ (inr refl)
@@ -79,6 +95,7 @@ change_leaves limits s caller (CallOf p (Close fd)) ks = leaves_plainly s ks _ (
 change_leaves limits s caller (CallOf p Fork) ks = leaves_plainly s ks _ (inr refl)
 change_leaves limits s caller (CallOf p Exec) ks = leaves_plainly s ks _ (inr refl)
 change_leaves limits s caller (CallOf p Exit) ks = leaves_plainly s ks _ (inr refl)
+change_leaves limits s caller Resume ks = resume_leaves s (waiter_of s caller) ks
 change_leaves limits s caller (Tick k) ks = leaves_plainly s ks _ (inr refl)
 
 -- each target could be watched before

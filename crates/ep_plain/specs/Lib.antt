@@ -5,6 +5,7 @@ pub mod Book
 pub mod Control
 pub mod Clock
 pub mod ObjectCall
+pub mod Parking
 pub mod Raising
 pub mod Readiness
 pub mod Wait

@@ -1,5 +1,5 @@
 -- What an event does to the parts of a kernel.
-use Rattle.std.specs.Prelude.{true, ◌≡◌, ◌+◌, ◌≤◌, Bool, List, MatchOption, Option, Some, [], length, map, ℕ}
+use Rattle.std.specs.Prelude.{true, ◌≡◌, ◌+◌, ◌≤◌, Bool, List, MatchOption, Option, Some, [], filter, length, map, ℕ, ◌==◌}
 use Rattle.ep_base.specs.Limits.{Limits}
 use Rattle.ep_base.specs.declared.answer.Answer.{Answer}
 use Rattle.ep_base.specs.declared.answer.Answer.TheVariants.{Refused}
@@ -9,26 +9,27 @@ use Rattle.ep_base.specs.declared.errno.Errno.{Errno}
 use Rattle.ep_machine.specs.Effect.{first}
 use Rattle.ep_machine.specs.Files.{Files}
 use Rattle.ep_machine.specs.Kept.{climbed_all, freshened, kept_all}
-use Rattle.ep_machine.specs.Quiet.{Quiet}
+use Rattle.ep_machine.specs.Quiet.{Quiet, marks_of}
 use Rattle.ep_machine.specs.Refusal.{call_refusals, refusals}
 use Rattle.ep_machine.specs.Sound.{Sound}
-use Rattle.ep_machine.specs.State.{Change, State}
+use Rattle.ep_machine.specs.State.{Change, State, Waiter}
 use Rattle.ep_machine.specs.Step.{call_change, change}
 use Rattle.ep_machine.specs.Watches.{is_legal, links}
 use Rattle.ep_interest.specs.Registrations.{Registrations}
 use Rattle.ep_plain.specs.Raising.{Raises}
 use Rattle.ep_plain.specs.declared.raising.Raising.{Raising}
-use Rattle.ep_plain.specs.Stands.{watch_at, KeepsKeys, Stands}
+use Rattle.ep_plain.specs.Stands.{watch_at, waiters_at, KeepsKeys, Stands}
 use Rattle.ep_table.specs.Value.{Seen, holds_of}
 
--- what an event leaves: the tables, the interest sets and the clock
+-- what an event leaves: the tables, the interest sets, the waiters and the clock
 pub record Parts : Type 0 where
   pub tables : Seen
   pub interest : Registrations
+  pub parked : List Waiter
   pub now : ℕ
 
 abbrev pub StandFor : Parts → State → Type 0
-StandFor p s = Stands p.tables p.interest p.now s
+StandFor p s = Stands p.tables p.interest p.parked p.now s
 
 -- the same once what event n raised is noted in the registrations
 pub record StandsRaised (n : ℕ) (p : Parts) (raised : List (ℕ × ℕ)) (s : State) : Type 0 where
@@ -36,13 +37,15 @@ pub record StandsRaised (n : ℕ) (p : Parts) (raised : List (ℕ × ℕ)) (s : 
   pub files : s.files ≡ p.tables.files
   pub watches : map (freshened n raised) (kept_all s s.watches) ≡ map (watch_at p.tables.keys) p.interest.entries
   pub added : s.added ≡ p.interest.added
+  pub waiters : s.waiters ≡ waiters_at p.tables.keys p.parked
 
--- and once the dead are gone, before what was raised climbs through instances
+-- and once the dead are gone, before what was raised climbs through instances and before marks are set
 pub record StandsBuried (n : ℕ) (p : Parts) (s : State) : Type 0 where
   pub now : s.now ≡ p.now
   pub files : s.files ≡ p.tables.files
   pub watches : kept_all s s.watches ≡ climbed_all n p.tables.files (map (watch_at p.tables.keys) p.interest.entries)
   pub added : s.added ≡ p.interest.added
+  pub waiters : s.waiters ≡ marks_of s (waiters_at p.tables.keys p.parked)
 
 -- the machine makes this change, with this answer, to a state for which the parts stand
 pub record Makes (o : Option Change) (answer : Answer) (new : Parts) : Type 0 where
@@ -78,9 +81,13 @@ RaisesCall limits n caller p call picked raising old tables now = MovesBy n old 
 abbrev pub RaisesEvent : Limits → ℕ → ℕ → Event → List ℕ → Raising → Parts → Seen → ℕ → Type 0
 RaisesEvent limits n caller event picked raising old tables now = MovesBy n old (λ s. Raises (refusals limits s caller event) (change limits s caller event picked) raising tables now)
 
--- no waiter holds a description
-abbrev pub Unheld : Seen → Type 0
-Unheld v = (d : ℕ) → holds_of v d ≡ 0
+-- each description is held as often
+abbrev pub KeepsHolds : Seen → Seen → Type 0
+KeepsHolds old new = (d : ℕ) → holds_of new d ≡ holds_of old d
+
+-- a description is held once for each waiter at it
+abbrev pub AreHeld : Seen → List Waiter → Type 0
+AreHeld v ws = (d : ℕ) → holds_of v d ≡ length (filter (λ k. k == d) (map (λ w. w.instance) (waiters_at v.keys ws)))
 
 -- a call on the tables alone: a refusal of the list leaves them
 pub record Opened (given : Answer) (after : Files) (answer : Answer) (old new : Seen) : Type 0 where

@@ -7,8 +7,8 @@ use Rattle.ep_machine.specs.Timer.{last_moment}
 use Rattle.ep_machine.specs.State.{State, opening}
 use Rattle.ep_plain.specs.Book.{Book}
 use Rattle.ep_plain.specs.Climb.{AreNested}
-use Rattle.ep_plain.specs.Moves.{Unheld}
-use Rattle.ep_plain.specs.Stands.{AreLinked, Stands}
+use Rattle.ep_plain.specs.Moves.{AreHeld}
+use Rattle.ep_plain.specs.Stands.{AreLinked, ArePlaced, Stands}
 use Rattle.ep_plain.specs.declared.plain.PlainKernel.TheInside.{Inside}
 
 abbrev pub book_of : Inside → Book
@@ -22,10 +22,11 @@ pub record IsStanding (k : Inside) : Type 0 where
   pub sound : Sound state
   pub quiet : Quiet state
   pub clock : k.now ≤ last_moment
-  pub stands : Stands k.tables k.interest k.now state
+  pub stands : Stands k.tables k.interest k.waiters k.now state
   pub linked : AreLinked k.tables k.interest
   pub nested : AreNested k.tables k.interest k.graph
-  pub unheld : Unheld k.tables
+  pub placed : ArePlaced k.tables k.waiters
+  pub held : AreHeld k.tables k.waiters
   pub limits : k.tables.limits ≡ k.limits
   pub added : k.interest.added ≤ length k.history.items
   pub descriptions : length k.tables.files.descriptions ≤ 2 * length k.history.items + 1

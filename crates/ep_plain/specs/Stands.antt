@@ -1,8 +1,9 @@
 -- Which states of the machine the parts of a kernel stand for.
-use Rattle.std.specs.Prelude.{Some, ◌≡◌, All, IsSome, List, None, Option, [], map, pos, slice_index_or, unwrap_or, ℕ}
+use Rattle.std.specs.Prelude.{Some, ◌≡◌, ◌<◌, All, IsSome, List, None, Option, [], map, pos, slice_index_or, unwrap_or, ℕ}
 use Rattle.ep_base.specs.declared.ids.DescId.{DescId}
 use Rattle.ep_machine.specs.Kept.{kept_all}
-use Rattle.ep_machine.specs.State.{State, Watch}
+use Rattle.ep_machine.specs.Marks.{at_number}
+use Rattle.ep_machine.specs.State.{State, Waiter, Watch}
 use Rattle.ep_machine.specs.Watches.{number_in}
 use Rattle.ep_interest.specs.declared.entry.Entry.{Entry}
 use Rattle.ep_interest.specs.Registrations.{Registrations}
@@ -25,15 +26,28 @@ pub record IsLinked (keys : List (Option ℕ)) (x : Entry) : Type 0 where
 abbrev pub AreLinked : Seen → Registrations → Type 0
 AreLinked tables interest = All (IsLinked tables.keys) interest.entries
 
-pub record Stands (tables : Seen) (interest : Registrations) (clock : ℕ) (s : State) : Type 0 where
+-- the machine's waiters: numbers of instances stand in place of their keys
+abbrev pub waiters_at : List (Option ℕ) → List Waiter → List Waiter
+waiters_at keys ws = map (at_number (λ k. number_at keys (record { 0 = k }))) ws
+
+-- it waits at an instance that has a description, for one report at least
+pub record IsPlaced (keys : List (Option ℕ)) (w : Waiter) : Type 0 where
+  pub instance : IsSome (slice_index_or keys w.instance None)
+  pub most : 0 < w.most
+
+abbrev pub ArePlaced : Seen → List Waiter → Type 0
+ArePlaced tables ws = All (IsPlaced tables.keys) ws
+
+pub record Stands (tables : Seen) (interest : Registrations) (parked : List Waiter) (clock : ℕ) (s : State) : Type 0 where
   pub now : s.now ≡ clock
   pub files : s.files ≡ tables.files
   pub watches : kept_all s s.watches ≡ map (watch_at tables.keys) interest.entries
   pub added : s.added ≡ interest.added
+  pub waiters : s.waiters ≡ waiters_at tables.keys parked
 
 -- one of the states that these parts stand for
-abbrev pub state_at : Seen → Registrations → ℕ → State
-state_at tables interest now = record { n = 0; now = now; files = tables.files; arrivals = []; watches = map (watch_at tables.keys) interest.entries; added = interest.added; waiters = [] }
+abbrev pub state_at : Seen → Registrations → List Waiter → ℕ → State
+state_at tables interest parked now = record { n = 0; now = now; files = tables.files; arrivals = []; watches = map (watch_at tables.keys) interest.entries; added = interest.added; waiters = waiters_at tables.keys parked }
 
 -- each key keeps its number
 abbrev pub KeepsKeys : Seen → Seen → Type 0

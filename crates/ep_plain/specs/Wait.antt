@@ -1,5 +1,5 @@
 -- epoll_wait over the parts of a kernel.
-use Rattle.std.specs.Prelude.{◌≡◌, All, Bool, IsSome, List, None, Some, [], filter, if◌then◌else◌, map, not, take, ℕ, ◌&&◌, ◌∷◌}
+use Rattle.std.specs.Prelude.{◌≡◌, All, Bool, IsSome, List, None, Option, Some, [], filter, if◌then◌else◌, map, negsuc, not, pos, take, ℕ, ℤ, ◌&&◌, ◌+◌, ◌∷◌}
 use Rattle.std.specs.List.Sorted.{IsNonDecreasingBy, IsPermutation}
 use Rattle.ep_base.specs.declared.answer.Report.{Report}
 use Rattle.ep_base.specs.declared.call.Call.{Call}
@@ -15,7 +15,6 @@ use Rattle.ep_machine.specs.Effect.{first}
 use Rattle.ep_machine.specs.Files.{Files, names_nothing, object_under, under}
 use Rattle.ep_machine.specs.Lists.{is_among}
 use Rattle.ep_machine.specs.Objects.{is_instance}
-use Rattle.ep_machine.specs.Refusal.{is_zero}
 use Rattle.ep_machine.specs.Waits.{is_positive}
 use Rattle.ep_table.specs.Value.{Seen, number_under}
 use Rattle.ep_plain.specs.Readiness.{entry_bits, entry_shows, readiness}
@@ -29,7 +28,6 @@ wait_call args = EpollWait args.epfd args.max args.timeout
 abbrev pub wait_tests : Files → ℕ → Wait → List (Bool × Errno)
 wait_tests files p args =
     (not (is_positive args.max), Einval)
-    ∷ (not (is_zero args.timeout), Einval)
     ∷ (names_nothing files p args.epfd.0, Ebadf)
     ∷ (not (is_instance (object_under files p args.epfd.0)), Einval) ∷ []
 
@@ -64,3 +62,8 @@ report_of x = record { bits = x.bits; tag = x.entry.tag }
 -- those that are reported in event n: a one-shot is disarmed
 abbrev pub noted_in : ℕ → List ℕ → Entry → Entry
 noted_in n ks x = if is_among ks x.number then record x { armed = x.armed && not (has_bit x.mask.0 ONESHOT); seen = Some no_counts; rep = n } else x
+
+-- a negative timeout has no end
+abbrev pub deadline_of : ℕ → ℤ → Option ℕ
+deadline_of now (pos k) = Some (now + k)
+deadline_of now (negsuc k) = None

@@ -1,10 +1,11 @@
 //! epoll_ctl.
-ghost use Rattle.std.specs.Prelude.{◌≡◌, ◌==◌, ◌+◌, ◌++◌, ◌∷◌, ◌<◌, ◌≤◌, ◌^◌, ℕ, [], if◌then◌else◌, IfNone, IfOk, IfSome, IsSome, MatchResult, OnErr, Some, false, true, unwrap_or};
+ghost use Rattle.std.specs.Prelude.{◌≡◌, ◌==◌, ◌+◌, ◌++◌, ◌∷◌, ◌<◌, ◌≤◌, ◌^◌, ℕ, [], if◌then◌else◌, IfNone, IfOk, IfSome, IsSome, List, MatchResult, OnErr, Some, false, true, unwrap_or};
 ghost use Rattle.std.specs.List.{list_any};
 ghost use Rattle.ep_base.specs.Answer.{FitsInline};
 ghost use Rattle.ep_machine.specs.Effect.{first};
 ghost use Rattle.ep_plain.specs.Acts.{is_no_memory};
 ghost use Rattle.ep_machine.specs.Lists.{is_among};
+ghost use Rattle.ep_machine.specs.State.{Waiter};
 ghost use Rattle.ep_machine.specs.Watches.{is_legal};
 ghost use Rattle.ep_nest.specs.Links.{edges, entries};
 ghost use Rattle.ep_plain.specs.Climb.{AreNested, KeepsLinks, link_of};
@@ -292,9 +293,9 @@ pub fn epoll_ctl(
     requires clock { now ≤ last_moment }
     requires linked { AreLinked tables.now interest.old }
     requires nested { AreNested tables.now interest.old graph.old }
-    ensures ok { IfOk result (λ acted. (n caller : ℕ) → MovesCall limits.now n caller pid.0 (control_call args) acted.answer acted.picked (record { tables = tables.now; interest = interest.old; now = now }) (record { tables = tables.now; interest = interest.new; now = now })) }
+    ensures ok { IfOk result (λ acted. (n caller : ℕ) (waiters : List Waiter) → MovesCall limits.now n caller pid.0 (control_call args) acted.answer acted.picked (record { tables = tables.now; interest = interest.old; parked = waiters; now = now }) (record { tables = tables.now; interest = interest.new; parked = waiters; now = now })) }
     ensures copy { IfOk result (λ acted. acted.copy ≡ acted.answer) }
-    ensures raised { IfOk result (λ acted. (n caller : ℕ) → RaisesCall limits.now n caller pid.0 (control_call args) acted.picked acted.raising (record { tables = tables.now; interest = interest.old; now = now }) tables.now now) }
+    ensures raised { IfOk result (λ acted. (n caller : ℕ) (waiters : List Waiter) → RaisesCall limits.now n caller pid.0 (control_call args) acted.picked acted.raising (record { tables = tables.now; interest = interest.old; parked = waiters; now = now }) tables.now now) }
     ensures raising { IfOk result (λ acted. IsRaising acted.raising tables.now) }
     ensures real { IfOk result (λ acted. is_no_memory acted.answer ≡ false) }
     ensures linked { AreLinked tables.now interest.new }

@@ -10,7 +10,7 @@ ghost use Rattle.ep_machine.specs.Tables.{answer_one, answer_two, create_one, cr
 ghost use Rattle.ep_machine.specs.Timer.{new_timer};
 ghost use Rattle.ep_plain.specs.declared.raising.Raising.TheVariants.{Nowhere};
 ghost use Rattle.ep_plain.specs.Acts.{is_no_memory};
-ghost use Rattle.ep_plain.specs.Moves.{Grows, Opens, Unheld};
+ghost use Rattle.ep_plain.specs.Moves.{Grows, KeepsHolds, Opens};
 
 use crate::acted::Acted;
 use ep_base::{Errno, Pid};
@@ -36,7 +36,7 @@ pub fn create_single(
     ensures raising { IfOk result (λ acted. acted.raising ≡ Nowhere) }
     ensures real { IfOk result (λ acted. is_no_memory acted.answer ≡ false) }
     ensures grows { OnOk result (Grows tables.old.files tables.new.files) }
-    ensures unheld { OnOk result (Unheld tables.old → Unheld tables.new) }
+    ensures holds { OnOk result (KeepsHolds tables.old tables.new) }
     ensures err { OnErr result (tables.new ≡ tables.old) }
 {
     if let Some(errno) = tables.refuses_one(pid) {
@@ -64,7 +64,7 @@ pub fn create_timer(
     ensures raising { IfOk result (λ acted. acted.raising ≡ Nowhere) }
     ensures real { IfOk result (λ acted. is_no_memory acted.answer ≡ false) }
     ensures grows { OnOk result (Grows tables.old.files tables.new.files) }
-    ensures unheld { OnOk result (Unheld tables.old → Unheld tables.new) }
+    ensures holds { OnOk result (KeepsHolds tables.old tables.new) }
     ensures err { OnErr result (tables.new ≡ tables.old) }
 {
     if clock != 0 && clock != 1 {
@@ -92,7 +92,7 @@ pub fn create_pipe(
     ensures raising { IfOk result (λ acted. acted.raising ≡ Nowhere) }
     ensures real { IfOk result (λ acted. is_no_memory acted.answer ≡ false) }
     ensures grows { OnOk result (Grows tables.old.files tables.new.files) }
-    ensures unheld { OnOk result (Unheld tables.old → Unheld tables.new) }
+    ensures holds { OnOk result (KeepsHolds tables.old tables.new) }
     ensures err { OnErr result (tables.new ≡ tables.old) }
 {
     if let Some(errno) = tables.refuses_two(pid) {
@@ -122,7 +122,7 @@ pub fn create_pair(
     ensures raising { IfOk result (λ acted. acted.raising ≡ Nowhere) }
     ensures real { IfOk result (λ acted. is_no_memory acted.answer ≡ false) }
     ensures grows { OnOk result (Grows tables.old.files tables.new.files) }
-    ensures unheld { OnOk result (Unheld tables.old → Unheld tables.new) }
+    ensures holds { OnOk result (KeepsHolds tables.old tables.new) }
     ensures err { OnErr result (tables.new ≡ tables.old) }
 {
     if let Some(errno) = tables.refuses_two(pid) {

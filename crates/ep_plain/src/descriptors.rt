@@ -8,7 +8,7 @@ ghost use Rattle.ep_machine.specs.Tables.{answer_one, close as closed, dup as du
 ghost use Rattle.ep_machine.specs.Watches.{number_in};
 ghost use Rattle.ep_plain.specs.declared.raising.Raising.TheVariants.{Nowhere};
 ghost use Rattle.ep_plain.specs.Acts.{is_no_memory};
-ghost use Rattle.ep_plain.specs.Moves.{Grows, Opens, Unheld};
+ghost use Rattle.ep_plain.specs.Moves.{Grows, KeepsHolds, Opens};
 
 use crate::acted::Acted;
 use ep_base::{Fd, Pid};
@@ -25,7 +25,7 @@ pub fn dup(alloc: Global, tables: &mut Tables, pid: Pid, fd: Fd) -> Result<Acted
     ensures raising { IfOk result (λ acted. acted.raising ≡ Nowhere) }
     ensures real { IfOk result (λ acted. is_no_memory acted.answer ≡ false) }
     ensures grows { OnOk result (Grows tables.old.files tables.new.files) }
-    ensures unheld { OnOk result (Unheld tables.old → Unheld tables.new) }
+    ensures holds { OnOk result (KeepsHolds tables.old tables.new) }
     ensures err { OnErr result (tables.new ≡ tables.old) }
 {
     let answer = tables.dup(pid, fd)?;
@@ -49,7 +49,7 @@ pub fn dup2(
     ensures raising { IfOk result (λ acted. acted.raising ≡ Nowhere) }
     ensures real { IfOk result (λ acted. is_no_memory acted.answer ≡ false) }
     ensures grows { OnOk result (Grows tables.old.files tables.new.files) }
-    ensures unheld { OnOk result (Unheld tables.old → Unheld tables.new) }
+    ensures holds { OnOk result (KeepsHolds tables.old tables.new) }
     ensures err { OnErr result (tables.new ≡ tables.old) }
 {
     let answer = tables.dup2(pid, fd, to)?;
@@ -65,7 +65,7 @@ pub fn close(alloc: Global, tables: &mut Tables, pid: Pid, fd: Fd) -> Acted
     ensures raising { result.raising ≡ Nowhere }
     ensures real { is_no_memory result.answer ≡ false }
     ensures grows { Grows tables.old.files tables.new.files }
-    ensures unheld { Unheld tables.old → Unheld tables.new }
+    ensures holds { KeepsHolds tables.old tables.new }
 {
     let answer = tables.close(pid, fd);
     Acted::settled(alloc, answer)
@@ -81,7 +81,7 @@ pub fn fork(alloc: Global, tables: &mut Tables, pid: Pid) -> Result<Acted, Alloc
     ensures raising { IfOk result (λ acted. acted.raising ≡ Nowhere) }
     ensures real { IfOk result (λ acted. is_no_memory acted.answer ≡ false) }
     ensures grows { OnOk result (Grows tables.old.files tables.new.files) }
-    ensures unheld { OnOk result (Unheld tables.old → Unheld tables.new) }
+    ensures holds { OnOk result (KeepsHolds tables.old tables.new) }
     ensures err { OnErr result (tables.new ≡ tables.old) }
 {
     let answer = tables.fork(pid)?;
@@ -97,7 +97,7 @@ pub fn exec(alloc: Global, tables: &mut Tables, pid: Pid) -> Acted
     ensures raising { result.raising ≡ Nowhere }
     ensures real { is_no_memory result.answer ≡ false }
     ensures grows { Grows tables.old.files tables.new.files }
-    ensures unheld { Unheld tables.old → Unheld tables.new }
+    ensures holds { KeepsHolds tables.old tables.new }
 {
     let answer = tables.exec(pid);
     Acted::settled(alloc, answer)
@@ -112,7 +112,7 @@ pub fn exit(alloc: Global, tables: &mut Tables, pid: Pid) -> Acted
     ensures raising { result.raising ≡ Nowhere }
     ensures real { is_no_memory result.answer ≡ false }
     ensures grows { Grows tables.old.files tables.new.files }
-    ensures unheld { Unheld tables.old → Unheld tables.new }
+    ensures holds { KeepsHolds tables.old tables.new }
 {
     let answer = tables.exit(pid);
     Acted::settled(alloc, answer)

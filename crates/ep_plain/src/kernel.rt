@@ -3,6 +3,7 @@ ghost use Rattle.std.specs.Prelude.{◌≡◌, ◌+◌, ◌≤◌, ℕ, List, On
 ghost use Rattle.ep_base.specs.Limits.{Limits as Numbers};
 ghost use Rattle.ep_base.specs.declared.record.Record.{Record as Entry};
 ghost use Rattle.ep_machine.specs.Run.{run};
+ghost use Rattle.ep_machine.specs.Waits.{is_marked, is_parked};
 ghost use Rattle.ep_machine.specs.State.{State, opening};
 ghost use Rattle.ep_plain.specs.Acts.{Acts};
 
@@ -52,4 +53,13 @@ pub trait Kernel {
     /// The simulated clock: milliseconds since it began, at most 1,000,000,000,000.
     fn now(&self) -> u64
         ensures { result ≡ (state self.now).now };
+
+    /// Whether a caller is parked in epoll_wait(2).
+    fn is_parked(&self, caller: CallerId) -> bool
+        ensures { result ≡ is_parked (state self.now) caller.0 };
+
+    /// Whether a caller is parked and marked: its next resumption looks at its instance, and ends the wait where something
+    /// is reportable or its deadline has come. At each ready instance that has waiters one is marked.
+    fn is_marked(&self, caller: CallerId) -> bool
+        ensures { result ≡ is_marked (state self.now) caller.0 };
 }

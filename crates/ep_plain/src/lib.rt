@@ -11,6 +11,7 @@ mod create;
 mod descriptors;
 mod kernel;
 mod object_call;
+mod parking;
 mod plain;
 mod raising;
 mod readiness;
@@ -19,4 +20,4 @@ mod wait;
 
 pub use crate::kernel::Kernel;
 pub use crate::plain::PlainKernel;
-pub use crate::runs::run;
+pub use crate::runs::{ready_waiters_are_marked, run};

@@ -6,7 +6,7 @@ ghost use Rattle.ep_machine.specs.Objects.{object_refusals};
 ghost use Rattle.ep_machine.specs.Tables.{affected};
 ghost use Rattle.ep_machine.specs.Timer.{last_moment};
 ghost use Rattle.ep_object.specs.Memory.{asked_of, object_waiting};
-ghost use Rattle.ep_plain.specs.Moves.{Grows, Opens, Unheld};
+ghost use Rattle.ep_plain.specs.Moves.{Grows, KeepsHolds, Opens};
 ghost use Rattle.ep_plain.specs.ObjectCall.{FitsRoom, IsObjectCall, given};
 ghost use Rattle.ep_plain.specs.Acts.{is_no_memory};
 ghost use Rattle.ep_plain.specs.Raising.{IsRaising, RaisesByCall};
@@ -81,7 +81,7 @@ pub fn object_call(
     ensures raising { IfOk result (λ acted. IsRaising acted.raising tables.new) }
     ensures real { IfOk result (λ acted. is_no_memory acted.answer ≡ false) }
     ensures grows { OnOk result (Grows tables.old.files tables.new.files) }
-    ensures unheld { OnOk result (Unheld tables.old → Unheld tables.new) }
+    ensures holds { OnOk result (KeepsHolds tables.old tables.new) }
     ensures err { OnErr result (tables.new ≡ tables.old) }
 {
     let Some(desc) = tables.lookup(pid, fd) else {

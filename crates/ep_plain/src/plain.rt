@@ -8,10 +8,12 @@ use crate::act::act;
 use crate::acted::Acted;
 use crate::bury::bury;
 use crate::climb::climb;
+use crate::parking::mark;
 use crate::raising::raise;
 use ep_base::{Answer, CallerId, Errno, Event, Limits, Record};
 use ep_interest::Interest;
 use ep_nest::Graph;
+use ep_park::Park;
 use ep_table::Tables;
 use std::alloc::{AllocError, Global};
 use std::marker::Model;
@@ -25,6 +27,7 @@ pub struct PlainKernel {
     tables: Tables,
     interest: Interest,
     graph: Graph,
+    waiters: Park,
     now: u64,
     history: Vec<Record>,
 }
@@ -53,6 +56,7 @@ impl PlainKernel {
             tables: Tables::new(alloc, limits)?,
             interest: Interest::new(alloc),
             graph: Graph::new(alloc),
+            waiters: Park::new(alloc),
             now: 0,
             history: Vec::new(alloc),
         })
@@ -79,14 +83,18 @@ impl PlainKernel {
             &mut self.tables,
             &mut self.interest,
             &mut self.graph,
+            &mut self.waiters,
             &mut self.now,
             step,
+            caller,
             &event,
         )?;
         self.tables.known();
         raise(&self.tables, &mut self.interest, raising, self.now, step);
         bury(&mut self.tables, &mut self.interest, &mut self.graph, step);
+        self.tables.known();
         climb(&self.tables, &mut self.interest, &self.graph, step);
+        mark(&self.tables, self.now, &self.interest, &mut self.waiters);
         self.history.push_reserved(Record {
             caller,
             event,
@@ -127,5 +135,13 @@ impl Kernel for PlainKernel {
 
     fn now(&self) -> u64 {
         self.now
+    }
+
+    fn is_parked(&self, caller: CallerId) -> bool {
+        self.waiters.is_parked(caller)
+    }
+
+    fn is_marked(&self, caller: CallerId) -> bool {
+        self.waiters.is_marked(caller)
     }
 }

@@ -82,3 +82,13 @@ pub fn shown(tables: &Tables, now: u64, interest: &Interest, entry: &Entry) -> M
         && is_ready(tables, now, interest, entry.desc, LONGEST);
     shown_at(tables, now, entry, below)
 }
+
+/// Whether something is reportable at an instance. The time grows with the registrations of it and of those below.
+pub fn is_ready_now(tables: &Tables, now: u64, interest: &Interest, instance: DescId) -> bool
+    requires live { IsSome (number_under tables.now instance) }
+    requires linked { AreLinked tables.now interest.now }
+    requires clock { now ≤ last_moment }
+    ensures { result ≡ readiness tables.now now interest.now (number_of tables.now instance) }
+{
+    is_ready(tables, now, interest, instance, LONGEST)
+}

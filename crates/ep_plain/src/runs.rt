@@ -1,9 +1,12 @@
-//! Lists of events.
-ghost use Rattle.std.specs.Prelude.{◌≡◌, IfOk, OnErr};
+//! Lists of events, and what holds after each.
+ghost use Rattle.std.specs.Prelude.{◌≡◌, ℕ, IfOk, OnErr, true};
+ghost use Rattle.ep_machine.specs.Readiness.{is_ready};
+ghost use Rattle.ep_machine.specs.Waits.{is_marked_at, waits_at};
 ghost use Rattle.ep_plain.specs.Acts.{Answers};
 
 use crate::Kernel;
 use ep_base::{Answer, CallerId, Event};
+use ep_machine::laws;
 use std::alloc::AllocError;
 
 /// One answer for each event, in order. An `Err`, for want of memory for the answers, has made no step;
@@ -21,4 +24,13 @@ pub fn run<K: Kernel>(
         answers.push_reserved(kernel.step(caller, event));
     }
     Ok(answers)
+}
+
+/// No waiter is forgotten: at each instance that is ready and has waiters, one of them is marked, whatever events came
+/// before. A fact for proofs.
+pub fn ready_waiters_are_marked<K: Kernel>(kernel: &K)
+    ensures { (instance : ℕ) → waits_at (K.state kernel.now).waiters instance ≡ true → is_ready (K.state kernel.now) instance ≡ true → is_marked_at (K.state kernel.now).waiters instance ≡ true }
+{
+    let _past = kernel.history();
+    laws::ready_waiters_are_marked();
 }

@@ -1,16 +1,17 @@
 //! epoll_wait.
-ghost use Rattle.std.specs.Prelude.{List, ◌≡◌, ◌<◌, ◌≤◌, ◌^◌, ◌&&◌, ◌||◌, ◌∷◌, [], ℕ, All, IfOk, IfSome, IsNone, IsSome, MatchOption, MatchResult, None, OnErr, Some, false, filter, is_none, true, length, map, min, nat_lt, not, pos, take, unwrap_or};
+ghost use Rattle.std.specs.Prelude.{List, ◌≡◌, ◌<◌, ◌≤◌, ◌&&◌, ◌||◌, ◌∷◌, [], All, IfOk, IsSome, MatchResult, None, OnErr, Some, false, filter, true, map, not, unwrap_or};
 ghost use Rattle.ep_machine.specs.Bits.{ONESHOT, has_bit};
 ghost use Rattle.ep_machine.specs.Effect.{first};
-ghost use Rattle.ep_machine.specs.Files.{under};
 ghost use Rattle.ep_plain.specs.declared.raising.Raising.TheVariants.{Nowhere};
 ghost use Rattle.ep_plain.specs.Acts.{is_no_memory};
 ghost use Rattle.ep_nest.specs.declared.link.Link.{Link};
 ghost use Rattle.ep_plain.specs.Climb.{KeepsLinks};
-ghost use Rattle.ep_plain.specs.Moves.{MovesCall};
-ghost use Rattle.ep_plain.specs.Stands.{AreLinked};
+ghost use Rattle.ep_park.specs.Waiters.{is_caller};
+ghost use Rattle.ep_plain.specs.Moves.{AreHeld, MovesCall};
+ghost use Rattle.std.specs.List.{list_any};
+ghost use Rattle.ep_plain.specs.Stands.{AreLinked, ArePlaced};
 ghost use Rattle.ep_plain.specs.Readiness.{entry_shows, readiness};
-ghost use Rattle.ep_plain.specs.Wait.{AreKeyed, IsChosen, Waits, noted_in, numbers_of, report_of, wait_call, wait_tests};
+ghost use Rattle.ep_plain.specs.Wait.{AreKeyed, IsChosen, Waits, deadline_of, noted_in, numbers_of, report_of, wait_call, wait_tests};
 ghost use Rattle.ep_plain.specs.Reports.{Reports};
 ghost use Rattle.ep_base.specs.declared.answer.Answer.TheVariants.{Events};
 ghost use Rattle.ep_machine.specs.Timer.{last_moment};
@@ -18,16 +19,18 @@ ghost use Rattle.ep_machine.specs.Waits.{is_positive};
 ghost use Rattle.ep_machine.specs.Watches.{number_in};
 ghost use Rattle.ep_interest.specs.Registrations.{is_of, number_under as number_of_entry};
 ghost use Rattle.ep_base.specs.Limits.{Limits as Numbers};
-ghost use Rattle.ep_table.specs.Value.{number_under};
 
 use crate::acted::Acted;
+use crate::parking::park;
 use crate::raising::Raising;
 use crate::readiness::{is_reportable, shown};
 use bitflags::Flags;
 use ep_base::{
-    Answer, Counts, DescId, EntryId, Errno, Fd, Mask, Picked, Pid, Report, Reports as ReportList,
+    Answer, CallerId, Counts, DescId, EntryId, Errno, Fd, Mask, Picked, Pid, Report,
+    Reports as ReportList,
 };
 use ep_interest::{Entry, Interest};
+use ep_park::{Park, Waiter};
 use ep_table::Tables;
 use smallvec::SmallVec;
 use std::alloc::{AllocError, Global};
@@ -62,9 +65,6 @@ fn find_instance(tables: &Tables, pid: Pid, args: Wait) -> Result<DescId, Errno>
     ensures { MatchResult result (λ desc. Waits tables.now pid.0 args desc) (λ e. first (wait_tests tables.now.files pid.0 args) ≡ Some e) }
 {
     if args.max <= 0 {
-        return Err(Errno::Einval);
-    }
-    if args.timeout != 0 {
         return Err(Errno::Einval);
     }
     let Some(desc) = tables.lookup(pid, args.epfd) else {
@@ -104,30 +104,30 @@ fn reportables(
 }
 
 /// How many reports are asked for.
-fn most(args: Wait) -> usize
-    requires { is_positive args.max ≡ true }
-    ensures { result ≡ number_in args.max }
+fn most(max: i32) -> usize
+    requires { is_positive max ≡ true }
+    ensures { result ≡ number_in max }
 {
-    args.max as usize
+    max as usize
 }
 
 /// At most `max` of them, the longest unreported first, so that none is passed over for ever.
-fn choose(
+pub fn choose(
     alloc: Global,
     tables: &Tables,
     now: u64,
     interest: &Interest,
     instance: DescId,
-    args: Wait,
+    max: i32,
 ) -> Result<Vec<Reportable>, AllocError>
     requires linked { AreLinked tables.now interest.now }
-    requires positive { is_positive args.max ≡ true }
+    requires positive { is_positive max ≡ true }
     requires clock { now ≤ last_moment }
-    ensures { IfOk result (λ chosen. IsChosen tables.now now interest.now instance (number_in args.max) chosen.items) }
+    ensures { IfOk result (λ chosen. IsChosen tables.now now interest.now instance (number_in max) chosen.items) }
 {
     let mut chosen = reportables(alloc, tables, now, interest, instance)?;
     chosen.sort_by_key(|x| x.entry.rep)?;
-    chosen.truncate(most(args));
+    chosen.truncate(most(max));
     Ok(chosen)
 }
 
@@ -204,58 +204,87 @@ fn reported(alloc: Global, chosen: &[Reportable]) -> Result<Acted, AllocError>
     })
 }
 
-/// Reports what is reportable at an instance.
-fn report(
+/// Reports them, and notes that it did. An `Err` is want of memory and leaves the registrations.
+pub fn report(
     alloc: Global,
-    tables: &Tables,
-    now: u64,
     interest: &mut Interest,
     step: u64,
-    instance: DescId,
-    args: Wait,
+    chosen: &[Reportable],
 ) -> Result<Acted, AllocError>
-    requires linked { AreLinked tables.now interest.old }
-    requires positive { is_positive args.max ≡ true }
-    requires clock { now ≤ last_moment }
-    ensures ok { IfOk result (λ acted. Reports tables.now now interest.old interest.new step instance (number_in args.max) acted.answer acted.picked) }
+    requires keyed { All (λ x. number_of_entry interest.old x.id ≡ Some x.entry.number) chosen.now }
+    ensures ok { IfOk result (λ acted. Reports interest.old interest.new step chosen.now acted.answer acted.picked) }
     ensures copy { IfOk result (λ acted. acted.copy ≡ acted.answer) }
     ensures raising { IfOk result (λ acted. acted.raising ≡ Nowhere) }
     ensures err { OnErr result (interest.new ≡ interest.old) }
 {
-    let chosen = choose(alloc, tables, now, interest, instance, args)?;
-    let acted = reported(alloc, &chosen)?;
-    note(interest, step, &chosen);
+    let acted = reported(alloc, chosen)?;
+    note(interest, step, chosen);
     Ok(acted)
 }
 
-/// epoll_wait(2): at most `max` reports of what is reportable at an instance now, the longest unreported first.
-/// Refused with EINVAL for a `max` below 1, a `timeout` other than 0 or no instance, and with EBADF where `epfd` names nothing.
-/// A refusal and an `Err`, which is want of memory, leave the registrations.
+/// The moment at which a wait ends with no report; `None` for a negative timeout, which has no end.
+fn deadline(now: u64, timeout: i64) -> Option<u64>
+    requires { now ≤ last_moment }
+    ensures { result ≡ deadline_of now timeout }
+{
+    if timeout < 0 {
+        return None;
+    }
+    Some(now + timeout as u64)
+}
+
+/// epoll_wait(2): at most `max` reports of what is reportable at an instance now, the longest unreported first. Where
+/// nothing is, no report with a timeout of 0, and else the caller is parked until it is marked, `timeout` milliseconds at
+/// most, and without end where that is negative.
+/// Refused with EINVAL for a `max` below 1 or no instance, and with EBADF where `epfd` names nothing.
+/// A refusal and an `Err`, which is want of memory, leave registrations and waiters.
 pub fn epoll_wait(
     alloc: Global,
-    tables: &Tables,
+    tables: &mut Tables,
     now: u64,
     interest: &mut Interest,
+    waiters: &mut Park,
     step: u64,
+    caller: CallerId,
     pid: Pid,
     args: Wait,
 ) -> Result<Acted, AllocError>
-    requires linked { AreLinked tables.now interest.old }
+    requires linked { AreLinked tables.old interest.old }
+    requires placed { ArePlaced tables.old waiters.old }
+    requires held { AreHeld tables.old waiters.old }
     requires clock { now ≤ last_moment }
-    ensures ok { IfOk result (λ acted. (limits : Numbers) (caller : ℕ) → MovesCall limits step caller pid.0 (wait_call args) acted.answer acted.picked (record { tables = tables.now; interest = interest.old; now = now }) (record { tables = tables.now; interest = interest.new; now = now })) }
+    requires free { list_any (is_caller caller.0) waiters.old ≡ false }
+    ensures ok { IfOk result (λ acted. (limits : Numbers) → MovesCall limits step caller.0 pid.0 (wait_call args) acted.answer acted.picked (record { tables = tables.old; interest = interest.old; parked = waiters.old; now = now }) (record { tables = tables.new; interest = interest.new; parked = waiters.new; now = now })) }
     ensures copy { IfOk result (λ acted. acted.copy ≡ acted.answer) }
     ensures raising { IfOk result (λ acted. acted.raising ≡ Nowhere) }
     ensures real { IfOk result (λ acted. is_no_memory acted.answer ≡ false) }
-    ensures linked { AreLinked tables.now interest.new }
+    ensures files { tables.new.files ≡ tables.old.files }
+    ensures keys { tables.new.keys ≡ tables.old.keys }
+    ensures limits { tables.new.limits ≡ tables.old.limits }
+    ensures linked { AreLinked tables.old interest.new }
+    ensures placed { ArePlaced tables.old waiters.new }
+    ensures held { AreHeld tables.new waiters.new }
     ensures nested { (graph : List Link) → KeepsLinks interest.old graph interest.new graph }
     ensures added { interest.new.added ≡ interest.old.added }
-    ensures err { OnErr result (interest.new ≡ interest.old) }
+    ensures err { OnErr result ((tables.new ≡ tables.old) × (interest.new ≡ interest.old) × (waiters.new ≡ waiters.old)) }
 {
     tables.known();
     let instance = match find_instance(tables, pid, args) {
         Ok(instance) => instance,
         Err(errno) => return Ok(Acted::refused(alloc, errno)),
     };
-    let acted = report(alloc, tables, now, interest, step, instance, args)?;
-    Ok(acted)
+    let chosen = choose(alloc, tables, now, interest, instance, args.max)?;
+    if !chosen.is_empty() || args.timeout == 0 {
+        let acted = report(alloc, interest, step, &chosen)?;
+        return Ok(acted);
+    }
+    let waiter = Waiter {
+        process: pid,
+        instance,
+        max: args.max,
+        deadline: deadline(now, args.timeout),
+        marked: false,
+    };
+    park(tables, waiters, caller, waiter)?;
+    Ok(Acted::settled(alloc, Answer::Parked))
 }

@@ -2,6 +2,7 @@
 
 mod edges;
 mod nests;
+mod parking;
 mod plain;
 mod registrations;
 mod runs;

@@ -107,6 +107,7 @@ sound_inside k inv s = record {
   keyed = s.keyed;
   apart = s.apart;
   held = s.held;
+  holds_length = s.holds_length;
   distinct = s.queue.distinct;
   dying = λ d.
       let names = named_in_tables (value_of k).files.tables in

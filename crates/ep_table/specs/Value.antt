@@ -156,6 +156,7 @@ pub record Sound (v : Seen) : Type 0 where
   pub keyed : (d : ℕ) → is_live v.files d ≡ true → (key : DescId) × (number_under v key ≡ Some d)
   pub apart : (d e : ℕ) (p : Place) → place_of v.files d ≡ Some p → place_of v.files e ≡ Some p → d ≡ e  -- an end of an object has one description
   pub held : (d : ℕ) → is_live v.files d ≡ false → holds_of v d ≡ 0
+  pub holds_length : length v.holds ≡ length v.files.descriptions
   pub distinct : are_distinct v.dying ≡ true
   pub dying : (d : ℕ) → is_among v.dying d ≡ is_dying v d
 

@@ -6,7 +6,7 @@ use Rattle.serde_json.specs.Find.{as_str}
 use Rattle.serde_json.specs.Read.{read as json}
 use Rattle.ep_base.specs.declared.call.Call.{Call}
 use Rattle.ep_base.specs.declared.call.Event.{Event}
-use Rattle.ep_base.specs.declared.call.Event.TheVariants.{Call as CallOf, Tick}
+use Rattle.ep_base.specs.declared.call.Event.TheVariants.{Call as CallOf, Resume, Tick}
 use Rattle.ep_base.specs.declared.ids.CallerId.{CallerId}
 use Rattle.ep_text.specs.Calls.{close_call, ctl_call, dup2_call, dup_call, epoll_call, eventfd_call, exec_call, exit_call, fork_call, gettime_call, pipe_call, plain_call, read_call, settime_call, shutdown_call, socketpair_call, timerfd_call, wait_call, write_call}
 use Rattle.ep_text.specs.Keys.{has_only_keys, optional, required}
@@ -104,8 +104,15 @@ tick_event d = do
 abbrev pub tick_operation : Operation
 tick_operation = record { name = codes "tick"; keys = codes "n" ∷ []; asks = tick_event }
 
+abbrev pub resume_event : Data → Option Event
+resume_event d = Some Resume
+
+-- it is of the process in which its caller is parked, so no line names one
+abbrev pub resume_operation : Operation
+resume_operation = record { name = codes "resume"; keys = []; asks = resume_event }
+
 abbrev pub operations : List Operation
-operations = tick_operation ∷ call_operations
+operations = tick_operation ∷ resume_operation ∷ call_operations
 
 abbrev pub named : List Operation → List ℕ → Option Operation
 named [] name = None

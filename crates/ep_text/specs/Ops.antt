@@ -7,7 +7,7 @@ use Rattle.ep_text.specs.declared.op.CallOp.TheVariants as op
 use Rattle.ep_text.specs.declared.op.Op.{Op}
 use Rattle.ep_text.specs.declared.op.Op.TheVariants as any
 use Rattle.ep_text.specs.Calls.{close_call, ctl_call, dup2_call, dup_call, epoll_call, eventfd_call, exec_call, exit_call, fork_call, gettime_call, pipe_call, plain_call, read_call, settime_call, shutdown_call, socketpair_call, timerfd_call, wait_call, write_call}
-use Rattle.ep_text.specs.Event.{Operation, call_operation, tick_operation}
+use Rattle.ep_text.specs.Event.{Operation, call_operation, resume_operation, tick_operation}
 
 abbrev pub name_of : CallOp → List ℕ
 name_of op.Pipe = codes "pipe"
@@ -77,4 +77,5 @@ call_operation_of op = call_operation (name_of op) (keys_of op) (call_of op)
 
 abbrev pub operation_of : Op → Operation
 operation_of (any.Call op) = call_operation_of op
+operation_of any.Resume = resume_operation
 operation_of any.Tick = tick_operation

@@ -35,6 +35,7 @@ pub(crate) enum CallOp {
 #[derive(Clone, Copy, Debug, PartialEq, Eq)]
 pub(crate) enum Op {
     Call(CallOp),
+    Resume,
     Tick,
 }
 
@@ -103,6 +104,7 @@ impl Op {
     {
         match name {
             "tick" => Some(Op::Tick),
+            "resume" => Some(Op::Resume),
             _ => Some(Op::Call(CallOp::named(name)?)),
         }
     }
@@ -113,6 +115,7 @@ impl Op {
     {
         match self {
             Op::Call(op) => op.has_only_its_keys(value),
+            Op::Resume => has_only_keys(&["op", "by"], value),
             Op::Tick => has_only_keys(&["op", "by", "n"], value),
         }
     }

@@ -38,6 +38,7 @@ fn event_of(alloc: Global, op: Op, value: &Value) -> Result<Option<Event>, Alloc
 {
     match op {
         Op::Call(op) => call_event(alloc, op, value),
+        Op::Resume => Ok(Some(Event::Resume)),
         Op::Tick => Ok(tick_event(value)),
     }
 }
@@ -71,7 +72,7 @@ fn command(alloc: Global, value: &Value) -> Result<Option<(CallerId, Event)>, Al
 }
 
 /// What a line of a script asks for and who asks, or `None` exactly where the line is no command:
-/// one object, whose `op` is a call that is there, with the keys of that call and no other,
+/// one object, whose `op` is a call, `resume` or `tick`, with the keys of that operation and no other,
 /// each with a value of its kind and range. The line comes without the byte that ends it.
 /// `AllocError` comes only where a growth was refused.
 pub fn read_line(alloc: Global, line: &[u8]) -> Result<Option<(CallerId, Event)>, AllocError>

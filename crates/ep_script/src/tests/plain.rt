@@ -1,10 +1,12 @@
 //! Whole scripts over the scanning kernel.
 
+use crate::tests::parking::{IN_TURN, STANDING};
 use crate::tests::scripts::{
-    CHANGED_NESTS, DESCRIPTORS, EDGES, LEVEL, NESTS, OBJECTS, REGISTRATIONS, SINGLE_LINES, Script,
+    CHANGED_NESTS, DESCRIPTORS, EDGES, HOLDS, LEVEL, NESTS, OBJECTS, PARKED, REGISTRATIONS,
+    SINGLE_LINES, Script, TURNS,
 };
 use crate::{ScriptFault, Summary, Watched, run_script};
-use ep_base::Limits;
+use ep_base::{CallerId, Limits};
 use ep_plain::{Kernel, PlainKernel};
 use std::alloc::Global;
 use std::process::Abort;
@@ -124,6 +126,60 @@ fn answers_scripts_about_nests(rt: HostRuntime) -> Result<(), Fail> {
 fn answers_scripts_about_changed_nests(rt: HostRuntime) -> Result<(), Fail> {
     for script in CHANGED_NESTS {
         expect_lines(&rt, script)?;
+    }
+    Ok(())
+}
+
+#[test]
+fn answers_scripts_about_parked_waits(rt: HostRuntime) -> Result<(), Fail> {
+    for script in PARKED {
+        expect_lines(&rt, script)?;
+    }
+    Ok(())
+}
+
+#[test]
+fn answers_scripts_about_turns(rt: HostRuntime) -> Result<(), Fail> {
+    for script in TURNS {
+        expect_lines(&rt, script)?;
+    }
+    Ok(())
+}
+
+#[test]
+fn answers_scripts_about_what_is_held(rt: HostRuntime) -> Result<(), Fail> {
+    for script in HOLDS {
+        expect_lines(&rt, script)?;
+    }
+    Ok(())
+}
+
+/// Whether the script ran to its end on this kernel.
+fn runs(alloc: Global, kernel: &mut PlainKernel, script: &str) -> bool {
+    let mut reader = Watched::new(script.as_bytes());
+    let mut writer = Watched::new(Vec::new(alloc));
+    run_script(alloc, kernel, &mut reader, &mut writer).is_ok()
+}
+
+/// Whether of the callers 0 to 2 exactly these are parked, and exactly these marked.
+fn stand(kernel: &PlainKernel, parked: &[u32], marked: &[u32]) -> bool {
+    for number in 0..3 {
+        let caller = CallerId(number);
+        let is_as_parked = kernel.is_parked(caller) == parked.contains(&number);
+        let is_as_marked = kernel.is_marked(caller) == marked.contains(&number);
+        if !is_as_parked || !is_as_marked {
+            return false;
+        }
+    }
+    true
+}
+
+#[test]
+fn tells_who_is_parked_and_marked(rt: HostRuntime) -> Result<(), Fail> {
+    let mut kernel = PlainKernel::new(rt.alloc(), Limits::default())?;
+    for ((line, _), (parked, marked)) in IN_TURN.iter().zip(STANDING) {
+        assert!(rt; runs(rt.alloc(), &mut kernel, line), "at {line}");
+        assert!(rt; stand(&kernel, parked, marked), "after {line}");
     }
     Ok(())
 }

@@ -4,6 +4,9 @@ use crate::tests::edges::{EDGE, MODIFIED, PERIODIC};
 use crate::tests::nests::{
     DEATH_BELOW, DELETED, DEPTH, DISARMED, EMPTIED, EXPIRED_BELOW, LEVELS, LOOP_FIRST, TWO_WAYS,
 };
+use crate::tests::parking::{
+    ABOVE, BUSY, CLOSED, COUNTED, DUE, EXPIRED, IN_TURN, OTHERS, REPORTABLE, TAKEN, TIMEOUTS,
+};
 use crate::tests::registrations::{KEY, KINDS, ONE_SHOT, ROUND};
 
 /// A script over a new kernel of these limits.
@@ -426,6 +429,62 @@ pub(crate) const CHANGED_NESTS: &[Script] = &[
     },
 ];
 
+/// What waits with a timeout answer, and resumptions.
+pub(crate) const PARKED: &[Script] = &[
+    Script {
+        limits: DEFAULT,
+        lines: IN_TURN,
+    },
+    Script {
+        limits: DEFAULT,
+        lines: BUSY,
+    },
+    Script {
+        limits: [16, 16, 2, 1, 4_096, 4_096],
+        lines: CLOSED,
+    },
+    Script {
+        limits: DEFAULT,
+        lines: EXPIRED,
+    },
+];
+
+/// Who parks, who goes on, and when.
+pub(crate) const TURNS: &[Script] = &[
+    Script {
+        limits: DEFAULT,
+        lines: REPORTABLE,
+    },
+    Script {
+        limits: DEFAULT,
+        lines: TIMEOUTS,
+    },
+    Script {
+        limits: DEFAULT,
+        lines: TAKEN,
+    },
+    Script {
+        limits: DEFAULT,
+        lines: DUE,
+    },
+];
+
+/// What parked callers hold and keep from other processes, and who is marked in nested instances.
+pub(crate) const HOLDS: &[Script] = &[
+    Script {
+        limits: DEFAULT,
+        lines: OTHERS,
+    },
+    Script {
+        limits: [16, 3, 2, 8, 4_096, 4_096],
+        lines: COUNTED,
+    },
+    Script {
+        limits: DEFAULT,
+        lines: ABOVE,
+    },
+];
+
 /// Each is the only line of its script.
 pub(crate) const SINGLE_LINES: &[(&str, &str)] = &[
     (r#"{"op":"pi"#, r#"{"bad":1}"#),
@@ -456,7 +515,8 @@ pub(crate) const SINGLE_LINES: &[(&str, &str)] = &[
     ),
     (r#"{"op":"tick","n":1.0}"#, r#"{"bad":1}"#),
     (r#"{"op":"tick","n":1,"pid":1}"#, r#"{"bad":1}"#),
-    (r#"{"op":"resume","by":4}"#, r#"{"bad":1}"#),
+    (r#"{"op":"resume","by":4}"#, r#"{"err":[22,"EINVAL"]}"#),
+    (r#"{"op":"resume","pid":1}"#, r#"{"bad":1}"#),
     (r#"{"op":"dup","fd":0}"#, r#"{"num":3}"#),
     (r#"{"op":"dup","fd":-1}"#, r#"{"err":[9,"EBADF"]}"#),
     (r#"{"op":"dup","fd":2147483648}"#, r#"{"bad":1}"#),

@@ -39,6 +39,14 @@ impl Kernel for NoMemory {
     fn now(&self) -> u64 {
         0
     }
+
+    fn is_parked(&self, _caller: CallerId) -> bool {
+        false
+    }
+
+    fn is_marked(&self, _caller: CallerId) -> bool {
+        false
+    }
 }
 
 /// Gives a text in pieces, and then fails or ends.

@@ -156,6 +156,35 @@ fn reads_each_further_operation(rt: HostRuntime) -> Result<(), Fail> {
     Ok(())
 }
 
+// A wait with each kind of timeout, by another caller.
+#[test]
+fn reads_each_timeout(rt: HostRuntime) -> Result<(), Fail> {
+    for (text, timeout) in [
+        ("5", 5),
+        ("-1", -1),
+        ("9223372036854775807", 9_223_372_036_854_775_807),
+        ("-9223372036854775808", -9_223_372_036_854_775_808),
+    ] {
+        let line = format!(in rt.alloc();
+            "{{\"op\":\"wait\",\"by\":2,\"ep\":5,\"max\":1,\"timeout\":{text}}}"
+        )?;
+        let call = Call::EpollWait {
+            epfd: Fd(5),
+            max: 1,
+            timeout,
+        };
+        expect_command(&rt, line.as_str(), 2, 1, call)?;
+    }
+    Ok(())
+}
+
+#[test]
+fn reads_a_resumption(rt: HostRuntime) -> Result<(), Fail> {
+    expect_event(&rt, "{\"op\":\"resume\"}", 0, Event::Resume)?;
+    let line = "{\"by\":4294967295,\"op\":\"resume\"}";
+    expect_event(&rt, line, 4_294_967_295, Event::Resume)
+}
+
 #[test]
 fn reads_a_tick(rt: HostRuntime) -> Result<(), Fail> {
     let line = "{\"op\":\"tick\",\"n\":18446744073709551615,\"by\":7}";
@@ -205,7 +234,7 @@ fn reads_masks_and_acts(rt: HostRuntime) -> Result<(), Fail> {
 
 #[test]
 fn refuses_what_is_no_command(rt: HostRuntime) -> Result<(), Fail> {
-    let lines: [&[u8]; 35] = [
+    let lines: [&[u8]; 37] = [
         b"",
         b" ",
         b"{\"op\":\"pi",
@@ -237,6 +266,8 @@ fn refuses_what_is_no_command(rt: HostRuntime) -> Result<(), Fail> {
         b"{\"op\":\"read\",\"fd\":0}",
         b"{\"op\":\"wait\",\"ep\":0,\"max\":1.0,\"timeout\":0}",
         b"{\"op\":\"wait\",\"ep\":0,\"max\":1,\"timeout\":9223372036854775808}",
+        b"{\"op\":\"wait\",\"ep\":0,\"max\":1,\"timeout\":-9223372036854775809}",
+        b"{\"op\":\"wait\",\"ep\":0,\"max\":1}",
         b"{\"op\":\"ctl\",\"ep\":5,\"fd\":3,\"act\":\"ADD\"}",
         b"{\"op\":\"ctl\",\"ep\":5,\"fd\":3,\"act\":1,\"mask\":\"in\"}",
         b"{\"op\":\"ctl\",\"ep\":5,\"fd\":3,\"act\":1,\"mask\":4294967296}",
@@ -270,7 +301,10 @@ fn refuses_what_is_no_further_operation(rt: HostRuntime) -> Result<(), Fail> {
         "{\"op\":\"settime\",\"fd\":4,\"value\":-1}",
         "{\"op\":\"settime\",\"fd\":4,\"value\":1,\"interval\":18446744073709551616}",
         "{\"op\":\"settime\",\"fd\":4,\"value\":1,\"abs\":0}",
-        "{\"op\":\"resume\",\"by\":4}",
+        "{\"op\":\"resume\",\"pid\":1}",
+        "{\"op\":\"resume\",\"n\":1}",
+        "{\"op\":\"resume\",\"by\":4294967296}",
+        "{\"op\":\"resume\",\"by\":true}",
         "{\"op\":\"dup\",\"fd\":2147483648}",
         "{\"op\":\"dup\",\"fd\":0,\"x\":1}",
         "{\"op\":\"dup2\",\"fd\":0}",

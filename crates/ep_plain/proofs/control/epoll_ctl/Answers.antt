@@ -11,7 +11,7 @@ use Rattle.ep_plain.proofs.Going.{goes_refused, goes_told, raises_refused, raise
 use Rattle.ep_plain.proofs.control.epoll_ctl.Goals as goal
 
 pub returns-in-Err-clause-ok : goal.returns-in-Err-clause-ok
-returns-in-Err-clause-ok c = λ n caller s at sound quiet legal stands.
+returns-in-Err-clause-ok c = λ n caller ws s at sound quiet legal stands.
     let a = c.args.args in
     let p = c.args.pid.0 in
     let limits = c.args.limits.now in
@@ -21,7 +21,7 @@ returns-in-Err-clause-ok c = λ n caller s at sound quiet legal stands.
     (refused_name limits s p a.epfd.0 a.op a.fd.0 a.mask.0 c.in-Err.errno (ap (λ (f : Files). first (naming_refusals f p a.epfd.0 a.fd.0)) stands.files ∙ c.in-Err.ensures)) stands)
 
 pub returns-in-Err-clause-raised : goal.returns-in-Err-clause-raised
-returns-in-Err-clause-raised c = λ n caller s at sound quiet legal stands.
+returns-in-Err-clause-raised c = λ n caller ws s at sound quiet legal stands.
     let a = c.args.args in
     let p = c.args.pid.0 in
     let limits = c.args.limits.now in
@@ -29,7 +29,7 @@ returns-in-Err-clause-raised c = λ n caller s at sound quiet legal stands.
     (refused_name limits s p a.epfd.0 a.op a.fd.0 a.mask.0 c.in-Err.errno (ap (λ (f : Files). first (naming_refusals f p a.epfd.0 a.fd.0)) stands.files ∙ c.in-Err.ensures)) c.refused.ensures.raising
 
 pub returns-in_default-clause-ok : goal.returns-in_default-clause-ok
-returns-in_default-clause-ok c = λ n caller s at sound quiet legal stands.
+returns-in_default-clause-ok c = λ n caller ws s at sound quiet legal stands.
     let a = c.args.args in
     let p = c.args.pid.0 in
     let limits = c.args.limits.now in
@@ -37,7 +37,7 @@ returns-in_default-clause-ok c = λ n caller s at sound quiet legal stands.
     (goes_einval limits c.args.tables.now c.args.interest.now s p a c.in-Ok.named c.in-Ok.ensures c.known.ensures c.args.now stands c.requires.linked (is_deep limits s p a.epfd.0 a.op a.fd.0 a.mask.0) refl n caller c.in_default.ensures.none).0
 
 pub returns-in_default-clause-raised : goal.returns-in_default-clause-raised
-returns-in_default-clause-raised c = λ n caller s at sound quiet legal stands.
+returns-in_default-clause-raised c = λ n caller ws s at sound quiet legal stands.
     let a = c.args.args in
     let p = c.args.pid.0 in
     let limits = c.args.limits.now in
@@ -50,7 +50,7 @@ controlled-requires-clause-linked c =
     linked_altered c.args.tables.now r c.args.pid.0 c.args.args c.in-Ok.named c.in-Ok.ensures c.requires.linked (unwrap_or (number_under r c.in-Some-find.id) 0) c.in-Some.operation c.alter-answer.new.interest c.alter-answer.result c.alter-answer.ensures.alters
 
 pub returns-in-Some-find-clause-ok : goal.returns-in-Some-find-clause-ok
-returns-in-Some-find-clause-ok c = λ n caller s at sound quiet legal stands.
+returns-in-Some-find-clause-ok c = λ n caller ws s at sound quiet legal stands.
     let a = c.args.args in
     let p = c.args.pid.0 in
     let limits = c.args.limits.now in
@@ -62,7 +62,7 @@ returns-in-Some-find-clause-ok c = λ n caller s at sound quiet legal stands.
     (has_number r c.in-Ok.named.instance a.fd c.in-Ok.named.desc k c.known-2.ensures found c.in-Some-find.ensures.entry) c.in-Some.ensures.some.1 n caller c.in-Some.operation c.alter-answer.new.interest c.alter-answer.result c.in-Some.ensures.some.0 c.alter-answer.ensures.alters).0
 
 pub returns-in-Some-find-clause-raised : goal.returns-in-Some-find-clause-raised
-returns-in-Some-find-clause-raised c = λ n caller s at sound quiet legal stands.
+returns-in-Some-find-clause-raised c = λ n caller ws s at sound quiet legal stands.
     let a = c.args.args in
     let p = c.args.pid.0 in
     let limits = c.args.limits.now in
@@ -83,7 +83,7 @@ controlled-requires-2-clause-linked c =
     linked_entered c.args.tables.now c.args.interest.now c.args.pid.0 c.args.args c.in-Ok.named c.in-Ok.ensures c.requires.linked (is_deep_at c.args.tables.now c.args.graph.now c.in-Ok.named) c.args.limits.now.watches c.in-Some.operation c.enter.new.interest c.in_ok-answer.answer c.in_ok-answer.ensures.ok
 
 pub returns-clause-ok : goal.returns-clause-ok
-returns-clause-ok c = λ n caller s at sound quiet legal stands.
+returns-clause-ok c = λ n caller ws s at sound quiet legal stands.
     let a = c.args.args in
     let p = c.args.pid.0 in
     let limits = c.args.limits.now in
@@ -96,7 +96,7 @@ returns-clause-ok c = λ n caller s at sound quiet legal stands.
     (sym c.in_default-find.ensures.there) c.in-Some.ensures.some.1 n caller c.in-Some.operation c.enter.new.interest c.in_ok-answer.answer c.in-Some.ensures.some.0 c.in_ok-answer.ensures.ok).0
 
 pub returns-clause-raised : goal.returns-clause-raised
-returns-clause-raised c = λ n caller s at sound quiet legal stands.
+returns-clause-raised c = λ n caller ws s at sound quiet legal stands.
     let a = c.args.args in
     let p = c.args.pid.0 in
     let limits = c.args.limits.now in
