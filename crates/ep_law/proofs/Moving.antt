@@ -35,7 +35,8 @@ use Rattle.ep_machine.proofs.Chains.{member_of_map}
 use Rattle.ep_machine.proofs.Distinct.{filtered_member}
 use Rattle.ep_machine.proofs.Dying.{get_other, same_or_not}
 use Rattle.ep_machine.proofs.Instances.{Narrows, narrows_affected, narrows_one, narrows_self, narrows_two}
-use Rattle.ep_machine.proofs.Members.{first_of_and, member_filter, member_map, test_same}
+use Rattle.ep_machine.proofs.Members.{first_of_and, member_filter, member_map}
+use Rattle.ep_machine.proofs.Tests.{from_test}
 use Rattle.ep_object.specs.Law.{AdvanceLaw, ApplyLaw, object_has}
 use Rattle.ep_law.proofs.Bitwise.{Covers, to_bits}
 use Rattle.ep_law.proofs.Owning.{Own, effect_has, object_there, own_one, own_two, own_with_object, plain_is, plain_stays}
@@ -113,7 +114,7 @@ moves_modify b e fd d mask tag own =
           let z : Watch = record w.0 { mask = mask; tag = tag; armed = true; seen = None } in
           let is : y ≡ z = sym w.2 ∙ ap (λ (c : Bool). cond c z w.0) holds in
           let key : has_key e fd d y ≡ true = ap (has_key e fd d) is ∙ holds in
-          let at : y.instance ≡ e = test_same y.instance e (first_of_and (y.instance == e) _ (first_of_and _ _ key)) in
+          let at : y.instance ≡ e = from_test y.instance e (first_of_and (y.instance == e) _ (first_of_and _ _ key)) in
           inr (looked_raises after e chosen y (member_filter (has_key e fd d) y xs m key) at)
       | inr fails ↦
           let z : Watch = record w.0 { mask = mask; tag = tag; armed = true; seen = None } in

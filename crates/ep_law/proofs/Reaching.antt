@@ -18,7 +18,8 @@ use Rattle.ep_machine.specs.Watches.{is_legal, links}
 use Rattle.ep_machine.proofs.Chains.{has_instance}
 use Rattle.ep_machine.proofs.Least.{reached_equation}
 use Rattle.ep_machine.proofs.Levels.{ready_equation}
-use Rattle.ep_machine.proofs.Members.{any_member, first_of_and, second_of_and, test_same}
+use Rattle.ep_machine.proofs.Members.{any_member, first_of_and, second_of_and}
+use Rattle.ep_machine.proofs.Tests.{from_test}
 use Rattle.ep_law.proofs.Bitwise.{Covers}
 use Rattle.ep_law.proofs.Asking.{asked_begins, fresh_begins, no_some, not_fresh}
 
@@ -174,7 +175,7 @@ module _ (u left t : State) (raised : List (ℕ × ℕ)) (given : Leads u left t
       let x = noted.0 in
       let f = noted.2.0 in
       let both : (x.instance == e && is_reportable_by r t x) ≡ true = subst (λ (y : Watch). (y.instance == e && is_reportable_by r t y) ≡ true) noted.2.1 some.2 in
-      let at : x.instance ≡ e = test_same x.instance e (first_of_and _ _ both) in
+      let at : x.instance ≡ e = from_test x.instance e (first_of_and _ _ both) in
       let shows = second_of_and (x.instance == e) _ both in
       let there : object_of t.files x.instance ≡ Some instance = ap (object_of t.files) at ∙ here in
       subst (HasIn left raised) at (elim (given.origin x noted.1) [

@@ -7,12 +7,13 @@ use Rattle.ep_machine.specs.Laws.{Member}
 use Rattle.ep_machine.specs.Lists.{are_distinct, is_among}
 use Rattle.ep_machine.specs.Report.{find_watch}
 use Rattle.ep_machine.specs.State.{Watch}
-use Rattle.ep_machine.proofs.Members.{among, first_of_and, second_of_and, test_same}
+use Rattle.ep_machine.proofs.Members.{among, first_of_and, second_of_and}
+use Rattle.ep_machine.proofs.Tests.{from_test}
 
 pub among_member : (ks : List ℕ) (k : ℕ) → is_among ks k ≡ true → Member k ks
 among_member [] k h = cc
 among_member (x ∷ ks) k h = elim (cases_Bool (k == x)) [
-  | inl t ↦ inl (test_same k x t)
+  | inl t ↦ inl (from_test k x t)
   | inr f ↦ inr (among_member ks k (sym (ap (λ (b : Bool). b || is_among ks k) f) ∙ h))
 ]
 
@@ -58,7 +59,7 @@ find_member (y ∷ ys) k x h = elim (cases_Bool (y.number == k)) [
   | inl t ↦
       let same : Some y ≡ Some x = sym (ap (λ (b : Bool). cond b (Some y) (find_watch ys k)) t) ∙ h in
       let e : x ≡ y = cc in
-      (inl e, ap (λ (w : Watch). w.number) e ∙ test_same y.number k t)
+      (inl e, ap (λ (w : Watch). w.number) e ∙ from_test y.number k t)
   | inr f ↦ let r = find_member ys k x (sym (ap (λ (b : Bool). cond b (Some y) (find_watch ys k)) f) ∙ h) in (inr r.0, r.1)
 ]
 

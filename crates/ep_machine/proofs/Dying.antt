@@ -10,6 +10,7 @@ use Rattle.ep_machine.specs.Deaths.{die, die_all}
 use Rattle.ep_machine.specs.Files.{Files, Place, place_of}
 use Rattle.ep_machine.specs.Lists.{are_distinct, is_among, numbered}
 use Rattle.ep_machine.specs.Objects.{Object, close_end, counter, instance, pair, pipe, plain, timer}
+use Rattle.ep_machine.proofs.Tests.{both_true, same_nat}
 
 -- Two ends close in any order.
 closed_twice : (x : Object) (a b : End) → (close_end (close_end x a).0 b).0 ≡ (close_end (close_end x b).0 a).0
@@ -69,9 +70,6 @@ has_other k from zero (Some q ∷ ds) p is h =
     ap (λ (b : Bool). b || has_one k (from + 1) ds) (sym e)
 has_other k from (suc at) (None ∷ ds) p is h = has_other k (from + 1) at ds p is h
 has_other k from (suc at) (Some q ∷ ds) p is h = ap (λ (b : Bool). (q.object == k) || b) (has_other k (from + 1) at ds p is h)
-
-pub same_nat : (n : ℕ) → (n == n) ≡ true
-same_nat n = grind (arith, nat_tests)
 
 -- a description that is there keeps its object
 pub has_here : (k from at : ℕ) (ds : List (Option Place)) (p : Place) → get_or ds at None ≡ Some p → p.object ≡ k → has_one k from ds ≡ true
@@ -240,10 +238,6 @@ front_moved : (s : Files) (x y : ℕ × Place) (rest : List (ℕ × Place)) → 
 front_moved s x y rest apart x_is y_is =
     let both : (a b : ℕ × Place) → after_all s (a ∷ b ∷ rest) ≡ after_all (after_all s (a ∷ b ∷ [])) rest = λ a b. raised_before (die_all (s, []) (a ∷ b ∷ [])).0 (die_all (s, []) (a ∷ b ∷ [])).1 rest in
     both x y ∙ (ap (λ (f : Files). after_all f rest) (two_deaths s x y apart x_is y_is) ∙ sym (both y x))
-
-both_true : (a b : Bool) → (a && b) ≡ true → (a ≡ true) × (b ≡ true)
-both_true true b h = (refl, h)
-both_true false b h = absurd (false≢true h)
 
 not_true : (a : Bool) → not a ≡ true → a ≡ false
 not_true true h = absurd (false≢true h)

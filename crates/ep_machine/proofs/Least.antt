@@ -9,8 +9,9 @@ use Rattle.ep_machine.specs.Files.{object_of}
 use Rattle.ep_machine.specs.Watches.{links, is_legal}
 use Rattle.ep_machine.specs.Spread.{raised_of, reaching_of, spread_by, passes_on_by, is_reached_within, is_reached, spread, passes_on}
 use Rattle.ep_machine.specs.Laws.{Member, SpreadLeast}
-use Rattle.ep_machine.proofs.Members.{any_same, any_member, member_map, member_filter, test_same, first_of_and, second_of_and}
+use Rattle.ep_machine.proofs.Members.{any_same, any_member, member_map, member_filter, first_of_and, second_of_and}
 use Rattle.ep_machine.proofs.Levels.{Goes, no_long_chain, and_same}
+use Rattle.ep_machine.proofs.Tests.{from_test}
 
 reaching_same : (r q : ℕ → Bool) (d : ℕ) (o : Option Object) → (is_instance (unwrap_or o plain) ≡ true → r d ≡ q d) → reaching_of r d o ≡ reaching_of q d o
 reaching_same r q d None h = refl
@@ -30,7 +31,7 @@ enough : (k : ℕ) (s : State) (raised : List (ℕ × ℕ)) (e : ℕ) → (Goes 
 enough zero s raised e h = absurd (h tt)
 enough (suc k) s raised e h = any_same _ _ s.watches (λ x m.
     and_same (x.instance == e) _ _ (λ at. passes_same (is_reached_within k s raised) (is_reached_within (suc k) s raised) s raised x (λ inst.
-    enough k s raised x.target (λ goes. h ((x.instance, x.target), member_map (λ y. (y.instance, y.target)) x _ (member_filter (λ y. is_instance (unwrap_or (object_of s.files y.target) plain)) x s.watches m inst), test_same x.instance e at, goes)))))
+    enough k s raised x.target (λ goes. h ((x.instance, x.target), member_map (λ y. (y.instance, y.target)) x _ (member_filter (λ y. is_instance (unwrap_or (object_of s.files y.target) plain)) x s.watches m inst), from_test x.instance e at, goes)))))
 
 -- IN reaches an instance exactly where one of its registrations passes on what is in the spread
 pub reached_equation : (s : State) (raised : List (ℕ × ℕ)) (e : ℕ) → is_legal (links s) ≡ true → is_reached s raised e ≡ list_any (λ x. x.instance == e && passes_on s raised x) s.watches
@@ -49,7 +50,7 @@ has_raised P xs all [] d c h = c.none d
 has_raised P xs all (r ∷ rest) d c h =
     let Q : Bool → Type 0 = λ b. (r.0 == d) ≡ b → P d (when b r.1) in
     let one : (b : Bool) → Q b = λ b. elim b as Q [
-      | true ↦ λ t. subst (λ (k : ℕ). P k r.1) (test_same r.0 d t) (h r (inl refl))
+      | true ↦ λ t. subst (λ (k : ℕ). P k r.1) (from_test r.0 d t) (h r (inl refl))
       | false ↦ λ t. c.none d
     ] in
     c.both d (when (r.0 == d) r.1) (raised_of rest d) (one (r.0 == d) refl) (has_raised P xs all rest d c (λ q m. h q (inr m)))
@@ -79,7 +80,7 @@ has_reached P (suc k) s raised e c t =
     let passes = second_of_and (x.instance == e) _ some.2 in
     let bits = spread_by (is_reached_within k s raised) s raised x.target in
     let below = has_spread P (is_reached_within k s raised) s raised x.target c (λ u. has_reached P k s raised x.target c u) in
-    subst (λ (d : ℕ). P d IN) (test_same x.instance e at) (c.above x bits some.1 (first_of_and x.armed _ passes) (second_of_and x.armed _ passes) below)
+    subst (λ (d : ℕ). P d IN) (from_test x.instance e at) (c.above x bits some.1 (first_of_and x.armed _ passes) (second_of_and x.armed _ passes) below)
 
 pub spread_least : (P : ℕ → ℕ → Type 0) (s : State) (raised : List (ℕ × ℕ)) (d : ℕ) → Closed P s.watches raised → P d (spread s raised d)
 unfolding is_reached

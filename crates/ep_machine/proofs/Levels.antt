@@ -10,7 +10,8 @@ use Rattle.ep_machine.specs.Files.{object_of, side_of}
 use Rattle.ep_machine.specs.Readiness.{present_of, is_reportable_by, is_fresh, is_ready_within, is_ready, is_reportable}
 use Rattle.ep_machine.specs.Watches.{links, ends_of_chains, is_legal}
 use Rattle.ep_machine.specs.Laws.{Member}
-use Rattle.ep_machine.proofs.Members.{any_same, member_map, member_filter, test_same, among, not_empty}
+use Rattle.ep_machine.proofs.Members.{any_same, member_map, member_filter, among, not_empty}
+use Rattle.ep_machine.proofs.Tests.{from_test}
 
 -- a chain of that many links goes down from an instance
 abbrev pub Goes : ℕ → List (ℕ × ℕ) → ℕ → Type 0
@@ -62,7 +63,7 @@ pub enough : (k : ℕ) (s : State) (e : ℕ) → (Goes k (links s) e → ⊥) �
 enough zero s e h = absurd (h tt)
 enough (suc k) s e h = any_same _ _ s.watches (λ x m.
     and_same (x.instance == e) _ _ (λ at. reportable_same (is_ready_within k s) (is_ready_within (suc k) s) s x (λ inst.
-    enough k s x.target (λ goes. h ((x.instance, x.target), member_map (λ y. (y.instance, y.target)) x _ (member_filter (λ y. is_instance (unwrap_or (object_of s.files y.target) plain)) x s.watches m inst), test_same x.instance e at, goes)))))
+    enough k s x.target (λ goes. h ((x.instance, x.target), member_map (λ y. (y.instance, y.target)) x _ (member_filter (λ y. is_instance (unwrap_or (object_of s.files y.target) plain)) x s.watches m inst), from_test x.instance e at, goes)))))
 
 -- an instance is ready exactly where one of its registrations is reportable
 pub ready_equation : (s : State) (e : ℕ) → is_legal (links s) ≡ true → is_ready s e ≡ list_any (λ x. x.instance == e && is_reportable s x) s.watches

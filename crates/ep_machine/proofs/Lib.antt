@@ -28,3 +28,4 @@ pub mod Marking
 pub mod Chains
 pub mod Instances
 pub mod Legality
+pub mod Tests

@@ -8,7 +8,8 @@ use Rattle.ep_machine.specs.Files.{Files, Place, is_live, place_of}
 use Rattle.ep_machine.specs.Laws.{NamedLives}
 use Rattle.ep_machine.specs.Lists.{are_distinct, is_among, numbered}
 use Rattle.ep_machine.specs.State.{State}
-use Rattle.ep_machine.proofs.Dying.{ArePlaced, after_all, after_first, apart_from_rest, differs, get_place, numbers, raised_before, same_nat, same_or_not, still_placed}
+use Rattle.ep_machine.proofs.Dying.{ArePlaced, after_all, after_first, apart_from_rest, differs, get_place, numbers, raised_before, same_or_not, still_placed}
+use Rattle.ep_machine.proofs.Tests.{same_nat}
 
 pub get_none : (xs : List (Option Place)) (k : ℕ) → get_or (set xs k None) k None ≡ None
 get_none [] k = refl

@@ -8,8 +8,8 @@ use Rattle.ep_machine.specs.Marks.{first_marked, marked_by}
 use Rattle.ep_machine.specs.Readiness.{is_ready}
 use Rattle.ep_machine.specs.State.{State, Waiter}
 use Rattle.ep_machine.specs.Waits.{is_due, is_marked_at, marked_first, marked_if_due, waits_at}
-use Rattle.ep_machine.proofs.Members.{test_same}
 use Rattle.ep_machine.proofs.Showing.{readiness, ready_kept}
+use Rattle.ep_machine.proofs.Tests.{from_test, or_left, or_right}
 
 -- the machine's marks
 pub machine_marks : (s : State) (before ws : List Waiter) → marked_first s before ws ≡ first_marked (is_ready s) s.waiters before ws
@@ -21,14 +21,6 @@ pub kept_marks : (s : State) → marked_first s [] s.waiters ≡ first_marked (r
 kept_marks s = machine_marks s [] s.waiters ∙ ap (λ (r : ℕ → Bool). first_marked r s.waiters [] s.waiters) (λ i e. ready_kept s e i)
 
 -- Bools.
-or_right : (a b : Bool) → b ≡ true → (a || b) ≡ true
-or_right true b h = refl
-or_right false b h = h
-
-or_left : (a b : Bool) → a ≡ true → (a || b) ≡ true
-or_left true b h = refl
-or_left false b h = cc
-
 keeps_mark : (a b c d z : Bool) → ((a && b) || c) ≡ true → (c ≡ true → d ≡ true) → ((a && (b || z)) || d) ≡ true
 keeps_mark true true c d z h f = refl
 keeps_mark true false c d z h f = or_right z d (f h)
@@ -92,7 +84,7 @@ module _ (r : ℕ → Bool) where
   newly_marked all before [] e unmarked ready none waits = cc
   newly_marked all before (w ∷ ws) e unmarked ready none waits = elim (cases_Bool (w.instance == e)) [
     | inl t ↦
-        let at : w.instance ≡ e = test_same w.instance e t in
+        let at : w.instance ≡ e = from_test w.instance e t in
         let holds : (not (waits_at before w.instance) && not (is_marked_at all w.instance) && r w.instance) ≡ true =
         ap (λ (k : ℕ). not (waits_at before k) && not (is_marked_at all k) && r k) at ∙ all_three _ _ _ none unmarked ready in
         takes_mark (w.instance == e) w.marked _ _ t holds

@@ -1,9 +1,9 @@
 -- Members of lists.
-use Rattle.std.proofs.Common.{◌≡◌, ℕ, ◌==◌, ◌&&◌, ◌||◌, Bool, true, false, cond, List, [], ◌∷◌, map, filter, refl, ap, sym, subst, ◌∙◌, inl, inr, arith}
+use Rattle.std.proofs.Common.{◌≡◌, ℕ, ◌&&◌, ◌||◌, Bool, true, false, cond, List, [], ◌∷◌, map, filter, refl, ap, sym, subst, ◌∙◌, inl, inr}
 use Rattle.std.specs.List.{list_any}
-use Rattle.std.proofs.lemmas.Bool.Decides.{nat_tests}
 use Rattle.ep_machine.specs.Lists.{is_among, is_empty}
 use Rattle.ep_machine.specs.Laws.{Member}
+use Rattle.ep_machine.proofs.Tests.{or_left, or_right, same_test}
 
 pub any_same : {X : Type 0} (f g : X → Bool) (xs : List X) → ((x : X) → Member x xs → f x ≡ g x) → list_any f xs ≡ list_any g xs
 any_same f g [] h = refl
@@ -22,20 +22,6 @@ member_filter p x (y ∷ ys) (inl e) t =
 member_filter p x (y ∷ ys) (inr m) t =
     let rest = member_filter p x ys m t in
     elim (p y) as (λ b. Member x (cond b (y ∷ filter p ys) (filter p ys))) [ true ↦ inr rest | false ↦ rest ]
-
-same_test : (a b : ℕ) → a ≡ b → (a == b) ≡ true
-same_test a b e = grind (arith, nat_tests, e)
-
-pub test_same : (a b : ℕ) → (a == b) ≡ true → a ≡ b
-test_same a b e = grind (arith, nat_tests, e)
-
-or_right : (a b : Bool) → b ≡ true → (a || b) ≡ true
-or_right true b h = refl
-or_right false b h = h
-
-or_left : (a b : Bool) → a ≡ true → (a || b) ≡ true
-or_left true b h = refl
-or_left false b h = cc
 
 pub among : (k : ℕ) (ks : List ℕ) → Member k ks → is_among ks k ≡ true
 among k [] m = absurd m

@@ -12,6 +12,7 @@ use Rattle.ep_machine.specs.Quiet.{can_be_watched, is_backed, kind_of}
 use Rattle.ep_machine.specs.State.{Waiter}
 use Rattle.ep_machine.specs.Tables.{close, create_one, create_two, describe, dup, dup2, exec, exit, fork, kept_by_exec, new_object, same_number, slot, with_table}
 use Rattle.ep_machine.proofs.Dying.{same_or_not}
+use Rattle.ep_machine.proofs.Tests.{from_test, or_left, or_right, same_nat}
 
 -- the part of a changed state that is about its files
 pub record Filed (f : Files) : Type 0 where
@@ -39,17 +40,6 @@ or_comm false false = refl
 or_assoc : (a b c : Bool) → ((a || b) || c) ≡ (a || (b || c))
 or_assoc true b c = refl
 or_assoc false b c = refl
-
-or_right : (a b : Bool) → b ≡ true → (a || b) ≡ true
-or_right true b h = refl
-or_right false b h = h
-
-or_left : (a b : Bool) → a ≡ true → (a || b) ≡ true
-or_left true b h = refl
-or_left false b h = cc
-
-same_nat : (n : ℕ) → (n == n) ≡ true
-same_nat n = grind (arith, nat_tests)
 
 -- Names in tables.
 pub among_append : (xs ys : List ℕ) (d : ℕ) → is_among (xs ++ ys) d ≡ (is_among xs d || is_among ys d)
@@ -142,9 +132,6 @@ watched_lives f (Some p) h = refl
 or_case : (a b : Bool) → (a || b) ≡ true → (a ≡ true) ⊎ (b ≡ true)
 or_case true b h = inl refl
 or_case false b h = inr h
-
-from_test : (a b : ℕ) → (a == b) ≡ true → a ≡ b
-from_test a b h = grind (arith, nat_tests, h)
 
 -- what is named in one of two lists
 pub among_either : (xs ys : List ℕ) (d : ℕ) → is_among (xs ++ ys) d ≡ true → (is_among xs d ≡ true) ⊎ (is_among ys d ≡ true)

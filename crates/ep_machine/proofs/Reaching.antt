@@ -1,8 +1,7 @@
 -- The spread of what is raised, by what registrations note of it.
-use Rattle.std.proofs.Common.{◌≡◌, ℕ, zero, suc, ◌==◌, ◌&&◌, ◌||◌, ◌∙◌, Bool, true, false, List, [], ◌∷◌, None, Option, Some, ap, arith, bit_or, cond, filter, if◌then◌else◌, map, nat_lt, refl, sym, unwrap_or}
+use Rattle.std.proofs.Common.{◌≡◌, ℕ, zero, suc, ◌==◌, ◌&&◌, ◌||◌, ◌∙◌, Bool, true, false, List, [], ◌∷◌, None, Option, Some, ap, bit_or, cond, filter, if◌then◌else◌, map, nat_lt, refl, sym, unwrap_or}
 use Rattle.std.specs.List.{list_any}
 use Rattle.std.specs.Int.Bits.{and_zero_l}
-use Rattle.std.proofs.lemmas.Bool.Decides.{nat_tests}
 use Rattle.ep_base.specs.declared.counts.Counts.{Counts}
 use Rattle.ep_machine.specs.Bits.{ERR, HUP, IN, OUT, RDHUP, asked, has_bit, union, when}
 use Rattle.ep_machine.specs.Counts.{brings, every_shown_bit, holds_wanted}
@@ -14,6 +13,7 @@ use Rattle.ep_machine.specs.Spread.{arrived, is_reached, is_reached_within, pass
 use Rattle.ep_machine.specs.State.{State, Watch}
 use Rattle.ep_machine.proofs.Arriving.{asked_either, brings_either}
 use Rattle.ep_machine.proofs.Freshening.{alive_raised}
+use Rattle.ep_machine.proofs.Tests.{same_nat}
 
 -- IN reaches instances alone
 reaching_is : (r : ℕ → Bool) (d : ℕ) (o : Option Object) → reaching_of r d o ≡ when (is_instance (unwrap_or o plain) && r d) IN
@@ -51,9 +51,6 @@ passes false p i r q = refl
 passes true p i r q = refl
 
 -- a registration notes the event where it passes something on
-same_nat : (k : ℕ) → (k == k) ≡ true
-same_nat k = grind (arith, nat_tests)
-
 noted : (n : ℕ) (c : Bool) → (0 == n) ≡ false → ((if c then n else 0) == n) ≡ c
 noted n true apart = same_nat n
 noted n false apart = apart

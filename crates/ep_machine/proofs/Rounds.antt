@@ -32,9 +32,10 @@ use Rattle.ep_machine.specs.Step.{begun, call_change, change, refused_or, settle
 use Rattle.ep_machine.specs.Waits.{leave_after, resume, tick, wait_for}
 use Rattle.ep_machine.specs.Watches.{ctl, has_key, is_add, is_del, modified, new_watch, number_in, with_watch}
 use Rattle.ep_machine.proofs.Distinct.{all_member, among_member, among_split, distinct_append, distinct_filtered, each_found, filtered_member, filtered_passes, find_member, found_member, list_all_member, mapped_member, one_number}
-use Rattle.ep_machine.proofs.Members.{among, any_member, first_of_and, member_filter, member_map, second_of_and, test_same}
+use Rattle.ep_machine.proofs.Members.{among, any_member, first_of_and, member_filter, member_map, second_of_and}
 use Rattle.ep_machine.proofs.Resuming.{left_after, resumes}
 use Rattle.ep_machine.proofs.Soundness.{sound_begun, sound_run, sound_step}
+use Rattle.ep_machine.proofs.Tests.{from_test}
 
 -- k became reportable by event m; what was told was reported after it
 record Tracks (k m : ℕ) (told : List ℕ) (s : State) : Type 0 where
@@ -164,7 +165,7 @@ module _ (k m : ℕ) (told ks more : List ℕ) (s : State) (now : m < s.n) (left
 
 -- What a pick tells.
 equal_lengths : (a b : ℕ) → (a == b) ≡ true → a ≡ b
-equal_lengths a b h = test_same a b h
+equal_lengths a b h = from_test a b h
 
 le_from : (a b : ℕ) → nat_le a b ≡ true → a ≤ b
 le_from a b h = grind (arith, nat_tests, h)
@@ -187,7 +188,7 @@ module _ (k m e other most : ℕ) (told ks : List ℕ) (s : State) (sound : Soun
       let ready = reportables s other in
       let reports = watches_at ready ks in
       let sizes = first_of_and _ _ (first_of_and _ _ pick) in
-      let long : length reports ≡ length ks = test_same _ _ (second_of_and (are_distinct ks) (length reports == length ks) sizes) in
+      let long : length reports ≡ length ks = from_test _ _ (second_of_and (are_distinct ks) (length reports == length ks) sizes) in
       let fair : list_all (is_fair_to reports ks) ready ≡ true = second_of_and _ _ pick in
       let there : Member j ks = among_member ks j picked in
       let found = from_some (find_watch ready j) (each_found (find_watch ready) ks j long there) in
@@ -195,11 +196,11 @@ module _ (k m e other most : ℕ) (told ks : List ℕ) (s : State) (sound : Soun
       let at = find_member ready j x found.1 in
       let told_here : Member x reports = found_member (find_watch ready) ks j x there found.1 in
       let x_in : Member x s.watches = filtered_member _ s.watches x at.0 in
-      let x_of : x.instance ≡ other = test_same _ _ (first_of_and _ _ (filtered_passes _ s.watches x at.0)) in
+      let x_of : x.instance ≡ other = from_test _ _ (first_of_and _ _ (filtered_passes _ s.watches x at.0)) in
       let same = any_member (λ w. w.instance == e && w.number == j) s.watches inside in
-      let number : same.0.number ≡ j = test_same _ _ (second_of_and _ _ same.2) in
+      let number : same.0.number ≡ j = from_test _ _ (second_of_and _ _ same.2) in
       let is : x ≡ same.0 = one_number s.watches x same.0 sound.numbers x_in same.1 (at.1 ∙ sym number) in
-      let one : e ≡ other = sym (test_same same.0.instance e (first_of_and _ _ same.2)) ∙ (ap (λ (w : Watch). w.instance) (sym is) ∙ x_of) in
+      let one : e ≡ other = sym (from_test same.0.instance e (first_of_and _ _ same.2)) ∙ (ap (λ (w : Watch). w.instance) (sym is) ∙ x_of) in
       let waiting = mapped_member (λ w. w.number) (reportables s e) k (among_member _ k stays) in
       let y = waiting.0 in
       let y_ready : Member y ready = subst (λ (i : ℕ). Member y (reportables s i)) one waiting.1 in
@@ -253,7 +254,7 @@ module _ (limits : Limits) (e k m : ℕ) (told : List ℕ) (s : State) (sound : 
       let at = among_member (filter (is_in s e) ks) j t in
       let inside = filtered_passes (is_in s e) ks j at in
       let x = any_member (λ w. w.instance == e && w.number == j) s.watches inside in
-      let number = test_same x.0.number j (second_of_and _ _ x.2) in
+      let number = from_test x.0.number j (second_of_and _ _ x.2) in
       let most = all_member (λ w. w.number ≤ s.added) s.watches x.0 sound.below x.1 in
       (among j ks (filtered_member (is_in s e) ks j at), subst (λ (n : ℕ). n ≤ s.added) number most, inside)
 

@@ -21,11 +21,12 @@ use Rattle.ep_machine.specs.Waits.{is_due, is_marked_at, marked_if_due, waits_at
 use Rattle.ep_machine.proofs.Burying.{Buried, all_buried}
 use Rattle.ep_machine.proofs.Marks.{all_due, kept_marks, marked_all, marked_parts, marks_again, none_forgotten}
 use Rattle.ep_machine.proofs.Living.{live_left, dying_distinct, dying_placed, dying_unnamed, unnamed_dying}
-use Rattle.ep_machine.proofs.Dying.{ArePlaced, after_all, differs, numbers, raised_before, same_nat, same_or_not}
+use Rattle.ep_machine.proofs.Dying.{ArePlaced, after_all, differs, numbers, raised_before, same_or_not}
 use Rattle.ep_machine.proofs.Naming.{among_second, among_waits, watched_same}
 use Rattle.ep_machine.proofs.Freshening.{fresh_arrived, seen_arrived}
 use Rattle.ep_machine.proofs.Reaching.{kept_arrived, reached, zero_asked, zero_brings}
 use Rattle.ep_machine.proofs.Showing.{kept_filter, readiness, ready_kept}
+use Rattle.ep_machine.proofs.Tests.{both_true, same_nat}
 use Rattle.std.specs.List.{IsDistinct, list_any}
 
 pub lt_test : (a b : ℕ) → a < b → nat_lt a b ≡ true
@@ -66,10 +67,6 @@ all_settled : (files : Files) (n : ℕ) (g : Files) (raised : List (ℕ × ℕ))
 all_settled files n g raised xs h =
     let ys = map (freshened n raised) xs in
     all_noted files (climbed (reached_now g n ys) g) ys (steady_climbed files (reached_now g n ys) g) (all_noted files (freshened n raised) xs (steady_fresh files n raised) h)
-
-both_true : (a b : Bool) → (a && b) ≡ true → (a ≡ true) × (b ≡ true)
-both_true true b h = (refl, h)
-both_true false b h = absurd (false≢true h)
 
 -- the registrations whose instance and target live stay steady
 steady_left : (f g : Files) (xs : List Watch) → ((d : ℕ) → is_live g d ≡ true → can_be_watched (object_of f d) ≡ true → kind_of (object_of g d) ≡ kind_of (object_of f d))

@@ -1,6 +1,5 @@
 -- Steps and runs.
-use Rattle.std.proofs.Common.{◌≡◌, ℕ, ◌==◌, Bool, true, false, List, [], ◌∷◌, ◌++◌, None, Option, Some, MatchOption, ℤ, pos, negsuc, refl, ap, sym, subst, ◌∙◌, arith, if◌then◌else◌}
-use Rattle.std.proofs.lemmas.Bool.Decides.{nat_tests}
+use Rattle.std.proofs.Common.{◌≡◌, ℕ, ◌==◌, Bool, true, false, List, [], ◌∷◌, ◌++◌, None, Option, Some, MatchOption, ℤ, pos, negsuc, refl, ap, sym, subst, ◌∙◌, if◌then◌else◌}
 use Rattle.ep_base.specs.Errno.{errno_number}
 use Rattle.ep_base.specs.Limits.{Limits}
 use Rattle.ep_base.specs.declared.errno.Errno.{Errno}
@@ -17,13 +16,11 @@ use Rattle.ep_machine.specs.Tables.{same_number}
 use Rattle.ep_machine.specs.Refusal.{refusals}
 use Rattle.ep_machine.specs.Step.{step, begun, change, refused_or, settled}
 use Rattle.ep_machine.specs.Run.{run, run_on, go_on, checked, same_answer, same_list, same_report}
+use Rattle.ep_machine.proofs.Tests.{same_nat}
 
 -- a refusal changes n alone
 pub refused_step : (limits : Limits) (s : State) (caller : ℕ) (event : Event) (e : Errno) → first (refusals limits (begun s) caller event) ≡ Some e → step limits s caller event [] ≡ Some (Refused e, begun s)
 refused_step limits s caller event e h = ap (λ (o : Option Errno). refused_or o (begun s) [] (change limits (begun s) caller event [])) h
-
-same_nat : (n : ℕ) → (n == n) ≡ true
-same_nat n = grind (arith, nat_tests)
 
 same_int : (a : ℤ) → same_number a a ≡ true
 same_int (pos a) = same_nat a

@@ -1,9 +1,8 @@
 -- What deaths raise at the descriptions that live on: the order of the deaths plays no part.
-use Rattle.std.proofs.Common.{◌≡◌, ◌≢◌, ℕ, zero, suc, ◌==◌, ◌||◌, ◌⊎◌, ◌∙◌, Bool, true, false, List, [], ◌∷◌, None, Option, Some, ap, arith, bit_or, get_or, if◌then◌else◌, inl, inr, refl, set, sym, unwrap_or}
+use Rattle.std.proofs.Common.{◌≡◌, ◌≢◌, ℕ, zero, suc, ◌==◌, ◌||◌, ◌⊎◌, ◌∙◌, Bool, true, false, List, [], ◌∷◌, None, Option, Some, ap, bit_or, get_or, if◌then◌else◌, inl, inr, refl, set, sym, unwrap_or}
 use Rattle.std.specs.Int.Bits.{or_zero_r}
 use Rattle.std.specs.List.{list_any}
 use Rattle.std.proofs.lemmas.Bool.{cases_Bool, false≢true}
-use Rattle.std.proofs.lemmas.Bool.Decides.{nat_tests}
 use Rattle.std.proofs.lemmas.Option.{none-some}
 use Rattle.ep_base.specs.declared.object.End.{End}
 use Rattle.ep_base.specs.declared.object.End.TheVariants.{First, Second}
@@ -15,8 +14,9 @@ use Rattle.ep_machine.specs.Lists.{are_distinct, is_among}
 use Rattle.ep_machine.specs.Objects.{Object, close_end, plain}
 use Rattle.ep_machine.specs.Spread.{raised_of}
 use Rattle.ep_machine.proofs.Arriving.{deaths_raise, raised_live, raised_parts}
-use Rattle.ep_machine.proofs.Dying.{ArePlaced, after_all, apart_from_rest, differs, get_other, numbers, raised_before, same_dead, same_nat, same_or_not, still_placed}
+use Rattle.ep_machine.proofs.Dying.{ArePlaced, after_all, apart_from_rest, differs, get_other, numbers, raised_before, same_dead, same_or_not, still_placed}
 use Rattle.ep_machine.proofs.Living.{places_left}
+use Rattle.ep_machine.proofs.Tests.{from_test, or_left, or_right, same_nat, same_test}
 
 -- no two descriptions have the same end of an object
 abbrev pub Apart : Files → Type 0
@@ -45,12 +45,6 @@ raised_across f xs p = when (loses p.object xs) (at_end (close_end (content_at f
 
 some_place : (p q : Place) → Some p ≡ Some q → p ≡ q
 some_place p q h = ap (λ (o : Option Place). unwrap_or o p) h
-
-same_test : (a b : ℕ) → a ≡ b → (a == b) ≡ true
-same_test a b e = grind (arith, nat_tests, e)
-
-from_test : (a b : ℕ) → (a == b) ≡ true → a ≡ b
-from_test a b h = grind (arith, nat_tests, h)
 
 or_false : (a b : Bool) → (a || b) ≡ false → (a ≡ false) × (b ≡ false)
 or_false true b h = cc
@@ -180,14 +174,6 @@ record Loser (f : Files) (k : ℕ) (xs : List (ℕ × Place)) : Type 0 where
   pub among : is_among (numbers xs) number ≡ true
   pub placed : place_of f number ≡ Some place
   pub at : (place.object == k) ≡ true
-
-or_right : (a b : Bool) → b ≡ true → (a || b) ≡ true
-or_right true b h = refl
-or_right false b h = h
-
-or_left : (a b : Bool) → a ≡ true → (a || b) ≡ true
-or_left true b h = refl
-or_left false b h = cc
 
 loser_of : (f : Files) (k : ℕ) (xs : List (ℕ × Place)) → ArePlaced f xs → loses k xs ≡ true → Loser f k xs
 loser_of f k [] placed h = absurd (false≢true h)

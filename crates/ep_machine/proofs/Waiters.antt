@@ -7,6 +7,7 @@ use Rattle.ep_machine.specs.Lists.{is_among}
 use Rattle.ep_machine.specs.State.{Waiter}
 use Rattle.ep_machine.specs.Waits.{unmark}
 use Rattle.ep_machine.proofs.Naming.{among_either}
+use Rattle.ep_machine.proofs.Tests.{neither, or_right}
 
 -- Some of them.
 apart_filter : (c : ℕ) (p : Waiter → Bool) (ws : List Waiter) → AllByRecursion (λ k. nat_eq c k ≡ false) (map (λ w. w.caller) ws) → AllByRecursion (λ k. nat_eq c k ≡ false) (map (λ w. w.caller) (filter p ws))
@@ -20,10 +21,6 @@ callers_filter p (w ∷ ws) h =
     let rest = callers_filter p ws h.1 in
     elim (p w) as (λ b. IsDistinct nat_eq (map (λ v. v.caller) (cond b (w ∷ filter p ws) (filter p ws)))) [ true ↦ (apart_filter w.caller p ws h.0, rest) | false ↦ rest ]
 
-or_second : (a b : Bool) → b ≡ true → (a || b) ≡ true
-or_second true b h = refl
-or_second false b h = h
-
 or_either : (a b c : Bool) → (b ≡ true → c ≡ true) → (a || b) ≡ true → (a || c) ≡ true
 or_either true b c f h = refl
 or_either false b c f h = f h
@@ -34,7 +31,7 @@ instance_filter p (w ∷ ws) d h =
     let rest = instance_filter p ws d in
     elim (p w) as (λ b. is_among (map (λ v. v.instance) (cond b (w ∷ filter p ws) (filter p ws))) d ≡ true → is_among (map (λ v. v.instance) (w ∷ ws)) d ≡ true) [
       | true ↦ λ e. or_either (d == w.instance) _ _ rest e
-      | false ↦ λ e. or_second (d == w.instance) _ (rest e)
+      | false ↦ λ e. or_right (d == w.instance) _ (rest e)
     ] h
 
 -- Without a mark.
@@ -46,10 +43,6 @@ unmarked_part f same caller (w ∷ ws) = let one = same w (unmark caller w).mark
 apart_push : (c : ℕ) (ws : List Waiter) (w : Waiter) → (c == w.caller) ≡ false → AllByRecursion (λ k. nat_eq c k ≡ false) (map (λ v. v.caller) ws) → AllByRecursion (λ k. nat_eq c k ≡ false) (map (λ v. v.caller) (ws ++ w ∷ []))
 apart_push c [] w e h = (grind (arith, nat_tests, e), tt)
 apart_push c (v ∷ ws) w e h = (h.0, apart_push c ws w e h.1)
-
-neither : (a b : Bool) → (a || b) ≡ false → (a ≡ false) × (b ≡ false)
-neither true b h = absurd (false≢true (sym h))
-neither false b h = (refl, h)
 
 pub callers_push : (ws : List Waiter) (w : Waiter) → list_any (λ v. v.caller == w.caller) ws ≡ false → IsDistinct nat_eq (map (λ v. v.caller) ws) → IsDistinct nat_eq (map (λ v. v.caller) (ws ++ w ∷ []))
 unfolding IsDistinct
@@ -63,5 +56,5 @@ instance_push [] w d h = elim (among_either (w.instance ∷ []) [] d h) [ inl e 
 instance_push (v ∷ ws) w d h =
     elim (cases_Bool (d == v.instance)) [
       | inl t ↦ inl (ap (λ (b : Bool). b || is_among (map (λ u. u.instance) ws) d) t)
-      | inr f ↦ elim (instance_push ws w d (sym (ap (λ (b : Bool). b || is_among (map (λ u. u.instance) (ws ++ w ∷ [])) d) f) ∙ h)) [ inl old ↦ inl (or_second (d == v.instance) _ old) | inr new ↦ inr new ]
+      | inr f ↦ elim (instance_push ws w d (sym (ap (λ (b : Bool). b || is_among (map (λ u. u.instance) (ws ++ w ∷ [])) d) f) ∙ h)) [ inl old ↦ inl (or_right (d == v.instance) _ old) | inr new ↦ inr new ]
     ]

@@ -1,7 +1,6 @@
 -- What is raised at the description across, at each registration.
-use Rattle.std.proofs.Common.{if◌then◌else◌, nat_lt, ◌≡◌, ◌≢◌, ◌==◌, ◌&&◌, ◌⊎◌, ◌∙◌, ℕ, Bool, true, false, IsSome, List, None, Option, Some, ap, arith, cond, inl, inr, refl, slice_index_or, sym, unwrap_or}
+use Rattle.std.proofs.Common.{if◌then◌else◌, nat_lt, ◌≡◌, ◌≢◌, ◌==◌, ◌&&◌, ◌⊎◌, ◌∙◌, ℕ, Bool, true, false, IsSome, List, None, Option, Some, ap, cond, inl, inr, refl, slice_index_or, sym, unwrap_or}
 use Rattle.std.proofs.lemmas.Bool.{cases_Bool, false≢true}
-use Rattle.std.proofs.lemmas.Bool.Decides.{nat_tests}
 use Rattle.ep_base.specs.declared.ids.DescId.{DescId}
 use Rattle.ep_base.specs.declared.mask.Mask.{Mask}
 use Rattle.ep_base.specs.declared.object.End.{End}
@@ -15,6 +14,7 @@ use Rattle.ep_machine.specs.Kept.{stirred}
 use Rattle.ep_machine.proofs.Reaching.{zero_asked, zero_brings}
 use Rattle.ep_machine.specs.Files.{Files, Place, place_of}
 use Rattle.ep_machine.proofs.Survivors.{Apart}
+use Rattle.ep_machine.proofs.Tests.{from_test, same_test}
 use Rattle.ep_plain.specs.Raising.{raised_there}
 use Rattle.ep_plain.specs.Stands.{IsLinked, number_at, watch_at}
 use Rattle.ep_plain.proofs.Keys.{under_key}
@@ -37,15 +37,6 @@ watch_noted keys n bits x = refl
 
 pub link_noted : (keys : List (Option ℕ)) (n bits : ℕ) (x : Entry) → IsLinked keys x → IsLinked keys (noted n bits x)
 link_noted keys n bits x h = record { instance = h.instance; desc = h.desc; fd = h.fd }
-
-same_nat : (k : ℕ) → (k == k) ≡ true
-same_nat k = grind (arith, nat_tests)
-
-pub from_test : (a b : ℕ) → (a == b) ≡ true → a ≡ b
-from_test a b h = grind (arith, nat_tests, h)
-
-pub same_test : (a b : ℕ) → a ≡ b → (a == b) ≡ true
-same_test a b h = grind (arith, nat_tests, h)
 
 pub some_place : (p q : Place) → Some p ≡ Some q → p ≡ q
 some_place p q h = ap (λ (o : Option Place). unwrap_or o p) h

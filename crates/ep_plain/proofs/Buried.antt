@@ -1,7 +1,6 @@
 -- The parts of a kernel after the burial, and the state of the machine after settling.
-use Rattle.std.proofs.Common.{nat_lt, ◌≡◌, ◌∙◌, ◌==◌, ◌&&◌, ◌||◌, ℕ, All, Bool, true, false, IsSome, List, [], ◌∷◌, ◌++◌, None, Option, Some, ap, arith, cond, filter, if◌then◌else◌, is_some, map, not, refl, slice_index_or, subst, sym, unwrap_or, length}
+use Rattle.std.proofs.Common.{nat_lt, ◌≡◌, ◌∙◌, ◌==◌, ◌&&◌, ◌||◌, ℕ, All, Bool, true, false, IsSome, List, [], ◌∷◌, ◌++◌, None, Option, Some, ap, cond, filter, if◌then◌else◌, is_some, map, not, refl, slice_index_or, subst, sym, unwrap_or, length}
 use Rattle.std.proofs.lemmas.Bool.{false≢true}
-use Rattle.std.proofs.lemmas.Bool.Decides.{nat_tests}
 use Rattle.std.proofs.lemmas.List.{append-nil}
 use Rattle.std.proofs.lemmas.List.Elements.{All-cons, All-head, All-map, All-nil, All-tail}
 use Rattle.ep_base.specs.declared.ids.DescId.{DescId}
@@ -21,6 +20,7 @@ use Rattle.ep_machine.proofs.Living.{dying_distinct, dying_placed}
 use Rattle.ep_machine.proofs.Dying.{ArePlaced, after_all, numbers, same_dead}
 use Rattle.ep_machine.proofs.Naming.{among_append}
 use Rattle.ep_machine.proofs.Settling.{dying_test}
+use Rattle.ep_machine.proofs.Tests.{or_right, same_nat}
 use Rattle.ep_interest.specs.declared.entry.Entry.{Entry}
 use Rattle.ep_nest.specs.declared.link.Link.{Link}
 use Rattle.ep_plain.specs.Burial.{Burial, is_untouched}
@@ -31,13 +31,6 @@ use Rattle.ep_plain.proofs.Held.{not_held}
 use Rattle.ep_plain.proofs.Keys.{under_key}
 use Rattle.ep_plain.proofs.Watched.{KeepKinds, nested_left}
 use Rattle.ep_table.specs.Value.{Sound, count_at}
-
-same_nat : (k : ℕ) → (k == k) ≡ true
-same_nat k = grind (arith, nat_tests)
-
-or_right : (a b : Bool) → b ≡ true → (a || b) ≡ true
-or_right true b h = refl
-or_right false b h = h
 
 module _ (n : ℕ) (mid new : Parts) (burial : Burial n mid.tables mid.interest new.tables new.interest) (clock : new.now ≡ mid.now) (linked : AreLinked mid.tables mid.interest) (left_parked : new.parked ≡ mid.parked) (sound_new : Sound new.tables) (waiting : ArePlacedAt mid.tables mid.parked) (held : AreHeld mid.tables mid.parked)
     (after t : State) (raised : List (ℕ × ℕ)) (changed : Changed after) (settled : IsSettled after raised t) (at : after.n ≡ n) (stands : StandsRaised n mid raised after) where

@@ -9,9 +9,10 @@ use Rattle.ep_interest.specs.declared.entry.Entry.{Entry}
 use Rattle.ep_machine.specs.Bits.{ONESHOT, has_bit}
 use Rattle.ep_machine.specs.Counts.{no_counts}
 use Rattle.ep_machine.specs.Lists.{is_among}
-use Rattle.ep_plain.proofs.Found.{from_test, some_one}
+use Rattle.ep_plain.proofs.Found.{some_one}
 use Rattle.ep_plain.specs.Wait.{noted_in}
 use Rattle.ep_plain.specs.declared.wait.Reportable.{Reportable}
+use Rattle.ep_machine.proofs.Tests.{from_test}
 
 get_entry : (xs : List Reportable) (k : ℕ) (d : Entry) (e : Reportable) → k < length xs → get_or (map (λ (x : Reportable). x.entry) xs) k d ≡ (get_or xs k e).entry
 get_entry [] k d e lt = absurd (omega arith)

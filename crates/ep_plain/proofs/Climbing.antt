@@ -19,6 +19,7 @@ use Rattle.ep_nest.specs.declared.link.Link.{Link}
 use Rattle.ep_plain.specs.Climb.{climbs_to, is_nested, link_of}
 use Rattle.ep_plain.specs.Stands.{IsLinked, number_at, watch_at}
 use Rattle.ep_table.specs.Value.{Seen, number_under}
+use Rattle.ep_machine.proofs.Tests.{from_test}
 
 -- what was seen plays no part in what is reached
 module _ (keys : List (Option ℕ)) (files : Files) (n : ℕ) (seen : Entry → Option Counts) where
@@ -52,9 +53,6 @@ seen_after reached keys ds x = if among_keys ds x.desc && reached (number_at key
 
 abbrev pub climbs_on : (ℕ → Bool) → List (Option ℕ) → List DescId → Entry → Entry
 climbs_on reached keys ds x = record x { seen = seen_after reached keys ds x }
-
-from_test : (a b : ℕ) → (a == b) ≡ true → a ≡ b
-from_test a b h = grind (arith, nat_tests, h)
 
 or_false : (b : Bool) → (b || false) ≡ b
 or_false true = refl

@@ -12,15 +12,13 @@ use Rattle.ep_nest.specs.declared.link.Link.{Link}
 use Rattle.ep_plain.specs.Climb.{is_nested, link_of}
 use Rattle.ep_plain.proofs.Nesting.{links_mapped}
 use Rattle.ep_table.specs.Value.{Seen}
+use Rattle.ep_machine.proofs.Tests.{same_nat}
 
 apart_test : (a b : ℕ) → a ≤ b → (b + 1 == a) ≡ false
 apart_test a b h = grind (arith, nat_tests, h)
 
 turned_test : (a b : ℕ) → (a == b) ≡ (b == a)
 turned_test a b = grind (arith, nat_tests)
-
-same_test : (a : ℕ) → (a == a) ≡ true
-same_test a = grind (arith, nat_tests)
 
 -- a number above all is that of no link
 pub fresh_link : (p : Entry → Bool) (n : ℕ) (xs : List Entry) → All (λ x. x.number ≤ n) xs → is_among (entries (map link_of (filter p xs))) (n + 1) ≡ false
@@ -35,7 +33,7 @@ fresh_link p n (x ∷ xs) h =
 
 -- a link that was added and is taken away
 pub unlinked : (ls : List Link) (l : Link) → is_among (entries ls) l.entry.0 ≡ false → without l.entry.0 (ls ++ l ∷ []) ≡ ls
-unlinked [] l h = ap (λ (b : Bool). cond (not b) (l ∷ []) []) (same_test l.entry.0)
+unlinked [] l h = ap (λ (b : Bool). cond (not b) (l ∷ []) []) (same_nat l.entry.0)
 unlinked (x ∷ xs) l h = elim (cases_Bool (l.entry.0 == x.entry.0)) [
   | inl same ↦ cc
   | inr other ↦

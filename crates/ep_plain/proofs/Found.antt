@@ -16,6 +16,7 @@ use Rattle.ep_machine.specs.Watches.{has_key as has_numbers, modified as modifie
 use Rattle.ep_plain.specs.Stands.{IsLinked, number_at, watch_at}
 use Rattle.ep_plain.proofs.Linking.{same_key_test}
 use Rattle.ep_table.specs.Value.{Seen, Sound, number_under}
+use Rattle.ep_machine.proofs.Tests.{from_test, same_nat}
 
 -- two facts about each give a third
 both_of : (P Q R : Entry → Type 0) → ((x : Entry) → P x → Q x → R x) → (xs : List Entry) → AllByRecursion P xs → AllByRecursion Q xs → AllByRecursion R xs
@@ -33,14 +34,11 @@ rises_above m (x ∷ xs) h = (h.0, above m x.number xs h.0 (rises_above x.number
 apart_test : (a b : ℕ) → a < b → (a == b) ≡ false
 apart_test a b h = grind (arith, nat_tests, h)
 
-same_test : (a : ℕ) → (a == a) ≡ true
-same_test a = grind (arith, nat_tests)
-
 -- each is the one that its number finds
 pub each_numbered : (m : ℕ) (xs : List Entry) → RisesFrom m xs → AllByRecursion (λ x. numbered xs x.number ≡ Some x) xs
 each_numbered m [] h = tt
 each_numbered m (x ∷ xs) h = (
-  ap (λ (b : Bool). cond b (Some x) (numbered xs x.number)) (same_test x.number),
+  ap (λ (b : Bool). cond b (Some x) (numbered xs x.number)) (same_nat x.number),
   both_of (λ y. x.number < y.number) (λ y. numbered xs y.number ≡ Some y) (λ y. numbered (x ∷ xs) y.number ≡ Some y)
       (λ y lt is. ap (λ (b : Bool). cond b (Some x) (numbered xs y.number)) (apart_test x.number y.number lt) ∙ is) xs (rises_above x.number xs h.1) (each_numbered x.number xs h.1),
 )
@@ -63,9 +61,6 @@ and_all true true false h = absurd (false≢true h)
 and_all true false c h = absurd (false≢true h)
 and_all false b c h = absurd (false≢true h)
 
-pub from_test : (a b : ℕ) → (a == b) ≡ true → a ≡ b
-from_test a b h = grind (arith, nat_tests, h)
-
 same_bools : (a b : Bool) → (a ≡ true → b ≡ true) → (b ≡ true → a ≡ true) → a ≡ b
 same_bools true b f g = sym (f refl)
 same_bools false true f g = g refl
@@ -86,7 +81,7 @@ module _ (r : Registrations) (instance : DescId) (fd : Fd) (desc : DescId) (k : 
       let b = same_integer x.fd.0 fd.0 parts.1 in
       let c = from_test x.desc.0 desc.0 parts.2 in
       let same : has_key x.instance x.fd x.desc y ≡ true = (λ i. y.instance.0 == a i && int_eq y.fd.0 (b i) && y.desc.0 == c i) ∙ found.2 in
-      let n = sound.apart x.number k x y own at_k same in ap (λ (m : ℕ). m == k) n ∙ same_test k)
+      let n = sound.apart x.number k x y own at_k same in ap (λ (m : ℕ). m == k) n ∙ same_nat k)
       (λ e. let one : x ≡ y = some_one x y (sym own ∙ (ap (numbered r.entries) (from_test x.number k e) ∙ at_k)) in ap (has_key instance fd desc) one ∙ found.2)
     where
       same_integer : (a b : ℤ) → int_eq a b ≡ true → a ≡ b

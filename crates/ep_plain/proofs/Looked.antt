@@ -10,6 +10,7 @@ use Rattle.ep_base.specs.declared.ids.Fd.{Fd}
 use Rattle.ep_interest.specs.Registrations.{IsSound, Registrations, RisesFrom, has_key, numbered}
 use Rattle.ep_interest.specs.declared.entry.Entry.{Entry}
 use Rattle.ep_plain.proofs.Found.{has_number, rises_above, some_one}
+use Rattle.ep_machine.proofs.Tests.{from_test}
 
 -- none is looked at where there is none
 pub none_looked : (p q : Entry → Bool) (xs : List Entry) → list_any p xs ≡ false → list_any q (filter p xs) ≡ false
@@ -35,9 +36,6 @@ above_test a b h = grind (arith, nat_tests, h)
 none_above : (k : ℕ) (xs : List Entry) → AllByRecursion (λ x. k < x.number) xs → filter (λ x. x.number == k) xs ≡ []
 none_above k [] h = refl
 none_above k (x ∷ xs) h = ap (λ (b : Bool). cond b (x ∷ filter (λ y. y.number == k) xs) (filter (λ y. y.number == k) xs)) (above_test k x.number h.0) ∙ none_above k xs h.1
-
-from_test : (a b : ℕ) → (a == b) ≡ true → a ≡ b
-from_test a b h = grind (arith, nat_tests, h)
 
 -- a number is that of one registration
 one_numbered : (m k : ℕ) (x : Entry) (xs : List Entry) → RisesFrom m xs → numbered xs k ≡ Some x → filter (λ y. y.number == k) xs ≡ x ∷ []

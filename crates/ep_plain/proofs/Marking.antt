@@ -2,7 +2,6 @@
 use Rattle.std.proofs.Common.{◌≡◌, ◌∙◌, ◌+◌, ◌<◌, ◌≤◌, ◌==◌, ◌||◌, ◌++◌, ◌⊎◌, ℕ, Bool, true, false, List, [], ◌∷◌, ap, arith, cond, filter, if◌then◌else◌, inl, inr, length, map, refl, slice_index_or, sym, take}
 use Rattle.std.specs.List.{list_any}
 use Rattle.std.proofs.lemmas.Bool.{cases_Bool, false≢true}
-use Rattle.std.proofs.lemmas.Bool.Decides.{nat_tests}
 use Rattle.std.proofs.lemmas.List.{append-nil, take_all}
 use Rattle.std.proofs.lemmas.List.Elements.{filter_more}
 use Rattle.std.proofs.Math.ListN.{length-map}
@@ -13,17 +12,12 @@ use Rattle.ep_park.specs.Turns.{NamesReady, marked_in_turn}
 use Rattle.ep_park.specs.Waiters.{first_marked, longest_marked, with_mark}
 use Rattle.ep_plain.specs.Parking.{instance_of}
 use Rattle.ep_plain.proofs.Held.{instances_same, place}
+use Rattle.ep_machine.proofs.Tests.{from_test, same_nat}
 
 -- one instance more
 pub turn_more : (es : List ℕ) (e : ℕ) (ws : List Waiter) → marked_in_turn (es ++ e ∷ []) ws ≡ longest_marked e (marked_in_turn es ws)
 turn_more [] e ws = refl
 turn_more (x ∷ es) e ws = turn_more es e (longest_marked x ws)
-
-from_test : (a b : ℕ) → (a == b) ≡ true → a ≡ b
-from_test a b h = grind (arith, nat_tests, h)
-
-same_test : (a : ℕ) → (a == a) ≡ true
-same_test a = grind (arith, nat_tests)
 
 module _ (ready : ℕ → Bool) where
   -- an instance that is ready and has waiters is named
@@ -33,7 +27,7 @@ module _ (ready : ℕ → Bool) where
     | inl same ↦
         let is = from_test w.instance e same in
         ap (λ (b : Bool). list_any (λ x. e == x) (cond b (w.instance ∷ filter ready (map (λ v. v.instance) ws)) (filter ready (map (λ v. v.instance) ws)))) (ap ready is ∙ r)
-        ∙ ap (λ (b : Bool). b || list_any (λ x. e == x) (filter ready (map (λ v. v.instance) ws))) (ap (λ (k : ℕ). e == k) is ∙ same_test e)
+        ∙ ap (λ (b : Bool). b || list_any (λ x. e == x) (filter ready (map (λ v. v.instance) ws))) (ap (λ (k : ℕ). e == k) is ∙ same_nat e)
     | inr other ↦
         let rest = found ws e r (ap (λ (b : Bool). b || waits_at ws e) (sym other) ∙ h) in
         elim (ready w.instance) as (λ b. list_any (λ x. e == x) (cond b (w.instance ∷ filter ready (map (λ v. v.instance) ws)) (filter ready (map (λ v. v.instance) ws))) ≡ true) [

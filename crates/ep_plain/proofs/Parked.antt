@@ -1,5 +1,5 @@
 -- Waiters that come and go, and the instances that are held for them.
-use Rattle.std.proofs.Common.{◌≡◌, ◌≢◌, ◌∙◌, ◌==◌, ◌||◌, ◌++◌, ◌+◌, ◌-◌, ◌<◌, ℕ, zero, suc, Bool, true, false, All, IsSome, List, [], ◌∷◌, None, Option, Some, ap, arith, cond, filter, if◌then◌else◌, inl, inr, length, map, nat_eq, not, refl, slice_index_or, subst, sym, unwrap_or}
+use Rattle.std.proofs.Common.{◌≡◌, ◌≢◌, ◌∙◌, ◌==◌, ◌++◌, ◌+◌, ◌-◌, ◌<◌, ℕ, zero, suc, Bool, true, false, All, IsSome, List, [], ◌∷◌, None, Option, Some, ap, arith, cond, filter, if◌then◌else◌, inl, inr, length, map, nat_eq, not, refl, slice_index_or, subst, sym, unwrap_or}
 use Rattle.std.specs.List.{AllByRecursion, IsDistinct, find, list_any}
 use Rattle.std.proofs.lemmas.Bool.{cases_Bool, false≢true}
 use Rattle.std.proofs.lemmas.Bool.Decides.{nat_tests}
@@ -15,12 +15,7 @@ use Rattle.ep_plain.specs.Parking.{instance_of}
 use Rattle.ep_plain.specs.Stands.{ArePlaced, IsPlaced, number_at, waiters_at}
 use Rattle.ep_plain.proofs.Keys.{under_key}
 use Rattle.ep_table.specs.Value.{Seen, Sound, count_at, holds_of, less_at, more_at, number_of, number_under}
-
-from_test : (a b : ℕ) → (a == b) ≡ true → a ≡ b
-from_test a b h = grind (arith, nat_tests, h)
-
-same_test : (a : ℕ) → (a == a) ≡ true
-same_test a = grind (arith, nat_tests)
+use Rattle.ep_machine.proofs.Tests.{from_test, neither, same_nat}
 
 apart : (a b : ℕ) → (a == b) ≡ false → b ≢ a
 apart a b e = λ h. grind (arith, nat_tests, e, h)
@@ -52,13 +47,9 @@ none_left c (w ∷ ws) none = elim (cases_Bool (w.caller == c)) [
       ∙ ap (λ (xs : List Waiter). w ∷ xs) (none_left c ws (sym (ap (λ (b : Bool). cond b (Some w) (find (is_caller c) ws)) e) ∙ none))
 ]
 
-neither : (a b : Bool) → (a || b) ≡ false → (a ≡ false) × (b ≡ false)
-neither true b h = absurd (false≢true (sym h))
-neither false b h = (refl, h)
-
 -- one that parked and leaves again
 pub left_parked : (c : ℕ) (ws : List Waiter) (w : ParkedWaiter) → list_any (is_caller c) ws ≡ false → without c (ws ++ parked c w ∷ []) ≡ ws
-left_parked c [] w free = ap (λ (b : Bool). cond (not b) (parked c w ∷ []) []) (same_test c)
+left_parked c [] w free = ap (λ (b : Bool). cond (not b) (parked c w ∷ []) []) (same_nat c)
 left_parked c (v ∷ ws) w free =
     let r = neither (v.caller == c) (list_any (is_caller c) ws) free in
     ap (λ (b : Bool). cond (not b) (v ∷ without c (ws ++ parked c w ∷ [])) (without c (ws ++ parked c w ∷ []))) r.0
@@ -174,7 +165,7 @@ module _ (v : Seen) (ws : List Waiter) (caller : ℕ) (w : ParkedWaiter) (sound 
 
   -- its instance is held
   pub held_found : 0 < holds_of v n
-  held_found = subst (λ (a : ℕ). 0 < a) (sym (once_held n ∙ ap (λ (b : Bool). times v.keys (without caller ws) n + once b) (same_test n))) (omega arith)
+  held_found = subst (λ (a : ℕ). 0 < a) (sym (once_held n ∙ ap (λ (b : Bool). times v.keys (without caller ws) n + once b) (same_nat n))) (omega arith)
 
   -- one waiter less
   pub held_left : (new : Seen) (us : List Waiter) → new.holds ≡ less_at v.holds n → new.keys ≡ v.keys → us ≡ without caller ws → AreHeld new us

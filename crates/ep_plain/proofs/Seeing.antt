@@ -1,8 +1,7 @@
 -- What it raises that a registration was added or modified.
-use Rattle.std.proofs.Common.{◌≡◌, ◌∙◌, ◌==◌, ◌&&◌, ◌||◌, ◌++◌, ℕ, pos, All, Bool, true, false, IsSome, List, [], ◌∷◌, ap, arith, bit_or, cond, filter, if◌then◌else◌, map, not, refl, sym}
+use Rattle.std.proofs.Common.{◌≡◌, ◌∙◌, ◌==◌, ◌&&◌, ◌||◌, ◌++◌, ℕ, pos, All, Bool, true, false, IsSome, List, [], ◌∷◌, ap, bit_or, cond, filter, if◌then◌else◌, map, not, refl, sym}
 use Rattle.std.specs.List.{AllByRecursion, list_any}
 use Rattle.std.proofs.lemmas.Bool.{false≢true}
-use Rattle.std.proofs.lemmas.Bool.Decides.{nat_tests}
 use Rattle.std.proofs.lemmas.List.Elements.{All-head, All-tail}
 use Rattle.ep_base.specs.declared.ids.Fd.{Fd}
 use Rattle.ep_interest.specs.Registrations.{Registrations, has_key, is_other}
@@ -14,6 +13,7 @@ use Rattle.ep_machine.specs.Spread.{raised_of}
 use Rattle.ep_machine.specs.State.{State, Waiter, Watch}
 use Rattle.ep_machine.specs.Watches.{has_key as has_numbers, looked_at, number_in}
 use Rattle.ep_machine.proofs.Showing.{kept_filter, readiness as machine_readiness, reportable_kept}
+use Rattle.ep_machine.proofs.Tests.{same_nat}
 use Rattle.ep_plain.specs.Control.{looked}
 use Rattle.ep_plain.specs.Raising.{raised_bits}
 use Rattle.ep_plain.specs.Readiness.{entry_shows, readiness}
@@ -22,9 +22,6 @@ use Rattle.ep_plain.specs.declared.control.Named.{Named}
 use Rattle.ep_plain.specs.declared.raising.Raising.TheVariants.{Instance, Nowhere}
 use Rattle.ep_plain.proofs.Linking.{same_key_test}
 use Rattle.ep_table.specs.Value.{Seen, Sound, number_under}
-
-same_test : (a : ℕ) → (a == a) ≡ true
-same_test a = grind (arith, nat_tests)
 
 -- of the others none has the key
 both_fail : (b : Bool) → (not b && b) ≡ false
@@ -42,7 +39,7 @@ none_other p k q (x ∷ xs) h = with_one (p x) h.0 refl (none_other p k q xs h.1
 
 -- a registration has its own key
 pub has_own : (e fd d : ℕ) (w : Watch) → w.instance ≡ e → w.fd ≡ fd → w.target ≡ d → has_numbers e fd d w ≡ true
-has_own e fd d w a b c = (λ i. a i == e && b i == fd && c i == d) ∙ (λ i. same_test e i && same_test fd i && same_test d i)
+has_own e fd d w a b c = (λ i. a i == e && b i == fd && c i == d) ∙ (λ i. same_nat e i && same_nat fd i && same_nat d i)
 
 -- the last one alone has a key that was not there
 pub keyed_last : (e fd d : ℕ) (ws : List Watch) (w : Watch) → list_any (has_numbers e fd d) ws ≡ false → has_numbers e fd d w ≡ true → filter (has_numbers e fd d) (ws ++ w ∷ []) ≡ w ∷ []

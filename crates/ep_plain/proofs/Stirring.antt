@@ -22,11 +22,12 @@ use Rattle.ep_plain.specs.declared.raising.Raising.{Raising}
 use Rattle.ep_plain.specs.declared.raising.Raising.TheVariants.{Clock, Instance, Nowhere, Object}
 use Rattle.ep_base.specs.declared.counts.Counts.{Counts}
 use Rattle.ep_machine.specs.Kept.{freshened_by}
-use Rattle.ep_plain.proofs.Across.{a_place, elsewhere, from_test, link_noted, noted, off_own, same_test, some_place, watch_noted, zero_noted}
+use Rattle.ep_plain.proofs.Across.{a_place, elsewhere, link_noted, noted, off_own, some_place, watch_noted, zero_noted}
 use Rattle.ep_plain.proofs.Keys.{same_keys, under_key}
 use Rattle.ep_table.specs.Closing.{IsAt, across, opposite}
 use Rattle.ep_table.specs.Live.{live_from, live_ids}
 use Rattle.ep_table.specs.Value.{Seen, Sound, number_of, number_under}
+use Rattle.ep_machine.proofs.Tests.{from_test, or_right, same_nat, same_test}
 
 -- where each registration is freshened by what is raised at its target
 pub record Freshens (v : Seen) (n : ℕ) (bits : ℕ → ℕ) (old new : List Entry) : Type 0 where
@@ -52,9 +53,6 @@ map_twice f g (x ∷ xs) = ap (λ (ys : List Entry). g (f x) ∷ ys) (map_twice 
 
 differs : (a b : ℕ) → a ≢ b → (a == b) ≡ false
 differs a b h = grind (arith, nat_tests, h)
-
-same_nat : (k : ℕ) → (k == k) ≡ true
-same_nat k = grind (arith, nat_tests)
 
 same_or_not : (a b : ℕ) → (a ≡ b) ⊎ (a ≢ b)
 same_or_not a b = elim (cases_Bool (a == b)) [ inl e ↦ inl (from_test a b e) | inr e ↦ inr (λ h. false≢true (sym e ∙ same_test a b h)) ]
@@ -170,10 +168,6 @@ arrive_is f n (id ∷ ids) x =
 
 next_key : (j i : ℕ) → j + 1 + i ≡ j + suc i
 next_key j i = omega arith
-
-or_right : (a b : Bool) → b ≡ true → (a || b) ≡ true
-or_right true b h = refl
-or_right false b h = h
 
 in_live : (j i : ℕ) (keys : List (Option ℕ)) (n : ℕ) → get_or keys i None ≡ Some n → among_ids (live_from j keys) (j + i) ≡ true
 in_live j i [] n h = absurd (none-some n h)
