@@ -10,8 +10,6 @@ mod law;
 mod next_line;
 mod run;
 mod summary;
-#[cfg(test)]
-mod tests;
 mod watched;
 
 pub use crate::fault::ScriptFault;

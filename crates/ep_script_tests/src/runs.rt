@@ -1,8 +1,8 @@
 //! Whole scripts, over a kernel without memory.
 
-use crate::tests::stand_ins::{Narrow, NoMemory, Pieces, Unflushed};
-use crate::{ScriptFault, Summary, Watched, run_script};
+use crate::stand_ins::{Narrow, NoMemory, Pieces, Unflushed};
 use ep_base::Limits;
+use ep_script::{ScriptFault, Summary, Watched, run_script};
 use std::alloc::Global;
 use std::test::Fail;
 

@@ -1,13 +1,13 @@
 //! Scripts over the scanning kernel, each line with its answer.
 
-use crate::tests::edges::{EDGE, MODIFIED, PERIODIC};
-use crate::tests::nests::{
+use crate::edges::{EDGE, MODIFIED, PERIODIC};
+use crate::nests::{
     DEATH_BELOW, DELETED, DEPTH, DISARMED, EMPTIED, EXPIRED_BELOW, LEVELS, LOOP_FIRST, TWO_WAYS,
 };
-use crate::tests::parking::{
+use crate::parking::{
     ABOVE, BUSY, CLOSED, COUNTED, DUE, EXPIRED, IN_TURN, OTHERS, REPORTABLE, TAKEN, TIMEOUTS,
 };
-use crate::tests::registrations::{KEY, KINDS, ONE_SHOT, ROUND};
+use crate::registrations::{KEY, KINDS, ONE_SHOT, ROUND};
 
 /// A script over a new kernel of these limits.
 pub(crate) struct Script {

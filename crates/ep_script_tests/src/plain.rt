@@ -1,13 +1,13 @@
 //! Whole scripts over the scanning kernel.
 
-use crate::tests::parking::{IN_TURN, STANDING};
-use crate::tests::scripts::{
+use crate::parking::{IN_TURN, STANDING};
+use crate::scripts::{
     CHANGED_NESTS, DESCRIPTORS, EDGES, HOLDS, LEVEL, NESTS, OBJECTS, PARKED, REGISTRATIONS,
     SINGLE_LINES, Script, TURNS,
 };
-use crate::{ScriptFault, Summary, Watched, run_script};
 use ep_base::{CallerId, Limits};
 use ep_plain::{Kernel, PlainKernel};
+use ep_script::{ScriptFault, Summary, Watched, run_script};
 use std::alloc::Global;
 use std::process::Abort;
 use std::test::Fail;
