@@ -7,7 +7,7 @@ ghost use Rattle.ep_base.specs.declared.errno.Errno.TheVariants.{Eagain, Ebadf, 
 ghost use Rattle.ep_machine.specs.CounterRuns.{greatest_run, semaphore_run};
 ghost use Rattle.ep_machine.specs.DescriptorRuns.{closed_reader_run, closed_socket_run, exec_run, full_tables_run, numbers_run};
 ghost use Rattle.ep_machine.specs.EdgeRuns.{armed_again_run, drained_run, edge_run, modified_run, periodic_run, shut_again_run};
-ghost use Rattle.ep_machine.specs.FairRun.{both_readable, first_told, second_told};
+ghost use Rattle.ep_machine.specs.FairRun.{fair_run};
 ghost use Rattle.ep_machine.specs.FullPipeRun.{full_pipe_run};
 ghost use Rattle.ep_machine.specs.LevelRun.{level_run};
 ghost use Rattle.ep_machine.specs.NestRuns.{added_below_run, depth_run, disarmed_run, emptied_run, levels_run, loop_first_run};
@@ -39,11 +39,12 @@ pub fn full_pipe()
     ensures no_run { is_run default_limits (full_pipe_run (Num 4095)) ≡ false }
 {}
 
-/// epoll_wait(2): of two ready descriptors no wait for one event reports the same one twice in turn.
+/// epoll_wait(2): of three ready descriptors waits for one event report each once before any again, and then in the same order.
 pub fn fair()
-    ensures run { is_run default_limits (both_readable ++ first_told ∷ second_told ∷ first_told ∷ []) ≡ true }
-    ensures other_run { is_run default_limits (both_readable ++ second_told ∷ first_told ∷ second_told ∷ []) ≡ true }
-    ensures no_run { is_run default_limits (both_readable ++ first_told ∷ first_told ∷ []) ≡ false }
+    ensures run { is_run default_limits (fair_run (1 ∷ 2 ∷ 3 ∷ 1 ∷ 2 ∷ 3 ∷ [])) ≡ true }
+    ensures other_run { is_run default_limits (fair_run (2 ∷ 3 ∷ 1 ∷ 2 ∷ 3 ∷ 1 ∷ [])) ≡ true }
+    ensures no_run { is_run default_limits (fair_run (1 ∷ 2 ∷ 1 ∷ [])) ≡ false }
+    ensures no_next_run { is_run default_limits (fair_run (1 ∷ 2 ∷ 3 ∷ 1 ∷ 3 ∷ [])) ≡ false }
 {}
 
 /// EMFILE of pipe2(2) and epoll_create1(2).

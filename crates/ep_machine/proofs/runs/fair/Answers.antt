@@ -14,3 +14,7 @@ returns-clause-other_run c = refl
 pub returns-clause-no_run : goal.returns-clause-no_run
 unfolding is_ready is_reached
 returns-clause-no_run c = refl
+
+pub returns-clause-no_next_run : goal.returns-clause-no_next_run
+unfolding is_ready is_reached
+returns-clause-no_next_run c = refl
