@@ -22,6 +22,7 @@ pub mod Choosing
 pub mod Reported
 pub mod Waited
 pub mod Opening
+pub mod TableCalling
 pub mod Purging
 pub mod Burying
 pub mod Watched

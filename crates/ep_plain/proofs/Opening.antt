@@ -1,5 +1,5 @@
 -- Calls on the tables alone, as the machine makes them.
-use Rattle.std.proofs.Common.{◌≡◌, ℕ, ℤ, Bool, List, [], ◌∷◌, ◌++◌, Option, Some, None, refl, ap, sym, ◌⊎◌, inl, inr, subst}
+use Rattle.std.proofs.Common.{◌≡◌, ℕ, ℤ, Bool, List, [], ◌∷◌, Option, Some, None, refl, ap, sym, ◌⊎◌, inl, inr, subst}
 use Rattle.std.specs.Prelude.{MatchOption}
 use Rattle.ep_base.specs.Limits.{Limits}
 use Rattle.ep_base.specs.declared.answer.Answer.{Answer}
@@ -11,11 +11,11 @@ use Rattle.ep_base.specs.declared.ids.Fd.{Fd}
 use Rattle.ep_interest.specs.Registrations.{Registrations}
 use Rattle.ep_machine.specs.Effect.{first}
 use Rattle.ep_machine.specs.Files.{Files, named_by, names_nothing, object_under, side_under}
-use Rattle.ep_machine.specs.Objects.{Object, object_effect, object_refusals}
+use Rattle.ep_machine.specs.Objects.{object_effect, object_refusals}
 use Rattle.ep_machine.specs.Refusal.{call_refusals, on_object}
 use Rattle.ep_machine.specs.State.{Change, State, Waiter}
-use Rattle.ep_machine.specs.Step.{call_change, files_change, object_change, one_change, two_change}
-use Rattle.ep_machine.specs.Tables.{affected, affected_raises, answer_one, answer_two, create_one, create_two, one_refusals, two_refusals}
+use Rattle.ep_machine.specs.Step.{call_change, files_change, object_change}
+use Rattle.ep_machine.specs.Tables.{affected, affected_raises}
 use Rattle.ep_plain.specs.Moves.{Goes, Makes, Opened, Opens, Parts, Refuses, Stayed}
 use Rattle.ep_plain.specs.Stands.{AreLinked, ArePlaced, KeepsKeys, Stands}
 use Rattle.ep_plain.specs.ObjectCall.{given}
@@ -61,19 +61,6 @@ module _ (refusals : List (Bool × Errno)) (to : Answer) (after : Files) (answer
 module _ {ws : List Waiter} (limits : Limits) (v new : Seen) (r : Registrations) (now : ℕ) (s : State) (p : ℕ) (answer : Answer) (linked : AreLinked v r) (placed : ArePlaced v ws) (stands : Stands v r ws now s) (same : v.limits ≡ limits) where
   abbrev parts : Parts
   parts = record { tables = new; interest = r; parked = ws; now = now }
-
-  pub two_goes : (x : Object) (cloexec : Bool) → Opens (two_refusals v.limits v.files p) (answer_two v.files p) (create_two v.files p x cloexec) answer v new
-      → Goes (two_refusals limits s.files p) (Some (two_change s p x cloexec)) s answer [] parts
-  two_goes x cloexec opens =
-      let P : Limits → Files → Type 0 = λ l f. Goes (two_refusals l f p) (Some (answer_two f p, record s { files = create_two f p x cloexec }, [])) s answer [] parts in
-      subst (λ (l : Limits). P l s.files) same (subst (P v.limits) (sym stands.files) (opens_goes (two_refusals v.limits v.files p) (answer_two v.files p) (create_two v.files p x cloexec) answer v new opens r linked placed now s [] stands))
-
-  -- with further tests before those of a creation
-  pub one_goes : (tests : List (Bool × Errno)) (x : Object) (cloexec : Bool) → Opens (tests ++ one_refusals v.limits v.files p) (answer_one v.files p) (create_one v.files p x cloexec) answer v new
-      → Goes (tests ++ one_refusals limits s.files p) (Some (one_change s p x cloexec)) s answer [] parts
-  one_goes tests x cloexec opens =
-      let P : Limits → Files → Type 0 = λ l f. Goes (tests ++ one_refusals l f p) (Some (answer_one f p, record s { files = create_one f p x cloexec }, [])) s answer [] parts in
-      subst (λ (l : Limits). P l s.files) same (subst (P v.limits) (sym stands.files) (opens_goes (tests ++ one_refusals v.limits v.files p) (answer_one v.files p) (create_one v.files p x cloexec) answer v new opens r linked placed now s [] stands))
 
   -- a call on the tables alone
   pub files_goes : (tests : Limits → Files → List (Bool × Errno)) (to : Files → Answer) (after : Files → Files) → Opens (tests v.limits v.files) (to v.files) (after v.files) answer v new

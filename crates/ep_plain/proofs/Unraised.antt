@@ -19,6 +19,7 @@ use Rattle.ep_machine.specs.Waits.{wait_for}
 use Rattle.ep_machine.specs.Watches.{number_in}
 use Rattle.ep_plain.specs.Moves.{Parts, RaisesCall}
 use Rattle.ep_plain.specs.Raising.{AsRaised, AsRaisedIn, raised_bits}
+use Rattle.ep_plain.specs.TableCall.{IsTableCall}
 use Rattle.ep_plain.specs.declared.raising.Raising.{Raising}
 use Rattle.ep_plain.specs.declared.raising.Raising.TheVariants.{Nowhere}
 use Rattle.ep_table.specs.Value.{Seen}
@@ -32,6 +33,28 @@ IsOffObject (Shutdown fd) = ⊥
 IsOffObject (SetTime fd absolute value interval) = ⊥
 IsOffObject (GetTime fd) = ⊥
 IsOffObject call = Unit {0}
+
+-- as a call on the tables alone is
+pub off_object : (call : Call) → IsTableCall call → IsOffObject call
+off_object (PipeCall cloexec) t = t
+off_object (EventFd init semaphore cloexec) t = t
+off_object (TimerFd clock cloexec) t = t
+off_object (SocketPair cloexec) t = t
+off_object (Plain cloexec) t = t
+off_object (EpollCreate cloexec) t = t
+off_object (EpollCtl epfd op fd mask tag) t = t
+off_object (EpollWait epfd most timeout) t = tt
+off_object (Read fd n) t = t
+off_object (Write fd bytes) t = t
+off_object (Shutdown fd) t = t
+off_object (SetTime fd absolute value interval) t = t
+off_object (GetTime fd) t = t
+off_object (Dup fd) t = t
+off_object (Dup2 fd to) t = t
+off_object (Close fd) t = t
+off_object Fork t = t
+off_object Exec t = t
+off_object Exit t = t
 
 abbrev RaisesNothing : Change → Type 0
 RaisesNothing c = (d : ℕ) → can_be_watched (object_of c.1.files d) ≡ true → raised_of c.2 d ≡ 0

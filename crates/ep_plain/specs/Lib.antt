@@ -13,3 +13,4 @@ pub mod Reports
 pub mod Standing
 pub mod Burial
 pub mod Climb
+pub mod TableCall

@@ -1,5 +1,5 @@
 -- Which states of the machine the parts of a kernel stand for.
-use Rattle.std.specs.Prelude.{Some, ◌≡◌, ◌<◌, All, IsSome, List, None, Option, [], map, pos, slice_index_or, unwrap_or, ℕ}
+use Rattle.std.specs.Prelude.{Some, ◌≡◌, ◌<◌, All, IsSome, List, None, Option, map, pos, slice_index_or, unwrap_or, ℕ}
 use Rattle.ep_base.specs.declared.ids.DescId.{DescId}
 use Rattle.ep_machine.specs.Kept.{kept_all}
 use Rattle.ep_machine.specs.Marks.{at_number}
@@ -44,10 +44,6 @@ pub record Stands (tables : Seen) (interest : Registrations) (parked : List Wait
   pub watches : kept_all s s.watches ≡ map (watch_at tables.keys) interest.entries
   pub added : s.added ≡ interest.added
   pub waiters : s.waiters ≡ waiters_at tables.keys parked
-
--- one of the states that these parts stand for
-abbrev pub state_at : Seen → Registrations → List Waiter → ℕ → State
-state_at tables interest parked now = record { n = 0; now = now; files = tables.files; arrivals = []; watches = map (watch_at tables.keys) interest.entries; added = interest.added; waiters = waiters_at tables.keys parked }
 
 -- each key keeps its number
 abbrev pub KeepsKeys : Seen → Seen → Type 0

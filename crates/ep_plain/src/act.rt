@@ -13,15 +13,13 @@ ghost use Rattle.ep_plain.specs.Stands.{AreLinked, ArePlaced, KeepsKeys};
 use crate::acted::Acted;
 use crate::clock::tick;
 use crate::control::{Control, epoll_ctl};
-use crate::create::{create_pair, create_pipe, create_single, create_timer};
-use crate::descriptors::{close, dup, dup2, exec, exit, fork};
 use crate::object_call::object_call;
 use crate::parking::resume;
+use crate::table_call::table_call;
 use crate::wait::{Wait, epoll_wait};
 use ep_base::{Call, CallerId, Errno, Event, Limits, Pid};
 use ep_interest::Interest;
 use ep_nest::Graph;
-use ep_object::Object;
 use ep_park::Park;
 use ep_table::Tables;
 use std::alloc::{AllocError, Global};
@@ -67,35 +65,6 @@ fn act_call(
     ensures err { OnErr result ((tables.new ≡ tables.old) × (interest.new ≡ interest.old) × (graph.new ≡ graph.old) × (waiters.new ≡ waiters.old)) }
 {
     match call {
-        Call::Pipe { cloexec } => {
-            let acted = create_pipe(alloc, tables, pid, *cloexec, limits.pipe_bytes())?;
-            Ok(acted)
-        }
-        Call::SocketPair { cloexec } => {
-            let acted = create_pair(alloc, tables, pid, *cloexec, limits.sock_bytes())?;
-            Ok(acted)
-        }
-        Call::EventFd {
-            init,
-            semaphore,
-            cloexec,
-        } => {
-            let counter = Object::counter(alloc, *init, *semaphore);
-            let acted = create_single(alloc, tables, pid, *cloexec, counter)?;
-            Ok(acted)
-        }
-        Call::TimerFd { clock, cloexec } => {
-            let acted = create_timer(alloc, tables, pid, *clock, *cloexec)?;
-            Ok(acted)
-        }
-        Call::Plain { cloexec } => {
-            let acted = create_single(alloc, tables, pid, *cloexec, Object::plain(alloc))?;
-            Ok(acted)
-        }
-        Call::EpollCreate { cloexec } => {
-            let acted = create_single(alloc, tables, pid, *cloexec, Object::instance())?;
-            Ok(acted)
-        }
         Call::EpollCtl {
             epfd,
             op,
@@ -132,34 +101,8 @@ fn act_call(
             let acted = object_call(alloc, tables, now, pid, *fd, call)?;
             Ok(acted)
         }
-        Call::Dup { fd } => {
-            let acted = dup(alloc, tables, pid, *fd)?;
-            Ok(acted)
-        }
-        Call::Dup2 { fd, to } => {
-            let acted = dup2(alloc, tables, pid, *fd, *to)?;
-            Ok(acted)
-        }
-        Call::Close { fd } => {
-            let acted = close(alloc, tables, pid, *fd);
-            Ok(acted)
-        }
-        Call::Fork => {
-            let acted = fork(alloc, tables, pid)?;
-            Ok(acted)
-        }
-        Call::Exec => {
-            if waiters.any_of(pid) {
-                return Ok(Acted::refused(alloc, Errno::Ebusy));
-            }
-            let acted = exec(alloc, tables, pid);
-            Ok(acted)
-        }
-        Call::Exit => {
-            if waiters.any_of(pid) {
-                return Ok(Acted::refused(alloc, Errno::Ebusy));
-            }
-            let acted = exit(alloc, tables, pid);
+        _ => {
+            let acted = table_call(alloc, limits, tables, waiters, pid, call)?;
             Ok(acted)
         }
     }

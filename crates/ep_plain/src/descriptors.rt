@@ -1,17 +1,20 @@
 //! Calls on descriptors and processes: dup, dup2, close, fork, exec and exit.
 ghost use Rattle.std.specs.Prelude.{◌≡◌, [], ◌∷◌, IfOk, OnErr, OnOk, false, is_some, length, nat_le, not, true};
+ghost use Rattle.std.specs.List.{list_any};
 ghost use Rattle.ep_base.specs.declared.answer.Answer.TheVariants.{Done, Num};
 ghost use Rattle.ep_base.specs.declared.errno.Errno.{Errno as AnErrno};
 ghost use Rattle.ep_machine.specs.Files.{named_by, names_nothing, numbers_of, table_of};
 ghost use Rattle.ep_machine.specs.Lists.{numbered};
 ghost use Rattle.ep_machine.specs.Tables.{answer_one, close as closed, dup as duplicated, dup2 as duplicated_to, exec as executed, exit as exited, fork as forked, is_in_range, one_free};
 ghost use Rattle.ep_machine.specs.Watches.{number_in};
+ghost use Rattle.ep_park.specs.Waiters.{is_of};
 ghost use Rattle.ep_plain.specs.declared.raising.Raising.TheVariants.{Nowhere};
 ghost use Rattle.ep_plain.specs.Acts.{is_no_memory};
 ghost use Rattle.ep_plain.specs.Moves.{Grows, KeepsHolds, Opens};
 
 use crate::acted::Acted;
-use ep_base::{Fd, Pid};
+use ep_base::{Errno, Fd, Pid};
+use ep_park::Park;
 use ep_table::Tables;
 use std::alloc::{AllocError, Global};
 
@@ -88,10 +91,10 @@ pub fn fork(alloc: Global, tables: &mut Tables, pid: Pid) -> Result<Acted, Alloc
     Ok(Acted::settled(alloc, answer))
 }
 
-/// execve(2): closes the descriptors with close-on-exec. No caller is parked, so nothing refuses it.
-pub fn exec(alloc: Global, tables: &mut Tables, pid: Pid) -> Acted
+/// execve(2): closes the descriptors with close-on-exec, or EBUSY where a caller of the process is parked.
+pub fn exec(alloc: Global, tables: &mut Tables, waiters: &Park, pid: Pid) -> Acted
     requires process { is_some (table_of tables.old.files pid.0) ≡ true }
-    ensures ok { Opens ([]) Done (executed tables.old.files pid.0) result.answer tables.old tables.new }
+    ensures ok { Opens ((list_any (is_of pid.0) waiters.now, AnErrno.Ebusy) ∷ []) Done (executed tables.old.files pid.0) result.answer tables.old tables.new }
     ensures copy { result.copy ≡ result.answer }
     ensures picked { result.picked ≡ [] }
     ensures raising { result.raising ≡ Nowhere }
@@ -99,14 +102,17 @@ pub fn exec(alloc: Global, tables: &mut Tables, pid: Pid) -> Acted
     ensures grows { Grows tables.old.files tables.new.files }
     ensures holds { KeepsHolds tables.old tables.new }
 {
+    if waiters.any_of(pid) {
+        return Acted::refused(alloc, Errno::Ebusy);
+    }
     let answer = tables.exec(pid);
     Acted::settled(alloc, answer)
 }
 
-/// exit(2): closes all descriptors and ends the process. No caller is parked, so nothing refuses it.
-pub fn exit(alloc: Global, tables: &mut Tables, pid: Pid) -> Acted
+/// exit(2): closes all descriptors and ends the process, or EBUSY where a caller of it is parked.
+pub fn exit(alloc: Global, tables: &mut Tables, waiters: &Park, pid: Pid) -> Acted
     requires process { is_some (table_of tables.old.files pid.0) ≡ true }
-    ensures ok { Opens ([]) Done (exited tables.old.files pid.0) result.answer tables.old tables.new }
+    ensures ok { Opens ((list_any (is_of pid.0) waiters.now, AnErrno.Ebusy) ∷ []) Done (exited tables.old.files pid.0) result.answer tables.old tables.new }
     ensures copy { result.copy ≡ result.answer }
     ensures picked { result.picked ≡ [] }
     ensures raising { result.raising ≡ Nowhere }
@@ -114,6 +120,9 @@ pub fn exit(alloc: Global, tables: &mut Tables, pid: Pid) -> Acted
     ensures grows { Grows tables.old.files tables.new.files }
     ensures holds { KeepsHolds tables.old tables.new }
 {
+    if waiters.any_of(pid) {
+        return Acted::refused(alloc, Errno::Ebusy);
+    }
     let answer = tables.exit(pid);
     Acted::settled(alloc, answer)
 }

@@ -16,6 +16,7 @@ mod plain;
 mod raising;
 mod readiness;
 mod runs;
+mod table_call;
 mod wait;
 
 pub use crate::kernel::Kernel;
