@@ -1,6 +1,4 @@
-//! Laws of the machine that rest on the laws of objects.
+//! Laws of the abstract machine, over all its runs.
 #![tactic(auto)]
 
-mod law;
-
-pub use crate::law::beginnings_are_spread;
+pub mod laws;

@@ -1,6 +1,7 @@
--- Marks, where `ready` says which instances are ready.
+-- Whom the end of an event marks.
 use Rattle.std.specs.Prelude.{Bool, List, [], map, not, ℕ, ◌&&◌, ◌||◌, ◌∷◌}
-use Rattle.ep_machine.specs.State.{Waiter}
+use Rattle.ep_machine.specs.Readiness.{is_ready}
+use Rattle.ep_machine.specs.State.{State, Waiter}
 use Rattle.ep_machine.specs.Waits.{is_marked_at, marked_if_due, waits_at}
 
 -- the first of `all` that waits at a ready instance of which none of them is marked; `before` are those parked earlier
@@ -10,10 +11,9 @@ first_marked ready all before (w ∷ ws) =
     record w { marked = w.marked || not (waits_at before w.instance) && not (is_marked_at all w.instance) && ready w.instance }
     ∷ first_marked ready all (w ∷ before) ws
 
--- those that are due, and then the first at each ready instance
+-- those that are due, and then the first at each instance that is ready
 abbrev pub marked_by : (ℕ → Bool) → ℕ → List Waiter → List Waiter
 marked_by ready now ws = let due = map (marked_if_due now) ws in first_marked ready due [] due
 
--- a waiter whose instance stands under another number
-abbrev pub at_number : (ℕ → ℕ) → Waiter → Waiter
-at_number number w = record w { instance = number w.instance }
+abbrev pub with_marks : State → State
+with_marks s = record s { waiters = marked_by (is_ready s) s.now s.waiters }

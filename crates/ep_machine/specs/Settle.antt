@@ -4,7 +4,7 @@ use Rattle.ep_machine.specs.Deaths.{buried}
 use Rattle.ep_machine.specs.Readiness.{is_reportable}
 use Rattle.ep_machine.specs.Spread.{arrived}
 use Rattle.ep_machine.specs.State.{State, Watch}
-use Rattle.ep_machine.specs.Waits.{with_marks}
+use Rattle.ep_machine.specs.Marks.{with_marks}
 use Rattle.ep_machine.specs.Lists.{is_among}
 
 abbrev pub reportable_numbers : State → List ℕ

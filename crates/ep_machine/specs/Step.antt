@@ -75,10 +75,10 @@ abbrev pub refused_or : Option Errno → State → List ℕ → Option Change �
 refused_or (Some e) s picked c = plainly picked (Refused e, s)
 refused_or None s picked c = settled s c
 
-abbrev pub begun : State → State
-begun s = record s { n = s.n + 1 }
+abbrev pub next_event : State → State
+next_event s = record s { n = s.n + 1 }
 
 abbrev pub step : Limits → State → ℕ → Event → List ℕ → Option (Answer × State)
 step limits s caller event picked =
-    let now = begun s in
+    let now = next_event s in
     refused_or (first (refusals limits now caller event)) now picked (change limits now caller event picked)

@@ -1,4 +1,4 @@
--- Waiting, resuming, and who is marked.
+-- Waiting and resuming.
 use Rattle.std.specs.List.{find, list_any}
 use Rattle.std.specs.Prelude.{Bool, List, None, Option, Some, [], false, filter, if◌then◌else◌, map, nat_le, nat_lt, negsuc, not, pos, suc, unwrap_or, zero, ℕ, ℤ, ◌&&◌, ◌++◌, ◌+◌, ◌==◌, ◌||◌, ◌∷◌}
 use Rattle.ep_base.specs.declared.answer.Answer.TheVariants.{Done, Events, Parked, Still}
@@ -75,7 +75,7 @@ advance_at s now x = (x.0, advance (unwrap_or (object_at s.files (Some x.1)) pla
 abbrev pub tick : State → ℕ → Change
 tick s k = (Done, record s { now = s.now + k }, map (advance_at s (s.now + k)) (live s.files))
 
--- Marks.
+-- who is marked, and where
 abbrev pub marked_if_due : ℕ → Waiter → Waiter
 marked_if_due now w = record w { marked = w.marked || is_due now w.deadline }
 
@@ -84,19 +84,3 @@ waits_at ws e = list_any (λ w. w.instance == e) ws
 
 abbrev pub is_marked_at : List Waiter → ℕ → Bool
 is_marked_at ws e = list_any (λ w. w.instance == e && w.marked) ws
-
--- the first that waits at a ready instance of which no waiter is marked; `before` are those parked earlier
-abbrev pub marked_first : State → List Waiter → List Waiter → List Waiter
-marked_first s before [] = []
-marked_first s before (w ∷ ws) =
-    record w { marked = w.marked || not (waits_at before w.instance) && not (is_marked_at s.waiters w.instance) && is_ready s w.instance }
-    ∷ marked_first s (w ∷ before) ws
-
-abbrev pub with_due : State → State
-with_due s = record s { waiters = map (marked_if_due s.now) s.waiters }
-
-abbrev pub with_first : State → State
-with_first s = record s { waiters = marked_first s [] s.waiters }
-
-abbrev pub with_marks : State → State
-with_marks s = with_first (with_due s)

@@ -1,5 +1,15 @@
-//! The abstract machine: definitions, and what is proved of them as contracts of functions that do nothing.
+//! The abstract machine: definitions alone, which compute. There is no function here and no proof; what is proved of
+//! these definitions stands in the crates above.
+//!
+//! A reader believes the files of `specs/`, in this order:
+//!
+//! 1. `Lists`, `Bits`, `Counts`: words on lists, sets of bits, and how often each bit arrived.
+//! 2. `Effect`, `Pipe`, `Sockets`, `Counters`, `Timer`, `Objects`: the six kinds of object, and what a call on one gives.
+//! 3. `Files`, `State`: descriptors, open file descriptions and objects; the whole state.
+//! 4. `Readiness`: what holds at a description, and what is reportable.
+//! 5. `Tables`, `Watches`, `Report`, `Waits`: what each call changes.
+//! 6. `Deaths`, `Spread`, `Settle`: the end of each event.
+//! 7. `Refusal`, `Step`, `Run`: the refusals of every call, one step, and which lists of records are runs.
+//!
+//! `Marks` has the marks of waiters once more, by a test of what is ready: contracts of the parts cite it.
 #![tactic(auto)]
-
-pub mod laws;
-pub mod runs;

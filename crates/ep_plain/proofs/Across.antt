@@ -10,11 +10,11 @@ use Rattle.ep_interest.specs.Registrations.{is_on}
 use Rattle.ep_interest.specs.declared.entry.Entry.{Entry}
 use Rattle.ep_machine.specs.Bits.{asked, at_end, when}
 use Rattle.ep_machine.specs.Counts.{brings}
-use Rattle.ep_machine.specs.Kept.{stirred}
-use Rattle.ep_machine.proofs.Reaching.{zero_asked, zero_brings}
+use Rattle.ep_view.specs.KernelView.{stirred}
+use Rattle.ep_view.proofs.ClimbLemmas.{zero_asked, zero_brings}
 use Rattle.ep_machine.specs.Files.{Files, Place, place_of}
-use Rattle.ep_machine.proofs.Survivors.{Apart}
-use Rattle.ep_machine.proofs.Tests.{from_test, same_test}
+use Rattle.ep_view.proofs.DeathLemmas.{Apart}
+use Rattle.ep_law.proofs.TestLemmas.{from_test, same_test}
 use Rattle.ep_plain.specs.Raising.{raised_there}
 use Rattle.ep_plain.specs.Stands.{IsLinked, number_at, watch_at}
 use Rattle.ep_plain.proofs.Keys.{under_key}

@@ -9,18 +9,17 @@ use Rattle.ep_machine.specs.Counts.{brings}
 use Rattle.ep_machine.specs.Deaths.{die_all, dying, named_in_tables}
 use Rattle.ep_machine.specs.Files.{Files, Place, is_live, object_of, place_of}
 use Rattle.ep_machine.specs.Lists.{are_distinct, is_among}
-use Rattle.ep_machine.specs.Kept.{climbed_all, freshened, kept_all, kept_of, settled_watches, stays_in, stirred}
-use Rattle.ep_machine.specs.Quiet.{Changed, IsSettled, can_be_watched, is_backed, kind_of, marks_of}
+use Rattle.ep_view.specs.KernelView.{climbed_all, freshened, kernel_watches, kernel_watch, settled_watches, stays_in, stirred}
+use Rattle.ep_view.specs.AtRest.{Changed, Settles, can_be_watched, is_backed, kind_of, marks_of}
 use Rattle.ep_machine.specs.Spread.{raised_of}
 use Rattle.ep_machine.specs.State.{State, Watch, Waiter}
-use Rattle.ep_machine.proofs.Arriving.{deaths_raise, fresh_filter, fresh_parts}
-use Rattle.ep_machine.proofs.Survivors.{Apart, same_raised}
-use Rattle.ep_machine.proofs.Burying.{Buried, all_buried}
-use Rattle.ep_machine.proofs.Living.{dying_distinct, dying_placed}
-use Rattle.ep_machine.proofs.Dying.{ArePlaced, after_all, numbers, same_dead}
-use Rattle.ep_machine.proofs.Naming.{among_append}
-use Rattle.ep_machine.proofs.Settling.{dying_test}
-use Rattle.ep_machine.proofs.Tests.{or_right, same_nat}
+use Rattle.ep_view.proofs.FreshLemmas.{deaths_raise, fresh_filter, fresh_parts}
+use Rattle.ep_view.proofs.DeathLemmas.{Apart, same_raised, Buried, all_buried}
+use Rattle.ep_law.proofs.NamedLivesLemmas.{dying_distinct, dying_placed}
+use Rattle.ep_law.proofs.DeathLemmas.{ArePlaced, after_all, numbers, same_dead}
+use Rattle.ep_view.proofs.FilesLemmas.{among_append}
+use Rattle.ep_view.proofs.SettleLemmas.{dying_test}
+use Rattle.ep_law.proofs.TestLemmas.{or_right, same_nat}
 use Rattle.ep_interest.specs.declared.entry.Entry.{Entry}
 use Rattle.ep_nest.specs.declared.link.Link.{Link}
 use Rattle.ep_plain.specs.Burial.{Burial, is_untouched}
@@ -33,7 +32,7 @@ use Rattle.ep_plain.proofs.Watched.{KeepKinds, nested_left}
 use Rattle.ep_table.specs.Value.{Sound, count_at}
 
 module _ (n : ℕ) (mid new : Parts) (burial : Burial n mid.tables mid.interest new.tables new.interest) (clock : new.now ≡ mid.now) (linked : AreLinked mid.tables mid.interest) (left_parked : new.parked ≡ mid.parked) (sound_new : Sound new.tables) (waiting : ArePlacedAt mid.tables mid.parked) (held : AreHeld mid.tables mid.parked)
-    (after t : State) (raised : List (ℕ × ℕ)) (changed : Changed after) (settled : IsSettled after raised t) (at : after.n ≡ n) (stands : StandsRaised n mid raised after) where
+    (after t : State) (raised : List (ℕ × ℕ)) (changed : Changed after) (settled : Settles after raised t) (at : after.n ≡ n) (stands : StandsRaised n mid raised after) where
   abbrev dead : List (ℕ × Place)
   dead = burial.buries.dead
 
@@ -151,9 +150,9 @@ module _ (n : ℕ) (mid new : Parts) (burial : Burial n mid.tables mid.interest 
     with_one false e rest = rest
 
   -- what was raised, by the event and by deaths, is noted
-  all_noted : map (freshened n (die_all (after.files, raised) (dying after)).1) (filter (stays_in t.files) (kept_all after after.watches)) ≡ map (watch_at new.tables.keys) new.interest.entries
+  all_noted : map (freshened n (die_all (after.files, raised) (dying after)).1) (filter (stays_in t.files) (kernel_watches after after.watches)) ≡ map (watch_at new.tables.keys) new.interest.entries
   all_noted =
-      let kept = kept_all after after.watches in
+      let kept = kernel_watches after after.watches in
       let ws = map (watch_at mid.tables.keys) mid.interest.entries in
       ap (λ (rs : List (ℕ × ℕ)). map (freshened n rs) (filter (stays_in t.files) kept)) (deaths_raise after.files raised (dying after))
       ∙ (fresh_parts n raised of_machine (filter (stays_in t.files) kept)
@@ -220,7 +219,7 @@ module _ (n : ℕ) (mid new : Parts) (burial : Burial n mid.tables mid.interest 
         files = same;
         watches =
             settled.watches
-            ∙ ((λ i. settled_watches (at i) t.files (freshened (at i) (die_all (after.files, raised) (dying after)).1) (filter (stays_in t.files) (kept_all after after.watches)))
+            ∙ ((λ i. settled_watches (at i) t.files (freshened (at i) (die_all (after.files, raised) (dying after)).1) (filter (stays_in t.files) (kernel_watches after after.watches)))
             ∙ (ap (climbed_all n t.files) all_noted ∙ ap (λ (f : Files). climbed_all n f (map (watch_at new.tables.keys) new.interest.entries)) same));
         added = settled.added ∙ (stands.added ∙ sym burial.buries.added);
         waiters = settled.waiters ∙ ap (marks_of t) (stands.waiters ∙ waiters_left);
@@ -238,7 +237,7 @@ module _ (n : ℕ) (mid new : Parts) (burial : Burial n mid.tables mid.interest 
       let P : Files → Watch → Type 0 = λ f w. (is_live f w.target ≡ true) × (can_be_watched (object_of f w.target) ≡ true) in
       let steady : All (P after.files) after.watches = λ k d lt. ((changed.watches k d lt).target_lives, (changed.watches k d lt).target_shows) in
       subst (λ (f : Files). All (P f) (map (watch_at mid.tables.keys) mid.interest.entries)) stands.files
-      (subst (All (P after.files)) stands.watches (All-map (P after.files) (freshened n raised) (kept_all after after.watches) (All-map (P after.files) (kept_of after) after.watches steady)))
+      (subst (All (P after.files)) stands.watches (All-map (P after.files) (freshened n raised) (kernel_watches after after.watches) (All-map (P after.files) (kernel_watch after) after.watches steady)))
 
   same_kind : (w : Watch) → Shown w → is_untouched (numbers dead) w ≡ true → SameKind w
   same_kind w shown untouched =

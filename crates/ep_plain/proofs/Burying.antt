@@ -15,18 +15,18 @@ use Rattle.ep_machine.specs.Deaths.{die, die_all}
 use Rattle.ep_machine.specs.Files.{Files, Place, object_at, place_of, raised_at}
 use Rattle.ep_machine.specs.Lists.{is_among}
 use Rattle.ep_machine.specs.Objects.{close_end, plain}
-use Rattle.ep_machine.specs.Kept.{freshened, stirred}
+use Rattle.ep_view.specs.KernelView.{freshened, stirred}
 use Rattle.ep_machine.specs.Spread.{raised_of}
 use Rattle.ep_machine.specs.State.{Watch}
-use Rattle.ep_machine.proofs.Arriving.{fresh_parts, raised_live, raised_place}
-use Rattle.ep_machine.proofs.Dying.{ArePlaced, after_all, after_first, get_place, numbers, raised_before}
+use Rattle.ep_view.proofs.FreshLemmas.{fresh_parts, raised_live, raised_place}
+use Rattle.ep_law.proofs.DeathLemmas.{ArePlaced, after_all, after_first, get_place, numbers, raised_before}
 use Rattle.ep_interest.specs.Registrations.{Registrations, is_apart_from, is_on}
 use Rattle.ep_interest.specs.declared.entry.Entry.{Entry}
 use Rattle.ep_plain.specs.Burial.{Buries, is_untouched}
-use Rattle.ep_machine.proofs.Survivors.{Apart}
+use Rattle.ep_view.proofs.DeathLemmas.{Apart}
 use Rattle.ep_plain.specs.Raising.{raised_there}
 use Rattle.ep_plain.specs.Stands.{AreLinked, IsLinked, number_at, watch_at}
-use Rattle.ep_machine.proofs.Reaching.{zero_asked, zero_brings}
+use Rattle.ep_view.proofs.ClimbLemmas.{zero_asked, zero_brings}
 use Rattle.ep_plain.proofs.Across.{a_place, elsewhere, link_noted, noted, watch_noted}
 use Rattle.ep_plain.proofs.Keys.{same_keys, under_key}
 use Rattle.ep_table.specs.Closing.{opposite}

@@ -10,9 +10,9 @@ use Rattle.ep_machine.specs.Bits.{ONESHOT, has_bit}
 use Rattle.ep_machine.specs.Counts.{no_counts}
 use Rattle.ep_machine.specs.Lists.{is_among}
 use Rattle.ep_plain.proofs.Found.{some_one}
-use Rattle.ep_plain.specs.Wait.{noted_in}
+use Rattle.ep_plain.specs.Wait.{with_report}
 use Rattle.ep_plain.specs.declared.wait.Reportable.{Reportable}
-use Rattle.ep_machine.proofs.Tests.{from_test}
+use Rattle.ep_law.proofs.TestLemmas.{from_test}
 
 get_entry : (xs : List Reportable) (k : ℕ) (d : Entry) (e : Reportable) → k < length xs → get_or (map (λ (x : Reportable). x.entry) xs) k d ≡ (get_or xs k e).entry
 get_entry [] k d e lt = absurd (omega arith)
@@ -58,24 +58,24 @@ number_noted : (n : ℕ) (b : Bool) (x : Entry) → (cond b (disarmed n x) x).nu
 number_noted n true x = refl
 number_noted n false x = refl
 
-pub noted_more : (n k : ℕ) (ks : List ℕ) (xs : List Entry) → map (noted_in n (k ∷ [])) (map (noted_in n ks) xs) ≡ map (noted_in n (ks ++ k ∷ [])) xs
+pub noted_more : (n k : ℕ) (ks : List ℕ) (xs : List Entry) → map (with_report n (k ∷ [])) (map (with_report n ks) xs) ≡ map (with_report n (ks ++ k ∷ [])) xs
 noted_more n k ks [] = refl
 noted_more n k ks (x ∷ xs) =
-    let y = noted_in n ks x in
+    let y = with_report n ks x in
     let a : ((y.number == k) || false) ≡ (x.number == k) = or_false (y.number == k) ∙ ap (λ (m : ℕ). m == k) (number_noted n (is_among ks x.number) x) in
-    let one : noted_in n (k ∷ []) y ≡ noted_in n (ks ++ k ∷ []) x =
+    let one : with_report n (k ∷ []) y ≡ with_report n (ks ++ k ∷ []) x =
     ap (λ (c : Bool). cond c (disarmed n y) y) a
     ∙ (noted_one n (is_among ks x.number) (x.number == k) x
     ∙ ap (λ (b : Bool). cond b (disarmed n x) x) (sym (among_more ks k x.number))) in
     λ i. one i ∷ noted_more n k ks xs i
 
 -- what is noted of the registration with a number, where each of that number has these fields
-pub noted_at : (n k : ℕ) (armed : Bool) (from : ℕ) (xs : List Entry) → AllByRecursion (λ x. (x.number == k) ≡ true → ((x.armed && not (has_bit x.mask.0 ONESHOT)) ≡ armed) × (x.from ≡ from)) xs → map (noted k armed (Some no_counts) n from) xs ≡ map (noted_in n (k ∷ [])) xs
+pub noted_at : (n k : ℕ) (armed : Bool) (from : ℕ) (xs : List Entry) → AllByRecursion (λ x. (x.number == k) ≡ true → ((x.armed && not (has_bit x.mask.0 ONESHOT)) ≡ armed) × (x.from ≡ from)) xs → map (noted k armed (Some no_counts) n from) xs ≡ map (with_report n (k ∷ [])) xs
 noted_at n k armed from [] h = refl
 noted_at n k armed from (x ∷ xs) h =
     let rest = noted_at n k armed from xs h.1 in
     let set : Bool → ℕ → Entry = λ a m. record x { armed = a; seen = Some no_counts; rep = n; from = m } in
-    let one : noted k armed (Some no_counts) n from x ≡ noted_in n (k ∷ []) x =
+    let one : noted k armed (Some no_counts) n from x ≡ with_report n (k ∷ []) x =
     elim (cases_Bool (x.number == k)) [
       | inl e ↦
           let same = h.0 e in
@@ -96,6 +96,6 @@ of_number k y all (x ∷ xs) is h = (
   of_number k y all xs is h.1,
 )
 
-pub noted_none : (n : ℕ) (xs : List Entry) → map (noted_in n []) xs ≡ xs
+pub noted_none : (n : ℕ) (xs : List Entry) → map (with_report n []) xs ≡ xs
 noted_none n [] = refl
 noted_none n (x ∷ xs) = ap (λ (ys : List Entry). x ∷ ys) (noted_none n xs)

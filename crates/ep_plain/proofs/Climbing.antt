@@ -11,15 +11,15 @@ use Rattle.ep_interest.specs.declared.entry.Entry.{Entry}
 use Rattle.ep_machine.specs.Bits.{IN}
 use Rattle.ep_machine.specs.Counts.{brings}
 use Rattle.ep_machine.specs.Files.{Files, object_of}
-use Rattle.ep_machine.specs.Kept.{carries, climbed, climbed_all, reached_now, reached_within}
-use Rattle.ep_machine.specs.Laws.{Member}
+use Rattle.ep_view.specs.KernelView.{carries, climbed, climbed_all, reached_now, reached_within}
+use Rattle.ep_law.specs.Laws.{Member}
 use Rattle.ep_machine.specs.Objects.{is_instance, plain}
 use Rattle.ep_machine.specs.State.{Watch}
 use Rattle.ep_nest.specs.declared.link.Link.{Link}
 use Rattle.ep_plain.specs.Climb.{climbs_to, is_nested, link_of}
 use Rattle.ep_plain.specs.Stands.{IsLinked, number_at, watch_at}
 use Rattle.ep_table.specs.Value.{Seen, number_under}
-use Rattle.ep_machine.proofs.Tests.{from_test}
+use Rattle.ep_law.proofs.TestLemmas.{from_test}
 
 -- what was seen plays no part in what is reached
 module _ (keys : List (Option ℕ)) (files : Files) (n : ℕ) (seen : Entry → Option Counts) where

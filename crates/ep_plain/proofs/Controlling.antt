@@ -23,8 +23,8 @@ use Rattle.ep_machine.specs.Step.{call_change}
 use Rattle.ep_machine.specs.Watches.{add, ctl, delete, has_key as has_numbers, looked_at, modified as modified_watch, modify, new_watch, with_watch}
 use Rattle.std.proofs.lemmas.List.{map-append}
 use Rattle.std.proofs.lemmas.List.Elements.{All-append, All-cons, All-filter, All-nil}
-use Rattle.ep_machine.specs.Kept.{kept_of}
-use Rattle.ep_plain.specs.Control.{Alters, Enters, Names, code_of, control_call, is_deep_at, is_done, is_refused_op, looked, naming_refusals, room_refusals}
+use Rattle.ep_view.specs.KernelView.{kernel_watch}
+use Rattle.ep_plain.specs.Control.{Alters, Enters, Names, code_of, control_call, is_deep_at, is_done, is_refused_op, raising_of_ctl, naming_refusals, room_refusals}
 use Rattle.ep_plain.specs.Moves.{Goes}
 use Rattle.ep_interest.specs.Registrations.{Registrations, has_key, is_other, modified, new_entry}
 use Rattle.ep_plain.specs.Stands.{AreLinked, IsLinked, Stands, number_at, watch_at}
@@ -42,7 +42,7 @@ use Rattle.ep_plain.specs.Raising.{Raises, raised_bits}
 use Rattle.ep_plain.specs.Readiness.{entry_shows, readiness}
 use Rattle.ep_plain.specs.declared.raising.Raising.{Raising}
 use Rattle.ep_plain.specs.declared.raising.Raising.TheVariants.{Instance, Nowhere}
-use Rattle.ep_machine.proofs.Showing.{kept_filter}
+use Rattle.ep_view.proofs.KernelViewLemmas.{kept_filter}
 use Rattle.ep_plain.proofs.Found.{all_modified, changed, linked_modified, without}
 use Rattle.ep_plain.proofs.Linking.{count_is, there_is}
 
@@ -184,12 +184,12 @@ module _ {ws : List Waiter} (limits : Limits) (v : Seen) (r : Registrations) (s 
   abbrev pub GoesTo : ℕ → Answer → Registrations → Type 0
   GoesTo caller answer new =
       Goes (ctl_refusals limits s p args.epfd.0 args.op args.fd.0 args.mask.0) (call_change limits s caller p (control_call args) []) s answer [] (record { tables = v; interest = new; parked = ws; now = now })
-      × ((raising : Raising) → raising ≡ (if is_done answer then looked v now new named args.fd else Nowhere) → Raises (ctl_refusals limits s p args.epfd.0 args.op args.fd.0 args.mask.0) (call_change limits s caller p (control_call args) []) raising v now)
+      × ((raising : Raising) → raising ≡ (if is_done answer then raising_of_ctl v now new named args.fd else Nowhere) → Raises (ctl_refusals limits s p args.epfd.0 args.op args.fd.0 args.mask.0) (call_change limits s caller p (control_call args) []) raising v now)
 
   refuses : (caller : ℕ) (e : Errno) (answer : Answer) (new : Registrations) → first refusals ≡ Some e → answer ≡ Refused e → new ≡ r → GoesTo caller answer new
   refuses caller e answer new h a same = (
     subst (λ (b : Answer). GoesBy caller b new) (sym a) (subst (λ (q : Registrations). GoesBy caller (Refused e) q) (sym same) (goes_refused refusals (change caller) s _ e h stands)),
-    λ raising told. raises_refused refusals (change caller) v now e raising h (told ∙ ap (λ (b : Answer). if is_done b then looked v now new named args.fd else Nowhere) a),
+    λ raising told. raises_refused refusals (change caller) v now e raising h (told ∙ ap (λ (b : Answer). if is_done b then raising_of_ctl v now new named args.fd else Nowhere) a),
   )
 
   pub goes_einval : (n caller : ℕ) → is_refused_op args.op args.mask.0 ≡ true → GoesTo caller (Refused Einval) r
@@ -204,10 +204,10 @@ module _ {ws : List Waiter} (limits : Limits) (v : Seen) (r : Registrations) (s 
   abbrev fd : ℕ
   fd = number_in args.fd.0
 
-  makes : (caller : ℕ) (c : Change) (answer : Answer) (new : Registrations) → first refusals ≡ None → ctl s p args.epfd.0 args.op args.fd.0 args.mask.0 args.tag ≡ c → c.0 ≡ Done → answer ≡ Done → Stands v new ws now c.1 → ((k : ℕ) → raised_of c.2 k ≡ raised_bits (looked v now new named args.fd) v now k) → GoesTo caller answer new
+  makes : (caller : ℕ) (c : Change) (answer : Answer) (new : Registrations) → first refusals ≡ None → ctl s p args.epfd.0 args.op args.fd.0 args.mask.0 args.tag ≡ c → c.0 ≡ Done → answer ≡ Done → Stands v new ws now c.1 → ((k : ℕ) → raised_of c.2 k ≡ raised_bits (raising_of_ctl v now new named args.fd) v now k) → GoesTo caller answer new
   makes caller c answer new h is done answers after raises = (
     goes_made refusals (change caller) s answer [] _ h (record { made = c; is = ap (λ (b : Change). Some b) is; answers = done ∙ sym answers; stands = after }),
-    λ raising told. raises_made refusals (change caller) v now raising c h (ap (λ (b : Change). Some b) is) (λ k. raises k ∙ ap (λ (q : Raising). raised_bits q v now k) (sym (told ∙ ap (λ (b : Answer). if is_done b then looked v now new named args.fd else Nowhere) answers))),
+    λ raising told. raises_made refusals (change caller) v now raising c h (ap (λ (b : Change). Some b) is) (λ k. raises k ∙ ap (λ (q : Raising). raised_bits q v now k) (sym (told ∙ ap (λ (b : Answer). if is_done b then raising_of_ctl v now new named args.fd else Nowhere) answers))),
   )
 
   -- Of a registration that is there.
@@ -244,11 +244,11 @@ module _ {ws : List Waiter} (limits : Limits) (v : Seen) (r : Registrations) (s 
     }
 
     -- what is deleted raises nothing
-    raised_deleted : (new : Registrations) → new.entries ≡ filter (is_other k) r.entries → (j : ℕ) → raised_of [] j ≡ raised_bits (looked v now new named args.fd) v now j
+    raised_deleted : (new : Registrations) → new.entries ≡ filter (is_other k) r.entries → (j : ℕ) → raised_of [] j ≡ raised_bits (raising_of_ctl v now new named args.fd) v now j
     raised_deleted new entries j = sym (ap (λ (b : Bool). raised_bits (if b then Instance named.instance else Nowhere) v now j)
         (ap (λ (xs : List Entry). list_any (entry_shows (readiness v now new) v now) (filter (has_key named.instance args.fd named.desc) xs)) entries ∙ none_other (has_key named.instance args.fd named.desc) k (entry_shows (readiness v now new) v now) r.entries has))
 
-    raised_modified : (new : Registrations) → new.entries ≡ map (modified k args.mask args.tag) r.entries → new.added ≡ r.added → (j : ℕ) → raised_of (modify s e fd d args.mask.0 args.tag).2 j ≡ raised_bits (looked v now new named args.fd) v now j
+    raised_modified : (new : Registrations) → new.entries ≡ map (modified k args.mask args.tag) r.entries → new.added ≡ r.added → (j : ℕ) → raised_of (modify s e fd d args.mask.0 args.tag).2 j ≡ raised_bits (raising_of_ctl v now new named args.fd) v now j
     raised_modified new entries added j =
         let after = (modify s e fd d args.mask.0 args.tag).1 in
         (λ i. raised_of (looked_at after (instance_is i) (filter (has_numbers (instance_is i) fd (desc_is i)) after.watches)) j)
@@ -265,7 +265,7 @@ module _ {ws : List Waiter} (limits : Limits) (v : Seen) (r : Registrations) (s 
 
   -- Of one that is not.
   module _ (absent : list_any (has_key named.instance args.fd named.desc) r.entries ≡ false) (op_accepted : is_refused_op args.op args.mask.0 ≡ false) where
-    watch_is : kept_of s (new_watch s e fd d args.mask.0 args.tag) ≡ watch_at v.keys (new_entry (r.added + 1) named.instance args.fd named.desc args.mask args.tag)
+    watch_is : kernel_watch s (new_watch s e fd d args.mask.0 args.tag) ≡ watch_at v.keys (new_entry (r.added + 1) named.instance args.fd named.desc args.mask args.tag)
     watch_is = λ i. record { number = stands.added i + 1; instance = instance_is i; fd = fd; target = desc_is i; mask = args.mask.0; tag = args.tag; armed = true; seen = None; rep = 0; from = 0 }
 
     more : (new : Registrations) → new.entries ≡ r.entries ++ new_entry (r.added + 1) named.instance args.fd named.desc args.mask args.tag ∷ [] → new.added ≡ r.added + 1 → Stands v new ws now (add s e fd d args.mask.0 args.tag).1
@@ -273,7 +273,7 @@ module _ {ws : List Waiter} (limits : Limits) (v : Seen) (r : Registrations) (s 
       now = stands.now;
       files = stands.files;
       watches =
-          map-append (kept_of s) s.watches (new_watch s e fd d args.mask.0 args.tag ∷ [])
+          map-append (kernel_watch s) s.watches (new_watch s e fd d args.mask.0 args.tag ∷ [])
           ∙ ((λ i. stands.watches i ++ watch_is i ∷ [])
           ∙ (sym (map-append (watch_at v.keys) r.entries (new_entry (r.added + 1) named.instance args.fd named.desc args.mask args.tag ∷ []))
           ∙ ap (λ (xs : List Entry). map (watch_at v.keys) xs) (sym entries)));
@@ -282,7 +282,7 @@ module _ {ws : List Waiter} (limits : Limits) (v : Seen) (r : Registrations) (s 
     }
 
     -- of the registrations that are there after it, the new one alone has this key
-    raised_added : (new : Registrations) → new.entries ≡ r.entries ++ new_entry (r.added + 1) named.instance args.fd named.desc args.mask args.tag ∷ [] → new.added ≡ r.added + 1 → (j : ℕ) → raised_of (add s e fd d args.mask.0 args.tag).2 j ≡ raised_bits (looked v now new named args.fd) v now j
+    raised_added : (new : Registrations) → new.entries ≡ r.entries ++ new_entry (r.added + 1) named.instance args.fd named.desc args.mask args.tag ∷ [] → new.added ≡ r.added + 1 → (j : ℕ) → raised_of (add s e fd d args.mask.0 args.tag).2 j ≡ raised_bits (raising_of_ctl v now new named args.fd) v now j
     raised_added new entries added j =
         let w = new_watch s e fd d args.mask.0 args.tag in
         let after = with_watch s w in

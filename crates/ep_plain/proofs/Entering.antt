@@ -12,7 +12,7 @@ use Rattle.ep_nest.specs.declared.link.Link.{Link}
 use Rattle.ep_plain.specs.Climb.{is_nested, link_of}
 use Rattle.ep_plain.proofs.Nesting.{links_mapped}
 use Rattle.ep_table.specs.Value.{Seen}
-use Rattle.ep_machine.proofs.Tests.{same_nat}
+use Rattle.ep_law.proofs.TestLemmas.{same_nat}
 
 apart_test : (a b : ℕ) → a ≤ b → (b + 1 == a) ≡ false
 apart_test a b h = grind (arith, nat_tests, h)

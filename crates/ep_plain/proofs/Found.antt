@@ -10,13 +10,13 @@ use Rattle.ep_base.specs.declared.ids.Fd.{Fd}
 use Rattle.ep_base.specs.declared.mask.Mask.{Mask}
 use Rattle.ep_interest.specs.Registrations.{IsSound, Registrations, RisesFrom, has_key, is_other, modified, numbered}
 use Rattle.ep_interest.specs.declared.entry.Entry.{Entry}
-use Rattle.ep_machine.specs.Kept.{kept_all, kept_of}
+use Rattle.ep_view.specs.KernelView.{kernel_watches, kernel_watch}
 use Rattle.ep_machine.specs.State.{State, Watch}
 use Rattle.ep_machine.specs.Watches.{has_key as has_numbers, modified as modified_watch, number_in}
 use Rattle.ep_plain.specs.Stands.{IsLinked, number_at, watch_at}
 use Rattle.ep_plain.proofs.Linking.{same_key_test}
 use Rattle.ep_table.specs.Value.{Seen, Sound, number_under}
-use Rattle.ep_machine.proofs.Tests.{from_test, same_nat}
+use Rattle.ep_law.proofs.TestLemmas.{from_test, same_nat}
 
 -- two facts about each give a third
 both_of : (P Q R : Entry → Type 0) → ((x : Entry) → P x → Q x → R x) → (xs : List Entry) → AllByRecursion P xs → AllByRecursion Q xs → AllByRecursion R xs
@@ -126,14 +126,14 @@ module _ (v : Seen) (instance : DescId) (fd : ℤ) (desc : DescId) (k : ℕ) (so
       λ i. one i ∷ rest i
 
 -- what MOD does sees neither what a registration has seen nor since when it is reportable
-kept_modified : (s : State) (e fd d mask tag : ℕ) (x : Watch) → kept_of s (modified_watch e fd d mask tag x) ≡ modified_watch e fd d mask tag (kept_of s x)
+kept_modified : (s : State) (e fd d mask tag : ℕ) (x : Watch) → kernel_watch s (modified_watch e fd d mask tag x) ≡ modified_watch e fd d mask tag (kernel_watch s x)
 kept_modified s e fd d mask tag x =
-    elim (has_numbers e fd d x) as (λ b. kept_of s (cond b (record x { mask = mask; tag = tag; armed = true; seen = None }) x) ≡ cond b (record (kept_of s x) { mask = mask; tag = tag; armed = true; seen = None }) (kept_of s x)) [
+    elim (has_numbers e fd d x) as (λ b. kernel_watch s (cond b (record x { mask = mask; tag = tag; armed = true; seen = None }) x) ≡ cond b (record (kernel_watch s x) { mask = mask; tag = tag; armed = true; seen = None }) (kernel_watch s x)) [
       | true ↦ refl
       | false ↦ refl
     ]
 
-pub all_modified : (s : State) (e fd d mask tag : ℕ) (xs : List Watch) → kept_all s (map (modified_watch e fd d mask tag) xs) ≡ map (modified_watch e fd d mask tag) (kept_all s xs)
+pub all_modified : (s : State) (e fd d mask tag : ℕ) (xs : List Watch) → kernel_watches s (map (modified_watch e fd d mask tag) xs) ≡ map (modified_watch e fd d mask tag) (kernel_watches s xs)
 all_modified s e fd d mask tag [] = refl
 all_modified s e fd d mask tag (x ∷ xs) = let one = kept_modified s e fd d mask tag x in let rest = all_modified s e fd d mask tag xs in λ i. one i ∷ rest i
 

@@ -8,12 +8,11 @@ use Rattle.std.proofs.lemmas.List.Elements.{All-head, All-tail}
 use Rattle.ep_base.specs.declared.ids.DescId.{DescId}
 use Rattle.ep_machine.specs.Bits.{asked}
 use Rattle.ep_machine.specs.Counts.{every_shown_bit, no_counts}
-use Rattle.ep_machine.specs.Kept.{kept_all, kept_of, seen_where}
-use Rattle.ep_machine.specs.Marks.{at_number}
+use Rattle.ep_view.specs.KernelView.{kernel_watches, kernel_watch, seen_where, at_number}
 use Rattle.ep_machine.specs.Readiness.{is_fresh_since}
 use Rattle.ep_machine.specs.State.{State, Waiter, Watch}
 use Rattle.ep_machine.specs.Waits.{has_parked, is_marked, is_parked}
-use Rattle.ep_machine.proofs.Renaming.{any_at, of_process_at, parked_at}
+use Rattle.ep_view.proofs.WaiterLemmas.{any_at, of_process_at, parked_at}
 use Rattle.ep_machine.specs.Watches.{has_key as has_numbers, is_there, number_in}
 use Rattle.ep_interest.specs.Registrations.{Registrations, has_key}
 use Rattle.ep_park.specs.Waiters.{is_caller, is_marked_caller, is_of}
@@ -24,7 +23,7 @@ use Rattle.ep_interest.specs.declared.entry.Entry.{Entry}
 use Rattle.ep_plain.proofs.Keys.{number_kept, same_keys, some_kept}
 
 -- the test of a key sees neither what a registration has seen nor since when it is reportable
-there_kept : (s : State) (e fd d : ℕ) (xs : List Watch) → list_any (has_numbers e fd d) (kept_all s xs) ≡ list_any (has_numbers e fd d) xs
+there_kept : (s : State) (e fd d : ℕ) (xs : List Watch) → list_any (has_numbers e fd d) (kernel_watches s xs) ≡ list_any (has_numbers e fd d) xs
 there_kept s e fd d [] = refl
 there_kept s e fd d (x ∷ xs) = ap (λ (b : Bool). has_numbers e fd d x || b) (there_kept s e fd d xs)
 
@@ -58,7 +57,7 @@ there_is v r now s instance desc fd sound h linked hi hd hf =
 
 -- as many registrations
 pub count_is : {ws : List Waiter} (v : Seen) (r : Registrations) (now : ℕ) (s : State) → Stands v r ws now s → length s.watches ≡ length r.entries
-count_is v r now s h = sym (length-map s.watches (kept_of s)) ∙ (ap (λ (xs : List Watch). length xs) h.watches ∙ length-map r.entries (watch_at v.keys))
+count_is v r now s h = sym (length-map s.watches (kernel_watch s)) ∙ (ap (λ (xs : List Watch). length xs) h.watches ∙ length-map r.entries (watch_at v.keys))
 
 watches_kept : (old new : Seen) → KeepsKeys old new → (xs : List Entry) → All (IsLinked old.keys) xs → map (watch_at new.keys) xs ≡ map (watch_at old.keys) xs
 watches_kept old new keeps [] linked = refl
@@ -76,7 +75,7 @@ pub linked_kept : (old new : Seen) (r : Registrations) → KeepsKeys old new →
 linked_kept old new r keeps h = λ k d lt. link_kept old new keeps _ (h k d lt)
 
 -- what is fresh goes by arrivals alone
-kept_same : (s t : State) → t.arrivals ≡ s.arrivals → (xs : List Watch) → kept_all t xs ≡ kept_all s xs
+kept_same : (s t : State) → t.arrivals ≡ s.arrivals → (xs : List Watch) → kernel_watches t xs ≡ kernel_watches s xs
 kept_same s t e [] = refl
 kept_same s t e (x ∷ xs) = λ i. record x { seen = seen_where (is_fresh_since x.seen (asked x.mask every_shown_bit) (slice_index_or (e i) x.target no_counts)); from = 0 } ∷ kept_same s t e xs i
 
@@ -113,7 +112,7 @@ pub stands_kept : (old new : Seen) (r : Registrations) {ws : List Waiter} (now :
 stands_kept old new r now s t keeps linked placed h clock files watches added arrivals waiters = record {
   now = clock ∙ h.now;
   files = files;
-  watches = ap (kept_all t) watches ∙ (kept_same s t arrivals s.watches ∙ (h.watches ∙ sym (watches_kept old new keeps r.entries linked)));
+  watches = ap (kernel_watches t) watches ∙ (kept_same s t arrivals s.watches ∙ (h.watches ∙ sym (watches_kept old new keeps r.entries linked)));
   added = added ∙ h.added;
   waiters = waiters ∙ (h.waiters ∙ sym (waiters_kept old new keeps _ placed));
 }

@@ -10,7 +10,7 @@ use Rattle.ep_base.specs.declared.ids.Fd.{Fd}
 use Rattle.ep_interest.specs.Registrations.{IsSound, Registrations, RisesFrom, has_key, numbered}
 use Rattle.ep_interest.specs.declared.entry.Entry.{Entry}
 use Rattle.ep_plain.proofs.Found.{has_number, rises_above, some_one}
-use Rattle.ep_machine.proofs.Tests.{from_test}
+use Rattle.ep_law.proofs.TestLemmas.{from_test}
 
 -- none is looked at where there is none
 pub none_looked : (p q : Entry → Bool) (xs : List Entry) → list_any p xs ≡ false → list_any q (filter p xs) ≡ false

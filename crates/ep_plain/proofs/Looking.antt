@@ -10,7 +10,7 @@ use Rattle.ep_interest.specs.Registrations.{is_of}
 use Rattle.ep_interest.specs.declared.entry.Entry.{Entry}
 use Rattle.ep_machine.specs.Bits.{ET, IN, asked, has_bit, when}
 use Rattle.ep_machine.specs.Files.{Files, object_of, side_of}
-use Rattle.ep_machine.specs.Kept.{carries, reached_within, ready_within, shows_in}
+use Rattle.ep_view.specs.KernelView.{carries, reached_within, ready_within, shows_in}
 use Rattle.ep_machine.specs.Objects.{Object, counter, instance, is_instance, pair, pipe, plain, timer}
 use Rattle.ep_machine.specs.Readiness.{present_of}
 use Rattle.ep_machine.specs.State.{Watch}

@@ -12,7 +12,7 @@ use Rattle.ep_park.specs.Turns.{NamesReady, marked_in_turn}
 use Rattle.ep_park.specs.Waiters.{first_marked, longest_marked, with_mark}
 use Rattle.ep_plain.specs.Parking.{instance_of}
 use Rattle.ep_plain.proofs.Held.{instances_same, place}
-use Rattle.ep_machine.proofs.Tests.{from_test, same_nat}
+use Rattle.ep_law.proofs.TestLemmas.{from_test, same_nat}
 
 -- one instance more
 pub turn_more : (es : List ℕ) (e : ℕ) (ws : List Waiter) → marked_in_turn (es ++ e ∷ []) ws ≡ longest_marked e (marked_in_turn es ws)

@@ -5,7 +5,7 @@ use Rattle.std.proofs.lemmas.List.Elements.{All-head, All-tail}
 use Rattle.ep_base.specs.declared.ids.DescId.{DescId}
 use Rattle.ep_interest.specs.Registrations.{Registrations}
 use Rattle.ep_interest.specs.declared.entry.Entry.{Entry}
-use Rattle.ep_machine.specs.Kept.{kept_all, kept_of, watches_instance}
+use Rattle.ep_view.specs.KernelView.{kernel_watches, kernel_watch, watches_instance}
 use Rattle.ep_machine.specs.Lists.{is_among, is_empty}
 use Rattle.ep_machine.specs.State.{State, Waiter, Watch}
 use Rattle.ep_machine.specs.Watches.{ends_of_chains, is_legal, links}
@@ -78,11 +78,11 @@ module _ (f : ℕ → ℕ) (P : ℕ → Type 0) (apart : (a b : ℕ) → P a →
 abbrev pair : Watch → ℕ × ℕ
 pair x = (x.instance, x.target)
 
-links_kept : (s : State) (xs : List Watch) → map pair (filter (watches_instance s.files) xs) ≡ map pair (filter (watches_instance s.files) (kept_all s xs))
+links_kept : (s : State) (xs : List Watch) → map pair (filter (watches_instance s.files) xs) ≡ map pair (filter (watches_instance s.files) (kernel_watches s xs))
 links_kept s [] = refl
 links_kept s (x ∷ xs) =
     let rest = links_kept s xs in
-    elim (watches_instance s.files x) as (λ b. map pair (cond b (x ∷ filter (watches_instance s.files) xs) (filter (watches_instance s.files) xs)) ≡ map pair (cond b (kept_of s x ∷ filter (watches_instance s.files) (kept_all s xs)) (filter (watches_instance s.files) (kept_all s xs)))) [
+    elim (watches_instance s.files x) as (λ b. map pair (cond b (x ∷ filter (watches_instance s.files) xs) (filter (watches_instance s.files) xs)) ≡ map pair (cond b (kernel_watch s x ∷ filter (watches_instance s.files) (kernel_watches s xs)) (filter (watches_instance s.files) (kernel_watches s xs)))) [
       | true ↦ ap (λ (ls : List (ℕ × ℕ)). pair x ∷ ls) rest
       | false ↦ rest
     ]

@@ -10,8 +10,8 @@ use Rattle.ep_machine.specs.Run.{run}
 use Rattle.ep_machine.specs.Timer.{last_moment}
 use Rattle.ep_machine.specs.State.{State, opening}
 use Rattle.ep_machine.specs.Step.{step}
-use Rattle.ep_machine.proofs.Legality.{graph_stays_legal}
-use Rattle.ep_machine.proofs.Stepping.{run_next}
+use Rattle.ep_law.proofs.GraphLemmas.{graph_stays_legal}
+use Rattle.ep_law.proofs.StepLemmas.{run_next}
 use Rattle.ep_nest.specs.declared.link.Link.{Link}
 use Rattle.ep_plain.specs.Acts.{Adds}
 use Rattle.ep_plain.specs.Book.{state_of}

@@ -20,7 +20,7 @@ use Rattle.ep_machine.specs.Objects.{Object, counter, instance, object_effect, o
 use Rattle.ep_machine.specs.Tables.{affected}
 use Rattle.ep_object.specs.Memory.{asked_of, object_waiting}
 use Rattle.ep_plain.specs.Moves.{Opened, Opens, Stayed}
-use Rattle.ep_plain.specs.ObjectCall.{FitsRoom, IsObjectCall, given}
+use Rattle.ep_plain.specs.ObjectCall.{FitsRoom, IsObjectCall, object_effect_of}
 use Rattle.ep_table.specs.Value.{Seen, content_of, effect_at, number_of, number_under}
 use Rattle.ep_base.specs.declared.ids.DescId.{DescId}
 use Rattle.ep_base.specs.declared.ids.Fd.{Fd}
@@ -145,9 +145,9 @@ module _ (old new : Seen) (p : ℕ) (fd : ℤ) (desc : DescId) (now : ℕ) (call
 
   pub calls_object : answer ≡ (effect_at old.files (number_of old desc) now call).0
       → new ≡ record old { files = with_object old.files (object_number (place_of old.files (number_of old desc))) (effect_at old.files (number_of old desc) now call).1 }
-      → Opens ((names_nothing old.files p fd, Ebadf) ∷ object_refusals (object_under old.files p fd) (side_under old.files p fd) now call) (given old.files p fd now call).0 (affected old.files (named_by old.files p fd) (given old.files p fd now call)) answer old new
+      → Opens ((names_nothing old.files p fd, Ebadf) ∷ object_refusals (object_under old.files p fd) (side_under old.files p fd) now call) (object_effect_of old.files p fd now call).0 (affected old.files (named_by old.files p fd) (object_effect_of old.files p fd now call)) answer old new
   calls_object is tables =
       let at : ℕ → Type 0 = λ d. MatchOption (first (object_refusals (content_of old.files d) (side_of old.files d) now call)) (Opened (object_effect (content_of old.files d) (side_of old.files d) now call).0 (affected old.files d (object_effect (content_of old.files d) (side_of old.files d) now call)) answer old new) (λ e. Stayed e answer old new) in
       let here : at (named_by old.files p fd) = subst at (sym number_is) (opens old new (number_of old desc) now call answer lives is tables) in
-      let P : Option Errno → Type 0 = λ r. MatchOption r (Opened (given old.files p fd now call).0 (affected old.files (named_by old.files p fd) (given old.files p fd now call)) answer old new) (λ e. Stayed e answer old new) in
+      let P : Option Errno → Type 0 = λ r. MatchOption r (Opened (object_effect_of old.files p fd now call).0 (affected old.files (named_by old.files p fd) (object_effect_of old.files p fd now call)) answer old new) (λ e. Stayed e answer old new) in
       subst P (sym (past_first (names_nothing old.files p fd) Ebadf (object_refusals (object_under old.files p fd) (side_under old.files p fd) now call) names_some)) here

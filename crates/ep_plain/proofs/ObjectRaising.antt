@@ -19,8 +19,8 @@ use Rattle.ep_machine.specs.Spread.{raised_of}
 use Rattle.ep_machine.specs.State.{Change, State, Waiter}
 use Rattle.ep_machine.specs.Step.{call_change, object_change}
 use Rattle.ep_machine.specs.Tables.{affected_raises}
-use Rattle.ep_machine.proofs.Arriving.{raised_live, raised_place}
-use Rattle.ep_plain.specs.ObjectCall.{given}
+use Rattle.ep_view.proofs.FreshLemmas.{raised_live, raised_place}
+use Rattle.ep_plain.specs.ObjectCall.{object_effect_of}
 use Rattle.ep_plain.specs.Raising.{AsRaised, AsRaisedIn, Raises, RaisesByCall, object_bits, raised_bits}
 use Rattle.ep_plain.specs.Stands.{Stands}
 use Rattle.ep_plain.specs.declared.raising.Raising.{Raising}
@@ -80,7 +80,7 @@ module _ (old : Seen) (desc : DescId) (now : ℕ) (call : Call) (raised : Raised
       let names_some : names_nothing old.files p fd ≡ false = ap is_none (sym found) ∙ named_some (number_under old desc) there in
       let at : ℕ → Type 0 = λ n. MatchOption (first (object_refusals (content_of old.files n) (side_of old.files n) now call)) (AsRaised raising new now (affected_raises old.files n (object_effect (content_of old.files n) (side_of old.files n) now call))) (λ e. AsRaised raising new now []) in
       let here : at (named_by old.files p fd) = subst at (sym number_is) (by_refusal new keys places (first (object_refusals content (side_of old.files d) now call)) h) in
-      let P : Option Errno → Type 0 = λ r. MatchOption r (AsRaised raising new now (affected_raises old.files (named_by old.files p fd) (given old.files p fd now call))) (λ e. AsRaised raising new now []) in
+      let P : Option Errno → Type 0 = λ r. MatchOption r (AsRaised raising new now (affected_raises old.files (named_by old.files p fd) (object_effect_of old.files p fd now call))) (λ e. AsRaised raising new now []) in
       subst P (sym (past_first (names_nothing old.files p fd) Ebadf (object_refusals (object_under old.files p fd) (side_under old.files p fd) now call) names_some)) here
 
 -- for the machine

@@ -18,7 +18,7 @@ use Rattle.ep_machine.specs.Step.{call_change, files_change, object_change}
 use Rattle.ep_machine.specs.Tables.{affected, affected_raises}
 use Rattle.ep_plain.specs.Moves.{Goes, Makes, Opened, Opens, Parts, Refuses, Stayed}
 use Rattle.ep_plain.specs.Stands.{AreLinked, ArePlaced, KeepsKeys, Stands}
-use Rattle.ep_plain.specs.ObjectCall.{given}
+use Rattle.ep_plain.specs.ObjectCall.{object_effect_of}
 use Rattle.ep_plain.proofs.Linking.{linked_kept, stands_kept}
 use Rattle.ep_table.specs.Value.{Seen}
 
@@ -70,7 +70,7 @@ module _ {ws : List Waiter} (limits : Limits) (v new : Seen) (r : Registrations)
       subst (λ (l : Limits). P l s.files) same (subst (P v.limits) (sym stands.files) (opens_goes (tests v.limits v.files) (to v.files) (after v.files) answer v new opens r linked placed now s [] stands))
 
   pub object_goes : (fd : ℤ) (call : Call)
-      → Opens ((names_nothing v.files p fd, Ebadf) ∷ object_refusals (object_under v.files p fd) (side_under v.files p fd) now call) (given v.files p fd now call).0 (affected v.files (named_by v.files p fd) (given v.files p fd now call)) answer v new
+      → Opens ((names_nothing v.files p fd, Ebadf) ∷ object_refusals (object_under v.files p fd) (side_under v.files p fd) now call) (object_effect_of v.files p fd now call).0 (affected v.files (named_by v.files p fd) (object_effect_of v.files p fd now call)) answer v new
       → Goes (on_object s p fd call) (Some (object_change s p fd call)) s answer [] parts
   object_goes fd call opens =
       let P : ℕ → Files → Type 0 = λ at f.
@@ -78,13 +78,13 @@ module _ {ws : List Waiter} (limits : Limits) (v new : Seen) (r : Registrations)
       let g = object_effect (object_under f p fd) (side_under f p fd) at call in
       Goes ((names_nothing f p fd, Ebadf) ∷ object_refusals (object_under f p fd) (side_under f p fd) at call) (Some (g.0, record s { files = affected f d g }, affected_raises f d g)) s answer [] parts in
       subst (λ (n : ℕ). P n s.files) (sym stands.now) (subst (P now) (sym stands.files)
-      (opens_goes ((names_nothing v.files p fd, Ebadf) ∷ object_refusals (object_under v.files p fd) (side_under v.files p fd) now call) (given v.files p fd now call).0 (affected v.files (named_by v.files p fd) (given v.files p fd now call)) answer v new opens r linked placed now s
-      (affected_raises v.files (named_by v.files p fd) (given v.files p fd now call)) stands))
+      (opens_goes ((names_nothing v.files p fd, Ebadf) ∷ object_refusals (object_under v.files p fd) (side_under v.files p fd) now call) (object_effect_of v.files p fd now call).0 (affected v.files (named_by v.files p fd) (object_effect_of v.files p fd now call)) answer v new opens r linked placed now s
+      (affected_raises v.files (named_by v.files p fd) (object_effect_of v.files p fd now call)) stands))
 
 -- a call on the object that a descriptor names
 abbrev pub CallsObject : ℕ → Fd → ℕ → Call → Answer → Seen → Seen → Type 0
 CallsObject p fd now call answer v new =
-    Opens ((names_nothing v.files p fd.0, Ebadf) ∷ object_refusals (object_under v.files p fd.0) (side_under v.files p fd.0) now call) (given v.files p fd.0 now call).0 (affected v.files (named_by v.files p fd.0) (given v.files p fd.0 now call)) answer v new
+    Opens ((names_nothing v.files p fd.0, Ebadf) ∷ object_refusals (object_under v.files p fd.0) (side_under v.files p fd.0) now call) (object_effect_of v.files p fd.0 now call).0 (affected v.files (named_by v.files p fd.0) (object_effect_of v.files p fd.0 now call)) answer v new
 
 -- what the machine asks of such a call and does
 abbrev pub IsOnObject : Fd → Call → Type 0
@@ -101,10 +101,10 @@ on_object_is fd call (inr (inr (inr (inr q)))) = subst (IsOnObject fd) (sym q) (
 
 module _ (v new : Seen) (p : ℕ) (fd : Fd) (now : ℕ) (call : Call) (answer : Answer) (calls : CallsObject p fd now call answer v new) where
   pub object_limits : new.limits ≡ v.limits
-  object_limits = opens_limits ((names_nothing v.files p fd.0, Ebadf) ∷ object_refusals (object_under v.files p fd.0) (side_under v.files p fd.0) now call) (given v.files p fd.0 now call).0 (affected v.files (named_by v.files p fd.0) (given v.files p fd.0 now call)) answer v new calls
+  object_limits = opens_limits ((names_nothing v.files p fd.0, Ebadf) ∷ object_refusals (object_under v.files p fd.0) (side_under v.files p fd.0) now call) (object_effect_of v.files p fd.0 now call).0 (affected v.files (named_by v.files p fd.0) (object_effect_of v.files p fd.0 now call)) answer v new calls
 
   pub object_keys : KeepsKeys v new
-  object_keys = opens_keys ((names_nothing v.files p fd.0, Ebadf) ∷ object_refusals (object_under v.files p fd.0) (side_under v.files p fd.0) now call) (given v.files p fd.0 now call).0 (affected v.files (named_by v.files p fd.0) (given v.files p fd.0 now call)) answer v new calls
+  object_keys = opens_keys ((names_nothing v.files p fd.0, Ebadf) ∷ object_refusals (object_under v.files p fd.0) (side_under v.files p fd.0) now call) (object_effect_of v.files p fd.0 now call).0 (affected v.files (named_by v.files p fd.0) (object_effect_of v.files p fd.0 now call)) answer v new calls
 
   pub object_called : {ws : List Waiter} (limits : Limits) (r : Registrations) (s : State) (caller : ℕ) → AreLinked v r → ArePlaced v ws → Stands v r ws now s → v.limits ≡ limits → IsOnObject fd call
       → Goes (call_refusals limits s p call) (call_change limits s caller p call []) s answer [] (record { tables = new; interest = r; parked = ws; now = now })

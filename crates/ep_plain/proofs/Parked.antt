@@ -15,7 +15,7 @@ use Rattle.ep_plain.specs.Parking.{instance_of}
 use Rattle.ep_plain.specs.Stands.{ArePlaced, IsPlaced, number_at, waiters_at}
 use Rattle.ep_plain.proofs.Keys.{under_key}
 use Rattle.ep_table.specs.Value.{Seen, Sound, count_at, holds_of, less_at, more_at, number_of, number_under}
-use Rattle.ep_machine.proofs.Tests.{from_test, neither, same_nat}
+use Rattle.ep_law.proofs.TestLemmas.{from_test, neither, same_nat}
 
 apart : (a b : ℕ) → (a == b) ≡ false → b ≢ a
 apart a b e = λ h. grind (arith, nat_tests, e, h)

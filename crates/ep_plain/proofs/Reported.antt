@@ -13,19 +13,19 @@ use Rattle.ep_interest.specs.declared.entry.Entry.{Entry}
 use Rattle.ep_machine.specs.Bits.{ONESHOT, has_bit}
 use Rattle.ep_machine.specs.Counts.{no_counts}
 use Rattle.ep_machine.specs.Lists.{is_among, is_empty}
-use Rattle.ep_machine.specs.Kept.{kept_all, ready_now, report_at, reported_in, shows_in}
+use Rattle.ep_view.specs.KernelView.{kernel_watches, ready_now, report_at, reported_in, shows_in}
 use Rattle.ep_machine.specs.Report.{reported}
-use Rattle.ep_machine.specs.Sound.{Sound}
+use Rattle.ep_law.specs.Sound.{Sound}
 use Rattle.ep_machine.specs.State.{Change, State, Waiter, Watch}
 use Rattle.ep_machine.specs.Waits.{is_due, leave, resume, resume_empty, wait, wait_for, waiter_of}
-use Rattle.ep_machine.proofs.Picking.{numbers}
-use Rattle.ep_machine.proofs.Reporting.{resume_due, resume_kept, told_kept, wait_kept, wait_now}
-use Rattle.ep_machine.proofs.Settling.{reported_kept}
-use Rattle.ep_machine.proofs.Showing.{readiness as machine_readiness}
+use Rattle.ep_law.proofs.PickLemmas.{numbers}
+use Rattle.ep_view.proofs.ReportLemmas.{resume_due, resume_kept, told_kept, wait_kept, wait_now}
+use Rattle.ep_view.proofs.SettleLemmas.{reported_kept}
+use Rattle.ep_view.proofs.KernelViewLemmas.{readiness as machine_readiness}
 use Rattle.ep_machine.specs.Watches.{is_legal, links}
 use Rattle.ep_plain.specs.Stands.{AreLinked, IsLinked, Stands, number_at, watch_at}
 use Rattle.ep_plain.specs.Readiness.{entry_shows, readiness}
-use Rattle.ep_plain.specs.Wait.{AreKeyed, IsChosen, IsKeyed, noted_in, numbers_of, report_of}
+use Rattle.ep_plain.specs.Wait.{AreKeyed, IsChosen, IsKeyed, with_report, numbers_of, report_of}
 use Rattle.ep_plain.specs.declared.wait.Reportable.{Reportable}
 use Rattle.ep_plain.proofs.Keys.{same_keys}
 use Rattle.ep_plain.proofs.Waiting.{entries_in}
@@ -75,7 +75,7 @@ noted_is : (keys : List (Option ℕ)) (n : ℕ) (b : Bool) (x : Entry)
 noted_is keys n true x = refl
 noted_is keys n false x = refl
 
-pub noted_all : (keys : List (Option ℕ)) (n : ℕ) (ks : List ℕ) (xs : List Entry) → map (reported_in n ks) (map (watch_at keys) xs) ≡ map (watch_at keys) (map (noted_in n ks) xs)
+pub noted_all : (keys : List (Option ℕ)) (n : ℕ) (ks : List ℕ) (xs : List Entry) → map (reported_in n ks) (map (watch_at keys) xs) ≡ map (watch_at keys) (map (with_report n ks) xs)
 noted_all keys n ks [] = refl
 noted_all keys n ks (x ∷ xs) =
     let one = noted_is keys n (is_among ks x.number) x in
@@ -85,10 +85,10 @@ link_noted : (keys : List (Option ℕ)) (n : ℕ) (b : Bool) (x : Entry) → IsL
 link_noted keys n true x h = record { instance = h.instance; desc = h.desc; fd = h.fd }
 link_noted keys n false x h = h
 
-pub linked_noted : (keys : List (Option ℕ)) (n : ℕ) (ks : List ℕ) (xs : List Entry) → All (IsLinked keys) xs → All (IsLinked keys) (map (noted_in n ks) xs)
+pub linked_noted : (keys : List (Option ℕ)) (n : ℕ) (ks : List ℕ) (xs : List Entry) → All (IsLinked keys) xs → All (IsLinked keys) (map (with_report n ks) xs)
 linked_noted keys n ks [] h = h
 linked_noted keys n ks (x ∷ xs) h =
-    All-cons (IsLinked keys) (noted_in n ks x) (map (noted_in n ks) xs) (link_noted keys n (is_among ks x.number) x (All-head (IsLinked keys) x xs h)) (linked_noted keys n ks xs (All-tail (IsLinked keys) x xs h))
+    All-cons (IsLinked keys) (with_report n ks x) (map (with_report n ks) xs) (link_noted keys n (is_among ks x.number) x (All-head (IsLinked keys) x xs h)) (linked_noted keys n ks xs (All-tail (IsLinked keys) x xs h))
 
 not_zero : (n : ℕ) → (suc n == 0) ≡ false
 not_zero n = grind (arith, nat_tests)
@@ -101,7 +101,7 @@ no_numbers (x ∷ xs) h = absurd (false≢true (sym (not_zero (length xs)) ∙ h
 module _ {ws : List Waiter} (v : Seen) (now : ℕ) (r new : Registrations) (s : State) (n : ℕ) (instance : DescId) (most : ℕ) (chosen : List Reportable)
     (at : s.n ≡ n) (steady : Sound s) (legal : is_legal (links s) ≡ true) (stands : Stands v r ws now s) (linked : AreLinked v r)
     (sound : SoundTables v) (lives : IsSome (number_under v instance)) (is : IsChosen v now r instance most chosen)
-    (entries : new.entries ≡ map (noted_in n (numbers_of chosen)) r.entries) (added : new.added ≡ r.added) where
+    (entries : new.entries ≡ map (with_report n (numbers_of chosen)) r.entries) (added : new.added ≡ r.added) where
   abbrev e : ℕ
   e = number_at v.keys instance
 
@@ -112,7 +112,7 @@ module _ {ws : List Waiter} (v : Seen) (now : ℕ) (r new : Registrations) (s : 
   same_ready : machine_readiness s ≡ ready
   same_ready = λ i. ready_now (stands.files i) (stands.now i) (stands.watches i)
 
-  scan : filter (shows_in (machine_readiness s) s.files s.now e) (kept_all s s.watches) ≡ map (watch_at v.keys) (filter (entry_shows ready v now) (filter (is_of instance) r.entries))
+  scan : filter (shows_in (machine_readiness s) s.files s.now e) (kernel_watches s s.watches) ≡ map (watch_at v.keys) (filter (entry_shows ready v now) (filter (is_of instance) r.entries))
   scan = (λ i. filter (shows_in (same_ready i) (stands.files i) (stands.now i) e) (stands.watches i)) ∙ scanned ready v now instance sound lives r.entries linked
 
   abbrev found : List Watch
@@ -121,7 +121,7 @@ module _ {ws : List Waiter} (v : Seen) (now : ℕ) (r new : Registrations) (s : 
   told : take most found ≡ map (watch_at v.keys) (entries_in chosen)
   told = take-map (watch_at v.keys) most is.found ∙ ap (map (watch_at v.keys)) (sym is.taken)
 
-  moved : IsPermutation (filter (shows_in (machine_readiness s) s.files s.now e) (kept_all s s.watches)) found
+  moved : IsPermutation (filter (shows_in (machine_readiness s) s.files s.now e) (kernel_watches s s.watches)) found
   moved = subst (λ (xs : List Watch). IsPermutation xs found) (sym scan) (IsPermutation-map (watch_at v.keys) _ is.found is.moved)
 
   ks : numbers (take most found) ≡ numbers_of chosen
@@ -179,7 +179,7 @@ module _ {ws : List Waiter} (v : Seen) (now : ℕ) (r new : Registrations) (s : 
   pub resumes : (caller : ℕ) (w : Waiter) → w.instance ≡ e → w.most ≡ most → waiter_of s caller ≡ Some w → w.marked ≡ true → 0 < most → resume s caller (numbers_of chosen) ≡ Some (if length chosen == 0 then resume_empty s w else leave w.caller told_change)
   resumes caller w at_e takes parked marked positive =
       let sorted = get_rep v.keys is.found is.sorted in
-      let there : IsPermutation (filter (shows_in (machine_readiness s) s.files s.now w.instance) (kept_all s s.watches)) found = subst (λ (k : ℕ). IsPermutation (filter (shows_in (machine_readiness s) s.files s.now k) (kept_all s s.watches)) found) (sym at_e) moved in
+      let there : IsPermutation (filter (shows_in (machine_readiness s) s.files s.now w.instance) (kernel_watches s s.watches)) found = subst (λ (k : ℕ). IsPermutation (filter (shows_in (machine_readiness s) s.files s.now k) (kernel_watches s s.watches)) found) (sym at_e) moved in
       ap (λ (js : List ℕ). resume s caller js) (sym ks ∙ ap (λ (m : ℕ). numbers (take m found)) (sym takes))
       ∙ (resume_kept s caller w found steady legal parked marked there sorted
       ∙ (λ i. Some (if empty_is positive i then resume_empty s w else leave w.caller ((ap (λ (m : ℕ). told_kept s m found) takes ∙ told_is) i))))
@@ -188,7 +188,7 @@ module _ {ws : List Waiter} (v : Seen) (now : ℕ) (r new : Registrations) (s : 
   pub resumes_due : (caller : ℕ) (w : Waiter) → w.instance ≡ e → w.most ≡ most → waiter_of s caller ≡ Some w → w.marked ≡ true → is_due s.now w.deadline ≡ true → resume s caller (numbers_of chosen) ≡ Some (leave w.caller told_change)
   resumes_due caller w at_e takes parked marked due =
       let sorted = get_rep v.keys is.found is.sorted in
-      let there : IsPermutation (filter (shows_in (machine_readiness s) s.files s.now w.instance) (kept_all s s.watches)) found = subst (λ (k : ℕ). IsPermutation (filter (shows_in (machine_readiness s) s.files s.now k) (kept_all s s.watches)) found) (sym at_e) moved in
+      let there : IsPermutation (filter (shows_in (machine_readiness s) s.files s.now w.instance) (kernel_watches s s.watches)) found = subst (λ (k : ℕ). IsPermutation (filter (shows_in (machine_readiness s) s.files s.now k) (kernel_watches s s.watches)) found) (sym at_e) moved in
       ap (λ (js : List ℕ). resume s caller js) (sym ks ∙ ap (λ (m : ℕ). numbers (take m found)) (sym takes))
       ∙ (resume_due s caller w found steady legal parked marked due there sorted
       ∙ (λ i. Some (leave w.caller ((ap (λ (m : ℕ). told_kept s m found) takes ∙ told_is) i))))

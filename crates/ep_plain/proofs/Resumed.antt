@@ -7,21 +7,21 @@ use Rattle.ep_base.specs.declared.answer.Answer.TheVariants.{Events, Refused, St
 use Rattle.ep_base.specs.declared.call.Event.TheVariants.{Resume}
 use Rattle.ep_base.specs.declared.errno.Errno.TheVariants.{Einval}
 use Rattle.ep_interest.specs.Registrations.{Registrations}
-use Rattle.ep_machine.specs.Marks.{at_number}
+use Rattle.ep_view.specs.KernelView.{at_number}
 use Rattle.ep_machine.specs.Refusal.{refusals}
 use Rattle.ep_machine.specs.Report.{reported}
-use Rattle.ep_machine.specs.Sound.{Sound}
+use Rattle.ep_law.specs.Sound.{Sound}
 use Rattle.ep_machine.specs.State.{Change, State, Waiter}
 use Rattle.ep_machine.specs.Waits.{is_due, leave, resume, unmark, unmarked, waiter_of}
 use Rattle.ep_machine.specs.Watches.{is_legal, links, number_in}
-use Rattle.ep_machine.proofs.Renaming.{find_at, left_at, unmarked_at}
-use Rattle.ep_machine.proofs.Reporting.{parked_found, resume_allowed, resume_refused, resume_unmarked}
+use Rattle.ep_view.proofs.WaiterLemmas.{find_at, left_at, unmarked_at}
+use Rattle.ep_view.proofs.ReportLemmas.{parked_found, resume_allowed, resume_refused, resume_unmarked}
 use Rattle.ep_park.specs.Waiters.{is_caller, parked, without}
 use Rattle.ep_park.specs.declared.waiter.Waiter.{Waiter as ParkedWaiter}
 use Rattle.ep_plain.specs.Moves.{Goes, Parts, StandFor}
 use Rattle.ep_plain.specs.Reports.{Reports}
 use Rattle.ep_plain.specs.Stands.{AreLinked, IsPlaced, Stands, number_at, waiters_at, watch_at}
-use Rattle.ep_plain.specs.Wait.{IsChosen, noted_in, numbers_of, report_of}
+use Rattle.ep_plain.specs.Wait.{IsChosen, with_report, numbers_of, report_of}
 use Rattle.ep_plain.specs.declared.wait.Reportable.{Reportable}
 use Rattle.ep_plain.proofs.Going.{goes_made, goes_refused}
 use Rattle.ep_plain.proofs.Reported.{after, no_numbers, resumes, resumes_due}
@@ -81,7 +81,7 @@ module _ (v : Seen) (r : Registrations) (ws : List Waiter) (now caller : ℕ) (l
 
       comes : resume s caller (numbers_of chosen) ≡ comes_to (length chosen == 0) (is_due s.now w.deadline)
       comes =
-          let new : Registrations = record r { entries = map (noted_in n (numbers_of chosen)) r.entries } in
+          let new : Registrations = record r { entries = map (with_report n (numbers_of chosen)) r.entries } in
           resumes v now r new s n w.instance (number_in w.max) chosen at steady legal stands linked sound placed.instance chooses refl refl caller own refl refl there marked placed.most
 
       -- with nothing to report, before the deadline

@@ -7,14 +7,14 @@ use Rattle.ep_base.specs.declared.ids.Fd.{Fd}
 use Rattle.ep_interest.specs.Registrations.{Registrations, has_key, is_other}
 use Rattle.ep_interest.specs.declared.entry.Entry.{Entry}
 use Rattle.ep_machine.specs.Bits.{IN, when}
-use Rattle.ep_machine.specs.Kept.{kept_all, ready_now, shows}
+use Rattle.ep_view.specs.KernelView.{kernel_watches, ready_now, shows}
 use Rattle.ep_machine.specs.Readiness.{is_reportable}
 use Rattle.ep_machine.specs.Spread.{raised_of}
 use Rattle.ep_machine.specs.State.{State, Waiter, Watch}
 use Rattle.ep_machine.specs.Watches.{has_key as has_numbers, looked_at, number_in}
-use Rattle.ep_machine.proofs.Showing.{kept_filter, readiness as machine_readiness, reportable_kept}
-use Rattle.ep_machine.proofs.Tests.{same_nat}
-use Rattle.ep_plain.specs.Control.{looked}
+use Rattle.ep_view.proofs.KernelViewLemmas.{kept_filter, readiness as machine_readiness, reportable_kept}
+use Rattle.ep_law.proofs.TestLemmas.{same_nat}
+use Rattle.ep_plain.specs.Control.{raising_of_ctl}
 use Rattle.ep_plain.specs.Raising.{raised_bits}
 use Rattle.ep_plain.specs.Readiness.{entry_shows, readiness}
 use Rattle.ep_plain.specs.Stands.{AreLinked, IsLinked, Stands, number_at, watch_at}
@@ -57,7 +57,7 @@ module _ {ws : List Waiter} (v : Seen) (r : Registrations) (now : ℕ) (t : Stat
   abbrev ready : ℕ → Bool
   ready = readiness v now r
 
-  any_reportable : (xs : List Watch) → list_any (is_reportable t) xs ≡ list_any (shows (machine_readiness t) t.files t.now) (kept_all t xs)
+  any_reportable : (xs : List Watch) → list_any (is_reportable t) xs ≡ list_any (shows (machine_readiness t) t.files t.now) (kernel_watches t xs)
   any_reportable [] = refl
   any_reportable (x ∷ xs) = let one = reportable_kept t x in let rest = any_reportable xs in λ i. one i || rest i
 
@@ -98,7 +98,7 @@ module _ {ws : List Waiter} (v : Seen) (r : Registrations) (now : ℕ) (t : Stat
     nothing false = refl
 
   -- the machine raises at the instance what the kernel does
-  pub raises_looked : (j : ℕ) → raised_of (looked_at t (number_at v.keys named.instance) (filter (has_numbers (number_at v.keys named.instance) (number_in fd.0) (number_at v.keys named.desc)) t.watches)) j ≡ raised_bits (looked v now r named fd) v now j
+  pub raises_looked : (j : ℕ) → raised_of (looked_at t (number_at v.keys named.instance) (filter (has_numbers (number_at v.keys named.instance) (number_in fd.0) (number_at v.keys named.desc)) t.watches)) j ≡ raised_bits (raising_of_ctl v now r named fd) v now j
   raises_looked j =
       ap (λ (b : Bool). raised_of ((number_at v.keys named.instance, when b IN) ∷ []) j) looks
       ∙ bits_are (list_any (entry_shows ready v now) (filter (has_key named.instance fd named.desc) r.entries)) j

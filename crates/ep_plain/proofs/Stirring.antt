@@ -21,13 +21,13 @@ use Rattle.ep_plain.specs.Stands.{AreLinked, IsLinked, number_at, watch_at}
 use Rattle.ep_plain.specs.declared.raising.Raising.{Raising}
 use Rattle.ep_plain.specs.declared.raising.Raising.TheVariants.{Clock, Instance, Nowhere, Object}
 use Rattle.ep_base.specs.declared.counts.Counts.{Counts}
-use Rattle.ep_machine.specs.Kept.{freshened_by}
+use Rattle.ep_view.specs.KernelView.{freshened_by}
 use Rattle.ep_plain.proofs.Across.{a_place, elsewhere, link_noted, noted, off_own, some_place, watch_noted, zero_noted}
 use Rattle.ep_plain.proofs.Keys.{same_keys, under_key}
 use Rattle.ep_table.specs.Closing.{IsAt, across, opposite}
 use Rattle.ep_table.specs.Live.{live_from, live_ids}
 use Rattle.ep_table.specs.Value.{Seen, Sound, number_of, number_under}
-use Rattle.ep_machine.proofs.Tests.{from_test, or_right, same_nat, same_test}
+use Rattle.ep_law.proofs.TestLemmas.{from_test, or_right, same_nat, same_test}
 
 -- where each registration is freshened by what is raised at its target
 pub record Freshens (v : Seen) (n : ℕ) (bits : ℕ → ℕ) (old new : List Entry) : Type 0 where

@@ -8,7 +8,7 @@ use Rattle.ep_base.specs.declared.call.Call.TheVariants.{Close, Dup, Dup2, Epoll
 use Rattle.ep_base.specs.declared.errno.Errno.{Errno}
 use Rattle.ep_machine.specs.Effect.{first}
 use Rattle.ep_machine.specs.Files.{named_by, object_of}
-use Rattle.ep_machine.specs.Quiet.{can_be_watched}
+use Rattle.ep_view.specs.AtRest.{can_be_watched}
 use Rattle.ep_machine.specs.Readiness.{is_ready}
 use Rattle.ep_machine.specs.Refusal.{call_refusals}
 use Rattle.ep_machine.specs.Report.{is_pick, plainly, report}

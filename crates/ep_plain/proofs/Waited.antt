@@ -14,10 +14,10 @@ use Rattle.ep_interest.specs.declared.entry.Entry.{Entry}
 use Rattle.ep_machine.specs.Effect.{first}
 use Rattle.ep_machine.specs.Deaths.{named_in_tables}
 use Rattle.ep_machine.specs.Files.{Files, is_live, named_by, under}
-use Rattle.ep_machine.specs.Marks.{at_number}
+use Rattle.ep_view.specs.KernelView.{at_number}
 use Rattle.ep_machine.specs.Refusal.{wait_refusals}
 use Rattle.ep_machine.specs.Report.{reported}
-use Rattle.ep_machine.specs.Sound.{Sound}
+use Rattle.ep_law.specs.Sound.{Sound}
 use Rattle.ep_machine.specs.State.{Change, State, Waiter}
 use Rattle.ep_machine.specs.Waits.{is_positive, parked, wait, wait_for}
 use Rattle.ep_machine.specs.Bits.{ONESHOT, has_bit}
@@ -30,7 +30,7 @@ use Rattle.ep_plain.proofs.Nesting.{links_mapped}
 use Rattle.ep_plain.specs.Moves.{Goes, Parts, StandFor}
 use Rattle.ep_plain.specs.Reports.{Reports}
 use Rattle.ep_plain.specs.Stands.{AreLinked, ArePlaced, IsLinked, IsPlaced, Stands, number_at, waiters_at, watch_at}
-use Rattle.ep_plain.specs.Wait.{IsChosen, Waits, deadline_of, noted_in, numbers_of, report_of, wait_tests}
+use Rattle.ep_plain.specs.Wait.{IsChosen, Waits, deadline_of, with_report, numbers_of, report_of, wait_tests}
 use Rattle.ep_plain.specs.declared.wait.Reportable.{Reportable}
 use Rattle.ep_plain.specs.declared.wait.Wait.{Wait}
 use Rattle.ep_plain.proofs.Going.{goes_made}
@@ -45,14 +45,14 @@ past_one true e rest h = refl
 past_one false e rest h = absurd cc
 
 -- a report leaves links as they are
-link_noted : (n : ℕ) (ks : List ℕ) (x : Entry) → link_of (noted_in n ks x) ≡ link_of x
+link_noted : (n : ℕ) (ks : List ℕ) (x : Entry) → link_of (with_report n ks x) ≡ link_of x
 link_noted n ks x = elim (is_among ks x.number) as (λ b. link_of (cond b (record x { armed = x.armed && not (has_bit x.mask.0 ONESHOT); seen = Some no_counts; rep = n }) x) ≡ link_of x) [ true ↦ refl | false ↦ refl ]
 
-nested_noted : (v : Seen) (n : ℕ) (ks : List ℕ) (x : Entry) → is_nested v (noted_in n ks x) ≡ is_nested v x
+nested_noted : (v : Seen) (n : ℕ) (ks : List ℕ) (x : Entry) → is_nested v (with_report n ks x) ≡ is_nested v x
 nested_noted v n ks x = elim (is_among ks x.number) as (λ b. is_nested v (cond b (record x { armed = x.armed && not (has_bit x.mask.0 ONESHOT); seen = Some no_counts; rep = n }) x) ≡ is_nested v x) [ true ↦ refl | false ↦ refl ]
 
-links_noted : (v : Seen) (n : ℕ) (ks : List ℕ) (xs : List Entry) → map link_of (filter (is_nested v) (map (noted_in n ks) xs)) ≡ map link_of (filter (is_nested v) xs)
-links_noted v n ks xs = links_mapped (is_nested v) (noted_in n ks) (link_noted n ks) (nested_noted v n ks) xs
+links_noted : (v : Seen) (n : ℕ) (ks : List ℕ) (xs : List Entry) → map link_of (filter (is_nested v) (map (with_report n ks) xs)) ≡ map link_of (filter (is_nested v) xs)
+links_noted v n ks xs = links_mapped (is_nested v) (with_report n ks) (link_noted n ks) (nested_noted v n ks) xs
 
 -- what is reported leaves the rest of a registration
 module _ (v : Seen) (old new : Registrations) (n : ℕ) (chosen : List Reportable) (answer : Answer) (picked : List ℕ) (is : Reports old new n chosen answer picked) where
@@ -134,7 +134,7 @@ module _ (v : Seen) (p : ℕ) (args : Wait) (instance : DescId) (of : Waits v p 
 
     comes : wait s caller p e most args.timeout (numbers_of chosen) ≡ Some (if length chosen == 0 then wait_for s caller p e most args.timeout else told)
     comes =
-        let new : Registrations = record old { entries = map (noted_in n (numbers_of chosen)) old.entries } in
+        let new : Registrations = record old { entries = map (with_report n (numbers_of chosen)) old.entries } in
         waits v now old new s n instance most chosen at sound legal stands linked tables of.lives chooses refl refl caller p args.timeout (some_asked args.max positive)
 
     -- with something to report, or without time

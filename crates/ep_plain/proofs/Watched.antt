@@ -9,16 +9,16 @@ use Rattle.ep_base.specs.declared.call.Event.TheVariants.{Call as CallOf, Resume
 use Rattle.ep_interest.specs.Registrations.{Registrations}
 use Rattle.ep_interest.specs.declared.entry.Entry.{Entry}
 use Rattle.ep_machine.specs.Files.{Files, named_by, object_of}
-use Rattle.ep_machine.specs.Kept.{kept_of}
+use Rattle.ep_view.specs.KernelView.{kernel_watch}
 use Rattle.ep_machine.specs.Objects.{Object, counter, instance, is_instance, pair, pipe, plain, timer}
-use Rattle.ep_machine.specs.Quiet.{Changed, Quiet, can_be_watched, kind_of}
+use Rattle.ep_view.specs.AtRest.{Changed, AtRest, can_be_watched, kind_of}
 use Rattle.ep_machine.specs.Readiness.{is_ready}
 use Rattle.ep_machine.specs.Report.{is_pick, plainly, report}
 use Rattle.ep_machine.specs.State.{Change, State, Waiter, Watch}
 use Rattle.ep_machine.specs.Step.{change}
 use Rattle.ep_machine.specs.Waits.{is_due, leave, leave_after, resume_by, resume_empty, wait_for, waiter_of}
 use Rattle.ep_machine.specs.Watches.{is_add, is_del, number_in}
-use Rattle.ep_machine.proofs.Naming.{Extends}
+use Rattle.ep_view.proofs.FilesLemmas.{Extends}
 use Rattle.ep_nest.specs.declared.link.Link.{Link}
 use Rattle.ep_plain.specs.Climb.{AreNested, is_nested}
 use Rattle.ep_plain.specs.Moves.{Parts, StandFor}
@@ -102,7 +102,7 @@ change_leaves limits s caller (Tick k) ks = leaves_plainly s ks _ (inr refl)
 abbrev pub WereWatched : Files → List Watch → Type 0
 WereWatched files xs = All (λ w. can_be_watched (object_of files w.target) ≡ true) xs
 
-pub were_watched : (limits : Limits) (s : State) (caller : ℕ) (event : Event) (ks : List ℕ) (made : Change) → Quiet s → Changed made.1 → change limits s caller event ks ≡ Some made → WereWatched s.files made.1.watches
+pub were_watched : (limits : Limits) (s : State) (caller : ℕ) (event : Event) (ks : List ℕ) (made : Change) → AtRest s → Changed made.1 → change limits s caller event ks ≡ Some made → WereWatched s.files made.1.watches
 were_watched limits s caller event ks made quiet changed is = elim (change_leaves limits s caller event ks made is) [
   | inl files ↦ subst (λ (f : Files). WereWatched f made.1.watches) files (λ k d lt. (changed.watches k d lt).target_shows)
   | inr watches ↦ subst (WereWatched s.files) (sym watches) (λ k d lt. (quiet.watches k d lt).target_shows)
@@ -145,7 +145,7 @@ pub nested_moved : (old mid : Parts) (s made : State) (graph : List Link) → St
 nested_moved old mid s made graph there stands extends watched keys linked h =
     let xs = mid.interest.entries in
     let P : Watch → Type 0 = λ w. kind_of (object_of made.files w.target) ≡ kind_of (object_of s.files w.target) in
-    let kinds : KeepKinds s.files made.files (map (watch_at mid.tables.keys) xs) = subst (All P) stands.watches (All-map P (kept_of made) made.watches (λ k d lt. extends.shows _ (watched k d lt))) in
+    let kinds : KeepKinds s.files made.files (map (watch_at mid.tables.keys) xs) = subst (All P) stands.watches (All-map P (kernel_watch made) made.watches (λ k d lt. extends.shows _ (watched k d lt))) in
     nested_over old.tables mid.tables mid.interest graph (λ k d lt. sym (number_kept old.tables mid.tables _ keys (linked k d lt).desc))
     (subst (λ (f : Files). KeepKinds f mid.tables.files (map (watch_at mid.tables.keys) xs)) there.files (subst (λ (g : Files). KeepKinds s.files g (map (watch_at mid.tables.keys) xs)) stands.files kinds)) h
 

@@ -4,7 +4,7 @@ use Rattle.std.specs.Prelude.{◌≡◌, Bool, List, Some, [], filter, length, m
 use Rattle.ep_machine.specs.Deaths.{die_all}
 use Rattle.ep_machine.specs.Files.{Place, place_of}
 use Rattle.ep_machine.specs.Lists.{is_among}
-use Rattle.ep_machine.specs.Kept.{freshened}
+use Rattle.ep_view.specs.KernelView.{freshened}
 use Rattle.ep_machine.specs.State.{Watch}
 use Rattle.ep_interest.specs.Registrations.{Registrations}
 use Rattle.ep_plain.specs.Stands.{AreLinked, KeepsKeys, watch_at}

@@ -5,7 +5,7 @@ use Rattle.ep_interest.specs.Registrations.{Registrations, freshened_on}
 use Rattle.ep_interest.specs.declared.entry.Entry.{Entry}
 use Rattle.ep_machine.specs.Bits.{IN}
 use Rattle.ep_machine.specs.Files.{object_of}
-use Rattle.ep_machine.specs.Kept.{climbed_all}
+use Rattle.ep_view.specs.KernelView.{climbed_all}
 use Rattle.ep_machine.specs.Objects.{is_instance, plain}
 use Rattle.ep_nest.specs.declared.link.Link.{Link}
 use Rattle.ep_plain.specs.Stands.{AreLinked, number_at, watch_at}

@@ -71,8 +71,8 @@ abbrev pub is_deep_at : Seen → List Link → Named → Bool
 is_deep_at tables graph named = is_nested_key tables named.desc && not (is_legal ((named.instance.0, named.desc.0) ∷ edges graph))
 
 -- IN at the instance, where the registration with this key is reportable
-abbrev pub looked : Seen → ℕ → Registrations → Named → Fd → Raising
-looked tables now r named fd = if list_any (entry_shows (readiness tables now r) tables now) (filter (has_key named.instance fd named.desc) r.entries) then Instance named.instance else Nowhere
+abbrev pub raising_of_ctl : Seen → ℕ → Registrations → Named → Fd → Raising
+raising_of_ctl tables now r named fd = if list_any (entry_shows (readiness tables now r) tables now) (filter (has_key named.instance fd named.desc) r.entries) then Instance named.instance else Nowhere
 
 abbrev pub is_done : Answer → Bool
 is_done Done = true

@@ -8,10 +8,10 @@ use Rattle.ep_base.specs.declared.call.Event.{Event}
 use Rattle.ep_base.specs.declared.errno.Errno.{Errno}
 use Rattle.ep_machine.specs.Effect.{first}
 use Rattle.ep_machine.specs.Files.{Files}
-use Rattle.ep_machine.specs.Kept.{climbed_all, freshened, kept_all}
-use Rattle.ep_machine.specs.Quiet.{Quiet, marks_of}
+use Rattle.ep_view.specs.KernelView.{climbed_all, freshened, kernel_watches}
+use Rattle.ep_view.specs.AtRest.{AtRest, marks_of}
 use Rattle.ep_machine.specs.Refusal.{call_refusals, refusals}
-use Rattle.ep_machine.specs.Sound.{Sound}
+use Rattle.ep_law.specs.Sound.{Sound}
 use Rattle.ep_machine.specs.State.{Change, State, Waiter}
 use Rattle.ep_machine.specs.Step.{call_change, change}
 use Rattle.ep_machine.specs.Watches.{is_legal, links}
@@ -35,7 +35,7 @@ StandFor p s = Stands p.tables p.interest p.parked p.now s
 pub record StandsRaised (n : ℕ) (p : Parts) (raised : List (ℕ × ℕ)) (s : State) : Type 0 where
   pub now : s.now ≡ p.now
   pub files : s.files ≡ p.tables.files
-  pub watches : map (freshened n raised) (kept_all s s.watches) ≡ map (watch_at p.tables.keys) p.interest.entries
+  pub watches : map (freshened n raised) (kernel_watches s s.watches) ≡ map (watch_at p.tables.keys) p.interest.entries
   pub added : s.added ≡ p.interest.added
   pub waiters : s.waiters ≡ waiters_at p.tables.keys p.parked
 
@@ -43,7 +43,7 @@ pub record StandsRaised (n : ℕ) (p : Parts) (raised : List (ℕ × ℕ)) (s : 
 pub record StandsBuried (n : ℕ) (p : Parts) (s : State) : Type 0 where
   pub now : s.now ≡ p.now
   pub files : s.files ≡ p.tables.files
-  pub watches : kept_all s s.watches ≡ climbed_all n p.tables.files (map (watch_at p.tables.keys) p.interest.entries)
+  pub watches : kernel_watches s s.watches ≡ climbed_all n p.tables.files (map (watch_at p.tables.keys) p.interest.entries)
   pub added : s.added ≡ p.interest.added
   pub waiters : s.waiters ≡ marks_of s (waiters_at p.tables.keys p.parked)
 
@@ -66,7 +66,7 @@ Goes refusals o s answer picked new = MatchOption (first refusals) (Makes o answ
 
 -- from every state of the machine for which the old parts stand, at event n
 abbrev pub MovesBy : ℕ → Parts → (State → Type 0) → Type 0
-MovesBy n old Then = (s : State) → s.n ≡ n → Sound s → Quiet s → is_legal (links s) ≡ true → StandFor old s → Then s
+MovesBy n old Then = (s : State) → s.n ≡ n → Sound s → AtRest s → is_legal (links s) ≡ true → StandFor old s → Then s
 
 abbrev pub MovesCall : Limits → ℕ → ℕ → ℕ → Call → Answer → List ℕ → Parts → Parts → Type 0
 MovesCall limits n caller p call answer picked old new = MovesBy n old (λ s. Goes (call_refusals limits s p call) (call_change limits s caller p call picked) s answer picked new)

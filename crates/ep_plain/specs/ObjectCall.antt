@@ -21,8 +21,8 @@ IsObjectCall (GetTime fd) = Unit {0}
 IsObjectCall call = ⊥
 
 -- what it gives where it isn't refused
-abbrev pub given : Files → ℕ → ℤ → ℕ → Call → Effect Object
-given files p fd now call = object_effect (object_under files p fd) (side_under files p fd) now call
+abbrev pub object_effect_of : Files → ℕ → ℤ → ℕ → Call → Effect Object
+object_effect_of files p fd now call = object_effect (object_under files p fd) (side_under files p fd) now call
 
 -- an answer of such a call, with room for its bytes
 abbrev pub FitsRoom : Answer → SmallVec ℕ 16 Global → Type 0

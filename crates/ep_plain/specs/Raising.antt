@@ -12,12 +12,12 @@ use Rattle.ep_machine.specs.Bits.{IN, at_end, when}
 use Rattle.ep_machine.specs.Effect.{first}
 use Rattle.ep_machine.specs.Files.{Files, Place, named_by, names_nothing, object_at, object_number, object_of, object_under, place_of, side_of, side_under}
 use Rattle.ep_machine.specs.Objects.{advance, object_refusals, plain}
-use Rattle.ep_machine.specs.Quiet.{can_be_watched}
+use Rattle.ep_view.specs.AtRest.{can_be_watched}
 use Rattle.ep_machine.specs.Spread.{raised_of}
 use Rattle.ep_machine.specs.State.{Change}
 use Rattle.ep_machine.specs.Tables.{affected_raises}
 use Rattle.ep_machine.specs.Timer.{last_moment}
-use Rattle.ep_plain.specs.ObjectCall.{given}
+use Rattle.ep_plain.specs.ObjectCall.{object_effect_of}
 use Rattle.ep_plain.specs.declared.raising.Raising.{Raising}
 use Rattle.ep_plain.specs.declared.raising.Raising.TheVariants.{Clock, Instance, Nowhere, Object}
 use Rattle.ep_table.specs.Closing.{IsAt, across, opposite}
@@ -89,7 +89,7 @@ AsRaisedIn files raising v now raised = (d : ℕ) → can_be_watched (object_of 
 abbrev pub RaisesByCall : Seen → Seen → ℕ → ℤ → ℕ → Call → Raising → Type 0
 RaisesByCall old new p fd now call raising =
     MatchOption (first ((names_nothing old.files p fd, Ebadf) ∷ object_refusals (object_under old.files p fd) (side_under old.files p fd) now call))
-    (AsRaised raising new now (affected_raises old.files (named_by old.files p fd) (given old.files p fd now call)))
+    (AsRaised raising new now (affected_raises old.files (named_by old.files p fd) (object_effect_of old.files p fd now call)))
     (λ e. AsRaised raising new now [])
 
 -- where a call has these refusals, and the machine this change

@@ -2,7 +2,7 @@
 use Rattle.std.specs.Prelude.{Bool, List, map, ℕ}
 use Rattle.ep_interest.specs.Registrations.{Registrations}
 use Rattle.ep_interest.specs.declared.entry.Entry.{Entry}
-use Rattle.ep_machine.specs.Kept.{ready_now, shown_at, shows}
+use Rattle.ep_view.specs.KernelView.{ready_now, shown_at, shows}
 use Rattle.ep_machine.specs.State.{Watch}
 use Rattle.ep_plain.specs.Stands.{watch_at}
 use Rattle.ep_table.specs.Value.{Seen}

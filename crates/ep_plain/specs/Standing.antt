@@ -1,8 +1,8 @@
 -- What a kernel keeps.
 use Rattle.std.specs.Prelude.{◌≡◌, ◌*◌, ◌+◌, ◌≤◌, Some, length, vec_capacity}
-use Rattle.ep_machine.specs.Quiet.{Quiet}
+use Rattle.ep_view.specs.AtRest.{AtRest}
 use Rattle.ep_machine.specs.Run.{run}
-use Rattle.ep_machine.specs.Sound.{Sound}
+use Rattle.ep_law.specs.Sound.{Sound}
 use Rattle.ep_machine.specs.Timer.{last_moment}
 use Rattle.ep_machine.specs.State.{State, opening}
 use Rattle.ep_plain.specs.Book.{Book}
@@ -20,7 +20,7 @@ pub record IsStanding (k : Inside) : Type 0 where
   pub leads : run k.limits opening k.history.items ≡ Some state
   pub n : state.n ≡ length k.history.items
   pub sound : Sound state
-  pub quiet : Quiet state
+  pub quiet : AtRest state
   pub clock : k.now ≤ last_moment
   pub stands : Stands k.tables k.interest k.waiters k.now state
   pub linked : AreLinked k.tables k.interest

@@ -1,8 +1,7 @@
 -- Which states of the machine the parts of a kernel stand for.
 use Rattle.std.specs.Prelude.{Some, ◌≡◌, ◌<◌, All, IsSome, List, None, Option, map, pos, slice_index_or, unwrap_or, ℕ}
 use Rattle.ep_base.specs.declared.ids.DescId.{DescId}
-use Rattle.ep_machine.specs.Kept.{kept_all}
-use Rattle.ep_machine.specs.Marks.{at_number}
+use Rattle.ep_view.specs.KernelView.{kernel_watches, at_number}
 use Rattle.ep_machine.specs.State.{State, Waiter, Watch}
 use Rattle.ep_machine.specs.Watches.{number_in}
 use Rattle.ep_interest.specs.declared.entry.Entry.{Entry}
@@ -41,7 +40,7 @@ ArePlaced tables ws = All (IsPlaced tables.keys) ws
 pub record Stands (tables : Seen) (interest : Registrations) (parked : List Waiter) (clock : ℕ) (s : State) : Type 0 where
   pub now : s.now ≡ clock
   pub files : s.files ≡ tables.files
-  pub watches : kept_all s s.watches ≡ map (watch_at tables.keys) interest.entries
+  pub watches : kernel_watches s s.watches ≡ map (watch_at tables.keys) interest.entries
   pub added : s.added ≡ interest.added
   pub waiters : s.waiters ≡ waiters_at tables.keys parked
 

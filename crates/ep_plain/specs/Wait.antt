@@ -60,8 +60,8 @@ abbrev pub report_of : Reportable → Report
 report_of x = record { bits = x.bits; tag = x.entry.tag }
 
 -- those that are reported in event n: a one-shot is disarmed
-abbrev pub noted_in : ℕ → List ℕ → Entry → Entry
-noted_in n ks x = if is_among ks x.number then record x { armed = x.armed && not (has_bit x.mask.0 ONESHOT); seen = Some no_counts; rep = n } else x
+abbrev pub with_report : ℕ → List ℕ → Entry → Entry
+with_report n ks x = if is_among ks x.number then record x { armed = x.armed && not (has_bit x.mask.0 ONESHOT); seen = Some no_counts; rep = n } else x
 
 -- a negative timeout has no end
 abbrev pub deadline_of : ℕ → ℤ → Option ℕ

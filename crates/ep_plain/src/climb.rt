@@ -1,7 +1,7 @@
 //! What an event raised climbs through instances.
 ghost use Rattle.std.specs.Prelude.{◌≡◌, ◌&&◌, ◌||◌, ◌==◌, IsSome, map, nat_lt};
 ghost use Rattle.ep_machine.specs.Bits.{IN, asked};
-ghost use Rattle.ep_machine.specs.Kept.{reached_now, reached_within};
+ghost use Rattle.ep_view.specs.KernelView.{reached_now, reached_within};
 ghost use Rattle.ep_plain.specs.Climb.{AreNested, Climbs, climbs_to};
 ghost use Rattle.ep_plain.specs.Readiness.{watches_of};
 ghost use Rattle.ep_plain.specs.Stands.{AreLinked};

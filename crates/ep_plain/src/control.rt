@@ -9,7 +9,7 @@ ghost use Rattle.ep_machine.specs.State.{Waiter};
 ghost use Rattle.ep_machine.specs.Watches.{is_legal};
 ghost use Rattle.ep_nest.specs.Links.{edges, entries};
 ghost use Rattle.ep_plain.specs.Climb.{AreNested, KeepsLinks, link_of};
-ghost use Rattle.ep_plain.specs.Control.{Alters, Enters, Names, code_of, control_call, is_deep_at, is_done, is_refused_op, looked, naming_refusals};
+ghost use Rattle.ep_plain.specs.Control.{Alters, Enters, Names, code_of, control_call, is_deep_at, is_done, is_refused_op, raising_of_ctl, naming_refusals};
 ghost use Rattle.ep_interest.specs.Registrations.{has_key, new_entry, number_under as number_of_entry};
 ghost use Rattle.ep_machine.specs.Timer.{last_moment};
 ghost use Rattle.ep_plain.specs.Moves.{MovesCall, RaisesCall};
@@ -230,7 +230,7 @@ fn enter(
 fn look_at(tables: &Tables, now: u64, interest: &Interest, named: Named, fd: Fd) -> Raising
     requires linked { AreLinked tables.now interest.now }
     requires clock { now ≤ last_moment }
-    ensures { result ≡ looked tables.now now interest.now named fd }
+    ensures { result ≡ raising_of_ctl tables.now now interest.now named fd }
 {
     interest.known();
     let Some(id) = interest.find(named.instance, fd, named.desc) else {
@@ -261,7 +261,7 @@ fn controlled(
     ensures answer { result.answer ≡ answer }
     ensures copy { result.copy ≡ answer }
     ensures picked { result.picked ≡ [] }
-    ensures raising { result.raising ≡ (if is_done answer then looked tables.now now interest.now named fd else Nowhere) }
+    ensures raising { result.raising ≡ (if is_done answer then raising_of_ctl tables.now now interest.now named fd else Nowhere) }
 {
     let raising = match answer {
         Answer::Done => look_at(tables, now, interest, named, fd),

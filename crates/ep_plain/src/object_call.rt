@@ -7,7 +7,7 @@ ghost use Rattle.ep_machine.specs.Tables.{affected};
 ghost use Rattle.ep_machine.specs.Timer.{last_moment};
 ghost use Rattle.ep_object.specs.Memory.{asked_of, object_waiting};
 ghost use Rattle.ep_plain.specs.Moves.{Grows, KeepsHolds, Opens};
-ghost use Rattle.ep_plain.specs.ObjectCall.{FitsRoom, IsObjectCall, given};
+ghost use Rattle.ep_plain.specs.ObjectCall.{FitsRoom, IsObjectCall, object_effect_of};
 ghost use Rattle.ep_plain.specs.Acts.{is_no_memory};
 ghost use Rattle.ep_plain.specs.Raising.{IsRaising, RaisesByCall};
 ghost use Rattle.ep_table.specs.Value.{content_of, number_of, number_under};
@@ -74,7 +74,7 @@ pub fn object_call(
 ) -> Result<Acted, AllocError>
     requires call { IsObjectCall call.now }
     requires clock { now ≤ last_moment }
-    ensures ok { IfOk result (λ acted. Opens ((names_nothing tables.old.files pid.0 fd.0, AnErrno.Ebadf) ∷ object_refusals (object_under tables.old.files pid.0 fd.0) (side_under tables.old.files pid.0 fd.0) now call.now) (given tables.old.files pid.0 fd.0 now call.now).0 (affected tables.old.files (named_by tables.old.files pid.0 fd.0) (given tables.old.files pid.0 fd.0 now call.now)) acted.answer tables.old tables.new) }
+    ensures ok { IfOk result (λ acted. Opens ((names_nothing tables.old.files pid.0 fd.0, AnErrno.Ebadf) ∷ object_refusals (object_under tables.old.files pid.0 fd.0) (side_under tables.old.files pid.0 fd.0) now call.now) (object_effect_of tables.old.files pid.0 fd.0 now call.now).0 (affected tables.old.files (named_by tables.old.files pid.0 fd.0) (object_effect_of tables.old.files pid.0 fd.0 now call.now)) acted.answer tables.old tables.new) }
     ensures copy { IfOk result (λ acted. acted.copy ≡ acted.answer) }
     ensures picked { IfOk result (λ acted. acted.picked ≡ []) }
     ensures raised { IfOk result (λ acted. RaisesByCall tables.old tables.new pid.0 fd.0 now call.now acted.raising) }

@@ -2,7 +2,7 @@
 ghost use Rattle.std.specs.Prelude.{◌≡◌, ◌≤◌, ◌&&◌, ◌||◌, IsSome, is_none, nat_lt, not};
 ghost use Rattle.ep_machine.specs.Bits.{ET, has_bit};
 ghost use Rattle.ep_machine.specs.Files.{object_of, side_of};
-ghost use Rattle.ep_machine.specs.Kept.{ready_within};
+ghost use Rattle.ep_view.specs.KernelView.{ready_within};
 ghost use Rattle.ep_machine.specs.Readiness.{present_of};
 ghost use Rattle.ep_machine.specs.Timer.{last_moment};
 ghost use Rattle.ep_plain.specs.Readiness.{entry_bits, readiness, shown_over, watches_of};

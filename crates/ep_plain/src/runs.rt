@@ -6,7 +6,7 @@ ghost use Rattle.ep_plain.specs.Acts.{Answers};
 
 use crate::Kernel;
 use ep_base::{Answer, CallerId, Event};
-use ep_machine::laws;
+use ep_law::laws;
 use std::alloc::AllocError;
 
 /// One answer for each event, in order. An `Err`, for want of memory for the answers, has made no step;

@@ -11,7 +11,7 @@ ghost use Rattle.ep_plain.specs.Moves.{AreHeld, MovesCall};
 ghost use Rattle.std.specs.List.{list_any};
 ghost use Rattle.ep_plain.specs.Stands.{AreLinked, ArePlaced};
 ghost use Rattle.ep_plain.specs.Readiness.{entry_shows, readiness};
-ghost use Rattle.ep_plain.specs.Wait.{AreKeyed, IsChosen, Waits, deadline_of, noted_in, numbers_of, report_of, wait_call, wait_tests};
+ghost use Rattle.ep_plain.specs.Wait.{AreKeyed, IsChosen, Waits, deadline_of, with_report, numbers_of, report_of, wait_call, wait_tests};
 ghost use Rattle.ep_plain.specs.Reports.{Reports};
 ghost use Rattle.ep_base.specs.declared.answer.Answer.TheVariants.{Events};
 ghost use Rattle.ep_machine.specs.Timer.{last_moment};
@@ -166,7 +166,7 @@ fn stays_armed(entry: &Entry) -> bool
 /// Notes that a registration is reported in this step: a one-shot is disarmed.
 fn note_one(interest: &mut Interest, step: u64, id: EntryId)
     requires { IsSome (number_of_entry interest.old id) }
-    ensures entries { interest.new.entries ≡ map (noted_in step (unwrap_or (number_of_entry interest.old id) 0 ∷ [])) interest.old.entries }
+    ensures entries { interest.new.entries ≡ map (with_report step (unwrap_or (number_of_entry interest.old id) 0 ∷ [])) interest.old.entries }
     ensures keys { interest.new.keys ≡ interest.old.keys }
     ensures added { interest.new.added ≡ interest.old.added }
 {
@@ -178,7 +178,7 @@ fn note_one(interest: &mut Interest, step: u64, id: EntryId)
 /// Notes that they are reported in this step.
 fn note(interest: &mut Interest, step: u64, chosen: &[Reportable])
     requires { All (λ x. number_of_entry interest.old x.id ≡ Some x.entry.number) chosen.now }
-    ensures entries { interest.new.entries ≡ map (noted_in step (numbers_of chosen.now)) interest.old.entries }
+    ensures entries { interest.new.entries ≡ map (with_report step (numbers_of chosen.now)) interest.old.entries }
     ensures keys { interest.new.keys ≡ interest.old.keys }
     ensures added { interest.new.added ≡ interest.old.added }
 {

@@ -5,7 +5,7 @@ use Rattle.ep_base.specs.declared.ids.EntryId.{EntryId}
 use Rattle.ep_interest.specs.Registrations.{is_of}
 use Rattle.ep_interest.specs.declared.entry.Entry.{Entry}
 use Rattle.ep_machine.specs.Files.{object_of}
-use Rattle.ep_machine.specs.Kept.{carries, reached_within}
+use Rattle.ep_view.specs.KernelView.{carries, reached_within}
 use Rattle.ep_machine.specs.Objects.{is_instance, plain}
 use Rattle.ep_plain.specs.Readiness.{watches_of}
 use Rattle.ep_plain.specs.Stands.{IsLinked, number_at, watch_at}

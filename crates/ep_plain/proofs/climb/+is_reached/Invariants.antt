@@ -1,6 +1,6 @@
 use Rattle.std.proofs.Common.{◌-◌, filter}
 use Rattle.ep_interest.specs.Registrations.{is_of}
-use Rattle.ep_machine.specs.Kept.{carries, reached_within}
+use Rattle.ep_view.specs.KernelView.{carries, reached_within}
 use Rattle.ep_plain.specs.Readiness.{watches_of}
 use Rattle.ep_plain.proofs.Looking.{Looks}
 use Rattle.ep_plain.proofs.climb.+is_reached.Given as goal

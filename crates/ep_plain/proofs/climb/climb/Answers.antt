@@ -4,7 +4,7 @@ use Rattle.std.proofs.lemmas.List.Elements.{All-get_or}
 use Rattle.ep_base.specs.declared.ids.DescId.{DescId}
 use Rattle.ep_interest.specs.Registrations.{settled}
 use Rattle.ep_interest.specs.declared.entry.Entry.{Entry}
-use Rattle.ep_machine.specs.Kept.{reached_now}
+use Rattle.ep_view.specs.KernelView.{reached_now}
 use Rattle.ep_nest.specs.declared.link.Link.{Link}
 use Rattle.ep_plain.specs.Climb.{climbs_to, is_nested, link_of}
 use Rattle.ep_plain.specs.Readiness.{watches_of}

@@ -1,5 +1,5 @@
 use Rattle.std.proofs.Common.{◌≡◌, map, take}
-use Rattle.ep_machine.specs.Kept.{reached_now}
+use Rattle.ep_view.specs.KernelView.{reached_now}
 use Rattle.ep_plain.specs.Readiness.{watches_of}
 use Rattle.ep_plain.proofs.Climbing.{climbs_on, inners_of}
 use Rattle.ep_plain.proofs.climb.climb.Given as goal

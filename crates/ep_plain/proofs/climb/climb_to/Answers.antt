@@ -1,5 +1,5 @@
 use Rattle.std.proofs.Common.{◌∙◌, Bool, ap, map, sym}
-use Rattle.ep_machine.specs.Kept.{reached_now}
+use Rattle.ep_view.specs.KernelView.{reached_now}
 use Rattle.ep_plain.specs.Climb.{climbs_to}
 use Rattle.ep_plain.proofs.Climbing.{climbs_not}
 use Rattle.ep_plain.proofs.climb.climb_to.Goals as goal

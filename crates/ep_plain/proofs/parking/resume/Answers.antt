@@ -8,7 +8,7 @@ use Rattle.ep_machine.specs.Refusal.{refusals}
 use Rattle.ep_machine.specs.State.{Waiter}
 use Rattle.ep_machine.specs.Waits.{is_due, is_positive, resume}
 use Rattle.ep_machine.specs.Watches.{number_in}
-use Rattle.ep_machine.proofs.Waiters.{unmarked_part}
+use Rattle.ep_view.proofs.WaiterLemmas.{unmarked_part}
 use Rattle.ep_park.specs.Waiters.{is_caller, parked}
 use Rattle.ep_plain.specs.Reports.{Reports}
 use Rattle.ep_plain.specs.Stands.{IsPlaced}

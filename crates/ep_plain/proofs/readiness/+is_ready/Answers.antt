@@ -3,7 +3,7 @@ use Rattle.std.proofs.lemmas.List.Elements.{All-filter}
 use Rattle.ep_base.specs.declared.ids.EntryId.{EntryId}
 use Rattle.ep_interest.specs.Registrations.{is_of}
 use Rattle.ep_interest.specs.declared.entry.Entry.{Entry}
-use Rattle.ep_machine.specs.Kept.{ready_within, shows}
+use Rattle.ep_view.specs.KernelView.{ready_within, shows}
 use Rattle.ep_machine.specs.Objects.{is_instance, plain}
 use Rattle.ep_machine.specs.Files.{object_of}
 use Rattle.std.specs.List.{list_any}

@@ -1,4 +1,4 @@
-use Rattle.ep_machine.specs.Kept.{ready_now}
+use Rattle.ep_view.specs.KernelView.{ready_now}
 use Rattle.ep_plain.proofs.readiness.is_ready_now.Goals as goal
 
 pub returns : goal.returns

@@ -1,6 +1,6 @@
 use Rattle.std.proofs.Common.{◌≡◌, ◌∙◌, ◌&&◌, Bool, ap, sym, unwrap_or}
 use Rattle.ep_machine.specs.Files.{object_of}
-use Rattle.ep_machine.specs.Kept.{ready_now}
+use Rattle.ep_view.specs.KernelView.{ready_now}
 use Rattle.ep_machine.specs.Objects.{is_instance, plain}
 use Rattle.ep_plain.specs.Readiness.{readiness}
 use Rattle.ep_plain.specs.Stands.{number_at}

@@ -1,7 +1,7 @@
 use Rattle.std.proofs.Common.{◌≡◌, ℕ, pos, Option, false, slice_index_or, List, [], ◌∷◌, None, get_or, map, take, refl, sym, ap, ◌∙◌, unwrap_or}
 use Rattle.std.proofs.lemmas.List.{map_more}
 use Rattle.ep_interest.specs.declared.entry.Entry.{Entry}
-use Rattle.ep_plain.specs.Wait.{noted_in, numbers_of}
+use Rattle.ep_plain.specs.Wait.{with_report, numbers_of}
 use Rattle.ep_plain.specs.declared.wait.Reportable.{Reportable}
 use Rattle.ep_plain.proofs.Choosing.{noted_more, noted_none}
 use Rattle.ep_plain.proofs.wait.note.Goals as goal
@@ -24,10 +24,10 @@ loop-x-preserved c = record {
       ap (λ (keys : List (Option ℕ)). unwrap_or (slice_index_or keys x.id.0 None) 0) c.loop-x.invariant.keys
       ∙ ap (λ (o : Option ℕ). unwrap_or o 0) (c.requires i none c.loop-x-test.true) in
       c.note_one.ensures.entries
-      ∙ (ap (λ (k : ℕ). map (noted_in n (k ∷ [])) c.loop-x.interest.entries) number
-      ∙ (ap (λ (ys : List Entry). map (noted_in n (x.entry.number ∷ [])) ys) c.loop-x.invariant.entries
+      ∙ (ap (λ (k : ℕ). map (with_report n (k ∷ [])) c.loop-x.interest.entries) number
+      ∙ (ap (λ (ys : List Entry). map (with_report n (x.entry.number ∷ [])) ys) c.loop-x.invariant.entries
       ∙ (noted_more n x.entry.number ks c.args.interest.now.entries
-      ∙ ap (λ (ms : List ℕ). map (noted_in n ms) c.args.interest.now.entries) (sym (map_more (λ (y : Reportable). y.entry.number) xs i none c.loop-x-test.true)))));
+      ∙ ap (λ (ms : List ℕ). map (with_report n ms) c.args.interest.now.entries) (sym (map_more (λ (y : Reportable). y.entry.number) xs i none c.loop-x-test.true)))));
   keys = c.note_one.ensures.keys ∙ c.loop-x.invariant.keys;
   added = c.note_one.ensures.added ∙ c.loop-x.invariant.added;
 }

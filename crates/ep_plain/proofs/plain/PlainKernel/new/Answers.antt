@@ -5,8 +5,8 @@ use Rattle.ep_interest.specs.declared.entry.Entry.{Entry}
 use Rattle.ep_machine.specs.Files.{Files, opening_files}
 use Rattle.ep_machine.specs.Run.{run}
 use Rattle.ep_machine.specs.State.{Waiter, opening}
-use Rattle.ep_machine.proofs.Quietness.{quiet_opening}
-use Rattle.ep_machine.proofs.Soundness.{sound_opening}
+use Rattle.ep_view.proofs.AtRestLemmas.{quiet_opening}
+use Rattle.ep_law.proofs.SoundLemmas.{sound_opening}
 use Rattle.ep_plain.specs.Climb.{is_nested, link_of}
 use Rattle.ep_plain.specs.Stands.{ArePlaced, IsLinked, IsPlaced, waiters_at, watch_at}
 use Rattle.std.specs.Prelude.{All}

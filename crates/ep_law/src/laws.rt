@@ -1,0 +1,67 @@
+//! Each law is the contract of a function that does nothing, so that it is proved.
+ghost use Rattle.ep_law.specs.Laws.{BeginningsAreSpread, DeathsInAnyOrder, Determined, EachSound, FairRounds, GraphStaysLegal, NamedLives, ReadyEquation, ReadyMarked, RefusalChangesNothing, SpreadEquation, SpreadLeast};
+
+/// An instance is ready exactly where one of its registrations is reportable: five levels are enough
+/// where the graph of instances is legal.
+pub fn ready_equation()
+    ensures law { ReadyEquation }
+{}
+
+/// What an event raises climbs through every armed registration that asks for it, where the graph is legal.
+pub fn spread_equation()
+    ensures law { SpreadEquation }
+{}
+
+/// The spread is within each family of sets that has what was raised and is closed under climbing.
+pub fn spread_least()
+    ensures law { SpreadLeast }
+{}
+
+/// A refusal changes the number of events alone.
+pub fn refusal_changes_nothing()
+    ensures law { RefusalChangesNothing }
+{}
+
+/// A run leads to one state.
+pub fn determined()
+    ensures law { Determined }
+{}
+
+/// In each state of a run the numbers of registrations are apart, from 1 to the number that was added,
+/// and each registration was last reported no later than the event since which it is reportable.
+pub fn each_sound()
+    ensures law { EachSound }
+{}
+
+/// While a registration stays reportable and unreported, no other registration of its instance is reported twice.
+pub fn fair_rounds()
+    ensures law { FairRounds }
+{}
+
+/// close(2) and exit(2): the order in which descriptions die plays no part in what is left.
+pub fn deaths_in_any_order()
+    ensures law { DeathsInAnyOrder }
+{}
+
+/// A description dies where the last descriptor that names it is closed and no parked waiter holds it, and only then.
+pub fn named_lives()
+    ensures law { NamedLives }
+{}
+
+/// In each state of a run a ready instance with waiters has a marked one.
+pub fn ready_waiters_are_marked()
+    ensures law { ReadyMarked }
+{}
+
+/// In each state of a run no chain has more than five instances, each watching the next, and none is a loop.
+pub fn graph_stays_legal()
+    ensures law { GraphStaysLegal }
+{}
+
+/// A bit that begins to hold at a description which lives before and after an event is in the
+/// event's spread, at instances too. It rests on the law of objects.
+pub fn beginnings_are_spread()
+    ensures law { BeginningsAreSpread }
+{
+    ep_object::arrivals_are_raised();
+}

@@ -1,5 +1,0 @@
-use Rattle.ep_machine.proofs.Dying.{same_dead}
-use Rattle.ep_machine.proofs.laws.deaths_in_any_order.Goals as goal
-
-pub returns : goal.returns
-returns c = record { law = same_dead }

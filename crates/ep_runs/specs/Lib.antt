@@ -1,0 +1,11 @@
+pub mod Records
+pub mod LevelRuns
+pub mod RefusalRuns
+pub mod CounterRuns
+pub mod TimerRuns
+pub mod SocketRuns
+pub mod DescriptorRuns
+pub mod RegistrationRuns
+pub mod EdgeRuns
+pub mod NestRuns
+pub mod ParkRuns

@@ -1,0 +1,493 @@
+-- In each state of a run what holds at the end of each event holds, and no waiter is forgotten.
+use Rattle.std.proofs.Common.{ap, ◌≡◌, ◌==◌, ℕ, zero, suc, ◌+◌, ◌≤◌, ◌&&◌, ◌++◌, All, Bool, List, [], ◌∷◌, MatchOption, None, Option, Some, ℤ, pos, negsuc, true, false, not, arith, cond, filter, get_or, inl, inr, if◌then◌else◌, is_none, is_some, length, map, nat_eq, nat_lt, refl, subst, sym, ◌∙◌, unwrap_or}
+use Rattle.std.specs.List.{AllByRecursion, IsDistinct}
+use Rattle.std.proofs.lemmas.Bool.Decides.{nat_tests}
+use Rattle.std.proofs.lemmas.List.Elements.{All-filter, All-map, All-push, All-weaker}
+use Rattle.ep_base.specs.Limits.{Limits}
+use Rattle.ep_base.specs.declared.answer.Answer.{Answer}
+use Rattle.ep_base.specs.declared.answer.Answer.TheVariants.{Done, Events, Num}
+use Rattle.ep_base.specs.declared.call.Call.{Call}
+use Rattle.ep_base.specs.declared.call.Call.TheVariants.{Close, Dup, Dup2, EpollCreate, EpollCtl, EpollWait, EventFd, Exec, Exit, Fork, GetTime, Pipe as PipeCall, Plain, Read, SetTime, Shutdown, SocketPair, TimerFd, Write}
+use Rattle.ep_base.specs.declared.call.Event.{Event}
+use Rattle.ep_base.specs.declared.call.Event.TheVariants.{Call as CallOf, Resume, Tick}
+use Rattle.ep_base.specs.declared.errno.Errno.{Errno}
+use Rattle.ep_base.specs.declared.errno.Errno.TheVariants.{Esrch, Ebusy}
+use Rattle.ep_base.specs.declared.object.End.{End}
+use Rattle.ep_base.specs.declared.record.Record.{Record}
+use Rattle.ep_machine.specs.Run.{run}
+use Rattle.ep_machine.specs.Settle.{settle}
+use Rattle.ep_law.proofs.StepLemmas.{run_keeps, step_changed, resumes, change_counted}
+use Rattle.ep_machine.specs.Bits.{ONESHOT, has_bit}
+use Rattle.ep_machine.specs.Effect.{first}
+use Rattle.ep_machine.specs.Files.{Files, Place, is_live, named_by, names_nothing, object_at, object_number, object_of, object_under, place_of, side_under, table_of}
+use Rattle.ep_machine.specs.Lists.{is_among}
+use Rattle.ep_machine.specs.Objects.{Object, counter, instance, is_instance, is_plain, object_effect, pair, pipe, plain, timer}
+use Rattle.ep_machine.specs.Pipe.{new_pipe}
+use Rattle.ep_view.specs.AtRest.{Changed, HasSeen, Settles, IsSteady, AtRest, can_be_watched, kind_of}
+use Rattle.ep_machine.specs.Readiness.{is_ready}
+use Rattle.ep_machine.specs.Refusal.{call_refusals, ctl_refusals, refusals, wait_refusals}
+use Rattle.ep_machine.specs.Report.{is_pick, plainly, report, report_of, reported, watches_at}
+use Rattle.ep_machine.specs.State.{Change, State, Waiter, Watch, counts_of, opening}
+use Rattle.ep_machine.specs.Sockets.{new_pair}
+use Rattle.ep_machine.specs.Step.{next_event, call_change, change, files_change, object_change, one_change, refused_or, settled, step, two_change}
+use Rattle.ep_machine.specs.Tables.{answer_one, close, dup, dup2, exec, exit, fork}
+use Rattle.ep_machine.specs.Timer.{last_moment, new_timer}
+use Rattle.ep_machine.specs.Waits.{is_parked, leave_after, resume, tick, unmark, unmarked, wait, wait_for, leave}
+use Rattle.ep_machine.specs.Watches.{add, ctl, delete, has_key, is_add, is_del, modified, modify, new_watch, number_in}
+use Rattle.ep_machine.specs.Deaths.{named_in_tables}
+use Rattle.ep_view.proofs.WaiterLemmas.{callers_filter, callers_push, instance_filter, instance_push, unmarked_part}
+use Rattle.ep_view.proofs.FilesLemmas.{Extends, Filed, among_either, among_first, among_second, extends_dup2, extends_one, extends_two, extends_with_object, filed_close, filed_dup, filed_dup2, filed_exec, filed_exit, filed_fork, filed_one, filed_opening, filed_two, filed_with_object, instance_stays, named_lives, named_opening, same_tables, watched_same}
+use Rattle.ep_view.proofs.FreshLemmas.{past_itself}
+use Rattle.ep_view.proofs.SettleLemmas.{quiet_settled, settle_changed}
+use Rattle.std.proofs.lemmas.Option.{none-some}
+
+-- In each state of a run no waiter is forgotten, and the rest of what holds at the end of each event holds.
+
+-- no test of a list that refuses nothing holds
+pub none_holds : (tests : List (Bool × Errno)) → first tests ≡ None → AllByRecursion (λ t. t.0 ≡ false) tests
+none_holds [] h = tt
+none_holds ((true, e) ∷ tests) h = cc
+none_holds ((false, e) ∷ tests) h = (refl, none_holds tests h)
+
+-- Other files under the same registrations.
+steady_in : (f g : Files) → Extends f g → (x : Watch) → IsSteady f x → IsSteady g x
+steady_in f g e x h = record { instance_lives = e.lives x.instance h.instance_lives; target_lives = e.lives x.target h.target_lives; target_shows = watched_same _ _ (e.shows x.target h.target_shows) h.target_shows }
+
+filed : (s : State) → AtRest s → Filed s.files
+filed s h = record { placed = h.placed; lives = λ d e. sym (h.named d) ∙ among_first (named_in_tables s.files.tables) (map (λ w. w.instance) s.waiters) d e }
+
+-- what waiters wait at
+waited_lives : (s : State) → AtRest s → (d : ℕ) → is_among (map (λ w. w.instance) s.waiters) d ≡ true → is_live s.files d ≡ true
+waited_lives s h d e = sym (h.named d) ∙ among_second (named_in_tables s.files.tables) (map (λ w. w.instance) s.waiters) d e
+
+pub weaken : (s : State) → AtRest s → Changed s
+weaken s h = record { now = h.now; placed = h.placed; lives = λ d e. sym (h.named d) ∙ e; watches = h.watches; seen = h.seen; waiting = h.waiting; callers = h.callers }
+
+quiet_files : (s : State) (g : Files) → AtRest s → Filed g → Extends s.files g → Changed (record s { files = g })
+quiet_files s g h k e = record {
+  now = h.now;
+  placed = k.placed;
+  lives = λ d n. elim (among_either (named_in_tables g.tables) (map (λ w. w.instance) s.waiters) d n) [ inl table ↦ k.lives d table | inr waits ↦ e.lives d (waited_lives s h d waits) ];
+  watches = All-weaker (IsSteady s.files) (IsSteady g) (steady_in s.files g e) s.watches h.watches;
+  seen = h.seen;
+  waiting = All-weaker (λ w. kind_of (object_of s.files w.instance) ≡ 1) (λ w. kind_of (object_of g w.instance) ≡ 1) (λ w. instance_stays s.files g e w.instance) s.waiters h.waiting;
+  callers = h.callers;
+}
+
+-- A call on an object keeps its kind.
+effect_kind : (x : Object) (e : End) (now : ℕ) (call : Call) → kind_of (Some (object_effect x e now call).1) ≡ kind_of (Some x)
+effect_kind plain e now (Read fd n) = refl
+effect_kind (pipe p) e now (Read fd n) = refl
+effect_kind (pair p) e now (Read fd n) = refl
+effect_kind (counter c) e now (Read fd n) = refl
+effect_kind (timer t) e now (Read fd n) = refl
+effect_kind instance e now (Read fd n) = refl
+effect_kind plain e now (Write fd bytes) = refl
+effect_kind (pipe p) e now (Write fd bytes) = refl
+effect_kind (pair p) e now (Write fd bytes) = refl
+effect_kind (counter c) e now (Write fd bytes) = refl
+effect_kind (timer t) e now (Write fd bytes) = refl
+effect_kind instance e now (Write fd bytes) = refl
+effect_kind plain e now (Shutdown fd) = refl
+effect_kind (pipe p) e now (Shutdown fd) = refl
+effect_kind (pair p) e now (Shutdown fd) = refl
+effect_kind (counter c) e now (Shutdown fd) = refl
+effect_kind (timer t) e now (Shutdown fd) = refl
+effect_kind instance e now (Shutdown fd) = refl
+effect_kind plain e now (SetTime fd absolute value interval) = refl
+effect_kind (pipe p) e now (SetTime fd absolute value interval) = refl
+effect_kind (pair p) e now (SetTime fd absolute value interval) = refl
+effect_kind (counter c) e now (SetTime fd absolute value interval) = refl
+effect_kind (timer t) e now (SetTime fd absolute value interval) = refl
+effect_kind instance e now (SetTime fd absolute value interval) = refl
+effect_kind plain e now (GetTime fd) = refl
+effect_kind (pipe p) e now (GetTime fd) = refl
+effect_kind (pair p) e now (GetTime fd) = refl
+effect_kind (counter c) e now (GetTime fd) = refl
+effect_kind (timer t) e now (GetTime fd) = refl
+effect_kind instance e now (GetTime fd) = refl
+effect_kind x e now call = refl
+
+kind_there : (o : Option Object) → kind_of (Some (unwrap_or o plain)) ≡ kind_of o
+kind_there None = refl
+kind_there (Some x) = refl
+
+kind_at : (f : Files) (p : Option Place) → is_none p ≡ false → kind_of (object_at f p) ≡ kind_of (get_or f.objects (object_number p) None)
+kind_at f None live = cc
+kind_at f (Some p) live = refl
+
+some_is_no_none : {X : Type 0} (o : Option X) → is_some o ≡ true → is_none o ≡ false
+some_is_no_none None h = cc
+some_is_no_none (Some x) h = refl
+
+pub object_extends : (s : State) (p : ℕ) (fd : ℤ) (call : Call) → AtRest s → names_nothing s.files p fd ≡ false → Extends s.files (object_change s p fd call).1.files
+object_extends s p fd call h there =
+    let d = named_by s.files p fd in
+    let k = object_number (place_of s.files d) in
+    let x = (object_effect (object_under s.files p fd) (side_under s.files p fd) s.now call).1 in
+    let live = some_is_no_none (place_of s.files d) (named_lives s.files p fd (filed s h) there) in
+    extends_with_object s.files k x (λ shows. effect_kind _ (side_under s.files p fd) s.now call ∙ (kind_there (object_of s.files d) ∙ kind_at s.files (place_of s.files d) live))
+
+quiet_object_change : (s : State) (p : ℕ) (fd : ℤ) (call : Call) → AtRest s → names_nothing s.files p fd ≡ false → Changed (object_change s p fd call).1
+quiet_object_change s p fd call h there =
+    let k = object_number (place_of s.files (named_by s.files p fd)) in
+    let x = (object_effect (object_under s.files p fd) (side_under s.files p fd) s.now call).1 in
+    quiet_files s _ h (filed_with_object s.files k x (filed s h)) (object_extends s p fd call h there)
+
+-- ADD.
+shows_from_tests : (o : Option Object) → is_plain (unwrap_or o plain) ≡ false → can_be_watched o ≡ true
+shows_from_tests None p = cc
+shows_from_tests (Some plain) p = cc
+shows_from_tests (Some (pipe q)) p = refl
+shows_from_tests (Some (pair q)) p = refl
+shows_from_tests (Some (counter q)) p = refl
+shows_from_tests (Some (timer q)) p = refl
+shows_from_tests (Some instance) p = refl
+
+quiet_watches : (s : State) (xs : List Watch) (added : ℕ) → AtRest s → All (IsSteady s.files) xs → All (λ x. HasSeen x.seen (counts_of s x.target)) xs → Changed (record s { watches = xs; added = added })
+quiet_watches s xs added h steady seen = let was = weaken s h in record { now = h.now; placed = h.placed; lives = was.lives; watches = steady; seen = seen; waiting = h.waiting; callers = h.callers }
+
+quiet_add : (s : State) (e fd d mask tag : ℕ) → AtRest s → IsSteady s.files (new_watch s e fd d mask tag) → Changed (add s e fd d mask tag).1
+quiet_add s e fd d mask tag h steady =
+    let x = new_watch s e fd d mask tag in
+    quiet_watches s _ (s.added + 1) h (All-push (IsSteady s.files) s.watches x h.watches steady) (All-push (λ y. HasSeen y.seen (counts_of s y.target)) s.watches x h.seen tt)
+
+-- DEL.
+quiet_delete : (s : State) (e fd d : ℕ) → AtRest s → Changed (delete s e fd d).1
+quiet_delete s e fd d h =
+    let stays : Watch → Bool = λ x. not (has_key e fd d x) in
+    quiet_watches s _ s.added h (All-filter stays (IsSteady s.files) s.watches h.watches) (All-filter stays (λ y. HasSeen y.seen (counts_of s y.target)) s.watches h.seen)
+
+-- MOD.
+steady_modified : (s : State) (e fd d mask tag : ℕ) (x : Watch) → IsSteady s.files x → IsSteady s.files (modified e fd d mask tag x)
+steady_modified s e fd d mask tag x h =
+    elim (has_key e fd d x) as (λ b. IsSteady s.files (cond b (record x { mask = mask; tag = tag; armed = true; seen = None }) x)) [
+      | true ↦ record { instance_lives = h.instance_lives; target_lives = h.target_lives; target_shows = h.target_shows }
+      | false ↦ h
+    ]
+
+seen_modified : (s : State) (e fd d mask tag : ℕ) (x : Watch) → HasSeen x.seen (counts_of s x.target) → HasSeen (modified e fd d mask tag x).seen (counts_of s (modified e fd d mask tag x).target)
+seen_modified s e fd d mask tag x h =
+    elim (has_key e fd d x) as (λ b. let y : Watch = cond b (record x { mask = mask; tag = tag; armed = true; seen = None }) x in HasSeen y.seen (counts_of s y.target)) [
+      | true ↦ tt
+      | false ↦ h
+    ]
+
+quiet_modify : (s : State) (e fd d mask tag : ℕ) → AtRest s → Changed (modify s e fd d mask tag).1
+quiet_modify s e fd d mask tag h =
+    quiet_watches s _ s.added h (All-map (IsSteady s.files) (modified e fd d mask tag) s.watches (λ k x lt. steady_modified s e fd d mask tag (get_or s.watches k x) (h.watches k x lt)))
+    (All-map (λ y. HasSeen y.seen (counts_of s y.target)) (modified e fd d mask tag) s.watches (λ k x lt. seen_modified s e fd d mask tag (get_or s.watches k x) (h.seen k x lt)))
+
+quiet_if : (b : Bool) (c d : Change) → (b ≡ true → Changed c.1) → (b ≡ false → Changed d.1) → Changed (cond b c d).1
+quiet_if true c d h k = h refl
+quiet_if false c d h k = k refl
+
+quiet_ctl : (limits : Limits) (s : State) (p : ℕ) (epfd op fd : ℤ) (mask tag : ℕ) → AtRest s → AllByRecursion (λ t. t.0 ≡ false) (ctl_refusals limits s p epfd op fd mask) → Changed (ctl s p epfd op fd mask tag).1
+quiet_ctl limits s p epfd op fd mask tag h tests =
+    let e = named_by s.files p epfd in
+    let d = named_by s.files p fd in
+    let k = number_in fd in
+    let steady : IsSteady s.files (new_watch s e k d mask tag) = record {
+      instance_lives = named_lives s.files p epfd (filed s h) tests.0;
+      target_lives = named_lives s.files p fd (filed s h) tests.1.0;
+      target_shows = shows_from_tests (object_of s.files d) tests.1.1.0;
+    } in
+    quiet_if (is_add op) (add s e k d mask tag) (if is_del op then delete s e k d else modify s e k d mask tag)
+    (λ _. quiet_add s e k d mask tag h steady)
+    (λ _. quiet_if (is_del op) (delete s e k d) (modify s e k d mask tag) (λ _. quiet_delete s e k d h) (λ _. quiet_modify s e k d mask tag h))
+
+-- A wait.
+reported_steady : (s : State) (ks : List ℕ) (x : Watch) → IsSteady s.files x → IsSteady s.files (reported s ks x)
+reported_steady s ks x h =
+    let y : Watch = record x { seen = Some (counts_of s x.target); rep = s.n; from = s.n; armed = x.armed && not (has_bit x.mask ONESHOT) } in
+    elim (is_among ks x.number) as (λ b. IsSteady s.files (cond b y x)) [
+      | true ↦ record { instance_lives = h.instance_lives; target_lives = h.target_lives; target_shows = h.target_shows }
+      | false ↦ h
+    ]
+
+reported_seen : (s : State) (ks : List ℕ) (x : Watch) → HasSeen x.seen (counts_of s x.target) → HasSeen (reported s ks x).seen (counts_of s (reported s ks x).target)
+reported_seen s ks x h =
+    elim (is_among ks x.number) as (λ b. let y : Watch = cond b (record x { seen = Some (counts_of s x.target); rep = s.n; from = s.n; armed = x.armed && not (has_bit x.mask ONESHOT) }) x in HasSeen y.seen (counts_of s y.target)) [
+      | true ↦ past_itself (counts_of s x.target)
+      | false ↦ h
+    ]
+
+quiet_reported : (s : State) (ks : List ℕ) → AtRest s → Changed (record s { watches = map (reported s ks) s.watches })
+quiet_reported s ks h =
+    quiet_watches s _ s.added h (All-map (IsSteady s.files) (reported s ks) s.watches (λ k d lt. reported_steady s ks (get_or s.watches k d) (h.watches k d lt)))
+    (All-map (λ y. HasSeen y.seen (counts_of s y.target)) (reported s ks) s.watches (λ k d lt. reported_seen s ks (get_or s.watches k d) (h.seen k d lt)))
+
+Fine : Option Change → Type 0
+Fine c = MatchOption c (Unit {0}) (λ o. Changed o.1)
+
+fine_plainly : (ks : List ℕ) (c : Change) → Changed c.1 → Fine (plainly ks c)
+unfolding Fine
+fine_plainly [] c h = h
+fine_plainly (k ∷ ks) c h = tt
+
+fine_option_if : (b : Bool) (c : Change) → Changed c.1 → Fine (cond b (Some c) None)
+unfolding Fine
+fine_option_if true c h = h
+fine_option_if false c h = tt
+
+fine_if : (b : Bool) (c d : Option Change) → Fine c → Fine d → Fine (cond b c d)
+fine_if true c d h k = h
+fine_if false c d h k = k
+
+fine_report : (s : State) (e most : ℕ) (ks : List ℕ) → AtRest s → Fine (report s e most ks)
+fine_report s e most ks h =
+    let c : Change = (Events (map (report_of s) (watches_at s.watches ks)), record s { watches = map (reported s ks) s.watches }, []) in
+    fine_option_if (is_pick s e most ks) c (quiet_reported s ks h)
+
+-- Other waiters.
+changed_waiters : (s : State) (ws : List Waiter) → Changed s → ((d : ℕ) → is_among (map (λ w. w.instance) ws) d ≡ true → is_live s.files d ≡ true) → All (λ w. kind_of (object_of s.files w.instance) ≡ 1) ws → IsDistinct nat_eq (map (λ w. w.caller) ws)
+    → Changed (record s { waiters = ws })
+changed_waiters s ws h lives waiting callers = record {
+  now = h.now;
+  placed = h.placed;
+  lives = λ d n. elim (among_either (named_in_tables s.files.tables) (map (λ w. w.instance) ws) d n) [
+    | inl table ↦ h.lives d (among_first (named_in_tables s.files.tables) (map (λ w. w.instance) s.waiters) d table)
+    | inr waits ↦ lives d waits
+  ];
+  watches = h.watches;
+  seen = h.seen;
+  waiting = waiting;
+  callers = callers;
+}
+
+held_lives : (s : State) → Changed s → (d : ℕ) → is_among (map (λ w. w.instance) s.waiters) d ≡ true → is_live s.files d ≡ true
+held_lives s h d e = h.lives d (among_second (named_in_tables s.files.tables) (map (λ w. w.instance) s.waiters) d e)
+
+changed_left : (s : State) (p : Waiter → Bool) → Changed s → Changed (record s { waiters = filter p s.waiters })
+changed_left s p h =
+    changed_waiters s (filter p s.waiters) h (λ d e. held_lives s h d (instance_filter p s.waiters d e)) (All-filter p (λ w. kind_of (object_of s.files w.instance) ≡ 1) s.waiters h.waiting) (callers_filter p s.waiters h.callers)
+
+changed_unmarked : (s : State) (caller : ℕ) → Changed s → Changed (unmarked s caller)
+changed_unmarked s caller h =
+    changed_waiters s (map (unmark caller) s.waiters) h (λ d e. held_lives s h d (ap (λ (ds : List ℕ). is_among ds d) (sym (unmarked_part (λ w. w.instance) (λ w b. refl) caller s.waiters)) ∙ e))
+    (All-map (λ w. kind_of (object_of s.files w.instance) ≡ 1) (unmark caller) s.waiters (λ k w lt. h.waiting k w lt))
+    (subst (IsDistinct nat_eq) (sym (unmarked_part (λ w. w.caller) (λ w b. refl) caller s.waiters)) h.callers)
+
+-- a caller that isn't parked, at an instance that lives
+changed_parked : (s : State) (w : Waiter) → Changed s → is_parked s w.caller ≡ false → is_live s.files w.instance ≡ true → kind_of (object_of s.files w.instance) ≡ 1 → Changed (record s { waiters = s.waiters ++ w ∷ [] })
+changed_parked s w h free lives one =
+    changed_waiters s (s.waiters ++ w ∷ []) h
+    (λ d e. elim (instance_push s.waiters w d e) [ inl before ↦ held_lives s h d before | inr same ↦ subst (λ (k : ℕ). is_live s.files k ≡ true) (sym same) lives ])
+    (All-push (λ v. kind_of (object_of s.files v.instance) ≡ 1) s.waiters w h.waiting one)
+    (callers_push s.waiters w free h.callers)
+
+quiet_wait_for : (s : State) (caller p e most : ℕ) (timeout : ℤ) → AtRest s → is_parked s caller ≡ false → is_live s.files e ≡ true → kind_of (object_of s.files e) ≡ 1 → Changed (wait_for s caller p e most timeout).1
+quiet_wait_for s caller p e most (pos zero) h free lives one = weaken s h
+quiet_wait_for s caller p e most (pos (suc k)) h free lives one = changed_parked s _ (weaken s h) free lives one
+quiet_wait_for s caller p e most (negsuc k) h free lives one = changed_parked s _ (weaken s h) free lives one
+
+kind_instance : (o : Option Object) → not (is_instance (unwrap_or o plain)) ≡ false → kind_of o ≡ 1
+kind_instance None h = cc
+kind_instance (Some plain) h = cc
+kind_instance (Some (pipe q)) h = cc
+kind_instance (Some (pair q)) h = cc
+kind_instance (Some (counter q)) h = cc
+kind_instance (Some (timer q)) h = cc
+kind_instance (Some instance) h = refl
+
+fine_wait : (s : State) (caller p : ℕ) (epfd most timeout : ℤ) (ks : List ℕ) → AtRest s → is_parked s caller ≡ false → AllByRecursion (λ t. t.0 ≡ false) (wait_refusals s p epfd most) → Fine (wait s caller p (named_by s.files p epfd) (number_in most) timeout ks)
+fine_wait s caller p epfd most timeout ks h free tests =
+    let e = named_by s.files p epfd in
+    let lives = named_lives s.files p epfd (filed s h) tests.1.0 in
+    let one = kind_instance (object_of s.files e) tests.1.1.0 in
+    fine_if (is_ready s e) _ _ (fine_report s e (number_in most) ks h) (fine_plainly ks _ (quiet_wait_for s caller p e (number_in most) timeout h free lives one))
+
+-- A resumption.
+fine_left : (caller : ℕ) (o : Option Change) → Fine o → Fine (leave_after caller o)
+unfolding Fine
+fine_left caller None h = tt
+fine_left caller (Some c) h = changed_left c.1 (λ w. not (w.caller == caller)) h
+
+fine_resume : (s : State) (caller : ℕ) (ks : List ℕ) → AtRest s → Fine (resume s caller ks)
+fine_resume s caller ks h =
+    let was = weaken s h in
+    resumes Fine s caller ks (fine_plainly ks _ was) (λ w. fine_left w.caller _ (fine_report s w.instance w.most ks h)) (λ w. fine_plainly ks _ (changed_left s (λ v. not (v.caller == w.caller)) was)) (λ w. fine_plainly ks _ (changed_unmarked s w.caller was))
+
+-- A creation.
+fine_one : (s : State) (p : ℕ) (x : Object) (cloexec : Bool) (ks : List ℕ) → is_none (get_or s.files.tables p None) ≡ false → AtRest s → Filed s.files → Fine (plainly ks (one_change s p x cloexec))
+fine_one s p x cloexec ks there h f = fine_plainly ks _ (quiet_files s _ h (filed_one s.files p x cloexec there f) (extends_one s.files p x cloexec))
+
+fine_two : (s : State) (p : ℕ) (x : Object) (cloexec : Bool) (ks : List ℕ) → is_none (get_or s.files.tables p None) ≡ false → AtRest s → Filed s.files → Fine (plainly ks (two_change s p x cloexec))
+fine_two s p x cloexec ks there h f = fine_plainly ks _ (quiet_files s _ h (filed_two s.files p x cloexec there f) (extends_two s.files p x cloexec))
+
+-- A call on the tables alone.
+fine_files : (s : State) (answer : Answer) (g : Files) (ks : List ℕ) → AtRest s → Filed g → Extends s.files g → Fine (plainly ks (files_change s answer g))
+fine_files s answer g ks h filed extends = fine_plainly ks _ (quiet_files s g h filed extends)
+
+-- The calls.
+fine_call : (limits : Limits) (s : State) (caller p : ℕ) (call : Call) (ks : List ℕ) → AtRest s → Filed s.files → is_parked s caller ≡ false → AllByRecursion (λ t. t.0 ≡ false) ((is_none (get_or s.files.tables p None), Esrch) ∷ call_refusals limits s p call) → Fine (call_change limits s caller p call ks)
+fine_call limits s caller p (PipeCall cloexec) ks h f free tests = fine_two s p (pipe (new_pipe limits.pipe_bytes)) cloexec ks tests.0 h f
+fine_call limits s caller p (EventFd init semaphore cloexec) ks h f free tests = fine_one s p (counter (record { count = init; is_semaphore = semaphore })) cloexec ks tests.0 h f
+fine_call limits s caller p (TimerFd clock cloexec) ks h f free tests = fine_one s p (timer new_timer) cloexec ks tests.0 h f
+fine_call limits s caller p (SocketPair cloexec) ks h f free tests = fine_two s p (pair (new_pair limits.sock_bytes)) cloexec ks tests.0 h f
+fine_call limits s caller p (Plain cloexec) ks h f free tests = fine_one s p plain cloexec ks tests.0 h f
+fine_call limits s caller p (EpollCreate cloexec) ks h f free tests = fine_one s p instance cloexec ks tests.0 h f
+fine_call limits s caller p (EpollCtl epfd op fd mask tag) ks h f free tests = fine_plainly ks _ (quiet_ctl limits s p epfd.0 op fd.0 mask.0 tag h tests.1)
+fine_call limits s caller p (EpollWait epfd most timeout) ks h f free tests = fine_wait s caller p epfd.0 most timeout ks h free tests.1
+fine_call limits s caller p (Read fd n) ks h f free tests = fine_plainly ks _ (quiet_object_change s p fd.0 (Read fd n) h tests.1.0)
+fine_call limits s caller p (Write fd bytes) ks h f free tests = fine_plainly ks _ (quiet_object_change s p fd.0 (Write fd bytes) h tests.1.0)
+fine_call limits s caller p (Shutdown fd) ks h f free tests = fine_plainly ks _ (quiet_object_change s p fd.0 (Shutdown fd) h tests.1.0)
+fine_call limits s caller p (SetTime fd absolute value interval) ks h f free tests = fine_plainly ks _ (quiet_object_change s p fd.0 (SetTime fd absolute value interval) h tests.1.0)
+fine_call limits s caller p (GetTime fd) ks h f free tests = fine_plainly ks _ (quiet_object_change s p fd.0 (GetTime fd) h tests.1.0)
+fine_call limits s caller p (Dup fd) ks h f free tests = fine_files s (answer_one s.files p) (dup s.files p (named_by s.files p fd.0)) ks h (filed_dup s.files p (named_by s.files p fd.0) f (named_lives s.files p fd.0 f tests.1.0)) (same_tables s.files _)
+fine_call limits s caller p (Dup2 fd to) ks h f free tests =
+    let d = named_by s.files p fd.0 in
+    let lives = named_lives s.files p fd.0 f tests.1.0 in
+    fine_files s (Num (number_in to.0)) (dup2 s.files p fd.0 to.0 d) ks h (filed_dup2 s.files p fd.0 to.0 d f lives) (extends_dup2 s.files p fd.0 to.0 d)
+fine_call limits s caller p (Close fd) ks h f free tests = fine_files s Done (close s.files p fd.0) ks h (filed_close s.files p fd.0 f) (same_tables s.files _)
+fine_call limits s caller p Fork ks h f free tests = fine_files s (Num (length s.files.tables)) (fork s.files p) ks h (filed_fork s.files p f) (same_tables s.files _)
+fine_call limits s caller p Exec ks h f free tests = fine_files s Done (exec s.files p) ks h (filed_exec s.files p f) (same_tables s.files _)
+fine_call limits s caller p Exit ks h f free tests = fine_files s Done (exit s.files p) ks h (filed_exit s.files p f) (same_tables s.files _)
+
+-- The clock goes on within its range.
+not_above : (a b : ℕ) → nat_lt a b ≡ false → b ≤ a
+not_above a b h = grind (arith, nat_tests)
+
+fine_tick : (s : State) (k : ℕ) (ks : List ℕ) → AtRest s → nat_lt last_moment (s.now + k) ≡ false → Fine (plainly ks (tick s k))
+fine_tick s k ks h allowed =
+    let was = weaken s h in fine_plainly ks (tick s k) (record { now = not_above last_moment (s.now + k) allowed; placed = h.placed; lives = was.lives; watches = h.watches; seen = h.seen; waiting = h.waiting; callers = h.callers })
+
+fine_change : (limits : Limits) (s : State) (caller : ℕ) (event : Event) (ks : List ℕ) → AtRest s → first (refusals limits s caller event) ≡ None → Fine (change limits s caller event ks)
+fine_change limits s caller (CallOf p call) ks h allowed =
+    let tests = none_holds (refusals limits s caller (CallOf p call)) allowed in
+    fine_call limits s caller p.0 call ks h (filed s h) tests.1.0 (tests.0, tests.1.1)
+fine_change limits s caller Resume ks h allowed = fine_resume s caller ks h
+fine_change limits s caller (Tick k) ks h allowed = fine_tick s k ks h (none_holds (refusals limits s caller (Tick k)) allowed).0
+
+-- a change that isn't refused
+pub quiet_change : (limits : Limits) (s : State) (caller : ℕ) (event : Event) (picked : List ℕ) (c : Change) → AtRest s → first (refusals limits s caller event) ≡ None → change limits s caller event picked ≡ Some c → Changed c.1
+unfolding Fine
+quiet_change limits s caller event picked c h allowed e = subst Fine e (fine_change limits s caller event picked h allowed)
+
+IsStep : Option (Answer × State) → Type 0
+IsStep o = MatchOption o (Unit {0}) (λ c. AtRest c.1)
+
+-- of an event
+abbrev IsCounted : Option Change → Type 0
+IsCounted c = (made : Change) → c ≡ Some made → (0 == made.1.n) ≡ false
+
+fine_settled : (before : State) (c : Option Change) → IsCounted c → Fine c → IsStep (settled before c)
+unfolding Fine IsStep
+fine_settled before None k h = tt
+fine_settled before (Some c) k h = quiet_settled c.1 h c.2 (settle before c.1 c.2) (settle_changed before c.1 c.2 (k c refl) h)
+
+fine_refused : (e : Option Errno) (s : State) (ks : List ℕ) (c : Option Change) → AtRest s → IsCounted c → (e ≡ None → Fine c) → IsStep (refused_or e s ks c)
+unfolding IsStep
+fine_refused None s ks c h n k = fine_settled s c n (k refl)
+fine_refused (Some e) s [] c h n k = h
+fine_refused (Some e) s (x ∷ ks) c h n k = tt
+
+pub quiet_begun : (s : State) → AtRest s → AtRest (next_event s)
+quiet_begun s h = record { now = h.now; placed = h.placed; named = h.named; watches = h.watches; seen = h.seen; waiting = h.waiting; callers = h.callers; marks = h.marks }
+
+pub quiet_opening : AtRest opening
+unfolding IsDistinct
+quiet_opening = record {
+  now = omega arith;
+  placed = filed_opening.placed;
+  named = named_opening;
+  watches = λ k d lt. absurd (omega arith);
+  seen = λ k d lt. absurd (omega arith);
+  waiting = λ k d lt. absurd (omega arith);
+  callers = tt;
+  marks = refl;
+}
+
+pub quiet_step : (limits : Limits) (s t : State) (caller : ℕ) (event : Event) (picked : List ℕ) (a : Answer) → AtRest s → step limits s caller event picked ≡ Some (a, t) → AtRest t
+unfolding IsStep
+quiet_step limits s t caller event picked a h e =
+    let now = next_event s in
+    let start = quiet_begun s h in
+    subst IsStep e (fine_refused (first (refusals limits now caller event)) now picked (change limits now caller event picked) start (change_counted limits s caller event picked) (fine_change limits now caller event picked start))
+
+-- each state of a run
+pub quiet_run : (limits : Limits) (past : List Record) (s : State) → run limits opening past ≡ Some s → AtRest s
+quiet_run limits past s e = run_keeps AtRest limits (quiet_step limits) opening s past quiet_opening e
+
+-- a step that isn't refused, as far as registrations are kept
+pub step_quiet : (limits : Limits) (s : State) (caller : ℕ) (event : Event) (picked : List ℕ) (c : Change) → AtRest s → first (refusals limits (next_event s) caller event) ≡ None → change limits (next_event s) caller event picked ≡ Some c
+    → (t : State) × (step limits s caller event picked ≡ Some (c.0, t)) × Settles c.1 c.2 t
+step_quiet limits s caller event picked c h allowed e =
+    (settle (next_event s) c.1 c.2, step_changed limits s caller event picked c allowed e, settle_changed (next_event s) c.1 c.2 (change_counted limits s caller event picked c e) (quiet_change limits (next_event s) caller event picked c (quiet_begun s h) allowed e))
+
+-- What a change leaves of the files: what lives and what can be watched stays.
+
+pub extends_self : (f : Files) → Extends f f
+extends_self f = record { lives = λ d e. e; shows = λ d e. refl }
+
+abbrev Reaches : Files → Option Change → Type 0
+Reaches f o = (made : Change) → o ≡ Some made → Extends f made.1.files
+
+reaches_some : (f : Files) (c : Change) → Extends f c.1.files → Reaches f (Some c)
+reaches_some f c h made e = subst (λ (b : Change). Extends f b.1.files) (ap (λ (o : Option Change). unwrap_or o c) e) h
+
+reaches_none : (f : Files) → Reaches f None
+reaches_none f made e = absurd (none-some made e)
+
+reaches_plainly : (f : Files) (ks : List ℕ) (c : Change) → Extends f c.1.files → Reaches f (plainly ks c)
+reaches_plainly f [] c h = reaches_some f c h
+reaches_plainly f (k ∷ ks) c h = reaches_none f
+
+reaches_if : (f : Files) (b : Bool) (x y : Option Change) → Reaches f x → Reaches f y → Reaches f (cond b x y)
+reaches_if f true x y h i = h
+reaches_if f false x y h i = i
+
+one_of : (f : Files) (a b : Bool) (x y z : Change) → Extends f x.1.files → Extends f y.1.files → Extends f z.1.files → Extends f (cond a x (cond b y z)).1.files
+one_of f true b x y z h i j = h
+one_of f false true x y z h i j = i
+one_of f false false x y z h i j = j
+
+waits_extend : (s : State) (caller p e most : ℕ) (timeout : ℤ) → Extends s.files (wait_for s caller p e most timeout).1.files
+waits_extend s caller p e most (pos zero) = extends_self s.files
+waits_extend s caller p e most (pos (suc k)) = extends_self s.files
+waits_extend s caller p e most (negsuc k) = extends_self s.files
+
+reports_reach : (s : State) (e most : ℕ) (ks : List ℕ) → Reaches s.files (report s e most ks)
+reports_reach s e most ks = reaches_if s.files (is_pick s e most ks) _ None (reaches_some s.files _ (extends_self s.files)) (reaches_none s.files)
+
+call_reaches : (limits : Limits) (s : State) (caller p : ℕ) (call : Call) (ks : List ℕ) → AtRest s → first (call_refusals limits s p call) ≡ None → Reaches s.files (call_change limits s caller p call ks)
+call_reaches limits s caller p (PipeCall cloexec) ks h allowed = reaches_plainly s.files ks _ (extends_two s.files p _ cloexec)
+call_reaches limits s caller p (EventFd init semaphore cloexec) ks h allowed = reaches_plainly s.files ks _ (extends_one s.files p _ cloexec)
+call_reaches limits s caller p (TimerFd clock cloexec) ks h allowed = reaches_plainly s.files ks _ (extends_one s.files p _ cloexec)
+call_reaches limits s caller p (SocketPair cloexec) ks h allowed = reaches_plainly s.files ks _ (extends_two s.files p _ cloexec)
+call_reaches limits s caller p (Plain cloexec) ks h allowed = reaches_plainly s.files ks _ (extends_one s.files p _ cloexec)
+call_reaches limits s caller p (EpollCreate cloexec) ks h allowed = reaches_plainly s.files ks _ (extends_one s.files p _ cloexec)
+call_reaches limits s caller p (EpollCtl epfd op fd mask tag) ks h allowed = reaches_plainly s.files ks _ (one_of s.files (is_add op) (is_del op) _ _ _ (extends_self s.files) (extends_self s.files) (extends_self s.files))
+call_reaches limits s caller p (EpollWait epfd most timeout) ks h allowed =
+    let e = named_by s.files p epfd.0 in
+    reaches_if s.files (is_ready s e) (report s e (number_in most) ks) (plainly ks (wait_for s caller p e (number_in most) timeout))
+    (reports_reach s e (number_in most) ks)
+    (reaches_plainly s.files ks _ (waits_extend s caller p e (number_in most) timeout))
+call_reaches limits s caller p (Read fd n) ks h allowed = reaches_plainly s.files ks _ (object_extends s p fd.0 (Read fd n) h (none_holds (call_refusals limits s p (Read fd n)) allowed).0)
+call_reaches limits s caller p (Write fd bytes) ks h allowed = reaches_plainly s.files ks _ (object_extends s p fd.0 (Write fd bytes) h (none_holds (call_refusals limits s p (Write fd bytes)) allowed).0)
+call_reaches limits s caller p (Shutdown fd) ks h allowed = reaches_plainly s.files ks _ (object_extends s p fd.0 (Shutdown fd) h (none_holds (call_refusals limits s p (Shutdown fd)) allowed).0)
+call_reaches limits s caller p (SetTime fd absolute value interval) ks h allowed =
+    reaches_plainly s.files ks _ (object_extends s p fd.0 (SetTime fd absolute value interval) h (none_holds (call_refusals limits s p (SetTime fd absolute value interval)) allowed).0)
+call_reaches limits s caller p (GetTime fd) ks h allowed = reaches_plainly s.files ks _ (object_extends s p fd.0 (GetTime fd) h (none_holds (call_refusals limits s p (GetTime fd)) allowed).0)
+call_reaches limits s caller p (Dup fd) ks h allowed = reaches_plainly s.files ks _ (same_tables s.files _)
+call_reaches limits s caller p (Dup2 fd to) ks h allowed = reaches_plainly s.files ks _ (extends_dup2 s.files p fd.0 to.0 (named_by s.files p fd.0))
+call_reaches limits s caller p (Close fd) ks h allowed = reaches_plainly s.files ks _ (same_tables s.files _)
+call_reaches limits s caller p Fork ks h allowed = reaches_plainly s.files ks _ (same_tables s.files _)
+call_reaches limits s caller p Exec ks h allowed = reaches_plainly s.files ks _ (same_tables s.files _)
+call_reaches limits s caller p Exit ks h allowed = reaches_plainly s.files ks _ (same_tables s.files _)
+
+reaches_left : (f : Files) (caller : ℕ) (o : Option Change) → Reaches f o → Reaches f (leave_after caller o)
+reaches_left f caller None h = reaches_none f
+reaches_left f caller (Some c) h = reaches_some f (leave caller c) (h c refl)
+
+past_two : (a b : Bool × Errno) (rest : List (Bool × Errno)) → first (a ∷ b ∷ rest) ≡ None → first rest ≡ None
+past_two (true, e) b rest h = absurd (none-some e (sym h))
+past_two (false, e) (true, g) rest h = absurd (none-some g (sym h))
+past_two (false, e) (false, g) rest h = h
+
+pub change_extends : (limits : Limits) (s : State) (caller : ℕ) (event : Event) (ks : List ℕ) (made : Change) → AtRest s → first (refusals limits s caller event) ≡ None → change limits s caller event ks ≡ Some made → Extends s.files made.1.files
+change_extends limits s caller (CallOf p call) ks made h allowed e = call_reaches limits s caller p.0 call ks h (past_two (is_none (table_of s.files p.0), Esrch) (is_parked s caller, Ebusy) (call_refusals limits s p.0 call) allowed) made e
+change_extends limits s caller Resume ks made h allowed e =
+    let same = extends_self s.files in
+    resumes (Reaches s.files) s caller ks (reaches_plainly s.files ks _ same) (λ w. reaches_left s.files w.caller _ (reports_reach s w.instance w.most ks)) (λ w. reaches_plainly s.files ks _ same) (λ w. reaches_plainly s.files ks _ same) made e
+change_extends limits s caller (Tick k) ks made h allowed e = reaches_plainly s.files ks _ (extends_self s.files) made e

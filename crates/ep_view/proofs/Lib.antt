@@ -1,0 +1,9 @@
+pub mod KernelViewLemmas
+pub mod ReportLemmas
+pub mod FilesLemmas
+pub mod WaiterLemmas
+pub mod FreshLemmas
+pub mod DeathLemmas
+pub mod ClimbLemmas
+pub mod SettleLemmas
+pub mod AtRestLemmas

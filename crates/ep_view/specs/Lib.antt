@@ -1,0 +1,2 @@
+pub mod KernelView
+pub mod AtRest
