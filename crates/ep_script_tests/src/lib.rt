@@ -1,19 +1,9 @@
-//! The tests of scripts over the scanning kernel, in a crate of their own: the gate proves a crate that has tests twice.
+//! The tests of `run_script` that need a reader or a writer that fails, or a kernel without memory,
+//! in a crate of their own: the gate proves a crate that has tests twice. What a kernel answers is
+//! in the scripts of `ep_examples`.
 #![tactic(auto)]
 
 #[cfg(test)]
-mod edges;
-#[cfg(test)]
-mod nests;
-#[cfg(test)]
-mod parking;
-#[cfg(test)]
-mod plain;
-#[cfg(test)]
-mod registrations;
-#[cfg(test)]
 mod runs;
-#[cfg(test)]
-mod scripts;
 #[cfg(test)]
 mod stand_ins;

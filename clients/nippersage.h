@@ -1,0 +1,346 @@
+/* Drives Nippersage's program from C: one function for each call.
+ *
+ * A function answers 0 or more where its call is done, and a refusal as minus its error number, as
+ * -EAGAIN. What is no refusal is one of the NIPPERSAGE_.. numbers below, which are less than that
+ * of any error. docs/calls.md says what each call answers and refuses; docs/clients.md what is
+ * promised. Needs no library but C's, in POSIX.1-2008: compile as GNU C, or define _POSIX_C_SOURCE
+ * as 200809L. */
+#ifndef NIPPERSAGE_H
+#define NIPPERSAGE_H
+
+#include <inttypes.h>
+#include <stddef.h>
+#include <stdio.h>
+#include <stdlib.h>
+#include <string.h>
+#include <sys/socket.h>
+#include <sys/types.h>
+#include <sys/wait.h>
+#include <unistd.h>
+
+enum {
+    NIPPERSAGE_IN = 1, NIPPERSAGE_PRI = 2, NIPPERSAGE_OUT = 4, NIPPERSAGE_ERR = 8,
+    NIPPERSAGE_HUP = 16, NIPPERSAGE_RDHUP = 8192
+};
+#define NIPPERSAGE_EXCLUSIVE (UINT32_C(1) << 28)
+#define NIPPERSAGE_WAKEUP (UINT32_C(1) << 29)
+#define NIPPERSAGE_ONESHOT (UINT32_C(1) << 30)
+#define NIPPERSAGE_ET (UINT32_C(1) << 31)
+
+enum { NIPPERSAGE_ADD = 1, NIPPERSAGE_DEL = 2, NIPPERSAGE_MOD = 3 };
+
+/* The program runs no more. */
+#define NIPPERSAGE_ENDED (-100001)
+/* The kernel has answered 100,000 calls, and no kernel answers more. */
+#define NIPPERSAGE_CALLS (-100002)
+/* The line of the call is longer than 65,536 bytes: a write of some 32,000 bytes or more. */
+#define NIPPERSAGE_LINE (-100003)
+/* A value is out of its range, as a fill of more than 1,048,576 bytes. */
+#define NIPPERSAGE_RANGE (-100004)
+/* A wait or a resumption answered that the caller is parked. */
+#define NIPPERSAGE_PARKED (-100005)
+/* The client itself found no memory; nothing was sent. */
+#define NIPPERSAGE_MEMORY (-100006)
+
+#define NIPPERSAGE_MOST_CALLS 100000
+#define NIPPERSAGE_LONGEST_LINE 65536
+
+/* A kernel in a process of its own. `by` is the caller and `pid` the process of the next calls;
+ * both may be set between two calls. */
+struct nippersage {
+    uint32_t by;
+    uint64_t pid;
+    long calls;
+    int channel;
+    FILE *answers;
+    pid_t program;
+    char *answer;
+    size_t room;
+};
+
+struct nippersage_report {
+    uint32_t bits;
+    uint64_t data;
+};
+
+/* Starts the program at this path, with six numbers as `--limits` takes them, or the limits by
+ * default where they are NULL. 0, or -1 with errno. */
+static inline int nippersage_start(struct nippersage *kernel, const char *path, const char *limits) {
+    int ends[2];
+    memset(kernel, 0, sizeof *kernel);
+    kernel->pid = 1;
+    if (socketpair(AF_UNIX, SOCK_STREAM, 0, ends) < 0) return -1;
+    kernel->program = fork();
+    if (kernel->program == 0) {
+        close(ends[0]);
+        if (dup2(ends[1], 0) < 0 || dup2(ends[1], 1) < 0) _exit(127);
+        if (ends[1] > 1) close(ends[1]);
+        if (limits) execlp(path, path, "--limits", limits, (char *)NULL);
+        else execlp(path, path, (char *)NULL);
+        _exit(127);
+    }
+    close(ends[1]);
+    kernel->channel = ends[0];
+    kernel->answers = kernel->program < 0 ? NULL : fdopen(ends[0], "r");
+    if (!kernel->answers) {
+        close(ends[0]);
+        if (kernel->program > 0) waitpid(kernel->program, NULL, 0);
+        return -1;
+    }
+    return 0;
+}
+
+/* Ends the program, and gives its status as waitpid does. */
+static inline int nippersage_end(struct nippersage *kernel) {
+    int status = -1;
+    fclose(kernel->answers);
+    free(kernel->answer);
+    waitpid(kernel->program, &status, 0);
+    return status;
+}
+
+/* Sends all of it; a program that ended is no signal. */
+static inline int nippersage_send(struct nippersage *kernel, const char *text, size_t length) {
+    while (length > 0) {
+        ssize_t sent = send(kernel->channel, text, length, MSG_NOSIGNAL);
+        if (sent <= 0) return NIPPERSAGE_ENDED;
+        text += sent;
+        length -= (size_t)sent;
+    }
+    return 0;
+}
+
+/* Sends the line {"op":..,"by":.. and what `rest` holds}, and reads its answer. 0, or less than 0. */
+static inline int nippersage_ask(struct nippersage *kernel, const char *op, int of_process, const char *rest) {
+    size_t most = strlen(rest) + 128;
+    char *line = malloc(most);
+    int length, status, number;
+    if (!line) return NIPPERSAGE_MEMORY;
+    length = snprintf(line, most, "{\"op\":\"%s\",\"by\":%" PRIu32, op, kernel->by);
+    if (of_process) length += snprintf(line + length, most - (size_t)length, ",\"pid\":%" PRIu64, kernel->pid);
+    length += snprintf(line + length, most - (size_t)length, "%s}\n", rest);
+    if (length - 1 > NIPPERSAGE_LONGEST_LINE) status = NIPPERSAGE_LINE;
+    else if (kernel->calls == NIPPERSAGE_MOST_CALLS) status = NIPPERSAGE_CALLS;
+    else {
+        kernel->calls++;
+        status = nippersage_send(kernel, line, (size_t)length);
+    }
+    free(line);
+    if (status < 0) return status;
+    if (getline(&kernel->answer, &kernel->room, kernel->answers) < 0) return NIPPERSAGE_ENDED;
+    if (sscanf(kernel->answer, "{\"err\":[%d,", &number) == 1) return -number;
+    if (strncmp(kernel->answer, "{\"bad\":", 7) == 0) return NIPPERSAGE_RANGE;
+    return 0;
+}
+
+/* The same, where the answer is one number. */
+static inline int64_t nippersage_number(struct nippersage *kernel, const char *op, const char *rest) {
+    int64_t number = 0;
+    int status = nippersage_ask(kernel, op, 1, rest);
+    if (status < 0) return status;
+    return sscanf(kernel->answer, "{\"num\":%" SCNd64, &number) == 1 ? number : NIPPERSAGE_ENDED;
+}
+
+/* The same, where the answer is two numbers under this key. */
+static inline int nippersage_two(struct nippersage *kernel, const char *op, const char *rest, uint64_t two[2]) {
+    const char *list;
+    int status = nippersage_ask(kernel, op, 1, rest);
+    if (status < 0) return status;
+    list = strchr(kernel->answer, '[');
+    return list && sscanf(list, "[%" SCNu64 ",%" SCNu64, &two[0], &two[1]) == 2 ? 0 : NIPPERSAGE_ENDED;
+}
+
+/* A pair of descriptors that a call with this name makes. */
+static inline int nippersage_ends(struct nippersage *kernel, const char *op, int cloexec, int ends[2]) {
+    uint64_t two[2];
+    int status = nippersage_two(kernel, op, cloexec ? ",\"cloexec\":true" : "", two);
+    if (status == 0) {
+        ends[0] = (int)two[0];
+        ends[1] = (int)two[1];
+    }
+    return status;
+}
+
+/* How many reports, of which at most `max` are stored; or NIPPERSAGE_PARKED. */
+static inline int nippersage_reports(struct nippersage *kernel, struct nippersage_report *reports, int max) {
+    const char *at = strchr(kernel->answer, '[');
+    int count = 0, used;
+    if (!at) return NIPPERSAGE_PARKED;
+    at++;
+    while (count < max && sscanf(at, "[%" SCNu32 ",%" SCNu64 "]%n", &reports[count].bits, &reports[count].data, &used) == 2) {
+        at += used;
+        at += *at == ',';
+        count++;
+    }
+    return count;
+}
+
+/* ---- the calls ---- */
+
+/* The read end and the write end of a new pipe. */
+static inline int nippersage_pipe(struct nippersage *kernel, int cloexec, int ends[2]) {
+    return nippersage_ends(kernel, "pipe", cloexec, ends);
+}
+
+/* The two ends of a new pair of sockets. */
+static inline int nippersage_socketpair(struct nippersage *kernel, int cloexec, int ends[2]) {
+    return nippersage_ends(kernel, "socketpair", cloexec, ends);
+}
+
+/* A new counter that starts at `init`; its values are 8 bytes, the lowest first. */
+static inline int nippersage_eventfd(struct nippersage *kernel, uint32_t init, int semaphore, int cloexec) {
+    char rest[96];
+    snprintf(rest, sizeof rest, ",\"init\":%" PRIu32 ",\"sem\":%s,\"cloexec\":%s", init,
+             semaphore ? "true" : "false", cloexec ? "true" : "false");
+    return (int)nippersage_number(kernel, "eventfd", rest);
+}
+
+/* A new timer, disarmed. Clocks 0 and 1 are the one clock that nippersage_tick moves. */
+static inline int nippersage_timerfd(struct nippersage *kernel, int clock, int cloexec) {
+    char rest[64];
+    snprintf(rest, sizeof rest, ",\"clock\":%d,\"cloexec\":%s", clock, cloexec ? "true" : "false");
+    return (int)nippersage_number(kernel, "timerfd", rest);
+}
+
+/* A file that can't be polled. */
+static inline int nippersage_plain(struct nippersage *kernel, int cloexec) {
+    return (int)nippersage_number(kernel, "plain", cloexec ? ",\"cloexec\":true" : "");
+}
+
+/* A new instance. */
+static inline int nippersage_epoll(struct nippersage *kernel, int cloexec) {
+    return (int)nippersage_number(kernel, "epoll", cloexec ? ",\"cloexec\":true" : "");
+}
+
+/* op is NIPPERSAGE_ADD, NIPPERSAGE_DEL or NIPPERSAGE_MOD. */
+static inline int nippersage_ctl(struct nippersage *kernel, int ep, int op, int fd, uint32_t mask, uint64_t data) {
+    char rest[128];
+    snprintf(rest, sizeof rest, ",\"ep\":%d,\"act\":%d,\"fd\":%d,\"mask\":%" PRIu32 ",\"data\":%" PRIu64, ep, op, fd, mask, data);
+    return nippersage_ask(kernel, "ctl", 1, rest);
+}
+
+/* How many reports were stored, at most `max`, or NIPPERSAGE_PARKED. `timeout` is in milliseconds:
+ * 0 never parks, less than 0 parks without a deadline. */
+static inline int nippersage_wait(struct nippersage *kernel, int ep, struct nippersage_report *reports, int max, int64_t timeout) {
+    char rest[96];
+    int status;
+    snprintf(rest, sizeof rest, ",\"ep\":%d,\"max\":%d,\"timeout\":%" PRId64, ep, max, timeout);
+    status = nippersage_ask(kernel, "wait", 1, rest);
+    return status < 0 ? status : nippersage_reports(kernel, reports, max);
+}
+
+/* What the parked wait of the caller reports, or NIPPERSAGE_PARKED where it is still parked.
+ * `max` is that of its wait, or more. */
+static inline int nippersage_resume(struct nippersage *kernel, struct nippersage_report *reports, int max) {
+    int status = nippersage_ask(kernel, "resume", 0, "");
+    return status < 0 ? status : nippersage_reports(kernel, reports, max);
+}
+
+/* How many bytes were read, at most `count`; 0 at the end of a stream. */
+static inline int64_t nippersage_read(struct nippersage *kernel, int fd, void *bytes, uint32_t count) {
+    char rest[64];
+    const char *digits;
+    unsigned byte;
+    int64_t taken = 0;
+    int status;
+    snprintf(rest, sizeof rest, ",\"fd\":%d,\"n\":%" PRIu32, fd, count);
+    status = nippersage_ask(kernel, "read", 1, rest);
+    if (status < 0) return status;
+    digits = kernel->answer + strlen("{\"bytes\":\"");
+    while (taken < count && sscanf(digits + 2 * taken, "%2x", &byte) == 1) ((unsigned char *)bytes)[taken++] = (unsigned char)byte;
+    return taken;
+}
+
+/* How many of the bytes were taken. */
+static inline int64_t nippersage_write(struct nippersage *kernel, int fd, const void *bytes, size_t count) {
+    char *rest;
+    size_t i;
+    int start;
+    int64_t taken;
+    if (count > NIPPERSAGE_LONGEST_LINE / 2) return NIPPERSAGE_LINE;
+    rest = malloc(2 * count + 64);
+    if (!rest) return NIPPERSAGE_MEMORY;
+    start = snprintf(rest, 64, ",\"fd\":%d,\"hex\":\"", fd);
+    for (i = 0; i < count; i++) sprintf(rest + start + 2 * i, "%02x", ((const unsigned char *)bytes)[i]);
+    strcpy(rest + start + 2 * count, "\"");
+    taken = nippersage_number(kernel, "write", rest);
+    free(rest);
+    return taken;
+}
+
+/* Writes a byte so many times, at most 1,048,576. */
+static inline int64_t nippersage_fill(struct nippersage *kernel, int fd, unsigned char byte, uint32_t count) {
+    char rest[64];
+    snprintf(rest, sizeof rest, ",\"fd\":%d,\"fill\":[%u,%" PRIu32 "]", fd, byte, count);
+    return nippersage_number(kernel, "write", rest);
+}
+
+/* A call that has a descriptor alone and answers that it is done. */
+static inline int nippersage_of_fd(struct nippersage *kernel, const char *op, int fd) {
+    char rest[32];
+    snprintf(rest, sizeof rest, ",\"fd\":%d", fd);
+    return nippersage_ask(kernel, op, 1, rest);
+}
+
+/* Shuts the writing of a socket. */
+static inline int nippersage_shutdown(struct nippersage *kernel, int fd) {
+    return nippersage_of_fd(kernel, "shutdown", fd);
+}
+
+/* Closes a descriptor. */
+static inline int nippersage_close(struct nippersage *kernel, int fd) {
+    return nippersage_of_fd(kernel, "close", fd);
+}
+
+/* `before` gets the value and the interval that stood before. */
+static inline int nippersage_settime(struct nippersage *kernel, int fd, int absolute, uint64_t value, uint64_t interval, uint64_t before[2]) {
+    char rest[128];
+    snprintf(rest, sizeof rest, ",\"fd\":%d,\"abs\":%s,\"value\":%" PRIu64 ",\"interval\":%" PRIu64, fd,
+             absolute ? "true" : "false", value, interval);
+    return nippersage_two(kernel, "settime", rest, before);
+}
+
+/* `now` gets the time until the next expiration, 0 where none comes, and the interval. */
+static inline int nippersage_gettime(struct nippersage *kernel, int fd, uint64_t now[2]) {
+    char rest[32];
+    snprintf(rest, sizeof rest, ",\"fd\":%d", fd);
+    return nippersage_two(kernel, "gettime", rest, now);
+}
+
+/* Another descriptor of the same description. */
+static inline int nippersage_dup(struct nippersage *kernel, int fd) {
+    char rest[32];
+    snprintf(rest, sizeof rest, ",\"fd\":%d", fd);
+    return (int)nippersage_number(kernel, "dup", rest);
+}
+
+/* The same under the number `to`, which is closed first. */
+static inline int nippersage_dup2(struct nippersage *kernel, int fd, int to) {
+    char rest[64];
+    snprintf(rest, sizeof rest, ",\"fd\":%d,\"to\":%d", fd, to);
+    return (int)nippersage_number(kernel, "dup2", rest);
+}
+
+/* The number of the new process. */
+static inline int64_t nippersage_fork(struct nippersage *kernel) {
+    return nippersage_number(kernel, "fork", "");
+}
+
+/* Closes the descriptors of the process that have close-on-exec. */
+static inline int nippersage_exec(struct nippersage *kernel) {
+    return nippersage_ask(kernel, "exec", 1, "");
+}
+
+/* Ends the process. */
+static inline int nippersage_exit(struct nippersage *kernel) {
+    return nippersage_ask(kernel, "exit", 1, "");
+}
+
+/* The clock goes on by so many milliseconds. */
+static inline int nippersage_tick(struct nippersage *kernel, uint64_t n) {
+    char rest[32];
+    snprintf(rest, sizeof rest, ",\"n\":%" PRIu64, n);
+    return nippersage_ask(kernel, "tick", 0, rest);
+}
+
+#endif

@@ -1,0 +1,195 @@
+"""Drives Nippersage's program from Python: one method for each call, refusals as OSError.
+
+    from nippersage import Kernel, IN
+
+    with Kernel() as kernel:
+        reader, writer = kernel.pipe()
+        instance = kernel.epoll()
+        kernel.add(instance, reader, IN, data=3)
+        kernel.write(writer, b"abc")
+        assert kernel.wait(instance) == [(IN, 3)]
+
+Every method takes `by`, the number of the caller, and those of a process's calls take `pid`, its
+number. docs/calls.md says what each call answers and refuses; docs/clients.md what is promised.
+"""
+
+import json
+import os
+import subprocess
+
+IN, PRI, OUT, ERR, HUP, RDHUP = 1, 2, 4, 8, 16, 8192
+EXCLUSIVE, WAKEUP, ONESHOT, ET = 1 << 28, 1 << 29, 1 << 30, 1 << 31
+
+#: The most lines of one run of the program, and so the most calls of one Kernel.
+MOST_CALLS = 100_000
+#: The most bytes of a line, without the byte that ends it.
+LONGEST_LINE = 65_536
+
+PROGRAM = os.path.join(os.path.dirname(os.path.abspath(__file__)), os.pardir, "epsim")
+
+
+class Ended(Exception):
+    """The program runs no more, or may be asked no more. It is no answer of the kernel."""
+
+
+class Kernel:
+    """A kernel in its opening state, in a process of its own.
+
+    `limits` are six numbers: descriptors, files, processes, watches, pipe bytes, socket bytes.
+    `program` is the program's path; where none is given it is `epsim` beside this folder, which
+    proves and builds the program where that is not done yet.
+    """
+
+    def __init__(self, limits=None, program=None):
+        words = [program or PROGRAM]
+        if limits is not None:
+            words += ["--limits", ",".join(map(str, limits))]
+        self.calls = 0
+        self._program = subprocess.Popen(words, stdin=subprocess.PIPE, stdout=subprocess.PIPE)
+
+    def __enter__(self):
+        return self
+
+    def __exit__(self, *_):
+        self.end()
+
+    def end(self):
+        """Ends the program, and gives its status."""
+        try:
+            self._program.stdin.close()
+        except BrokenPipeError:
+            pass
+        status = self._program.wait()
+        self._program.stdout.close()
+        return status
+
+    def ask(self, op, **keys):
+        """Sends a line with these keys but for those that are None, and gives its answer, a dict of one key."""
+        line = json.dumps({"op": op, **{k: v for k, v in keys.items() if v is not None}}).encode()
+        if self._program.poll() is not None or self._program.stdin.closed:
+            raise Ended(f"the program ended with status {self._program.returncode}")
+        if len(line) > LONGEST_LINE:
+            raise ValueError(f"a line has at most {LONGEST_LINE} bytes, and this call takes {len(line)}")
+        if self.calls == MOST_CALLS:
+            raise Ended(f"a kernel answers {MOST_CALLS} calls; make another one")
+        self.calls += 1
+        try:
+            self._program.stdin.write(line + b"\n")
+            self._program.stdin.flush()
+        except BrokenPipeError:
+            pass
+        answer = self._program.stdout.readline()
+        if not answer.endswith(b"\n"):
+            raise Ended(f"the program ended with status {self._program.wait()}")
+        return json.loads(answer)
+
+    def _call(self, op, **keys):
+        answer = self.ask(op, **keys)
+        if "err" in answer:
+            raise OSError(*answer["err"])
+        if "bad" in answer:
+            raise ValueError(f"{op} takes no such values: {keys}")
+        return answer
+
+    def pipe(self, cloexec=False, *, by=0, pid=1):
+        """The read end and the write end of a new pipe."""
+        return tuple(self._call("pipe", cloexec=cloexec, by=by, pid=pid)["two"])
+
+    def socketpair(self, cloexec=False, *, by=0, pid=1):
+        """The two ends of a new pair of sockets."""
+        return tuple(self._call("socketpair", cloexec=cloexec, by=by, pid=pid)["two"])
+
+    def eventfd(self, init=0, semaphore=False, cloexec=False, *, by=0, pid=1):
+        """A new counter that starts at `init`; its values are 8 bytes, the lowest first."""
+        return self._call("eventfd", init=init, sem=semaphore, cloexec=cloexec, by=by, pid=pid)["num"]
+
+    def timerfd(self, clock=1, cloexec=False, *, by=0, pid=1):
+        """A new timer, disarmed. Clocks 0 and 1 are the one clock that tick moves."""
+        return self._call("timerfd", clock=clock, cloexec=cloexec, by=by, pid=pid)["num"]
+
+    def plain(self, cloexec=False, *, by=0, pid=1):
+        """A file that can't be polled."""
+        return self._call("plain", cloexec=cloexec, by=by, pid=pid)["num"]
+
+    def epoll(self, cloexec=False, *, by=0, pid=1):
+        """A new instance."""
+        return self._call("epoll", cloexec=cloexec, by=by, pid=pid)["num"]
+
+    def add(self, ep, fd, mask, data=0, *, by=0, pid=1):
+        """Registers what fd names in the instance ep. `data` comes back in reports, 0 to 2^64 - 1."""
+        self._call("ctl", ep=ep, act="add", fd=fd, mask=mask, data=data, by=by, pid=pid)
+
+    def mod(self, ep, fd, mask, data=0, *, by=0, pid=1):
+        """Gives a registration another mask and other data, and arms it again."""
+        self._call("ctl", ep=ep, act="mod", fd=fd, mask=mask, data=data, by=by, pid=pid)
+
+    def delete(self, ep, fd, *, by=0, pid=1):
+        """Takes a registration out."""
+        self._call("ctl", ep=ep, act="del", fd=fd, by=by, pid=pid)
+
+    def wait(self, ep, max=8, timeout=0, *, by=0, pid=1):
+        """A list of (bits, data), at most `max`, or None where the caller is parked.
+
+        `timeout` is in milliseconds: 0 never parks, less than 0 parks without a deadline."""
+        return self._reports(self._call("wait", ep=ep, max=max, timeout=timeout, by=by, pid=pid))
+
+    def resume(self, *, by=0):
+        """What the parked wait of the caller reports, or None where it is still parked."""
+        return self._reports(self._call("resume", by=by))
+
+    @staticmethod
+    def _reports(answer):
+        return [tuple(report) for report in answer["events"]] if "events" in answer else None
+
+    def read(self, fd, n, *, by=0, pid=1):
+        """At most n bytes; none at the end of a stream."""
+        return bytes.fromhex(self._call("read", fd=fd, n=n, by=by, pid=pid)["bytes"])
+
+    def write(self, fd, data, *, by=0, pid=1):
+        """How many of the bytes were taken. For more than some 32,000 bytes see fill."""
+        return self._call("write", fd=fd, hex=bytes(data).hex(), by=by, pid=pid)["num"]
+
+    def fill(self, fd, byte, count, *, by=0, pid=1):
+        """Writes a byte so many times, at most 1,048,576."""
+        return self._call("write", fd=fd, fill=[byte, count], by=by, pid=pid)["num"]
+
+    def shutdown(self, fd, *, by=0, pid=1):
+        """Shuts the writing of a socket."""
+        self._call("shutdown", fd=fd, by=by, pid=pid)
+
+    def settime(self, fd, value, interval=0, absolute=False, *, by=0, pid=1):
+        """The value and the interval before."""
+        keys = {"value": value, "interval": interval, "abs": absolute}
+        return tuple(self._call("settime", fd=fd, by=by, pid=pid, **keys)["time"])
+
+    def gettime(self, fd, *, by=0, pid=1):
+        """The time until the next expiration, 0 where none comes, and the interval."""
+        return tuple(self._call("gettime", fd=fd, by=by, pid=pid)["time"])
+
+    def dup(self, fd, *, by=0, pid=1):
+        """Another descriptor of the same description."""
+        return self._call("dup", fd=fd, by=by, pid=pid)["num"]
+
+    def dup2(self, fd, to, *, by=0, pid=1):
+        """The same under the number `to`, which is closed first."""
+        return self._call("dup2", fd=fd, to=to, by=by, pid=pid)["num"]
+
+    def close(self, fd, *, by=0, pid=1):
+        """Closes a descriptor."""
+        self._call("close", fd=fd, by=by, pid=pid)
+
+    def fork(self, *, by=0, pid=1):
+        """The number of the new process."""
+        return self._call("fork", by=by, pid=pid)["num"]
+
+    def exec(self, *, by=0, pid=1):
+        """Closes the descriptors of the process that have close-on-exec."""
+        self._call("exec", by=by, pid=pid)
+
+    def exit(self, *, by=0, pid=1):
+        """Ends the process."""
+        self._call("exit", by=by, pid=pid)
+
+    def tick(self, n, *, by=0):
+        """The clock goes on by so many milliseconds."""
+        self._call("tick", n=n, by=by)

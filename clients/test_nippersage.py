@@ -1,0 +1,102 @@
+"""What the Python client hands on. The expected answers are those of examples/ and docs/calls.md."""
+
+import errno
+import sys
+import unittest
+
+sys.dont_write_bytecode = True
+
+from nippersage import ET, HUP, IN, MOST_CALLS, OUT, Ended, Kernel
+
+
+class Client(unittest.TestCase):
+    def expect_refusal(self, number, call, *words, **keys):
+        with self.assertRaises(OSError) as caught:
+            call(*words, **keys)
+        self.assertEqual(caught.exception.errno, number)
+
+    def test_a_level_triggered_registration(self):
+        with Kernel() as kernel:
+            self.assertEqual(kernel.pipe(), (3, 4))
+            self.assertEqual(kernel.epoll(), 5)
+            kernel.add(5, 3, IN, data=3)
+            self.assertEqual(kernel.write(4, b"abc"), 3)
+            self.assertEqual(kernel.wait(5), [(IN, 3)])
+            self.assertEqual(kernel.wait(5), [(IN, 3)])
+            self.assertEqual(kernel.read(3, 3), b"abc")
+            self.assertEqual(kernel.wait(5), [])
+            self.assertEqual(kernel.end(), 0)
+
+    def test_parked_callers_and_the_clock(self):
+        with Kernel() as kernel:
+            timer, instance = kernel.timerfd(), kernel.epoll()
+            kernel.add(instance, timer, IN | ET, data=9)
+            self.assertEqual(kernel.settime(timer, 5, interval=2), (0, 0))
+            self.assertIsNone(kernel.wait(instance, timeout=-1, by=1))
+            self.expect_refusal(errno.EBUSY, kernel.close, timer, by=1)
+            self.assertIsNone(kernel.resume(by=1))
+            kernel.tick(4)
+            self.assertEqual(kernel.gettime(timer), (1, 2))
+            kernel.tick(5)
+            self.assertEqual(kernel.resume(by=1), [(IN, 9)])
+            self.assertEqual(kernel.read(timer, 8), bytes([3, 0, 0, 0, 0, 0, 0, 0]))
+            self.expect_refusal(errno.EINVAL, kernel.resume, by=1)
+
+    def test_registrations_and_descriptors(self):
+        with Kernel() as kernel:
+            (reader, writer), instance = kernel.pipe(cloexec=True), kernel.epoll()
+            copy = kernel.dup(reader)
+            kernel.add(instance, writer, OUT, data=1)
+            self.expect_refusal(errno.EEXIST, kernel.add, instance, writer, OUT)
+            self.assertEqual(kernel.fill(writer, 97, 65_536), 65_536)
+            self.assertEqual(kernel.wait(instance), [])
+            self.expect_refusal(errno.EAGAIN, kernel.write, writer, b"a")
+            kernel.mod(instance, writer, 0, data=2)
+            kernel.delete(instance, writer)
+            kernel.add(instance, copy, HUP, data=3)
+            self.assertEqual(kernel.fork(), 2)
+            kernel.exec()
+            self.expect_refusal(errno.EBADF, kernel.read, reader, 1)
+            self.assertEqual(kernel.dup2(copy, 9), 9)
+            self.assertEqual(kernel.wait(instance), [])
+            kernel.exit(pid=2)
+            self.assertEqual(kernel.wait(instance), [(HUP, 3)])
+            self.expect_refusal(errno.ESRCH, kernel.pipe, pid=2)
+
+    def test_other_objects(self):
+        with Kernel(limits=(16, 16, 2, 8, 4_096, 4)) as kernel:
+            left, right = kernel.socketpair()
+            self.assertEqual(kernel.write(left, b"abcde"), 4)
+            kernel.shutdown(left)
+            self.expect_refusal(errno.EPIPE, kernel.write, left, b"a")
+            self.assertEqual(kernel.read(right, 8), b"abcd")
+            self.assertEqual(kernel.read(right, 8), b"")
+            counter = kernel.eventfd(2, semaphore=True)
+            self.assertEqual(kernel.read(counter, 8), bytes([1, 0, 0, 0, 0, 0, 0, 0]))
+            self.expect_refusal(errno.ENOTSOCK, kernel.shutdown, kernel.plain())
+            kernel.close(right)
+
+    def test_what_is_no_call(self):
+        with Kernel() as kernel:
+            with self.assertRaises(ValueError):
+                kernel.dup(1 << 31)
+            with self.assertRaises(ValueError):
+                kernel.write(1, bytes(40_000))
+            self.assertEqual(kernel.dup(0), 3)
+
+    def test_the_last_call(self):
+        with Kernel() as kernel:
+            kernel.calls = MOST_CALLS
+            with self.assertRaises(Ended):
+                kernel.dup(0)
+
+    def test_a_program_that_ended(self):
+        with Kernel(limits=(1, 1, 1, 1, 1, 1)) as kernel:
+            with self.assertRaises(Ended):
+                kernel.dup(0)
+                kernel.dup(0)
+            self.assertEqual(kernel.end(), 2)
+
+
+if __name__ == "__main__":
+    unittest.main()

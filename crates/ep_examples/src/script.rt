@@ -1,0 +1,57 @@
+//! Runs a script over a new kernel.
+
+use ep_base::Limits;
+use ep_plain::{Kernel, PlainKernel};
+use ep_script::{ScriptFault, Summary, Watched, run_script};
+use std::alloc::{AllocError, Global};
+
+/// Runs a script on the kernel: what the run counts, and what it writes.
+pub(crate) fn run(
+    alloc: Global,
+    kernel: &mut PlainKernel,
+    script: &str,
+) -> (Result<Summary, ScriptFault>, Vec<u8>) {
+    let mut reader = Watched::new(script.as_bytes());
+    let mut writer = Watched::new(Vec::new(alloc));
+    let outcome = run_script(alloc, kernel, &mut reader, &mut writer);
+    (outcome, writer.into_inner())
+}
+
+/// What a run counts whose answers these are, where memory suffices: each line that is a command
+/// makes a record.
+fn summary_of(answers: &str) -> Summary {
+    let mut lines = 0u64;
+    let mut bad = 0u64;
+    for answer in answers.lines() {
+        lines = lines.saturating_add(1);
+        if answer.starts_with("{\"bad\":") {
+            bad = bad.saturating_add(1);
+        }
+    }
+    Summary {
+        lines,
+        records: lines.saturating_sub(bad),
+        bad,
+    }
+}
+
+/// Whether the script is run to its end, writes these answers and nothing else, counts them, and
+/// leaves the new kernel a record for each line that is a command.
+fn is_answered_by(alloc: Global, kernel: &mut PlainKernel, script: &str, answers: &str) -> bool {
+    let (outcome, written) = run(alloc, kernel, script);
+    let wanted = summary_of(answers);
+    let records = kernel.history().len() as u64;
+    let is_written = written.as_slice() == answers.as_bytes();
+    outcome == Ok(wanted) && records == wanted.records && is_written
+}
+
+/// The same of a new kernel of these limits.
+pub(crate) fn is_answered(
+    alloc: Global,
+    limits: Limits,
+    script: &str,
+    answers: &str,
+) -> Result<bool, AllocError> {
+    let mut kernel = PlainKernel::new(alloc, limits)?;
+    Ok(is_answered_by(alloc, &mut kernel, script, answers))
+}

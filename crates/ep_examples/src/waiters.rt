@@ -1,0 +1,68 @@
+//! Who is parked and who is marked after each line of a script.
+
+use crate::script::run;
+use ep_base::{CallerId, Limits};
+use ep_plain::{Kernel, PlainKernel};
+use std::alloc::{AllocError, Global};
+
+/// How many callers are asked for, from 0 on.
+const CALLERS: u32 = 4;
+
+/// Writes who is parked and who is marked, as `parked [1, 2], marked [1]`.
+fn push_waiters(alloc: Global, text: &mut String, kernel: &PlainKernel) -> Result<(), AllocError> {
+    let mut parked = Vec::new(alloc);
+    let mut marked = Vec::new(alloc);
+    for number in 0..CALLERS {
+        if kernel.is_parked(CallerId(number)) {
+            parked.push(number)?;
+        }
+        if kernel.is_marked(CallerId(number)) {
+            marked.push(number)?;
+        }
+    }
+    write!(text, "parked {parked:?}, marked {marked:?}\n")
+}
+
+/// Runs a line, and writes who is parked and who is marked then, or the fault of the run.
+fn push_after(
+    alloc: Global,
+    text: &mut String,
+    kernel: &mut PlainKernel,
+    line: &str,
+) -> Result<(), AllocError> {
+    match run(alloc, kernel, line).0 {
+        Ok(_) => push_waiters(alloc, text, kernel),
+        Err(fault) => write!(text, "{fault}\n"),
+    }
+}
+
+/// Who is parked and who is marked on the kernel after each line of the script.
+fn waiters_on(alloc: Global, kernel: &mut PlainKernel, script: &str) -> Result<String, AllocError> {
+    let mut text = String::new(alloc);
+    for line in script.lines() {
+        push_after(alloc, &mut text, kernel, line)?;
+    }
+    Ok(text)
+}
+
+/// Whether who is parked and who is marked on the kernel after each line of the script is so.
+fn are_waiters_on(
+    alloc: Global,
+    kernel: &mut PlainKernel,
+    script: &str,
+    wanted: &str,
+) -> Result<bool, AllocError> {
+    let found = waiters_on(alloc, kernel, script)?;
+    Ok(found.as_str() == wanted)
+}
+
+/// The same of a new kernel of these limits.
+pub(crate) fn are_waiters(
+    alloc: Global,
+    limits: Limits,
+    script: &str,
+    wanted: &str,
+) -> Result<bool, AllocError> {
+    let mut kernel = PlainKernel::new(alloc, limits)?;
+    are_waiters_on(alloc, &mut kernel, script, wanted)
+}
