@@ -1,0 +1,4 @@
+pub mod Order
+pub mod Heap
+pub mod DueQueue
+pub mod Tick

@@ -1,0 +1,9 @@
+//! Places with moments, the earliest at hand: who waits until when.
+#![tactic(auto)]
+
+mod due;
+mod heap;
+mod tick;
+
+pub use crate::due::{DuePlace, DueQueue};
+pub use crate::tick::take_due;

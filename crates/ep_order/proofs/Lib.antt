@@ -1,0 +1,4 @@
+pub mod OrderLemmas
+pub mod PickLemmas
+pub mod StepLemmas
+pub mod ReachLemmas

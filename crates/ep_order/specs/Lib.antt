@@ -1,0 +1,4 @@
+pub mod Order
+pub mod Pick
+pub mod Step
+pub mod Reach

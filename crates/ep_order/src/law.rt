@@ -1,0 +1,37 @@
+//! The laws. Each is the contract of a function that does nothing.
+ghost use Rattle.ep_order.specs.Order.{FirstAreFair, StaysComplete, StaysFair};
+ghost use Rattle.ep_order.specs.Pick.{FirstArePick};
+ghost use Rattle.ep_order.specs.Reach.{ReachedIsAbove};
+ghost use Rattle.ep_order.specs.Step.{StepKeepsTurns};
+
+/// A list stays in a fair order over an event, where what stays keeps its order and what comes, comes behind. Does nothing.
+pub fn stays_fair()
+    ensures law { StaysFair }
+{}
+
+/// A list that has each reportable registration has each after an event, too, where those that come to be reportable come to
+/// it. Does nothing.
+pub fn stays_complete()
+    ensures law { StaysComplete }
+{}
+
+/// The first reportable registrations of a list in a fair order were not reported since any other came to be reportable. Does
+/// nothing.
+pub fn first_are_fair()
+    ensures law { FirstAreFair }
+{}
+
+/// The first reportable registrations of a complete list in a fair order are a pick of the machine. Does nothing.
+pub fn first_are_pick()
+    ensures law { FirstArePick }
+{}
+
+/// What a step leaves of the events by which registrations are reported in turn. Does nothing.
+pub fn step_keeps_turns()
+    ensures law { StepKeepsTurns }
+{}
+
+/// What an event reaches are the instances at which something is passed on, and those above them. Does nothing.
+pub fn reached_is_above()
+    ensures law { ReachedIsAbove }
+{}

@@ -1,0 +1,8 @@
+//! Laws of the machine on lists of registrations in the order in which they are reported, for kernels that keep such lists.
+#![tactic(auto)]
+
+mod law;
+
+pub use crate::law::{
+    first_are_fair, first_are_pick, reached_is_above, stays_complete, stays_fair, step_keeps_turns,
+};

@@ -1,0 +1,3 @@
+pub mod KeyLemmas
+pub mod ReadyLemmas
+pub mod WalkLemmas

@@ -1,0 +1,3 @@
+pub mod ReadyLists
+pub mod Walk
+pub mod Tied

@@ -1,0 +1,13 @@
+pub mod RingLemmas
+pub mod NodeLemmas
+pub mod RowLemmas
+pub mod MemberLemmas
+pub mod ViewLemmas
+pub mod AttachLemmas
+pub mod ValueLemmas
+pub mod FrontLemmas
+pub mod CountLemmas
+pub mod GrowthLemmas
+pub mod PlaceLemmas
+pub mod IterLemmas
+pub mod SoundLemmas
