@@ -2,11 +2,10 @@
 ghost use Rattle.std.specs.Prelude.{◌≡◌, IfOk, IsOk};
 ghost use Rattle.ep_base.specs.Answer.{FitsInline};
 
-use crate::bytes::Bytes;
 use crate::errno::Errno;
 use crate::ids::Fd;
 use crate::mask::Mask;
-use crate::reports::Reports;
+use crate::short_list::{Bytes, Reports};
 use std::alloc::AllocError;
 
 /// One registration in the answer of a wait: the bits that it shows, and its data.
@@ -17,7 +16,7 @@ pub struct Report {
 }
 
 /// What a call is answered.
-#[derive(Debug, Drop)]
+#[derive(Drop)]
 pub enum Answer {
     /// The call is done.
     Done,

@@ -5,7 +5,7 @@ use std::alloc::AllocError;
 use std::marker::Model;
 
 /// The bytes of a write.
-#[derive(Debug, Drop)]
+#[derive(Drop)]
 pub struct Buffer {
     values: Vec<u8>,
 }

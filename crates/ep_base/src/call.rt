@@ -8,7 +8,7 @@ use crate::mask::Mask;
 use std::alloc::AllocError;
 
 /// A call of a process on the kernel. Everything behaves as with O_NONBLOCK.
-#[derive(Debug, Drop)]
+#[derive(Drop)]
 pub enum Call {
     /// pipe2(2): a pipe, whose read end has the lower number.
     Pipe {
@@ -162,7 +162,7 @@ impl Call {
 }
 
 /// What is handed to the kernel: one event is one step and one record.
-#[derive(Debug, Drop)]
+#[derive(Drop)]
 pub enum Event {
     /// A call of a process.
     Call { pid: Pid, call: Call },

@@ -3,7 +3,6 @@
 
 mod answer;
 mod buffer;
-mod bytes;
 mod call;
 mod counts;
 mod errno;
@@ -11,15 +10,11 @@ mod ids;
 mod limits;
 mod mask;
 mod object;
-mod picked;
 mod record;
-mod reports;
-#[cfg(test)]
-mod tests;
+mod short_list;
 
 pub use crate::answer::{Answer, Report};
 pub use crate::buffer::Buffer;
-pub use crate::bytes::Bytes;
 pub use crate::call::{Call, Event};
 pub use crate::counts::Counts;
 pub use crate::errno::Errno;
@@ -27,6 +22,5 @@ pub use crate::ids::{CallerId, DescId, EntryId, Fd, Pid};
 pub use crate::limits::Limits;
 pub use crate::mask::Mask;
 pub use crate::object::{End, Raised};
-pub use crate::picked::Picked;
 pub use crate::record::Record;
-pub use crate::reports::Reports;
+pub use crate::short_list::{Bytes, Picked, Reports, ShortList};

@@ -3,10 +3,10 @@
 use crate::answer::Answer;
 use crate::call::Event;
 use crate::ids::CallerId;
-use crate::picked::Picked;
+use crate::short_list::Picked;
 
 /// One step of the kernel: who asked, what was asked, and what was answered.
-#[derive(Debug, Drop)]
+#[derive(Drop)]
 pub struct Record {
     pub caller: CallerId,
     pub event: Event,

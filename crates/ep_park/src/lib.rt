@@ -5,8 +5,6 @@ pub mod laws;
 mod park;
 mod scan;
 mod tally;
-#[cfg(test)]
-mod tests;
 mod waiter;
 
 pub use crate::park::Park;

@@ -15,3 +15,5 @@ mod registrations;
 mod streams;
 #[cfg(test)]
 mod tables;
+#[cfg(test)]
+mod waits;

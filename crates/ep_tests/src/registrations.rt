@@ -1,7 +1,8 @@
 //! The registrations: found, in order, used again, removed with what they touch, and refused memory.
 ghost use Rattle.std.specs.Prelude.{◌≡◌, ◌+◌, ◌<◌, ◌≤◌, ◌^◌, IfOk, IsSome, OnErr, OnOk, filter};
-ghost use Rattle.ep_interest.specs.Registrations.{is_of};
+ghost use Rattle.ep_interest.specs.Registrations.{is_of, number_under};
 
+use self::Op::{Add, Look, Modify, Note, Purge, Remove};
 use ep_base::{Counts, DescId, EntryId, Fd, Mask};
 use ep_interest::{Entry, Interest};
 use linked_list_allocator::LocalHeap;
@@ -22,21 +23,81 @@ fn armed(alloc: Global, sets: &Interest, instance: DescId) -> Result<Vec<Entry>,
     Ok(found)
 }
 
-/// Adds a registration where its key is new.
-fn put(
-    sets: &mut Interest,
-    instance: usize,
-    fd: i32,
-    desc: usize,
-    tag: u64,
-) -> Result<(), AllocError>
+/// A registration's instance, descriptor number and description.
+type Key = (usize, i32, usize);
+
+/// What is done with the registration that has a key.
+#[derive(Clone, Copy)]
+enum Op {
+    /// Nothing.
+    Look,
+    /// It is added with this data, where it isn't there.
+    Add(u64),
+    /// It is disarmed by a report in this event, having been reportable since that one.
+    Note(u64, u64),
+    /// It gets this mask and this data.
+    Modify(u32, u64),
+    Remove,
+    /// The description of the key dies.
+    Purge,
+}
+
+/// What a key finds: the key of the registration, its number and its data.
+type Found = Option<(usize, u64, u64)>;
+
+/// What is done, and then what the key finds and how many registrations there are.
+type Step = (Op, Key, Found, usize);
+
+fn put(sets: &mut Interest, key: Key, tag: u64) -> Result<(), AllocError>
     requires { sets.old.added + 1 < 2 ^ 64 }
     ensures { sets.new.added ≤ sets.old.added + 1 }
 {
-    if sets.find(DescId(instance), Fd(fd), DescId(desc)).is_none() {
-        sets.add(DescId(instance), Fd(fd), DescId(desc), Mask(1), tag)?;
+    let (instance, fd, desc) = (DescId(key.0), Fd(key.1), DescId(key.2));
+    if sets.find(instance, fd, desc).is_none() {
+        sets.add(instance, fd, desc, Mask(1), tag)?;
     }
     Ok(())
+}
+
+fn change(sets: &mut Interest, op: Op, id: EntryId)
+    requires { IsSome (number_under sets.old id) }
+    ensures { sets.new.added ≡ sets.old.added }
+{
+    match op {
+        Note(rep, from) => sets.note(id, false, Some(Counts::default()), rep, from),
+        Modify(mask, tag) => sets.modify(id, Mask(mask), tag),
+        Remove => sets.remove(id),
+        _ => {}
+    }
+}
+
+fn make(sets: &mut Interest, op: Op, key: Key) -> Result<(), AllocError>
+    requires { sets.old.added + 1 < 2 ^ 64 }
+    ensures { sets.new.added ≤ sets.old.added + 1 }
+{
+    match op {
+        Add(tag) => put(sets, key, tag)?,
+        Purge => sets.purge(DescId(key.2)),
+        _ => {
+            if let Some(id) = sets.find(DescId(key.0), Fd(key.1), DescId(key.2)) {
+                change(sets, op, id);
+            }
+        }
+    }
+    Ok(())
+}
+
+fn look_up(sets: &Interest, key: Key) -> Found {
+    let id = sets.find(DescId(key.0), Fd(key.1), DescId(key.2))?;
+    let entry = sets.entry(id);
+    Some((id.0, entry.number, entry.tag))
+}
+
+/// Whether it counts as never reported, the event of its last report, and that since which it was reportable.
+fn marks(sets: &Interest, key: Key) -> Option<(bool, u64, u64)> {
+    let id = sets.find(DescId(key.0), Fd(key.1), DescId(key.2))?;
+    let entry = sets.entry(id);
+    Some((entry.seen.is_none(), entry.rep, entry.from))
 }
 
 /// Instance 3 watches 9 twice and 8 once, in this order, and instance 4 watches 9.
@@ -44,25 +105,84 @@ fn four(alloc: Global) -> Result<Interest, AllocError>
     ensures { IfOk result (λ sets. sets.added < 5) }
 {
     let mut sets = Interest::new(alloc);
-    put(&mut sets, 3, 5, 9, 70)?;
-    put(&mut sets, 4, 5, 9, 71)?;
-    put(&mut sets, 3, 6, 9, 72)?;
-    put(&mut sets, 3, 5, 8, 73)?;
+    put(&mut sets, (3, 5, 9), 70)?;
+    put(&mut sets, (4, 5, 9), 71)?;
+    put(&mut sets, (3, 6, 9), 72)?;
+    put(&mut sets, (3, 5, 8), 73)?;
     Ok(sets)
 }
 
-#[test]
-fn a_registration_is_found_by_its_whole_key(rt: HostRuntime) -> Result<(), Fail> {
-    let sets = four(rt.alloc())?;
-    assert!(rt; sets.count() == 4);
-    let id = sets
-        .find(DescId(3), Fd(6), DescId(9))
-        .ok_or("instance 3 has number 6")?;
-    let entry = sets.entry(id);
-    assert!(rt; entry.tag == 72 && entry.number == 3 && entry.armed);
-    for (instance, fd, desc) in [(3, 6, 8), (4, 6, 9), (3, -6, 9)] {
-        assert!(rt; sets.find(DescId(instance), Fd(fd), DescId(desc)).is_none());
+/// The first of at most 16 steps that goes otherwise.
+fn first_wrong(sets: &mut Interest, steps: &[Step]) -> Result<Option<u8>, AllocError>
+    requires { sets.old.added < 5 }
+{
+    for turn in 0..16_u8 {
+        let Some((op, key, wanted, count)) = steps.get(usize::from(turn)).copied() else {
+            return Ok(None);
+        };
+        make(sets, op, key)?;
+        if look_up(sets, key) != wanted || sets.count() != count {
+            return Ok(Some(turn));
+        }
     }
+    Ok(None)
+}
+
+fn run(alloc: Global, steps: &[Step]) -> Result<Option<u8>, AllocError> {
+    let mut sets = four(alloc)?;
+    first_wrong(&mut sets, steps)
+}
+
+fn expect(rt: &impl Abort, wrong: Result<Option<u8>, AllocError>) {
+    match wrong {
+        Ok(None) => {}
+        Ok(Some(turn)) => assert!(rt; false, "at step {turn}"),
+        Err(_) => assert!(rt; false, "no memory"),
+    }
+}
+
+#[test]
+fn a_registration_is_found_by_its_whole_key(rt: HostRuntime) {
+    expect(&rt, run(rt.alloc(), &WHOLE_KEY));
+}
+
+const WHOLE_KEY: [Step; 4] = [
+    (Look, (3, 6, 9), Some((2, 3, 72)), 4),
+    (Look, (3, 6, 8), None, 4),
+    (Look, (4, 6, 9), None, 4),
+    (Look, (3, -6, 9), None, 4),
+];
+
+#[test]
+fn a_key_is_used_again_and_a_number_is_not(rt: HostRuntime) {
+    expect(&rt, run(rt.alloc(), &USED_AGAIN));
+}
+
+const USED_AGAIN: [Step; 3] = [
+    (Look, (3, 5, 9), Some((0, 1, 70)), 4),
+    (Remove, (3, 5, 9), None, 3),
+    (Add(74), (3, 5, 9), Some((0, 5, 74)), 4),
+];
+
+#[test]
+fn the_death_of_a_description_takes_what_touches_it(rt: HostRuntime) {
+    expect(&rt, run(rt.alloc(), &DEATH));
+}
+
+const DEATH: [Step; 3] = [
+    (Add(74), (9, 5, 8), Some((4, 5, 74)), 5),
+    (Purge, (3, 5, 9), None, 1),
+    (Look, (3, 5, 8), Some((3, 4, 73)), 1),
+];
+
+#[test]
+fn a_change_arms_and_keeps_the_marks_of_a_report(rt: HostRuntime) -> Result<(), Fail> {
+    let mut sets = four(rt.alloc())?;
+    make(&mut sets, Note(6, 2), (3, 5, 9))?;
+    assert!(rt; armed(rt.alloc(), &sets, DescId(3))?.len() == 2);
+    make(&mut sets, Modify(4, 80), (3, 5, 9))?;
+    assert!(rt; look_up(&sets, (3, 5, 9)) == Some((0, 1, 80)));
+    assert!(rt; marks(&sets, (3, 5, 9)) == Some((true, 6, 2)));
     Ok(())
 }
 
@@ -85,38 +205,6 @@ fn the_watchers_of_a_description_stand_in_order(rt: HostRuntime) -> Result<(), F
     }
     assert!(rt; found.next().is_none());
     assert!(rt; sets.watchers(DescId(3)).next().is_none());
-    Ok(())
-}
-
-#[test]
-fn a_key_is_used_again_and_a_number_is_not(rt: HostRuntime) -> Result<(), Fail> {
-    let mut sets = four(rt.alloc())?;
-    let first = sets
-        .find(DescId(3), Fd(5), DescId(9))
-        .ok_or("the first is there")?;
-    sets.note(first, false, Some(Counts::default()), 6, 2);
-    assert!(rt; armed(rt.alloc(), &sets, DescId(3))?.len() == 2);
-    sets.modify(first, Mask(4), 80);
-    let entry = sets.entry(first);
-    assert!(rt; entry.seen.is_none() && entry.tag == 80 && entry.rep == 6 && entry.from == 2);
-    sets.remove(first);
-    assert!(rt; sets.count() == 3);
-    put(&mut sets, 3, 5, 9, 74)?;
-    let again = sets
-        .find(DescId(3), Fd(5), DescId(9))
-        .ok_or("it is there again")?;
-    assert!(rt; again == first && sets.entry(again).number == 5);
-    Ok(())
-}
-
-#[test]
-fn the_death_of_a_description_takes_what_touches_it(rt: HostRuntime) -> Result<(), Fail> {
-    let mut sets = four(rt.alloc())?;
-    put(&mut sets, 9, 5, 8, 74)?;
-    sets.purge(DescId(9));
-    assert!(rt; sets.count() == 1);
-    let left = armed(rt.alloc(), &sets, DescId(3))?;
-    assert!(rt; matches!(left.as_slice(), [one] if one.tag == 73));
     Ok(())
 }
 

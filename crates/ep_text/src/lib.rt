@@ -10,8 +10,6 @@ mod masks;
 mod op;
 mod print;
 mod read;
-#[cfg(test)]
-mod tests;
 
 pub use crate::limits::parse_limits;
 pub use crate::print::{print_answer, push_answer, push_bad};

@@ -2,12 +2,7 @@
 //! output. `--help` tells the options.
 #![tactic(auto)]
 
-mod options;
-mod program;
-#[cfg(test)]
-mod tests;
-
-use crate::program::{no_words, run_with};
+use ep_program::{no_words, run_with};
 use std::env::{self, Env};
 use std::io;
 use std::process::ExitCode;

@@ -1,0 +1,8 @@
+//! The program `epsim` but for its `main`: its command line and its runs, over any reader and writers.
+#![tactic(auto)]
+
+mod command_line;
+mod program;
+
+pub use crate::command_line::{Settings, options};
+pub use crate::program::{no_words, run_with};

@@ -1,0 +1,104 @@
+//! What no clause says: that a call succeeds where there is memory, and the marks of whole runs of waits.
+use ep_base::{CallerId, DescId, Pid};
+use ep_park::{Park, Waiter};
+use linked_list_allocator::LocalHeap;
+use std::alloc::AllocError;
+use std::process::Abort;
+use std::test::Fail;
+
+const INSTANCE: DescId = DescId(2);
+
+/// A wait of the first process for one report, which isn't marked.
+fn waiting(deadline: Option<u64>) -> Waiter {
+    Waiter {
+        process: Pid(1),
+        instance: INSTANCE,
+        max: 1,
+        deadline,
+        marked: false,
+    }
+}
+
+/// Two callers wait for one instance: the first is marked and goes on, then the second.
+#[test]
+fn one_after_the_other(rt: HostRuntime) -> Result<(), Fail> {
+    let mut waits = Park::new(rt.alloc());
+    let first = CallerId(1);
+    let second = CallerId(2);
+    waits.park(first, waiting(None))?;
+    assert!(rt; !waits.is_parked(second));
+    waits.park(second, waiting(None))?;
+    waits.mark_longest(INSTANCE);
+    waits.mark_longest(INSTANCE);
+    assert!(rt; !waits.is_marked(second));
+    let gone = Waiter {
+        marked: true,
+        ..waiting(None)
+    };
+    assert!(rt; waits.leave(first) == Some(gone));
+    assert!(rt; !waits.has_mark(INSTANCE));
+    waits.mark_longest(INSTANCE);
+    assert!(rt; waits.is_marked(second));
+    waits.unmark(second);
+    assert!(rt; waits.waiter(second) == Some(waiting(None)));
+    assert!(rt; waits.leave(second) == Some(waiting(None)));
+    assert!(rt; !waits.has_waiter(INSTANCE));
+    Ok(())
+}
+
+/// A wait of five milliseconds: at four it isn't marked, at five it is, and then it is gone.
+#[test]
+fn until_the_deadline(rt: HostRuntime) -> Result<(), Fail> {
+    let mut waits = Park::new(rt.alloc());
+    let caller = CallerId(1);
+    waits.park(caller, waiting(Some(5)))?;
+    assert!(rt; waits.any_of(Pid(1)));
+    waits.mark_due(4);
+    assert!(rt; !waits.is_marked(caller));
+    waits.mark_due(5);
+    assert!(rt; waits.is_marked(caller));
+    waits.leave(caller);
+    assert!(rt; !waits.any_of(Pid(1)));
+    Ok(())
+}
+
+/// A thousand callers wait for one instance and are marked in turn, in order of parking.
+#[test]
+fn a_thousand_in_turn(rt: HostRuntime) -> Result<(), Fail> {
+    let mut waits = Park::new(rt.alloc());
+    for number in 0..1_000 {
+        if !waits.is_parked(CallerId(number)) {
+            waits.park(CallerId(number), waiting(None))?;
+        }
+    }
+    for number in 0..1_000 {
+        waits.mark_longest(INSTANCE);
+        assert!(rt; waits.is_marked(CallerId(number)));
+        waits.leave(CallerId(number));
+    }
+    assert!(rt; !waits.has_waiter(INSTANCE));
+    Ok(())
+}
+
+/// Whether parking is refused over a heap of so many bytes. A refused caller isn't parked, and nobody waits.
+fn is_refused(rt: &(impl Abort + AllocGlobal), bytes: usize) -> Result<bool, AllocError> {
+    let heap = LocalHeap::new(rt.alloc(), bytes)?;
+    let mut waits = Park::new(&heap);
+    let caller = CallerId(1);
+    let is_refused = waits.park(caller, waiting(None)).is_err();
+    assert!(rt; waits.is_parked(caller) != is_refused);
+    assert!(rt; waits.has_waiter(INSTANCE) != is_refused);
+    assert!(rt; waits.any_of(Pid(1)) != is_refused);
+    Ok(is_refused)
+}
+
+/// Over heaps of rising size each request for memory is refused in turn, and none where there is enough.
+#[test]
+fn keeps_the_waiters_where_memory_is_refused(rt: HostRuntime) -> Result<(), Fail> {
+    for units in 2..64 {
+        is_refused(&rt, 16 * units)?;
+    }
+    assert!(rt; is_refused(&rt, 16)?);
+    assert!(rt; !is_refused(&rt, 2_048)?);
+    Ok(())
+}

@@ -1,4 +1,0 @@
-//! Values of the formats.
-
-mod limits;
-mod lines;

@@ -1,0 +1,9 @@
+//! The tests of lines and limits, in a crate of their own: the gate proves a crate that has tests twice.
+#![tactic(auto)]
+
+#[cfg(test)]
+mod limits;
+#[cfg(test)]
+mod lines;
+#[cfg(test)]
+mod same;
