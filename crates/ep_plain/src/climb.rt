@@ -1,20 +1,19 @@
 //! What an event raised climbs through instances.
 ghost use Rattle.std.specs.Prelude.{◌≡◌, ◌&&◌, ◌||◌, ◌==◌, IsSome, map, nat_lt};
 ghost use Rattle.ep_machine.specs.Bits.{IN, asked};
-ghost use Rattle.ep_view.specs.KernelView.{reached_now, reached_within};
-ghost use Rattle.ep_plain.specs.Climb.{AreNested, Climbs, climbs_to};
-ghost use Rattle.ep_plain.specs.Readiness.{watches_of};
-ghost use Rattle.ep_plain.specs.Stands.{AreLinked};
+ghost use Rattle.ep_view.specs.KernelView.{reached_within};
+ghost use Rattle.ep_calls.specs.Climb.{AreNested, Climbs};
+ghost use Rattle.ep_plain.specs.Climb.{climbs_to, is_reached_key};
+ghost use Rattle.ep_calls.specs.Readiness.{watches_of};
+ghost use Rattle.ep_calls.specs.Stands.{AreLinked};
 ghost use Rattle.ep_table.specs.Value.{number_of, number_under};
 
 use bitflags::Flags;
 use ep_base::{DescId, Mask};
+use ep_calls::{LONGEST_CHAIN, Parts};
 use ep_interest::{Entry, Interest};
 use ep_nest::Graph;
 use ep_table::Tables;
-
-/// How many instances may watch each other in a chain.
-const LONGEST: u8 = 5;
 
 /// Whether a registration passes something of this step on, where `below` says whether IN reaches the instance that it
 /// watches.
@@ -49,16 +48,16 @@ fn is_reached(tables: &Tables, interest: &Interest, instance: DescId, step: u64,
 fn climb_to(tables: &Tables, interest: &mut Interest, instance: DescId, step: u64)
     requires live { IsSome (number_under tables.now instance) }
     requires linked { AreLinked tables.now interest.old }
-    ensures entries { interest.new.entries ≡ map (climbs_to (reached_now tables.now.files step (watches_of tables.now interest.old) (number_of tables.now instance)) instance) interest.old.entries }
+    ensures entries { interest.new.entries ≡ map (climbs_to (is_reached_key step tables.now interest.old instance) instance) interest.old.entries }
     ensures added { interest.new.added ≡ interest.old.added }
 {
-    if is_reached(tables, interest, instance, step, LONGEST) {
+    if is_reached(tables, interest, instance, step, LONGEST_CHAIN) {
         interest.freshen(instance, Mask::IN);
     }
 }
 
 /// Makes fresh what watches an instance that IN reaches, and forgets what was passed on in this step.
-pub fn climb(tables: &Tables, interest: &mut Interest, graph: &Graph, step: u64)
+fn climb_links(tables: &Tables, interest: &mut Interest, graph: &Graph, step: u64)
     requires linked { AreLinked tables.now interest.old }
     requires nested { AreNested tables.now interest.old graph.now }
     ensures climbs { Climbs step tables.now interest.old interest.new }
@@ -68,4 +67,12 @@ pub fn climb(tables: &Tables, interest: &mut Interest, graph: &Graph, step: u64)
         climb_to(tables, interest, link.inner, step);
     }
     interest.settle();
+}
+
+/// Makes fresh what watches an instance that IN reaches, and forgets what was passed on in this step.
+pub fn climb(parts: &mut Parts, step: u64)
+    ensures climbs { Climbs step parts.old.tables parts.old.interest parts.new.interest }
+    ensures others { parts.new ≡ record parts.old { interest = parts.new.interest } }
+{
+    climb_links(&parts.tables, &mut parts.interest, &parts.graph, step);
 }

@@ -1,20 +1,13 @@
 //! The kernel that scans.
 ghost use Rattle.std.specs.Prelude.{◌≡◌, ◌≤◌, [], IfOk, OnErr, false};
-ghost use Rattle.ep_plain.specs.Acts.{Adds, is_no_memory};
-ghost use Rattle.ep_plain.specs.Book.{state_of};
+ghost use Rattle.ep_calls.specs.Acts.{Adds, is_no_memory};
+ghost use Rattle.ep_calls.specs.Book.{state_of};
 
-use crate::Kernel;
 use crate::act::act;
-use crate::acted::Acted;
-use crate::bury::bury;
 use crate::climb::climb;
-use crate::parking::mark;
-use crate::raising::raise;
+use crate::mark::mark;
 use ep_base::{Answer, CallerId, Errno, Event, Limits, Record};
-use ep_interest::Interest;
-use ep_nest::Graph;
-use ep_park::Park;
-use ep_table::Tables;
+use ep_calls::{Kernel, Outcome, Parts};
 use std::alloc::{AllocError, Global};
 use std::marker::Model;
 
@@ -22,18 +15,12 @@ use std::marker::Model;
 /// Contracts see its limits, its history, and how many records fit.
 #[derive(Drop)]
 pub struct PlainKernel {
-    alloc: Global,
-    limits: Limits,
-    tables: Tables,
-    interest: Interest,
-    graph: Graph,
-    waiters: Park,
-    now: u64,
+    parts: Parts,
     history: Vec<Record>,
 }
 
 impl Model for PlainKernel {
-    ghost use Rattle.ep_plain.specs.Book.{Book};
+    ghost use Rattle.ep_calls.specs.Book.{Book};
 
     ghost Value = { Book };
 
@@ -51,13 +38,7 @@ impl PlainKernel {
         ensures { IfOk result (λ kernel. kernel ≡ record { limits = limits; past = []; capacity = 0 }) }
     {
         Ok(PlainKernel {
-            alloc,
-            limits,
-            tables: Tables::new(alloc, limits)?,
-            interest: Interest::new(alloc),
-            graph: Graph::new(alloc),
-            waiters: Park::new(alloc),
-            now: 0,
+            parts: Parts::new(alloc, limits)?,
             history: Vec::new(alloc),
         })
     }
@@ -72,33 +53,22 @@ impl PlainKernel {
     {
         self.history.reserve(1)?;
         let step = self.history.len() as u64 + 1;
-        let Acted {
+        let Outcome {
             answer,
-            copy,
+            recorded,
             picked,
             raising,
-        } = act(
-            self.alloc,
-            &self.limits,
-            &mut self.tables,
-            &mut self.interest,
-            &mut self.graph,
-            &mut self.waiters,
-            &mut self.now,
-            step,
-            caller,
-            &event,
-        )?;
-        self.tables.known();
-        raise(&self.tables, &mut self.interest, raising, self.now, step);
-        bury(&mut self.tables, &mut self.interest, &mut self.graph, step);
-        self.tables.known();
-        climb(&self.tables, &mut self.interest, &self.graph, step);
-        mark(&self.tables, self.now, &self.interest, &mut self.waiters);
+        } = act(&mut self.parts, step, caller, &event)?;
+        self.parts.known();
+        self.parts.raise(step, raising);
+        self.parts.bury(step);
+        self.parts.known();
+        climb(&mut self.parts, step);
+        mark(&mut self.parts);
         self.history.push_reserved(Record {
             caller,
             event,
-            answer: copy,
+            answer: recorded,
             picked,
         });
         Ok(answer)
@@ -130,18 +100,18 @@ impl Kernel for PlainKernel {
     }
 
     fn limits(&self) -> &Limits {
-        &self.limits
+        self.parts.tables.limits()
     }
 
     fn now(&self) -> u64 {
-        self.now
+        self.parts.clock
     }
 
     fn is_parked(&self, caller: CallerId) -> bool {
-        self.waiters.is_parked(caller)
+        self.parts.waiters.is_parked(caller)
     }
 
     fn is_marked(&self, caller: CallerId) -> bool {
-        self.waiters.is_marked(caller)
+        self.parts.waiters.is_marked(caller)
     }
 }

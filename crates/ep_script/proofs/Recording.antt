@@ -6,7 +6,7 @@ use Rattle.ep_base.specs.declared.call.Event.{Event}
 use Rattle.ep_base.specs.declared.ids.CallerId.{CallerId}
 use Rattle.ep_base.specs.declared.record.Record.{Record}
 use Rattle.ep_machine.specs.State.{State}
-use Rattle.ep_plain.specs.Acts.{Acts, Adds, Stays, is_no_memory}
+use Rattle.ep_calls.specs.Acts.{Acts, Adds, Stays, is_no_memory}
 use Rattle.ep_script.specs.declared.summary.LineKind.{LineKind}
 use Rattle.ep_script.specs.declared.summary.LineKind.TheVariants as kind
 use Rattle.ep_text.specs.Event.{Command}

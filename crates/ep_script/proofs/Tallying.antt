@@ -2,7 +2,7 @@
 use Rattle.std.proofs.Common.{Bool, List, None, Some, [], ap, append-nil, append_assoc, arith, false, if◌then◌else◌, length, length-append, map, refl, sym, true, ℕ, ◌+◌, ◌++◌, ◌≡◌, ◌∙◌, ◌∷◌}
 use Rattle.std.proofs.lemmas.List.{length-map, map-append}
 use Rattle.ep_base.specs.declared.record.Record.{Record}
-use Rattle.ep_plain.specs.Acts.{is_no_memory}
+use Rattle.ep_calls.specs.Acts.{is_no_memory}
 use Rattle.ep_script.specs.declared.summary.LineKind.{LineKind}
 use Rattle.ep_script.specs.declared.summary.LineKind.TheVariants as kind
 use Rattle.ep_script.specs.declared.summary.Summary.{Summary}

@@ -2,7 +2,7 @@
 use Rattle.std.specs.Io.KnownBytes.{Appends, Keeps}
 use Rattle.std.specs.Prelude.{List, None, Option, Some, [], if◌then◌else◌, length, take, ℕ, ◌++◌, ◌<◌, ◌≡◌, ◌≢◌, ◌≤◌, ◌⊎◌, ◌∷◌}
 use Rattle.ep_base.specs.declared.record.Record.{Record}
-use Rattle.ep_plain.specs.Acts.{is_no_memory}
+use Rattle.ep_calls.specs.Acts.{is_no_memory}
 use Rattle.ep_script.specs.declared.fault.ScriptFault.{ScriptFault}
 use Rattle.ep_script.specs.declared.fault.ScriptFault.TheVariants as fault
 use Rattle.ep_script.specs.declared.summary.LineKind.{LineKind}

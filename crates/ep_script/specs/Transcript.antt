@@ -4,7 +4,7 @@ use Rattle.ep_base.specs.declared.answer.Answer.{Answer}
 use Rattle.ep_base.specs.declared.call.Event.{Event}
 use Rattle.ep_base.specs.declared.ids.CallerId.{CallerId}
 use Rattle.ep_base.specs.declared.record.Record.{Record}
-use Rattle.ep_plain.specs.Acts.{is_no_memory}
+use Rattle.ep_calls.specs.Acts.{is_no_memory}
 use Rattle.ep_text.specs.Event.{Command, event}
 use Rattle.ep_text.specs.Line.{bad_line, line_of}
 

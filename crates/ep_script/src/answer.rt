@@ -1,7 +1,7 @@
 //! Answers one line of a script.
 ghost use Rattle.std.specs.Io.KnownBytes.{Appends};
 ghost use Rattle.std.specs.Prelude.{◌≡◌, IfErr, IfOk, IsErrOf, List, OnErr, OnOk, ℕ, if◌then◌else◌, string_bytes, true};
-ghost use Rattle.ep_plain.specs.Acts.{is_no_memory};
+ghost use Rattle.ep_calls.specs.Acts.{is_no_memory};
 ghost use Rattle.ep_text.specs.Event.{event};
 ghost use Rattle.ep_script.specs.Steps.{AnswerFault, MayGain, Tells};
 ghost use Rattle.ep_script.specs.declared.summary.LineKind.TheVariants as kind;

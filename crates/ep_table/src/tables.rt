@@ -117,6 +117,13 @@ impl<A: Allocator> Tables<A> {
         })
     }
 
+    /// The limits that they were made with.
+    pub fn limits(&self) -> &Limits
+        ensures { result.now ≡ self.now.limits }
+    {
+        &self.limits
+    }
+
     /// Whether a process is there: it was created and has not ended.
     pub fn has_process(&self, pid: Pid) -> bool
         ensures { result ≡ is_some (table_of self.now.files pid.0) }

@@ -75,7 +75,7 @@ quiet_files s g h k e = record {
 }
 
 -- A call on an object keeps its kind.
-effect_kind : (x : Object) (e : End) (now : ℕ) (call : Call) → kind_of (Some (object_effect x e now call).1) ≡ kind_of (Some x)
+pub effect_kind : (x : Object) (e : End) (now : ℕ) (call : Call) → kind_of (Some (object_effect x e now call).1) ≡ kind_of (Some x)
 effect_kind plain e now (Read fd n) = refl
 effect_kind (pipe p) e now (Read fd n) = refl
 effect_kind (pair p) e now (Read fd n) = refl
@@ -108,11 +108,11 @@ effect_kind (timer t) e now (GetTime fd) = refl
 effect_kind instance e now (GetTime fd) = refl
 effect_kind x e now call = refl
 
-kind_there : (o : Option Object) → kind_of (Some (unwrap_or o plain)) ≡ kind_of o
+pub kind_there : (o : Option Object) → kind_of (Some (unwrap_or o plain)) ≡ kind_of o
 kind_there None = refl
 kind_there (Some x) = refl
 
-kind_at : (f : Files) (p : Option Place) → is_none p ≡ false → kind_of (object_at f p) ≡ kind_of (get_or f.objects (object_number p) None)
+pub kind_at : (f : Files) (p : Option Place) → is_none p ≡ false → kind_of (object_at f p) ≡ kind_of (get_or f.objects (object_number p) None)
 kind_at f None live = cc
 kind_at f (Some p) live = refl
 

@@ -7,10 +7,10 @@ use Rattle.ep_interest.specs.declared.entry.Entry.{Entry}
 use Rattle.ep_machine.specs.Files.{object_of}
 use Rattle.ep_view.specs.KernelView.{carries, reached_within}
 use Rattle.ep_machine.specs.Objects.{is_instance, plain}
-use Rattle.ep_plain.specs.Readiness.{watches_of}
-use Rattle.ep_plain.specs.Stands.{IsLinked, number_at, watch_at}
-use Rattle.ep_plain.proofs.Looking.{Looks, any_scanned, carries_is, fewer_levels, first_looked, looks_begins, looks_found, looks_on, reached_step, same_kind}
-use Rattle.ep_plain.proofs.Waiting.{entries_of}
+use Rattle.ep_calls.specs.Readiness.{watches_of}
+use Rattle.ep_calls.specs.Stands.{IsLinked, number_at, watch_at}
+use Rattle.ep_calls.proofs.Looking.{Looks, any_scanned, carries_is, fewer_levels, first_looked, looks_begins, looks_found, looks_on, reached_step, same_kind}
+use Rattle.ep_calls.proofs.Waiting.{entries_of}
 use Rattle.ep_plain.proofs.climb.+is_reached.Goals as goal
 use Rattle.ep_plain.proofs.climb.+is_reached.Goals.{then-is_instance, else-is_instance}
 

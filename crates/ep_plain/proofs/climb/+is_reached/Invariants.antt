@@ -1,8 +1,8 @@
 use Rattle.std.proofs.Common.{◌-◌, filter}
 use Rattle.ep_interest.specs.Registrations.{is_of}
 use Rattle.ep_view.specs.KernelView.{carries, reached_within}
-use Rattle.ep_plain.specs.Readiness.{watches_of}
-use Rattle.ep_plain.proofs.Looking.{Looks}
+use Rattle.ep_calls.specs.Readiness.{watches_of}
+use Rattle.ep_calls.proofs.Looking.{Looks}
 use Rattle.ep_plain.proofs.climb.+is_reached.Given as goal
 
 abbrev pub decreases-is_reached : goal.decreases-is_reached

@@ -1,72 +1,55 @@
-use Rattle.std.proofs.Common.{◌≡◌, ◌+◌, ◌++◌, [], ◌∷◌, length, refl, ◌∙◌, arith, subst}
-use Rattle.ep_plain.specs.Acts.{Adds}
-use Rattle.ep_plain.specs.Book.{Book, state_of}
-use Rattle.ep_plain.specs.Moves.{Parts}
+use Rattle.std.proofs.Common.{◌≡◌, ◌+◌, ◌++◌, [], ◌∷◌, List, length, ◌∙◌, arith, subst, sym, vec_capacity}
+use Rattle.ep_base.specs.declared.record.Record.{Record}
+use Rattle.ep_machine.specs.Step.{next_event}
+use Rattle.ep_calls.specs.Acts.{Adds}
+use Rattle.ep_calls.specs.Book.{Book, state_of}
+use Rattle.ep_calls.specs.Keeps.{Keeps}
+use Rattle.ep_calls.proofs.KeepsLemmas.{DoesAt, Settles, adds_next, does_at, keeps_next, record_of}
 use Rattle.ep_plain.specs.Standing.{book_of}
-use Rattle.ep_plain.specs.declared.plain.PlainKernel.TheInside.{Inside}
-use Rattle.ep_plain.proofs.Linking.{linked_kept}
-use Rattle.ep_plain.proofs.Next.{adds_next, nested_next, placed_next, record_of, standing_next}
-use Rattle.ep_plain.proofs.Stirring.{stirs_watches}
 use Rattle.ep_plain.proofs.plain.PlainKernel.try_step.Goals as goal
 
-pub bury-requires : goal.bury-requires
-bury-requires c =
-    let e = c.in_ok-answer.ensures in
-    (stirs_watches c.in_ok-answer.field-0.raising c.act.new.tables c.act.new.now (c.len.result + 1) c.act.new.interest c.raise.new.interest c.raise.ensures c.known.ensures e.raising (linked_kept c.self.inside.tables c.act.new.tables c.act.new.interest e.keys e.linked)).linked
+-- the number of the event
+number : (c : goal.After-push_reserved) → c.len.result + 1 ≡ length c.self.inside.history.items + 1
+number c = omega (arith, c.len.ensures, c.reserve.ensures.len)
 
-pub climb-requires-clause-nested : goal.climb-requires-clause-nested
-climb-requires-clause-nested c =
-    let k = c.self.inside in
-    let acted = c.in_ok-answer.field-0 in
-    let mid : Parts = record { tables = c.act.new.tables; interest = c.act.new.interest; parked = c.act.new.waiters; now = c.act.new.now } in
-    let stirred : Parts = record { tables = c.act.new.tables; interest = c.raise.new.interest; parked = c.act.new.waiters; now = c.act.new.now } in
-    let buried : Parts = record { tables = c.bury.new.tables; interest = c.bury.new.interest; parked = c.act.new.waiters; now = c.act.new.now } in
-    let n : c.len.result + 1 ≡ length k.history.items + 1 = omega (arith, c.len.ensures, c.reserve.ensures.len) in
-    let e = c.in_ok-answer.ensures in
-    nested_next k mid stirred buried c.act.new.graph c.bury.new.graph acted.raising c.self.invariant c.args.caller c.args.event acted.answer acted.picked (c.len.result + 1) n e.ok e.raised
-    refl refl refl c.raise.ensures e.raising c.known.ensures e.keys e.linked e.nested e.placed e.held c.bury.ensures.burial c.bury.ensures.nested refl refl c.known-2.ensures
+does : (c : goal.After-push_reserved) → DoesAt (next_event c.self.invariant.state) c.args.caller.0 c.args.event c.in_ok-answer.field-0 c.self.inside.parts c.act.new.parts
+does c = does_at c.self.inside.history.items c.self.inside.parts c.act.new.parts c.self.invariant (c.len.result + 1) c.args.caller.0 c.args.event c.in_ok-answer.field-0 (number c) c.in_ok-answer.ensures.ok
 
-pub mark-requires-clause-placed : goal.mark-requires-clause-placed
-mark-requires-clause-placed c =
-    let k = c.self.inside in
-    let acted = c.in_ok-answer.field-0 in
-    let mid : Parts = record { tables = c.act.new.tables; interest = c.act.new.interest; parked = c.act.new.waiters; now = c.act.new.now } in
-    let stirred : Parts = record { tables = c.act.new.tables; interest = c.raise.new.interest; parked = c.act.new.waiters; now = c.act.new.now } in
-    let buried : Parts = record { tables = c.bury.new.tables; interest = c.bury.new.interest; parked = c.act.new.waiters; now = c.act.new.now } in
-    let n : c.len.result + 1 ≡ length k.history.items + 1 = omega (arith, c.len.ensures, c.reserve.ensures.len) in
-    let e = c.in_ok-answer.ensures in
-    placed_next k mid stirred buried c.act.new.graph c.bury.new.graph acted.raising c.self.invariant c.args.caller c.args.event acted.answer acted.picked (c.len.result + 1) n e.ok e.raised
-    refl refl refl c.raise.ensures e.raising c.known.ensures e.keys e.linked e.nested e.placed e.held c.bury.ensures.burial c.bury.ensures.nested refl refl c.known-2.ensures
+settles : (c : goal.After-push_reserved) → Settles (c.len.result + 1) c.in_ok-answer.field-0.raising c.act.new.parts c.raise.new.self c.bury.new.self c.climb.new.parts c.mark.new.parts
+settles c = record {
+  coherent = c.known.ensures.coherent;
+  sound = c.known.ensures.sound;
+  stirs = c.raise.ensures.stirs;
+  noted_others = c.raise.ensures.others;
+  burial = c.bury.ensures.burial;
+  parked = c.bury.ensures.parked;
+  clock = c.bury.ensures.clock;
+  coherent_buried = c.known-2.ensures.coherent;
+  sound_buried = c.known-2.ensures.sound;
+  climbs = c.climb.ensures.climbs;
+  climbed_others = c.climb.ensures.others;
+  marks = c.mark.ensures.marks;
+  marked_others = c.mark.ensures.others;
+}
+
+-- the history has its record
+records : (c : goal.After-push_reserved) → c.push_reserved.new.self.items ≡ c.self.inside.history.items ++ record_of c.args.caller c.args.event c.in_ok-answer.field-0 ∷ []
+records c =
+    let outcome = c.in_ok-answer.field-0 in
+    c.push_reserved.ensures.items
+    ∙ (λ i. c.reserve.ensures.items i ++ record { caller = c.args.caller; event = c.args.event; answer = outcome.same i; picked = outcome.picked } ∷ [])
 
 pub invariant_of-self-2 : goal.invariant_of-self-2
 invariant_of-self-2 c =
     let k = c.self.inside in
-    let acted = c.in_ok-answer.field-0 in
-    let mid : Parts = record { tables = c.act.new.tables; interest = c.act.new.interest; parked = c.act.new.waiters; now = c.act.new.now } in
-    let stirred : Parts = record { tables = c.act.new.tables; interest = c.raise.new.interest; parked = c.act.new.waiters; now = c.act.new.now } in
-    let buried : Parts = record { tables = c.bury.new.tables; interest = c.bury.new.interest; parked = c.act.new.waiters; now = c.act.new.now } in
-    let n : c.len.result + 1 ≡ length k.history.items + 1 = omega (arith, c.len.ensures, c.reserve.ensures.len) in
-    let e = c.in_ok-answer.ensures in
-    let new : Inside = record { alloc = k.alloc; limits = k.limits; tables = c.bury.new.tables; interest = c.climb.new.interest; graph = c.bury.new.graph; waiters = c.mark.new.waiters; now = c.act.new.now; history = c.push_reserved.new.self } in
-    let history : new.history.items ≡ k.history.items ++ record_of c.args.caller c.args.event acted.answer acted.picked ∷ [] =
-    c.push_reserved.ensures.items ∙ (λ i. c.reserve.ensures.items i ++ record_of c.args.caller c.args.event (c.in_ok-answer.ensures.copy i) acted.picked ∷ []) in
-    standing_next k mid stirred buried c.act.new.graph c.bury.new.graph acted.raising c.self.invariant c.args.caller c.args.event acted.answer acted.picked (c.len.result + 1) n e.ok e.raised
-    refl refl refl c.raise.ensures e.raising c.known.ensures e.keys e.linked e.nested e.placed e.held c.bury.ensures.burial c.bury.ensures.nested refl refl c.known-2.ensures
-    new refl e.kept history e.grows e.added e.clock refl refl c.climb.ensures.climbs c.climb.ensures.nested c.mark.ensures
+    subst (λ (rs : List Record). Keeps rs c.mark.new.parts) (sym (records c))
+    (keeps_next k.history.items k.parts c.act.new.parts c.raise.new.self c.bury.new.self c.climb.new.parts c.mark.new.parts c.self.invariant c.args.caller c.args.event c.in_ok-answer.field-0 (c.len.result + 1) (number c) (does c) (settles c))
 
 pub returns-clause-ok : goal.returns-clause-ok
 returns-clause-ok c =
     let k = c.self.inside in
-    let acted = c.in_ok-answer.field-0 in
-    let mid : Parts = record { tables = c.act.new.tables; interest = c.act.new.interest; parked = c.act.new.waiters; now = c.act.new.now } in
-    let stirred : Parts = record { tables = c.act.new.tables; interest = c.raise.new.interest; parked = c.act.new.waiters; now = c.act.new.now } in
-    let buried : Parts = record { tables = c.bury.new.tables; interest = c.bury.new.interest; parked = c.act.new.waiters; now = c.act.new.now } in
-    let n : c.len.result + 1 ≡ length k.history.items + 1 = omega (arith, c.len.ensures, c.reserve.ensures.len) in
-    let e = c.in_ok-answer.ensures in
-    let new : Inside = record { alloc = k.alloc; limits = k.limits; tables = c.bury.new.tables; interest = c.climb.new.interest; graph = c.bury.new.graph; waiters = c.mark.new.waiters; now = c.act.new.now; history = c.push_reserved.new.self } in
-    let history : new.history.items ≡ k.history.items ++ record_of c.args.caller c.args.event acted.answer acted.picked ∷ [] =
-    c.push_reserved.ensures.items ∙ (λ i. c.reserve.ensures.items i ++ record_of c.args.caller c.args.event (c.in_ok-answer.ensures.copy i) acted.picked ∷ []) in
-    let a = adds_next k mid stirred buried c.act.new.graph c.bury.new.graph acted.raising c.self.invariant c.args.caller c.args.event acted.answer acted.picked (c.len.result + 1) n e.ok e.raised
-    refl refl refl c.raise.ensures e.raising c.known.ensures e.keys e.linked e.nested e.placed e.held c.bury.ensures.burial c.bury.ensures.nested refl refl c.known-2.ensures
-    new refl e.kept history e.grows e.added e.clock refl refl c.climb.ensures.climbs c.climb.ensures.nested c.mark.ensures in
-    subst (λ (b : Book). Adds b.limits c.args.caller c.args.event acted.answer (state_of b) (state_of (book_of new)) b.past new.history.items) c.self.view_is a
+    let outcome = c.in_ok-answer.field-0 in
+    let new : Book = record { limits = c.mark.new.parts.tables.limits; past = c.push_reserved.new.self.items; capacity = vec_capacity c.push_reserved.new.self } in
+    let adds = adds_next k.history.items k.parts c.act.new.parts c.raise.new.self c.bury.new.self c.climb.new.parts c.mark.new.parts c.self.invariant c.args.caller c.args.event outcome (c.len.result + 1) (number c) (does c) (settles c) in
+    subst (λ (b : Book). Adds b.limits c.args.caller c.args.event outcome.answer (state_of b) (state_of new) b.past new.past) c.self.view_is
+    (subst (λ (rs : List Record). Adds k.parts.tables.limits c.args.caller c.args.event outcome.answer (state_of (book_of k)) (state_of (record new { past = rs })) k.history.items rs) (sym (records c)) adds)

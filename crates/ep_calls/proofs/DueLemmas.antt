@@ -1,0 +1,80 @@
+-- What the clock raises, at one live description after another.
+use Rattle.std.proofs.Common.{true, false, ◌≡◌, ◌≢◌, ◌∙◌, ◌+◌, ℕ, suc, All, Bool, IsSome, List, [], ◌∷◌, None, Option, Some, ap, arith, cond, get_or, map, refl, rules, slice_index_or, subst, sym}
+use Rattle.std.proofs.lemmas.List.Elements.{All-cons, All-head, All-tail}
+use Rattle.ep_base.specs.declared.ids.DescId.{DescId}
+use Rattle.ep_base.specs.declared.mask.Mask.{Mask}
+use Rattle.ep_interest.specs.Registrations.{Registrations, is_on, raised_on}
+use Rattle.ep_interest.specs.declared.entry.Entry.{Entry}
+use Rattle.ep_calls.proofs.Across.{noted, zero_noted}
+use Rattle.ep_calls.specs.Raising.{due_bits, raised_each, raised_there}
+use Rattle.ep_table.specs.Live.{key_of, live_from, live_ids}
+use Rattle.ep_table.specs.Value.{Seen, number_under}
+
+abbrev HasNumber : List (Option ℕ) → DescId → Type 0
+HasNumber keys id = IsSome (slice_index_or keys id.0 None)
+
+-- nothing is raised
+either_same : (b : Bool) (x : Entry) → cond b x x ≡ x
+either_same true x = refl
+either_same false x = refl
+
+one_none : (desc : DescId) (bits : Mask) (n : ℕ) (x : Entry) → bits.0 ≡ 0 → raised_on desc bits n x ≡ x
+one_none desc bits n x h = ap (λ (y : Entry). cond (is_on desc x) y x) (ap (λ (k : ℕ). noted n k x) h ∙ zero_noted n x) ∙ either_same (is_on desc x) x
+
+pub raised_none : (desc : DescId) (bits : Mask) (n : ℕ) (xs : List Entry) → bits.0 ≡ 0 → xs ≡ map (raised_on desc bits n) xs
+raised_none desc bits n [] h = refl
+raised_none desc bits n (x ∷ xs) h = let rest = raised_none desc bits n xs h in λ i. sym (one_none desc bits n x h) i ∷ rest i
+
+pub raised_nowhere : (o : Option DescId) (bits : Mask) (n : ℕ) (xs : List Entry) → ((k : DescId) → o ≢ Some k) → xs ≡ map (raised_there o bits n) xs
+raised_nowhere o bits n [] h = refl
+raised_nowhere None bits n (x ∷ xs) h = ap (λ (ys : List Entry). x ∷ ys) (raised_nowhere None bits n xs h)
+raised_nowhere (Some k) bits n (x ∷ xs) h = absurd (h k refl)
+
+-- those that are left are live, and with them the registrations come to what all would make of them
+pub record Raises (v : Seen) (since now n : ℕ) (old : Registrations) (left : List DescId) (new : Registrations) : Type 0 where
+  pub live : All (λ id. IsSome (number_under v id)) left
+  pub told : raised_each (due_bits v since now) n left new.entries ≡ raised_each (due_bits v since now) n (live_ids v.keys) old.entries
+  pub added : new.added ≡ old.added
+
+next_key : (j i : ℕ) → j + 1 + i ≡ j + suc i
+next_key j i = omega arith
+
+no_more : (j : ℕ) → j + 0 ≡ j
+no_more j = omega arith
+
+-- each key from one on that has a number
+module _ (all : List (Option ℕ)) where
+  abbrev IsRest : ℕ → List (Option ℕ) → Type 0
+  IsRest j rest = (i : ℕ) → slice_index_or all (j + i) None ≡ get_or rest i None
+
+  next_rest : (j : ℕ) (o : Option ℕ) (rest : List (Option ℕ)) → IsRest j (o ∷ rest) → IsRest (j + 1) rest
+  next_rest j o rest h = λ i. ap (λ (n : ℕ). slice_index_or all n None) (next_key j i) ∙ h (suc i)
+
+  live_after : (j : ℕ) (rest : List (Option ℕ)) → IsRest j rest → All (HasNumber all) (live_from j rest)
+  live_after j [] h = search rules
+  live_after j (None ∷ rest) h = live_after (j + 1) rest (next_rest j None rest h)
+  live_after j (Some n ∷ rest) h =
+      let P : Option ℕ → Type 0 = λ o. IsSome o in
+      All-cons (HasNumber all) (key_of j) (live_from (j + 1) rest)
+      (subst P (sym (ap (λ (k : ℕ). slice_index_or all k None) (sym (no_more j)) ∙ h 0)) refl)
+      (live_after (j + 1) rest (next_rest j (Some n) rest h))
+
+zero_plus : (k : ℕ) → 0 + k ≡ k
+zero_plus k = omega arith
+
+live_all : (keys : List (Option ℕ)) → All (HasNumber keys) (live_ids keys)
+live_all keys = live_after keys 0 keys (λ i. ap (λ (n : ℕ). slice_index_or keys n None) (zero_plus i))
+
+pub raises_begins : (v : Seen) (since now n : ℕ) (old : Registrations) → Raises v since now n old (live_ids v.keys) old
+raises_begins v since now n old = record { live = live_all v.keys; told = refl; added = refl }
+
+pub first_live : (v : Seen) (since now n : ℕ) (old new : Registrations) (id : DescId) (left : List DescId) → Raises v since now n old (id ∷ left) new → IsSome (number_under v id)
+first_live v since now n old new id left h = All-head (λ k. IsSome (number_under v k)) id left h.live
+
+pub raises_more : (v : Seen) (since now n : ℕ) (old mid new : Registrations) (id : DescId) (left : List DescId) → Raises v since now n old (id ∷ left) mid
+    → new.entries ≡ map (raised_on id (due_bits v since now id) n) mid.entries → new.added ≡ mid.added → Raises v since now n old left new
+raises_more v since now n old mid new id left h entries added = record {
+  live = All-tail (λ k. IsSome (number_under v k)) id left h.live;
+  told = ap (raised_each (due_bits v since now) n left) entries ∙ h.told;
+  added = added ∙ h.added;
+}

@@ -1,0 +1,159 @@
+-- What a kernel keeps, at the start and over one event.
+use Rattle.std.proofs.Common.{◌≡◌, ◌+◌, ◌++◌, ◌∙◌, ℕ, List, [], ◌∷◌, Option, Some, ap, arith, length, map, refl, subst, sym, unwrap_or}
+use Rattle.std.proofs.lemmas.List.{length-append}
+use Rattle.ep_base.specs.Limits.{Limits}
+use Rattle.ep_base.specs.declared.call.Event.{Event}
+use Rattle.ep_base.specs.declared.ids.CallerId.{CallerId}
+use Rattle.ep_base.specs.declared.record.Record.{Record}
+use Rattle.ep_interest.specs.Registrations.{Registrations}
+use Rattle.ep_machine.specs.Files.{Files}
+use Rattle.ep_machine.specs.Marks.{marked_by}
+use Rattle.ep_machine.specs.Refusal.{refusals}
+use Rattle.ep_machine.specs.Run.{run}
+use Rattle.ep_machine.specs.State.{State, opening}
+use Rattle.ep_machine.specs.Step.{next_event, change, step}
+use Rattle.ep_law.proofs.GraphLemmas.{graph_stays_legal}
+use Rattle.ep_view.proofs.AtRestLemmas.{quiet_begun, quiet_opening}
+use Rattle.ep_law.proofs.SoundLemmas.{sound_begun, sound_opening}
+use Rattle.ep_law.proofs.StepLemmas.{run_next}
+use Rattle.ep_calls.specs.Acts.{Adds}
+use Rattle.ep_calls.specs.Burial.{Burial}
+use Rattle.ep_calls.specs.Climb.{Climbs}
+use Rattle.ep_calls.specs.Moves.{Goes, StandFor}
+use Rattle.ep_calls.specs.Parking.{ready_key}
+use Rattle.ep_calls.specs.Raising.{IsRaising, Raises, Stirs}
+use Rattle.ep_calls.specs.Stands.{waiters_at, watch_at}
+use Rattle.ep_calls.specs.declared.raising.Raising.{Raising}
+use Rattle.ep_calls.proofs.Stirring.{stirs_added}
+use Rattle.ep_calls.specs.Does.{DoesEvent}
+use Rattle.ep_calls.specs.Keeps.{Keeps}
+use Rattle.ep_calls.specs.Parts.{AreCoherent, AreOpening, Grows, Parts}
+use Rattle.ep_calls.specs.declared.outcome.Outcome.{Outcome}
+use Rattle.ep_calls.proofs.StepLemmas.{Leads, climbed_stands, leads}
+use Rattle.ep_table.specs.Value.{Sound as SoundTables}
+
+-- the opening parts stand for the opening state
+pub keeps_opening : (limits : Limits) (p : Parts) → AreOpening limits p → Keeps [] p
+keeps_opening limits p h = record {
+  state = opening;
+  leads = refl;
+  n = refl;
+  sound = sound_opening;
+  quiet = quiet_opening;
+  stands = record {
+    now = sym h.clock;
+    files = sym h.files;
+    watches = ap (λ (r : Registrations). map (watch_at p.tables.keys) r.entries) (sym h.interest);
+    added = ap (λ (r : Registrations). r.added) (sym h.interest);
+    waiters = ap (waiters_at p.tables.keys) (sym h.parked);
+  };
+  few = record {
+    added = omega (arith, ap (λ (r : Registrations). r.added) h.interest);
+    descriptions = omega (arith, ap (λ (f : Files). length f.descriptions) h.files);
+    objects = omega (arith, ap (λ (f : Files). length f.objects) h.files);
+  };
+}
+
+-- the state that contracts see is the one for which the parts stand
+pub state_is : (past : List Record) (p : Parts) (keeps : Keeps past p) → unwrap_or (run p.tables.limits opening past) opening ≡ keeps.state
+state_is past p keeps = ap (λ (o : Option State). unwrap_or o opening) keeps.leads
+
+abbrev pub record_of : CallerId → Event → Outcome → Record
+record_of caller event outcome = record { caller = caller; event = event; answer = outcome.answer; picked = outcome.picked }
+
+-- what an event does, at one state of the machine
+pub record DoesAt (s : State) (caller : ℕ) (event : Event) (outcome : Outcome) (old new : Parts) : Type 0 where
+  pub goes : Goes (refusals old.tables.limits s caller event) (change old.tables.limits s caller event outcome.picked) s outcome.answer outcome.picked new
+  pub raises : Raises (refusals old.tables.limits s caller event) (change old.tables.limits s caller event outcome.picked) outcome.raising new.tables new.clock
+  pub raising : IsRaising outcome.raising new.tables
+  pub limits : new.tables.limits ≡ old.tables.limits
+  pub grows : Grows old new
+
+pub does_at : (past : List Record) (old new : Parts) (keeps : Keeps past old) (n caller : ℕ) (event : Event) (outcome : Outcome) → n ≡ length past + 1 → DoesEvent n caller event outcome old new → DoesAt (next_event keeps.state) caller event outcome old new
+does_at past old new keeps n caller event outcome at does =
+    let s = keeps.state in
+    let begins : (next_event s).n ≡ n = ap (λ (k : ℕ). k + 1) keeps.n ∙ sym at in
+    let legal = graph_stays_legal old.tables.limits past s keeps.leads in
+    let stands : StandFor old (next_event s) = record { now = keeps.stands.now; files = keeps.stands.files; watches = keeps.stands.watches; added = keeps.stands.added; waiters = keeps.stands.waiters } in
+    record {
+      goes = does.moves (next_event s) begins (sound_begun s keeps.sound) (quiet_begun s keeps.quiet) legal stands;
+      raises = does.raises (next_event s) begins (sound_begun s keeps.sound) (quiet_begun s keeps.quiet) legal stands;
+      raising = does.raising;
+      limits = does.limits;
+      grows = does.grows;
+    }
+
+-- what follows a change in event n: what it raised is noted, the dead are taken, what was raised climbs, and marks are set
+pub record Settles (n : ℕ) (raising : Raising) (mid noted buried climbed new : Parts) : Type 0 where
+  pub coherent : AreCoherent mid
+  pub sound : SoundTables mid.tables
+  pub stirs : Stirs raising mid.tables mid.clock n mid.interest noted.interest
+  pub noted_others : noted ≡ record mid { interest = noted.interest }
+  pub burial : Burial n noted.tables noted.interest buried.tables buried.interest
+  pub parked : buried.parked ≡ noted.parked
+  pub clock : buried.clock ≡ noted.clock
+  pub coherent_buried : AreCoherent buried
+  pub sound_buried : SoundTables buried.tables
+  pub climbs : Climbs n buried.tables buried.interest climbed.interest
+  pub climbed_others : climbed ≡ record buried { interest = climbed.interest }
+  pub marks : new.parked ≡ marked_by (ready_key climbed.tables climbed.clock climbed.interest) climbed.clock climbed.parked
+  pub marked_others : new ≡ record climbed { parked = new.parked }
+
+module _ (past : List Record) (old mid noted buried climbed new : Parts) (keeps : Keeps past old) (caller : CallerId) (event : Event) (outcome : Outcome) (n : ℕ) (at : n ≡ length past + 1)
+    (does : DoesAt (next_event keeps.state) caller.0 event outcome old mid) (settles : Settles n outcome.raising mid noted buried climbed new) where
+  abbrev after : List Record
+  after = past ++ record_of caller event outcome ∷ []
+
+  burial : Burial n mid.tables noted.interest buried.tables buried.interest
+  burial = subst (λ (p : Parts). Burial n p.tables p.interest buried.tables buried.interest) settles.noted_others settles.burial
+
+  next : Leads old.tables.limits keeps.state caller.0 event outcome.answer outcome.picked n buried
+  next =
+      leads n mid noted.interest outcome.raising settles.coherent settles.sound does.raising settles.stirs
+      buried burial (settles.parked ∙ ap (λ (p : Parts). p.parked) settles.noted_others) (settles.clock ∙ ap (λ (p : Parts). p.clock) settles.noted_others) settles.sound_buried
+      old.tables.limits keeps.state caller.0 event outcome.answer outcome.picked (ap (λ (k : ℕ). k + 1) keeps.n ∙ sym at) keeps.sound keeps.quiet does.goes does.raises
+
+  leads_on : run old.tables.limits opening after ≡ Some next.to
+  leads_on = run_next old.tables.limits keeps.state next.to past (record_of caller event outcome) keeps.leads next.goes
+
+  length_is : length after ≡ length past + 1
+  length_is = length-append past (record_of caller event outcome ∷ [])
+
+  limits_left : buried.tables.limits ≡ old.tables.limits
+  limits_left = burial.buries.limits ∙ does.limits
+
+  abbrev settled : Parts
+  settled = record buried { interest = climbed.interest; parked = new.parked }
+
+  settled_is : new ≡ settled
+  settled_is = settles.marked_others ∙ ap (λ (p : Parts). record p { parked = new.parked }) settles.climbed_others
+
+  settled_keeps : Keeps after settled
+  settled_keeps = record {
+    state = next.to;
+    leads = ap (λ (l : Limits). run l opening after) limits_left ∙ leads_on;
+    n = next.n ∙ (at ∙ sym length_is);
+    sound = next.sound;
+    quiet = next.quiet;
+    stands =
+        climbed_stands n buried climbed.interest new.parked next.to settles.climbs settles.sound_buried settles.coherent_buried.placed
+        (settles.marks ∙ ap (λ (p : Parts). marked_by (ready_key p.tables p.clock p.interest) p.clock p.parked) settles.climbed_others) next.stands;
+    few = record {
+      added = omega (arith, does.grows.added, keeps.few.added, length_is, settles.climbs.added, burial.buries.added, stirs_added outcome.raising mid.tables mid.clock n mid.interest noted.interest settles.stirs);
+      descriptions = omega (arith, does.grows.descriptions, keeps.few.descriptions, length_is, burial.buries.descriptions);
+      objects = omega (arith, does.grows.objects, keeps.few.objects, length_is, burial.buries.objects);
+    };
+  }
+
+  pub keeps_next : Keeps after new
+  keeps_next = subst (λ (p : Parts). Keeps after p) (sym settled_is) settled_keeps
+
+  pub adds_next : Adds old.tables.limits caller event outcome.answer (unwrap_or (run old.tables.limits opening past) opening) (unwrap_or (run new.tables.limits opening after) opening) past after
+  adds_next =
+      let limits : new.tables.limits ≡ old.tables.limits = ap (λ (p : Parts). p.tables.limits) settled_is ∙ limits_left in
+      let now : unwrap_or (run new.tables.limits opening after) opening ≡ next.to = ap (λ (o : Option State). unwrap_or o opening) (ap (λ (l : Limits). run l opening after) limits ∙ leads_on) in
+      record {
+        picked = outcome.picked;
+        goes = ap (λ (s : State). step old.tables.limits s caller.0 event outcome.picked) (state_is past old keeps) ∙ (next.goes ∙ ap (λ (s : State). Some (outcome.answer, s)) (sym now));
+        added = refl;
+      }

@@ -1,0 +1,153 @@
+-- Calls on the object that a descriptor names.
+use Rattle.std.proofs.Common.{◌≡◌, ℕ, ℤ, Bool, false, true, List, ◌∷◌, Option, Some, None, IsSome, is_none, min, slice_index_or, slice_set, unwrap_or, refl, ap, sym, ◌∙◌, arith, subst}
+use Rattle.std.specs.Prelude.{MatchOption}
+use Rattle.std.specs.declared.alloc.Global.{Global}
+use Rattle.std.proofs.lemmas.Bool.{false≢true}
+use Rattle.std.proofs.lemmas.List.{length-take, set-get_or}
+use Rattle.std.proofs.lemmas.Option.{none-some}
+use Rattle.smallvec.specs.SmallVec.{HasRoomFor}
+use Rattle.smallvec.specs.declared.SmallVec.{SmallVec}
+use Rattle.ep_base.specs.declared.answer.Answer.{Answer}
+use Rattle.ep_base.specs.declared.call.Call.{Call}
+use Rattle.ep_base.specs.declared.call.Call.TheVariants.{GetTime, Read, SetTime, Shutdown, Write}
+use Rattle.ep_base.specs.declared.errno.Errno.{Errno}
+use Rattle.ep_base.specs.declared.errno.Errno.TheVariants.{Ebadf}
+use Rattle.ep_base.specs.declared.object.End.{End}
+use Rattle.ep_base.specs.declared.object.End.TheVariants.{First, Second}
+use Rattle.ep_machine.specs.Effect.{Effect, attempt, first, unless}
+use Rattle.ep_machine.specs.Files.{Files, Place, named_by, names_nothing, object_at, object_number, object_of, object_under, place_of, side_of, side_under, under, with_object}
+use Rattle.ep_machine.specs.Objects.{Object, counter, instance, object_effect, object_refusals, pair, pipe, plain, timer}
+use Rattle.ep_machine.specs.Tables.{affected}
+use Rattle.ep_object.specs.Memory.{asked_of, object_waiting}
+use Rattle.ep_calls.specs.Moves.{Opened, Opens, Stayed}
+use Rattle.ep_calls.specs.ObjectCall.{FitsRoom, fd_of, object_effect_of}
+use Rattle.ep_table.specs.Value.{Seen, content_of, effect_at, number_of, number_under}
+use Rattle.ep_base.specs.declared.ids.DescId.{DescId}
+use Rattle.ep_base.specs.declared.ids.Fd.{Fd}
+
+-- a refusal fits, and else what is given
+unless_fits : (refusal : Option Errno) (x : Object) (f : Effect Object) (room : SmallVec ℕ 16 Global) → FitsRoom f.0 room → FitsRoom (unless refusal x f).0 room
+unless_fits (Some e) x f room h = tt
+unless_fits None x f room h = h
+
+given_fits : (x : Object) (e : End) (now n : ℕ) (fd : ℤ) (room : SmallVec ℕ 16 Global) → HasRoomFor room 16 → HasRoomFor room (min n (object_waiting x e))
+    → FitsRoom (attempt (object_refusals x e now (Read (record { 0 = fd }) n)) x (object_effect x e now (Read (record { 0 = fd }) n))).0 room
+given_fits plain e now n fd room h i = omega (arith, h)
+given_fits (pipe p) First now n fd room h i = unless_fits (first (object_refusals (pipe p) First now (Read (record { 0 = fd }) n))) (pipe p) (object_effect (pipe p) First now (Read (record { 0 = fd }) n)) room (omega (arith, i, length-take n p.bytes))
+given_fits (pipe p) Second now n fd room h i = tt
+given_fits (pair p) First now n fd room h i = unless_fits (first (object_refusals (pair p) First now (Read (record { 0 = fd }) n))) (pair p) (object_effect (pair p) First now (Read (record { 0 = fd }) n)) room (omega (arith, i, length-take n p.first_end.queue))
+given_fits (pair p) Second now n fd room h i = unless_fits (first (object_refusals (pair p) Second now (Read (record { 0 = fd }) n))) (pair p) (object_effect (pair p) Second now (Read (record { 0 = fd }) n)) room (omega (arith, i, length-take n p.second_end.queue))
+given_fits (counter c) e now n fd room h i = unless_fits (first (object_refusals (counter c) e now (Read (record { 0 = fd }) n))) (counter c) (object_effect (counter c) e now (Read (record { 0 = fd }) n)) room (omega (arith, h))
+given_fits (timer t) e now n fd room h i = unless_fits (first (object_refusals (timer t) e now (Read (record { 0 = fd }) n))) (timer t) (object_effect (timer t) e now (Read (record { 0 = fd }) n)) room (omega (arith, h))
+given_fits instance e now n fd room h i = tt
+
+taken_fits : (x : Object) (e : End) (now : ℕ) (bytes : List ℕ) (fd : ℤ) (room : SmallVec ℕ 16 Global) → FitsRoom (attempt (object_refusals x e now (Write (record { 0 = fd }) bytes)) x (object_effect x e now (Write (record { 0 = fd }) bytes))).0 room
+taken_fits plain e now bytes fd room = tt
+taken_fits (pipe p) e now bytes fd room = unless_fits (first (object_refusals (pipe p) e now (Write (record { 0 = fd }) bytes))) (pipe p) (object_effect (pipe p) e now (Write (record { 0 = fd }) bytes)) room tt
+taken_fits (pair p) e now bytes fd room = unless_fits (first (object_refusals (pair p) e now (Write (record { 0 = fd }) bytes))) (pair p) (object_effect (pair p) e now (Write (record { 0 = fd }) bytes)) room tt
+taken_fits (counter c) e now bytes fd room = unless_fits (first (object_refusals (counter c) e now (Write (record { 0 = fd }) bytes))) (counter c) (object_effect (counter c) e now (Write (record { 0 = fd }) bytes)) room tt
+taken_fits (timer t) e now bytes fd room = tt
+taken_fits instance e now bytes fd room = tt
+
+shut_fits : (x : Object) (e : End) (now : ℕ) (fd : Fd) (room : SmallVec ℕ 16 Global) → FitsRoom (attempt (object_refusals x e now (Shutdown fd)) x (object_effect x e now (Shutdown fd))).0 room
+shut_fits plain e now fd room = tt
+shut_fits (pipe p) e now fd room = tt
+shut_fits (pair p) e now fd room = unless_fits (first (object_refusals (pair p) e now (Shutdown fd))) (pair p) (object_effect (pair p) e now (Shutdown fd)) room tt
+shut_fits (counter c) e now fd room = tt
+shut_fits (timer t) e now fd room = tt
+shut_fits instance e now fd room = tt
+
+set_fits : (x : Object) (e : End) (now : ℕ) (fd : Fd) (absolute : Bool) (value interval : ℕ) (room : SmallVec ℕ 16 Global) → FitsRoom (attempt (object_refusals x e now (SetTime fd absolute value interval)) x (object_effect x e now (SetTime fd absolute value interval))).0 room
+set_fits plain e now fd absolute value interval room = tt
+set_fits (pipe p) e now fd absolute value interval room = tt
+set_fits (pair p) e now fd absolute value interval room = tt
+set_fits (counter c) e now fd absolute value interval room = tt
+set_fits (timer t) e now fd absolute value interval room = unless_fits (first (object_refusals (timer t) e now (SetTime fd absolute value interval))) (timer t) (object_effect (timer t) e now (SetTime fd absolute value interval)) room tt
+set_fits instance e now fd absolute value interval room = tt
+
+got_fits : (x : Object) (e : End) (now : ℕ) (fd : Fd) (room : SmallVec ℕ 16 Global) → FitsRoom (attempt (object_refusals x e now (GetTime fd)) x (object_effect x e now (GetTime fd))).0 room
+got_fits plain e now fd room = tt
+got_fits (pipe p) e now fd room = tt
+got_fits (pair p) e now fd room = tt
+got_fits (counter c) e now fd room = tt
+got_fits (timer t) e now fd room = unless_fits (first (object_refusals (timer t) e now (GetTime fd))) (timer t) (object_effect (timer t) e now (GetTime fd)) room tt
+got_fits instance e now fd room = tt
+
+-- what such a call answers has room for a copy
+pub fits : (x : Object) (e : End) (now : ℕ) (call : Call) (room : SmallVec ℕ 16 Global) → IsSome (fd_of call) → HasRoomFor room 16 → HasRoomFor room (min (asked_of call) (object_waiting x e))
+    → FitsRoom (attempt (object_refusals x e now call) x (object_effect x e now call)).0 room
+fits x e now (Read fd n) room t h i = given_fits x e now n fd.0 room h i
+fits x e now (Write fd bytes) room t h i = taken_fits x e now bytes fd.0 room
+fits x e now (Shutdown fd) room t h i = shut_fits x e now fd room
+fits x e now (SetTime fd absolute value interval) room t h i = set_fits x e now fd absolute value interval room
+fits x e now (GetTime fd) room t h i = got_fits x e now fd room
+fits x e now call room t h i = cc
+
+-- writing back what stands there changes nothing
+set_same : (xs : List (Option Object)) (k : ℕ) (x : Object) → slice_index_or xs k None ≡ Some x → slice_set xs k (Some x) ≡ xs
+set_same xs k x h = ap (λ (o : Option Object). slice_set xs k o) (sym h) ∙ set-get_or xs k None
+
+object_back : (files : Files) (place : Option Place) (x : Object) → object_at files place ≡ Some x → with_object files (object_number place) x ≡ files
+object_back files None x h = absurd (none-some x h)
+object_back files (Some place) x h = ap (λ (xs : List (Option Object)). record files { objects = xs }) (set_same files.objects place.object x h)
+
+content_is : (o : Option Object) → IsSome o → o ≡ Some (unwrap_or o plain)
+content_is None h = absurd (false≢true h)
+content_is (Some x) h = refl
+
+-- after a call on the object of a description, what stands there
+module _ (old new : Seen) (d now : ℕ) (call : Call) (answer : Answer) (lives : IsSome (object_of old.files d)) where
+  abbrev content : Object
+  content = content_of old.files d
+
+  abbrev side : End
+  side = side_of old.files d
+
+  abbrev effect : Effect Object
+  effect = object_effect content side now call
+
+  abbrev after : Effect Object → Seen
+  after f = record old { files = with_object old.files (object_number (place_of old.files d)) f.1 }
+
+  opens_by : (refusal : Option Errno) → answer ≡ (unless refusal content effect).0 → new ≡ after (unless refusal content effect)
+      → MatchOption refusal (Opened effect.0 (affected old.files d effect) answer old new) (λ e. Stayed e answer old new)
+  opens_by (Some e) is tables = record {
+    answers = is;
+    tables = tables ∙ ap (λ (f : Files). record old { files = f }) (object_back old.files (place_of old.files d) content (content_is (object_of old.files d) lives));
+  }
+  opens_by None is tables = record {
+    answers = is;
+    files = ap (λ (v : Seen). v.files) tables;
+    keys = λ key k h. ap (λ (v : Seen). slice_index_or v.keys key.0 None) tables ∙ h;
+    limits = ap (λ (v : Seen). v.limits) tables;
+  }
+
+  pub opens : answer ≡ (effect_at old.files d now call).0 → new ≡ after (effect_at old.files d now call) → Opens (object_refusals content side now call) effect.0 (affected old.files d effect) answer old new
+  opens is tables = opens_by (first (object_refusals content side now call)) is tables
+
+-- what a descriptor that is found names
+pub named_some : (n : Option ℕ) → IsSome n → is_none n ≡ false
+named_some None h = absurd (false≢true h)
+named_some (Some d) h = refl
+
+pub past_first : (b : Bool) (e : Errno) (rest : List (Bool × Errno)) → b ≡ false → first ((b, e) ∷ rest) ≡ first rest
+past_first false e rest h = refl
+past_first true e rest h = absurd (false≢true (sym h))
+
+-- and so the call is one on the object of the description under its number
+module _ (old new : Seen) (p : ℕ) (fd : ℤ) (desc : DescId) (now : ℕ) (call : Call) (answer : Answer)
+    (found : number_under old desc ≡ under old.files p fd) (there : IsSome (number_under old desc)) (lives : IsSome (object_of old.files (number_of old desc))) where
+  number_is : named_by old.files p fd ≡ number_of old desc
+  number_is = ap (λ (o : Option ℕ). unwrap_or o 0) (sym found)
+
+  names_some : names_nothing old.files p fd ≡ false
+  names_some = ap (λ (o : Option ℕ). is_none o) (sym found) ∙ named_some (number_under old desc) there
+
+  pub calls_object : answer ≡ (effect_at old.files (number_of old desc) now call).0
+      → new ≡ record old { files = with_object old.files (object_number (place_of old.files (number_of old desc))) (effect_at old.files (number_of old desc) now call).1 }
+      → Opens ((names_nothing old.files p fd, Ebadf) ∷ object_refusals (object_under old.files p fd) (side_under old.files p fd) now call) (object_effect_of old.files p fd now call).0 (affected old.files (named_by old.files p fd) (object_effect_of old.files p fd now call)) answer old new
+  calls_object is tables =
+      let at : ℕ → Type 0 = λ d. MatchOption (first (object_refusals (content_of old.files d) (side_of old.files d) now call)) (Opened (object_effect (content_of old.files d) (side_of old.files d) now call).0 (affected old.files d (object_effect (content_of old.files d) (side_of old.files d) now call)) answer old new) (λ e. Stayed e answer old new) in
+      let here : at (named_by old.files p fd) = subst at (sym number_is) (opens old new (number_of old desc) now call answer lives is tables) in
+      let P : Option Errno → Type 0 = λ r. MatchOption r (Opened (object_effect_of old.files p fd now call).0 (affected old.files (named_by old.files p fd) (object_effect_of old.files p fd now call)) answer old new) (λ e. Stayed e answer old new) in
+      subst P (sym (past_first (names_nothing old.files p fd) Ebadf (object_refusals (object_under old.files p fd) (side_under old.files p fd) now call) names_some)) here

@@ -1,0 +1,79 @@
+-- A call on an object over the parts.
+use Rattle.std.proofs.Common.{◌≡◌, ◌∙◌, ℕ, List, [], IsSome, None, Option, Some, false, ap, is_none, refl, subst, sym, unwrap_or}
+use Rattle.std.proofs.lemmas.Bool.{false≢true}
+use Rattle.ep_base.specs.declared.call.Call.{Call}
+use Rattle.ep_base.specs.declared.call.Call.TheVariants.{GetTime, Read, SetTime, Shutdown, Write}
+use Rattle.ep_base.specs.declared.errno.Errno.{Errno}
+use Rattle.ep_base.specs.declared.ids.DescId.{DescId}
+use Rattle.ep_base.specs.declared.ids.Fd.{Fd}
+use Rattle.ep_base.specs.declared.object.End.{End}
+use Rattle.ep_machine.specs.Effect.{first, unless}
+use Rattle.ep_machine.specs.Files.{object_number, object_of, place_of, side_of}
+use Rattle.ep_machine.specs.Objects.{Object, object_effect, object_refusals}
+use Rattle.ep_view.specs.AtRest.{kind_of}
+use Rattle.ep_machine.specs.Refusal.{call_refusals}
+use Rattle.ep_machine.specs.Step.{call_change}
+use Rattle.ep_machine.specs.Tables.{affected}
+use Rattle.ep_view.proofs.FilesLemmas.{extends_with_object}
+use Rattle.ep_view.proofs.AtRestLemmas.{effect_kind, kind_at, kind_there}
+use Rattle.ep_calls.specs.Does.{DoesCall}
+use Rattle.ep_calls.specs.ObjectCall.{fd_of}
+use Rattle.ep_calls.specs.Parts.{AreCoherent, Grows, Parts}
+use Rattle.ep_calls.specs.declared.outcome.Outcome.{Outcome}
+use Rattle.ep_calls.specs.Moves.{Goes}
+use Rattle.ep_calls.specs.Raising.{IsRaising, Raises, RaisesByCall}
+use Rattle.ep_calls.specs.Stands.{KeepsKinds}
+use Rattle.ep_calls.proofs.ObjectRaising.{object_raises}
+use Rattle.ep_calls.proofs.Opening.{CallsObject, IsOnObject, object_called, object_keys, object_limits}
+use Rattle.ep_table.specs.Value.{Seen, Sound, content_of, effect_at, number_of, number_under}
+use Rattle.ep_calls.proofs.Keys.{under_key}
+
+pub on_object : (call : Call) (fd : Fd) → fd_of call ≡ Some fd → IsOnObject fd call
+on_object (Read f n) fd h = let e : f ≡ fd = ap (λ (o : Option Fd). unwrap_or o f) h in subst (λ (g : Fd). IsOnObject g (Read f n)) e (λ limits s caller p. (refl, refl))
+on_object (Write f bytes) fd h = let e : f ≡ fd = ap (λ (o : Option Fd). unwrap_or o f) h in subst (λ (g : Fd). IsOnObject g (Write f bytes)) e (λ limits s caller p. (refl, refl))
+on_object (Shutdown f) fd h = let e : f ≡ fd = ap (λ (o : Option Fd). unwrap_or o f) h in subst (λ (g : Fd). IsOnObject g (Shutdown f)) e (λ limits s caller p. (refl, refl))
+on_object (SetTime f absolute value interval) fd h = let e : f ≡ fd = ap (λ (o : Option Fd). unwrap_or o f) h in subst (λ (g : Fd). IsOnObject g (SetTime f absolute value interval)) e (λ limits s caller p. (refl, refl))
+on_object (GetTime f) fd h = let e : f ≡ fd = ap (λ (o : Option Fd). unwrap_or o f) h in subst (λ (g : Fd). IsOnObject g (GetTime f)) e (λ limits s caller p. (refl, refl))
+on_object call fd h = cc
+
+pub is_object_call : (call : Call) (fd : Fd) → fd_of call ≡ Some fd → IsSome (fd_of call)
+is_object_call call fd h = subst (λ (o : Option Fd). IsSome o) (sym h) refl
+
+some_not_none : {X : Type 0} (o : Option X) → IsSome o → is_none o ≡ false
+some_not_none None h = absurd (false≢true h)
+some_not_none (Some x) h = refl
+
+unless_kind : (refusal : Option Errno) (x : Object) (e : End) (now : ℕ) (call : Call) → kind_of (Some (unless refusal x (object_effect x e now call)).1) ≡ kind_of (Some x)
+unless_kind (Some error) x e now call = refl
+unless_kind None x e now call = effect_kind x e now call
+
+-- a call on an object keeps the kind of what can be watched
+pub applied_kinds : (v : Seen) (key : DescId) (now : ℕ) (call : Call) → Sound v → IsSome (number_under v key) → KeepsKinds v.files (affected v.files (number_of v key) (effect_at v.files (number_of v key) now call))
+applied_kinds v key now call sound there =
+    let f = v.files in
+    let d = number_of v key in
+    let x = content_of f d in
+    let u = under_key v.keys key there in
+    let place : IsSome (place_of f d) = subst (λ (n : ℕ). IsSome (place_of f n)) (sym (ap (λ (o : Option ℕ). unwrap_or o 0) u.is)) (sound.place key u.number u.is) in
+    (extends_with_object f (object_number (place_of f d)) (effect_at f d now call).1
+    (λ shows. unless_kind (first (object_refusals x (side_of f d) now call)) x (side_of f d) now call ∙ (kind_there (object_of f d) ∙ kind_at f (place_of f d) (some_not_none (place_of f d) place)))).shows
+
+-- so the parts do what the machine does
+pub object_does : (p : Parts) (new : Seen) (pid : ℕ) (fd : Fd) (call : Call) (outcome : Outcome) → AreCoherent p → fd_of call ≡ Some fd → CallsObject pid fd p.clock call outcome.answer p.tables new
+    → RaisesByCall p.tables new pid fd.0 p.clock call outcome.raising → outcome.picked ≡ [] → IsRaising outcome.raising new → Grows p (record p { tables = new })
+    → (n caller : ℕ) → DoesCall n caller pid call outcome p (record p { tables = new })
+object_does p new pid fd call outcome h on calls raises picked is grows n caller =
+    let limits = p.tables.limits in
+    let here = on_object call fd on in
+    record {
+      moves = λ s at sound quiet legal stands.
+          let P : List ℕ → Type 0 = λ ks. Goes (call_refusals limits s pid call) (call_change limits s caller pid call ks) s outcome.answer ks (record p { tables = new }) in
+          subst P (sym picked) (object_called p.tables new pid fd p.clock call outcome.answer calls p.graph limits p.interest s caller h.linked h.placed stands refl here);
+      raises = λ s at sound quiet legal stands.
+          let P : List ℕ → Type 0 = λ ks. Raises (call_refusals limits s pid call) (call_change limits s caller pid call ks) outcome.raising new p.clock in
+          subst P (sym picked) (object_raises p.tables new pid fd p.clock call outcome.raising raises limits p.interest s caller stands here);
+      raising = is;
+      limits = object_limits p.tables new pid fd p.clock call outcome.answer calls;
+      keys = object_keys p.tables new pid fd p.clock call outcome.answer calls;
+      grows = grows;
+    }

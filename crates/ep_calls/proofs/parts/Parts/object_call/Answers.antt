@@ -1,0 +1,50 @@
+use Rattle.std.proofs.Common.{◌∙◌, IsSome, ap, arith, refl, slice_index_or, None, subst, sym}
+use Rattle.std.proofs.Math.ListN.{length-set}
+use Rattle.ep_base.specs.declared.answer.Answer.{Answer}
+use Rattle.ep_machine.specs.Files.{side_of}
+use Rattle.ep_calls.specs.Parts.{Grows, Parts}
+use Rattle.ep_calls.proofs.ObjectLemmas.{applied_kinds, is_object_call, object_does}
+use Rattle.ep_calls.proofs.PartsLemmas.{coherent_kept}
+use Rattle.ep_calls.specs.ObjectCall.{FitsRoom}
+use Rattle.ep_calls.specs.Stands.{KeepsKinds}
+use Rattle.ep_calls.proofs.Keys.{object_there}
+use Rattle.ep_calls.specs.Raising.{IsRaising, RaisesByCall}
+use Rattle.ep_calls.specs.declared.raising.Raising.{Raising}
+use Rattle.ep_calls.proofs.Opening.{CallsObject}
+use Rattle.ep_calls.proofs.ObjectCalling.{calls_object, fits}
+use Rattle.ep_calls.proofs.ObjectRaising.{raises_object}
+use Rattle.ep_table.specs.Value.{Seen, content_of, holds_of, number_of, number_under}
+use Rattle.ep_calls.proofs.parts.Parts.object_call.Goals as goal
+
+pub answer_copy-recorded-requires-clause-fits : goal.answer_copy-recorded-requires-clause-fits
+answer_copy-recorded-requires-clause-fits c =
+    let v = c.self.inside.tables in
+    let d = number_of v c.in-Some.desc in
+    let room = c.in_ok-room.room in
+    subst (λ (a : Answer). FitsRoom a room) (sym c.in_ok-answer.ensures.answer)
+    (fits (content_of v.files d) (side_of v.files d) c.self.inside.clock c.args.call.now room (is_object_call c.args.call.now c.args.fd c.requires) c.in_ok-room.ensures.inline c.in_ok-room.ensures.room)
+
+pub invariant_of-self-2 : goal.invariant_of-self-2
+invariant_of-self-2 c =
+    let k = c.self.inside in
+    let p : Parts = record { tables = k.tables; interest = k.interest; graph = k.graph; parked = k.waiters; clock = k.clock } in
+    let same = c.in_ok-answer.ensures.files in
+    coherent_kept p c.apply.new.self c.self.invariant (λ key d h. ap (λ (v : Seen). slice_index_or v.keys key.0 None) same ∙ h) (subst (λ (v : Seen). KeepsKinds k.tables.files v.files) (sym same) (applied_kinds k.tables c.in-Some.desc k.clock c.args.call.now c.known.ensures c.in-Some.ensures.live))
+    (λ d. ap (λ (v : Seen). holds_of v d) same)
+
+pub returns-clause-ok : goal.returns-clause-ok
+returns-clause-ok c =
+    let k = c.self.inside in
+    let v = k.tables in
+    let new = c.apply.new.self in
+    let p : Parts = record { tables = v; interest = k.interest; graph = k.graph; parked = k.waiters; clock = k.clock } in
+    let e = c.in_ok-answer.ensures in
+    let found = c.in-Some.ensures in
+    let calls = calls_object v new c.args.pid.0 c.args.fd.0 c.in-Some.desc k.clock c.args.call.now c.in_ok-answer.answer found.number found.live (object_there v c.in-Some.desc c.known.ensures found.live) e.answer e.files in
+    let raises = raises_object v c.in-Some.desc k.clock c.args.call.now c.in_ok-answer.raised _ refl new c.args.pid.0 c.args.fd.0 found.number found.live (ap (λ (t : Seen). t.keys) e.files) (ap (λ (t : Seen). t.files.descriptions) e.files) e.raised in
+    let lives : IsSome (number_under new c.in-Some.desc) = subst (λ (t : Seen). IsSome (number_under t c.in-Some.desc)) (sym e.files) found.live in
+    let o = c.copied.ensures in
+    rw (← c.self.view_is) (object_does p new c.args.pid.0 c.args.fd c.args.call.now c.copied.result c.self.invariant c.requires
+    (subst (λ (a : Answer). CallsObject c.args.pid.0 c.args.fd k.clock c.args.call.now a v new) (sym o.answer) calls)
+    (subst (λ (r : Raising). RaisesByCall v new c.args.pid.0 c.args.fd.0 k.clock c.args.call.now r) (sym o.raising) raises) o.picked (subst (λ (r : Raising). IsRaising r new) (sym o.raising) lives)
+    (subst (λ (t : Seen). Grows p (record p { tables = t })) (sym e.files) (record { added = omega arith; descriptions = omega arith; objects = rw length-set (omega arith) })))

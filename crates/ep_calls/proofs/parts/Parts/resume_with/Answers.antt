@@ -1,0 +1,84 @@
+use Rattle.std.proofs.Common.{◌≡◌, ◌∙◌, ◌==◌, ◌⊎◌, Some, false, true, All, List, ap, inl, inr, length, map, not, refl, subst, sym}
+use Rattle.std.specs.List.{find}
+use Rattle.std.proofs.lemmas.List.Elements.{All-filter}
+use Rattle.ep_base.specs.declared.answer.Answer.TheVariants.{Still}
+use Rattle.ep_base.specs.declared.call.Event.TheVariants.{Resume}
+use Rattle.ep_machine.specs.Refusal.{refusals}
+use Rattle.ep_machine.specs.State.{Waiter}
+use Rattle.ep_machine.specs.Waits.{is_due, resume}
+use Rattle.ep_machine.specs.Watches.{number_in}
+use Rattle.ep_view.proofs.WaiterLemmas.{unmarked_part}
+use Rattle.ep_park.specs.Waiters.{is_caller, parked}
+use Rattle.ep_calls.specs.Parts.{Parts}
+use Rattle.ep_calls.specs.Stands.{IsPlaced}
+use Rattle.ep_calls.specs.Wait.{AreKeyed, IsPick}
+use Rattle.ep_calls.proofs.Going.{goes_told}
+use Rattle.ep_calls.proofs.Held.{held_same, place, placed_same}
+use Rattle.ep_calls.proofs.Parked.{found_all}
+use Rattle.ep_calls.proofs.Resumed.{goes_left, goes_unmarked}
+use Rattle.ep_calls.proofs.Waited.{coherent_parked, coherent_reported, resume_does}
+use Rattle.ep_calls.proofs.parts.Parts.resume_with.Goals as goal
+use Rattle.ep_calls.proofs.parts.Parts.resume_with.Goals.{else-is_empty-via-then-is_empty+else-not-is_due, else-is_empty-via-else-is_empty}
+
+pub invariant_of-self : goal.invariant_of-self
+invariant_of-self c =
+    let k = c.self.inside in
+    let h = c.self.invariant in
+    let same = ap (map place) c.unmark.ensures ∙ unmarked_part place (λ w b. refl) c.args.caller.0 k.waiters in
+    record {
+      linked = h.linked;
+      watched = h.watched;
+      nested = h.nested;
+      placed = placed_same k.waiters c.unmark.new.self same k.tables.keys h.placed;
+      held = held_same k.waiters c.unmark.new.self same k.tables h.held;
+      clock = h.clock;
+    }
+
+pub returns-then-not-is_due-clause-ok : goal.returns-then-not-is_due-clause-ok
+returns-then-not-is_due-clause-ok c =
+    let k = c.self.inside in
+    let p : Parts = record { tables = k.tables; interest = k.interest; graph = k.graph; parked = k.waiters; clock = k.clock } in
+    let new : Parts = record p { parked = c.unmark.new.self } in
+    let w = c.args.waiter in
+    let caller = c.args.caller.0 in
+    let chosen = c.args.chosen.now in
+    let o = c.settled.ensures in
+    let is = subst (λ (q : Parts). find (is_caller caller) q.parked ≡ Some (parked caller w)) (sym c.self.view_is) c.requires.parked in
+    let keyed = subst (λ (q : Parts). AreKeyed q.tables q.clock q.interest chosen) (sym c.self.view_is) c.requires.keyed in
+    let placed = found_all (IsPlaced p.tables.keys) caller p.parked (parked caller w) is c.self.invariant.placed in
+    let none : (length chosen == 0) ≡ true = sym c.if-is_empty.ensures in
+    let early : is_due p.clock w.deadline ≡ false = sym c.is_due.ensures ∙ c.if-not-is_due.true in
+    rw (← c.self.view_is) (resume_does (IsPick p.tables w.instance (number_in w.max) chosen) c.args.step caller c.settled.result p new o.raising refl refl refl refl (λ s at sound quiet legal stands pick.
+    goes_told (refusals p.tables.limits s caller Resume) (resume s caller) s c.settled.result.answer Still c.settled.result.picked new o.answer o.picked
+    (goes_unmarked p.graph p.tables p.interest p.parked p.clock caller p.tables.limits s stands w is c.args.step chosen at legal placed keyed pick c.requires.marked new.parked none early c.unmark.ensures)))
+
+pub invariant_of-self-2 : goal.invariant_of-self-2
+invariant_of-self-2 c =
+    let k = c.self.inside in
+    let p : Parts = record { tables = k.tables; interest = k.interest; graph = k.graph; parked = k.waiters; clock = k.clock } in
+    let o = c.in_ok-outcome.outcome in
+    let e = c.leave.ensures in
+    let mid : Parts = record p { interest = c.report.new.interest } in
+    let gone = subst (λ (ws : List Waiter). All (IsPlaced k.tables.keys) ws) (sym e.left) (All-filter (λ u. not (is_caller c.args.caller.0 u)) (IsPlaced k.tables.keys) k.waiters c.self.invariant.placed) in
+    coherent_parked mid c.leave.new.tables c.leave.new.waiters (coherent_reported p mid.interest c.args.step c.args.chosen.now o.answer o.picked c.self.invariant c.in_ok-outcome.ensures.ok) e.files e.keys gone e.held
+
+pub returns-clause-ok : goal.returns-clause-ok
+returns-clause-ok c =
+    let k = c.self.inside in
+    let p : Parts = record { tables = k.tables; interest = k.interest; graph = k.graph; parked = k.waiters; clock = k.clock } in
+    let new : Parts = record p { tables = c.leave.new.tables; interest = c.report.new.interest; parked = c.leave.new.waiters } in
+    let w = c.args.waiter in
+    let caller = c.args.caller.0 in
+    let chosen = c.args.chosen.now in
+    let o = c.in_ok-outcome.outcome in
+    let told = c.in_ok-outcome.ensures.ok in
+    let e = c.leave.ensures in
+    let is = subst (λ (q : Parts). find (is_caller caller) q.parked ≡ Some (parked caller w)) (sym c.self.view_is) c.requires.parked in
+    let keyed = subst (λ (q : Parts). AreKeyed q.tables q.clock q.interest chosen) (sym c.self.view_is) c.requires.keyed in
+    let placed = found_all (IsPlaced p.tables.keys) caller p.parked (parked caller w) is c.self.invariant.placed in
+    let why : ((length chosen == 0) ≡ false) ⊎ (is_due p.clock w.deadline ≡ true) = elim c.else-is_empty.branch [
+      | else-is_empty-via-then-is_empty+else-not-is_due b ↦ inr (sym b.is_due.ensures ∙ b.if-not-is_due.false)
+      | else-is_empty-via-else-is_empty b ↦ inl (sym c.is_empty.ensures ∙ b.if-is_empty.false)
+    ] in
+    rw (← c.self.view_is) (resume_does (IsPick p.tables w.instance (number_in w.max) chosen) c.args.step caller o p new c.in_ok-outcome.ensures.raising e.files e.keys e.limits told.added (λ s at sound quiet legal stands pick.
+    goes_left p.graph p.tables p.interest p.parked p.clock caller p.tables.limits s stands w is c.args.step chosen at legal placed keyed pick c.requires.marked new.interest o.answer o.picked new.tables new.parked told why e.files e.keys e.left))

@@ -1,0 +1,76 @@
+use Rattle.std.proofs.Common.{◌≡◌, ◌∙◌, ◌==◌, ◌⊎◌, false, true, SFits, ap, inl, inr, length, of_z, pos, refl, rules, subst, sym, to_z, w32, w64}
+use Rattle.std.proofs.lemmas.Int.{to_z-of_z}
+use Rattle.ep_base.specs.declared.answer.Answer.TheVariants.{Parked}
+use Rattle.ep_machine.specs.Files.{named_by}
+use Rattle.ep_machine.specs.Refusal.{wait_refusals}
+use Rattle.ep_machine.specs.Waits.{wait}
+use Rattle.ep_machine.specs.Watches.{number_in}
+use Rattle.ep_calls.specs.Parts.{Parts}
+use Rattle.ep_calls.specs.Wait.{AreKeyed, IsPick, Waits}
+use Rattle.ep_calls.proofs.Going.{goes_told}
+use Rattle.ep_calls.proofs.Waited.{coherent_parked, coherent_reported, goes_parked, goes_reported, not_dying, parked_waiting, placed_waiting, wait_does}
+use Rattle.ep_calls.proofs.parts.Parts.wait_with.Goals as goal
+
+pub invariant_of-self-then-not-is_empty : goal.invariant_of-self-then-not-is_empty
+invariant_of-self-then-not-is_empty c =
+    let k = c.self.inside in
+    let p : Parts = record { tables = k.tables; interest = k.interest; graph = k.graph; parked = k.waiters; clock = k.clock } in
+    let o = c.in_ok-outcome.outcome in
+    coherent_reported p c.report.new.interest c.args.step c.args.chosen.now o.answer o.picked c.self.invariant c.in_ok-outcome.ensures.ok
+
+pub returns-then-not-is_empty-clause-ok : goal.returns-then-not-is_empty-clause-ok
+returns-then-not-is_empty-clause-ok c =
+    let k = c.self.inside in
+    let p : Parts = record { tables = k.tables; interest = k.interest; graph = k.graph; parked = k.waiters; clock = k.clock } in
+    let new : Parts = record p { interest = c.report.new.interest } in
+    let x = c.args.args in
+    let chosen = c.args.chosen.now in
+    let o = c.in_ok-outcome.outcome in
+    let told = c.in_ok-outcome.ensures.ok in
+    let of = subst (λ (q : Parts). Waits q.tables x c.args.instance) (sym c.self.view_is) c.requires.waits in
+    let keyed = subst (λ (q : Parts). AreKeyed q.tables q.clock q.interest chosen) (sym c.self.view_is) c.requires.keyed in
+    let time_fits : SFits w64 x.timeout = search rules in
+    let why : ((length chosen == 0) ≡ false) ⊎ (x.timeout ≡ pos 0) = elim c.then-not-is_empty.either [
+      | inl some ↦ inl (sym c.is_empty.ensures ∙ some)
+      | inr none ↦ inr (sym (to_z-of_z w64 x.timeout time_fits) ∙ ap (to_z w64) none.1)
+    ] in
+    rw (← c.self.view_is) (wait_does (IsPick p.tables c.args.instance (number_in x.max) chosen) c.args.step c.args.caller.0 o p new c.in_ok-outcome.ensures.raising refl refl refl told.added x (λ s at sound quiet legal stands pick.
+    goes_reported p.tables x c.args.instance of p.graph p.clock p.interest c.args.step chosen keyed c.args.caller.0 s at legal stands pick new.interest o.answer o.picked told why))
+
+pub park-requires-clause-used : goal.park-requires-clause-used
+park-requires-clause-used c =
+    let k = c.self.inside in
+    let of = subst (λ (q : Parts). Waits q.tables c.args.args c.args.instance) (sym c.self.view_is) c.requires.waits in
+    not_dying k.tables c.args.args.pid.0 c.args.args.epfd.0 c.args.instance c.known.ensures of.named of.lives
+
+pub invariant_of-self-2 : goal.invariant_of-self-2
+invariant_of-self-2 c =
+    let k = c.self.inside in
+    let p : Parts = record { tables = k.tables; interest = k.interest; graph = k.graph; parked = k.waiters; clock = k.clock } in
+    let x = c.args.args in
+    let of = subst (λ (q : Parts). Waits q.tables x c.args.instance) (sym c.self.view_is) c.requires.waits in
+    let max_fits : SFits w32 x.max = search rules in
+    let time_fits : SFits w64 x.timeout = search rules in
+    let e = c.in_ok-park.ensures in
+    let more = parked_waiting k.waiters c.park.new.waiters c.args.caller.0 x c.args.instance k.clock (to_z w32 (of_z w32 x.max)) (to_z w64 (of_z w64 x.timeout)) c.deadline.result (to_z-of_z w32 x.max max_fits) (to_z-of_z w64 x.timeout time_fits) c.deadline.ensures e.parked in
+    coherent_parked p c.park.new.tables c.park.new.waiters c.self.invariant e.files e.keys (placed_waiting k.tables k.waiters c.park.new.waiters c.args.caller.0 x c.args.instance k.clock of c.self.invariant.placed more) e.held
+
+pub returns-clause-ok : goal.returns-clause-ok
+returns-clause-ok c =
+    let k = c.self.inside in
+    let p : Parts = record { tables = k.tables; interest = k.interest; graph = k.graph; parked = k.waiters; clock = k.clock } in
+    let new : Parts = record p { tables = c.park.new.tables; parked = c.park.new.waiters } in
+    let x = c.args.args in
+    let caller = c.args.caller.0 in
+    let chosen = c.args.chosen.now in
+    let e = c.in_ok-park.ensures in
+    let o = c.settled.ensures in
+    let of = subst (λ (q : Parts). Waits q.tables x c.args.instance) (sym c.self.view_is) c.requires.waits in
+    let keyed = subst (λ (q : Parts). AreKeyed q.tables q.clock q.interest chosen) (sym c.self.view_is) c.requires.keyed in
+    let max_fits : SFits w32 x.max = search rules in
+    let time_fits : SFits w64 x.timeout = search rules in
+    let none : (length chosen == 0) ≡ true = sym c.is_empty.ensures ∙ c.if-not-is_empty.false in
+    let more = parked_waiting k.waiters new.parked caller x c.args.instance k.clock (to_z w32 (of_z w32 x.max)) (to_z w64 (of_z w64 x.timeout)) c.deadline.result (to_z-of_z w32 x.max max_fits) (to_z-of_z w64 x.timeout time_fits) c.deadline.ensures e.parked in
+    rw (← c.self.view_is) (wait_does (IsPick p.tables c.args.instance (number_in x.max) chosen) c.args.step caller c.settled.result p new o.raising e.files e.keys e.limits refl x (λ s at sound quiet legal stands pick.
+    goes_told (wait_refusals s x.pid.0 x.epfd.0 x.max) (λ ks. wait s caller x.pid.0 (named_by s.files x.pid.0 x.epfd.0) (number_in x.max) x.timeout ks) s c.settled.result.answer Parked c.settled.result.picked new o.answer o.picked
+    (goes_parked p.tables x c.args.instance of p.graph p.clock p.interest c.args.step chosen keyed caller s at legal stands pick new.tables new.parked none (λ z. c.if-args-eq0.false (ap (of_z w64) z)) e.files e.keys more)))

@@ -1,0 +1,33 @@
+use Rattle.std.proofs.Common.{◌≡◌, ℕ, pos, Option, false, slice_index_or, List, [], ◌∷◌, None, get_or, map, take, refl, sym, ap, ◌∙◌, unwrap_or}
+use Rattle.std.proofs.lemmas.List.{map_more}
+use Rattle.ep_interest.specs.declared.entry.Entry.{Entry}
+use Rattle.ep_calls.specs.Wait.{with_report, numbers_of}
+use Rattle.ep_calls.specs.declared.wait.Reportable.{Reportable}
+use Rattle.ep_calls.proofs.Choosing.{noted_more, noted_none}
+use Rattle.ep_calls.proofs.report.note.Goals as goal
+
+pub loop-x-init : goal.loop-x-init
+loop-x-init c = record { entries = sym (noted_none c.args.step c.args.interest.now.entries); keys = refl; added = refl }
+
+abbrev none : Reportable
+none = record { id = record { 0 = 0 }; entry = record { number = 0; instance = record { 0 = 0 }; fd = record { 0 = pos 0 }; desc = record { 0 = 0 }; mask = record { 0 = 0 }; tag = 0; armed = false; seen = None; rep = 0; from = 0 }; bits = record { 0 = 0 } }
+
+pub loop-x-preserved : goal.loop-x-preserved
+loop-x-preserved c = record {
+  entries =
+      let i = c.loop-x.x-index in
+      let xs = c.args.chosen.now in
+      let x : Reportable = get_or xs i none in
+      let n = c.args.step in
+      let ks = numbers_of (take i xs) in
+      let number : unwrap_or (slice_index_or c.loop-x.interest.keys x.id.0 None) 0 ≡ x.entry.number =
+      ap (λ (keys : List (Option ℕ)). unwrap_or (slice_index_or keys x.id.0 None) 0) c.loop-x.invariant.keys
+      ∙ ap (λ (o : Option ℕ). unwrap_or o 0) (c.requires i none c.loop-x-test.true) in
+      c.note_one.ensures.entries
+      ∙ (ap (λ (k : ℕ). map (with_report n (k ∷ [])) c.loop-x.interest.entries) number
+      ∙ (ap (λ (ys : List Entry). map (with_report n (x.entry.number ∷ [])) ys) c.loop-x.invariant.entries
+      ∙ (noted_more n x.entry.number ks c.args.interest.now.entries
+      ∙ ap (λ (ms : List ℕ). map (with_report n ms) c.args.interest.now.entries) (sym (map_more (λ (y : Reportable). y.entry.number) xs i none c.loop-x-test.true)))));
+  keys = c.note_one.ensures.keys ∙ c.loop-x.invariant.keys;
+  added = c.note_one.ensures.added ∙ c.loop-x.invariant.added;
+}

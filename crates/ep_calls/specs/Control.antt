@@ -1,0 +1,100 @@
+-- The refusals of epoll_ctl in three parts: what its arguments name, the operation, and the interest set.
+use Rattle.std.specs.List.{list_any}
+use Rattle.std.specs.Prelude.{◌≡◌, Bool, false, true, if◌then◌else◌, IsSome, List, MatchBool, None, [], filter, length, map, nat_le, not, pos, ℕ, ℤ, ◌&&◌, ◌++◌, ◌+◌, ◌==◌, ◌||◌, ◌∷◌}
+use Rattle.ep_base.specs.declared.answer.Answer.{Answer}
+use Rattle.ep_base.specs.declared.answer.Answer.TheVariants.{Done, Refused}
+use Rattle.ep_base.specs.declared.call.Call.{Call}
+use Rattle.ep_base.specs.declared.call.Call.TheVariants.{EpollCtl}
+use Rattle.ep_base.specs.declared.errno.Errno.{Errno}
+use Rattle.ep_base.specs.declared.errno.Errno.TheVariants.{Ebadf, Eexist, Einval, Eloop, Enoent, Enospc, Eperm}
+use Rattle.ep_base.specs.declared.mask.Mask.{Mask}
+use Rattle.ep_base.specs.declared.ids.Fd.{Fd}
+use Rattle.ep_interest.specs.Registrations.{Registrations, has_key, is_other, modified, new_entry}
+use Rattle.ep_interest.specs.declared.entry.Entry.{Entry}
+use Rattle.ep_machine.specs.Bits.{EXCLUSIVE, has_bit}
+use Rattle.ep_machine.specs.Effect.{first}
+use Rattle.ep_machine.specs.Files.{Files, named_by, names_nothing, object_under, under}
+use Rattle.ep_machine.specs.Objects.{is_instance, is_plain}
+use Rattle.ep_machine.specs.Watches.{is_add, is_del, is_legal, is_mod}
+use Rattle.ep_nest.specs.Links.{edges}
+use Rattle.ep_nest.specs.declared.link.Link.{Link}
+use Rattle.ep_calls.specs.Climb.{is_nested_key}
+use Rattle.ep_calls.specs.Readiness.{entry_shows, readiness}
+use Rattle.ep_calls.specs.declared.raising.Raising.{Raising}
+use Rattle.ep_calls.specs.declared.raising.Raising.TheVariants.{Instance, Nowhere}
+use Rattle.ep_table.specs.Value.{Seen, number_under}
+use Rattle.ep_calls.specs.declared.control.Control.{Control}
+use Rattle.ep_calls.specs.declared.control.Named.{Named}
+use Rattle.ep_calls.specs.declared.control.Operation.{Operation}
+use Rattle.ep_calls.specs.declared.control.Operation.TheVariants.{Add, Delete, Modify}
+
+-- the call with these arguments
+abbrev pub control_call : Control → Call
+control_call args = EpollCtl args.epfd args.op args.fd args.mask args.tag
+
+abbrev pub naming_refusals : Files → ℕ → ℤ → ℤ → List (Bool × Errno)
+naming_refusals files p epfd fd =
+    (names_nothing files p epfd, Ebadf)
+    ∷ (names_nothing files p fd, Ebadf)
+    ∷ (is_plain (object_under files p fd), Eperm)
+    ∷ (not (is_instance (object_under files p epfd)) || named_by files p epfd == named_by files p fd, Einval) ∷ []
+
+-- the operation or the mask is not accepted
+abbrev pub is_refused_op : ℤ → ℕ → Bool
+is_refused_op op mask = not (is_add op || is_del op || is_mod op) || not (is_del op) && has_bit mask EXCLUSIVE
+
+-- where the operation and the mask are accepted; `deep` says that the graph of instances would not be legal
+abbrev pub room_refusals : Bool → Bool → Bool → ℕ → ℕ → List (Bool × Errno)
+room_refusals adds there deep watches count = (not adds && not there, Enoent) ∷ (adds && there, Eexist) ∷ (adds && deep, Eloop) ∷ (adds && nat_le watches count, Enospc) ∷ []
+
+abbrev pub code_of : Operation → ℤ
+code_of Add = pos 1
+code_of Delete = pos 2
+code_of Modify = pos 3
+
+-- with the registration of number k there
+abbrev pub Alters : Operation → ℕ → Mask → ℕ → Registrations → Registrations → Answer → Type 0
+Alters Add k mask tag old new answer = (answer ≡ Refused Eexist) × (new ≡ old)
+Alters Delete k mask tag old new answer = (answer ≡ Done) × (new.entries ≡ filter (is_other k) old.entries) × (new.added ≡ old.added)
+Alters Modify k mask tag old new answer = (answer ≡ Done) × (new.entries ≡ map (modified k mask tag) old.entries) × (new.added ≡ old.added)
+
+-- with no registration there; `deep` says that its link would make the graph of instances illegal
+abbrev pub Enters : Operation → Bool → ℕ → Entry → Registrations → Registrations → Answer → Type 0
+Enters Add deep watches x old new answer =
+    MatchBool deep ((answer ≡ Refused Eloop) × (new ≡ old))
+    (MatchBool (nat_le watches (length old.entries)) ((answer ≡ Refused Enospc) × (new ≡ old)) ((answer ≡ Done) × (new.entries ≡ old.entries ++ x ∷ []) × (new.added ≡ old.added + 1)))
+Enters Delete deep watches x old new answer = (answer ≡ Refused Enoent) × (new ≡ old)
+Enters Modify deep watches x old new answer = (answer ≡ Refused Enoent) × (new ≡ old)
+
+-- the registration that is added next
+abbrev pub next_entry : Registrations → Named → Control → Entry
+next_entry r named args = new_entry (r.added + 1) named.instance args.fd named.desc args.mask args.tag
+
+-- its link would make the graph of instances illegal
+abbrev pub is_deep_at : Seen → List Link → Named → Bool
+is_deep_at tables graph named = is_nested_key tables named.desc && not (is_legal ((named.instance.0, named.desc.0) ∷ edges graph))
+
+-- IN at the instance, where the registration with this key is reportable
+abbrev pub raising_of_ctl : Seen → ℕ → Registrations → Named → Fd → Raising
+raising_of_ctl tables now r named fd = if list_any (entry_shows (readiness tables now r) tables now) (filter (has_key named.instance fd named.desc) r.entries) then Instance named.instance else Nowhere
+
+abbrev pub is_done : Answer → Bool
+is_done Done = true
+is_done a = false
+
+-- the keys of what the arguments name, none of which is refused
+pub record Names (tables : Seen) (p : ℕ) (epfd fd : ℤ) (named : Named) : Type 0 where
+  pub accepted : first (naming_refusals tables.files p epfd fd) ≡ None
+  pub instance : number_under tables named.instance ≡ under tables.files p epfd
+  pub desc : number_under tables named.desc ≡ under tables.files p fd
+  pub instance_lives : IsSome (number_under tables named.instance)
+  pub desc_lives : IsSome (number_under tables named.desc)
+
+-- what the call raises with an answer: where it is done, the registration is looked at
+abbrev pub raising_after : Answer → Seen → ℕ → Registrations → Named → Fd → Raising
+raising_after answer tables now r named fd = if is_done answer then raising_of_ctl tables now r named fd else Nowhere
+
+-- an addition by the graph of instances, and in the limits
+abbrev pub EntersAt : Operation → Seen → List Link → Named → Control → Registrations → Registrations → Answer → Type 0
+EntersAt operation tables graph named args old new answer =
+    Enters operation (is_deep_at tables graph named) tables.limits.watches (next_entry old named args) old new answer

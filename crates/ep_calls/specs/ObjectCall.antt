@@ -1,0 +1,42 @@
+-- What a call on an object answers, and the room for a copy of it.
+use Rattle.std.specs.Prelude.{None, Option, Some, length, ℕ, ℤ}
+use Rattle.ep_base.specs.declared.ids.Fd.{Fd}
+use Rattle.std.specs.declared.alloc.Global.{Global}
+use Rattle.smallvec.specs.SmallVec.{HasRoomFor}
+use Rattle.smallvec.specs.declared.SmallVec.{SmallVec}
+use Rattle.ep_base.specs.declared.answer.Answer.{Answer}
+use Rattle.ep_base.specs.declared.answer.Answer.TheVariants.{Bytes, Done, Num, Refused, Time}
+use Rattle.ep_base.specs.declared.call.Call.{Call}
+use Rattle.ep_base.specs.declared.call.Call.TheVariants.{GetTime, Read, SetTime, Shutdown, Write}
+use Rattle.ep_machine.specs.Effect.{Effect}
+use Rattle.ep_base.specs.declared.ids.DescId.{DescId}
+use Rattle.ep_machine.specs.Files.{Files, object_under, side_of, side_under}
+use Rattle.ep_object.specs.Memory.{object_waiting}
+use Rattle.ep_table.specs.Value.{Seen, content_of, number_of}
+use Rattle.ep_machine.specs.Objects.{Object, object_effect}
+
+-- the descriptor whose object such a call is on
+abbrev pub fd_of : Call → Option Fd
+fd_of (Read fd n) = Some fd
+fd_of (Write fd bytes) = Some fd
+fd_of (Shutdown fd) = Some fd
+fd_of (SetTime fd absolute value interval) = Some fd
+fd_of (GetTime fd) = Some fd
+fd_of call = None
+
+-- what it gives where it isn't refused
+abbrev pub object_effect_of : Files → ℕ → ℤ → ℕ → Call → Effect Object
+object_effect_of files p fd now call = object_effect (object_under files p fd) (side_under files p fd) now call
+
+-- an answer of such a call, with room for its bytes
+abbrev pub FitsRoom : Answer → SmallVec ℕ 16 Global → Type 0
+FitsRoom (Bytes bytes) room = HasRoomFor room (length bytes)
+FitsRoom (Num k) room = Unit {0}
+FitsRoom (Time value interval) room = Unit {0}
+FitsRoom (Refused e) room = Unit {0}
+FitsRoom Done room = Unit {0}
+FitsRoom answer room = ⊥
+
+-- how many bytes wait to be read at a description
+abbrev pub waiting_at : Seen → DescId → ℕ
+waiting_at tables desc = object_waiting (content_of tables.files (number_of tables desc)) (side_of tables.files (number_of tables desc))

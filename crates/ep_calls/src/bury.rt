@@ -1,0 +1,47 @@
+//! The end of an event: descriptions that nothing names die, their registrations go, and what that raises is noted.
+ghost use Rattle.std.specs.Prelude.{◌≡◌, []};
+ghost use Rattle.ep_calls.specs.Burial.{Buries, Burial};
+ghost use Rattle.ep_calls.specs.Climb.{KeepsLinks};
+ghost use Rattle.ep_calls.specs.Stands.{AreLinked};
+
+use crate::Parts;
+use crate::raising::{at_end, other_end, raise_there};
+use ep_interest::Interest;
+use ep_nest::Graph;
+use ep_table::Tables;
+
+/// Ends the descriptions that wait for it, one after another.
+fn end_each(tables: &mut Tables, interest: &mut Interest, graph: &mut Graph, step: u64)
+    requires { AreLinked tables.old interest.old }
+    ensures buries { Buries step tables.old interest.old tables.new interest.new }
+    ensures none { tables.new.dying ≡ [] }
+    ensures nested { KeepsLinks interest.old graph.old interest.new graph.new }
+{
+    loop {
+        tables.known();
+        let Some(dead) = tables.take_dead() else {
+            return;
+        };
+        interest.purge(dead.desc);
+        graph.purge(dead.desc);
+        raise_there(
+            interest,
+            dead.other,
+            at_end(dead.raised, other_end(dead.end)),
+            step,
+        );
+    }
+}
+
+impl Parts {
+    /// Ends each description that no descriptor names any more, and takes its registrations and those in it away.
+    pub fn bury(&mut self, step: u64)
+        ensures burial { Burial step self.old.tables self.old.interest self.new.tables self.new.interest }
+        ensures parked { self.new.parked ≡ self.old.parked }
+        ensures clock { self.new.clock ≡ self.old.clock }
+    {
+        self.tables.known();
+        end_each(&mut self.tables, &mut self.interest, &mut self.graph, step);
+        self.tables.known();
+    }
+}

@@ -1,0 +1,29 @@
+//! The simulated clock.
+ghost use Rattle.std.specs.Prelude.{◌≡◌, []};
+ghost use Rattle.ep_calls.specs.Raising.{IsRaising};
+ghost use Rattle.ep_calls.specs.Clock.{Sets, Ticks};
+
+use crate::{Outcome, Parts};
+use ep_base::{Answer, Errno};
+use crate::raising::Raising;
+
+/// The last moment of the clock.
+const LAST_MOMENT: u64 = 1_000_000_000_000;
+
+impl Parts {
+    /// The clock goes on by `n` milliseconds. EINVAL, and it stays, where that takes it past its last moment.
+    pub fn tick(&mut self, n: u64) -> Outcome
+        ensures ticks { Ticks self.old.clock n self.new.clock result.answer }
+        ensures picked { result.picked ≡ [] }
+        ensures raising { Sets self.old.clock n result.raising }
+        ensures moment { IsRaising result.raising self.old.tables }
+        ensures others { self.new ≡ record self.old { clock = self.new.clock } }
+    {
+        if n > LAST_MOMENT - self.clock {
+            return Outcome::refused(self.alloc, Errno::Einval);
+        }
+        let since = self.clock;
+        self.clock += n;
+        Outcome::settled(self.alloc, Answer::Done, Raising::Clock { since })
+    }
+}

@@ -1,0 +1,299 @@
+//! epoll_ctl.
+ghost use Rattle.std.specs.Prelude.{◌≡◌, ◌==◌, ◌+◌, ◌++◌, ◌∷◌, ◌<◌, ◌≤◌, ◌^◌, ℕ, [], if◌then◌else◌, IfNone, IfOk, IfSome, IsSome, List, MatchResult, OnErr, Some, false, true, unwrap_or};
+ghost use Rattle.std.specs.List.{list_any};
+ghost use Rattle.ep_base.specs.Answer.{FitsInline};
+ghost use Rattle.ep_machine.specs.Effect.{first};
+ghost use Rattle.ep_calls.specs.Acts.{is_no_memory};
+ghost use Rattle.ep_machine.specs.Lists.{is_among};
+ghost use Rattle.ep_machine.specs.State.{Waiter};
+ghost use Rattle.ep_machine.specs.Watches.{is_legal};
+ghost use Rattle.ep_nest.specs.Links.{edges, entries};
+ghost use Rattle.ep_calls.specs.Climb.{AreNested, KeepsLinks, link_of};
+ghost use Rattle.ep_calls.specs.Control.{Alters, EntersAt, Names, code_of, control_call, is_deep_at, is_refused_op, raising_of_ctl, naming_refusals, next_entry, raising_after};
+ghost use Rattle.ep_interest.specs.Registrations.{has_key, new_entry, number_under as number_of_entry};
+ghost use Rattle.ep_machine.specs.Timer.{last_moment};
+ghost use Rattle.ep_calls.specs.Does.{DoesCall};
+ghost use Rattle.ep_calls.specs.Parts.{HasRoom};
+ghost use Rattle.ep_calls.specs.Raising.{IsRaising};
+ghost use Rattle.ep_calls.specs.Stands.{AreLinked};
+ghost use Rattle.ep_calls.specs.declared.raising.Raising.TheVariants.{Nowhere};
+ghost use Rattle.ep_table.specs.Value.{number_under};
+
+use crate::raising::Raising;
+use crate::readiness::{is_reportable, shown};
+use crate::{Outcome, Parts};
+use bitflags::Flags;
+use ep_base::{Answer, DescId, EntryId, Errno, Fd, Limits, Mask, Pid};
+use ep_interest::Interest;
+use ep_nest::Graph;
+use ep_table::Tables;
+use std::alloc::{AllocError, Global};
+
+/// The arguments of an epoll_ctl.
+#[derive(Clone, Copy)]
+pub struct Control {
+    pub epfd: Fd,
+    pub op: i32,
+    pub fd: Fd,
+    pub mask: Mask,
+    pub tag: u64,
+}
+
+/// What its two descriptors name.
+#[derive(Clone, Copy)]
+pub struct Named {
+    pub instance: DescId,
+    pub desc: DescId,
+}
+
+/// What it is asked to do with a registration.
+#[derive(Clone, Copy)]
+pub enum Operation {
+    Add,
+    Delete,
+    Modify,
+}
+
+/// The instance and the description that are named, or the refusal that comes first.
+fn find_named(tables: &Tables, pid: Pid, epfd: Fd, fd: Fd) -> Result<Named, Errno>
+    ensures { MatchResult result (Names tables.now pid.0 epfd.0 fd.0) (λ e. first (naming_refusals tables.now.files pid.0 epfd.0 fd.0) ≡ Some e) }
+{
+    let Some(instance) = tables.lookup(pid, epfd) else {
+        return Err(Errno::Ebadf);
+    };
+    let Some(desc) = tables.lookup(pid, fd) else {
+        return Err(Errno::Ebadf);
+    };
+    let target = tables.object(desc);
+    if target.is_plain() {
+        return Err(Errno::Eperm);
+    }
+    if !tables.object(instance).is_instance() || is_same(tables, instance, desc) {
+        return Err(Errno::Einval);
+    }
+    Ok(Named { instance, desc })
+}
+
+/// Whether two keys are of one description.
+fn is_same(tables: &Tables, a: DescId, b: DescId) -> bool
+    requires first { IsSome (number_under tables.now a) }
+    requires second { IsSome (number_under tables.now b) }
+    ensures { result ≡ (unwrap_or (number_under tables.now a) 0 == unwrap_or (number_under tables.now b) 0) }
+{
+    tables.known();
+    a.0 == b.0
+}
+
+/// The operation that is asked for. `None` where its number or the mask is not accepted; DEL looks at no mask.
+fn operation_of(args: Control) -> Option<Operation>
+    ensures none { IfNone result (is_refused_op args.op args.mask.0 ≡ true) }
+    ensures some { IfSome result (λ operation. (args.op ≡ code_of operation) × (is_refused_op args.op args.mask.0 ≡ false)) }
+{
+    let operation = match args.op {
+        1 => Operation::Add,
+        2 => return Some(Operation::Delete),
+        3 => Operation::Modify,
+        _ => return None,
+    };
+    if args.mask.intersects(Mask::EXCLUSIVE) {
+        return None;
+    }
+    Some(operation)
+}
+
+/// The name of a registration's link in the graph: its number, which is never used again.
+fn link_name(number: u64) -> EntryId
+    ensures { result.0 ≡ number }
+{
+    EntryId(number as usize)
+}
+
+/// Deletes or modifies a registration that is there. EEXIST, and it stays, for an addition.
+fn alter(
+    interest: &mut Interest,
+    graph: &mut Graph,
+    id: EntryId,
+    operation: Operation,
+    args: Control,
+) -> Answer
+    requires { IsSome (number_of_entry interest.old id) }
+    ensures alters { Alters operation (unwrap_or (number_of_entry interest.old id) 0) args.mask args.tag interest.old interest.new result }
+    ensures nested { KeepsLinks interest.old graph.old interest.new graph.new }
+    ensures inline { FitsInline result }
+    ensures real { is_no_memory result ≡ false }
+    ensures added { interest.new.added ≡ interest.old.added }
+{
+    match operation {
+        Operation::Add => Answer::Refused(Errno::Eexist),
+        Operation::Delete => {
+            let number = interest.entry(id).number;
+            graph.unlink(link_name(number));
+            interest.remove(id);
+            Answer::Done
+        }
+        Operation::Modify => {
+            interest.modify(id, args.mask, args.tag);
+            Answer::Done
+        }
+    }
+}
+
+/// Adds a registration with its link to an instance. An `Err` is want of memory and leaves both.
+fn add_linked(
+    interest: &mut Interest,
+    graph: &mut Graph,
+    named: Named,
+    args: Control,
+) -> Result<(), AllocError>
+    requires absent { list_any (has_key named.instance args.fd named.desc) interest.old.entries ≡ false }
+    requires room { interest.old.added + 1 < 2 ^ 64 }
+    requires legal { is_legal ((named.instance.0, named.desc.0) ∷ edges graph.old) ≡ true }
+    requires fresh { is_among (entries graph.old) (interest.old.added + 1) ≡ false }
+    ensures entries { IfOk result (λ _. interest.new.entries ≡ interest.old.entries ++ next_entry interest.old named args ∷ []) }
+    ensures added { IfOk result (λ _. interest.new.added ≡ interest.old.added + 1) }
+    ensures linked { IfOk result (λ _. graph.new ≡ graph.old ++ link_of (next_entry interest.old named args) ∷ []) }
+    ensures err { OnErr result ((interest.new ≡ interest.old) × (graph.new ≡ graph.old)) }
+{
+    let link = link_name(interest.next_number());
+    graph.link(named.instance, named.desc, link)?;
+    match interest.add(named.instance, args.fd, named.desc, args.mask, args.tag) {
+        Ok(_) => Ok(()),
+        Err(error) => {
+            graph.unlink(link);
+            Err(error)
+        }
+    }
+}
+
+/// Adds a registration, with its link where it watches an instance. An `Err` is want of memory and leaves both.
+fn add(
+    interest: &mut Interest,
+    graph: &mut Graph,
+    named: Named,
+    is_nested: bool,
+    args: Control,
+) -> Result<(), AllocError>
+    requires absent { list_any (has_key named.instance args.fd named.desc) interest.old.entries ≡ false }
+    requires room { interest.old.added + 1 < 2 ^ 64 }
+    requires legal { is_nested ≡ true → is_legal ((named.instance.0, named.desc.0) ∷ edges graph.old) ≡ true }
+    requires fresh { is_among (entries graph.old) (interest.old.added + 1) ≡ false }
+    ensures entries { IfOk result (λ _. interest.new.entries ≡ interest.old.entries ++ next_entry interest.old named args ∷ []) }
+    ensures added { IfOk result (λ _. interest.new.added ≡ interest.old.added + 1) }
+    ensures linked { IfOk result (λ _. graph.new ≡ graph.old ++ (if is_nested then link_of (next_entry interest.old named args) ∷ [] else [])) }
+    ensures err { OnErr result ((interest.new ≡ interest.old) × (graph.new ≡ graph.old)) }
+{
+    if is_nested {
+        return add_linked(interest, graph, named, args);
+    }
+    interest.add(named.instance, args.fd, named.desc, args.mask, args.tag)?;
+    Ok(())
+}
+
+/// Adds a registration that is not there. ENOENT for any other operation, ELOOP where instances would watch each other
+/// in a loop or in too long a chain, and ENOSPC past `watches`.
+/// A refusal and an `Err`, which is want of memory, leave the registrations.
+fn enter(
+    tables: &Tables,
+    interest: &mut Interest,
+    graph: &mut Graph,
+    named: Named,
+    operation: Operation,
+    args: Control,
+) -> Result<Answer, AllocError>
+    requires desc { IsSome (number_under tables.now named.desc) }
+    requires absent { list_any (has_key named.instance args.fd named.desc) interest.old.entries ≡ false }
+    requires room { interest.old.added + 1 < 2 ^ 64 }
+    requires nested { AreNested tables.now interest.old graph.old }
+    ensures ok { IfOk result (λ answer. EntersAt operation tables.now graph.old named args interest.old interest.new answer) }
+    ensures nested { AreNested tables.now interest.new graph.new }
+    ensures inline { IfOk result FitsInline }
+    ensures real { IfOk result (λ answer. is_no_memory answer ≡ false) }
+    ensures added { interest.new.added ≤ interest.old.added + 1 }
+    ensures err { OnErr result ((interest.new ≡ interest.old) × (graph.new ≡ graph.old)) }
+{
+    let Operation::Add = operation else {
+        return Ok(Answer::Refused(Errno::Enoent));
+    };
+    interest.known();
+    let is_nested = tables.object(named.desc).is_instance();
+    if is_nested && graph.may_add(named.instance, named.desc).is_err() {
+        return Ok(Answer::Refused(Errno::Eloop));
+    }
+    if tables.limits().watches() as usize <= interest.count() {
+        return Ok(Answer::Refused(Errno::Enospc));
+    }
+    add(interest, graph, named, is_nested, args)?;
+    Ok(Answer::Done)
+}
+
+/// What it raises that a registration was added or modified: IN at its instance, where it is reportable.
+fn look_at(tables: &Tables, now: u64, interest: &Interest, named: Named, fd: Fd) -> Raising
+    requires linked { AreLinked tables.now interest.now }
+    requires clock { now ≤ last_moment }
+    ensures { result ≡ raising_of_ctl tables.now now interest.now named fd }
+{
+    interest.known();
+    let Some(id) = interest.find(named.instance, fd, named.desc) else {
+        return Raising::Nowhere;
+    };
+    let entry = interest.entry(id);
+    if !is_reportable(entry, shown(tables, now, interest, entry)) {
+        return Raising::Nowhere;
+    }
+    Raising::Instance {
+        desc: named.instance,
+    }
+}
+
+impl Parts {
+    /// What epoll_ctl comes to with an answer: where it is done, the registration is looked at.
+    fn controlled(&self, named: Named, fd: Fd, answer: Answer) -> Outcome
+        requires inline { FitsInline answer }
+        requires real { is_no_memory answer ≡ false }
+        ensures answer { result.answer ≡ answer }
+        ensures picked { result.picked ≡ [] }
+        ensures raising { result.raising ≡ raising_after answer self.now.tables self.now.clock self.now.interest named fd }
+    {
+        let raising = match answer {
+            Answer::Done => look_at(&self.tables, self.clock, &self.interest, named, fd),
+            _ => Raising::Nowhere,
+        };
+        Outcome::settled(self.alloc, answer, raising)
+    }
+
+    /// epoll_ctl(2): adds, modifies or deletes a registration, or answers the refusal that comes first, in this order:
+    /// EBADF where a descriptor names nothing, EPERM for a target that can't be polled, EINVAL where `epfd` is no instance or
+    /// both name the same, EINVAL for an operation or a mask that this version doesn't accept, ENOENT for MOD and DEL of what
+    /// is not there, EEXIST for ADD of what is, ELOOP where instances would watch each other in a loop or in a chain of more
+    /// than five, and ENOSPC past `watches`.
+    /// What is added or modified and reportable at once raises IN at its instance.
+    /// A refusal and an `Err`, which is want of memory and comes of ADD alone, leave the parts.
+    pub fn epoll_ctl(&mut self, pid: Pid, args: Control) -> Result<Outcome, AllocError>
+        requires { HasRoom self.old }
+        ensures ok { IfOk result (λ outcome. (n caller : ℕ) → DoesCall n caller pid.0 (control_call args) outcome self.old self.new) }
+        ensures err { OnErr result (self.new ≡ self.old) }
+    {
+        self.tables.known();
+        self.interest.known();
+        let named = match find_named(&self.tables, pid, args.epfd, args.fd) {
+            Ok(named) => named,
+            Err(errno) => return Ok(Outcome::refused(self.alloc, errno)),
+        };
+        let Some(operation) = operation_of(args) else {
+            return Ok(Outcome::refused(self.alloc, Errno::Einval));
+        };
+        if let Some(id) = self.interest.find(named.instance, args.fd, named.desc) {
+            let answer = alter(&mut self.interest, &mut self.graph, id, operation, args);
+            return Ok(self.controlled(named, args.fd, answer));
+        }
+        let answer = enter(
+            &self.tables,
+            &mut self.interest,
+            &mut self.graph,
+            named,
+            operation,
+            args,
+        )?;
+        Ok(self.controlled(named, args.fd, answer))
+    }
+}

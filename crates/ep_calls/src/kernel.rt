@@ -1,0 +1,65 @@
+//! What every kernel promises.
+ghost use Rattle.std.specs.Prelude.{◌≡◌, ◌+◌, ◌≤◌, ℕ, List, OnOk, Some, length};
+ghost use Rattle.ep_base.specs.Limits.{Limits as Numbers};
+ghost use Rattle.ep_base.specs.declared.record.Record.{Record as Entry};
+ghost use Rattle.ep_machine.specs.Run.{run};
+ghost use Rattle.ep_machine.specs.Waits.{is_marked, is_parked};
+ghost use Rattle.ep_machine.specs.State.{State, opening};
+ghost use Rattle.ep_calls.specs.Acts.{Acts};
+
+use ep_base::{Answer, CallerId, Event, Limits, Record};
+use std::alloc::AllocError;
+
+/// A kernel that processes make calls on. Each event is one step of the abstract machine
+/// and leaves one record in the history; want of memory leaves all as it was.
+pub trait Kernel {
+    /// The state of the machine that it stands for.
+    ghost state: { Self → State };
+
+    /// The history.
+    ghost past: { Self → List Entry };
+
+    /// The limits that it was made with.
+    ghost bounds: { Self → Numbers };
+
+    /// How many records fit before the history asks for memory. A kernel that tells nothing of it has room for none.
+    ghost capacity: { Self → ℕ } = { λ _. 0 };
+
+    /// One event. The answer is one that the machine allows here, a refusal too, and the history gains its record.
+    /// ENOMEM is answered only where a growth was refused: then nothing changes, and there is no record.
+    /// Room for records is never given back.
+    fn step(&mut self, caller: CallerId, event: Event) -> Answer
+        ensures limits { bounds self.new ≡ bounds self.old }
+        ensures capacity { capacity self.old ≤ capacity self.new }
+        ensures acts { Acts (bounds self.old) caller event result (state self.old) (state self.new) (past self.old) (past self.new) };
+
+    /// Makes room for this many further records, or fails where memory is refused. State and history stay in both cases.
+    fn reserve(&mut self, additional: usize) -> Result<(), AllocError>
+        ensures room { OnOk result (length (past self.new) + additional ≤ capacity self.new) }
+        ensures capacity { capacity self.old ≤ capacity self.new }
+        ensures limits { bounds self.new ≡ bounds self.old }
+        ensures state { state self.new ≡ state self.old }
+        ensures history { past self.new ≡ past self.old };
+
+    /// The records of all steps, in order: a run of the machine that leads to the present state.
+    fn history(&self) -> &[Record]
+        ensures past { result.now ≡ past self.now }
+        ensures replays { run (bounds self.now) opening result.now ≡ Some (state self.now) };
+
+    /// The limits that the kernel was made with.
+    fn limits(&self) -> &Limits
+        ensures { result.now ≡ bounds self.now };
+
+    /// The simulated clock: milliseconds since it began, at most 1,000,000,000,000.
+    fn now(&self) -> u64
+        ensures { result ≡ (state self.now).now };
+
+    /// Whether a caller is parked in epoll_wait(2).
+    fn is_parked(&self, caller: CallerId) -> bool
+        ensures { result ≡ is_parked (state self.now) caller.0 };
+
+    /// Whether a caller is parked and marked: its next resumption looks at its instance, and ends the wait where something
+    /// is reportable or its deadline has come. At each ready instance that has waiters one is marked.
+    fn is_marked(&self, caller: CallerId) -> bool
+        ensures { result ≡ is_marked (state self.now) caller.0 };
+}

@@ -1,0 +1,29 @@
+//! What every kernel promises, and the calls and effects that kernels share: methods of `Parts`.
+#![tactic(auto)]
+
+mod bury;
+mod clock;
+mod control;
+mod create;
+mod descriptors;
+mod due;
+mod kernel;
+mod object_call;
+mod outcome;
+mod parking;
+mod parts;
+mod raising;
+mod readiness;
+mod report;
+mod runs;
+mod table_call;
+mod wait;
+
+pub use crate::control::Control;
+pub use crate::kernel::Kernel;
+pub use crate::outcome::Outcome;
+pub use crate::parts::Parts;
+pub use crate::raising::Raising;
+pub use crate::runs::{ready_waiters_are_marked, run};
+pub use crate::readiness::{LONGEST_CHAIN, is_ready_now, is_reportable, shown};
+pub use crate::wait::{Reportable, Wait, find_instance};

@@ -1,0 +1,81 @@
+//! What an event came to.
+ghost use Rattle.std.specs.Prelude.{◌≡◌, [], false};
+ghost use Rattle.ep_base.specs.Answer.{FitsInline};
+ghost use Rattle.ep_base.specs.declared.answer.Answer.TheVariants.{Refused as refused};
+ghost use Rattle.ep_calls.specs.Acts.{is_no_memory};
+ghost use Rattle.ep_calls.specs.declared.raising.Raising.TheVariants.{Nowhere};
+
+use crate::raising::Raising;
+use ep_base::{Answer, Errno, Picked};
+use std::alloc::Global;
+
+/// What an event came to: its answer, which is never want of memory, once for the caller and once for the history,
+/// the registrations that it reports, and what it raised.
+#[derive(Drop)]
+pub struct Outcome {
+    pub answer: Answer,
+    /// The same answer for the history.
+    pub recorded: Answer,
+    /// The numbers of the registrations that the answer reports, in its order.
+    pub picked: Picked,
+    pub raising: Raising,
+    ghost same: { recorded ≡ answer },
+    ghost real: { is_no_memory answer ≡ false },
+}
+
+impl Outcome {
+    /// A refusal.
+    pub fn refused(alloc: Global, errno: Errno) -> Outcome
+        requires { is_no_memory (refused errno) ≡ false }
+        ensures answer { result.answer ≡ refused errno }
+        ensures picked { result.picked ≡ [] }
+        ensures raising { result.raising ≡ Nowhere }
+    {
+        let recorded = Answer::Refused(errno);
+        Outcome::copied(alloc, Answer::Refused(errno), recorded, Raising::Nowhere)
+    }
+
+    /// An answer that takes no memory to copy, and reports nothing.
+    pub fn settled(alloc: Global, answer: Answer, raising: Raising) -> Outcome
+        requires inline { FitsInline answer }
+        requires real { is_no_memory answer ≡ false }
+        ensures answer { result.answer ≡ answer }
+        ensures picked { result.picked ≡ [] }
+        ensures raising { result.raising ≡ raising }
+    {
+        let recorded = answer.copy().unwrap();
+        Outcome::copied(alloc, answer, recorded, raising)
+    }
+
+    /// An answer and its copy, which report nothing.
+    pub fn copied(alloc: Global, answer: Answer, recorded: Answer, raising: Raising) -> Outcome
+        requires same { recorded ≡ answer }
+        requires real { is_no_memory answer ≡ false }
+        ensures answer { result.answer ≡ answer }
+        ensures picked { result.picked ≡ [] }
+        ensures raising { result.raising ≡ raising }
+    {
+        Outcome {
+            answer,
+            recorded,
+            picked: Picked::empty(alloc),
+            raising,
+        }
+    }
+
+    /// A report of these registrations, and its copy.
+    pub fn reported(answer: Answer, recorded: Answer, picked: Picked) -> Outcome
+        requires same { recorded ≡ answer }
+        requires real { is_no_memory answer ≡ false }
+        ensures answer { result.answer ≡ answer }
+        ensures picked { result.picked ≡ picked }
+        ensures raising { result.raising ≡ Nowhere }
+    {
+        Outcome {
+            answer,
+            recorded,
+            picked,
+            raising: Raising::Nowhere,
+        }
+    }
+}

@@ -1,0 +1,93 @@
+//! Parked waits.
+ghost use Rattle.std.specs.Prelude.{◌≡◌, ◌++◌, ◌∷◌, [], IfOk, IsSome, OnErr, OnOk, Some, false, true};
+ghost use Rattle.std.specs.List.{find, list_any};
+ghost use Rattle.ep_base.specs.declared.call.Event.TheVariants.{Resume};
+ghost use Rattle.ep_machine.specs.Lists.{is_among};
+ghost use Rattle.ep_park.specs.Waiters.{is_caller, parked, without};
+ghost use Rattle.ep_calls.specs.Does.{DoesEvent, DoesResume};
+ghost use Rattle.ep_calls.specs.Stands.{AreHeld, ArePlaced};
+ghost use Rattle.ep_calls.specs.Wait.{AreKeyed};
+ghost use Rattle.ep_table.specs.Value.{number_of, number_under};
+
+use crate::raising::Raising;
+use crate::report::report;
+use crate::wait::Reportable;
+use crate::{Outcome, Parts};
+use ep_base::{Answer, CallerId, Errno};
+use ep_park::{Park, Waiter, is_due};
+use ep_table::Tables;
+use std::alloc::AllocError;
+
+/// Parks a caller, and holds the instance for it. An `Err` is want of memory and leaves both.
+pub fn park(
+    tables: &mut Tables,
+    waiters: &mut Park,
+    caller: CallerId,
+    waiter: Waiter,
+) -> Result<(), AllocError>
+    requires instance { IsSome (number_under tables.old waiter.instance) }
+    requires used { is_among tables.old.dying (number_of tables.old waiter.instance) ≡ false }
+    requires free { list_any (is_caller caller.0) waiters.old ≡ false }
+    requires held { AreHeld tables.old waiters.old }
+    ensures files { tables.new.files ≡ tables.old.files }
+    ensures keys { tables.new.keys ≡ tables.old.keys }
+    ensures limits { tables.new.limits ≡ tables.old.limits }
+    ensures parked { OnOk result (waiters.new ≡ waiters.old ++ parked caller.0 waiter ∷ []) }
+    ensures held { AreHeld tables.new waiters.new }
+    ensures err { OnErr result ((tables.new ≡ tables.old) × (waiters.new ≡ waiters.old)) }
+{
+    tables.known();
+    waiters.park(caller, waiter)?;
+    match tables.hold(waiter.instance) {
+        Ok(()) => Ok(()),
+        Err(error) => {
+            waiters.leave(caller);
+            Err(error)
+        }
+    }
+}
+
+/// Ends a caller's wait, and no longer holds its instance.
+fn leave(tables: &mut Tables, waiters: &mut Park, caller: CallerId)
+    requires placed { ArePlaced tables.old waiters.old }
+    requires held { AreHeld tables.old waiters.old }
+    ensures left { waiters.new ≡ without caller.0 waiters.old }
+    ensures files { tables.new.files ≡ tables.old.files }
+    ensures keys { tables.new.keys ≡ tables.old.keys }
+    ensures limits { tables.new.limits ≡ tables.old.limits }
+    ensures held { AreHeld tables.new waiters.new }
+{
+    tables.known();
+    waiters.known();
+    if let Some(waiter) = waiters.leave(caller) {
+        tables.release(waiter.instance);
+    }
+}
+
+impl Parts {
+    /// A parked caller that is marked gets the reports of those that it picks, and is no longer parked. Where there are
+    /// none, it gets none at its deadline, and before that loses its mark and stays parked.
+    /// An `Err` is want of memory and leaves the parts.
+    pub fn resume_with(
+        &mut self,
+        step: u64,
+        caller: CallerId,
+        waiter: Waiter,
+        chosen: &[Reportable],
+    ) -> Result<Outcome, AllocError>
+        requires parked { find (is_caller caller.0) self.old.parked ≡ Some (parked caller.0 waiter) }
+        requires marked { waiter.marked ≡ true }
+        requires keyed { AreKeyed self.old.tables self.old.clock self.old.interest chosen.now }
+        ensures ok { IfOk result (λ outcome. DoesResume step caller.0 waiter chosen.now outcome self.old self.new) }
+        ensures err { OnErr result (self.new ≡ self.old) }
+    {
+        self.tables.known();
+        if chosen.is_empty() && !is_due(waiter, self.clock) {
+            self.waiters.unmark(caller);
+            return Ok(Outcome::settled(self.alloc, Answer::Still, Raising::Nowhere));
+        }
+        let outcome = report(self.alloc, &mut self.interest, step, chosen)?;
+        leave(&mut self.tables, &mut self.waiters, caller);
+        Ok(outcome)
+    }
+}

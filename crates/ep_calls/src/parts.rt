@@ -1,0 +1,58 @@
+//! The parts of a kernel.
+ghost use Rattle.std.specs.Prelude.{IfOk};
+ghost use Rattle.ep_calls.specs.Parts.{AreCoherent, AreOpening};
+ghost use Rattle.ep_table.specs.Value.{Sound};
+
+use ep_base::Limits;
+use ep_interest::Interest;
+use ep_nest::Graph;
+use ep_park::Park;
+use ep_table::Tables;
+use std::alloc::{AllocError, Global};
+use std::marker::Model;
+
+/// What a kernel keeps but its history. Contracts see it as the record `Parts`.
+#[derive(Drop)]
+pub struct Parts {
+    pub alloc: Global,
+    pub tables: Tables,
+    pub interest: Interest,
+    pub graph: Graph,
+    pub waiters: Park,
+    pub clock: u64,
+}
+
+impl Model for Parts {
+    ghost use Rattle.ep_calls.specs.Parts.{Parts, AreCoherent};
+
+    ghost Value = { Parts };
+
+    ghost view = { λ p. record { tables = p.tables; interest = p.interest; graph = p.graph; parked = p.waiters; clock = p.clock } };
+
+    ghost invariant = { λ p. AreCoherent (record { tables = p.tables; interest = p.interest; graph = p.graph; parked = p.waiters; clock = p.clock }) };
+}
+
+impl Parts {
+    /// The parts at the start: process 1, whose descriptors 0, 1 and 2 name one plain object, and the clock at 0.
+    /// An `Err` is want of memory.
+    pub fn new(alloc: Global, limits: Limits) -> Result<Parts, AllocError>
+        ensures { IfOk result (λ parts. AreOpening limits parts) }
+    {
+        Ok(Parts {
+            alloc,
+            tables: Tables::new(alloc, limits)?,
+            interest: Interest::new(alloc),
+            graph: Graph::new(alloc),
+            waiters: Park::new(alloc),
+            clock: 0,
+        })
+    }
+
+    /// Does nothing. What holds of the parts between calls; a fact for proofs.
+    pub fn known(&self)
+        ensures coherent { AreCoherent self.now }
+        ensures sound { Sound self.now.tables }
+    {
+        self.tables.known();
+    }
+}

@@ -1,0 +1,110 @@
+//! What an event raises, and the registrations that it makes fresh.
+ghost use Rattle.std.specs.Prelude.{◌≡◌, ◌≤◌, IsSome, length, map};
+ghost use Rattle.ep_interest.specs.Registrations.{raised_on};
+ghost use Rattle.ep_machine.specs.Bits.{at_end as bits_at};
+ghost use Rattle.ep_machine.specs.Timer.{last_moment};
+ghost use Rattle.ep_calls.specs.Raising.{IsRaising, RaisesObject, Stirs, due_bits, raised_each, raised_there};
+ghost use Rattle.ep_table.specs.Closing.{opposite};
+ghost use Rattle.ep_table.specs.Live.{live_ids};
+ghost use Rattle.ep_table.specs.Value.{number_under};
+
+use crate::Parts;
+use crate::due::raise_due;
+use bitflags::Flags;
+use ep_base::{DescId, End, Mask, Raised};
+use ep_interest::Interest;
+use ep_table::Tables;
+
+/// Where an event raised bits before any description died.
+#[derive(Clone, Copy)]
+pub enum Raising {
+    /// At nothing that can be watched.
+    Nowhere,
+    /// At the two ends of the object of a description.
+    Object { desc: DescId, raised: Raised },
+    /// At an instance, in which a registration is reportable that was added or modified.
+    Instance { desc: DescId },
+    /// At timers, by the clock going on from this moment.
+    Clock { since: u64 },
+}
+
+/// The bits that are raised at an end.
+pub fn at_end(raised: Raised, end: End) -> Mask
+    ensures { result.0 ≡ bits_at raised end }
+{
+    match end {
+        End::First => raised.first,
+        End::Second => raised.second,
+    }
+}
+
+/// The other end.
+pub fn other_end(end: End) -> End
+    ensures { result ≡ opposite end }
+{
+    match end {
+        End::First => End::Second,
+        End::Second => End::First,
+    }
+}
+
+/// Raises bits at a description. Where there are none no registration is looked at.
+pub fn raise_at(interest: &mut Interest, desc: DescId, bits: Mask, step: u64)
+    ensures entries { interest.new.entries ≡ map (raised_on desc bits step) interest.old.entries }
+    ensures added { interest.new.added ≡ interest.old.added }
+{
+    if !bits.is_empty() {
+        interest.raise(desc, bits, step);
+    }
+}
+
+/// Raises bits at a description, where there is one.
+pub fn raise_there(interest: &mut Interest, desc: Option<DescId>, bits: Mask, step: u64)
+    ensures entries { interest.new.entries ≡ map (raised_there desc bits step) interest.old.entries }
+    ensures added { interest.new.added ≡ interest.old.added }
+{
+    if let Some(desc) = desc {
+        raise_at(interest, desc, bits, step);
+    }
+}
+
+/// Raises bits at the two ends of the object of a description.
+fn raise_object(tables: &Tables, interest: &mut Interest, desc: DescId, raised: Raised, step: u64)
+    requires { IsSome (number_under tables.now desc) }
+    ensures { RaisesObject tables.now desc raised step interest.old interest.new }
+{
+    let end = tables.end(desc);
+    raise_at(interest, desc, at_end(raised, end), step);
+    raise_there(
+        interest,
+        tables.other(desc),
+        at_end(raised, other_end(end)),
+        step,
+    );
+}
+
+/// Notes in registrations what an event raised.
+fn raise_all(tables: &Tables, interest: &mut Interest, raising: Raising, now: u64, step: u64)
+    requires raising { IsRaising raising tables.now }
+    requires now { now ≤ last_moment }
+    ensures { Stirs raising tables.now now step interest.old interest.new }
+{
+    match raising {
+        Raising::Nowhere => {}
+        Raising::Object { desc, raised } => raise_object(tables, interest, desc, raised, step),
+        Raising::Instance { desc } => raise_at(interest, desc, Mask::IN, step),
+        Raising::Clock { since } => raise_due(tables, interest, since, now, step),
+    }
+}
+
+impl Parts {
+    /// Notes in registrations what an event raised.
+    pub fn raise(&mut self, step: u64, raising: Raising)
+        requires { IsRaising raising self.old.tables }
+        ensures stirs { Stirs raising self.old.tables self.old.clock step self.old.interest self.new.interest }
+        ensures others { self.new ≡ record self.old { interest = self.new.interest } }
+    {
+        self.tables.known();
+        raise_all(&self.tables, &mut self.interest, raising, self.clock, step);
+    }
+}

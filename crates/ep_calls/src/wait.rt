@@ -1,0 +1,98 @@
+//! epoll_wait.
+ghost use Rattle.std.specs.Prelude.{◌≡◌, ◌≤◌, IfOk, MatchResult, OnErr, Some, false};
+ghost use Rattle.std.specs.List.{list_any};
+ghost use Rattle.ep_machine.specs.Effect.{first};
+ghost use Rattle.ep_machine.specs.Timer.{last_moment};
+ghost use Rattle.ep_park.specs.Waiters.{is_caller};
+ghost use Rattle.ep_calls.specs.Does.{DoesCall, DoesWait};
+ghost use Rattle.ep_calls.specs.Wait.{AreKeyed, Waits, deadline_of, wait_call, wait_tests};
+
+use crate::parking::park;
+use crate::raising::Raising;
+use crate::report::report;
+use crate::{Outcome, Parts};
+use ep_base::{Answer, CallerId, DescId, EntryId, Errno, Fd, Mask, Pid};
+use ep_interest::Entry;
+use ep_park::Waiter;
+use ep_table::Tables;
+use std::alloc::AllocError;
+
+/// The arguments of an epoll_wait, and the process that calls.
+#[derive(Clone, Copy)]
+pub struct Wait {
+    pub pid: Pid,
+    pub epfd: Fd,
+    pub max: i32,
+    pub timeout: i64,
+}
+
+/// A registration that is reportable, with its key and what it shows.
+#[derive(Clone, Copy)]
+pub struct Reportable {
+    pub id: EntryId,
+    pub entry: Entry,
+    pub bits: Mask,
+}
+
+/// The instance that is waited for, or the refusal that comes first.
+pub fn find_instance(tables: &Tables, args: Wait) -> Result<DescId, Errno>
+    ensures { MatchResult result (λ desc. Waits tables.now args desc) (λ e. first (wait_tests tables.now.files args) ≡ Some e) }
+{
+    if args.max <= 0 {
+        return Err(Errno::Einval);
+    }
+    let Some(desc) = tables.lookup(args.pid, args.epfd) else {
+        return Err(Errno::Ebadf);
+    };
+    if !tables.object(desc).is_instance() {
+        return Err(Errno::Einval);
+    }
+    Ok(desc)
+}
+
+/// The moment at which a wait ends with no report; `None` for a negative timeout, which has no end.
+fn deadline(now: u64, timeout: i64) -> Option<u64>
+    requires { now ≤ last_moment }
+    ensures { result ≡ deadline_of now timeout }
+{
+    if timeout < 0 {
+        return None;
+    }
+    Some(now + timeout as u64)
+}
+
+impl Parts {
+    /// A wait at an instance, with those of its registrations that it picks: it reports them. Where there are none, it
+    /// makes no report with a timeout of 0, and else the caller is parked until it is marked, `timeout` milliseconds at
+    /// most, and without end where that is negative.
+    /// An `Err` is want of memory and leaves the parts.
+    pub fn wait_with(
+        &mut self,
+        step: u64,
+        caller: CallerId,
+        args: Wait,
+        instance: DescId,
+        chosen: &[Reportable],
+    ) -> Result<Outcome, AllocError>
+        requires free { list_any (is_caller caller.0) self.old.parked ≡ false }
+        requires waits { Waits self.old.tables args instance }
+        requires keyed { AreKeyed self.old.tables self.old.clock self.old.interest chosen.now }
+        ensures ok { IfOk result (λ outcome. DoesWait step caller.0 args instance chosen.now outcome self.old self.new) }
+        ensures err { OnErr result (self.new ≡ self.old) }
+    {
+        self.tables.known();
+        if !chosen.is_empty() || args.timeout == 0 {
+            let outcome = report(self.alloc, &mut self.interest, step, chosen)?;
+            return Ok(outcome);
+        }
+        let waiter = Waiter {
+            process: args.pid,
+            instance,
+            max: args.max,
+            deadline: deadline(self.clock, args.timeout),
+            marked: false,
+        };
+        park(&mut self.tables, &mut self.waiters, caller, waiter)?;
+        Ok(Outcome::settled(self.alloc, Answer::Parked, Raising::Nowhere))
+    }
+}

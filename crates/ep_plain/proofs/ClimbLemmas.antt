@@ -1,0 +1,206 @@
+-- What climbs through instances, one link after another.
+use Rattle.std.proofs.Common.{◌≡◌, ◌∙◌, ◌==◌, ◌&&◌, ◌||◌, ◌++◌, ℕ, zero, suc, Bool, true, false, All, List, [], ◌∷◌, None, Option, IsSome, ap, arith, cond, filter, if◌then◌else◌, inl, inr, map, refl, rules, subst, sym, unwrap_or}
+use Rattle.std.specs.List.{list_any}
+use Rattle.std.proofs.lemmas.Bool.{cases_Bool, false≢true}
+use Rattle.std.proofs.lemmas.Bool.Decides.{nat_tests}
+use Rattle.std.proofs.lemmas.List.Elements.{All-cons, All-head, All-tail}
+use Rattle.ep_base.specs.declared.counts.Counts.{Counts}
+use Rattle.ep_base.specs.declared.ids.DescId.{DescId}
+use Rattle.ep_interest.specs.Registrations.{Registrations, settled}
+use Rattle.ep_interest.specs.declared.entry.Entry.{Entry}
+use Rattle.ep_machine.specs.Bits.{IN}
+use Rattle.ep_machine.specs.Counts.{brings}
+use Rattle.ep_machine.specs.Files.{Files, object_of}
+use Rattle.ep_view.specs.KernelView.{carries, climbed, climbed_all, reached_now, reached_within}
+use Rattle.ep_law.specs.Laws.{Member}
+use Rattle.ep_machine.specs.Objects.{is_instance, plain}
+use Rattle.ep_machine.specs.State.{Watch}
+use Rattle.ep_nest.specs.declared.link.Link.{Link}
+use Rattle.ep_calls.specs.Climb.{is_nested, link_of}
+use Rattle.ep_plain.specs.Climb.{climbs_to}
+use Rattle.ep_calls.specs.Stands.{IsLinked, number_at, watch_at}
+use Rattle.ep_table.specs.Value.{Seen, number_under}
+use Rattle.ep_law.proofs.TestLemmas.{from_test}
+
+-- what was seen plays no part in what is reached
+module _ (keys : List (Option ℕ)) (files : Files) (n : ℕ) (seen : Entry → Option Counts) where
+  abbrev with_seen : Entry → Entry
+  with_seen x = record x { seen = seen x }
+
+  any_seen : (r : ℕ → Bool) (e : ℕ) (xs : List Entry) → list_any (λ w. w.instance == e && carries r files n w) (map (watch_at keys) (map with_seen xs)) ≡ list_any (λ w. w.instance == e && carries r files n w) (map (watch_at keys) xs)
+  any_seen r e [] = refl
+  any_seen r e (x ∷ xs) = ap (λ (b : Bool). number_at keys x.instance == e && carries r files n (watch_at keys x) || b) (any_seen r e xs)
+
+  within_seen : (k : ℕ) (xs : List Entry) → reached_within k files n (map (watch_at keys) (map with_seen xs)) ≡ reached_within k files n (map (watch_at keys) xs)
+  within_seen zero xs = refl
+  within_seen (suc k) xs = λ i e.
+      (ap (λ (r : ℕ → Bool). list_any (λ w. w.instance == e && carries r files n w) (map (watch_at keys) (map with_seen xs))) (within_seen k xs)
+      ∙ any_seen (reached_within k files n (map (watch_at keys) xs)) e xs) i
+
+  pub reached_seen : (xs : List Entry) → reached_now files n (map (watch_at keys) (map with_seen xs)) ≡ reached_now files n (map (watch_at keys) xs)
+  unfolding reached_now
+  reached_seen xs = within_seen 5 xs
+
+-- the instances that links lead to
+abbrev pub inners_of : List Link → List DescId
+inners_of ls = map (λ (l : Link). l.inner) ls
+
+abbrev pub among_keys : List DescId → DescId → Bool
+among_keys ds k = list_any (λ d. k.0 == d.0) ds
+
+-- after these instances were looked at
+abbrev pub seen_after : (ℕ → Bool) → List (Option ℕ) → List DescId → Entry → Option Counts
+seen_after reached keys ds x = if among_keys ds x.desc && reached (number_at keys x.desc) && brings x.mask.0 IN then None else x.seen
+
+abbrev pub climbs_on : (ℕ → Bool) → List (Option ℕ) → List DescId → Entry → Entry
+climbs_on reached keys ds x = record x { seen = seen_after reached keys ds x }
+
+or_false : (b : Bool) → (b || false) ≡ b
+or_false true = refl
+or_false false = refl
+
+or_assoc : (a b c : Bool) → (a || (b || c)) ≡ ((a || b) || c)
+or_assoc true b c = refl
+or_assoc false b c = refl
+
+among_more : (ds : List DescId) (d k : DescId) → among_keys (ds ++ d ∷ []) k ≡ (among_keys ds k || (k.0 == d.0))
+among_more [] d k = or_false (k.0 == d.0)
+among_more (c ∷ ds) d k = ap (λ (b : Bool). k.0 == c.0 || b) (among_more ds d k) ∙ or_assoc (k.0 == c.0) (among_keys ds k) (k.0 == d.0)
+
+-- one instance more
+seen_more : (a o p r b : Bool) (s : Option Counts) → (o ≡ true → p ≡ r)
+    → (if r then if o && b then None else if a && p && b then None else s else if a && p && b then None else s) ≡ (if (a || o) && p && b then None else s)
+seen_more a true p r b s h = ap (λ (t : Bool). if t then if b then None else if a && p && b then None else s else if a && p && b then None else s) (sym (h refl)) ∙ on a p b s where
+  on : (a p b : Bool) (s : Option Counts) → (if p then if b then None else if a && p && b then None else s else if a && p && b then None else s) ≡ (if (a || true) && p && b then None else s)
+  on true true true s = refl
+  on true true false s = refl
+  on true false b s = refl
+  on false true true s = refl
+  on false true false s = refl
+  on false false b s = refl
+seen_more true false p r b s h = off r where
+  off : (r : Bool) → (if r then if p && b then None else s else if p && b then None else s) ≡ (if p && b then None else s)
+  off true = refl
+  off false = refl
+seen_more false false p true b s h = refl
+seen_more false false p false b s h = refl
+
+with_seen_of : (r o b : Bool) (y : Entry) → cond r (cond (o && b) (record y { seen = None }) y) y ≡ record y { seen = if r then if o && b then None else y.seen else y.seen }
+with_seen_of true true true y = refl
+with_seen_of true true false y = refl
+with_seen_of true false b y = refl
+with_seen_of false o b y = refl
+
+climbs_more : (reached : ℕ → Bool) (keys : List (Option ℕ)) (ds : List DescId) (d : DescId) (x : Entry) → climbs_to (reached (number_at keys d)) d (climbs_on reached keys ds x) ≡ climbs_on reached keys (ds ++ d ∷ []) x
+climbs_more reached keys ds d x =
+    let o = x.desc.0 == d.0 in
+    with_seen_of (reached (number_at keys d)) o (brings x.mask.0 IN) (climbs_on reached keys ds x)
+    ∙ ap (λ (s : Option Counts). record x { seen = s })
+    (seen_more (among_keys ds x.desc) o (reached (number_at keys x.desc)) (reached (number_at keys d)) (brings x.mask.0 IN) x.seen (λ on. ap (λ (k : ℕ). reached (number_at keys (record { 0 = k }))) (from_test x.desc.0 d.0 on))
+    ∙ ap (λ (b : Bool). if b && reached (number_at keys x.desc) && brings x.mask.0 IN then None else x.seen) (sym (among_more ds d x.desc)))
+
+pub map_climbs_more : (reached : ℕ → Bool) (keys : List (Option ℕ)) (ds : List DescId) (d : DescId) (xs : List Entry) → map (climbs_to (reached (number_at keys d)) d) (map (climbs_on reached keys ds) xs) ≡ map (climbs_on reached keys (ds ++ d ∷ [])) xs
+map_climbs_more reached keys ds d [] = refl
+map_climbs_more reached keys ds d (x ∷ xs) = let one = climbs_more reached keys ds d x in let rest = map_climbs_more reached keys ds d xs in λ i. one i ∷ rest i
+
+pub climbs_none : (reached : ℕ → Bool) (keys : List (Option ℕ)) (xs : List Entry) → map (climbs_on reached keys []) xs ≡ xs
+climbs_none reached keys [] = refl
+climbs_none reached keys (x ∷ xs) = ap (λ (ys : List Entry). x ∷ ys) (climbs_none reached keys xs)
+
+pub linked_climbs : (reached : ℕ → Bool) (keys : List (Option ℕ)) (ds : List DescId) (xs : List Entry) → All (IsLinked keys) xs → All (IsLinked keys) (map (climbs_on reached keys ds) xs)
+linked_climbs reached keys ds [] h = h
+linked_climbs reached keys ds (x ∷ xs) h =
+    let link = All-head (IsLinked keys) x xs h in
+    All-cons (IsLinked keys) (climbs_on reached keys ds x) (map (climbs_on reached keys ds) xs) (record { instance = link.instance; desc = link.desc; fd = link.fd }) (linked_climbs reached keys ds xs (All-tail (IsLinked keys) x xs h))
+
+-- what is passed on is forgotten
+pub linked_settled : (keys : List (Option ℕ)) (xs : List Entry) → All (IsLinked keys) xs → All (IsLinked keys) (map settled xs)
+linked_settled keys [] h = h
+linked_settled keys (x ∷ xs) h =
+    let link = All-head (IsLinked keys) x xs h in
+    All-cons (IsLinked keys) (settled x) (map settled xs) (record { instance = link.instance; desc = link.desc; fd = link.fd }) (linked_settled keys xs (All-tail (IsLinked keys) x xs h))
+
+-- The links lead to exactly the instances that are watched.
+module _ (v : Seen) where
+  abbrev kind : DescId → Bool
+  kind k = is_instance (unwrap_or (object_of v.files (number_at v.keys k)) plain)
+
+  -- a link leads to what has a number
+  abbrev pub LeadsToLive : Link → Type 0
+  LeadsToLive l = IsSome (number_under v l.inner)
+
+  pub links_live : (xs : List Entry) → All (IsLinked v.keys) xs → All LeadsToLive (map link_of (filter (is_nested v) xs))
+  links_live [] h = search rules
+  links_live (x ∷ xs) h = with_one (is_nested v x) (All-head (IsLinked v.keys) x xs h) (links_live xs (All-tail (IsLinked v.keys) x xs h)) where
+    with_one : (b : Bool) → IsLinked v.keys x → All LeadsToLive (map link_of (filter (is_nested v) xs)) → All LeadsToLive (map link_of (cond b (x ∷ filter (is_nested v) xs) (filter (is_nested v) xs)))
+    with_one true link rest = All-cons LeadsToLive (link_of x) (map link_of (filter (is_nested v) xs)) link.desc rest
+    with_one false link rest = rest
+
+  abbrev pub inners : List Entry → List DescId
+  inners xs = inners_of (map link_of (filter (is_nested v) xs))
+
+  -- and to an instance
+  is_kind : (xs : List Entry) (k : DescId) → among_keys (inners xs) k ≡ true → kind k ≡ true
+  is_kind [] k h = cc
+  is_kind (x ∷ xs) k h = with_one (is_nested v x) refl (λ i. is_kind xs k i) h where
+    with_one : (b : Bool) → is_nested v x ≡ b → (among_keys (inners xs) k ≡ true → kind k ≡ true) → among_keys (map (λ l. l.inner) (map link_of (cond b (x ∷ filter (is_nested v) xs) (filter (is_nested v) xs)))) k ≡ true → kind k ≡ true
+    with_one true e rest i = elim (cases_Bool (k.0 == x.desc.0)) [
+      | inl same ↦ ap (λ (m : ℕ). kind (record { 0 = m })) (from_test k.0 x.desc.0 same) ∙ e
+      | inr other ↦ rest (ap (λ (b : Bool). b || among_keys (inners xs) k) (sym other) ∙ i)
+    ]
+    with_one false e rest i = rest i
+
+  same_nat : (k : ℕ) → (k == k) ≡ true
+  same_nat k = grind (arith, nat_tests)
+
+  or_right : (a b : Bool) → b ≡ true → (a || b) ≡ true
+  or_right true b h = refl
+  or_right false b h = h
+
+  -- and there is one to each that is watched
+  has_link : (x : Entry) (xs : List Entry) → Member x xs → is_nested v x ≡ true → among_keys (inners xs) x.desc ≡ true
+  has_link x [] m h = absurd m
+  has_link x (y ∷ ys) (inl e) h =
+      subst (λ (z : Entry). among_keys (inners (z ∷ ys)) x.desc ≡ true) e
+      (ap (λ (b : Bool). among_keys (map (λ l. l.inner) (map link_of (cond b (x ∷ filter (is_nested v) ys) (filter (is_nested v) ys)))) x.desc) h ∙ ap (λ (b : Bool). b || among_keys (inners ys) x.desc) (same_nat x.desc.0))
+  has_link x (y ∷ ys) (inr m) h = with_one (is_nested v y) (has_link x ys m h) where
+    with_one : (b : Bool) → among_keys (inners ys) x.desc ≡ true → among_keys (map (λ l. l.inner) (map link_of (cond b (y ∷ filter (is_nested v) ys) (filter (is_nested v) ys)))) x.desc ≡ true
+    with_one true i = or_right (x.desc.0 == y.desc.0) (among_keys (inners ys) x.desc) i
+    with_one false i = i
+
+  among_is : (x : Entry) (xs : List Entry) → Member x xs → among_keys (inners xs) x.desc ≡ is_nested v x
+  among_is x xs m = elim (cases_Bool (is_nested v x)) [
+    | inl e ↦ has_link x xs m e ∙ sym e
+    | inr e ↦
+        elim (cases_Bool (among_keys (inners xs) x.desc)) [
+          | inl i ↦ absurd (false≢true (sym e ∙ is_kind xs x.desc i))
+          | inr i ↦ i ∙ sym e
+        ]
+  ]
+
+  map_member : (f g : Entry → Watch) (all xs : List Entry) → ((x : Entry) → Member x xs → Member x all) → ((x : Entry) → Member x all → f x ≡ g x) → map f xs ≡ map g xs
+  map_member f g all [] inside h = refl
+  map_member f g all (x ∷ xs) inside h =
+      let one = h x (inside x (inl refl)) in
+      let rest = map_member f g all xs (λ y m. inside y (inr m)) h in λ i. one i ∷ rest i
+
+  map_map : (f : Entry → Entry) (g : Entry → Entry) (xs : List Entry) → map (watch_at v.keys) (map g (map f xs)) ≡ map (λ x. watch_at v.keys (g (f x))) xs
+  map_map f g [] = refl
+  map_map f g (x ∷ xs) = ap (λ (ws : List Watch). watch_at v.keys (g (f x)) ∷ ws) (map_map f g xs)
+
+  map_watch : (reached : ℕ → Bool) (xs : List Entry) → map (climbed reached v.files) (map (watch_at v.keys) xs) ≡ map (λ x. climbed reached v.files (watch_at v.keys x)) xs
+  map_watch reached [] = refl
+  map_watch reached (x ∷ xs) = ap (λ (ws : List Watch). climbed reached v.files (watch_at v.keys x) ∷ ws) (map_watch reached xs)
+
+  -- once every link was looked at, and what is passed on is forgotten
+  pub climbed_is : (n : ℕ) (old : Registrations) → map (watch_at v.keys) (map settled (map (climbs_on (reached_now v.files n (map (watch_at v.keys) old.entries)) v.keys (inners old.entries)) old.entries)) ≡ climbed_all n v.files (map (watch_at v.keys) old.entries)
+  climbed_is n old =
+      let reached = reached_now v.files n (map (watch_at v.keys) old.entries) in
+      map_map (climbs_on reached v.keys (inners old.entries)) settled old.entries
+      ∙ (map_member (λ x. watch_at v.keys (settled (climbs_on reached v.keys (inners old.entries) x))) (λ x. climbed reached v.files (watch_at v.keys x)) old.entries old.entries (λ x m. m)
+      (λ x m. ap (λ (b : Bool). record (watch_at v.keys x) { seen = if b && reached (number_at v.keys x.desc) && brings x.mask.0 IN then None else x.seen; from = 0 }) (among_is x old.entries m))
+      ∙ sym (map_watch reached old.entries))
+
+pub climbs_not : (d : DescId) (xs : List Entry) → xs ≡ map (climbs_to false d) xs
+climbs_not d [] = refl
+climbs_not d (x ∷ xs) = ap (λ (ys : List Entry). x ∷ ys) (climbs_not d xs)

@@ -1,0 +1,22 @@
+use Rattle.std.proofs.Common.{ℤ, rules, subst, sym, w32}
+use Rattle.std.proofs.lemmas.Int.{to_z-of_z}
+use Rattle.std.proofs.lemmas.Result.{IfOk-weaker}
+use mir.Val.{SFits}
+use Rattle.ep_base.specs.declared.call.Call.{Call}
+use Rattle.ep_base.specs.declared.call.Call.TheVariants.{EpollCtl}
+use Rattle.ep_calls.specs.Does.{DoesCall}
+use Rattle.ep_plain.proofs.act.make_call.Goals as goal
+
+pub returns-in_default : goal.returns-in_default
+returns-in_default c = record { ok = IfOk-weaker c.table_call.result _ _ (λ outcome h. h c.args.step c.args.caller.0) c.table_call.ensures.ok; err = c.table_call.ensures.err }
+
+pub returns-in-Read-clause-ok : goal.returns-in-Read-clause-ok
+returns-in-Read-clause-ok c = IfOk-weaker c.object_call.result _ _ (λ outcome h. h c.args.step c.args.caller.0) c.object_call.ensures.ok
+
+pub returns-in-EpollCtl-clause-ok : goal.returns-in-EpollCtl-clause-ok
+returns-in-EpollCtl-clause-ok c =
+    let x = c.in-EpollCtl in
+    let fits : SFits w32 x.op = search rules in
+    IfOk-weaker c.epoll_ctl.result _ _ (λ outcome h.
+    let P : Call → Type 0 = λ call. DoesCall c.args.step c.args.caller.0 c.args.pid.0 call outcome c.args.parts.now c.epoll_ctl.new.self in
+    subst P (sym x.is) (subst (λ (z : ℤ). P (EpollCtl x.epfd z x.fd x.mask x.tag)) (to_z-of_z w32 x.op fits) (h c.args.step c.args.caller.0))) c.epoll_ctl.ensures.ok

@@ -1,6 +1,0 @@
-use Rattle.ep_plain.specs.Parking.{ready_key}
-use Rattle.ep_plain.proofs.Marking.{HadTurns}
-use Rattle.ep_plain.proofs.parking.mark.Given as goal
-
-abbrev pub invariant-loop-index : goal.invariant-loop-index
-invariant-loop-index l = HadTurns (ready_key l.tables l.fn.now l.interest) l.fn.now l.fn.waiters l.index l.waiters

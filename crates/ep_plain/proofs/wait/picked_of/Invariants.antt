@@ -1,6 +1,0 @@
-use Rattle.std.proofs.Common.{◌≡◌, map, take}
-use Rattle.ep_plain.specs.declared.wait.Reportable.{Reportable}
-use Rattle.ep_plain.proofs.wait.picked_of.Given as goal
-
-abbrev pub invariant-loop-x : goal.invariant-loop-x
-invariant-loop-x l = l.picked.items ≡ map (λ (x : Reportable). x.entry.number) (take l.x-index l.chosen)

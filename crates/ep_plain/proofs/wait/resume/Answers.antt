@@ -1,0 +1,78 @@
+use Rattle.std.proofs.Common.{◌≡◌, ℤ, true, List, SFits, refl, rules, subst, sym, w32}
+use Rattle.std.proofs.lemmas.Int.{to_z-of_z}
+use Rattle.ep_base.specs.declared.answer.Answer.TheVariants.{Refused, Still}
+use Rattle.ep_base.specs.declared.call.Event.TheVariants.{Resume}
+use Rattle.ep_base.specs.declared.errno.Errno.TheVariants.{Einval}
+use Rattle.ep_machine.specs.Refusal.{refusals}
+use Rattle.ep_machine.specs.State.{State}
+use Rattle.ep_machine.specs.Step.{change}
+use Rattle.ep_machine.specs.Waits.{is_positive, resume}
+use Rattle.ep_machine.specs.Watches.{number_in}
+use Rattle.ep_park.specs.Waiters.{parked}
+use Rattle.ep_calls.specs.Moves.{MovesBy}
+use Rattle.ep_calls.specs.Parts.{Parts}
+use Rattle.ep_calls.specs.Stands.{IsPlaced}
+use Rattle.ep_calls.specs.Wait.{AreKeyed, IsPick}
+use Rattle.ep_plain.specs.Choose.{IsChosen}
+use Rattle.ep_calls.specs.declared.wait.Reportable.{Reportable}
+use Rattle.ep_calls.proofs.ActLemmas.{does_all}
+use Rattle.ep_plain.proofs.ChooseLemmas.{chosen_is_pick}
+use Rattle.ep_calls.proofs.Going.{goes_told}
+use Rattle.ep_calls.proofs.Parked.{found_all}
+use Rattle.ep_calls.proofs.Resumed.{goes_still, goes_unparked, is_off}
+use Rattle.ep_calls.proofs.Waited.{asked_some, resume_does}
+use Rattle.ep_plain.proofs.wait.resume.Goals as goal
+
+pub returns-in_default-clause-ok : goal.returns-in_default-clause-ok
+returns-in_default-clause-ok c =
+    let k = c.parts.inside in
+    let p : Parts = record { tables = k.tables; interest = k.interest; graph = k.graph; parked = k.waiters; clock = k.clock } in
+    let o = c.refused.ensures in
+    let caller = c.args.caller.0 in
+    let any : State → Type 0 = λ s. Unit {0} in
+    rw (← c.parts.view_is) (does_all any c.args.step (λ s. refusals p.tables.limits s caller Resume) (λ s picked. change p.tables.limits s caller Resume picked) c.refused.result p p
+    (resume_does any c.args.step caller c.refused.result p p o.raising refl refl refl refl (λ s at sound quiet legal stands u.
+    goes_told (refusals p.tables.limits s caller Resume) (resume s caller) s c.refused.result.answer (Refused Einval) c.refused.result.picked p o.answer o.picked
+    (goes_unparked p.graph p.tables p.interest p.parked p.clock caller p.tables.limits s stands (sym c.in_default.ensures)))) (λ s at sound quiet legal stands. tt))
+
+pub returns-then-not-waiter-clause-ok : goal.returns-then-not-waiter-clause-ok
+returns-then-not-waiter-clause-ok c =
+    let k = c.parts.inside in
+    let p : Parts = record { tables = k.tables; interest = k.interest; graph = k.graph; parked = k.waiters; clock = k.clock } in
+    let o = c.settled.ensures in
+    let caller = c.args.caller.0 in
+    let any : State → Type 0 = λ s. Unit {0} in
+    rw (← c.parts.view_is) (does_all any c.args.step (λ s. refusals p.tables.limits s caller Resume) (λ s picked. change p.tables.limits s caller Resume picked) c.settled.result p p
+    (resume_does any c.args.step caller c.settled.result p p o.raising refl refl refl refl (λ s at sound quiet legal stands u.
+    goes_told (refusals p.tables.limits s caller Resume) (resume s caller) s c.settled.result.answer Still c.settled.result.picked p o.answer o.picked
+    (goes_still p.graph p.tables p.interest p.parked p.clock caller p.tables.limits s stands c.in-Some.waiter (sym c.in-Some.ensures) (is_off c.in-Some.waiter.marked c.if-not-waiter.true)))) (λ s at sound quiet legal stands. tt))
+
+pub choose-requires-clause-positive : goal.choose-requires-clause-positive
+choose-requires-clause-positive c =
+    let w = c.in-Some.waiter in
+    let k = c.parts.inside in
+    let fits : SFits w32 w.max = search rules in
+    let placed = found_all (IsPlaced k.tables.keys) c.args.caller.0 k.waiters (parked c.args.caller.0 w) (sym c.in-Some.ensures) c.parts.invariant.placed in
+    subst (λ (z : ℤ). is_positive z ≡ true) (sym (to_z-of_z w32 w.max fits)) (asked_some w.max placed.most)
+
+pub resume_with-requires-clause-keyed : goal.resume_with-requires-clause-keyed
+resume_with-requires-clause-keyed c =
+    subst (λ (q : Parts). AreKeyed q.tables q.clock q.interest c.deref.result.now) c.parts.view_is
+    (subst (λ (xs : List Reportable). AreKeyed c.parts.inside.tables c.parts.inside.clock c.parts.inside.interest xs) (sym c.deref.ensures.value) c.in_ok-chosen.ensures.keyed)
+
+pub returns-clause-ok : goal.returns-clause-ok
+returns-clause-ok c =
+    let k = c.parts.inside in
+    let p : Parts = record { tables = k.tables; interest = k.interest; graph = k.graph; parked = k.waiters; clock = k.clock } in
+    let q = c.args.parts.now in
+    let w = c.in-Some.waiter in
+    let caller = c.args.caller.0 in
+    let chosen = c.deref.result.now in
+    let fits : SFits w32 w.max = search rules in
+    let placed = found_all (IsPlaced k.tables.keys) caller k.waiters (parked caller w) (sym c.in-Some.ensures) c.parts.invariant.placed in
+    let chooses = subst (λ (xs : List Reportable). IsChosen k.tables k.clock k.interest w.instance (number_in w.max) xs) (sym c.deref.ensures.value)
+    (subst (λ (z : ℤ). IsChosen k.tables k.clock k.interest w.instance (number_in z) c.in_ok-chosen.chosen.items) (to_z-of_z w32 w.max fits) c.in_ok-chosen.ensures) in
+    let pick : MovesBy c.args.step p (IsPick p.tables w.instance (number_in w.max) chosen) = λ s at sound quiet legal stands.
+    chosen_is_pick k.tables k.clock k.interest s w.instance (number_in w.max) chosen sound stands c.parts.invariant.linked c.known.ensures placed.instance chooses in
+    does_all (IsPick q.tables w.instance (number_in w.max) chosen) c.args.step (λ s. refusals q.tables.limits s caller Resume) (λ s picked. change q.tables.limits s caller Resume picked) c.in_ok-outcome.outcome q c.resume_with.new.self
+    c.in_ok-outcome.ensures.ok (subst (λ (r : Parts). MovesBy c.args.step r (IsPick r.tables w.instance (number_in w.max) chosen)) c.parts.view_is pick)

@@ -1,0 +1,70 @@
+//! Which registrations a wait reports: of those of its instance that are reportable the longest unreported.
+ghost use Rattle.std.specs.Prelude.{◌≡◌, ◌≤◌, IfOk, map, true};
+ghost use Rattle.ep_machine.specs.Timer.{last_moment};
+ghost use Rattle.ep_machine.specs.Waits.{is_positive};
+ghost use Rattle.ep_machine.specs.Watches.{number_in};
+ghost use Rattle.ep_calls.specs.Stands.{AreLinked};
+ghost use Rattle.ep_calls.specs.Wait.{AreKeyed};
+ghost use Rattle.ep_plain.specs.Choose.{IsChosen, reportables_at};
+
+use ep_base::DescId;
+use ep_calls::{Reportable, is_reportable, shown};
+use ep_interest::Interest;
+use ep_table::Tables;
+use std::alloc::{AllocError, Global};
+
+/// The registrations of an instance that are reportable, in order of registration.
+fn reportables(
+    alloc: Global,
+    tables: &Tables,
+    now: u64,
+    interest: &Interest,
+    instance: DescId,
+) -> Result<Vec<Reportable>, AllocError>
+    requires linked { AreLinked tables.now interest.now }
+    requires clock { now ≤ last_moment }
+    ensures entries { IfOk result (λ found. map (λ x. x.entry) found.items ≡ reportables_at tables.now now interest.now instance) }
+    ensures keyed { IfOk result (λ found. AreKeyed tables.now now interest.now found.items) }
+{
+    interest.known();
+    let mut found = Vec::new(alloc);
+    for (id, entry) in interest.entries(instance) {
+        let bits = shown(tables, now, interest, entry);
+        if is_reportable(entry, bits) {
+            found.push(Reportable {
+                id,
+                entry: *entry,
+                bits,
+            })?;
+        }
+    }
+    Ok(found)
+}
+
+/// How many reports are asked for.
+fn most(max: i32) -> usize
+    requires { is_positive max ≡ true }
+    ensures { result ≡ number_in max }
+{
+    max as usize
+}
+
+/// At most `max` of them, the longest unreported first, so that none is passed over for ever.
+pub fn choose(
+    alloc: Global,
+    tables: &Tables,
+    now: u64,
+    interest: &Interest,
+    instance: DescId,
+    max: i32,
+) -> Result<Vec<Reportable>, AllocError>
+    requires linked { AreLinked tables.now interest.now }
+    requires positive { is_positive max ≡ true }
+    requires clock { now ≤ last_moment }
+    ensures { IfOk result (λ chosen. IsChosen tables.now now interest.now instance (number_in max) chosen.items) }
+{
+    let mut chosen = reportables(alloc, tables, now, interest, instance)?;
+    chosen.sort_by_key(|x| x.entry.rep)?;
+    chosen.truncate(most(max));
+    Ok(chosen)
+}
