@@ -8,10 +8,12 @@ use crate::mask::Mask;
 use crate::short_list::{Bytes, Reports};
 use std::alloc::AllocError;
 
-/// One registration in the answer of a wait: the bits that it shows, and its data.
+/// One registration in the answer of a wait.
 #[derive(Clone, Copy, Debug, Default, PartialEq, Eq)]
 pub struct Report {
+    /// Of IN, OUT, ERR, HUP and RDHUP those that hold at its target and that its mask asks for; ERR and HUP unasked.
     pub bits: Mask,
+    /// The data that its last ADD or MOD gave it.
     pub tag: u64,
 }
 
@@ -20,21 +22,22 @@ pub struct Report {
 pub enum Answer {
     /// The call is done.
     Done,
-    /// A descriptor number, or how many bytes were taken.
+    /// A descriptor number, how many bytes a write took, or the process that fork(2) made.
     Num(u64),
     /// Two descriptor numbers, the lower one first.
     Two(Fd, Fd),
-    /// The bytes that a read gave.
+    /// The bytes that a read gave; none at the end.
     Bytes(Bytes),
-    /// What a wait reports.
+    /// What a wait reports: at most its `max` reports, none where its timeout has passed.
     Events(Reports),
-    /// The setting of a timer, in milliseconds.
+    /// The setting of a timer, in milliseconds: until its next expiration, 0 where none comes, and between two, 0 where
+    /// there is one alone.
     Time { value: u64, interval: u64 },
-    /// The wait is parked.
+    /// The caller of the wait is parked: nothing was reportable. Ask by `Event::Resume` whether its wait has ended.
     Parked,
-    /// The parked wait goes on.
+    /// The caller that resumed is still parked: its wait has not ended.
     Still,
-    /// The call is refused.
+    /// The event is refused, and has changed nothing but the history, and with ENOMEM nothing at all.
     Refused(Errno),
 }
 

@@ -7,37 +7,51 @@ use crate::ids::{Fd, Pid};
 use crate::mask::Mask;
 use std::alloc::AllocError;
 
-/// A call of a process on the kernel. Everything behaves as with O_NONBLOCK.
+/// A call of a process on the kernel. Everything behaves as with O_NONBLOCK; only epoll_wait(2) parks its caller.
+///
+/// Each call is refused with ESRCH where its process is not there and with EBUSY while its caller is parked, before
+/// the refusals below, of which the first that holds is answered. A refusal leaves one record and changes nothing else.
+/// ENOMEM comes last, leaves no record and changes nothing. A descriptor below 0 names nothing.
+/// `docs/calls.md` has all of it in tables.
 #[derive(Drop)]
 pub enum Call {
-    /// pipe2(2): a pipe, whose read end has the lower number.
+    /// pipe2(2): a pipe at the two lowest free numbers, its read end at the lower one. Answered by `Answer::Two`.
+    /// EMFILE where fewer than two numbers are free, ENFILE where fewer than two descriptions are left.
     Pipe {
         cloexec: bool,
     },
-    /// eventfd(2): a counter that starts at `init`, in semaphore mode or not.
+    /// eventfd(2): a counter up to 2^64 - 2 that starts at `init`; with `semaphore` a read takes 1 and not all.
+    /// Answered by `Answer::Num`, its descriptor. EMFILE, ENFILE.
     EventFd {
         init: u32,
         semaphore: bool,
         cloexec: bool,
     },
-    /// timerfd_create(2): a disarmed timer. Clocks 0 and 1 are both the one simulated clock.
+    /// timerfd_create(2): a disarmed timer. Clocks 0 and 1 are both the one simulated clock. Answered by `Answer::Num`.
+    /// EINVAL for any other clock, EMFILE, ENFILE.
     TimerFd {
         clock: i32,
         cloexec: bool,
     },
-    /// socketpair(2) of Unix stream sockets.
+    /// socketpair(2) of Unix stream sockets, at the two lowest free numbers. Answered by `Answer::Two`.
+    /// EMFILE and ENFILE as for a pipe.
     SocketPair {
         cloexec: bool,
     },
-    /// A file that can't be polled: a read gives no bytes, and a write keeps none.
+    /// A file that can't be polled: a read gives no bytes, and a write answers its length and keeps none.
+    /// Answered by `Answer::Num`. EMFILE, ENFILE.
     Plain {
         cloexec: bool,
     },
-    /// epoll_create1(2): a new instance.
+    /// epoll_create1(2): a new instance without registrations. Answered by `Answer::Num`. EMFILE, ENFILE.
     EpollCreate {
         cloexec: bool,
     },
-    /// epoll_ctl(2): `op` is ADD 1, DEL 2 or MOD 3, and `tag` the data of the event.
+    /// epoll_ctl(2) on the registration of `fd` in the instance `epfd`: `op` is ADD 1, DEL 2 or MOD 3, and `tag` the
+    /// data that its reports carry. DEL looks at neither mask nor tag. Answered by `Answer::Done`.
+    /// EBADF for `epfd`, EBADF for `fd`, EPERM for a file that can't be polled, EINVAL where `epfd` is no instance or
+    /// both are one description, EINVAL for another `op`, EINVAL for a mask with EXCLUSIVE, ENOENT or EEXIST, ELOOP
+    /// where instances would watch each other in a loop or in a chain of more than five, ENOSPC past `Limits::watches`.
     EpollCtl {
         epfd: Fd,
         op: i32,
@@ -45,56 +59,75 @@ pub enum Call {
         mask: Mask,
         tag: u64,
     },
-    /// epoll_wait(2): at most `max` reports, after at most `timeout` milliseconds.
+    /// epoll_wait(2): at most `max` reports of what is reportable now, answered by `Answer::Events`. Where nothing is,
+    /// a `timeout` of 0 answers no reports and any other parks the caller (`Answer::Parked`): for `timeout`
+    /// milliseconds at most, and without end where it is negative. Every `max` from 1 and every `timeout` are taken.
+    /// EINVAL for a `max` below 1, EBADF, EINVAL where `epfd` is no instance.
     EpollWait {
         epfd: Fd,
         max: i32,
         timeout: i64,
     },
-    /// read(2) of at most `n` bytes.
+    /// read(2) of at most `n` bytes, answered by `Answer::Bytes`: none at the end of a pipe or socket whose writer is
+    /// gone. An eventfd or a timer gives 8 bytes, the lowest first, and answers EINVAL where `n` is below 8.
+    /// EBADF where `fd` names nothing or the write end of a pipe, EINVAL for an instance, EAGAIN where nothing is there.
     Read {
         fd: Fd,
         n: u32,
     },
-    /// write(2) of these bytes.
+    /// write(2) of these bytes, answered by `Answer::Num`, how many were taken. A pipe takes 4,096 bytes or fewer whole
+    /// or not at all, and of more as many as fit; a socket takes as many as fit; an eventfd adds the first 8.
+    /// EBADF where `fd` names nothing or the read end of a pipe, EINVAL for an instance or a timer, EINVAL for an
+    /// eventfd and fewer than 8 bytes or 2^64 - 1, EPIPE where nobody reads any more, EAGAIN where nothing fits.
     Write {
         fd: Fd,
         bytes: Buffer,
     },
-    /// shutdown(2) with SHUT_WR.
+    /// shutdown(2) with SHUT_WR; a second one is done and changes nothing. Answered by `Answer::Done`.
+    /// EBADF, ENOTSOCK where `fd` names no socket.
     Shutdown {
         fd: Fd,
     },
     /// timerfd_settime(2): the first expiration at the moment `value` with `absolute`, else `value`
-    /// milliseconds from now, and then one after each `interval` milliseconds.
+    /// milliseconds from now, and then one after each `interval` milliseconds; one alone where that is 0. A moment that
+    /// has passed expires at once. A `value` of 0 disarms. Answered by `Answer::Time`, the setting before.
+    /// EBADF, EINVAL where `fd` names no timer, EINVAL where `value` or `interval` is above 1,000,000,000,000.
     SetTime {
         fd: Fd,
         absolute: bool,
         value: u64,
         interval: u64,
     },
-    /// timerfd_gettime(2).
+    /// timerfd_gettime(2), answered by `Answer::Time`: the milliseconds until the next expiration, 0 where none comes,
+    /// and the interval. EBADF, EINVAL where `fd` names no timer.
     GetTime {
         fd: Fd,
     },
-    /// dup(2): another descriptor of what `fd` names, without close-on-exec.
+    /// dup(2): the lowest free number names what `fd` does, without close-on-exec. Answered by `Answer::Num`.
+    /// EBADF, EMFILE.
     Dup {
         fd: Fd,
     },
-    /// dup2(2): the descriptor `to` names what `fd` does, without close-on-exec.
+    /// dup2(2): the descriptor `to` names what `fd` does, without close-on-exec, and is closed first where it names
+    /// something; where both are one number, nothing is done. Answered by `Answer::Num`, `to`.
+    /// EBADF where `fd` names nothing, EBADF where `to` is below 0 or not below `Limits::descriptors`.
     Dup2 {
         fd: Fd,
         to: Fd,
     },
-    /// close(2).
+    /// close(2). What no descriptor and no parked caller names any more dies, and its registrations with it.
+    /// Answered by `Answer::Done`. EBADF.
     Close {
         fd: Fd,
     },
-    /// fork(2): a new process with a copy of the table.
+    /// fork(2): a new process with a copy of the table, close-on-exec included. Answered by `Answer::Num`, its number.
+    /// EAGAIN where `Limits::processes` are alive.
     Fork,
-    /// execve(2), as far as it closes descriptors.
+    /// execve(2), as far as it closes descriptors: those with close-on-exec. Answered by `Answer::Done`.
+    /// EBUSY while a caller is parked in the process.
     Exec,
-    /// exit(2): closes all descriptors and ends the process.
+    /// exit(2): closes all descriptors and ends the process, whose number answers ESRCH from then on.
+    /// Answered by `Answer::Done`. EBUSY while a caller is parked in the process.
     Exit,
 }
 
@@ -161,14 +194,16 @@ impl Call {
     }
 }
 
-/// What is handed to the kernel: one event is one step and one record.
+/// What is handed to the kernel: one event is one step and leaves one record.
 #[derive(Drop)]
 pub enum Event {
     /// A call of a process.
     Call { pid: Pid, call: Call },
-    /// A parked caller asks whether it may go on.
+    /// A parked caller asks whether its wait has ended: answered by `Answer::Events` where it has, and by
+    /// `Answer::Still` where it has not. EINVAL where the caller is not parked.
     Resume,
-    /// The clock goes on by `n` milliseconds.
+    /// The clock goes on by `n` milliseconds, 0 too; for everybody, whoever is parked. Answered by `Answer::Done`.
+    /// EINVAL where it would pass 1,000,000,000,000.
     Tick { n: u64 },
 }
 

@@ -68,7 +68,7 @@ impl Limits {
         })
     }
 
-    /// Descriptor numbers of a process, past which a call answers EMFILE.
+    /// How many descriptor numbers a process has, from 0 on; past them a call answers EMFILE.
     pub fn descriptors(&self) -> u32
         ensures value { result ≡ self.now.descriptors }
         ensures in_range { IsBetween 3 65536 result }
