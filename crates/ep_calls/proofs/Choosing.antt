@@ -1,9 +1,7 @@
 -- The longest unreported registrations, and what noting them leaves.
-use Rattle.std.proofs.Common.{◌≡◌, ◌==◌, ◌&&◌, ◌||◌, ◌<◌, ◌++◌, ℕ, zero, suc, Bool, false, true, List, [], ◌∷◌, Some, cond, get_or, length, map, not, inl, inr, refl, ap, sym, ◌∙◌, arith}
+use Rattle.std.proofs.Common.{◌≡◌, ◌==◌, ◌&&◌, ◌||◌, ◌++◌, ℕ, Bool, false, true, List, [], ◌∷◌, Some, cond, map, not, inl, inr, refl, ap, sym, ◌∙◌}
 use Rattle.std.specs.List.{AllByRecursion}
-use Rattle.std.specs.List.Sorted.{IsNonDecreasingBy}
 use Rattle.std.proofs.lemmas.Bool.{cases_Bool}
-use Rattle.std.proofs.lemmas.List.{length-map}
 use Rattle.ep_interest.specs.Registrations.{noted, numbered}
 use Rattle.ep_interest.specs.declared.entry.Entry.{Entry}
 use Rattle.ep_machine.specs.Bits.{ONESHOT, has_bit}
@@ -11,7 +9,6 @@ use Rattle.ep_machine.specs.Counts.{no_counts}
 use Rattle.ep_machine.specs.Lists.{is_among}
 use Rattle.ep_calls.proofs.Found.{some_one}
 use Rattle.ep_calls.specs.Wait.{with_report}
-use Rattle.ep_calls.specs.declared.wait.Reportable.{Reportable}
 use Rattle.ep_law.proofs.TestLemmas.{from_test}
 
 or_false : (b : Bool) → (b || false) ≡ b

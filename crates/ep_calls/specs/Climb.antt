@@ -1,9 +1,8 @@
 -- What was raised climbs through instances.
-use Rattle.std.specs.Prelude.{◌≡◌, Bool, List, filter, if◌then◌else◌, map, unwrap_or, ℕ}
+use Rattle.std.specs.Prelude.{◌≡◌, Bool, List, filter, map, unwrap_or, ℕ}
 use Rattle.ep_base.specs.declared.ids.DescId.{DescId}
-use Rattle.ep_interest.specs.Registrations.{Registrations, freshened_on}
+use Rattle.ep_interest.specs.Registrations.{Registrations}
 use Rattle.ep_interest.specs.declared.entry.Entry.{Entry}
-use Rattle.ep_machine.specs.Bits.{IN}
 use Rattle.ep_machine.specs.Files.{object_of}
 use Rattle.ep_view.specs.KernelView.{climbed_all}
 use Rattle.ep_machine.specs.Objects.{is_instance, plain}

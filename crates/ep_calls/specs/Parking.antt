@@ -1,8 +1,6 @@
 -- Parked waits over the parts of a kernel.
-use Rattle.std.specs.Prelude.{Bool, if◌then◌else◌, List, map, slice_index_or, ℕ}
+use Rattle.std.specs.Prelude.{Bool, ℕ}
 use Rattle.ep_interest.specs.Registrations.{Registrations}
-use Rattle.ep_machine.specs.State.{Waiter}
-use Rattle.ep_park.specs.Waiters.{longest_marked}
 use Rattle.ep_calls.specs.Readiness.{readiness}
 use Rattle.ep_calls.specs.Stands.{number_at}
 use Rattle.ep_table.specs.Value.{Seen}

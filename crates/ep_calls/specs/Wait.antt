@@ -1,13 +1,12 @@
 -- epoll_wait over the parts of a kernel.
-use Rattle.std.specs.Prelude.{◌≡◌, true, All, Bool, IsSome, List, None, Option, Some, [], filter, if◌then◌else◌, map, negsuc, not, pos, take, ℕ, ℤ, ◌&&◌, ◌+◌, ◌∷◌}
-use Rattle.std.specs.List.Sorted.{IsNonDecreasingBy, IsPermutation}
+use Rattle.std.specs.Prelude.{◌≡◌, true, All, Bool, IsSome, List, None, Option, Some, [], if◌then◌else◌, map, negsuc, not, pos, ℕ, ℤ, ◌&&◌, ◌+◌, ◌∷◌}
 use Rattle.ep_base.specs.declared.answer.Report.{Report}
 use Rattle.ep_base.specs.declared.call.Call.{Call}
 use Rattle.ep_base.specs.declared.call.Call.TheVariants.{EpollWait}
 use Rattle.ep_base.specs.declared.errno.Errno.{Errno}
 use Rattle.ep_base.specs.declared.errno.Errno.TheVariants.{Ebadf, Einval}
 use Rattle.ep_base.specs.declared.ids.DescId.{DescId}
-use Rattle.ep_interest.specs.Registrations.{Registrations, is_of, number_under as number_of_entry, numbered}
+use Rattle.ep_interest.specs.Registrations.{Registrations, number_under as number_of_entry, numbered}
 use Rattle.ep_interest.specs.declared.entry.Entry.{Entry}
 use Rattle.ep_machine.specs.Bits.{ONESHOT, has_bit}
 use Rattle.ep_machine.specs.Counts.{no_counts}
@@ -19,7 +18,7 @@ use Rattle.ep_machine.specs.Report.{is_pick}
 use Rattle.ep_machine.specs.State.{State}
 use Rattle.ep_machine.specs.Waits.{is_positive}
 use Rattle.ep_table.specs.Value.{Seen, number_under}
-use Rattle.ep_calls.specs.Readiness.{entry_bits, entry_shows, readiness}
+use Rattle.ep_calls.specs.Readiness.{entry_bits, readiness}
 use Rattle.ep_calls.specs.Stands.{number_at}
 use Rattle.ep_calls.specs.declared.wait.Reportable.{Reportable}
 use Rattle.ep_calls.specs.declared.wait.Wait.{Wait}

@@ -3,9 +3,9 @@ ghost use Rattle.std.specs.Prelude.{◌≡◌, []};
 ghost use Rattle.ep_calls.specs.Raising.{IsRaising};
 ghost use Rattle.ep_calls.specs.Clock.{Sets, Ticks};
 
+use crate::raising::Raising;
 use crate::{Outcome, Parts};
 use ep_base::{Answer, Errno};
-use crate::raising::Raising;
 
 /// The last moment of the clock.
 const LAST_MOMENT: u64 = 1_000_000_000_000;

@@ -24,6 +24,6 @@ pub use crate::kernel::Kernel;
 pub use crate::outcome::Outcome;
 pub use crate::parts::Parts;
 pub use crate::raising::Raising;
-pub use crate::runs::{ready_waiters_are_marked, run};
 pub use crate::readiness::{LONGEST_CHAIN, is_ready_now, is_reportable, shown};
+pub use crate::runs::{ready_waiters_are_marked, run};
 pub use crate::wait::{Reportable, Wait, find_instance};

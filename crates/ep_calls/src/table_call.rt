@@ -8,9 +8,9 @@ ghost use Rattle.ep_calls.specs.Parts.{HasRoom};
 ghost use Rattle.ep_calls.specs.Stands.{KeepsHolds};
 ghost use Rattle.ep_calls.specs.TableCall.{CallsTables, IsTableCall};
 
-use crate::{Outcome, Parts};
 use crate::create::{create_pair, create_pipe, create_single, create_timer};
 use crate::descriptors::{close, dup, dup2, exec, exit, fork};
+use crate::{Outcome, Parts};
 use ep_base::{Call, Limits, Pid};
 use ep_object::Object;
 use ep_park::Park;
@@ -86,7 +86,14 @@ impl Parts {
         ensures err { OnErr result (self.new ≡ self.old) }
     {
         let limits = *self.tables.limits();
-        let outcome = call_tables(self.alloc, &limits, &mut self.tables, &self.waiters, pid, call)?;
+        let outcome = call_tables(
+            self.alloc,
+            &limits,
+            &mut self.tables,
+            &self.waiters,
+            pid,
+            call,
+        )?;
         Ok(outcome)
     }
 }

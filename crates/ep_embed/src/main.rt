@@ -50,7 +50,11 @@ fn main(rt: HostRuntime) -> io::Result<()> {
     advance(&mut kernel, WRITER, 40);
     let bytes = Buffer::new(b"abc".to_vec(alloc)?);
     call(&mut kernel, WRITER, Call::Write { fd: Fd(4), bytes });
-    println!(rt; "marked at {} ms: {}", kernel.now(), kernel.is_marked(READER))?;
+    println!(rt;
+        "marked at {} ms: {}",
+        kernel.now(),
+        kernel.is_marked(READER)
+    )?;
     if let Answer::Events(reports) = kernel.step(READER, Event::Resume) {
         for report in reports.as_slice() {
             println!(rt; "reported: bits {}, data {}", report.bits.0, report.tag)?;

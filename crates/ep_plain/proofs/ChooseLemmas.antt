@@ -103,7 +103,7 @@ chosen_is_pick v now r s instance most chosen steady stands linked sound lives i
     let found = map (watch_at v.keys) is.found in
     let same_ready : machine_readiness s ≡ readiness v now r = λ i. ready_now (stands.files i) (stands.now i) (stands.watches i) in
     let scan : filter (shows_in (machine_readiness s) s.files s.now e) (kernel_watches s s.watches) ≡ map (watch_at v.keys) (filter (entry_shows (readiness v now r) v now) (filter (is_of instance) r.entries)) =
-        (λ i. filter (shows_in (same_ready i) (stands.files i) (stands.now i) e) (stands.watches i)) ∙ scanned (readiness v now r) v now instance sound lives r.entries linked in
+    (λ i. filter (shows_in (same_ready i) (stands.files i) (stands.now i) e) (stands.watches i)) ∙ scanned (readiness v now r) v now instance sound lives r.entries linked in
     let moved = subst (λ (xs : List Watch). IsPermutation xs found) (sym scan) (IsPermutation-map (watch_at v.keys) _ is.found is.moved) in
     let told : take most found ≡ map (watch_at v.keys) (entries_in chosen) = take-map (watch_at v.keys) most is.found ∙ ap (map (watch_at v.keys)) (sym is.taken) in
     let ks : numbers (take most found) ≡ numbers_of chosen = ap numbers told ∙ numbers_are v.keys chosen in

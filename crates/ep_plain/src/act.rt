@@ -12,7 +12,13 @@ use ep_calls::{Control, Outcome, Parts, Wait};
 use std::alloc::AllocError;
 
 /// A call of a process that is there.
-fn make_call(parts: &mut Parts, step: u64, caller: CallerId, pid: Pid, call: &Call) -> Result<Outcome, AllocError>
+fn make_call(
+    parts: &mut Parts,
+    step: u64,
+    caller: CallerId,
+    pid: Pid,
+    call: &Call,
+) -> Result<Outcome, AllocError>
     requires free { list_any (is_caller caller.0) parts.old.parked ≡ false }
     requires process { is_some (table_of parts.old.tables.files pid.0) ≡ true }
     requires room { HasRoom parts.old }
@@ -55,7 +61,12 @@ fn make_call(parts: &mut Parts, step: u64, caller: CallerId, pid: Pid, call: &Ca
 }
 
 /// One event: its refusal, ESRCH first for a call, or its change. An `Err` is want of memory and leaves the parts.
-pub fn act(parts: &mut Parts, step: u64, caller: CallerId, event: &Event) -> Result<Outcome, AllocError>
+pub fn act(
+    parts: &mut Parts,
+    step: u64,
+    caller: CallerId,
+    event: &Event,
+) -> Result<Outcome, AllocError>
     requires { HasRoom parts.old }
     ensures ok { IfOk result (λ outcome. DoesEvent step caller.0 event.now outcome parts.old parts.new) }
     ensures err { OnErr result (parts.new ≡ parts.old) }

@@ -47,5 +47,10 @@ pub fn mark(parts: &mut Parts)
     ensures marks { parts.new.parked ≡ marked_by (ready_key parts.old.tables parts.old.clock parts.old.interest) parts.old.clock parts.old.parked }
     ensures others { parts.new ≡ record parts.old { parked = parts.new.parked } }
 {
-    mark_each(&parts.tables, parts.clock, &parts.interest, &mut parts.waiters);
+    mark_each(
+        &parts.tables,
+        parts.clock,
+        &parts.interest,
+        &mut parts.waiters,
+    );
 }

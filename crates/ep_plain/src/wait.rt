@@ -16,7 +16,12 @@ use std::alloc::AllocError;
 /// most, and without end where that is negative.
 /// Refused with EINVAL for a `max` below 1 or no instance, and with EBADF where `epfd` names nothing.
 /// A refusal and an `Err`, which is want of memory, leave the parts.
-pub fn epoll_wait(parts: &mut Parts, step: u64, caller: CallerId, args: Wait) -> Result<Outcome, AllocError>
+pub fn epoll_wait(
+    parts: &mut Parts,
+    step: u64,
+    caller: CallerId,
+    args: Wait,
+) -> Result<Outcome, AllocError>
     requires { list_any (is_caller caller.0) parts.old.parked ≡ false }
     ensures ok { IfOk result (λ outcome. DoesCall step caller.0 args.pid.0 (wait_call args) outcome parts.old parts.new) }
     ensures err { OnErr result (parts.new ≡ parts.old) }
@@ -26,7 +31,14 @@ pub fn epoll_wait(parts: &mut Parts, step: u64, caller: CallerId, args: Wait) ->
         Err(errno) => return Ok(Outcome::refused(parts.alloc, errno)),
     };
     parts.tables.known();
-    let chosen = choose(parts.alloc, &parts.tables, parts.clock, &parts.interest, instance, args.max)?;
+    let chosen = choose(
+        parts.alloc,
+        &parts.tables,
+        parts.clock,
+        &parts.interest,
+        instance,
+        args.max,
+    )?;
     let outcome = parts.wait_with(step, caller, args, instance, &chosen)?;
     Ok(outcome)
 }

@@ -39,9 +39,10 @@ returns-in-Err-clause-ok c = λ n caller.
     let limits = v.limits in
     let e = c.refused.ensures in
     rw (← c.self.view_is) (ctl_does p r k.graph pid a (Refused c.in-Err.errno) c.refused.result e.answer e.picked (subst (λ (q : Raising). IsRaising q v) (sym e.raising) tt) (omega arith) n caller (λ s at sound quiet legal stands.
-    let first_is = refused_name limits s pid a.epfd.0 a.op a.fd.0 a.mask.0 c.in-Err.errno (ap (λ (f : Files). first (naming_refusals f pid a.epfd.0 a.fd.0)) stands.files ∙ c.in-Err.ensures) in
-    (goes_refused (ctl_refusals limits s pid a.epfd.0 a.op a.fd.0 a.mask.0) (call_change limits s caller pid (control_call a) []) s p c.in-Err.errno first_is stands,
-    raises_refused (ctl_refusals limits s pid a.epfd.0 a.op a.fd.0 a.mask.0) (call_change limits s caller pid (control_call a) []) v k.clock c.in-Err.errno c.refused.result.raising first_is e.raising)))
+    let first_is = refused_name limits s pid a.epfd.0 a.op a.fd.0 a.mask.0 c.in-Err.errno (ap (λ (f : Files). first (naming_refusals f pid a.epfd.0 a.fd.0)) stands.files ∙ c.in-Err.ensures) in (
+      goes_refused (ctl_refusals limits s pid a.epfd.0 a.op a.fd.0 a.mask.0) (call_change limits s caller pid (control_call a) []) s p c.in-Err.errno first_is stands,
+      raises_refused (ctl_refusals limits s pid a.epfd.0 a.op a.fd.0 a.mask.0) (call_change limits s caller pid (control_call a) []) v k.clock c.in-Err.errno c.refused.result.raising first_is e.raising,
+    )))
 
 pub returns-in_default-clause-ok : goal.returns-in_default-clause-ok
 returns-in_default-clause-ok c = λ n caller.
