@@ -1,4 +1,4 @@
-//! The tests of the parts, in a crate of their own: the gate proves a crate that has tests twice.
+//! The tests of the words and the parts, in a crate of their own: the gate proves a crate that has tests twice.
 #![tactic(auto)]
 
 #[cfg(test)]
@@ -17,3 +17,5 @@ mod streams;
 mod tables;
 #[cfg(test)]
 mod waits;
+#[cfg(test)]
+mod words;

@@ -1,0 +1,72 @@
+//! Copies with ample memory, and limits.
+use ep_base::{
+    Answer, Buffer, Bytes, Call, Errno, Event, Fd, Limits, Mask, Picked, Pid, Report, Reports,
+};
+use smallvec::SmallVec;
+use std::test::Fail;
+
+#[test]
+fn copies_of_events(rt: HostRuntime) -> Result<(), Fail> {
+    let alloc = rt.alloc();
+    let event = Event::Call {
+        pid: Pid(1),
+        call: Call::Write {
+            fd: Fd(4),
+            bytes: Buffer::new([97, 98, 99].to_vec(alloc)?),
+        },
+    };
+    let Event::Call { pid, call } = event.copy()? else {
+        return Err(Fail::from("another event"));
+    };
+    assert_eq!(rt; pid, Pid(1));
+    let Call::Write { fd, bytes } = call else {
+        return Err(Fail::from("another call"));
+    };
+    assert_eq!(rt; fd, Fd(4));
+    assert_eq!(rt; bytes.as_slice(), b"abc".as_slice());
+    assert_eq!(rt; bytes.into_vec().as_slice(), b"abc".as_slice());
+    let tick = Event::Tick { n: 5 };
+    assert!(rt; matches!(tick.copy()?, Event::Tick { n: 5 }));
+    assert!(rt; matches!(Event::Resume.copy()?, Event::Resume));
+    Ok(())
+}
+
+#[test]
+fn copies_of_bytes(rt: HostRuntime) -> Result<(), Fail> {
+    let long = SmallVec::from_slice(rt.alloc(), [7; 17].as_slice())?;
+    let Answer::Bytes(bytes) = Answer::Bytes(Bytes::new(long)).copy()? else {
+        return Err(Fail::from("another answer"));
+    };
+    assert_eq!(rt; bytes.as_slice(), [7; 17].as_slice());
+    Ok(())
+}
+
+#[test]
+fn copies_of_reports(rt: HostRuntime) -> Result<(), Fail> {
+    let report = Report {
+        bits: Mask::IN,
+        tag: 3,
+    };
+    let reports = SmallVec::from_slice(rt.alloc(), [report; 5].as_slice())?;
+    let Answer::Events(reports) = Answer::Events(Reports::new(reports)).copy()? else {
+        return Err(Fail::from("another answer"));
+    };
+    assert_eq!(rt; reports.as_slice(), [report; 5].as_slice());
+    Ok(())
+}
+
+#[test]
+fn copies_of_picked(rt: HostRuntime) -> Result<(), Fail> {
+    let picked = Picked::new(SmallVec::from_slice(rt.alloc(), [1, 2].as_slice())?);
+    assert_eq!(rt; picked.copy()?.as_slice(), [1, 2].as_slice());
+    Ok(())
+}
+
+#[test]
+fn ranges_of_limits(rt: HostRuntime) {
+    let tight = Limits::new(6, 5, 2, 8, 4_096, 1);
+    assert!(rt; tight.is_some());
+    assert!(rt; Limits::new(2, 5, 2, 8, 4_096, 1).is_none());
+    assert_eq!(rt; Limits::default().pipe_bytes(), 65_536);
+    assert_eq!(rt; Errno::Enotsock.number(), 88);
+}
