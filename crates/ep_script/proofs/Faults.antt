@@ -10,12 +10,13 @@ use Rattle.ep_script.specs.declared.summary.Summary.{Summary}
 use Rattle.ep_text.specs.Event.{Command, event}
 use Rattle.ep_script.specs.Known.{Leads}
 use Rattle.ep_script.specs.Lines.{IsPlain, joined, lines_of, longest_line, most_lines, onto_first}
-use Rattle.ep_script.specs.Outcome.{Broken, Cut, Faulted, GrowsBeyond, Stopped}
-use Rattle.ep_script.specs.Steps.{AnswerFault, IsTooLong, MayGain, TakesLine, Tells}
+use Rattle.ep_script.specs.Outcome.{Broken, Cut, Faulted, GrowsBeyond, IsHeld, Stopped}
+use Rattle.ep_script.specs.Steps.{AnswerFault, Behind, IsTooLong, MayGain, TakesLine, Tells}
 use Rattle.ep_script.specs.Transcript.{Grows, Outcome, said, transcript}
 use Rattle.ep_script.proofs.Lines.{long_line}
 use Rattle.ep_script.proofs.Running.{Progress, Ran, ran_nothing, takes_first}
 use Rattle.ep_script.proofs.Tallying.{are_more, as_many, grows_more}
+use Rattle.ep_script.proofs.Writing.{appends_kept, appends_more}
 
 -- ---- no line was answered in part
 
@@ -29,9 +30,9 @@ beyond start history after outcomes most g gained e few = record {
   few = few;
 }
 
-stop : (i r b t : List ℕ) (h0 h k : List Record) (s : Summary) (most : ℕ) → Progress i r b t h0 h s → (gained : List Record) → k ≡ h ++ gained → length gained ≤ most
-    → Stopped i b t h0 k most (lines_of r)
-stop i r b t h0 h k s most p gained e few = record {
+stop : (i r : List ℕ) (w v : Option (List ℕ)) (h0 h k : List Record) (s : Summary) (most : ℕ) → Progress i r w v h0 h s → (gained : List Record) → k ≡ h ++ gained → length gained ≤ most
+    → Stopped i w v h0 k most (lines_of r)
+stop i r w v h0 h k s most p gained e few = record {
   lines = p.lines;
   outcomes = p.outcomes;
   cut = p.cut;
@@ -41,29 +42,40 @@ stop i r b t h0 h k s most p gained e few = record {
   fit = p.fit;
 }
 
-still : (i r b t : List ℕ) (h0 h : List Record) (s : Summary) → Progress i r b t h0 h s → Stopped i b t h0 h 0 (lines_of r)
-still i r b t h0 h s p = stop i r b t h0 h h s 0 p [] (sym (append-nil h)) (omega arith)
+still : (i r : List ℕ) (w v : Option (List ℕ)) (h0 h : List Record) (s : Summary) → Progress i r w v h0 h s → Stopped i w v h0 h 0 (lines_of r)
+still i r w v h0 h s p = stop i r w v h0 h h s 0 p [] (sym (append-nil h)) (omega arith)
 
-counts : (i r b t : List ℕ) (h0 h : List Record) (s : Summary) (p : Progress i r b t h0 h s) → length p.lines ≡ s.lines
-counts i r b t h0 h s p = sym (as_many p.outcomes p.lines p.of_lines) ∙ sym p.tally.lines
+counts : (i r : List ℕ) (w v : Option (List ℕ)) (h0 h : List Record) (s : Summary) (p : Progress i r w v h0 h s) → length p.lines ≡ s.lines
+counts i r w v h0 h s p = sym (as_many p.outcomes p.lines p.of_lines) ∙ sym p.tally.lines
 
 -- a line follows, which was not answered
-follows : (i r b t : List ℕ) (h0 h : List Record) (s : Summary) (l : List ℕ) (ls : List (List ℕ)) → Progress i r b t h0 h s → lines_of r ≡ l ∷ ls
-    → (stopped : Stopped i b t h0 h 0 (l ∷ ls)) × (length stopped.lines ≡ s.lines)
+follows : (i r : List ℕ) (w v : Option (List ℕ)) (h0 h : List Record) (s : Summary) (l : List ℕ) (ls : List (List ℕ)) → Progress i r w v h0 h s → lines_of r ≡ l ∷ ls
+    → (stopped : Stopped i w v h0 h 0 (l ∷ ls)) × (length stopped.lines ≡ s.lines)
 unfolding still stop
-follows i r b t h0 h s l ls p e = rw (← e) (still i r b t h0 h s p, counts i r b t h0 h s p)
+follows i r w v h0 h s l ls p e = rw (← e) (still i r w v h0 h s p, counts i r w v h0 h s p)
 
-kept_memory : (i r b t : List ℕ) (h0 h k : List Record) (s : Summary) → Progress i r b t h0 h s → MayGain h k → Faulted fault.Memory i b t h0 k
-kept_memory i r b t h0 h k s p g = (lines_of r, stop i r b t h0 h k s 1 p g.0 g.1 g.2)
+-- nothing more was written
+kept : (i r : List ℕ) (w v v' : Option (List ℕ)) (h0 h : List Record) (s : Summary) → Progress i r w v h0 h s → Keeps v v' → Progress i r w v' h0 h s
+kept i r w v v' h0 h s p q = record {
+  lines = p.lines;
+  outcomes = p.outcomes;
+  cut = p.cut;
+  of_lines = p.of_lines;
+  text = appends_kept w v v' (transcript 1 p.outcomes) p.text q;
+  grows = p.grows;
+  tally = p.tally;
+  fit = p.fit;
+  ended = p.ended;
+}
+
+kept_memory : (i r : List ℕ) (w v : Option (List ℕ)) (h0 h k : List Record) (s : Summary) → Progress i r w v h0 h s → MayGain h k → Faulted fault.Memory i w v h0 k
+kept_memory i r w v h0 h k s p g = (lines_of r, stop i r w v h0 h k s 1 p g.0 g.1 g.2)
 
 pub memory_fault : (k l w v v' : Option (List ℕ)) (h0 h h' : List Record) (s : Summary) → Ran k l w v h0 h s → Keeps v v' → MayGain h h'
-    → IfSome k (λ i. Leads w v' (λ b t. Faulted fault.Memory i b t h0 h'))
+    → IfSome k (λ i. Faulted fault.Memory i w v' h0 h')
 memory_fault None l w v v' h0 h h' s p q g = tt
 memory_fault (Some i) None w v v' h0 h h' s p q g = absurd p
-memory_fault (Some i) (Some r) None v v' h0 h h' s p q g = tt
-memory_fault (Some i) (Some r) (Some b) None v' h0 h h' s p q g = absurd p
-memory_fault (Some i) (Some r) (Some b) (Some t) None h0 h h' s p q g = q
-memory_fault (Some i) (Some r) (Some b) (Some t) (Some u) h0 h h' s p q g = rw q (kept_memory i r b t h0 h h' s p g)
+memory_fault (Some i) (Some r) w v v' h0 h h' s p q g = kept_memory i r w v' h0 h h' s (kept i r w v v' h0 h s p q) g
 
 pub keeps_itself : (v : Option (List ℕ)) → Keeps v v
 keeps_itself None = tt
@@ -72,15 +84,13 @@ keeps_itself (Some xs) = refl
 pub gains_none : (h : List Record) → MayGain h h
 gains_none h = ([], sym (append-nil h), omega arith)
 
-pub memory_at_once : (k w : Option (List ℕ)) (h : List Record) → IfSome k (λ i. Leads w w (λ b t. Faulted fault.Memory i b t h h))
+pub memory_at_once : (k w : Option (List ℕ)) (h : List Record) → IfSome k (λ i. Faulted fault.Memory i w w h h)
 memory_at_once k w h = memory_fault k (prepend_known [] k) w w w h h h (record { lines = 0; records = 0; bad = 0 }) (ran_nothing k w [] h refl) (keeps_itself w) (gains_none h)
 
-read_fault : (k l w v : Option (List ℕ)) (h0 h : List Record) (s : Summary) → Ran k l w v h0 h s → IfSome k (λ i. Leads w v (λ b t. Faulted fault.Read i b t h0 h))
+read_fault : (k l w v : Option (List ℕ)) (h0 h : List Record) (s : Summary) → Ran k l w v h0 h s → IfSome k (λ i. Faulted fault.Read i w v h0 h)
 read_fault None l w v h0 h s p = tt
 read_fault (Some i) None w v h0 h s p = absurd p
-read_fault (Some i) (Some r) None v h0 h s p = tt
-read_fault (Some i) (Some r) (Some b) None h0 h s p = absurd p
-read_fault (Some i) (Some r) (Some b) (Some t) h0 h s p = (lines_of r, still i r b t h0 h s p)
+read_fault (Some i) (Some r) w v h0 h s p = (lines_of r, still i r w v h0 h s p)
 
 -- ---- the next line is too long, or one too many
 
@@ -94,21 +104,19 @@ first_too_long : (r : List ℕ) → IsTooLong r → (l : List ℕ) × (ls : List
 first_too_long r h = from_front h.front r h.rest h.plain h.long h.cut
 
 line_fault : (k l w v : Option (List ℕ)) (h0 h : List Record) (s : Summary) (n : ℕ) → Ran k l w v h0 h s → n ≡ s.lines + 1 → IfSome l (λ r. IsTooLong r)
-    → IfSome k (λ i. Leads w v (λ b t. Faulted (fault.Line n) i b t h0 h))
+    → IfSome k (λ i. Faulted (fault.Line n) i w v h0 h)
 line_fault None l w v h0 h s n p e q = tt
 line_fault (Some i) None w v h0 h s n p e q = absurd p
-line_fault (Some i) (Some r) None v h0 h s n p e q = tt
-line_fault (Some i) (Some r) (Some b) None h0 h s n p e q = absurd p
-line_fault (Some i) (Some r) (Some b) (Some t) h0 h s n p e q =
+line_fault (Some i) (Some r) w v h0 h s n p e q =
     let first = first_too_long r q in
-    let f = follows i r b t h0 h s first.0 first.1 p first.3 in
+    let f = follows i r w v h0 h s first.0 first.1 p first.3 in
     (first.0, first.1, f.0, e ∙ ap (λ x. x + 1) (sym f.1), first.2)
 
 -- the next line did not come
 pub next_fault : (k l w v : Option (List ℕ)) (h0 h : List Record) (s : Summary) (n : ℕ) (X : Type 0) (e : ScriptFault) → Ran k l w v h0 h s → n ≡ s.lines + 1
     → ((e ≡ fault.Memory) ⊎ (((e ≡ fault.Read) × X) ⊎ (e ≡ fault.Line n)))
     → (◌≡◌ {A = Result Bool ScriptFault} (Err e) (Err (fault.Line n)) → IfSome l (λ r. IsTooLong r))
-    → IfSome k (λ i. Leads w v (λ b t. Faulted e i b t h0 h))
+    → IfSome k (λ i. Faulted e i w v h0 h)
 next_fault k l w v h0 h s n X e p q (inl f) long = rw f (memory_fault k l w v v h0 h h s p (keeps_itself v) (gains_none h))
 next_fault k l w v h0 h s n X e p q (inr (inl f)) long = rw f.0 (read_fault k l w v h0 h s p)
 next_fault k l w v h0 h s n X e p q (inr (inr f)) long = rw f (line_fault k l w v h0 h s n p q (long (ap Err f)))
@@ -128,22 +136,20 @@ some_line r (x ∷ us) m e h =
     (first.0, first.1, ap lines_of e ∙ first.2)
 
 pub lines_fault : (k l m w v : Option (List ℕ)) (us : List ℕ) (h0 h : List Record) (s : Summary) → Ran k l w v h0 h s → s.lines ≡ most_lines
-    → Leads l (prepend_known us m) (λ xs ys. xs ≡ ys) → 0 < length us → IfSome k (λ i. Leads w v (λ b t. Faulted fault.Lines i b t h0 h))
+    → Leads l (prepend_known us m) (λ xs ys. xs ≡ ys) → 0 < length us → IfSome k (λ i. Faulted fault.Lines i w v h0 h)
 lines_fault None l m w v us h0 h s p n q more = tt
 lines_fault (Some i) None m w v us h0 h s p n q more = absurd p
 lines_fault (Some i) (Some r) None w v us h0 h s p n q more = absurd q
-lines_fault (Some i) (Some r) (Some y) None v us h0 h s p n q more = tt
-lines_fault (Some i) (Some r) (Some y) (Some b) None us h0 h s p n q more = absurd p
-lines_fault (Some i) (Some r) (Some y) (Some b) (Some t) us h0 h s p n q more =
+lines_fault (Some i) (Some r) (Some y) w v us h0 h s p n q more =
     let first = some_line r us y q more in
-    let f = follows i r b t h0 h s first.0 first.1 p first.2 in
+    let f = follows i r w v h0 h s first.0 first.1 p first.2 in
     (first.0, first.1, f.0, f.1 ∙ n)
 
 -- ---- an answer was not written whole
 
-broken : (i r q b t u text : List ℕ) (h0 h h' : List Record) (s : Summary) (kind : LineKind) (line : List ℕ) (n j : ℕ) → Progress i r b t h0 h s → TakesLine r line q
-    → Tells (event line) n kind text h h' → n ≡ s.lines + 1 → u ≡ t ++ take j text → Broken i b u h0 h'
-broken i r q b t u text h0 h h' s kind line n j p takes tells e wrote =
+broken : (i r q : List ℕ) (w v v' : Option (List ℕ)) (text : List ℕ) (h0 h h' : List Record) (s : Summary) (kind : LineKind) (line : List ℕ) (n j : ℕ) → Progress i r w v h0 h s
+    → TakesLine r line q → Tells (event line) n kind text h h' → n ≡ s.lines + 1 → Appends v v' (take j text) → Broken i w v' h0 h'
+broken i r q w v v' text h0 h h' s kind line n j p takes tells e wrote =
     let number : n ≡ length p.outcomes + 1 = omega (arith, p.tally.lines) in
     record {
       lines = p.lines ++ line ∷ [];
@@ -155,24 +161,21 @@ broken i r q b t u text h0 h h' s kind line n j p takes tells e wrote =
       part = take j text;
       unwritten = drop j text;
       said_is = ap (λ m. said m tells.outcome) (sym number) ∙ sym tells.text_is ∙ sym (take-append-drop j text);
-      text = wrote ∙ ap (λ x. x ++ take j text) p.text ∙ append_assoc b (transcript 1 p.outcomes) (take j text);
+      text = appends_more w v v' (transcript 1 p.outcomes) (take j text) p.text wrote;
       grows = grows_more h0 h h' p.outcomes tells.outcome p.grows tells.grows;
     }
 
 write_fault : (k l m w v v' : Option (List ℕ)) (h0 h h' : List Record) (s : Summary) (kind : LineKind) (text line : List ℕ) (n j : ℕ) → Ran k l w v h0 h s
     → Leads l m (λ r q. TakesLine r line q) → Tells (event line) n kind text h h' → n ≡ s.lines + 1 → Appends v v' (take j text)
-    → IfSome k (λ i. Leads w v' (λ b t. Faulted fault.Write i b t h0 h'))
+    → IfSome k (λ i. Faulted fault.Write i w v' h0 h')
 write_fault None l m w v v' h0 h h' s kind text line n j p takes tells e wrote = tt
 write_fault (Some i) None m w v v' h0 h h' s kind text line n j p takes tells e wrote = absurd p
 write_fault (Some i) (Some r) None w v v' h0 h h' s kind text line n j p takes tells e wrote = absurd takes
-write_fault (Some i) (Some r) (Some q) None v v' h0 h h' s kind text line n j p takes tells e wrote = tt
-write_fault (Some i) (Some r) (Some q) (Some b) None v' h0 h h' s kind text line n j p takes tells e wrote = absurd p
-write_fault (Some i) (Some r) (Some q) (Some b) (Some t) None h0 h h' s kind text line n j p takes tells e wrote = wrote
-write_fault (Some i) (Some r) (Some q) (Some b) (Some t) (Some u) h0 h h' s kind text line n j p takes tells e wrote =
-    broken i r q b t u text h0 h h' s kind line n j p takes tells e wrote
+write_fault (Some i) (Some r) (Some q) w v v' h0 h h' s kind text line n j p takes tells e wrote =
+    broken i r q w v v' text h0 h h' s kind line n j p takes tells e wrote
 
 pub answer_fault : (k l m w v v' : Option (List ℕ)) (h0 h h' : List Record) (s : Summary) (line : List ℕ) (n : ℕ) (e : ScriptFault) → Ran k l w v h0 h s
-    → Leads l m (λ r q. TakesLine r line q) → n ≡ s.lines + 1 → AnswerFault e (event line) n v v' h h' → IfSome k (λ i. Leads w v' (λ b t. Faulted e i b t h0 h'))
+    → Leads l m (λ r q. TakesLine r line q) → n ≡ s.lines + 1 → AnswerFault e (event line) n v v' h h' → IfSome k (λ i. Faulted e i w v' h0 h')
 answer_fault k l m w v v' h0 h h' s line n fault.Memory p takes e a = memory_fault k l w v v' h0 h h' s p a.0 a.1
 answer_fault k l m w v v' h0 h h' s line n fault.Write p takes e a = write_fault k l m w v v' h0 h h' s a.0 a.1 line n a.3.0 p takes a.2 e a.3.1
 answer_fault k l m w v v' h0 h h' s line n fault.Read p takes e a = absurd a
@@ -181,26 +184,50 @@ answer_fault k l m w v v' h0 h h' s line n (fault.Line x) p takes e a = absurd a
 
 -- ---- a read failed
 
-all_lines : (i r s part : List ℕ) (ls : List (List ℕ)) → (i ≡ joined ls ++ r) ⊎ (r ≡ []) → IsPlain part → r ≡ part ++ s
-    → ((x : List ℕ) × IsPlain x × (i ≡ joined ls ++ (x ++ s))) ⊎ (lines_of r ≡ [])
-all_lines i r s part ls (inl e) plain is = inl (part, plain, e ∙ ap (λ x. joined ls ++ x) is)
-all_lines i r s part ls (inr e) plain is = inr (ap lines_of e)
+all_lines : (P : List ℕ → Type 0) (i r s part : List ℕ) (ls : List (List ℕ)) → (i ≡ joined ls ++ r) ⊎ (r ≡ []) → P part → r ≡ part ++ s
+    → ((x : List ℕ) × P x × (i ≡ joined ls ++ (x ++ s))) ⊎ (lines_of r ≡ [])
+all_lines P i r s part ls (inl e) plain is = inl (part, plain, e ∙ ap (λ x. joined ls ++ x) is)
+all_lines P i r s part ls (inr e) plain is = inr (ap lines_of e)
 
-pub read_cut : (k l m w v : Option (List ℕ)) (h0 h : List Record) (s : Summary) → Ran k l w v h0 h s → Leads l m (λ xs ys. (part : List ℕ) × IsPlain part × (xs ≡ part ++ ys))
-    → Leads k m (λ i r. Leads w v (λ b t. Cut i r b t h0 h))
-unfolding still stop
+cut_at : (P : List ℕ → Type 0) (most : ℕ) (i r y : List ℕ) (w v : Option (List ℕ)) (h0 h k : List Record) (s : Summary) → Progress i r w v h0 h s → Behind P r y
+    → (gained : List Record) → k ≡ h ++ gained → length gained ≤ most → Cut P most i y w v h0 k
+unfolding stop
+cut_at P most i r y w v h0 h k s p q gained e few = record {
+  left = lines_of r;
+  stopped = stop i r w v h0 h k s most p gained e few;
+  all = all_lines P i r y q.0 p.lines p.ended q.1 q.2;
+}
+
+pub read_cut : (k l m w v : Option (List ℕ)) (h0 h : List Record) (s : Summary) → Ran k l w v h0 h s → Leads l m (λ xs ys. Behind IsPlain xs ys)
+    → Leads k m (λ i r. Cut IsPlain 0 i r w v h0 h)
 read_cut None l m w v h0 h s p q = tt
 read_cut (Some i) None m w v h0 h s p q = absurd p
 read_cut (Some i) (Some r) None w v h0 h s p q = q
-read_cut (Some i) (Some r) (Some y) None v h0 h s p q = tt
-read_cut (Some i) (Some r) (Some y) (Some b) None h0 h s p q = absurd p
-read_cut (Some i) (Some r) (Some y) (Some b) (Some t) h0 h s p q = record {
-  left = lines_of r;
-  stopped = still i r b t h0 h s p;
-  all = all_lines i r y q.0 p.lines p.ended q.1 q.2;
-}
+read_cut (Some i) (Some r) (Some y) w v h0 h s p q = cut_at IsPlain 0 i r y w v h0 h h s p q [] (sym (append-nil h)) (omega arith)
 
-pub no_part : (l m : Option (List ℕ)) → Leads l m (λ xs ys. xs ≡ ys) → Leads l m (λ xs ys. (part : List ℕ) × IsPlain part × (xs ≡ part ++ ys))
+pub memory_cut : (k l m w v v' : Option (List ℕ)) (h0 h h' : List Record) (s : Summary) → Ran k l w v h0 h s → Leads l m (λ xs ys. Behind IsHeld xs ys) → Keeps v v' → MayGain h h'
+    → Leads k m (λ i r. Cut IsHeld 1 i r w v' h0 h')
+memory_cut None l m w v v' h0 h h' s p q still g = tt
+memory_cut (Some i) None m w v v' h0 h h' s p q still g = absurd p
+memory_cut (Some i) (Some r) None w v v' h0 h h' s p q still g = q
+memory_cut (Some i) (Some r) (Some y) w v v' h0 h h' s p q still g = cut_at IsHeld 1 i r y w v' h0 h h' s (kept i r w v v' h0 h s p still) q g.0 g.1 g.2
+
+nothing_behind : (m : Option (List ℕ)) → Leads (prepend_known [] m) m (λ xs ys. Behind IsHeld xs ys)
+nothing_behind None = tt
+nothing_behind (Some xs) = ([], omega arith, refl)
+
+pub cut_at_once : (k w : Option (List ℕ)) (h : List Record) → Leads k k (λ i r. Cut IsHeld 1 i r w w h h)
+cut_at_once k w h = memory_cut k (prepend_known [] k) k w w w h h h (record { lines = 0; records = 0; bad = 0 }) (ran_nothing k w [] h refl) (nothing_behind k) (keeps_itself w) (gains_none h)
+
+pub answer_cut : (k l m w v v' : Option (List ℕ)) (h0 h h' : List Record) (s : Summary) (c : Option Command) (number : ℕ) (e : ScriptFault) → Ran k l w v h0 h s
+    → Leads l m (λ xs ys. Behind IsHeld xs ys) → AnswerFault e c number v v' h h' → e ≡ fault.Memory → Leads k m (λ i r. Cut IsHeld 1 i r w v' h0 h')
+answer_cut k l m w v v' h0 h h' s c number fault.Memory p q a e = memory_cut k l m w v v' h0 h h' s p q a.0 a.1
+answer_cut k l m w v v' h0 h h' s c number fault.Write p q a e = absurd (cc)
+answer_cut k l m w v v' h0 h h' s c number fault.Read p q a e = absurd a
+answer_cut k l m w v v' h0 h h' s c number fault.Lines p q a e = absurd a
+answer_cut k l m w v v' h0 h h' s c number (fault.Line x) p q a e = absurd a
+
+pub no_part : (l m : Option (List ℕ)) → Leads l m (λ xs ys. xs ≡ ys) → Leads l m (λ xs ys. Behind IsPlain xs ys)
 no_part None m e = tt
 no_part (Some xs) None e = e
 no_part (Some xs) (Some ys) e = ([], tt, e)
@@ -215,5 +242,5 @@ never_read X fault.Lines c n old new h k a q = absurd a
 pub err_same : {T : Type 0} (a b : ScriptFault) → ◌≡◌ {A = Result T ScriptFault} (Err a) (Err b) → a ≡ b
 err_same a b q = cc
 
-pub end_fault : (k l w v : Option (List ℕ)) (h0 h : List Record) (s : Summary) (e : ScriptFault) → e ≡ fault.Read → Ran k l w v h0 h s → IfSome k (λ i. Leads w v (λ b t. Faulted e i b t h0 h))
+pub end_fault : (k l w v : Option (List ℕ)) (h0 h : List Record) (s : Summary) (e : ScriptFault) → e ≡ fault.Read → Ran k l w v h0 h s → IfSome k (λ i. Faulted e i w v h0 h)
 end_fault k l w v h0 h s e q p = rw q (read_fault k l w v h0 h s p)

@@ -1,9 +1,12 @@
 -- A line that is read piece by piece, where the reader's bytes are known.
-use Rattle.std.proofs.Common.{List, None, Option, Some, IfSome, [], ap, append-nil, append_assoc, inl, inr, sym, ℕ, ◌++◌, ◌≡◌, ◌≢◌, ◌∙◌, ◌∷◌}
+use Rattle.std.proofs.Common.{List, None, Option, Some, IfSome, [], ap, append-nil, append_assoc, arith, drop, inl, inr, length, length-append, length-take, sym, ℕ, ◌-◌, ◌++◌, ◌≡◌, ◌≢◌, ◌≤◌, ◌∙◌, ◌∷◌}
 use Rattle.std.specs.Io.KnownBytes.{prepend_known}
+use Rattle.ep_script.specs.declared.chunk.Input.{Input}
 use Rattle.ep_script.specs.Known.{Leads}
-use Rattle.ep_script.specs.Lines.{IsPlain}
-use Rattle.ep_script.specs.Steps.{IsTooLong, TakesLine}
+use Rattle.ep_script.specs.Lines.{IsPlain, longest_line, most_read}
+use Rattle.ep_script.specs.Outcome.{IsHeld}
+use Rattle.ep_script.specs.Steps.{Behind, IsTooLong, TakesLine}
+use Rattle.ep_script.specs.Unread.{unread}
 
 pub starts : (k : Option (List ℕ)) (line : List ℕ) → line ≡ [] → Leads k k (λ xs ys. xs ≡ line ++ ys)
 starts None line e = tt
@@ -50,11 +53,43 @@ ends_empty (Some xs) (Some ys) (Some zs) line p q e = (p ∙ ap (λ y. line ++ y
 
 -- a read that failed
 pub breaks : (k l m : Option (List ℕ)) (line : List ℕ) → Leads k l (λ xs ys. xs ≡ line ++ ys) → Leads l m (λ xs ys. xs ≡ ys) → IsPlain line
-    → Leads k m (λ xs ys. (part : List ℕ) × IsPlain part × (xs ≡ part ++ ys))
+    → Leads k m (λ xs ys. Behind IsPlain xs ys)
 breaks None l m line p q plain = tt
 breaks (Some xs) None m line p q plain = absurd p
 breaks (Some xs) (Some ys) None line p q plain = q
 breaks (Some xs) (Some ys) (Some zs) line p q plain = (line, plain, p ∙ ap (λ y. line ++ y) q)
+
+pub unread_few : (i : Input) → length (unread i) ≤ most_read
+unread_few i = omega (arith, length-take (i.end - i.start) (drop i.start i.chunk.items), i.within, i.is_full_size)
+
+-- a piece for which there was no memory
+pub holds_back : (k l m : Option (List ℕ)) (line : List ℕ) (i : Input) → Leads k l (λ xs ys. xs ≡ line ++ ys) → Leads l (prepend_known (unread i) m) (λ xs ys. xs ≡ ys)
+    → length line ≤ longest_line → Leads k m (λ xs ys. Behind IsHeld xs ys)
+holds_back None l m line i p q short = tt
+holds_back (Some xs) None m line i p q short = absurd p
+holds_back (Some xs) (Some ys) None line i p q short = q
+holds_back (Some xs) (Some ys) (Some zs) line i p q short = (
+  line ++ unread i,
+  omega (arith, short, length-append line (unread i), unread_few i),
+  p ∙ ap (λ y. line ++ y) q ∙ sym (append_assoc line (unread i) zs),
+)
+
+held_line : (xs line ys : List ℕ) (i : Input) → TakesLine xs line (unread i ++ ys) → length line ≤ longest_line → Behind IsHeld xs ys
+held_line xs line ys i t short = elim t.cut [
+  | inl e ↦ (line ++ 10 ∷ unread i, omega (arith, short, length-append line (10 ∷ unread i), unread_few i), e ∙ sym (append_assoc line (10 ∷ unread i) ys))
+  | inr e ↦ (
+    line ++ unread i,
+    omega (arith, short, length-append line (unread i), unread_few i),
+    e.0 ∙ sym (append-nil line) ∙ ap (λ y. line ++ y) (sym e.1) ∙ sym (append_assoc line (unread i) ys),
+  )
+]
+
+-- a line that was not answered
+pub holds_line : (k m : Option (List ℕ)) (line : List ℕ) (i : Input) → Leads k (prepend_known (unread i) m) (λ xs ys. TakesLine xs line ys) → length line ≤ longest_line
+    → Leads k m (λ xs ys. Behind IsHeld xs ys)
+holds_line None m line i p short = tt
+holds_line (Some xs) None line i p short = p
+holds_line (Some xs) (Some ys) line i p short = held_line xs line ys i p short
 
 too_long : (xs us zs : List ℕ) → IsTooLong us → xs ≡ us ++ zs → IsTooLong xs
 too_long xs us zs h e = record {

@@ -10,25 +10,26 @@ use Rattle.ep_script.specs.Lines.{AllFit, joined, last_line, lines_of, longest_l
 use Rattle.ep_script.specs.Outcome.{Tallies, Whole}
 use Rattle.ep_script.specs.Steps.{TakesLine, Tells}
 use Rattle.ep_script.specs.Tally.{counted}
-use Rattle.ep_script.specs.Transcript.{AreOf, Grows, Outcome, transcript}
+use Rattle.ep_script.specs.Transcript.{AreOf, Grows, Outcome, said, transcript}
 use Rattle.ep_script.proofs.Lines.{open_line, whole_line}
 use Rattle.ep_script.proofs.Tallying.{are_more, fit_more, grows_more, tally_more, transcript_more}
+use Rattle.ep_script.proofs.Writing.{appends_more, appends_nothing}
 
 -- the first lines are answered, and the rest is left
-pub record Progress (input rest before written : List ℕ) (start history : List Record) (summary : Summary) : Type 0 where
+pub record Progress (input rest : List ℕ) (before written : Option (List ℕ)) (start history : List Record) (summary : Summary) : Type 0 where
   pub lines : List (List ℕ)
   pub outcomes : List Outcome
   pub cut : lines_of input ≡ lines ++ lines_of rest
   pub of_lines : AreOf outcomes lines
-  pub text : written ≡ before ++ transcript 1 outcomes
+  pub text : Appends before written (transcript 1 outcomes)
   pub grows : Grows start history outcomes
   pub tally : Tallies summary outcomes
   pub fit : AllFit lines
   pub ended : (input ≡ joined lines ++ rest) ⊎ (rest ≡ [])
 
--- where the bytes are known
+-- where the bytes of the reader are known
 abbrev pub Ran : Option (List ℕ) → Option (List ℕ) → Option (List ℕ) → Option (List ℕ) → List Record → List Record → Summary → Type 0
-Ran k l w v start history summary = Leads k l (λ input rest. Leads w v (λ before written. Progress input rest before written start history summary))
+Ran k l w v start history summary = Leads k l (λ input rest. Progress input rest w v start history summary)
 
 -- ---- a line more
 
@@ -59,9 +60,9 @@ ended_more i r line q ls p t = elim t.cut [
   ]
 ]
 
-more : (i r q b t text : List ℕ) (h0 h h' : List Record) (s : Summary) (k : LineKind) (line : List ℕ) (n : ℕ) → Progress i r b t h0 h s → TakesLine r line q → length line ≤ longest_line
-    → Tells (event line) n k text h h' → n ≡ s.lines + 1 → Progress i q b (t ++ text) h0 h' (counted s k)
-more i r q b t text h0 h h' s k line n p take short tells e =
+more : (i r q : List ℕ) (w v v' : Option (List ℕ)) (text : List ℕ) (h0 h h' : List Record) (s : Summary) (k : LineKind) (line : List ℕ) (n : ℕ) → Progress i r w v h0 h s
+    → TakesLine r line q → length line ≤ longest_line → Tells (event line) n k text h h' → Appends v v' text → n ≡ s.lines + 1 → Progress i q w v' h0 h' (counted s k)
+more i r q w v v' text h0 h h' s k line n p take short tells wrote e =
     let o = tells.outcome in
     let number : 1 + length p.outcomes ≡ n = omega (arith, p.tally.lines) in
     record {
@@ -69,8 +70,7 @@ more i r q b t text h0 h h' s k line n p take short tells e =
       outcomes = p.outcomes ++ o ∷ [];
       cut = p.cut ∙ ap (λ ls. p.lines ++ ls) (takes_first r line q take) ∙ sym (append_assoc p.lines (line ∷ []) (lines_of q));
       of_lines = are_more p.outcomes p.lines o line p.of_lines tells.of_line;
-      text = ap (λ x. x ++ text) p.text ∙ append_assoc b (transcript 1 p.outcomes) text ∙ ap (λ x. b ++ (transcript 1 p.outcomes ++ x)) tells.text_is
-          ∙ ap (λ x. b ++ x) (sym (transcript_more 1 p.outcomes o n number));
+      text = rw (transcript_more 1 p.outcomes o n number) (appends_more w v v' (transcript 1 p.outcomes) (said n o) p.text (rw tells.text_is at wrote));
       grows = grows_more h0 h h' p.outcomes o p.grows tells.grows;
       tally = tally_more s k p.outcomes o p.tally tells.kind_is;
       fit = fit_more p.lines line p.fit short;
@@ -83,21 +83,18 @@ pub ran_more : (k l m w v v' : Option (List ℕ)) (h0 h h' : List Record) (s : S
 ran_more None l m w v v' h0 h h' s kind text line n p take short tells wrote e = tt
 ran_more (Some i) None m w v v' h0 h h' s kind text line n p take short tells wrote e = absurd p
 ran_more (Some i) (Some r) None w v v' h0 h h' s kind text line n p take short tells wrote e = take
-ran_more (Some i) (Some r) (Some q) None v v' h0 h h' s kind text line n p take short tells wrote e = tt
-ran_more (Some i) (Some r) (Some q) (Some b) None v' h0 h h' s kind text line n p take short tells wrote e = absurd p
-ran_more (Some i) (Some r) (Some q) (Some b) (Some t) None h0 h h' s kind text line n p take short tells wrote e = wrote
-ran_more (Some i) (Some r) (Some q) (Some b) (Some t) (Some u) h0 h h' s kind text line n p take short tells wrote e =
-    rw wrote (more i r q b t text h0 h h' s kind line n p take short tells e)
+ran_more (Some i) (Some r) (Some q) w v v' h0 h h' s kind text line n p take short tells wrote e =
+    more i r q w v v' text h0 h h' s kind line n p take short tells wrote e
 
 -- ---- the begin and the end
 
-nothing_run : (i b : List ℕ) (h : List Record) → Progress i i b b h h (record { lines = 0; records = 0; bad = 0 })
-nothing_run i b h = record {
+nothing_run : (i : List ℕ) (w : Option (List ℕ)) (h : List Record) → Progress i i w w h h (record { lines = 0; records = 0; bad = 0 })
+nothing_run i w h = record {
   lines = [];
   outcomes = [];
   cut = refl;
   of_lines = refl;
-  text = sym (append-nil b);
+  text = appends_nothing w;
   grows = ([], sym (append-nil h), refl);
   tally = record { lines = refl; records = refl; bad = refl };
   fit = tt;
@@ -106,11 +103,10 @@ nothing_run i b h = record {
 
 pub ran_nothing : (k w : Option (List ℕ)) (us : List ℕ) (h : List Record) → us ≡ [] → Ran k (prepend_known us k) w w h h (record { lines = 0; records = 0; bad = 0 })
 ran_nothing None w us h e = tt
-ran_nothing (Some i) None us h e = tt
-ran_nothing (Some i) (Some b) us h e = let same : us ++ i ≡ i = ap (λ x. x ++ i) e in rw same (nothing_run i b h)
+ran_nothing (Some i) w us h e = let same : us ++ i ≡ i = ap (λ x. x ++ i) e in rw same (nothing_run i w h)
 
-whole : (i r b t : List ℕ) (h0 h : List Record) (s : Summary) → Progress i r b t h0 h s → r ≡ [] → Whole i b t h0 h s
-whole i r b t h0 h s p e =
+whole : (i r : List ℕ) (w v : Option (List ℕ)) (h0 h : List Record) (s : Summary) → Progress i r w v h0 h s → r ≡ [] → Whole i w v h0 h s
+whole i r w v h0 h s p e =
     let all : lines_of i ≡ p.lines = p.cut ∙ ap (λ x. p.lines ++ lines_of x) e ∙ append-nil p.lines in
     record {
       outcomes = p.outcomes;
@@ -122,10 +118,8 @@ whole i r b t h0 h s p e =
     }
 
 pub ran_whole : (k l m w v : Option (List ℕ)) (h0 h : List Record) (s : Summary) → Ran k l w v h0 h s → Leads l m (λ xs ys. (xs ≡ []) × (ys ≡ []))
-    → IfSome k (λ i. Leads w v (λ b t. Whole i b t h0 h s))
+    → IfSome k (λ i. Whole i w v h0 h s)
 ran_whole None l m w v h0 h s p e = tt
 ran_whole (Some i) None m w v h0 h s p e = absurd p
 ran_whole (Some i) (Some r) None w v h0 h s p e = absurd e
-ran_whole (Some i) (Some r) (Some q) None v h0 h s p e = tt
-ran_whole (Some i) (Some r) (Some q) (Some b) None h0 h s p e = absurd p
-ran_whole (Some i) (Some r) (Some q) (Some b) (Some t) h0 h s p e = whole i r b t h0 h s p e.0
+ran_whole (Some i) (Some r) (Some q) w v h0 h s p e = whole i r w v h0 h s p e.0

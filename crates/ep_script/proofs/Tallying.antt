@@ -9,7 +9,7 @@ use Rattle.ep_script.specs.declared.summary.Summary.{Summary}
 use Rattle.ep_text.specs.Event.{event}
 use Rattle.ep_script.specs.Lines.{AllFit, longest_line}
 use Rattle.std.proofs.Common.{◌≤◌}
-use Rattle.ep_script.specs.Outcome.{Tallies}
+use Rattle.ep_script.specs.Outcome.{Gains, Tallies}
 use Rattle.ep_script.specs.Steps.{kind_of}
 use Rattle.ep_script.specs.Tally.{counted}
 use Rattle.ep_script.specs.Transcript.{AreOf, Exchange, Grows, Outcome, bad_line_count, command_in, recorded, records, said, told, transcript}
@@ -64,6 +64,13 @@ records_of s (Some x) = one_record s (is_no_memory x.answer) x
 bad_of : (s : Summary) (o : Outcome) → (counted s (kind_of o)).bad ≡ s.bad + bad_line_count (o ∷ [])
 bad_of s None = omega arith
 bad_of s (Some x) = omega (arith, one_bad s (is_no_memory x.answer))
+
+pub gains_more : (a b c : List Record) (s : Summary) (k : LineKind) (o : Outcome) → Gains a b s.records → Grows b c (o ∷ []) → k ≡ kind_of o → Gains a c (counted s k).records
+gains_more a b c s k o p q e = rw e (
+  p.0 ++ q.0,
+  q.1 ∙ ap (λ x. x ++ q.0) p.1 ∙ append_assoc a p.0 q.0,
+  omega (arith, length-append p.0 q.0, length-map q.0 told, ap length q.2, ap length (append-nil (recorded o)), p.2, records_of s o),
+)
 
 pub tally_more : (s : Summary) (k : LineKind) (os : List Outcome) (o : Outcome) → Tallies s os → k ≡ kind_of o → Tallies (counted s k) (os ++ o ∷ [])
 tally_more s k os o t e = rw e (record {

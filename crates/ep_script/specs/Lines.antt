@@ -37,6 +37,10 @@ longest_line = 65536
 abbrev pub most_lines : ℕ
 most_lines = 100000
 
+-- the most bytes that one read gives
+abbrev pub most_read : ℕ
+most_read = 65536
+
 abbrev pub AllFit : List (List ℕ) → Type 0
 AllFit [] = ⊤
 AllFit (l ∷ ls) = (length l ≤ longest_line) × AllFit ls

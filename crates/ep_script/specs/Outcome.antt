@@ -1,10 +1,12 @@
--- How the run of a script ends, and what then stands written and in the history.
-use Rattle.std.specs.Prelude.{List, [], length, map, ℕ, ◌+◌, ◌++◌, ◌<◌, ◌≡◌, ◌≤◌, ◌⊎◌, ◌∷◌}
+-- How the run of a script ends, and what then stands written and in the history. What the writer had before and has then
+-- is known only where it tells its bytes; all else is said of every writer.
+use Rattle.std.specs.Io.KnownBytes.{Appends}
+use Rattle.std.specs.Prelude.{List, Option, [], length, map, ℕ, ◌+◌, ◌++◌, ◌<◌, ◌≡◌, ◌≤◌, ◌⊎◌, ◌∷◌}
 use Rattle.ep_base.specs.declared.record.Record.{Record}
 use Rattle.ep_script.specs.declared.fault.ScriptFault.{ScriptFault}
 use Rattle.ep_script.specs.declared.fault.ScriptFault.TheVariants as fault
 use Rattle.ep_script.specs.declared.summary.Summary.{Summary}
-use Rattle.ep_script.specs.Lines.{AllFit, IsPlain, joined, lines_of, longest_line, most_lines}
+use Rattle.ep_script.specs.Lines.{AllFit, joined, lines_of, longest_line, most_lines, most_read}
 use Rattle.ep_script.specs.Transcript.{AreOf, Grows, Outcome, bad_line_count, records, said, told, transcript}
 
 pub record Tallies (summary : Summary) (outcomes : List Outcome) : Type 0 where
@@ -12,11 +14,15 @@ pub record Tallies (summary : Summary) (outcomes : List Outcome) : Type 0 where
   pub records : summary.records ≡ length (records outcomes)
   pub bad : summary.bad ≡ bad_line_count outcomes
 
+-- the history gained so many records
+abbrev pub Gains : List Record → List Record → ℕ → Type 0
+Gains start history count = (gained : List Record) × (history ≡ start ++ gained) × (length gained ≡ count)
+
 -- the transcript of the whole input was written, and nothing else
-pub record Whole (input before written : List ℕ) (start history : List Record) (summary : Summary) : Type 0 where
+pub record Whole (input : List ℕ) (before written : Option (List ℕ)) (start history : List Record) (summary : Summary) : Type 0 where
   pub outcomes : List Outcome
   pub of_lines : AreOf outcomes (lines_of input)
-  pub text : written ≡ before ++ transcript 1 outcomes
+  pub text : Appends before written (transcript 1 outcomes)
   pub grows : Grows start history outcomes
   pub tally : Tallies summary outcomes
   pub fit : AllFit (lines_of input)
@@ -30,17 +36,17 @@ pub record GrowsBeyond (start history : List Record) (outcomes : List Outcome) (
   pub few : length unanswered ≤ most
 
 -- the transcript of the first lines was written and nothing else, and these lines are left
-pub record Stopped (input before written : List ℕ) (start history : List Record) (most : ℕ) (left : List (List ℕ)) : Type 0 where
+pub record Stopped (input : List ℕ) (before written : Option (List ℕ)) (start history : List Record) (most : ℕ) (left : List (List ℕ)) : Type 0 where
   pub lines : List (List ℕ)
   pub outcomes : List Outcome
   pub cut : lines_of input ≡ lines ++ left
   pub of_lines : AreOf outcomes lines
-  pub text : written ≡ before ++ transcript 1 outcomes
+  pub text : Appends before written (transcript 1 outcomes)
   pub grows : GrowsBeyond start history outcomes most
   pub fit : AllFit lines
 
 -- the transcript of the first lines was written, and a part of the next line's
-pub record Broken (input before written : List ℕ) (start history : List Record) : Type 0 where
+pub record Broken (input : List ℕ) (before written : Option (List ℕ)) (start history : List Record) : Type 0 where
   pub lines : List (List ℕ)
   pub left : List (List ℕ)
   pub outcomes : List Outcome
@@ -50,11 +56,11 @@ pub record Broken (input before written : List ℕ) (start history : List Record
   pub part : List ℕ
   pub unwritten : List ℕ
   pub said_is : said (length outcomes + 1) last ≡ part ++ unwritten
-  pub text : written ≡ before ++ (transcript 1 outcomes ++ part)
+  pub text : Appends before written (transcript 1 outcomes ++ part)
   pub grows : Grows start history (outcomes ++ last ∷ [])
 
 -- Only after a want of memory has the history a record that nothing was written of.
-abbrev pub Faulted : ScriptFault → List ℕ → List ℕ → List ℕ → List Record → List Record → Type 0
+abbrev pub Faulted : ScriptFault → List ℕ → Option (List ℕ) → Option (List ℕ) → List Record → List Record → Type 0
 Faulted fault.Read input before written start history = (left : List (List ℕ)) × Stopped input before written start history 0 left
 Faulted fault.Memory input before written start history = (left : List (List ℕ)) × Stopped input before written start history 1 left
 Faulted (fault.Line number) input before written start history =
@@ -65,8 +71,12 @@ Faulted fault.Lines input before written start history =
     × (length stopped.lines ≡ most_lines)
 Faulted fault.Write input before written start history = Broken input before written start history
 
--- every line that was read to its end is answered: what was read behind them, before the rest, is the front of a line
-pub record Cut (input rest before written : List ℕ) (start history : List Record) : Type 0 where
+-- what can be read and not answered: a line with its end, and what one read gave behind it
+abbrev pub IsHeld : List ℕ → Type 0
+IsHeld part = length part ≤ longest_line + 1 + most_read
+
+-- the lines that stand answered are all that was read but for a part behind them, of which P holds
+pub record Cut (P : List ℕ → Type 0) (most : ℕ) (input rest : List ℕ) (before written : Option (List ℕ)) (start history : List Record) : Type 0 where
   pub left : List (List ℕ)
-  pub stopped : Stopped input before written start history 0 left
-  pub all : ((part : List ℕ) × IsPlain part × (input ≡ joined stopped.lines ++ (part ++ rest))) ⊎ (left ≡ [])
+  pub stopped : Stopped input before written start history most left
+  pub all : ((part : List ℕ) × P part × (input ≡ joined stopped.lines ++ (part ++ rest))) ⊎ (left ≡ [])

@@ -16,6 +16,10 @@ pub record TakesLine (xs line ys : List ℕ) : Type 0 where
   pub plain : IsPlain line
   pub cut : (xs ≡ line ++ 10 ∷ ys) ⊎ ((xs ≡ line) × (ys ≡ []) × (line ≢ []))
 
+-- xs begins with a part of which P holds, and ys is behind it
+abbrev pub Behind : (List ℕ → Type 0) → List ℕ → List ℕ → Type 0
+Behind P xs ys = (part : List ℕ) × P part × (xs ≡ part ++ ys)
+
 -- xs begins with too many bytes that end no line
 pub record IsTooLong (xs : List ℕ) : Type 0 where
   pub front : List ℕ

@@ -1,9 +1,10 @@
 //! The next line of a script.
 ghost use Rattle.std.specs.Io.KnownBytes.{prepend_known};
-ghost use Rattle.std.specs.Prelude.{◌≡◌, ◌++◌, ◌≤◌, ◌⊎◌, ℕ, IfErr, IfOk, IfSome, IsErrOf, List, OnOk, [], false, length, true};
+ghost use Rattle.std.specs.Prelude.{◌≡◌, ◌≤◌, ◌⊎◌, IfErr, IfOk, IfSome, IsErrOf, OnOk, [], false, length, true};
 ghost use Rattle.ep_script.specs.Known.{Leads};
 ghost use Rattle.ep_script.specs.Lines.{IsPlain, longest_line};
-ghost use Rattle.ep_script.specs.Steps.{IsTooLong, TakesLine};
+ghost use Rattle.ep_script.specs.Outcome.{IsHeld};
+ghost use Rattle.ep_script.specs.Steps.{Behind, IsTooLong, TakesLine};
 ghost use Rattle.ep_script.specs.Unread.{unread};
 
 use crate::chunk::Input;
@@ -31,7 +32,11 @@ pub(crate) fn next_line<R: Read>(
     ensures cut { IsErrOf result ScriptFault.Read → Leads
         (prepend_known (unread input.old) (R.remaining reader.old.inner))
         (R.remaining reader.new.inner)
-        (λ xs ys. (part : List ℕ) × IsPlain part × (xs ≡ part ++ ys)) }
+        (λ xs ys. Behind IsPlain xs ys) }
+    ensures held { IsErrOf result ScriptFault.Memory → Leads
+        (prepend_known (unread input.old) (R.remaining reader.old.inner))
+        (R.remaining reader.new.inner)
+        (λ xs ys. Behind IsHeld xs ys) }
     ensures long { IsErrOf result (ScriptFault.Line number) →
         IfSome (prepend_known (unread input.old) (R.remaining reader.old.inner)) (λ xs. IsTooLong xs) }
     ensures err { IfErr result (λ e. (e ≡ ScriptFault.Memory) ⊎ (((e ≡ ScriptFault.Read) × (reader.new.failed ≡ true)) ⊎ (e ≡ ScriptFault.Line number))) }

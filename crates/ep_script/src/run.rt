@@ -2,7 +2,8 @@
 ghost use Rattle.std.specs.Io.KnownBytes.{prepend_known};
 ghost use Rattle.std.specs.Prelude.{◌≡◌, ◌≤◌, IfErr, IfOk, IfSome, IsErrOf, OnOk, false, true};
 ghost use Rattle.ep_script.specs.Known.{Leads};
-ghost use Rattle.ep_script.specs.Outcome.{Cut, Faulted, Whole};
+ghost use Rattle.ep_script.specs.Lines.{IsPlain};
+ghost use Rattle.ep_script.specs.Outcome.{Cut, Faulted, Gains, IsHeld, Whole};
 
 use crate::answer::answer_line;
 use crate::chunk::Input;
@@ -22,10 +23,16 @@ const MOST_LINES: u64 = 100_000;
 ///
 /// A line ends at byte 10, which the last may lack, and has at most 65,536 bytes; a script has at
 /// most 100,000 lines. Every error of the reader or the writer ends the run, and so does a write
-/// that takes no byte. An ENOMEM of the kernel is an answer as any other. After `Read`, `Line`,
-/// `Lines` and `Memory` the answers to all lines before stand written; after `Write` a part of the
-/// next one may. After `Write` and `Memory` the history may have one record whose answer is not
-/// written whole.
+/// that takes no byte. An ENOMEM of the kernel is an answer as any other.
+///
+/// After `Read`, `Line`, `Lines` and `Memory` the answers to all lines before stand written, and
+/// nothing else; after `Write` a part of the next one may. Of what was read, after `Read` every
+/// line that was read to its end is answered, and after `Memory` all but one line and what one read
+/// of at most 65,536 bytes gave behind it. After `Write` and `Memory` the history may have one
+/// record whose answer is not written whole.
+///
+/// All this is said of a reader that tells its bytes, and what was written of a writer that does.
+/// Of any, the history gained as many records as are counted.
 pub fn run_script<K: Kernel, R: Read, W: Write>(
     alloc: Global,
     kernel: &mut K,
@@ -36,19 +43,26 @@ pub fn run_script<K: Kernel, R: Read, W: Write>(
     requires fresh_writer { writer.old.failed ≡ false }
     ensures limits { K.bounds kernel.new ≡ K.bounds kernel.old }
     ensures transcript { IfOk result (λ summary. IfSome (R.remaining reader.old.inner) (λ input.
-        Leads (W.contents writer.old.inner) (W.contents writer.new.inner) (λ before written.
-        Whole input before written (K.past kernel.old) (K.past kernel.new) summary))) }
+        Whole input (W.contents writer.old.inner) (W.contents writer.new.inner)
+        (K.past kernel.old) (K.past kernel.new) summary)) }
+    ensures records { IfOk result (λ summary.
+        Gains (K.past kernel.old) (K.past kernel.new) summary.records) }
     ensures few { IfOk result (λ summary. summary.lines ≤ 100000) }
     ensures reader_flag { OnOk result (reader.new.failed ≡ false) }
     ensures writer_flag { OnOk result (writer.new.failed ≡ false) }
 
     // How far it came where it did not come to the end.
     ensures fault { IfErr result (λ e. IfSome (R.remaining reader.old.inner) (λ input.
-        Leads (W.contents writer.old.inner) (W.contents writer.new.inner) (λ before written.
-        Faulted e input before written (K.past kernel.old) (K.past kernel.new)))) }
-    ensures read { IsErrOf result ScriptFault.Read → Leads (R.remaining reader.old.inner) (R.remaining reader.new.inner) (λ input rest.
-        Leads (W.contents writer.old.inner) (W.contents writer.new.inner) (λ before written.
-        Cut input rest before written (K.past kernel.old) (K.past kernel.new))) }
+        Faulted e input (W.contents writer.old.inner) (W.contents writer.new.inner)
+        (K.past kernel.old) (K.past kernel.new))) }
+    ensures read { IsErrOf result ScriptFault.Read → Leads
+        (R.remaining reader.old.inner) (R.remaining reader.new.inner) (λ input rest.
+        Cut IsPlain 0 input rest (W.contents writer.old.inner) (W.contents writer.new.inner)
+        (K.past kernel.old) (K.past kernel.new)) }
+    ensures memory { IsErrOf result ScriptFault.Memory → Leads
+        (R.remaining reader.old.inner) (R.remaining reader.new.inner) (λ input rest.
+        Cut IsHeld 1 input rest (W.contents writer.old.inner) (W.contents writer.new.inner)
+        (K.past kernel.old) (K.past kernel.new)) }
     ensures read_flag { IsErrOf result ScriptFault.Read → reader.new.failed ≡ true }
     ensures write_flag { IsErrOf result ScriptFault.Write → writer.new.failed ≡ true }
 {

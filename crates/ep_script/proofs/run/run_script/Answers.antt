@@ -1,17 +1,22 @@
-use Rattle.std.proofs.Common.{Err, ap, arith, refl, ◌∙◌, ◌+◌, sym}
+use Rattle.std.proofs.Common.{Err, [], ap, append-nil, arith, refl, ◌∙◌, ◌+◌, sym}
 use Rattle.std.specs.Io.KnownBytes.{prepend_known}
 use Rattle.ep_script.specs.Unread.{unread}
-use Rattle.ep_script.proofs.Faults.{answer_fault, end_fault, err_same, lines_fault, memory_at_once, never_read, next_fault, no_part, read_cut}
+use Rattle.ep_script.proofs.Faults.{answer_cut, answer_fault, cut_at_once, end_fault, err_same, gains_none, keeps_itself, lines_fault, memory_at_once, memory_cut, never_read, next_fault, no_part, read_cut}
+use Rattle.ep_script.proofs.Pieces.{holds_line}
 use Rattle.ep_script.proofs.Running.{ran_more, ran_nothing, ran_whole}
-use Rattle.ep_script.proofs.Tallying.{few_bad, few_records, one_lines}
+use Rattle.ep_script.proofs.Tallying.{few_bad, few_records, gains_more, one_lines}
 use Rattle.ep_script.proofs.run.run_script.Goals as goal
 
 pub returns-in_default-clause-fault : goal.returns-in_default-clause-fault
 returns-in_default-clause-fault g c = memory_at_once (g.R.Read.remaining c.args.reader.now.inner) (g.W.Write.contents c.args.writer.now.inner) (g.K.Kernel.past c.args.kernel.now)
 
+pub returns-in_default-clause-memory : goal.returns-in_default-clause-memory
+returns-in_default-clause-memory g c = λ _. cut_at_once (g.R.Read.remaining c.args.reader.now.inner) (g.W.Write.contents c.args.writer.now.inner) (g.K.Kernel.past c.args.kernel.now)
+
 pub loop-done-init : goal.loop-done-init
 loop-done-init g c = record {
   ran = ran_nothing (g.R.Read.remaining c.args.reader.now.inner) (g.W.Write.contents c.args.writer.now.inner) (unread c.in-Ok.input) (g.K.Kernel.past c.args.kernel.now) c.in-Ok.ensures;
+  gains = ([], sym (append-nil _), refl);
   lines = refl;
   records = omega arith;
   bad = omega arith;
@@ -41,6 +46,13 @@ returns-in-Err-clause-read g c = λ q.
     (g.K.Kernel.past c.args.kernel.now) (g.K.Kernel.past c.loop-done.kernel) c.loop-done.summary
     c.loop-done.invariant.ran (c.in-Err.ensures.cut (ap Err (err_same _ _ q)))
 
+pub returns-in-Err-clause-memory : goal.returns-in-Err-clause-memory
+returns-in-Err-clause-memory g c = λ q.
+    memory_cut (g.R.Read.remaining c.args.reader.now.inner) (prepend_known (unread c.loop-done.input) (g.R.Read.remaining c.loop-done.reader.inner)) (g.R.Read.remaining c.next_line.new.reader.inner)
+    (g.W.Write.contents c.args.writer.now.inner) (g.W.Write.contents c.loop-done.writer.inner) (g.W.Write.contents c.loop-done.writer.inner)
+    (g.K.Kernel.past c.args.kernel.now) (g.K.Kernel.past c.loop-done.kernel) (g.K.Kernel.past c.loop-done.kernel) c.loop-done.summary
+    c.loop-done.invariant.ran (c.in-Err.ensures.held (ap Err (err_same _ _ q))) (keeps_itself _) (gains_none _)
+
 pub returns-in-Err-answer_line-clause-fault : goal.returns-in-Err-answer_line-clause-fault
 returns-in-Err-answer_line-clause-fault g c =
     answer_fault (g.R.Read.remaining c.args.reader.now.inner) (prepend_known (unread c.loop-done.input) (g.R.Read.remaining c.loop-done.reader.inner)) (prepend_known (unread c.next_line.new.input) (g.R.Read.remaining c.next_line.new.reader.inner))
@@ -51,6 +63,14 @@ returns-in-Err-answer_line-clause-fault g c =
 pub returns-in-Err-answer_line-clause-read : goal.returns-in-Err-answer_line-clause-read
 returns-in-Err-answer_line-clause-read g c = λ q. never_read _ c.in-Err-answer_line.fault _ _ _ _ _ _ c.in-Err-answer_line.ensures.err (err_same _ _ q)
 
+pub returns-in-Err-answer_line-clause-memory : goal.returns-in-Err-answer_line-clause-memory
+returns-in-Err-answer_line-clause-memory g c = λ q.
+    answer_cut (g.R.Read.remaining c.args.reader.now.inner) (prepend_known (unread c.loop-done.input) (g.R.Read.remaining c.loop-done.reader.inner)) (g.R.Read.remaining c.next_line.new.reader.inner)
+    (g.W.Write.contents c.args.writer.now.inner) (g.W.Write.contents c.loop-done.writer.inner) (g.W.Write.contents c.answer_line.new.writer.inner)
+    (g.K.Kernel.past c.args.kernel.now) (g.K.Kernel.past c.loop-done.kernel) (g.K.Kernel.past c.answer_line.new.kernel) c.loop-done.summary _ _ c.in-Err-answer_line.fault
+    c.loop-done.invariant.ran (holds_line _ _ c.next_line.new.line.items c.next_line.new.input (c.in-Ok-true.ensures.line c.in-Ok-true.field-0-test) c.in-Ok-true.ensures.short)
+    c.in-Err-answer_line.ensures.err (err_same _ _ q)
+
 pub loop-done-preserved : goal.loop-done-preserved
 loop-done-preserved g c =
     let told = rw c.as_slice.ensures.value at c.in-Ok-answer_line.ensures.ok in
@@ -60,6 +80,8 @@ loop-done-preserved g c =
           (g.W.Write.contents c.args.writer.now.inner) (g.W.Write.contents c.loop-done.writer.inner) (g.W.Write.contents c.answer_line.new.writer.inner)
           (g.K.Kernel.past c.args.kernel.now) (g.K.Kernel.past c.loop-done.kernel) (g.K.Kernel.past c.answer_line.new.kernel) c.loop-done.summary c.in-Ok-answer_line.kind told.0 c.next_line.new.line.items (c.loop-done.done + 1)
           c.loop-done.invariant.ran (c.in-Ok-true.ensures.line c.in-Ok-true.field-0-test) c.in-Ok-true.ensures.short told.1 told.2 (ap (λ n. n + 1) (sym c.loop-done.invariant.lines)));
+      gains = rw counted (gains_more (g.K.Kernel.past c.args.kernel.now) (g.K.Kernel.past c.loop-done.kernel) (g.K.Kernel.past c.answer_line.new.kernel) c.loop-done.summary c.in-Ok-answer_line.kind told.1.outcome
+          c.loop-done.invariant.gains told.1.grows told.1.kind_is);
       lines = rw counted (one_lines c.loop-done.summary c.in-Ok-answer_line.kind ∙ ap (λ n. n + 1) c.loop-done.invariant.lines);
       records = rw counted (omega (arith, few_records c.loop-done.summary c.in-Ok-answer_line.kind));
       bad = rw counted (omega (arith, few_bad c.loop-done.summary c.in-Ok-answer_line.kind));

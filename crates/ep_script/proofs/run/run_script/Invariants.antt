@@ -1,5 +1,6 @@
 use Rattle.std.proofs.Common.{false, ◌≡◌, ◌≤◌}
 use Rattle.std.specs.Io.KnownBytes.{prepend_known}
+use Rattle.ep_script.specs.Outcome.{Gains}
 use Rattle.ep_script.specs.Unread.{unread}
 use Rattle.ep_script.proofs.Running.{Ran}
 use Rattle.ep_script.proofs.run.run_script.Given as goal
@@ -8,6 +9,7 @@ abbrev pub invariant-loop-done : goal.invariant-loop-done
 invariant-loop-done g l = record {
   ran : Ran (g.R.Read.remaining l.fn.reader.inner) (prepend_known (unread l.input) (g.R.Read.remaining l.reader.inner)) (g.W.Write.contents l.fn.writer.inner) (g.W.Write.contents l.writer.inner)
       (g.K.Kernel.past l.fn.kernel) (g.K.Kernel.past l.kernel) l.summary;
+  gains : Gains (g.K.Kernel.past l.fn.kernel) (g.K.Kernel.past l.kernel) l.summary.records;
   lines : l.summary.lines ≡ l.done;
   records : l.summary.records ≤ l.done;
   bad : l.summary.bad ≤ l.done;
