@@ -7,3 +7,5 @@
 mod runs;
 #[cfg(test)]
 mod stand_ins;
+#[cfg(test)]
+mod watched;
