@@ -2,6 +2,7 @@
 #![tactic(auto)]
 
 mod answer;
+mod bounds;
 mod buffer;
 mod call;
 mod counts;
@@ -14,11 +15,12 @@ mod record;
 mod short_list;
 
 pub use crate::answer::{Answer, Report};
+pub use crate::bounds::{LAST_MOMENT, LONGEST_CHAIN};
 pub use crate::buffer::Buffer;
 pub use crate::call::{Call, Event};
 pub use crate::counts::Counts;
 pub use crate::errno::Errno;
-pub use crate::ids::{CallerId, DescId, EntryId, Fd, Pid};
+pub use crate::ids::{CallerId, DescId, EntryId, EntryNumber, Fd, Pid};
 pub use crate::limits::Limits;
 pub use crate::mask::Mask;
 pub use crate::object::{End, Raised};

@@ -1,5 +1,5 @@
 -- What is raised at the description across, at each registration.
-use Rattle.std.proofs.Common.{if◌then◌else◌, nat_lt, ◌≡◌, ◌≢◌, ◌==◌, ◌&&◌, ◌⊎◌, ◌∙◌, ℕ, Bool, true, false, IsSome, List, None, Option, Some, ap, cond, inl, inr, refl, slice_index_or, sym, unwrap_or}
+use Rattle.std.proofs.Common.{◌||◌, if◌then◌else◌, nat_lt, ◌≡◌, ◌≢◌, ◌==◌, ◌&&◌, ◌⊎◌, ◌∙◌, ℕ, Bool, true, false, IsSome, List, None, Option, Some, ap, cond, inl, inr, refl, slice_index_or, sym, unwrap_or}
 use Rattle.std.proofs.lemmas.Bool.{cases_Bool, false≢true}
 use Rattle.ep_base.specs.declared.ids.DescId.{DescId}
 use Rattle.ep_base.specs.declared.mask.Mask.{Mask}
@@ -26,11 +26,11 @@ never false = refl
 
 -- what a registration notes of these bits, raised at its target in event n
 abbrev pub noted : ℕ → ℕ → Entry → Entry
-noted n bits x = record x { seen = if brings x.mask.0 bits then None else x.seen; from = if x.armed && nat_lt 0 (asked x.mask.0 bits) then n else x.from }
+noted n bits x = record x { fresh = brings x.mask.0 bits || x.fresh; passes_in = if x.armed && nat_lt 0 (asked x.mask.0 bits) then n else x.passes_in }
 
 -- of no bits nothing
 pub zero_noted : (n : ℕ) (x : Entry) → noted n 0 x ≡ x
-zero_noted n x = λ i. record x { seen = if zero_brings x.mask.0 i then None else x.seen; from = if (ap (λ (b : Bool). x.armed && b) (zero_asked x.mask.0) ∙ never x.armed) i then n else x.from }
+zero_noted n x = λ i. record x { fresh = zero_brings x.mask.0 i || x.fresh; passes_in = if (ap (λ (b : Bool). x.armed && b) (zero_asked x.mask.0) ∙ never x.armed) i then n else x.passes_in }
 
 pub watch_noted : (keys : List (Option ℕ)) (n bits : ℕ) (x : Entry) → watch_at keys (noted n bits x) ≡ stirred n (brings x.mask.0 bits) (x.armed && nat_lt 0 (asked x.mask.0 bits)) (watch_at keys x)
 watch_noted keys n bits x = refl

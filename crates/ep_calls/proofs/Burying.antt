@@ -15,9 +15,8 @@ use Rattle.ep_machine.specs.Deaths.{die, die_all}
 use Rattle.ep_machine.specs.Files.{Files, Place, object_at, place_of, raised_at}
 use Rattle.ep_machine.specs.Lists.{is_among}
 use Rattle.ep_machine.specs.Objects.{close_end, plain}
-use Rattle.ep_view.specs.KernelView.{freshened, stirred}
+use Rattle.ep_view.specs.KernelView.{KernelWatch, freshened, stirred}
 use Rattle.ep_machine.specs.Spread.{raised_of}
-use Rattle.ep_machine.specs.State.{Watch}
 use Rattle.ep_view.proofs.FreshLemmas.{fresh_parts, raised_live, raised_place}
 use Rattle.ep_law.proofs.DeathLemmas.{ArePlaced, after_all, after_first, get_place, numbers, raised_before}
 use Rattle.ep_interest.specs.Registrations.{Registrations, is_apart_from, is_on}
@@ -70,16 +69,16 @@ not_both false true false d = refl
 not_both false false true d = refl
 not_both false false false d = refl
 
-untouched_more : (xs : List (ℕ × Place)) (x : ℕ × Place) (w : Watch) → is_untouched (numbers (xs ++ x ∷ [])) w ≡ (is_untouched (numbers xs) w && (not (w.instance == x.0) && not (w.target == x.0)))
+untouched_more : (xs : List (ℕ × Place)) (x : ℕ × Place) (w : KernelWatch) → is_untouched (numbers (xs ++ x ∷ [])) w ≡ (is_untouched (numbers xs) w && (not (w.instance == x.0) && not (w.target == x.0)))
 untouched_more xs x w =
     (λ i. not (among_more xs x w.instance i) && not (among_more xs x w.target i))
     ∙ not_both (is_among (numbers xs) w.instance) (w.instance == x.0) (is_among (numbers xs) w.target) (w.target == x.0)
 
 -- the registrations that one death leaves, of those that others left
-abbrev leaves : ℕ → Watch → Bool
+abbrev leaves : ℕ → KernelWatch → Bool
 leaves d w = not (w.instance == d) && not (w.target == d)
 
-filter_more : (xs : List (ℕ × Place)) (x : ℕ × Place) (ws : List Watch) → filter (is_untouched (numbers (xs ++ x ∷ []))) ws ≡ filter (leaves x.0) (filter (is_untouched (numbers xs)) ws)
+filter_more : (xs : List (ℕ × Place)) (x : ℕ × Place) (ws : List KernelWatch) → filter (is_untouched (numbers (xs ++ x ∷ []))) ws ≡ filter (leaves x.0) (filter (is_untouched (numbers xs)) ws)
 filter_more xs x [] = refl
 filter_more xs x (w ∷ ws) =
     let rest = filter_more xs x ws in
@@ -177,17 +176,17 @@ never : (p : Bool) → (p && false) ≡ false
 never true = refl
 never false = refl
 
-fresh_none : (n : ℕ) (ws : List Watch) → map (freshened n []) ws ≡ ws
+fresh_none : (n : ℕ) (ws : List KernelWatch) → map (freshened n []) ws ≡ ws
 fresh_none n [] = refl
 fresh_none n (w ∷ ws) = λ i. stirred n (zero_brings w.mask i) ((ap (λ (b : Bool). w.armed && b) (zero_asked w.mask) ∙ never w.armed) i) w ∷ fresh_none n ws i
 
 -- what goes has nothing to do with what is noted
-fresh_leaves : (n d : ℕ) (rs : List (ℕ × ℕ)) (ws : List Watch) → filter (leaves d) (map (freshened n rs) ws) ≡ map (freshened n rs) (filter (leaves d) ws)
+fresh_leaves : (n d : ℕ) (rs : List (ℕ × ℕ)) (ws : List KernelWatch) → filter (leaves d) (map (freshened n rs) ws) ≡ map (freshened n rs) (filter (leaves d) ws)
 fresh_leaves n d rs [] = refl
 fresh_leaves n d rs (w ∷ ws) =
     let rest = fresh_leaves n d rs ws in
     elim (leaves d w) as (λ b. cond b (freshened n rs w ∷ filter (leaves d) (map (freshened n rs) ws)) (filter (leaves d) (map (freshened n rs) ws)) ≡ map (freshened n rs) (cond b (w ∷ filter (leaves d) ws) (filter (leaves d) ws))) [
-      | true ↦ ap (λ (us : List Watch). freshened n rs w ∷ us) rest
+      | true ↦ ap (λ (us : List KernelWatch). freshened n rs w ∷ us) rest
       | false ↦ rest
     ]
 
@@ -305,9 +304,9 @@ buries_none n v r linked = record {
   linked = linked;
   added = refl;
 } where
-  all_stay : (ws : List Watch) → filter (is_untouched []) ws ≡ ws
+  all_stay : (ws : List KernelWatch) → filter (is_untouched []) ws ≡ ws
   all_stay [] = refl
-  all_stay (w ∷ ws) = ap (λ (us : List Watch). w ∷ us) (all_stay ws)
+  all_stay (w ∷ ws) = ap (λ (us : List KernelWatch). w ∷ us) (all_stay ws)
 
 -- one death more
 module _ (n : ℕ) (v0 v w : Seen) (r0 r q : Registrations) (dead : Dead) (before : Buries n v0 r0 v r) (takes : Takes v w dead) (sound : Sound v)
@@ -342,7 +341,7 @@ module _ (n : ℕ) (v0 v w : Seen) (r0 r q : Registrations) (dead : Dead) (befor
         ap (λ (xs : List Entry). map (watch_at w.keys) xs) entries
         ∙ (raised_all v w dead takes sound n m m_is (filter (is_apart_from dead.desc) r.entries) left
         ∙ (ap (map (freshened n more)) (watches_left v w dead takes sound r.entries before.linked)
-        ∙ (ap (λ (ws : List Watch). map (freshened n more) (filter (leaves takes.number) ws)) before.watches
+        ∙ (ap (λ (ws : List KernelWatch). map (freshened n more) (filter (leaves takes.number) ws)) before.watches
         ∙ (ap (map (freshened n more)) (fresh_leaves n takes.number first (filter (is_untouched (numbers before.dead)) (map (watch_at v0.keys) r0.entries)))
         ∙ (sym (fresh_parts n first more (filter (leaves takes.number) (filter (is_untouched (numbers before.dead)) (map (watch_at v0.keys) r0.entries))))
         ∙ ((λ i. map (freshened n (all i)) (filter (leaves takes.number) (filter (is_untouched (numbers before.dead)) (map (watch_at v0.keys) r0.entries))))

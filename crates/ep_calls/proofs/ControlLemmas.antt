@@ -48,7 +48,7 @@ module _ (v : Seen) (r : Registrations) (p : ℕ) (args : Control) (named : Name
       ap (λ (d : ℕ). can_be_watched (object_of v.files d)) number ∙ shows_of (object_of v.files (named_by v.files p args.fd.0)) (none_holds (naming_refusals v.files p args.epfd.0 args.fd.0) names.accepted).1.1.0
 
   modified_shown : (k : ℕ) (m : Mask) (tag : ℕ) (x : Entry) → IsShown x → IsShown (modified k m tag x)
-  modified_shown k m tag x h = elim (x.number == k) as (λ b. IsShown (cond b (record x { mask = m; tag = tag; armed = true; seen = None }) x)) [ true ↦ h | false ↦ h ]
+  modified_shown k m tag x h = elim (x.number == k) as (λ b. IsShown (cond b (record x { mask = m; tag = tag; armed = true; fresh = true }) x)) [ true ↦ h | false ↦ h ]
 
   pub watched_altered : (k : ℕ) (operation : Operation) (new : Registrations) (answer : Answer) → Alters operation k args.mask args.tag r new answer → AreWatched v new
   watched_altered k Add new answer h = subst (λ (q : Registrations). AreWatched v q) (sym h.1) watched

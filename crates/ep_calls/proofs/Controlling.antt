@@ -20,10 +20,10 @@ use Rattle.ep_base.specs.declared.answer.Answer.{Answer}
 use Rattle.ep_base.specs.declared.answer.Answer.TheVariants.{Done, Refused}
 use Rattle.ep_machine.specs.Files.{under}
 use Rattle.ep_machine.specs.Step.{call_change}
-use Rattle.ep_machine.specs.Watches.{add, ctl, delete, has_key as has_numbers, looked_at, modified as modified_watch, modify, new_watch, with_watch}
+use Rattle.ep_machine.specs.Watches.{add, ctl, delete, has_key as has_numbers, looked_at, modify, new_watch, with_watch}
 use Rattle.std.proofs.lemmas.List.{map-append}
 use Rattle.std.proofs.lemmas.List.Elements.{All-append, All-cons, All-filter, All-nil}
-use Rattle.ep_view.specs.KernelView.{kernel_watch}
+use Rattle.ep_view.specs.KernelView.{is_at, kernel_modified, kernel_watch}
 use Rattle.ep_calls.specs.Control.{Alters, Enters, Names, code_of, control_call, is_deep_at, is_done, is_refused_op, raising_of_ctl, naming_refusals, room_refusals}
 use Rattle.ep_calls.specs.Moves.{Goes}
 use Rattle.ep_interest.specs.Registrations.{Registrations, has_key, is_other, modified, new_entry}
@@ -222,8 +222,8 @@ module _ {ws : List Waiter} (g : List Link) (limits : Limits) (v : Seen) (r : Re
       now = stands.now;
       files = stands.files;
       watches =
-          kept_filter s (λ x. not (has_numbers e fd d x)) s.watches
-          ∙ ((λ i. filter (λ x. not (has_numbers (instance_is i) fd (desc_is i) x)) (stands.watches i))
+          kept_filter s (λ x. not (is_at e fd d x)) s.watches
+          ∙ ((λ i. filter (λ x. not (is_at (instance_is i) fd (desc_is i) x)) (stands.watches i))
           ∙ (without v named.instance args.fd.0 named.desc k sound names.instance_lives names.desc_lives under_number r.entries linked has
           ∙ ap (map (watch_at v.keys)) (sym entries)));
       added = stands.added ∙ sym added;
@@ -236,7 +236,7 @@ module _ {ws : List Waiter} (g : List Link) (limits : Limits) (v : Seen) (r : Re
       files = stands.files;
       watches =
           all_modified s e fd d args.mask.0 args.tag s.watches
-          ∙ ((λ i. map (modified_watch (instance_is i) fd (desc_is i) args.mask.0 args.tag) (stands.watches i))
+          ∙ ((λ i. map (kernel_modified (instance_is i) fd (desc_is i) args.mask.0 args.tag) (stands.watches i))
           ∙ (changed v named.instance args.fd.0 named.desc k sound names.instance_lives names.desc_lives under_number args.mask args.tag r.entries linked has
           ∙ ap (map (watch_at v.keys)) (sym entries)));
       added = stands.added ∙ sym added;
@@ -266,7 +266,7 @@ module _ {ws : List Waiter} (g : List Link) (limits : Limits) (v : Seen) (r : Re
   -- Of one that is not.
   module _ (absent : list_any (has_key named.instance args.fd named.desc) r.entries ≡ false) (op_accepted : is_refused_op args.op args.mask.0 ≡ false) where
     watch_is : kernel_watch s (new_watch s e fd d args.mask.0 args.tag) ≡ watch_at v.keys (new_entry (r.added + 1) named.instance args.fd named.desc args.mask args.tag)
-    watch_is = λ i. record { number = stands.added i + 1; instance = instance_is i; fd = fd; target = desc_is i; mask = args.mask.0; tag = args.tag; armed = true; seen = None; rep = 0; from = 0 }
+    watch_is = λ i. record { number = stands.added i + 1; instance = instance_is i; fd = fd; target = desc_is i; mask = args.mask.0; tag = args.tag; armed = true; fresh = true; reported_in = 0; passes_in = 0 }
 
     more : (new : Registrations) → new.entries ≡ r.entries ++ new_entry (r.added + 1) named.instance args.fd named.desc args.mask args.tag ∷ [] → new.added ≡ r.added + 1 → Stands v new ws now (add s e fd d args.mask.0 args.tag).1
     more new entries added = record {

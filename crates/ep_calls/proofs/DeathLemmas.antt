@@ -8,11 +8,11 @@ use Rattle.ep_machine.specs.Bits.{asked}
 use Rattle.ep_machine.specs.Counts.{brings}
 use Rattle.ep_machine.specs.Deaths.{die_all, dying, named_in_tables}
 use Rattle.ep_machine.specs.Files.{Files, Place, is_live, object_at, object_of, place_of}
-use Rattle.ep_view.specs.KernelView.{climbed_all, freshened, kernel_watches, settled_watches, stays_in, stirred}
+use Rattle.ep_view.specs.KernelView.{KernelWatch, climbed_all, freshened, kernel_watches, settled_watches, stays_in, stirred}
 use Rattle.ep_machine.specs.Lists.{are_distinct, is_among}
 use Rattle.ep_view.specs.AtRest.{Settles, can_be_watched, is_backed, kind_of, marks_of}
 use Rattle.ep_machine.specs.Spread.{raised_of}
-use Rattle.ep_machine.specs.State.{State, Watch, Waiter}
+use Rattle.ep_machine.specs.State.{State, Waiter}
 use Rattle.ep_machine.specs.Timer.{last_moment}
 use Rattle.ep_view.proofs.FreshLemmas.{deaths_raise, fresh_filter, fresh_parts}
 use Rattle.ep_view.proofs.DeathLemmas.{Buried, all_buried, Apart, same_raised}
@@ -123,25 +123,25 @@ module _ (n : ℕ) (mid new : Parts) (coherent : AreCoherent mid) (burial : Buri
       All-cons (IsPlaced new.tables.keys) w ws (record { instance = subst (λ (o : Option ℕ). IsSome o) (sym here) refl; most = one.most }) rest
 
   -- each registration that is left keeps the kind of its target
-  abbrev Shown : Watch → Type 0
+  abbrev Shown : KernelWatch → Type 0
   Shown w = (is_live mid.tables.files w.target ≡ true) × (can_be_watched (object_of mid.tables.files w.target) ≡ true)
 
-  abbrev SameKind : Watch → Type 0
+  abbrev SameKind : KernelWatch → Type 0
   SameKind w = kind_of (object_of (after_all mid.tables.files dead) w.target) ≡ kind_of (object_of mid.tables.files w.target)
 
-  abbrev Stays : Watch → Type 0
+  abbrev Stays : KernelWatch → Type 0
   Stays w = SameKind w × (can_be_watched (object_of (after_all mid.tables.files dead) w.target) ≡ true)
 
   shown_mid : All Shown (map (watch_at mid.tables.keys) mid.interest.entries)
   shown_mid = All-map Shown (watch_at mid.tables.keys) mid.interest.entries (λ k d lt. (key_lives _ (coherent.linked k d lt).desc, coherent.watched k d lt))
 
-  same_kind : (w : Watch) → Shown w → is_untouched (numbers dead) w ≡ true → Stays w
+  same_kind : (w : KernelWatch) → Shown w → is_untouched (numbers dead) w ≡ true → Stays w
   same_kind w shown untouched =
       let stays = (both_true (not (is_among (numbers dead) w.instance)) (not (is_among (numbers dead) w.target)) untouched).1 in
       let kind : SameKind w = left.shows w.target (ap is_some (left.places w.target) ∙ (live_or (is_among (numbers dead) w.target) (place_of mid.tables.files w.target) shown.0 ∙ stays)) shown.1 in
       (kind, watched_same _ _ kind shown.1)
 
-  same_kinds : (ws : List Watch) → All Shown ws → All Stays (filter (is_untouched (numbers dead)) ws)
+  same_kinds : (ws : List KernelWatch) → All Shown ws → All Stays (filter (is_untouched (numbers dead)) ws)
   same_kinds [] h = All-nil Stays
   same_kinds (w ∷ ws) h = with_one (is_untouched (numbers dead) w) refl (All-head Shown w ws h) (same_kinds ws (All-tail Shown w ws h)) where
     with_one : (b : Bool) → is_untouched (numbers dead) w ≡ b → Shown w → All Stays (filter (is_untouched (numbers dead)) ws) → All Stays (cond b (w ∷ filter (is_untouched (numbers dead)) ws) (filter (is_untouched (numbers dead)) ws))
@@ -246,12 +246,12 @@ module _ (n : ℕ) (mid new : Parts) (coherent : AreCoherent mid) (burial : Buri
         ap (λ (f : Files). raised_of (die_all (f, []) (dying after)).1 d) stands.files
         ∙ same_raised mid.tables.files (dying after) dead (dying_distinct after) distinct placed_dying burial.buries.placed apart_mid same_among d p.0 here
 
-    fresh_one : (x : Watch) → stays_in t.files x ≡ true → freshened n of_machine x ≡ freshened n of_kernel x
+    fresh_one : (x : KernelWatch) → stays_in t.files x ≡ true → freshened n of_machine x ≡ freshened n of_kernel x
     fresh_one x stays =
         let lives = (both_true (is_live t.files x.instance) (is_live t.files x.target) stays).1 in
         ap (λ (b : ℕ). stirred n (brings x.mask b) (x.armed && nat_lt 0 (asked x.mask b)) x) (raised_same x.target lives)
 
-    fresh_left : (ws : List Watch) → map (freshened n of_machine) (filter (stays_in t.files) ws) ≡ map (freshened n of_kernel) (filter (stays_in t.files) ws)
+    fresh_left : (ws : List KernelWatch) → map (freshened n of_machine) (filter (stays_in t.files) ws) ≡ map (freshened n of_kernel) (filter (stays_in t.files) ws)
     fresh_left [] = refl
     fresh_left (w ∷ ws) = with_one (stays_in t.files w) refl (fresh_left ws) where
       with_one : (b : Bool) → stays_in t.files w ≡ b → map (freshened n of_machine) (filter (stays_in t.files) ws) ≡ map (freshened n of_kernel) (filter (stays_in t.files) ws)
@@ -267,7 +267,7 @@ module _ (n : ℕ) (mid new : Parts) (coherent : AreCoherent mid) (burial : Buri
         ap (λ (rs : List (ℕ × ℕ)). map (freshened n rs) (filter (stays_in t.files) kept)) (deaths_raise after.files raised (dying after))
         ∙ (fresh_parts n raised of_machine (filter (stays_in t.files) kept)
         ∙ (ap (map (freshened n of_machine)) (sym (fresh_filter n t.files raised kept))
-        ∙ (ap (λ (us : List Watch). map (freshened n of_machine) (filter (stays_in t.files) us)) stands.watches
+        ∙ (ap (λ (us : List KernelWatch). map (freshened n of_machine) (filter (stays_in t.files) us)) stands.watches
         ∙ (fresh_left ws
         ∙ (ap (map (freshened n of_kernel)) (stay_all mid.interest.entries coherent.linked) ∙ sym burial.buries.watches)))))
 

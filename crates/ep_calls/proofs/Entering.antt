@@ -1,5 +1,5 @@
 -- Links of registrations that are added or deleted.
-use Rattle.std.proofs.Common.{◌≡◌, ◌∙◌, ◌==◌, ◌||◌, ◌++◌, ◌+◌, ◌≤◌, ℕ, All, Bool, true, false, List, [], ◌∷◌, ap, arith, cond, filter, inl, inr, map, not, refl, sym, None}
+use Rattle.std.proofs.Common.{◌≡◌, ◌∙◌, ◌==◌, ◌||◌, ◌++◌, ◌+◌, ◌≤◌, ℕ, All, Bool, true, false, List, [], ◌∷◌, ap, arith, cond, filter, inl, inr, map, not, refl, sym}
 use Rattle.std.proofs.lemmas.Bool.{cases_Bool}
 use Rattle.std.proofs.lemmas.Bool.Decides.{nat_tests}
 use Rattle.std.proofs.lemmas.List.Elements.{All-head, All-tail}
@@ -44,10 +44,10 @@ unlinked (x ∷ xs) l h = elim (cases_Bool (l.entry.0 == x.entry.0)) [
 
 -- MOD leaves links as they are
 link_modified : (k : ℕ) (mask : Mask) (tag : ℕ) (x : Entry) → link_of (modified k mask tag x) ≡ link_of x
-link_modified k mask tag x = elim (x.number == k) as (λ b. link_of (cond b (record x { mask = mask; tag = tag; armed = true; seen = None }) x) ≡ link_of x) [ true ↦ refl | false ↦ refl ]
+link_modified k mask tag x = elim (x.number == k) as (λ b. link_of (cond b (record x { mask = mask; tag = tag; armed = true; fresh = true }) x) ≡ link_of x) [ true ↦ refl | false ↦ refl ]
 
 nested_modified : (v : Seen) (k : ℕ) (mask : Mask) (tag : ℕ) (x : Entry) → is_nested v (modified k mask tag x) ≡ is_nested v x
-nested_modified v k mask tag x = elim (x.number == k) as (λ b. is_nested v (cond b (record x { mask = mask; tag = tag; armed = true; seen = None }) x) ≡ is_nested v x) [ true ↦ refl | false ↦ refl ]
+nested_modified v k mask tag x = elim (x.number == k) as (λ b. is_nested v (cond b (record x { mask = mask; tag = tag; armed = true; fresh = true }) x) ≡ is_nested v x) [ true ↦ refl | false ↦ refl ]
 
 pub links_modified : (v : Seen) (k : ℕ) (mask : Mask) (tag : ℕ) (xs : List Entry) → map link_of (filter (is_nested v) (map (modified k mask tag) xs)) ≡ map link_of (filter (is_nested v) xs)
 links_modified v k mask tag xs = links_mapped (is_nested v) (modified k mask tag) (link_modified k mask tag) (nested_modified v k mask tag) xs

@@ -10,7 +10,7 @@ use Rattle.ep_base.specs.declared.ids.Fd.{Fd}
 use Rattle.ep_base.specs.declared.mask.Mask.{Mask}
 use Rattle.ep_interest.specs.Registrations.{IsSound, Registrations, RisesFrom, has_key, is_other, modified, numbered}
 use Rattle.ep_interest.specs.declared.entry.Entry.{Entry}
-use Rattle.ep_view.specs.KernelView.{kernel_watches, kernel_watch}
+use Rattle.ep_view.specs.KernelView.{KernelWatch, is_at, kernel_modified, kernel_watches, kernel_watch}
 use Rattle.ep_machine.specs.State.{State, Watch}
 use Rattle.ep_machine.specs.Watches.{has_key as has_numbers, modified as modified_watch, number_in}
 use Rattle.ep_calls.specs.Stands.{IsLinked, number_at, watch_at}
@@ -95,8 +95,8 @@ module _ (r : Registrations) (instance : DescId) (fd : Fd) (desc : DescId) (k : 
 
 -- The machine's registrations without the one of a key, and with it modified.
 module _ (v : Seen) (instance : DescId) (fd : ℤ) (desc : DescId) (k : ℕ) (sound : Sound v) (instance_lives : IsSome (number_under v instance)) (desc_lives : IsSome (number_under v desc)) (descriptor : fd ≡ pos (number_in fd)) where
-  abbrev tests : Watch → Bool
-  tests = has_numbers (number_at v.keys instance) (number_in fd) (number_at v.keys desc)
+  abbrev tests : KernelWatch → Bool
+  tests = is_at (number_at v.keys instance) (number_in fd) (number_at v.keys desc)
 
   same : (x : Entry) → IsLinked v.keys x → has_key instance (record { 0 = fd }) desc x ≡ (x.number == k) → tests (watch_at v.keys x) ≡ (x.number == k)
   same x link h = same_key_test v instance desc fd sound instance_lives desc_lives descriptor x link ∙ h
@@ -112,35 +112,35 @@ module _ (v : Seen) (instance : DescId) (fd : ℤ) (desc : DescId) (k : ℕ) (so
         | false ↦ refl
       ]
 
-  one_modified : (mask : Mask) (tag : ℕ) (x : Entry) (b : Bool) → cond b (record (watch_at v.keys x) { mask = mask.0; tag = tag; armed = true; seen = None }) (watch_at v.keys x) ≡ watch_at v.keys (cond b (record x { mask = mask; tag = tag; armed = true; seen = None }) x)
+  one_modified : (mask : Mask) (tag : ℕ) (x : Entry) (b : Bool) → cond b (record (watch_at v.keys x) { mask = mask.0; tag = tag; armed = true; fresh = true }) (watch_at v.keys x) ≡ watch_at v.keys (cond b (record x { mask = mask; tag = tag; armed = true; fresh = true }) x)
   one_modified mask tag x true = refl
   one_modified mask tag x false = refl
 
   pub changed : (mask : Mask) (tag : ℕ) (xs : List Entry) → All (IsLinked v.keys) xs → AllByRecursion (λ x. has_key instance (record { 0 = fd }) desc x ≡ (x.number == k)) xs
-      → map (modified_watch (number_at v.keys instance) (number_in fd) (number_at v.keys desc) mask.0 tag) (map (watch_at v.keys) xs) ≡ map (watch_at v.keys) (map (modified k mask tag) xs)
+      → map (kernel_modified (number_at v.keys instance) (number_in fd) (number_at v.keys desc) mask.0 tag) (map (watch_at v.keys) xs) ≡ map (watch_at v.keys) (map (modified k mask tag) xs)
   changed mask tag [] linked h = refl
   changed mask tag (x ∷ xs) linked h =
       let rest = changed mask tag xs (All-tail (IsLinked v.keys) x xs linked) h.1 in
       let e = same x (All-head (IsLinked v.keys) x xs linked) h.0 in
-      let one = (λ i. cond (e i) (record (watch_at v.keys x) { mask = mask.0; tag = tag; armed = true; seen = None }) (watch_at v.keys x)) ∙ one_modified mask tag x (x.number == k) in
+      let one = (λ i. cond (e i) (record (watch_at v.keys x) { mask = mask.0; tag = tag; armed = true; fresh = true }) (watch_at v.keys x)) ∙ one_modified mask tag x (x.number == k) in
       λ i. one i ∷ rest i
 
--- what MOD does sees neither what a registration has seen nor since when it is reportable
-kept_modified : (s : State) (e fd d mask tag : ℕ) (x : Watch) → kernel_watch s (modified_watch e fd d mask tag x) ≡ modified_watch e fd d mask tag (kernel_watch s x)
+-- what MOD does, by registrations as they are kept
+kept_modified : (s : State) (e fd d mask tag : ℕ) (x : Watch) → kernel_watch s (modified_watch e fd d mask tag x) ≡ kernel_modified e fd d mask tag (kernel_watch s x)
 kept_modified s e fd d mask tag x =
-    elim (has_numbers e fd d x) as (λ b. kernel_watch s (cond b (record x { mask = mask; tag = tag; armed = true; seen = None }) x) ≡ cond b (record (kernel_watch s x) { mask = mask; tag = tag; armed = true; seen = None }) (kernel_watch s x)) [
+    elim (has_numbers e fd d x) as (λ b. kernel_watch s (cond b (record x { mask = mask; tag = tag; armed = true; seen = None }) x) ≡ cond b (record (kernel_watch s x) { mask = mask; tag = tag; armed = true; fresh = true }) (kernel_watch s x)) [
       | true ↦ refl
       | false ↦ refl
     ]
 
-pub all_modified : (s : State) (e fd d mask tag : ℕ) (xs : List Watch) → kernel_watches s (map (modified_watch e fd d mask tag) xs) ≡ map (modified_watch e fd d mask tag) (kernel_watches s xs)
+pub all_modified : (s : State) (e fd d mask tag : ℕ) (xs : List Watch) → kernel_watches s (map (modified_watch e fd d mask tag) xs) ≡ map (kernel_modified e fd d mask tag) (kernel_watches s xs)
 all_modified s e fd d mask tag [] = refl
 all_modified s e fd d mask tag (x ∷ xs) = let one = kept_modified s e fd d mask tag x in let rest = all_modified s e fd d mask tag xs in λ i. one i ∷ rest i
 
 -- what is modified stays linked
 link_modified : (keys : List (Option ℕ)) (k : ℕ) (mask : Mask) (tag : ℕ) (x : Entry) → IsLinked keys x → IsLinked keys (modified k mask tag x)
 link_modified keys k mask tag x h =
-    elim (x.number == k) as (λ b. IsLinked keys (cond b (record x { mask = mask; tag = tag; armed = true; seen = None }) x)) [
+    elim (x.number == k) as (λ b. IsLinked keys (cond b (record x { mask = mask; tag = tag; armed = true; fresh = true }) x)) [
       | true ↦ record { instance = h.instance; desc = h.desc; fd = h.fd }
       | false ↦ h
     ]

@@ -8,7 +8,7 @@ use Rattle.std.proofs.lemmas.List.Elements.{All-head, All-tail}
 use Rattle.ep_base.specs.declared.ids.DescId.{DescId}
 use Rattle.ep_machine.specs.Bits.{asked}
 use Rattle.ep_machine.specs.Counts.{every_shown_bit, no_counts}
-use Rattle.ep_view.specs.KernelView.{kernel_watches, kernel_watch, seen_where, at_number}
+use Rattle.ep_view.specs.KernelView.{KernelWatch, at_number, is_at, kernel_watches, kernel_watch}
 use Rattle.ep_machine.specs.Readiness.{is_fresh_since}
 use Rattle.ep_machine.specs.State.{State, Waiter, Watch}
 use Rattle.ep_machine.specs.Waits.{has_parked, is_marked, is_parked}
@@ -22,8 +22,8 @@ use Rattle.ep_table.specs.Value.{Seen, Sound, number_under}
 use Rattle.ep_interest.specs.declared.entry.Entry.{Entry}
 use Rattle.ep_calls.proofs.Keys.{number_kept, same_keys, some_kept}
 
--- the test of a key sees neither what a registration has seen nor since when it is reportable
-there_kept : (s : State) (e fd d : ℕ) (xs : List Watch) → list_any (has_numbers e fd d) (kernel_watches s xs) ≡ list_any (has_numbers e fd d) xs
+-- the test of a key sees nothing of what a kernel keeps otherwise
+there_kept : (s : State) (e fd d : ℕ) (xs : List Watch) → list_any (is_at e fd d) (kernel_watches s xs) ≡ list_any (has_numbers e fd d) xs
 there_kept s e fd d [] = refl
 there_kept s e fd d (x ∷ xs) = ap (λ (b : Bool). has_numbers e fd d x || b) (there_kept s e fd d xs)
 
@@ -35,7 +35,7 @@ same_descriptor x y h i =
 
 -- the test of the numbers is the test of the keys
 pub same_key_test : (v : Seen) (instance desc : DescId) (fd : ℤ) → Sound v → IsSome (number_under v instance) → IsSome (number_under v desc) → fd ≡ pos (number_in fd) → (x : Entry) → IsLinked v.keys x
-    → has_numbers (number_at v.keys instance) (number_in fd) (number_at v.keys desc) (watch_at v.keys x) ≡ has_key instance (record { 0 = fd }) desc x
+    → is_at (number_at v.keys instance) (number_in fd) (number_at v.keys desc) (watch_at v.keys x) ≡ has_key instance (record { 0 = fd }) desc x
 same_key_test v instance desc fd sound hi hd hf x link =
     let a = same_keys v x.instance instance sound link.instance hi in
     let b = same_descriptor x.fd.0 fd link.fd hf in
@@ -43,7 +43,7 @@ same_key_test v instance desc fd sound hi hd hf x link =
 
 -- the machine has a registration of these numbers where the interest sets have one of these keys
 there_linked : (v : Seen) (instance desc : DescId) (fd : ℤ) → Sound v → IsSome (number_under v instance) → IsSome (number_under v desc) → fd ≡ pos (number_in fd) → (xs : List Entry) → All (IsLinked v.keys) xs
-    → list_any (has_numbers (number_at v.keys instance) (number_in fd) (number_at v.keys desc)) (map (watch_at v.keys) xs) ≡ list_any (has_key instance (record { 0 = fd }) desc) xs
+    → list_any (is_at (number_at v.keys instance) (number_in fd) (number_at v.keys desc)) (map (watch_at v.keys) xs) ≡ list_any (has_key instance (record { 0 = fd }) desc) xs
 there_linked v instance desc fd sound hi hd hf [] linked = refl
 there_linked v instance desc fd sound hi hd hf (x ∷ xs) linked =
     let one = same_key_test v instance desc fd sound hi hd hf x (All-head (IsLinked v.keys) x xs linked) in
@@ -52,12 +52,12 @@ there_linked v instance desc fd sound hi hd hf (x ∷ xs) linked =
 pub there_is : {ws : List Waiter} (v : Seen) (r : Registrations) (now : ℕ) (s : State) (instance desc : DescId) (fd : ℤ) → Sound v → Stands v r ws now s → AreLinked v r → IsSome (number_under v instance) → IsSome (number_under v desc) → fd ≡ pos (number_in fd)
     → is_there s (number_at v.keys instance) (number_in fd) (number_at v.keys desc) ≡ list_any (has_key instance (record { 0 = fd }) desc) r.entries
 there_is v r now s instance desc fd sound h linked hi hd hf =
-    let f = list_any (has_numbers (number_at v.keys instance) (number_in fd) (number_at v.keys desc)) in
+    let f = list_any (is_at (number_at v.keys instance) (number_in fd) (number_at v.keys desc)) in
     sym (there_kept s _ _ _ s.watches) ∙ (ap f h.watches ∙ there_linked v instance desc fd sound hi hd hf r.entries linked)
 
 -- as many registrations
 pub count_is : {ws : List Waiter} (v : Seen) (r : Registrations) (now : ℕ) (s : State) → Stands v r ws now s → length s.watches ≡ length r.entries
-count_is v r now s h = sym (length-map s.watches (kernel_watch s)) ∙ (ap (λ (xs : List Watch). length xs) h.watches ∙ length-map r.entries (watch_at v.keys))
+count_is v r now s h = sym (length-map s.watches (kernel_watch s)) ∙ (ap (λ (xs : List KernelWatch). length xs) h.watches ∙ length-map r.entries (watch_at v.keys))
 
 watches_kept : (old new : Seen) → KeepsKeys old new → (xs : List Entry) → All (IsLinked old.keys) xs → map (watch_at new.keys) xs ≡ map (watch_at old.keys) xs
 watches_kept old new keeps [] linked = refl
@@ -66,7 +66,7 @@ watches_kept old new keeps (x ∷ xs) linked =
     let a = number_kept old new x.instance keeps link.instance in
     let b = number_kept old new x.desc keeps link.desc in
     let rest = watches_kept old new keeps xs (All-tail (IsLinked old.keys) x xs linked) in
-    λ i. record { number = x.number; instance = a i; fd = number_in x.fd.0; target = b i; mask = x.mask.0; tag = x.tag; armed = x.armed; seen = x.seen; rep = x.rep; from = x.from } ∷ rest i
+    λ i. record { number = x.number; instance = a i; fd = number_in x.fd.0; target = b i; mask = x.mask.0; tag = x.tag; armed = x.armed; fresh = x.fresh; reported_in = x.reported_in; passes_in = x.passes_in } ∷ rest i
 
 link_kept : (old new : Seen) → KeepsKeys old new → (x : Entry) → IsLinked old.keys x → IsLinked new.keys x
 link_kept old new keeps x h = record { instance = some_kept old new x.instance keeps h.instance; desc = some_kept old new x.desc keeps h.desc; fd = h.fd }
@@ -77,7 +77,7 @@ linked_kept old new r keeps h = λ k d lt. link_kept old new keeps _ (h k d lt)
 -- what is fresh goes by arrivals alone
 kept_same : (s t : State) → t.arrivals ≡ s.arrivals → (xs : List Watch) → kernel_watches t xs ≡ kernel_watches s xs
 kept_same s t e [] = refl
-kept_same s t e (x ∷ xs) = λ i. record x { seen = seen_where (is_fresh_since x.seen (asked x.mask every_shown_bit) (slice_index_or (e i) x.target no_counts)); from = 0 } ∷ kept_same s t e xs i
+kept_same s t e (x ∷ xs) = λ i. record (kernel_watch s x) { fresh = is_fresh_since x.seen (asked x.mask every_shown_bit) (slice_index_or (e i) x.target no_counts) } ∷ kept_same s t e xs i
 
 -- a key that is there keeps its number
 waiter_kept : (old new : Seen) → KeepsKeys old new → (w : Waiter) → IsPlaced old.keys w → at_number (λ k. number_at new.keys (record { 0 = k })) w ≡ at_number (λ k. number_at old.keys (record { 0 = k })) w

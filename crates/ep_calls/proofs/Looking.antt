@@ -1,5 +1,5 @@
 -- What registrations show, looking down through instances.
-use Rattle.std.proofs.Common.{◌≡◌, ◌≢◌, ◌<◌, ◌∙◌, ◌==◌, ◌-◌, suc, arith, subst, ◌&&◌, ◌||◌, ℕ, Bool, true, false, All, IsSome, List, [], ◌∷◌, None, Option, Some, ap, cond, filter, is_none, map, nat_lt, not, refl, sym, unwrap_or}
+use Rattle.std.proofs.Common.{◌≡◌, ◌≢◌, ◌<◌, ◌∙◌, ◌==◌, ◌-◌, suc, arith, subst, ◌&&◌, ◌||◌, ℕ, Bool, true, false, All, IsSome, List, [], ◌∷◌, None, Option, Some, ap, cond, filter, map, refl, sym, unwrap_or}
 use Rattle.std.specs.List.{list_any}
 use Rattle.std.proofs.lemmas.Bool.{false≢true}
 use Rattle.std.proofs.lemmas.List.Elements.{All-head, All-tail}
@@ -8,13 +8,12 @@ use Rattle.ep_base.specs.declared.ids.EntryId.{EntryId}
 use Rattle.ep_base.specs.declared.object.End.{End}
 use Rattle.ep_interest.specs.Registrations.{is_of}
 use Rattle.ep_interest.specs.declared.entry.Entry.{Entry}
-use Rattle.ep_machine.specs.Bits.{ET, IN, asked, has_bit, when}
-use Rattle.ep_machine.specs.Files.{Files, object_of, side_of}
-use Rattle.ep_view.specs.KernelView.{carries, reached_within, ready_within, shows_in}
+use Rattle.ep_machine.specs.Bits.{asked, when}
+use Rattle.ep_machine.specs.Files.{object_of, side_of}
+use Rattle.ep_view.specs.KernelView.{KernelWatch, any_within}
 use Rattle.ep_machine.specs.Objects.{Object, counter, instance, is_instance, pair, pipe, plain, timer}
 use Rattle.ep_machine.specs.Readiness.{present_of}
-use Rattle.ep_machine.specs.State.{Watch}
-use Rattle.ep_calls.specs.Readiness.{entry_bits, entry_shows, shown_over}
+use Rattle.ep_calls.specs.Readiness.{entry_bits, shown_over}
 use Rattle.ep_calls.specs.Stands.{IsLinked, number_at, watch_at}
 use Rattle.ep_calls.proofs.Keys.{same_keys}
 use Rattle.ep_calls.proofs.Waiting.{entries_of}
@@ -41,12 +40,8 @@ module _ (r : ℕ → Bool) (v : Seen) (now : ℕ) where
       let d = number_at v.keys x.desc in
       ap (λ (bits : ℕ). when x.armed (asked x.mask.0 bits)) (present_below r b d (object_of v.files d) (side_of v.files d) now h)
 
-  -- what a registration shows, once it is known whether the instance that it watches is ready
-  pub shows_is : (x : Entry) (bits : ℕ) → bits ≡ entry_bits r v now x → (nat_lt 0 bits && (not (has_bit x.mask.0 ET) || is_none x.seen)) ≡ entry_shows r v now x
-  shows_is x bits h = ap (λ (b : ℕ). nat_lt 0 b && (not (has_bit x.mask.0 ET) || is_none x.seen)) h
-
 -- whether some registration of an instance passes a test
-module _ (v : Seen) (test : Watch → Bool) where
+module _ (v : Seen) (test : KernelWatch → Bool) where
   abbrev pub passes : Entry → Bool
   passes x = test (watch_at v.keys x)
 
@@ -91,23 +86,10 @@ level_down n h = grind (arith, h)
 pub fewer_levels : (n t : ℕ) → n ≢ 0 → n ≡ t → n - 1 < t
 fewer_levels n t h e = grind (arith, h, e)
 
-pub ready_step : (levels : ℕ) (f : Files) (now : ℕ) (ws : List Watch) (e : ℕ) → levels ≢ 0 → ready_within levels f now ws e ≡ list_any (shows_in (ready_within (levels - 1) f now ws) f now e) ws
-ready_step levels f now ws e h = ap (λ (n : ℕ). ready_within n f now ws e) (level_down levels h)
+pub within_step : (test : (ℕ → Bool) → KernelWatch → Bool) (levels : ℕ) (ws : List KernelWatch) (e : ℕ) → levels ≢ 0
+    → any_within test levels ws e ≡ list_any (λ w. w.instance == e && test (any_within test (levels - 1) ws) w) ws
+within_step test levels ws e h = ap (λ (n : ℕ). any_within test n ws e) (level_down levels h)
 
 -- an object is an instance where its description's is
 pub same_kind : (o : Option Object) (x : Object) → Some x ≡ o → is_instance (unwrap_or o plain) ≡ is_instance x
 same_kind o x h = ap (λ (p : Option Object). is_instance (unwrap_or p plain)) (sym h)
-
-pub reached_step : (levels : ℕ) (f : Files) (n : ℕ) (ws : List Watch) (e : ℕ) → levels ≢ 0 → reached_within levels f n ws e ≡ list_any (λ w. w.instance == e && carries (reached_within (levels - 1) f n ws) f n w) ws
-reached_step levels f n ws e h = ap (λ (k : ℕ). reached_within k f n ws e) (level_down levels h)
-
--- what a registration carries, once it is known whether IN reaches the instance that it watches
-pub carries_is : (r : ℕ → Bool) (v : Seen) (n : ℕ) (x : Entry) (b : Bool) → b ≡ (is_instance (unwrap_or (object_of v.files (number_at v.keys x.desc)) plain) && r (number_at v.keys x.desc))
-    → (x.from == n || x.armed && b && nat_lt 0 (asked x.mask.0 IN)) ≡ carries r v.files n (watch_at v.keys x)
-carries_is r v n x b h =
-    let i = is_instance (unwrap_or (object_of v.files (number_at v.keys x.desc)) plain) in
-    ap (λ (t : Bool). x.from == n || x.armed && t && nat_lt 0 (asked x.mask.0 IN)) h
-    ∙ ap (λ (t : Bool). x.from == n || t && nat_lt 0 (asked x.mask.0 IN)) (join x.armed i (r (number_at v.keys x.desc))) where
-      join : (a p q : Bool) → (a && (p && q)) ≡ (a && p && q)
-      join true p q = refl
-      join false p q = refl

@@ -5,7 +5,7 @@ use Rattle.std.proofs.lemmas.List.Elements.{All-head, All-tail}
 use Rattle.ep_base.specs.declared.ids.DescId.{DescId}
 use Rattle.ep_interest.specs.Registrations.{Registrations}
 use Rattle.ep_interest.specs.declared.entry.Entry.{Entry}
-use Rattle.ep_view.specs.KernelView.{kernel_watches, kernel_watch, watches_instance}
+use Rattle.ep_view.specs.KernelView.{KernelWatch, kernel_watches, kernel_watch, watches_instance}
 use Rattle.ep_machine.specs.Lists.{is_among, is_empty}
 use Rattle.ep_machine.specs.State.{State, Waiter, Watch}
 use Rattle.ep_machine.specs.Watches.{ends_of_chains, is_legal, links}
@@ -75,15 +75,16 @@ module _ (f : ℕ → ℕ) (P : ℕ → Type 0) (apart : (a b : ℕ) → P a →
   legal_named es h = ap (λ (ks : List ℕ). is_empty ks) (ends_named 5 es h) ∙ empty_named (ends_of_chains 5 es)
 
 -- The machine's links are those of the kernel's graph.
-abbrev pair : Watch → ℕ × ℕ
+abbrev pair : KernelWatch → ℕ × ℕ
 pair x = (x.instance, x.target)
 
-links_kept : (s : State) (xs : List Watch) → map pair (filter (watches_instance s.files) xs) ≡ map pair (filter (watches_instance s.files) (kernel_watches s xs))
+links_kept : (s : State) (xs : List Watch) → map (λ x. (x.instance, x.target)) (filter (λ x. watches_instance s.files (kernel_watch s x)) xs) ≡ map pair (filter (watches_instance s.files) (kernel_watches s xs))
 links_kept s [] = refl
 links_kept s (x ∷ xs) =
     let rest = links_kept s xs in
-    elim (watches_instance s.files x) as (λ b. map pair (cond b (x ∷ filter (watches_instance s.files) xs) (filter (watches_instance s.files) xs)) ≡ map pair (cond b (kernel_watch s x ∷ filter (watches_instance s.files) (kernel_watches s xs)) (filter (watches_instance s.files) (kernel_watches s xs)))) [
-      | true ↦ ap (λ (ls : List (ℕ × ℕ)). pair x ∷ ls) rest
+    let others = filter (λ x. watches_instance s.files (kernel_watch s x)) xs in
+    elim (watches_instance s.files (kernel_watch s x)) as (λ b. map (λ x. (x.instance, x.target)) (cond b (x ∷ others) others) ≡ map pair (cond b (kernel_watch s x ∷ filter (watches_instance s.files) (kernel_watches s xs)) (filter (watches_instance s.files) (kernel_watches s xs)))) [
+      | true ↦ ap (λ (ls : List (ℕ × ℕ)). (x.instance, x.target) ∷ ls) rest
       | false ↦ rest
     ]
 

@@ -3,10 +3,10 @@ use Rattle.std.proofs.Common.{◌≡◌, ◌∙◌, ◌==◌, ℕ, zero, suc, Al
 use Rattle.std.proofs.lemmas.List.Elements.{All-cons, All-head, All-map, All-nil, All-tail, All-weaker}
 use Rattle.ep_interest.specs.declared.entry.Entry.{Entry}
 use Rattle.ep_machine.specs.Files.{object_of}
-use Rattle.ep_view.specs.KernelView.{freshened_by}
+use Rattle.ep_view.specs.KernelView.{KernelWatch, freshened_by}
 use Rattle.ep_view.specs.AtRest.{can_be_watched, kind_of}
 use Rattle.ep_interest.specs.Registrations.{Registrations}
-use Rattle.ep_machine.specs.State.{Waiter, Watch}
+use Rattle.ep_machine.specs.State.{Waiter}
 use Rattle.ep_view.proofs.FilesLemmas.{watched_same}
 use Rattle.ep_base.specs.Limits.{Limits}
 use Rattle.ep_calls.specs.Parts.{AreCoherent, AreOpening, AreWatched, Parts}
@@ -36,7 +36,7 @@ module _ (p : Parts) (new : Seen) (h : AreCoherent p) (keys : KeepsKeys p.tables
   nested_kept : AreNested new p.interest p.graph
   nested_kept =
       nested_over p.tables new p.interest p.graph (λ k d lt. sym (same_numbers k d lt))
-      (All-map (λ (w : Watch). kind_of (object_of new.files w.target) ≡ kind_of (object_of p.tables.files w.target)) (watch_at new.keys) p.interest.entries same_kinds) h.nested
+      (All-map (λ (w : KernelWatch). kind_of (object_of new.files w.target) ≡ kind_of (object_of p.tables.files w.target)) (watch_at new.keys) p.interest.entries same_kinds) h.nested
 
   pub coherent_kept : KeepsHolds p.tables new → AreCoherent (record p { tables = new })
   coherent_kept holds = record {
@@ -49,7 +49,7 @@ module _ (p : Parts) (new : Seen) (h : AreCoherent p) (keys : KeepsKeys p.tables
   }
 
 -- what can be watched, by the machine's registrations and by the kernel's
-abbrev pub Shows : Seen → Watch → Type 0
+abbrev pub Shows : Seen → KernelWatch → Type 0
 Shows v w = can_be_watched (object_of v.files w.target) ≡ true
 
 pub as_watches : (v : Seen) (xs : List Entry) → All (λ (x : Entry). can_be_watched (object_of v.files (number_at v.keys x.desc)) ≡ true) xs → All (Shows v) (map (watch_at v.keys) xs)
@@ -62,7 +62,7 @@ of_watches v (x ∷ xs) h =
     (of_watches v xs (All-tail (Shows v) (watch_at v.keys x) (map (watch_at v.keys) xs) h))
 
 -- registrations that are changed but in what they watch
-pub watched_by : (v : Seen) (old new : List Entry) (f : Watch → Watch) → ((w : Watch) → (f w).target ≡ w.target) → map (watch_at v.keys) new ≡ map f (map (watch_at v.keys) old)
+pub watched_by : (v : Seen) (old new : List Entry) (f : KernelWatch → KernelWatch) → ((w : KernelWatch) → (f w).target ≡ w.target) → map (watch_at v.keys) new ≡ map f (map (watch_at v.keys) old)
     → All (λ (x : Entry). can_be_watched (object_of v.files (number_at v.keys x.desc)) ≡ true) old → All (λ (x : Entry). can_be_watched (object_of v.files (number_at v.keys x.desc)) ≡ true) new
 watched_by v old new f keeps is h =
     let ws = map (watch_at v.keys) old in

@@ -16,9 +16,8 @@ use Rattle.ep_base.specs.declared.ids.DescId.{DescId}
 use Rattle.ep_interest.specs.Registrations.{Registrations, numbered}
 use Rattle.ep_interest.specs.declared.entry.Entry.{Entry}
 use Rattle.ep_machine.specs.Bits.{ONESHOT, has_bit}
-use Rattle.ep_machine.specs.Counts.{no_counts}
 use Rattle.ep_machine.specs.Lists.{are_distinct, is_among}
-use Rattle.ep_view.specs.KernelView.{kernel_watches, kernel_watch, ready_now, report_at, reported_in}
+use Rattle.ep_view.specs.KernelView.{KernelWatch, kernel_reported, kernel_watches, kernel_watch, ready_now, report_at, view_of}
 use Rattle.ep_machine.specs.Report.{find_watch, is_fair_to, plainly, report, report_of as machine_report, reported, watches_at}
 use Rattle.ep_machine.specs.State.{Change, State, Waiter, Watch}
 use Rattle.ep_machine.specs.Waits.{is_due, leave, leave_after, resume, resume_by, resume_empty, unmarked, wait, wait_for, waiter_of}
@@ -33,17 +32,17 @@ use Rattle.ep_table.specs.Value.{Seen}
 
 -- a registration is noted as the machine reports it
 noted_is : (keys : List (Option ℕ)) (n : ℕ) (b : Bool) (x : Entry)
-    → (if b then record (watch_at keys x) { seen = Some no_counts; rep = n; armed = x.armed && not (has_bit x.mask.0 ONESHOT) } else watch_at keys x) ≡ watch_at keys (if b then record x { armed = x.armed && not (has_bit x.mask.0 ONESHOT); seen = Some no_counts; rep = n } else x)
+    → (if b then record (watch_at keys x) { armed = x.armed && not (has_bit x.mask.0 ONESHOT); fresh = false; reported_in = n } else watch_at keys x) ≡ watch_at keys (if b then record x { armed = x.armed && not (has_bit x.mask.0 ONESHOT); fresh = false; reported_in = n } else x)
 noted_is keys n true x = refl
 noted_is keys n false x = refl
 
-pub noted_all : (keys : List (Option ℕ)) (n : ℕ) (ks : List ℕ) (xs : List Entry) → map (reported_in n ks) (map (watch_at keys) xs) ≡ map (watch_at keys) (map (with_report n ks) xs)
+pub noted_all : (keys : List (Option ℕ)) (n : ℕ) (ks : List ℕ) (xs : List Entry) → map (kernel_reported n ks) (map (watch_at keys) xs) ≡ map (watch_at keys) (map (with_report n ks) xs)
 noted_all keys n ks [] = refl
 noted_all keys n ks (x ∷ xs) =
     let one = noted_is keys n (is_among ks x.number) x in
     let rest = noted_all keys n ks xs in λ i. one i ∷ rest i
 
-link_noted : (keys : List (Option ℕ)) (n : ℕ) (b : Bool) (x : Entry) → IsLinked keys x → IsLinked keys (if b then record x { armed = x.armed && not (has_bit x.mask.0 ONESHOT); seen = Some no_counts; rep = n } else x)
+link_noted : (keys : List (Option ℕ)) (n : ℕ) (b : Bool) (x : Entry) → IsLinked keys x → IsLinked keys (if b then record x { armed = x.armed && not (has_bit x.mask.0 ONESHOT); fresh = false; reported_in = n } else x)
 link_noted keys n true x h = record { instance = h.instance; desc = h.desc; fd = h.fd }
 link_noted keys n false x h = h
 
@@ -61,21 +60,21 @@ no_numbers [] h = refl
 no_numbers (x ∷ xs) h = absurd (false≢true (sym (not_zero (length xs)) ∙ h))
 
 -- Of a registration that is there the machine finds its own.
-find_kept : (s : State) (xs : List Watch) (k : ℕ) → find_watch (kernel_watches s xs) k ≡ option_map (kernel_watch s) (find_watch xs k)
+find_kept : (s : State) (xs : List Watch) (k : ℕ) → view_of (kernel_watches s xs) k ≡ option_map (kernel_watch s) (find_watch xs k)
 find_kept s [] k = refl
 find_kept s (x ∷ xs) k =
     let rest = find_kept s xs k in
-    elim (x.number == k) as (λ b. cond b (Some (kernel_watch s x)) (find_watch (kernel_watches s xs) k) ≡ option_map (kernel_watch s) (cond b (Some x) (find_watch xs k))) [ true ↦ refl | false ↦ rest ]
+    elim (x.number == k) as (λ b. cond b (Some (kernel_watch s x)) (view_of (kernel_watches s xs) k) ≡ option_map (kernel_watch s) (cond b (Some x) (find_watch xs k))) [ true ↦ refl | false ↦ rest ]
 
-find_at : (keys : List (Option ℕ)) (xs : List Entry) (k : ℕ) → find_watch (map (watch_at keys) xs) k ≡ option_map (watch_at keys) (numbered xs k)
+find_at : (keys : List (Option ℕ)) (xs : List Entry) (k : ℕ) → view_of (map (watch_at keys) xs) k ≡ option_map (watch_at keys) (numbered xs k)
 find_at keys [] k = refl
 find_at keys (x ∷ xs) k =
     let rest = find_at keys xs k in
-    elim (x.number == k) as (λ b. cond b (Some (watch_at keys x)) (find_watch (map (watch_at keys) xs) k) ≡ option_map (watch_at keys) (cond b (Some x) (numbered xs k))) [ true ↦ refl | false ↦ rest ]
+    elim (x.number == k) as (λ b. cond b (Some (watch_at keys x)) (view_of (map (watch_at keys) xs) k) ≡ option_map (watch_at keys) (cond b (Some x) (numbered xs k))) [ true ↦ refl | false ↦ rest ]
 
-made_of : (f : Watch → Watch) (o : Option Watch) (y : Watch) → option_map f o ≡ Some y → (x : Watch) × (o ≡ Some x) × (f x ≡ y)
+made_of : (f : Watch → KernelWatch) (o : Option Watch) (y : KernelWatch) → option_map f o ≡ Some y → (x : Watch) × (o ≡ Some x) × (f x ≡ y)
 made_of f None y h = absurd (none-some y h)
-made_of f (Some x) y h = (x, refl, ap (λ (o : Option Watch). unwrap_or o y) h)
+made_of f (Some x) y h = (x, refl, ap (λ (o : Option KernelWatch). unwrap_or o y) h)
 
 module _ {ws : List Waiter} (v : Seen) (now : ℕ) (r : Registrations) (s : State) (stands : Stands v r ws now s) where
   -- the machine finds the same instances ready
@@ -85,7 +84,7 @@ module _ {ws : List Waiter} (v : Seen) (now : ℕ) (r : Registrations) (s : Stat
   found_there : (x : Entry) → numbered r.entries x.number ≡ Some x → (w : Watch) × (find_watch s.watches x.number ≡ Some w) × (kernel_watch s w ≡ watch_at v.keys x)
   found_there x h =
       made_of (kernel_watch s) (find_watch s.watches x.number) (watch_at v.keys x)
-      (sym (find_kept s s.watches x.number) ∙ (ap (λ (xs : List Watch). find_watch xs x.number) stands.watches ∙ (find_at v.keys r.entries x.number ∙ ap (option_map (watch_at v.keys)) h)))
+      (sym (find_kept s s.watches x.number) ∙ (ap (λ (xs : List KernelWatch). view_of xs x.number) stands.watches ∙ (find_at v.keys r.entries x.number ∙ ap (option_map (watch_at v.keys)) h)))
 
   reports_are : (xs : List Reportable) → AreKeyed v now r xs → map (machine_report s) (watches_at s.watches (numbers_of xs)) ≡ map report_of xs
   reports_are [] h = refl
@@ -203,7 +202,7 @@ after v now r new s n chosen at stands entries added = record {
   files = stands.files;
   watches =
       reported_kept s (numbers_of chosen)
-      ∙ ((λ i. map (reported_in (at i) (numbers_of chosen)) (stands.watches i))
+      ∙ ((λ i. map (kernel_reported (at i) (numbers_of chosen)) (stands.watches i))
       ∙ (noted_all v.keys n (numbers_of chosen) r.entries ∙ ap (map (watch_at v.keys)) (sym entries)));
   added = stands.added ∙ sym added;
   waiters = stands.waiters;

@@ -13,7 +13,7 @@ use Rattle.ep_machine.specs.State.{Change, State, Waiter}
 use Rattle.ep_machine.specs.Waits.{is_due, leave, resume, unmark, unmarked, waiter_of}
 use Rattle.ep_machine.specs.Watches.{is_legal, links, number_in}
 use Rattle.ep_view.proofs.WaiterLemmas.{find_at, left_at, unmarked_at}
-use Rattle.ep_view.proofs.ReportLemmas.{parked_found, resume_allowed, resume_refused, resume_unmarked}
+use Rattle.ep_view.proofs.ResumeLemmas.{parked_found, resume_allowed, resume_refused, resume_unmarked}
 use Rattle.ep_park.specs.Waiters.{is_caller, parked, without}
 use Rattle.ep_park.specs.declared.waiter.Waiter.{Waiter as ParkedWaiter}
 use Rattle.ep_calls.specs.Moves.{Goes, StandFor}

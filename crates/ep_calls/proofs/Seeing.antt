@@ -7,7 +7,7 @@ use Rattle.ep_base.specs.declared.ids.Fd.{Fd}
 use Rattle.ep_interest.specs.Registrations.{Registrations, has_key, is_other}
 use Rattle.ep_interest.specs.declared.entry.Entry.{Entry}
 use Rattle.ep_machine.specs.Bits.{IN, when}
-use Rattle.ep_view.specs.KernelView.{kernel_watches, ready_now, shows}
+use Rattle.ep_view.specs.KernelView.{KernelWatch, is_at, kernel_watch, kernel_watches, ready_now, shows}
 use Rattle.ep_machine.specs.Readiness.{is_reportable}
 use Rattle.ep_machine.specs.Spread.{raised_of}
 use Rattle.ep_machine.specs.State.{State, Waiter, Watch}
@@ -51,8 +51,8 @@ keyed_last e fd d (x ∷ ws) w absent own =
     ] absent
 
 module _ {ws : List Waiter} (v : Seen) (r : Registrations) (now : ℕ) (t : State) (stands : Stands v r ws now t) (linked : AreLinked v r) (sound : Sound v) (named : Named) (fd : Fd) (instance_lives : IsSome (number_under v named.instance)) (desc_lives : IsSome (number_under v named.desc)) (descriptor : fd.0 ≡ pos (number_in fd.0)) where
-  abbrev tests : Watch → Bool
-  tests = has_numbers (number_at v.keys named.instance) (number_in fd.0) (number_at v.keys named.desc)
+  abbrev tests : KernelWatch → Bool
+  tests = is_at (number_at v.keys named.instance) (number_in fd.0) (number_at v.keys named.desc)
 
   abbrev ready : ℕ → Bool
   ready = readiness v now r
@@ -80,9 +80,12 @@ module _ {ws : List Waiter} (v : Seen) (r : Registrations) (now : ℕ) (t : Stat
   same_ready : machine_readiness t ≡ ready
   same_ready = λ i. ready_now (stands.files i) (stands.now i) (stands.watches i)
 
-  looks : list_any (is_reportable t) (filter tests t.watches) ≡ list_any (entry_shows ready v now) (filter (has_key named.instance fd named.desc) r.entries)
+  abbrev keyed_there : List Watch
+  keyed_there = filter (λ x. tests (kernel_watch t x)) t.watches
+
+  looks : list_any (is_reportable t) keyed_there ≡ list_any (entry_shows ready v now) (filter (has_key named.instance fd named.desc) r.entries)
   looks =
-      any_reportable (filter tests t.watches)
+      any_reportable keyed_there
       ∙ (ap (list_any (shows (machine_readiness t) t.files t.now)) (kept_filter t tests t.watches)
       ∙ ((λ i. list_any (shows (same_ready i) (stands.files i) (stands.now i)) (filter tests (stands.watches i)))
       ∙ (ap (list_any (shows ready v.files now)) (keyed r.entries linked) ∙ any_shows (filter (has_key named.instance fd named.desc) r.entries))))

@@ -60,13 +60,13 @@ module _ (n : ℕ) (mid : Parts) (noted : Registrations) (raising : Raising) (co
   freshens = stirs_watches raising mid.tables mid.clock n mid.interest noted stirs sound is coherent.linked
 
   module _ (made : State) (raised : List (ℕ × ℕ)) (as_raised : AsRaisedIn made.files raising mid.tables mid.clock raised) where
-    freshened_same : (ws : List Watch) → All (IsSteady made.files) ws → map (freshened n raised) (kernel_watches made ws) ≡ map (freshened_by n bits) (kernel_watches made ws)
+    freshened_same : (ws : List Watch) → All (λ w. IsSteady made.files w.instance w.target) ws → map (freshened n raised) (kernel_watches made ws) ≡ map (freshened_by n bits) (kernel_watches made ws)
     freshened_same [] h = refl
     freshened_same (w ∷ ws) h =
-        let one = ap (λ (b : ℕ). raised_in n (brings w.mask b) (w.armed && nat_lt 0 (asked w.mask b)) (kernel_watch made w)) (as_raised w.target (All-head (IsSteady made.files) w ws h).target_shows) in
-        let rest = freshened_same ws (All-tail (IsSteady made.files) w ws h) in λ i. one i ∷ rest i
+        let one = ap (λ (b : ℕ). raised_in n (brings w.mask b) (w.armed && nat_lt 0 (asked w.mask b)) (kernel_watch made w)) (as_raised w.target (All-head (λ w. IsSteady made.files w.instance w.target) w ws h).target_shows) in
+        let rest = freshened_same ws (All-tail (λ w. IsSteady made.files w.instance w.target) w ws h) in λ i. one i ∷ rest i
 
-    raised_stands : StandFor mid made → All (IsSteady made.files) made.watches → StandsRaised n (record mid { interest = noted }) raised made
+    raised_stands : StandFor mid made → All (λ w. IsSteady made.files w.instance w.target) made.watches → StandsRaised n (record mid { interest = noted }) raised made
     raised_stands stands steady = record {
       now = stands.now;
       files = stands.files;

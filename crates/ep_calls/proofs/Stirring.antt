@@ -20,7 +20,6 @@ use Rattle.ep_calls.specs.Raising.{IsRaising, Stirs, bits_of, clock_bits, due_bi
 use Rattle.ep_calls.specs.Stands.{AreLinked, IsLinked, number_at, watch_at}
 use Rattle.ep_calls.specs.declared.raising.Raising.{Raising}
 use Rattle.ep_calls.specs.declared.raising.Raising.TheVariants.{Clock, Instance, Nowhere, Object}
-use Rattle.ep_base.specs.declared.counts.Counts.{Counts}
 use Rattle.ep_view.specs.KernelView.{freshened_by}
 use Rattle.ep_calls.proofs.Across.{a_place, elsewhere, link_noted, noted, off_own, some_place, watch_noted, zero_noted}
 use Rattle.ep_calls.proofs.Keys.{same_keys, under_key}
@@ -132,14 +131,14 @@ among_ids ids k = list_any (λ id. k == id.0) ids
 
 -- noted twice is noted once
 noted_again : (n k : ℕ) (x : Entry) → noted n k (noted n k x) ≡ noted n k x
-noted_again n k x = λ i. record x { seen = seen_again (brings x.mask.0 k) x.seen i; from = from_again (x.armed && nat_lt 0 (asked x.mask.0 k)) x.from i } where
-  seen_again : (b : Bool) (o : Option Counts) → (if b then None else if b then None else o) ≡ (if b then None else o)
-  seen_again true o = refl
-  seen_again false o = refl
+noted_again n k x = λ i. record x { fresh = fresh_again (brings x.mask.0 k) x.fresh i; passes_in = passes_again (x.armed && nat_lt 0 (asked x.mask.0 k)) x.passes_in i } where
+  fresh_again : (b c : Bool) → (b || (b || c)) ≡ (b || c)
+  fresh_again true c = refl
+  fresh_again false c = refl
 
-  from_again : (b : Bool) (m : ℕ) → (if b then n else if b then n else m) ≡ (if b then n else m)
-  from_again true m = refl
-  from_again false m = refl
+  passes_again : (b : Bool) (m : ℕ) → (if b then n else if b then n else m) ≡ (if b then n else m)
+  passes_again true m = refl
+  passes_again false m = refl
 
 noted_either : (a b : Bool) (n k : ℕ) (x : Entry) → cond b (noted n k (cond a (noted n k x) x)) (cond a (noted n k x) x) ≡ cond (a || b) (noted n k x) x
 noted_either true true n k x = noted_again n k x

@@ -35,7 +35,6 @@ use Rattle.ep_calls.proofs.Unraised.{nowhere_raises, resume_raises}
 use Rattle.ep_machine.specs.State.{Change, State, Waiter}
 use Rattle.ep_machine.specs.Waits.{is_positive, parked, resume, wait, wait_for}
 use Rattle.ep_machine.specs.Bits.{ONESHOT, has_bit}
-use Rattle.ep_machine.specs.Counts.{no_counts}
 use Rattle.ep_machine.specs.Lists.{is_among}
 use Rattle.ep_machine.specs.Watches.{is_legal, links, number_in}
 use Rattle.ep_nest.specs.declared.link.Link.{Link}
@@ -61,10 +60,10 @@ past_one false e rest h = absurd cc
 
 -- a report leaves links as they are
 link_noted : (n : ℕ) (ks : List ℕ) (x : Entry) → link_of (with_report n ks x) ≡ link_of x
-link_noted n ks x = elim (is_among ks x.number) as (λ b. link_of (cond b (record x { armed = x.armed && not (has_bit x.mask.0 ONESHOT); seen = Some no_counts; rep = n }) x) ≡ link_of x) [ true ↦ refl | false ↦ refl ]
+link_noted n ks x = elim (is_among ks x.number) as (λ b. link_of (cond b (record x { armed = x.armed && not (has_bit x.mask.0 ONESHOT); fresh = false; reported_in = n }) x) ≡ link_of x) [ true ↦ refl | false ↦ refl ]
 
 nested_noted : (v : Seen) (n : ℕ) (ks : List ℕ) (x : Entry) → is_nested v (with_report n ks x) ≡ is_nested v x
-nested_noted v n ks x = elim (is_among ks x.number) as (λ b. is_nested v (cond b (record x { armed = x.armed && not (has_bit x.mask.0 ONESHOT); seen = Some no_counts; rep = n }) x) ≡ is_nested v x) [ true ↦ refl | false ↦ refl ]
+nested_noted v n ks x = elim (is_among ks x.number) as (λ b. is_nested v (cond b (record x { armed = x.armed && not (has_bit x.mask.0 ONESHOT); fresh = false; reported_in = n }) x) ≡ is_nested v x) [ true ↦ refl | false ↦ refl ]
 
 links_noted : (v : Seen) (n : ℕ) (ks : List ℕ) (xs : List Entry) → map link_of (filter (is_nested v) (map (with_report n ks) xs)) ≡ map link_of (filter (is_nested v) xs)
 links_noted v n ks xs = links_mapped (is_nested v) (with_report n ks) (link_noted n ks) (nested_noted v n ks) xs
@@ -78,7 +77,7 @@ module _ (v : Seen) (old new : Registrations) (n : ℕ) (chosen : List Reportabl
   IsShown x = can_be_watched (object_of v.files (number_at v.keys x.desc)) ≡ true
 
   noted_shown : (ks : List ℕ) (x : Entry) → IsShown x → IsShown (with_report n ks x)
-  noted_shown ks x h = elim (is_among ks x.number) as (λ b. IsShown (cond b (record x { armed = x.armed && not (has_bit x.mask.0 ONESHOT); seen = Some no_counts; rep = n }) x)) [ true ↦ h | false ↦ h ]
+  noted_shown ks x h = elim (is_among ks x.number) as (λ b. IsShown (cond b (record x { armed = x.armed && not (has_bit x.mask.0 ONESHOT); fresh = false; reported_in = n }) x)) [ true ↦ h | false ↦ h ]
 
   pub still_watched : AreWatched v old → AreWatched v new
   still_watched watched =

@@ -5,8 +5,8 @@ use Rattle.ep_interest.specs.Registrations.{Registrations}
 use Rattle.ep_interest.specs.declared.entry.Entry.{Entry}
 use Rattle.ep_machine.specs.Files.{Files, object_of}
 use Rattle.ep_machine.specs.Objects.{Object, counter, instance, is_instance, pair, pipe, plain, timer}
+use Rattle.ep_view.specs.KernelView.{KernelWatch}
 use Rattle.ep_view.specs.AtRest.{kind_of}
-use Rattle.ep_machine.specs.State.{Watch}
 use Rattle.ep_nest.specs.declared.link.Link.{Link}
 use Rattle.ep_calls.specs.Climb.{AreNested, is_nested}
 use Rattle.ep_calls.specs.Stands.{AreLinked, KeepsKeys, number_at, watch_at}
@@ -15,7 +15,7 @@ use Rattle.ep_calls.proofs.Nesting.{links_same}
 use Rattle.ep_table.specs.Value.{Seen}
 
 -- Targets that keep their kind.
-abbrev pub KeepKinds : Files → Files → List Watch → Type 0
+abbrev pub KeepKinds : Files → Files → List KernelWatch → Type 0
 KeepKinds f g xs = All (λ w. kind_of (object_of g w.target) ≡ kind_of (object_of f w.target)) xs
 
 instance_kind : (o : Option Object) → is_instance (unwrap_or o plain) ≡ (kind_of o == 1)
@@ -37,7 +37,7 @@ module _ (u v : Seen) where
   same_kinds : (xs : List Entry) → All (λ x. number_at u.keys x.desc ≡ number_at v.keys x.desc) xs → KeepKinds u.files v.files (map (watch_at v.keys) xs) → All (λ x. is_nested u x ≡ is_nested v x) xs
   same_kinds [] numbers kinds = All-nil (λ x. is_nested u x ≡ is_nested v x)
   same_kinds (x ∷ xs) numbers kinds =
-      let P : Watch → Type 0 = λ w. kind_of (object_of v.files w.target) ≡ kind_of (object_of u.files w.target) in
+      let P : KernelWatch → Type 0 = λ w. kind_of (object_of v.files w.target) ≡ kind_of (object_of u.files w.target) in
       let Q : Entry → Type 0 = λ y. number_at u.keys y.desc ≡ number_at v.keys y.desc in
       All-cons (λ y. is_nested u y ≡ is_nested v y) x xs (same_kind x (All-head Q x xs numbers) (All-head P (watch_at v.keys x) (map (watch_at v.keys) xs) kinds))
       (same_kinds xs (All-tail Q x xs numbers) (All-tail P (watch_at v.keys x) (map (watch_at v.keys) xs) kinds))

@@ -4,14 +4,13 @@ use Rattle.std.specs.Prelude.{◌≡◌, Bool, List, Some, [], filter, length, m
 use Rattle.ep_machine.specs.Deaths.{die_all}
 use Rattle.ep_machine.specs.Files.{Place, place_of}
 use Rattle.ep_machine.specs.Lists.{is_among}
-use Rattle.ep_view.specs.KernelView.{freshened}
-use Rattle.ep_machine.specs.State.{Watch}
+use Rattle.ep_view.specs.KernelView.{KernelWatch, freshened}
 use Rattle.ep_interest.specs.Registrations.{Registrations}
 use Rattle.ep_calls.specs.Stands.{AreLinked, KeepsKeys, watch_at}
 use Rattle.ep_table.specs.Value.{Seen, Sound}
 
 -- neither its instance nor its target is among these
-abbrev pub is_untouched : List ℕ → Watch → Bool
+abbrev pub is_untouched : List ℕ → KernelWatch → Bool
 is_untouched ks x = not (is_among ks x.instance) && not (is_among ks x.target)
 
 -- these died, the first of those that nothing names, with their registrations, and what that raised is noted

@@ -2,16 +2,15 @@
 use Rattle.std.specs.Prelude.{Bool, List, map, ℕ}
 use Rattle.ep_interest.specs.Registrations.{Registrations}
 use Rattle.ep_interest.specs.declared.entry.Entry.{Entry}
-use Rattle.ep_view.specs.KernelView.{ready_now, shown_at, shows}
-use Rattle.ep_machine.specs.State.{Watch}
+use Rattle.ep_view.specs.KernelView.{KernelWatch, ready_now, shown_at, shows}
 use Rattle.ep_calls.specs.Stands.{watch_at}
 use Rattle.ep_base.specs.declared.ids.DescId.{DescId}
 use Rattle.ep_machine.specs.Files.{object_of, side_of}
 use Rattle.ep_machine.specs.Readiness.{present_of}
 use Rattle.ep_table.specs.Value.{Seen, number_of}
 
--- the machine's registrations
-abbrev pub watches_of : Seen → Registrations → List Watch
+-- the registrations as the machine has them
+abbrev pub watches_of : Seen → Registrations → List KernelWatch
 watches_of tables interest = map (watch_at tables.keys) interest.entries
 
 -- the instances that are ready, by number

@@ -2,9 +2,9 @@
 use Rattle.std.specs.Prelude.{true, Some, ◌≡◌, ◌<◌, All, IsSome, List, None, Option, map, pos, slice_index_or, unwrap_or, ℕ, filter, length, ◌==◌}
 use Rattle.ep_base.specs.declared.ids.DescId.{DescId}
 use Rattle.ep_machine.specs.Files.{Files, object_of}
-use Rattle.ep_view.specs.KernelView.{kernel_watches, at_number}
+use Rattle.ep_view.specs.KernelView.{KernelWatch, kernel_watches, at_number}
 use Rattle.ep_view.specs.AtRest.{can_be_watched, kind_of}
-use Rattle.ep_machine.specs.State.{State, Waiter, Watch}
+use Rattle.ep_machine.specs.State.{State, Waiter}
 use Rattle.ep_machine.specs.Watches.{number_in}
 use Rattle.ep_interest.specs.declared.entry.Entry.{Entry}
 use Rattle.ep_interest.specs.Registrations.{Registrations}
@@ -14,9 +14,20 @@ use Rattle.ep_table.specs.Value.{Seen, holds_of}
 abbrev pub number_at : List (Option ℕ) → DescId → ℕ
 number_at keys key = unwrap_or (slice_index_or keys key.0 None) 0
 
--- the machine's registration: numbers of descriptions stand in place of their keys
-abbrev pub watch_at : List (Option ℕ) → Entry → Watch
-watch_at keys x = record { number = x.number; instance = number_at keys x.instance; fd = number_in x.fd.0; target = number_at keys x.desc; mask = x.mask.0; tag = x.tag; armed = x.armed; seen = x.seen; rep = x.rep; from = x.from }
+-- a registration as the machine has it: numbers of descriptions stand in place of their keys
+abbrev pub watch_at : List (Option ℕ) → Entry → KernelWatch
+watch_at keys x = record {
+  number = x.number;
+  instance = number_at keys x.instance;
+  fd = number_in x.fd.0;
+  target = number_at keys x.desc;
+  mask = x.mask.0;
+  tag = x.tag;
+  armed = x.armed;
+  fresh = x.fresh;
+  reported_in = x.reported_in;
+  passes_in = x.passes_in;
+}
 
 -- its keys have descriptions, and it stands under a descriptor number
 pub record IsLinked (keys : List (Option ℕ)) (x : Entry) : Type 0 where

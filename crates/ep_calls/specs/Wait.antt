@@ -1,5 +1,5 @@
 -- epoll_wait over the parts of a kernel.
-use Rattle.std.specs.Prelude.{◌≡◌, true, All, Bool, IsSome, List, None, Option, Some, [], if◌then◌else◌, map, negsuc, not, pos, ℕ, ℤ, ◌&&◌, ◌+◌, ◌∷◌}
+use Rattle.std.specs.Prelude.{◌≡◌, false, true, All, Bool, IsSome, List, None, Option, Some, [], if◌then◌else◌, map, negsuc, not, pos, ℕ, ℤ, ◌&&◌, ◌+◌, ◌∷◌}
 use Rattle.ep_base.specs.declared.answer.Report.{Report}
 use Rattle.ep_base.specs.declared.call.Call.{Call}
 use Rattle.ep_base.specs.declared.call.Call.TheVariants.{EpollWait}
@@ -9,7 +9,6 @@ use Rattle.ep_base.specs.declared.ids.DescId.{DescId}
 use Rattle.ep_interest.specs.Registrations.{Registrations, number_under as number_of_entry, numbered}
 use Rattle.ep_interest.specs.declared.entry.Entry.{Entry}
 use Rattle.ep_machine.specs.Bits.{ONESHOT, has_bit}
-use Rattle.ep_machine.specs.Counts.{no_counts}
 use Rattle.ep_machine.specs.Effect.{first}
 use Rattle.ep_machine.specs.Files.{Files, names_nothing, object_under, under}
 use Rattle.ep_machine.specs.Lists.{is_among}
@@ -60,7 +59,7 @@ report_of x = record { bits = x.bits; tag = x.entry.tag }
 
 -- those that are reported in event n: a one-shot is disarmed
 abbrev pub with_report : ℕ → List ℕ → Entry → Entry
-with_report n ks x = if is_among ks x.number then record x { armed = x.armed && not (has_bit x.mask.0 ONESHOT); seen = Some no_counts; rep = n } else x
+with_report n ks x = if is_among ks x.number then record x { armed = x.armed && not (has_bit x.mask.0 ONESHOT); fresh = false; reported_in = n } else x
 
 -- a negative timeout has no end
 abbrev pub deadline_of : ℕ → ℤ → Option ℕ

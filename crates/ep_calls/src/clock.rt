@@ -5,10 +5,7 @@ ghost use Rattle.ep_calls.specs.Clock.{Sets, Ticks};
 
 use crate::raising::Raising;
 use crate::{Outcome, Parts};
-use ep_base::{Answer, Errno};
-
-/// The last moment of the clock.
-const LAST_MOMENT: u64 = 1_000_000_000_000;
+use ep_base::{Answer, Errno, LAST_MOMENT};
 
 impl Parts {
     /// The clock goes on by `n` milliseconds. EINVAL, and it stays, where that takes it past its last moment.

@@ -23,7 +23,7 @@ use crate::raising::Raising;
 use crate::readiness::{is_reportable, shown};
 use crate::{Outcome, Parts};
 use bitflags::Flags;
-use ep_base::{Answer, DescId, EntryId, Errno, Fd, Limits, Mask, Pid};
+use ep_base::{Answer, DescId, EntryId, EntryNumber, Errno, Fd, Limits, Mask, Pid};
 use ep_interest::Interest;
 use ep_nest::Graph;
 use ep_table::Tables;
@@ -101,13 +101,6 @@ fn operation_of(args: Control) -> Option<Operation>
     Some(operation)
 }
 
-/// The name of a registration's link in the graph: its number, which is never used again.
-fn link_name(number: u64) -> EntryId
-    ensures { result.0 ≡ number }
-{
-    EntryId(number as usize)
-}
-
 /// Deletes or modifies a registration that is there. EEXIST, and it stays, for an addition.
 fn alter(
     interest: &mut Interest,
@@ -127,7 +120,7 @@ fn alter(
         Operation::Add => Answer::Refused(Errno::Eexist),
         Operation::Delete => {
             let number = interest.entry(id).number;
-            graph.unlink(link_name(number));
+            graph.unlink(EntryNumber(number));
             interest.remove(id);
             Answer::Done
         }
@@ -154,7 +147,7 @@ fn add_linked(
     ensures linked { IfOk result (λ _. graph.new ≡ graph.old ++ link_of (next_entry interest.old named args) ∷ []) }
     ensures err { OnErr result ((interest.new ≡ interest.old) × (graph.new ≡ graph.old)) }
 {
-    let link = link_name(interest.next_number());
+    let link = EntryNumber(interest.next_number());
     graph.link(named.instance, named.desc, link)?;
     match interest.add(named.instance, args.fd, named.desc, args.mask, args.tag) {
         Ok(_) => Ok(()),

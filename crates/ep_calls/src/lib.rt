@@ -1,6 +1,7 @@
 //! What every kernel promises, and the calls and effects that kernels share: methods of `Parts`.
 #![tactic(auto)]
 
+mod below;
 mod bury;
 mod clock;
 mod control;
@@ -19,11 +20,12 @@ mod runs;
 mod table_call;
 mod wait;
 
+pub use crate::below::{EntryTest, any_below};
 pub use crate::control::Control;
 pub use crate::kernel::Kernel;
 pub use crate::outcome::Outcome;
 pub use crate::parts::Parts;
 pub use crate::raising::Raising;
-pub use crate::readiness::{LONGEST_CHAIN, is_ready_now, is_reportable, shown};
+pub use crate::readiness::{is_ready_now, is_reportable, shown};
 pub use crate::runs::{ready_waiters_are_marked, run};
 pub use crate::wait::{Reportable, Wait, find_instance};

@@ -1,19 +1,17 @@
 //! What registrations show, looking down through nested instances.
-ghost use Rattle.std.specs.Prelude.{◌≡◌, ◌≤◌, ◌&&◌, ◌||◌, IsSome, is_none, nat_lt, not};
+ghost use Rattle.std.specs.Prelude.{◌≡◌, ◌≤◌, ◌&&◌, ◌||◌, IsSome, nat_lt, not};
 ghost use Rattle.ep_machine.specs.Bits.{ET, has_bit};
-ghost use Rattle.ep_view.specs.KernelView.{ready_within};
+ghost use Rattle.ep_view.specs.KernelView.{shows};
 ghost use Rattle.ep_machine.specs.Timer.{last_moment};
-ghost use Rattle.ep_calls.specs.Readiness.{entry_bits, present_over, readiness, shown_over, watches_of};
+ghost use Rattle.ep_calls.specs.Readiness.{entry_bits, present_over, readiness, shown_over};
 ghost use Rattle.ep_calls.specs.Stands.{AreLinked};
 ghost use Rattle.ep_table.specs.Value.{number_of, number_under};
 
+use crate::below::{EntryTest, any_below};
 use bitflags::Flags;
-use ep_base::{DescId, Mask};
+use ep_base::{DescId, LONGEST_CHAIN, Mask};
 use ep_interest::{Entry, Interest};
 use ep_table::Tables;
-
-/// How many instances may watch each other in a chain.
-pub const LONGEST_CHAIN: u8 = 5;
 
 /// The bits that hold at a description, where `below` says whether it is an instance that is ready.
 fn present(tables: &Tables, now: u64, desc: DescId, below: bool) -> Mask
@@ -43,30 +41,24 @@ fn shown_at(tables: &Tables, now: u64, entry: &Entry, below: bool) -> Mask
 /// Whether a registration that shows these bits is reportable: an edge-triggered one needs something that arrived since
 /// its last report.
 pub fn is_reportable(entry: &Entry, bits: Mask) -> bool
-    ensures { result ≡ (nat_lt 0 bits.0 && (not (has_bit entry.now.mask.0 ET) || is_none entry.now.seen)) }
+    ensures { result ≡ (nat_lt 0 bits.0 && (not (has_bit entry.now.mask.0 ET) || entry.now.fresh)) }
 {
-    !bits.is_empty() && (!entry.mask.intersects(Mask::ET) || entry.seen.is_none())
+    !bits.is_empty() && (!entry.mask.intersects(Mask::ET) || entry.fresh)
 }
 
-/// Whether something is reportable at an instance, looking down through at most so many instances.
-fn is_ready(tables: &Tables, now: u64, interest: &Interest, instance: DescId, levels: u8) -> bool
-    requires live { IsSome (number_under tables.now instance) }
-    requires linked { AreLinked tables.now interest.now }
-    requires clock { now ≤ last_moment }
-    ensures { result ≡ ready_within levels tables.now.files now (watches_of tables.now interest.now) (number_of tables.now instance) }
-{
-    if levels == 0 {
-        return false;
+/// Whether a registration is reportable at a moment.
+#[derive(Drop)]
+struct ReportableAt {
+    moment: u64,
+    ghost within: { moment ≤ last_moment },
+}
+
+impl EntryTest for ReportableAt {
+    ghost asks = { λ t ready files x. shows ready files t.moment x };
+
+    fn passes(&self, tables: &Tables, entry: &Entry, below: bool) -> bool {
+        is_reportable(entry, shown_at(tables, self.moment, entry, below))
     }
-    tables.known();
-    for (_, entry) in interest.entries(instance) {
-        let below = tables.object(entry.desc).is_instance()
-            && is_ready(tables, now, interest, entry.desc, levels - 1);
-        if is_reportable(entry, shown_at(tables, now, entry, below)) {
-            return true;
-        }
-    }
-    false
 }
 
 /// The bits that a registration shows. The time grows with the registrations of the instances below.
@@ -77,7 +69,7 @@ pub fn shown(tables: &Tables, now: u64, interest: &Interest, entry: &Entry) -> M
     ensures { result.0 ≡ entry_bits (readiness tables.now now interest.now) tables.now now entry.now }
 {
     let below = tables.object(entry.desc).is_instance()
-        && is_ready(tables, now, interest, entry.desc, LONGEST_CHAIN);
+        && is_ready_now(tables, now, interest, entry.desc);
     shown_at(tables, now, entry, below)
 }
 
@@ -88,5 +80,6 @@ pub fn is_ready_now(tables: &Tables, now: u64, interest: &Interest, instance: De
     requires clock { now ≤ last_moment }
     ensures { result ≡ readiness tables.now now interest.now (number_of tables.now instance) }
 {
-    is_ready(tables, now, interest, instance, LONGEST_CHAIN)
+    let test = ReportableAt { moment: now };
+    any_below(tables, interest, instance, LONGEST_CHAIN, &test)
 }

@@ -1,28 +1,17 @@
 //! What a wait reports, and what it leaves of the registrations that it does.
-ghost use Rattle.std.specs.Prelude.{◌≡◌, ◌&&◌, ◌∷◌, [], All, IfOk, IsSome, OnErr, Some, map, not, unwrap_or};
+ghost use Rattle.std.specs.Prelude.{◌≡◌, All, IfOk, OnErr, Some, map};
 ghost use Rattle.ep_base.specs.declared.answer.Answer.TheVariants.{Events};
 ghost use Rattle.ep_interest.specs.Registrations.{number_under as number_of_entry};
-ghost use Rattle.ep_machine.specs.Bits.{ONESHOT, has_bit};
 ghost use Rattle.ep_calls.specs.Reports.{Reports};
 ghost use Rattle.ep_calls.specs.Wait.{with_report, numbers_of, report_of};
 ghost use Rattle.ep_calls.specs.declared.raising.Raising.TheVariants.{Nowhere};
 
 use crate::Outcome;
 use crate::wait::Reportable;
-use bitflags::Flags;
-use ep_base::{Answer, Counts, EntryId, Mask, Picked, Report, Reports as ReportList};
-use ep_interest::{Entry, Interest};
+use ep_base::{Answer, Picked, Report, Reports as ReportList};
+use ep_interest::Interest;
 use smallvec::SmallVec;
 use std::alloc::{AllocError, Global};
-
-/// What a registration has seen that was reported and at which nothing arrived since.
-const SEEN: Counts = Counts {
-    of_in: 0,
-    of_out: 0,
-    of_err: 0,
-    of_hup: 0,
-    of_rdhup: 0,
-};
 
 /// What is reported of them.
 fn reports_of(alloc: Global, chosen: &[Reportable]) -> Result<ReportList, AllocError>
@@ -49,25 +38,6 @@ fn picked_of(alloc: Global, chosen: &[Reportable]) -> Result<Picked, AllocError>
     Ok(Picked::new(picked))
 }
 
-/// Whether a registration is armed after a report: a one-shot is not.
-fn stays_armed(entry: &Entry) -> bool
-    ensures { result ≡ (entry.now.armed && not (has_bit entry.now.mask.0 ONESHOT)) }
-{
-    entry.armed && !entry.mask.intersects(Mask::ONESHOT)
-}
-
-/// Notes that a registration is reported in this step: a one-shot is disarmed.
-fn note_one(interest: &mut Interest, step: u64, id: EntryId)
-    requires { IsSome (number_of_entry interest.old id) }
-    ensures entries { interest.new.entries ≡ map (with_report step (unwrap_or (number_of_entry interest.old id) 0 ∷ [])) interest.old.entries }
-    ensures keys { interest.new.keys ≡ interest.old.keys }
-    ensures added { interest.new.added ≡ interest.old.added }
-{
-    interest.known();
-    let entry = *interest.entry(id);
-    interest.note(id, stays_armed(&entry), Some(SEEN), step, entry.from);
-}
-
 /// Notes that they are reported in this step.
 fn note(interest: &mut Interest, step: u64, chosen: &[Reportable])
     requires { All (λ x. number_of_entry interest.old x.id ≡ Some x.entry.number) chosen.now }
@@ -76,7 +46,7 @@ fn note(interest: &mut Interest, step: u64, chosen: &[Reportable])
     ensures added { interest.new.added ≡ interest.old.added }
 {
     for x in chosen {
-        note_one(interest, step, x.id);
+        interest.report(x.id, step);
     }
 }
 

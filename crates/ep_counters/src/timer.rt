@@ -5,12 +5,9 @@ ghost use Rattle.ep_machine.specs.Effect.{attempt};
 ghost use Rattle.ep_machine.specs.Timer.{expirations, last_moment, new_timer, timer_advance, timer_present, timer_read, timer_read_refusals, timer_set_refusals, timer_settime, timer_setting, unread};
 
 use crate::outcome::{raised, refused, value_bytes};
-use ep_base::{Answer, Errno, Mask, Raised};
+use ep_base::{Answer, Errno, LAST_MOMENT, Mask, Raised};
 use std::alloc::Global;
 use std::marker::Model;
-
-// The last moment of the simulated clock, and the longest value and interval.
-const LAST_MOMENT: u64 = 1_000_000_000_000;
 
 /// A timer. Contracts see its first moment, its interval and how many expirations were read.
 ///

@@ -1,19 +1,19 @@
 //! All interest sets together.
-ghost use Rattle.std.specs.Prelude.{nat_lt, ◌≡◌, ◌+◌, ◌<◌, ◌^◌, [], ◌∷◌, ◌++◌, false, IfOk, IfNone, IfSome, OnErr, IsSome, Some, is_some, All, filter, length, map, slice_index_or, slice_set, None, unwrap_or};
+ghost use Rattle.std.specs.Prelude.{nat_lt, not, ◌≡◌, ◌&&◌, ◌+◌, ◌<◌, ◌^◌, [], ◌∷◌, ◌++◌, false, IfOk, IfNone, IfSome, OnErr, IsSome, Some, is_some, All, filter, length, map, slice_index_or, slice_set, None, unwrap_or};
 ghost use Rattle.std.specs.Map.Iter.{ShowsInOrder};
 ghost use Rattle.std.specs.Option.{option_map};
 ghost use Rattle.ep_base.specs.declared.ids.EntryId.{EntryId};
 ghost use Rattle.ep_interest.specs.Listed.{shown};
 ghost use Rattle.std.specs.List.{find as first_where, list_any};
-ghost use Rattle.ep_interest.specs.Registrations.{GainsKey, IsSound, Touches, is_apart_from, left_number, has_key, id_of, ids, is_of, is_on, is_other, modified, new_entry, noted, number_under, numbered, freshened_on, raised_on, settled, with_ids};
-ghost use Rattle.ep_machine.specs.Bits.{asked};
+ghost use Rattle.ep_interest.specs.Registrations.{GainsKey, IsSound, Touches, is_apart_from, left_number, has_key, id_of, ids, is_of, is_on, is_other, modified, new_entry, number_under, numbered, freshened_on, raised_on, reported, settled, with_ids};
+ghost use Rattle.ep_machine.specs.Bits.{ONESHOT, asked, has_bit};
 ghost use Rattle.ep_machine.specs.Counts.{brings};
 
 use crate::entries::{Entries, Watchers};
 use crate::entry::Entry;
 use crate::place::{Place, places_of};
 use bitflags::Flags;
-use ep_base::{Counts, DescId, EntryId, Fd, Mask};
+use ep_base::{DescId, EntryId, Fd, Mask};
 use indexmap::IndexMap;
 use slab::Slab;
 use std::alloc::{AllocError, Allocator, Global};
@@ -70,7 +70,7 @@ fn refresh(entry: &mut Entry, desc: DescId, bits: Mask)
     ensures { entry.new ≡ freshened_on desc bits entry.old }
 {
     if entry.desc.0 == desc.0 && asks_for(entry.mask, bits) {
-        entry.seen = None;
+        entry.fresh = true;
     }
 }
 
@@ -82,18 +82,25 @@ fn note_raise(entry: &mut Entry, desc: DescId, bits: Mask, event: u64)
         return;
     }
     if entry.armed && is_asked(entry.mask, bits) {
-        entry.from = event;
+        entry.passes_in = event;
     }
     if asks_for(entry.mask, bits) {
-        entry.seen = None;
+        entry.fresh = true;
     }
 }
 
-/// Forgets in which event a registration passed something on.
+/// The registration passes nothing on any more.
 fn rest(entry: &mut Entry)
     ensures { entry.new ≡ settled entry.old }
 {
-    entry.from = 0;
+    entry.passes_in = 0;
+}
+
+/// Whether a registration is armed after a report: a one-shot is not.
+fn stays_armed(entry: &Entry) -> bool
+    ensures { result ≡ (entry.now.armed && not (has_bit entry.now.mask.0 ONESHOT)) }
+{
+    entry.armed && !entry.mask.intersects(Mask::ONESHOT)
 }
 
 /// The registrations of every instance. Contracts see them in order of registration, the number under each key, and how many
@@ -232,26 +239,25 @@ impl<A: Allocator> Interest<A> {
         &self.slots[id.0]
     }
 
-    /// Sets four fields of the registration under a key: whether it is armed, and what its last report and its wait for
-    /// the next one left. The cost doesn't grow with the registrations.
-    pub fn note(&mut self, id: EntryId, armed: bool, seen: Option<Counts>, rep: u64, from: u64)
+    /// Notes that an event reports the registration under a key, as epoll_wait(2) does: nothing arrived since, and a one-shot
+    /// is disarmed. The cost doesn't grow with the registrations.
+    pub fn report(&mut self, id: EntryId, event: u64)
         requires { IsSome (number_under self.old id) }
-        ensures entries { self.new.entries ≡ map (noted (unwrap_or (number_under self.old id) 0) armed seen rep from) self.old.entries }
+        ensures entries { self.new.entries ≡ map (reported (unwrap_or (number_under self.old id) 0) event) self.old.entries }
         ensures keys { self.new.keys ≡ self.old.keys }
         ensures added { self.new.added ≡ self.old.added }
     {
-        let reported = &mut self.slots[id.0];
-        *reported = Entry {
-            armed,
-            seen,
-            rep,
-            from,
-            ..*reported
+        let entry = &mut self.slots[id.0];
+        *entry = Entry {
+            armed: stays_armed(entry),
+            fresh: false,
+            reported_in: event,
+            ..*entry
         };
     }
 
     /// What MOD of epoll_ctl(2) does with the registration under a key: it gets this mask and this data, is armed again, and
-    /// counts as never reported. What its reports left for the order of reports stays. The cost doesn't grow with the registrations.
+    /// is fresh. The event of its last report stays. The cost doesn't grow with the registrations.
     pub fn modify(&mut self, id: EntryId, mask: Mask, tag: u64)
         requires { IsSome (number_under self.old id) }
         ensures entries { self.new.entries ≡ map (modified (unwrap_or (number_under self.old id) 0) mask tag) self.old.entries }
@@ -263,7 +269,7 @@ impl<A: Allocator> Interest<A> {
             mask,
             tag,
             armed: true,
-            seen: None,
+            fresh: true,
             ..*changed
         };
     }
@@ -277,8 +283,7 @@ impl<A: Allocator> Interest<A> {
     }
 
     /// Notes that an event raised these bits at a description. Each registration on it whose mask asks for one of them, ERR
-    /// and HUP unasked, counts as not reported since; one that is armed passes them on, and notes the event as `from`.
-    /// Every registration is looked at.
+    /// and HUP unasked, is fresh; one that is armed passes them on in this event. Every registration is looked at.
     pub fn raise(&mut self, desc: DescId, bits: Mask, event: u64)
         ensures entries { self.new.entries ≡ map (raised_on desc bits event) self.old.entries }
         ensures keys { self.new.keys ≡ self.old.keys }
@@ -291,7 +296,7 @@ impl<A: Allocator> Interest<A> {
     }
 
     /// The same of what reached a description from below, where nothing is left to pass on: each registration on it whose mask
-    /// asks for one of these bits counts as not reported since. Every registration is looked at.
+    /// asks for one of these bits is fresh. Every registration is looked at.
     pub fn freshen(&mut self, desc: DescId, bits: Mask)
         ensures entries { self.new.entries ≡ map (freshened_on desc bits) self.old.entries }
         ensures keys { self.new.keys ≡ self.old.keys }
@@ -303,7 +308,7 @@ impl<A: Allocator> Interest<A> {
         });
     }
 
-    /// Forgets of every registration in which event it last passed something on: `from` is 0 again.
+    /// Ends an event: no registration passes anything on. Every registration is looked at.
     pub fn settle(&mut self)
         ensures entries { self.new.entries ≡ map settled self.old.entries }
         ensures keys { self.new.keys ≡ self.old.keys }

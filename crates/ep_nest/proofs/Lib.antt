@@ -8,7 +8,7 @@ pub mod Lengthen
 pub mod Climb
 pub mod Gather
 pub mod Admit
-pub mod Kept
-pub mod Allowed
+pub mod ScratchLemmas
+pub mod MayAddLemmas
 pub mod Rule
-pub mod Renaming
+pub mod RenameLemmas

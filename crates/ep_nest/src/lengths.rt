@@ -5,11 +5,11 @@ ghost use Rattle.ep_nest.specs.Lengths.{AreChains, AreLengths, AreLongestTo, Has
 ghost use Rattle.ep_nest.specs.Links.{along};
 
 use crate::link::{Link, Way};
-use ep_base::DescId;
+use ep_base::{DescId, LONGEST_CHAIN};
 use std::alloc::{AllocError, Allocator};
 
-/// How many links a chain may have: they join five instances.
-pub const LONGEST: u8 = 4;
+/// How many links the longest chain has.
+pub const LONGEST: u8 = LONGEST_CHAIN - 1;
 
 /// The number at an instance, 0 where the table has no place for it.
 pub fn length_at(lengths: &[u8], desc: DescId) -> u8

@@ -3,9 +3,8 @@ use Rattle.std.proofs.Common.{◌≡◌, ◌<◌, ℕ, zero, suc, ◌==◌, ◌&
 use Rattle.std.specs.List.{Contains, list_any}
 use Rattle.ep_machine.specs.Bits.{IN, asked}
 use Rattle.ep_machine.specs.Files.{Files}
-use Rattle.ep_view.specs.KernelView.{carries, reached_now, reached_within, watches_instance}
+use Rattle.ep_view.specs.KernelView.{KernelWatch, carries, reached_now, reached_within, watches_instance}
 use Rattle.ep_law.specs.Laws.{Member}
-use Rattle.ep_machine.specs.State.{Watch}
 use Rattle.ep_law.proofs.GraphLemmas.{member_of_map}
 use Rattle.ep_law.proofs.ListLemmas.{filtered_member, filtered_passes, any_member, first_of_and, member_filter, member_map, second_of_and}
 use Rattle.ep_law.proofs.TestLemmas.{from_test, or_left, or_right, same_test}
@@ -22,7 +21,7 @@ from_contains [] p i lt d e = absurd (omega (arith, lt))
 from_contains (q ∷ es) p zero lt d e = inl (sym e)
 from_contains (q ∷ es) p (suc i) lt d e = inr (from_contains es p i (omega (arith, lt)) d e)
 
-any_has : (f : Watch → Bool) (xs : List Watch) (x : Watch) → Member x xs → f x ≡ true → list_any f xs ≡ true
+any_has : (f : KernelWatch → Bool) (xs : List KernelWatch) (x : KernelWatch) → Member x xs → f x ≡ true → list_any f xs ≡ true
 any_has f [] x m t = absurd m
 any_has f (y ∷ ys) x (inl e) t = or_left _ _ (ap f (sym e) ∙ t)
 any_has f (y ∷ ys) x (inr m) t = or_right _ _ (any_has f ys x m t)
@@ -36,7 +35,7 @@ starts : (es : List (ℕ × ℕ)) (m k : ℕ) (x y : ℕ) → LeadsBy es (longer
 starts es zero k x y c = (x, refl)
 starts es (suc m) k x y c = let r = starts es m k c.0 y c.2 in (r.0, (c.0, c.1, r.1))
 
-module _ (files : Files) (n : ℕ) (xs : List Watch) where
+module _ (files : Files) (n : ℕ) (xs : List KernelWatch) where
   abbrev es : List (ℕ × ℕ)
   es = open_links files xs
 
@@ -58,14 +57,14 @@ module _ (files : Files) (n : ℕ) (xs : List Watch) where
   four_of true false r t h k = cc
   four_of false w r t h k = cc
 
-  links_down : (k e : ℕ) → reached_within k files n xs e ≡ true → (m : ℕ) × (x : Watch) × Member x xs × ((x.from == n) ≡ true) × LeadsBy es m e x.instance
+  links_down : (k e : ℕ) → reached_within k files n xs e ≡ true → (m : ℕ) × (x : KernelWatch) × Member x xs × ((x.passes_in == n) ≡ true) × LeadsBy es m e x.instance
   links_down zero e h = cc
   links_down (suc k) e h =
       let r = reached_within k files n xs in
       let some = any_member (λ x. x.instance == e && carries r files n x) xs h in
       let x = some.0 in
       let at : x.instance ≡ e = from_test x.instance e (first_of_and _ _ some.2) in
-      elim (or_cases (x.from == n) (x.armed && watches_instance files x && r x.target && nat_lt 0 (asked x.mask IN)) (second_of_and (x.instance == e) _ some.2)) [
+      elim (or_cases (x.passes_in == n) (x.armed && watches_instance files x && r x.target && nat_lt 0 (asked x.mask IN)) (second_of_and (x.instance == e) _ some.2)) [
         | inl direct ↦ (0, x, some.1, direct, sym at)
         | inr passes ↦
             let both = four x.armed (watches_instance files x) (r x.target) (nat_lt 0 (asked x.mask IN)) passes in
@@ -74,20 +73,20 @@ module _ (files : Files) (n : ℕ) (xs : List Watch) where
             (suc below.0, below.1, below.2, below.3, (x.target, to_contains es (e, x.target) link, below.4))
       ]
 
-  links_up : (m k e : ℕ) (x : Watch) → m < k → Member x xs → (x.from == n) ≡ true → LeadsBy es m e x.instance → reached_within k files n xs e ≡ true
-  links_up m zero e x lt there from c = absurd (omega (arith, lt))
-  links_up zero (suc k) e x lt there from c =
+  links_up : (m k e : ℕ) (x : KernelWatch) → m < k → Member x xs → (x.passes_in == n) ≡ true → LeadsBy es m e x.instance → reached_within k files n xs e ≡ true
+  links_up m zero e x lt there passes c = absurd (omega (arith, lt))
+  links_up zero (suc k) e x lt there passes c =
       any_has (λ y. y.instance == e && carries (reached_within k files n xs) files n y) xs x there
-      (let a = same_test x.instance e (sym c) in let b = or_left (x.from == n) (x.armed && watches_instance files x && reached_within k files n xs x.target && nat_lt 0 (asked x.mask IN)) from in λ i. a i && b i)
-  links_up (suc m) (suc k) e x lt there from c =
-      let rest = links_up m k c.0 x (omega (arith, lt)) there from c.2 in
-      let w = member_of_map (λ (y : Watch). (y.instance, y.target)) (filter (lets_by files) xs) (e, c.0) (from_contains es (e, c.0) c.1.0 c.1.1 (e, c.0) c.1.2) in
+      (let a = same_test x.instance e (sym c) in let b = or_left (x.passes_in == n) (x.armed && watches_instance files x && reached_within k files n xs x.target && nat_lt 0 (asked x.mask IN)) passes in λ i. a i && b i)
+  links_up (suc m) (suc k) e x lt there passes c =
+      let rest = links_up m k c.0 x (omega (arith, lt)) there passes c.2 in
+      let w = member_of_map (λ (y : KernelWatch). (y.instance, y.target)) (filter (lets_by files) xs) (e, c.0) (from_contains es (e, c.0) c.1.0 c.1.1 (e, c.0) c.1.2) in
       let y = w.0 in
       let at : y.instance ≡ e = ap (λ (p : ℕ × ℕ). p.0) w.2 in
       let to : y.target ≡ c.0 = ap (λ (p : ℕ × ℕ). p.1) w.2 in
       any_has (λ y. y.instance == e && carries (reached_within k files n xs) files n y) xs y (filtered_member (lets_by files) xs y w.1)
       (let a = same_test y.instance e at in
-      let b = or_right (y.from == n) _ (four_of y.armed (watches_instance files y) (reached_within k files n xs y.target) (nat_lt 0 (asked y.mask IN)) (filtered_passes (lets_by files) xs y w.1) (ap (reached_within k files n xs) to ∙ rest)) in λ i. a i && b i)
+      let b = or_right (y.passes_in == n) _ (four_of y.armed (watches_instance files y) (reached_within k files n xs y.target) (nat_lt 0 (asked y.mask IN)) (filtered_passes (lets_by files) xs y w.1) (ap (reached_within k files n xs) to ∙ rest)) in λ i. a i && b i)
 
   pub reached_is_above : (e : ℕ) → IsShort es → ((reached_now files n xs e ≡ true) → IsReachedFrom files n xs e) × (IsReachedFrom files n xs e → (reached_now files n xs e ≡ true))
   unfolding reached_now

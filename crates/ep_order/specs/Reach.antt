@@ -2,25 +2,24 @@
 use Rattle.std.specs.Prelude.{◌≡◌, ◌&&◌, ◌==◌, ◌⊎◌, ◌↔◌, Bool, List, filter, map, nat_lt, true, ℕ}
 use Rattle.ep_machine.specs.Bits.{IN, asked}
 use Rattle.ep_machine.specs.Files.{Files}
-use Rattle.ep_view.specs.KernelView.{reached_now, watches_instance}
+use Rattle.ep_view.specs.KernelView.{KernelWatch, reached_now, watches_instance}
 use Rattle.ep_law.specs.Laws.{Member}
-use Rattle.ep_machine.specs.State.{Watch}
 use Rattle.ep_nest.specs.Chains.{IsAbove, IsShort}
 
 -- an armed registration on an instance that asks for IN
-abbrev pub lets_by : Files → Watch → Bool
+abbrev pub lets_by : Files → KernelWatch → Bool
 lets_by files x = x.armed && watches_instance files x && nat_lt 0 (asked x.mask IN)
 
 -- from each instance to those from which something is passed on to it
-abbrev pub open_links : Files → List Watch → List (ℕ × ℕ)
+abbrev pub open_links : Files → List KernelWatch → List (ℕ × ℕ)
 open_links files xs = map (λ x. (x.instance, x.target)) (filter (lets_by files) xs)
 
 -- an instance with a registration that passes something on, or one above it
-abbrev pub IsReachedFrom : Files → ℕ → List Watch → ℕ → Type 0
-IsReachedFrom files n xs e = (x : Watch) × Member x xs × ((x.from == n) ≡ true) × ((e ≡ x.instance) ⊎ IsAbove (open_links files xs) e x.instance)
+abbrev pub IsReachedFrom : Files → ℕ → List KernelWatch → ℕ → Type 0
+IsReachedFrom files n xs e = (x : KernelWatch) × Member x xs × ((x.passes_in == n) ≡ true) × ((e ≡ x.instance) ⊎ IsAbove (open_links files xs) e x.instance)
 
--- where no chain of such links is longer than four, that is what the machine reaches
+-- where no chain of such links is longer than four, IN reaches exactly these
 abbrev pub ReachedIsAbove : Type 0
-ReachedIsAbove = (files : Files) (n : ℕ) (xs : List Watch) (e : ℕ)
+ReachedIsAbove = (files : Files) (n : ℕ) (xs : List KernelWatch) (e : ℕ)
     → IsShort (open_links files xs)
     → (reached_now files n xs e ≡ true) ↔ IsReachedFrom files n xs e

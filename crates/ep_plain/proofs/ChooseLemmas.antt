@@ -1,5 +1,5 @@
 -- What the kernel that scans chooses the machine may pick.
-use Rattle.std.proofs.Common.{set, get_or, ◌≡◌, ◌==◌, ◌&&◌, ◌<◌, ℕ, pos, Bool, false, true, List, [], ◌∷◌, Option, None, IsSome, All, cond, filter, length, map, take, refl, ap, sym, ◌∙◌, arith, subst, zero, suc}
+use Rattle.std.proofs.Common.{set, get_or, ◌≡◌, ◌==◌, ◌&&◌, ◌<◌, ℕ, pos, Bool, false, true, List, [], ◌∷◌, Option, IsSome, All, cond, filter, length, map, take, refl, ap, sym, ◌∙◌, arith, subst, zero, suc}
 use Rattle.std.specs.List.Sorted.{IsNonDecreasingBy, IsPermutation}
 use Rattle.std.proofs.lemmas.List.{get_or-map, length-map, take-map}
 use Rattle.std.proofs.lemmas.List.Elements.{All-head, All-tail}
@@ -8,7 +8,7 @@ use Rattle.ep_machine.specs.Readiness.{reportables}
 use Rattle.ep_base.specs.declared.ids.DescId.{DescId}
 use Rattle.ep_interest.specs.Registrations.{Registrations, is_of}
 use Rattle.ep_interest.specs.declared.entry.Entry.{Entry}
-use Rattle.ep_view.specs.KernelView.{kernel_watches, kernel_watch, ready_now, shows_in}
+use Rattle.ep_view.specs.KernelView.{KernelWatch, kernel_watches, kernel_watch, ready_now, shows_in}
 use Rattle.ep_machine.specs.Report.{is_pick}
 use Rattle.ep_law.specs.Sound.{Sound}
 use Rattle.ep_machine.specs.State.{State, Waiter, Watch}
@@ -29,11 +29,11 @@ use Rattle.std.proofs.Math.ListN.{get_or-map as get_map}
 
 -- what the machine scans is what the interest set gives
 module _ (ready : ℕ → Bool) (v : Seen) (now : ℕ) (instance : DescId) (sound : SoundTables v) (lives : IsSome (number_under v instance)) where
-  cond_map : (d : Bool) (x : Entry) (xs : List Entry) (ys : List Watch) → map (watch_at v.keys) xs ≡ ys → cond d (watch_at v.keys x ∷ ys) ys ≡ map (watch_at v.keys) (cond d (x ∷ xs) xs)
-  cond_map true x xs ys h = ap (λ (zs : List Watch). watch_at v.keys x ∷ zs) (sym h)
+  cond_map : (d : Bool) (x : Entry) (xs : List Entry) (ys : List KernelWatch) → map (watch_at v.keys) xs ≡ ys → cond d (watch_at v.keys x ∷ ys) ys ≡ map (watch_at v.keys) (cond d (x ∷ xs) xs)
+  cond_map true x xs ys h = ap (λ (zs : List KernelWatch). watch_at v.keys x ∷ zs) (sym h)
   cond_map false x xs ys h = sym h
 
-  filter_twice : (b c : Bool) (x : Entry) (xs : List Entry) (ys : List Watch) → map (watch_at v.keys) (filter (entry_shows ready v now) xs) ≡ ys
+  filter_twice : (b c : Bool) (x : Entry) (xs : List Entry) (ys : List KernelWatch) → map (watch_at v.keys) (filter (entry_shows ready v now) xs) ≡ ys
       → c ≡ entry_shows ready v now x → cond (b && c) (watch_at v.keys x ∷ ys) ys ≡ map (watch_at v.keys) (filter (entry_shows ready v now) (cond b (x ∷ xs) xs))
   filter_twice true c x xs ys h e = ap (λ (b : Bool). cond b (watch_at v.keys x ∷ ys) ys) e ∙ cond_map (entry_shows ready v now x) x (filter (entry_shows ready v now) xs) ys h
   filter_twice false c x xs ys h e = sym h
@@ -47,53 +47,56 @@ module _ (ready : ℕ → Bool) (v : Seen) (now : ℕ) (instance : DescId) (soun
       ap (λ (b : Bool). cond (b && entry_shows ready v now x) (watch_at v.keys x ∷ filter (shows_in ready v.files now (number_at v.keys instance)) (map (watch_at v.keys) xs)) (filter (shows_in ready v.files now (number_at v.keys instance)) (map (watch_at v.keys) xs))) same
       ∙ filter_twice (is_of instance x) (entry_shows ready v now x) x (filter (is_of instance) xs) _ (sym rest) refl
 
-get_rep : (keys : List (Option ℕ)) (xs : List Entry) → IsNonDecreasingBy (λ (x : Entry). x.rep) xs → IsNonDecreasingBy (λ (x : Watch). x.rep) (map (watch_at keys) xs)
-get_rep keys xs h = λ i j d le lt.
-    let none : Entry = record { number = 0; instance = record { 0 = 0 }; fd = record { 0 = pos 0 }; desc = record { 0 = 0 }; mask = record { 0 = 0 }; tag = 0; armed = false; seen = None; rep = 0; from = 0 } in
+sorted_watches : (keys : List (Option ℕ)) (xs : List Entry) → IsNonDecreasingBy (λ (x : Entry). x.reported_in) xs → IsNonDecreasingBy (λ (x : KernelWatch). x.reported_in) (map (watch_at keys) xs)
+sorted_watches keys xs h = λ i j d le lt.
+    let none : Entry = record { number = 0; instance = record { 0 = 0 }; fd = record { 0 = pos 0 }; desc = record { 0 = 0 }; mask = record { 0 = 0 }; tag = 0; armed = false; fresh = false; reported_in = 0; passes_in = 0 } in
     let l : j < length xs = omega (arith, length-map xs (watch_at keys), lt) in
     let x = h i j none le l in
-    omega (arith, x, ap (λ (w : Watch). w.rep) (get_or-map (watch_at keys) xs i none d (omega arith)), ap (λ (w : Watch). w.rep) (get_or-map (watch_at keys) xs j none d l))
+    omega (arith, x, ap (λ (w : KernelWatch). w.reported_in) (get_or-map (watch_at keys) xs i none d (omega arith)), ap (λ (w : KernelWatch). w.reported_in) (get_or-map (watch_at keys) xs j none d l))
 
-numbers_are : (keys : List (Option ℕ)) (xs : List Reportable) → numbers (map (watch_at keys) (entries_in xs)) ≡ numbers_of xs
+abbrev numbers_in : List KernelWatch → List ℕ
+numbers_in xs = map (λ x. x.number) xs
+
+numbers_are : (keys : List (Option ℕ)) (xs : List Reportable) → numbers_in (map (watch_at keys) (entries_in xs)) ≡ numbers_of xs
 numbers_are keys [] = refl
 numbers_are keys (x ∷ xs) = ap (λ (ks : List ℕ). x.entry.number ∷ ks) (numbers_are keys xs)
 
-map_swap : (f : Watch → Watch) (xs : List Watch) (i j : ℕ) → map f (swap xs i j) ≡ swap (map f xs) i j
+map_swap : (f : Watch → KernelWatch) (xs : List Watch) (i j : ℕ) → map f (swap xs i j) ≡ swap (map f xs) i j
 map_swap f [] i j = refl
 map_swap f (d ∷ xs) i j =
     let ys : List Watch = d ∷ xs in
     map-set f (set ys i (get_or ys j d)) j (get_or ys i d)
     ∙ (λ t. set ((map-set f ys i (get_or ys j d) ∙ ap (set (map f ys) i) (sym (get_map f ys j d))) t) j (sym (get_map f ys i d) t))
 
-map_swaps : (f : Watch → Watch) (xs : List Watch) (ps : List (ℕ × ℕ)) → map f (apply_swaps xs ps) ≡ apply_swaps (map f xs) ps
+map_swaps : (f : Watch → KernelWatch) (xs : List Watch) (ps : List (ℕ × ℕ)) → map f (apply_swaps xs ps) ≡ apply_swaps (map f xs) ps
 map_swaps f xs [] = refl
-map_swaps f xs (p ∷ ps) = map_swap f (apply_swaps xs ps) p.0 p.1 ∙ ap (λ (ys : List Watch). swap ys p.0 p.1) (map_swaps f xs ps)
+map_swaps f xs (p ∷ ps) = map_swap f (apply_swaps xs ps) p.0 p.1 ∙ ap (λ (ys : List KernelWatch). swap ys p.0 p.1) (map_swaps f xs ps)
 
 -- another order of the kept ones is that of another order
-lifted : (s : State) (xs found : List Watch) → IsPermutation (kernel_watches s xs) found → (ys : List Watch) × IsPermutation xs ys × (kernel_watches s ys ≡ found)
+lifted : (s : State) (xs : List Watch) (found : List KernelWatch) → IsPermutation (kernel_watches s xs) found → (ys : List Watch) × IsPermutation xs ys × (kernel_watches s ys ≡ found)
 lifted s xs found moved =
     let below : SwapsInRange (length xs) moved.moves = subst (λ (n : ℕ). SwapsInRange n moved.moves) (length-map xs (kernel_watch s)) moved.below in
     (apply_swaps xs moved.moves, record { moves = moved.moves; below = below; is = refl }, map_swaps (kernel_watch s) xs moved.moves ∙ sym moved.is)
 
-kept_numbers : (s : State) (xs : List Watch) → numbers (kernel_watches s xs) ≡ numbers xs
+kept_numbers : (s : State) (xs : List Watch) → numbers_in (kernel_watches s xs) ≡ numbers xs
 kept_numbers s [] = refl
 kept_numbers s (x ∷ xs) = ap (λ (ks : List ℕ). x.number ∷ ks) (kept_numbers s xs)
 
-kept_sorted : (s : State) (ys : List Watch) → IsNonDecreasingBy (λ x. x.rep) (kernel_watches s ys) → IsNonDecreasingBy (λ x. x.rep) ys
+kept_sorted : (s : State) (ys : List Watch) → IsNonDecreasingBy (λ x. x.reported_in) (kernel_watches s ys) → IsNonDecreasingBy (λ x. x.rep) ys
 kept_sorted s ys h i j d le lt =
-    let at : (k : ℕ) → (get_or (kernel_watches s ys) k (kernel_watch s d)).rep ≡ (get_or ys k d).rep = λ k. ap (λ (x : Watch). x.rep) (get_map (kernel_watch s) ys k d) in
+    let at : (k : ℕ) → (get_or (kernel_watches s ys) k (kernel_watch s d)).reported_in ≡ (get_or ys k d).rep = λ k. ap (λ (x : KernelWatch). x.reported_in) (get_map (kernel_watch s) ys k d) in
     let sorted = h i j (kernel_watch s d) le (omega (arith, lt, length-map ys (kernel_watch s))) in
     omega (arith, sorted, at i, at j)
 
 -- by registrations as they are kept
-pick_kept : (s : State) (e most : ℕ) (found : List Watch) → Sound s → IsPermutation (filter (shows_in (machine_readiness s) s.files s.now e) (kernel_watches s s.watches)) found → IsNonDecreasingBy (λ x. x.rep) found
-    → is_pick s e most (numbers (take most found)) ≡ true
+pick_kept : (s : State) (e most : ℕ) (found : List KernelWatch) → Sound s → IsPermutation (filter (shows_in (machine_readiness s) s.files s.now e) (kernel_watches s s.watches)) found → IsNonDecreasingBy (λ x. x.reported_in) found
+    → is_pick s e most (numbers_in (take most found)) ≡ true
 pick_kept s e most found sound moved sorted =
-    let real = lifted s (reportables s e) found (subst (λ (xs : List Watch). IsPermutation xs found) (sym (reportables_kept s e)) moved) in
+    let real = lifted s (reportables s e) found (subst (λ (xs : List KernelWatch). IsPermutation xs found) (sym (reportables_kept s e)) moved) in
     let ys = real.0 in
     let same : kernel_watches s (take most ys) ≡ take most found = sym (take-map (kernel_watch s) most ys) ∙ ap (take most) real.2 in
-    let told : numbers (take most found) ≡ numbers (take most ys) = ap numbers (sym same) ∙ kept_numbers s (take most ys) in
-    ap (λ (ks : List ℕ). is_pick s e most ks) told ∙ pick_sorted s e most ys sound real.1 (kept_sorted s ys (subst (λ (xs : List Watch). IsNonDecreasingBy (λ x. x.rep) xs) (sym real.2) sorted))
+    let told : numbers_in (take most found) ≡ numbers (take most ys) = ap numbers_in (sym same) ∙ kept_numbers s (take most ys) in
+    ap (λ (ks : List ℕ). is_pick s e most ks) told ∙ pick_sorted s e most ys sound real.1 (kept_sorted s ys (subst (λ (xs : List KernelWatch). IsNonDecreasingBy (λ x. x.reported_in) xs) (sym real.2) sorted))
 
 -- what is chosen is a pick
 pub chosen_is_pick : {ws : List Waiter} (v : Seen) (now : ℕ) (r : Registrations) (s : State) (instance : DescId) (most : ℕ) (chosen : List Reportable) → Sound s → Stands v r ws now s → AreLinked v r → SoundTables v → IsSome (number_under v instance)
@@ -104,10 +107,10 @@ chosen_is_pick v now r s instance most chosen steady stands linked sound lives i
     let same_ready : machine_readiness s ≡ readiness v now r = λ i. ready_now (stands.files i) (stands.now i) (stands.watches i) in
     let scan : filter (shows_in (machine_readiness s) s.files s.now e) (kernel_watches s s.watches) ≡ map (watch_at v.keys) (filter (entry_shows (readiness v now r) v now) (filter (is_of instance) r.entries)) =
     (λ i. filter (shows_in (same_ready i) (stands.files i) (stands.now i) e) (stands.watches i)) ∙ scanned (readiness v now r) v now instance sound lives r.entries linked in
-    let moved = subst (λ (xs : List Watch). IsPermutation xs found) (sym scan) (IsPermutation-map (watch_at v.keys) _ is.found is.moved) in
+    let moved = subst (λ (xs : List KernelWatch). IsPermutation xs found) (sym scan) (IsPermutation-map (watch_at v.keys) _ is.found is.moved) in
     let told : take most found ≡ map (watch_at v.keys) (entries_in chosen) = take-map (watch_at v.keys) most is.found ∙ ap (map (watch_at v.keys)) (sym is.taken) in
-    let ks : numbers (take most found) ≡ numbers_of chosen = ap numbers told ∙ numbers_are v.keys chosen in
-    ap (λ (js : List ℕ). is_pick s e most js) (sym ks) ∙ pick_kept s e most found steady moved (get_rep v.keys is.found is.sorted)
+    let ks : numbers_in (take most found) ≡ numbers_of chosen = ap numbers_in told ∙ numbers_are v.keys chosen in
+    ap (λ (js : List ℕ). is_pick s e most js) (sym ks) ∙ pick_kept s e most found steady moved (sorted_watches v.keys is.found is.sorted)
 
 -- by when they were last reported
 get_entry : (xs : List Reportable) (k : ℕ) (d : Entry) (e : Reportable) → k < length xs → get_or (map (λ (x : Reportable). x.entry) xs) k d ≡ (get_or xs k e).entry
@@ -115,9 +118,9 @@ get_entry [] k d e lt = absurd (omega arith)
 get_entry (x ∷ xs) zero d e lt = refl
 get_entry (x ∷ xs) (suc k) d e lt = get_entry xs k d e (omega arith)
 
-pub sorted_entries : (xs : List Reportable) → IsNonDecreasingBy (λ (x : Reportable). x.entry.rep) xs → IsNonDecreasingBy (λ (x : Entry). x.rep) (map (λ (x : Reportable). x.entry) xs)
+pub sorted_entries : (xs : List Reportable) → IsNonDecreasingBy (λ (x : Reportable). x.entry.reported_in) xs → IsNonDecreasingBy (λ (x : Entry). x.reported_in) (map (λ (x : Reportable). x.entry) xs)
 sorted_entries xs h = λ i j d le lt.
     let e : Reportable = record { id = record { 0 = 0 }; entry = d; bits = record { 0 = 0 } } in
     let l : j < length xs = omega (arith, length-map xs (λ (x : Reportable). x.entry), lt) in
     let x = h i j e le l in
-    omega (arith, x, ap (λ (y : Entry). y.rep) (get_entry xs i d e (omega arith)), ap (λ (y : Entry). y.rep) (get_entry xs j d e l))
+    omega (arith, x, ap (λ (y : Entry). y.reported_in) (get_entry xs i d e (omega arith)), ap (λ (y : Entry). y.reported_in) (get_entry xs j d e l))

@@ -1,20 +1,18 @@
 -- What climbs through instances, one link after another.
-use Rattle.std.proofs.Common.{◌≡◌, ◌∙◌, ◌==◌, ◌&&◌, ◌||◌, ◌++◌, ℕ, zero, suc, Bool, true, false, All, List, [], ◌∷◌, None, Option, IsSome, ap, arith, cond, filter, if◌then◌else◌, inl, inr, map, refl, rules, subst, sym, unwrap_or}
+use Rattle.std.proofs.Common.{◌≡◌, ◌∙◌, ◌==◌, ◌&&◌, ◌||◌, ◌++◌, ℕ, zero, suc, Bool, true, false, All, List, [], ◌∷◌, Option, IsSome, ap, arith, cond, filter, inl, inr, map, refl, rules, subst, sym, unwrap_or}
 use Rattle.std.specs.List.{list_any}
 use Rattle.std.proofs.lemmas.Bool.{cases_Bool, false≢true}
 use Rattle.std.proofs.lemmas.Bool.Decides.{nat_tests}
 use Rattle.std.proofs.lemmas.List.Elements.{All-cons, All-head, All-tail}
-use Rattle.ep_base.specs.declared.counts.Counts.{Counts}
 use Rattle.ep_base.specs.declared.ids.DescId.{DescId}
 use Rattle.ep_interest.specs.Registrations.{Registrations, settled}
 use Rattle.ep_interest.specs.declared.entry.Entry.{Entry}
 use Rattle.ep_machine.specs.Bits.{IN}
 use Rattle.ep_machine.specs.Counts.{brings}
 use Rattle.ep_machine.specs.Files.{Files, object_of}
-use Rattle.ep_view.specs.KernelView.{carries, climbed, climbed_all, reached_now, reached_within}
+use Rattle.ep_view.specs.KernelView.{KernelWatch, carries, climbed, climbed_all, reached_now, reached_within}
 use Rattle.ep_law.specs.Laws.{Member}
 use Rattle.ep_machine.specs.Objects.{is_instance, plain}
-use Rattle.ep_machine.specs.State.{Watch}
 use Rattle.ep_nest.specs.declared.link.Link.{Link}
 use Rattle.ep_calls.specs.Climb.{is_nested, link_of}
 use Rattle.ep_plain.specs.Climb.{climbs_to}
@@ -22,24 +20,24 @@ use Rattle.ep_calls.specs.Stands.{IsLinked, number_at, watch_at}
 use Rattle.ep_table.specs.Value.{Seen, number_under}
 use Rattle.ep_law.proofs.TestLemmas.{from_test}
 
--- what was seen plays no part in what is reached
-module _ (keys : List (Option ℕ)) (files : Files) (n : ℕ) (seen : Entry → Option Counts) where
-  abbrev with_seen : Entry → Entry
-  with_seen x = record x { seen = seen x }
+-- what is fresh plays no part in what is reached
+module _ (keys : List (Option ℕ)) (files : Files) (n : ℕ) (fresh : Entry → Bool) where
+  abbrev with_fresh : Entry → Entry
+  with_fresh x = record x { fresh = fresh x }
 
-  any_seen : (r : ℕ → Bool) (e : ℕ) (xs : List Entry) → list_any (λ w. w.instance == e && carries r files n w) (map (watch_at keys) (map with_seen xs)) ≡ list_any (λ w. w.instance == e && carries r files n w) (map (watch_at keys) xs)
-  any_seen r e [] = refl
-  any_seen r e (x ∷ xs) = ap (λ (b : Bool). number_at keys x.instance == e && carries r files n (watch_at keys x) || b) (any_seen r e xs)
+  any_fresh : (r : ℕ → Bool) (e : ℕ) (xs : List Entry) → list_any (λ w. w.instance == e && carries r files n w) (map (watch_at keys) (map with_fresh xs)) ≡ list_any (λ w. w.instance == e && carries r files n w) (map (watch_at keys) xs)
+  any_fresh r e [] = refl
+  any_fresh r e (x ∷ xs) = ap (λ (b : Bool). number_at keys x.instance == e && carries r files n (watch_at keys x) || b) (any_fresh r e xs)
 
-  within_seen : (k : ℕ) (xs : List Entry) → reached_within k files n (map (watch_at keys) (map with_seen xs)) ≡ reached_within k files n (map (watch_at keys) xs)
-  within_seen zero xs = refl
-  within_seen (suc k) xs = λ i e.
-      (ap (λ (r : ℕ → Bool). list_any (λ w. w.instance == e && carries r files n w) (map (watch_at keys) (map with_seen xs))) (within_seen k xs)
-      ∙ any_seen (reached_within k files n (map (watch_at keys) xs)) e xs) i
+  within_fresh : (k : ℕ) (xs : List Entry) → reached_within k files n (map (watch_at keys) (map with_fresh xs)) ≡ reached_within k files n (map (watch_at keys) xs)
+  within_fresh zero xs = refl
+  within_fresh (suc k) xs = λ i e.
+      (ap (λ (r : ℕ → Bool). list_any (λ w. w.instance == e && carries r files n w) (map (watch_at keys) (map with_fresh xs))) (within_fresh k xs)
+      ∙ any_fresh (reached_within k files n (map (watch_at keys) xs)) e xs) i
 
-  pub reached_seen : (xs : List Entry) → reached_now files n (map (watch_at keys) (map with_seen xs)) ≡ reached_now files n (map (watch_at keys) xs)
+  pub reached_fresh : (xs : List Entry) → reached_now files n (map (watch_at keys) (map with_fresh xs)) ≡ reached_now files n (map (watch_at keys) xs)
   unfolding reached_now
-  reached_seen xs = within_seen 5 xs
+  reached_fresh xs = within_fresh 5 xs
 
 -- the instances that links lead to
 abbrev pub inners_of : List Link → List DescId
@@ -49,11 +47,11 @@ abbrev pub among_keys : List DescId → DescId → Bool
 among_keys ds k = list_any (λ d. k.0 == d.0) ds
 
 -- after these instances were looked at
-abbrev pub seen_after : (ℕ → Bool) → List (Option ℕ) → List DescId → Entry → Option Counts
-seen_after reached keys ds x = if among_keys ds x.desc && reached (number_at keys x.desc) && brings x.mask.0 IN then None else x.seen
+abbrev pub fresh_after : (ℕ → Bool) → List (Option ℕ) → List DescId → Entry → Bool
+fresh_after reached keys ds x = among_keys ds x.desc && reached (number_at keys x.desc) && brings x.mask.0 IN || x.fresh
 
 abbrev pub climbs_on : (ℕ → Bool) → List (Option ℕ) → List DescId → Entry → Entry
-climbs_on reached keys ds x = record x { seen = seen_after reached keys ds x }
+climbs_on reached keys ds x = record x { fresh = fresh_after reached keys ds x }
 
 or_false : (b : Bool) → (b || false) ≡ b
 or_false true = refl
@@ -68,36 +66,35 @@ among_more [] d k = or_false (k.0 == d.0)
 among_more (c ∷ ds) d k = ap (λ (b : Bool). k.0 == c.0 || b) (among_more ds d k) ∙ or_assoc (k.0 == c.0) (among_keys ds k) (k.0 == d.0)
 
 -- one instance more
-seen_more : (a o p r b : Bool) (s : Option Counts) → (o ≡ true → p ≡ r)
-    → (if r then if o && b then None else if a && p && b then None else s else if a && p && b then None else s) ≡ (if (a || o) && p && b then None else s)
-seen_more a true p r b s h = ap (λ (t : Bool). if t then if b then None else if a && p && b then None else s else if a && p && b then None else s) (sym (h refl)) ∙ on a p b s where
-  on : (a p b : Bool) (s : Option Counts) → (if p then if b then None else if a && p && b then None else s else if a && p && b then None else s) ≡ (if (a || true) && p && b then None else s)
+fresh_more : (a o p r b s : Bool) → (o ≡ true → p ≡ r) → (o && b && r || (a && p && b || s)) ≡ ((a || o) && p && b || s)
+fresh_more a true p r b s h = ap (λ (t : Bool). b && t || (a && p && b || s)) (sym (h refl)) ∙ on a p b s where
+  on : (a p b s : Bool) → (b && p || (a && p && b || s)) ≡ ((a || true) && p && b || s)
   on true true true s = refl
   on true true false s = refl
-  on true false b s = refl
+  on true false true s = refl
+  on true false false s = refl
   on false true true s = refl
   on false true false s = refl
-  on false false b s = refl
-seen_more true false p r b s h = off r where
-  off : (r : Bool) → (if r then if p && b then None else s else if p && b then None else s) ≡ (if p && b then None else s)
-  off true = refl
-  off false = refl
-seen_more false false p true b s h = refl
-seen_more false false p false b s h = refl
+  on false false true s = refl
+  on false false false s = refl
+fresh_more true false p r b s h = refl
+fresh_more false false p r b s h = refl
 
-with_seen_of : (r o b : Bool) (y : Entry) → cond r (cond (o && b) (record y { seen = None }) y) y ≡ record y { seen = if r then if o && b then None else y.seen else y.seen }
-with_seen_of true true true y = refl
-with_seen_of true true false y = refl
-with_seen_of true false b y = refl
-with_seen_of false o b y = refl
+with_fresh_of : (r o b : Bool) (y : Entry) → cond r (cond (o && b) (record y { fresh = true }) y) y ≡ record y { fresh = o && b && r || y.fresh }
+with_fresh_of true true true y = refl
+with_fresh_of true true false y = refl
+with_fresh_of true false b y = refl
+with_fresh_of false true true y = refl
+with_fresh_of false true false y = refl
+with_fresh_of false false b y = refl
 
 climbs_more : (reached : ℕ → Bool) (keys : List (Option ℕ)) (ds : List DescId) (d : DescId) (x : Entry) → climbs_to (reached (number_at keys d)) d (climbs_on reached keys ds x) ≡ climbs_on reached keys (ds ++ d ∷ []) x
 climbs_more reached keys ds d x =
     let o = x.desc.0 == d.0 in
-    with_seen_of (reached (number_at keys d)) o (brings x.mask.0 IN) (climbs_on reached keys ds x)
-    ∙ ap (λ (s : Option Counts). record x { seen = s })
-    (seen_more (among_keys ds x.desc) o (reached (number_at keys x.desc)) (reached (number_at keys d)) (brings x.mask.0 IN) x.seen (λ on. ap (λ (k : ℕ). reached (number_at keys (record { 0 = k }))) (from_test x.desc.0 d.0 on))
-    ∙ ap (λ (b : Bool). if b && reached (number_at keys x.desc) && brings x.mask.0 IN then None else x.seen) (sym (among_more ds d x.desc)))
+    with_fresh_of (reached (number_at keys d)) o (brings x.mask.0 IN) (climbs_on reached keys ds x)
+    ∙ ap (λ (s : Bool). record x { fresh = s })
+    (fresh_more (among_keys ds x.desc) o (reached (number_at keys x.desc)) (reached (number_at keys d)) (brings x.mask.0 IN) x.fresh (λ on. ap (λ (k : ℕ). reached (number_at keys (record { 0 = k }))) (from_test x.desc.0 d.0 on))
+    ∙ ap (λ (b : Bool). b && reached (number_at keys x.desc) && brings x.mask.0 IN || x.fresh) (sym (among_more ds d x.desc)))
 
 pub map_climbs_more : (reached : ℕ → Bool) (keys : List (Option ℕ)) (ds : List DescId) (d : DescId) (xs : List Entry) → map (climbs_to (reached (number_at keys d)) d) (map (climbs_on reached keys ds) xs) ≡ map (climbs_on reached keys (ds ++ d ∷ [])) xs
 map_climbs_more reached keys ds d [] = refl
@@ -178,7 +175,7 @@ module _ (v : Seen) where
         ]
   ]
 
-  map_member : (f g : Entry → Watch) (all xs : List Entry) → ((x : Entry) → Member x xs → Member x all) → ((x : Entry) → Member x all → f x ≡ g x) → map f xs ≡ map g xs
+  map_member : (f g : Entry → KernelWatch) (all xs : List Entry) → ((x : Entry) → Member x xs → Member x all) → ((x : Entry) → Member x all → f x ≡ g x) → map f xs ≡ map g xs
   map_member f g all [] inside h = refl
   map_member f g all (x ∷ xs) inside h =
       let one = h x (inside x (inl refl)) in
@@ -186,11 +183,11 @@ module _ (v : Seen) where
 
   map_map : (f : Entry → Entry) (g : Entry → Entry) (xs : List Entry) → map (watch_at v.keys) (map g (map f xs)) ≡ map (λ x. watch_at v.keys (g (f x))) xs
   map_map f g [] = refl
-  map_map f g (x ∷ xs) = ap (λ (ws : List Watch). watch_at v.keys (g (f x)) ∷ ws) (map_map f g xs)
+  map_map f g (x ∷ xs) = ap (λ (ws : List KernelWatch). watch_at v.keys (g (f x)) ∷ ws) (map_map f g xs)
 
   map_watch : (reached : ℕ → Bool) (xs : List Entry) → map (climbed reached v.files) (map (watch_at v.keys) xs) ≡ map (λ x. climbed reached v.files (watch_at v.keys x)) xs
   map_watch reached [] = refl
-  map_watch reached (x ∷ xs) = ap (λ (ws : List Watch). climbed reached v.files (watch_at v.keys x) ∷ ws) (map_watch reached xs)
+  map_watch reached (x ∷ xs) = ap (λ (ws : List KernelWatch). climbed reached v.files (watch_at v.keys x) ∷ ws) (map_watch reached xs)
 
   -- once every link was looked at, and what is passed on is forgotten
   pub climbed_is : (n : ℕ) (old : Registrations) → map (watch_at v.keys) (map settled (map (climbs_on (reached_now v.files n (map (watch_at v.keys) old.entries)) v.keys (inners old.entries)) old.entries)) ≡ climbed_all n v.files (map (watch_at v.keys) old.entries)
@@ -198,7 +195,7 @@ module _ (v : Seen) where
       let reached = reached_now v.files n (map (watch_at v.keys) old.entries) in
       map_map (climbs_on reached v.keys (inners old.entries)) settled old.entries
       ∙ (map_member (λ x. watch_at v.keys (settled (climbs_on reached v.keys (inners old.entries) x))) (λ x. climbed reached v.files (watch_at v.keys x)) old.entries old.entries (λ x m. m)
-      (λ x m. ap (λ (b : Bool). record (watch_at v.keys x) { seen = if b && reached (number_at v.keys x.desc) && brings x.mask.0 IN then None else x.seen; from = 0 }) (among_is x old.entries m))
+      (λ x m. ap (λ (b : Bool). record (watch_at v.keys x) { fresh = b && reached (number_at v.keys x.desc) && brings x.mask.0 IN || x.fresh; passes_in = 0 }) (among_is x old.entries m))
       ∙ sym (map_watch reached old.entries))
 
 pub climbs_not : (d : DescId) (xs : List Entry) → xs ≡ map (climbs_to false d) xs

@@ -17,6 +17,6 @@ reportables_at tables now interest instance = filter (entry_shows (readiness tab
 pub record IsChosen (tables : Seen) (now : ℕ) (interest : Registrations) (instance : DescId) (most : ℕ) (chosen : List Reportable) : Type 0 where
   pub found : List Entry
   pub moved : IsPermutation (reportables_at tables now interest instance) found
-  pub sorted : IsNonDecreasingBy (λ x. x.rep) found
+  pub sorted : IsNonDecreasingBy (λ x. x.reported_in) found
   pub taken : map (λ x. x.entry) chosen ≡ take most found
   pub keyed : AreKeyed tables now interest chosen

@@ -64,7 +64,7 @@ pub fn choose(
     ensures { IfOk result (λ chosen. IsChosen tables.now now interest.now instance (number_in max) chosen.items) }
 {
     let mut chosen = reportables(alloc, tables, now, interest, instance)?;
-    chosen.sort_by_key(|x| x.entry.rep)?;
+    chosen.sort_by_key(|x| x.entry.reported_in)?;
     chosen.truncate(most(max));
     Ok(chosen)
 }

@@ -1,47 +1,40 @@
 //! What an event raised climbs through instances.
 ghost use Rattle.std.specs.Prelude.{◌≡◌, ◌&&◌, ◌||◌, ◌==◌, IsSome, map, nat_lt};
 ghost use Rattle.ep_machine.specs.Bits.{IN, asked};
-ghost use Rattle.ep_view.specs.KernelView.{reached_within};
+ghost use Rattle.ep_view.specs.KernelView.{carries};
 ghost use Rattle.ep_calls.specs.Climb.{AreNested, Climbs};
 ghost use Rattle.ep_plain.specs.Climb.{climbs_to, is_reached_key};
-ghost use Rattle.ep_calls.specs.Readiness.{watches_of};
 ghost use Rattle.ep_calls.specs.Stands.{AreLinked};
-ghost use Rattle.ep_table.specs.Value.{number_of, number_under};
+ghost use Rattle.ep_table.specs.Value.{number_under};
 
 use bitflags::Flags;
-use ep_base::{DescId, Mask};
-use ep_calls::{LONGEST_CHAIN, Parts};
+use ep_base::{DescId, LONGEST_CHAIN, Mask};
+use ep_calls::{EntryTest, Parts, any_below};
 use ep_interest::{Entry, Interest};
 use ep_nest::Graph;
 use ep_table::Tables;
 
 /// Whether a registration passes something of this step on, where `below` says whether IN reaches the instance that it
 /// watches.
-fn carries(entry: &Entry, step: u64, below: bool) -> bool
-    ensures { result ≡ (entry.now.from == step || entry.now.armed && below && nat_lt 0 (asked entry.now.mask.0 IN)) }
+fn passes_on(entry: &Entry, step: u64, below: bool) -> bool
+    ensures { result ≡ (entry.now.passes_in == step || entry.now.armed && below && nat_lt 0 (asked entry.now.mask.0 IN)) }
 {
     let asked = entry.mask.union(Mask::ERR.union(Mask::HUP));
-    entry.from == step || entry.armed && below && !Mask::IN.intersection(asked).is_empty()
+    entry.passes_in == step || entry.armed && below && !Mask::IN.intersection(asked).is_empty()
 }
 
-/// Whether IN reaches an instance from below in this step, looking down through at most so many instances.
-fn is_reached(tables: &Tables, interest: &Interest, instance: DescId, step: u64, levels: u8) -> bool
-    requires live { IsSome (number_under tables.now instance) }
-    requires linked { AreLinked tables.now interest.now }
-    ensures { result ≡ reached_within levels tables.now.files step (watches_of tables.now interest.now) (number_of tables.now instance) }
-{
-    if levels == 0 {
-        return false;
+/// Whether a registration passes something of an event on.
+#[derive(Drop)]
+struct PassesOnIn {
+    event: u64,
+}
+
+impl EntryTest for PassesOnIn {
+    ghost asks = { λ t reached files x. carries reached files t.event x };
+
+    fn passes(&self, _tables: &Tables, entry: &Entry, below: bool) -> bool {
+        passes_on(entry, self.event, below)
     }
-    tables.known();
-    for (_, entry) in interest.entries(instance) {
-        let below = tables.object(entry.desc).is_instance()
-            && is_reached(tables, interest, entry.desc, step, levels - 1);
-        if carries(entry, step, below) {
-            return true;
-        }
-    }
-    false
 }
 
 /// Makes the registrations on an instance fresh where IN reaches it in this step.
@@ -51,7 +44,8 @@ fn climb_to(tables: &Tables, interest: &mut Interest, instance: DescId, step: u6
     ensures entries { interest.new.entries ≡ map (climbs_to (is_reached_key step tables.now interest.old instance) instance) interest.old.entries }
     ensures added { interest.new.added ≡ interest.old.added }
 {
-    if is_reached(tables, interest, instance, step, LONGEST_CHAIN) {
+    let test = PassesOnIn { event: step };
+    if any_below(tables, interest, instance, LONGEST_CHAIN, &test) {
         interest.freshen(instance, Mask::IN);
     }
 }

@@ -2,8 +2,8 @@
 ghost use Rattle.std.specs.Prelude.{◌≡◌, ◌+◌, ◌<◌, ◌≤◌, ◌^◌, IfOk, IsSome, OnErr, OnOk, filter};
 ghost use Rattle.ep_interest.specs.Registrations.{is_of, number_under};
 
-use self::Op::{Add, Look, Modify, Note, Purge, Remove};
-use ep_base::{Counts, DescId, EntryId, Fd, Mask};
+use self::Op::{Add, Look, Modify, Purge, Remove, Report};
+use ep_base::{DescId, EntryId, Fd, Mask};
 use ep_interest::{Entry, Interest};
 use linked_list_allocator::LocalHeap;
 use std::alloc::{AllocError, Global};
@@ -23,6 +23,9 @@ fn armed(alloc: Global, sets: &Interest, instance: DescId) -> Result<Vec<Entry>,
     Ok(found)
 }
 
+/// EPOLLIN with EPOLLONESHOT.
+const ONE_SHOT: u32 = 0x4000_0001;
+
 /// A registration's instance, descriptor number and description.
 type Key = (usize, i32, usize);
 
@@ -33,8 +36,8 @@ enum Op {
     Look,
     /// It is added with this data, where it isn't there.
     Add(u64),
-    /// It is disarmed by a report in this event, having been reportable since that one.
-    Note(u64, u64),
+    /// It is reported in this event.
+    Report(u64),
     /// It gets this mask and this data.
     Modify(u32, u64),
     Remove,
@@ -64,7 +67,7 @@ fn change(sets: &mut Interest, op: Op, id: EntryId)
     ensures { sets.new.added ≡ sets.old.added }
 {
     match op {
-        Note(rep, from) => sets.note(id, false, Some(Counts::default()), rep, from),
+        Report(event) => sets.report(id, event),
         Modify(mask, tag) => sets.modify(id, Mask(mask), tag),
         Remove => sets.remove(id),
         _ => {}
@@ -93,11 +96,11 @@ fn look_up(sets: &Interest, key: Key) -> Found {
     Some((id.0, entry.number, entry.tag))
 }
 
-/// Whether it counts as never reported, the event of its last report, and that since which it was reportable.
-fn marks(sets: &Interest, key: Key) -> Option<(bool, u64, u64)> {
+/// Whether it is armed, whether it is fresh, and the event of its last report.
+fn last_report(sets: &Interest, key: Key) -> Option<(bool, bool, u64)> {
     let id = sets.find(DescId(key.0), Fd(key.1), DescId(key.2))?;
     let entry = sets.entry(id);
-    Some((entry.seen.is_none(), entry.rep, entry.from))
+    Some((entry.armed, entry.fresh, entry.reported_in))
 }
 
 /// Instance 3 watches 9 twice and 8 once, in this order, and instance 4 watches 9.
@@ -176,15 +179,34 @@ const DEATH: [Step; 3] = [
 ];
 
 #[test]
-fn a_change_arms_and_keeps_the_marks_of_a_report(rt: HostRuntime) -> Result<(), Fail> {
+fn a_report_disarms_a_one_shot(rt: HostRuntime) -> Result<(), Fail> {
     let mut sets = four(rt.alloc())?;
-    make(&mut sets, Note(6, 2), (3, 5, 9))?;
-    assert!(rt; armed(rt.alloc(), &sets, DescId(3))?.len() == 2);
-    make(&mut sets, Modify(4, 80), (3, 5, 9))?;
-    assert!(rt; look_up(&sets, (3, 5, 9)) == Some((0, 1, 80)));
-    assert!(rt; marks(&sets, (3, 5, 9)) == Some((true, 6, 2)));
+    expect(&rt, first_wrong(&mut sets, &REPORTED));
+    assert!(rt; last_report(&sets, (3, 5, 9)) == Some((false, false, 6)));
+    assert!(rt; last_report(&sets, (3, 6, 9)) == Some((true, false, 7)));
+    assert!(rt; last_report(&sets, (3, 5, 8)) == Some((true, true, 0)));
     Ok(())
 }
+
+const REPORTED: [Step; 3] = [
+    (Modify(ONE_SHOT, 80), (3, 5, 9), Some((0, 1, 80)), 4),
+    (Report(6), (3, 5, 9), Some((0, 1, 80)), 4),
+    (Report(7), (3, 6, 9), Some((2, 3, 72)), 4),
+];
+
+#[test]
+fn a_change_arms_and_keeps_the_last_report(rt: HostRuntime) -> Result<(), Fail> {
+    let mut sets = four(rt.alloc())?;
+    expect(&rt, first_wrong(&mut sets, &CHANGED));
+    assert!(rt; last_report(&sets, (3, 5, 9)) == Some((true, true, 6)));
+    Ok(())
+}
+
+const CHANGED: [Step; 3] = [
+    (Modify(ONE_SHOT, 80), (3, 5, 9), Some((0, 1, 80)), 4),
+    (Report(6), (3, 5, 9), Some((0, 1, 80)), 4),
+    (Modify(4, 81), (3, 5, 9), Some((0, 1, 81)), 4),
+];
 
 #[test]
 fn the_registrations_of_an_instance_stand_in_order(rt: HostRuntime) -> Result<(), Fail> {

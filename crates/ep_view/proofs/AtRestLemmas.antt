@@ -50,7 +50,7 @@ none_holds ((true, e) ∷ tests) h = cc
 none_holds ((false, e) ∷ tests) h = (refl, none_holds tests h)
 
 -- Other files under the same registrations.
-steady_in : (f g : Files) → Extends f g → (x : Watch) → IsSteady f x → IsSteady g x
+steady_in : (f g : Files) → Extends f g → (x : Watch) → IsSteady f x.instance x.target → IsSteady g x.instance x.target
 steady_in f g e x h = record { instance_lives = e.lives x.instance h.instance_lives; target_lives = e.lives x.target h.target_lives; target_shows = watched_same _ _ (e.shows x.target h.target_shows) h.target_shows }
 
 filed : (s : State) → AtRest s → Filed s.files
@@ -68,7 +68,7 @@ quiet_files s g h k e = record {
   now = h.now;
   placed = k.placed;
   lives = λ d n. elim (among_either (named_in_tables g.tables) (map (λ w. w.instance) s.waiters) d n) [ inl table ↦ k.lives d table | inr waits ↦ e.lives d (waited_lives s h d waits) ];
-  watches = All-weaker (IsSteady s.files) (IsSteady g) (steady_in s.files g e) s.watches h.watches;
+  watches = All-weaker (λ x. IsSteady s.files x.instance x.target) (λ x. IsSteady g x.instance x.target) (steady_in s.files g e) s.watches h.watches;
   seen = h.seen;
   waiting = All-weaker (λ w. kind_of (object_of s.files w.instance) ≡ 1) (λ w. kind_of (object_of g w.instance) ≡ 1) (λ w. instance_stays s.files g e w.instance) s.waiters h.waiting;
   callers = h.callers;
@@ -144,25 +144,25 @@ shows_from_tests (Some (counter q)) p = refl
 shows_from_tests (Some (timer q)) p = refl
 shows_from_tests (Some instance) p = refl
 
-quiet_watches : (s : State) (xs : List Watch) (added : ℕ) → AtRest s → All (IsSteady s.files) xs → All (λ x. HasSeen x.seen (counts_of s x.target)) xs → Changed (record s { watches = xs; added = added })
+quiet_watches : (s : State) (xs : List Watch) (added : ℕ) → AtRest s → All (λ x. IsSteady s.files x.instance x.target) xs → All (λ x. HasSeen x.seen (counts_of s x.target)) xs → Changed (record s { watches = xs; added = added })
 quiet_watches s xs added h steady seen = let was = weaken s h in record { now = h.now; placed = h.placed; lives = was.lives; watches = steady; seen = seen; waiting = h.waiting; callers = h.callers }
 
-quiet_add : (s : State) (e fd d mask tag : ℕ) → AtRest s → IsSteady s.files (new_watch s e fd d mask tag) → Changed (add s e fd d mask tag).1
+quiet_add : (s : State) (e fd d mask tag : ℕ) → AtRest s → IsSteady s.files e d → Changed (add s e fd d mask tag).1
 quiet_add s e fd d mask tag h steady =
     let x = new_watch s e fd d mask tag in
-    quiet_watches s _ (s.added + 1) h (All-push (IsSteady s.files) s.watches x h.watches steady) (All-push (λ y. HasSeen y.seen (counts_of s y.target)) s.watches x h.seen tt)
+    quiet_watches s _ (s.added + 1) h (All-push (λ y. IsSteady s.files y.instance y.target) s.watches x h.watches steady) (All-push (λ y. HasSeen y.seen (counts_of s y.target)) s.watches x h.seen tt)
 
 -- DEL.
 quiet_delete : (s : State) (e fd d : ℕ) → AtRest s → Changed (delete s e fd d).1
 quiet_delete s e fd d h =
     let stays : Watch → Bool = λ x. not (has_key e fd d x) in
-    quiet_watches s _ s.added h (All-filter stays (IsSteady s.files) s.watches h.watches) (All-filter stays (λ y. HasSeen y.seen (counts_of s y.target)) s.watches h.seen)
+    quiet_watches s _ s.added h (All-filter stays (λ y. IsSteady s.files y.instance y.target) s.watches h.watches) (All-filter stays (λ y. HasSeen y.seen (counts_of s y.target)) s.watches h.seen)
 
 -- MOD.
-steady_modified : (s : State) (e fd d mask tag : ℕ) (x : Watch) → IsSteady s.files x → IsSteady s.files (modified e fd d mask tag x)
+steady_modified : (s : State) (e fd d mask tag : ℕ) (x : Watch) → IsSteady s.files x.instance x.target → let y : Watch = modified e fd d mask tag x in IsSteady s.files y.instance y.target
 steady_modified s e fd d mask tag x h =
-    elim (has_key e fd d x) as (λ b. IsSteady s.files (cond b (record x { mask = mask; tag = tag; armed = true; seen = None }) x)) [
-      | true ↦ record { instance_lives = h.instance_lives; target_lives = h.target_lives; target_shows = h.target_shows }
+    elim (has_key e fd d x) as (λ b. let y : Watch = cond b (record x { mask = mask; tag = tag; armed = true; seen = None }) x in IsSteady s.files y.instance y.target) [
+      | true ↦ h
       | false ↦ h
     ]
 
@@ -175,7 +175,7 @@ seen_modified s e fd d mask tag x h =
 
 quiet_modify : (s : State) (e fd d mask tag : ℕ) → AtRest s → Changed (modify s e fd d mask tag).1
 quiet_modify s e fd d mask tag h =
-    quiet_watches s _ s.added h (All-map (IsSteady s.files) (modified e fd d mask tag) s.watches (λ k x lt. steady_modified s e fd d mask tag (get_or s.watches k x) (h.watches k x lt)))
+    quiet_watches s _ s.added h (All-map (λ y. IsSteady s.files y.instance y.target) (modified e fd d mask tag) s.watches (λ k x lt. steady_modified s e fd d mask tag (get_or s.watches k x) (h.watches k x lt)))
     (All-map (λ y. HasSeen y.seen (counts_of s y.target)) (modified e fd d mask tag) s.watches (λ k x lt. seen_modified s e fd d mask tag (get_or s.watches k x) (h.seen k x lt)))
 
 quiet_if : (b : Bool) (c d : Change) → (b ≡ true → Changed c.1) → (b ≡ false → Changed d.1) → Changed (cond b c d).1
@@ -187,7 +187,7 @@ quiet_ctl limits s p epfd op fd mask tag h tests =
     let e = named_by s.files p epfd in
     let d = named_by s.files p fd in
     let k = number_in fd in
-    let steady : IsSteady s.files (new_watch s e k d mask tag) = record {
+    let steady : IsSteady s.files e d = record {
       instance_lives = named_lives s.files p epfd (filed s h) tests.0;
       target_lives = named_lives s.files p fd (filed s h) tests.1.0;
       target_shows = shows_from_tests (object_of s.files d) tests.1.1.0;
@@ -197,11 +197,11 @@ quiet_ctl limits s p epfd op fd mask tag h tests =
     (λ _. quiet_if (is_del op) (delete s e k d) (modify s e k d mask tag) (λ _. quiet_delete s e k d h) (λ _. quiet_modify s e k d mask tag h))
 
 -- A wait.
-reported_steady : (s : State) (ks : List ℕ) (x : Watch) → IsSteady s.files x → IsSteady s.files (reported s ks x)
+reported_steady : (s : State) (ks : List ℕ) (x : Watch) → IsSteady s.files x.instance x.target → let y : Watch = reported s ks x in IsSteady s.files y.instance y.target
 reported_steady s ks x h =
     let y : Watch = record x { seen = Some (counts_of s x.target); rep = s.n; from = s.n; armed = x.armed && not (has_bit x.mask ONESHOT) } in
-    elim (is_among ks x.number) as (λ b. IsSteady s.files (cond b y x)) [
-      | true ↦ record { instance_lives = h.instance_lives; target_lives = h.target_lives; target_shows = h.target_shows }
+    elim (is_among ks x.number) as (λ b. let z : Watch = cond b y x in IsSteady s.files z.instance z.target) [
+      | true ↦ h
       | false ↦ h
     ]
 
@@ -214,7 +214,7 @@ reported_seen s ks x h =
 
 quiet_reported : (s : State) (ks : List ℕ) → AtRest s → Changed (record s { watches = map (reported s ks) s.watches })
 quiet_reported s ks h =
-    quiet_watches s _ s.added h (All-map (IsSteady s.files) (reported s ks) s.watches (λ k d lt. reported_steady s ks (get_or s.watches k d) (h.watches k d lt)))
+    quiet_watches s _ s.added h (All-map (λ y. IsSteady s.files y.instance y.target) (reported s ks) s.watches (λ k d lt. reported_steady s ks (get_or s.watches k d) (h.watches k d lt)))
     (All-map (λ y. HasSeen y.seen (counts_of s y.target)) (reported s ks) s.watches (λ k d lt. reported_seen s ks (get_or s.watches k d) (h.seen k d lt)))
 
 Fine : Option Change → Type 0

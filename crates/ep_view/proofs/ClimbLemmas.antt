@@ -2,11 +2,10 @@
 use Rattle.std.proofs.Common.{◌≡◌, ℕ, zero, suc, ◌==◌, ◌&&◌, ◌||◌, ◌∙◌, Bool, true, false, List, [], ◌∷◌, None, Option, Some, ap, bit_or, cond, filter, if◌then◌else◌, map, nat_lt, refl, sym, unwrap_or}
 use Rattle.std.specs.List.{list_any}
 use Rattle.std.specs.Int.Bits.{and_zero_l}
-use Rattle.ep_base.specs.declared.counts.Counts.{Counts}
 use Rattle.ep_machine.specs.Bits.{ERR, HUP, IN, OUT, RDHUP, asked, has_bit, union, when}
 use Rattle.ep_machine.specs.Counts.{brings, every_shown_bit, holds_wanted}
 use Rattle.ep_machine.specs.Files.{Files, is_live, object_of}
-use Rattle.ep_view.specs.KernelView.{carries, climbed, freshened, kernel_watches, kernel_watch, reached_now, reached_within, seen_where, stays_in, watches_instance}
+use Rattle.ep_view.specs.KernelView.{KernelWatch, carries, climbed, freshened, kernel_watches, kernel_watch, reached_now, reached_within, stays_in, watches_instance}
 use Rattle.ep_machine.specs.Objects.{Object, counter, instance, is_instance, pair, pipe, plain, timer}
 use Rattle.ep_machine.specs.Readiness.{is_fresh}
 use Rattle.ep_machine.specs.Spread.{arrived, is_reached, is_reached_within, passes_on_by, raised_alive, raised_of, reaching_of, spread}
@@ -54,15 +53,15 @@ noted : (n : ℕ) (c : Bool) → (0 == n) ≡ false → ((if c then n else 0) ==
 noted n true apart = same_nat n
 noted n false apart = apart
 
-seen_joined : (f d c : Bool) → seen_where (f || (d || c)) ≡ (if c then None else if d then None else seen_where f)
-seen_joined true true true = refl
-seen_joined true true false = refl
-seen_joined true false true = refl
-seen_joined true false false = refl
-seen_joined false true true = refl
-seen_joined false true false = refl
-seen_joined false false true = refl
-seen_joined false false false = refl
+fresh_joined : (f d c : Bool) → (f || (d || c)) ≡ (c || (d || f))
+fresh_joined true true true = refl
+fresh_joined true true false = refl
+fresh_joined true false true = refl
+fresh_joined true false false = refl
+fresh_joined false true true = refl
+fresh_joined false true false = refl
+fresh_joined false false true = refl
+fresh_joined false false false = refl
 
 -- of those that a filter leaves
 any_left : (p f g : Watch → Bool) (xs : List Watch) → ((x : Watch) → p x ≡ true → f x ≡ g x) → list_any f (filter p xs) ≡ list_any g (filter p xs)
@@ -72,13 +71,16 @@ any_left p f g (x ∷ xs) h = with_one (p x) (h x) (any_left p f g xs h) where
   with_one true one rest = let here = one refl in λ i. here i || rest i
   with_one false one rest = rest
 
-any_map : (f : Watch → Bool) (g : Watch → Watch) (xs : List Watch) → list_any f (map g xs) ≡ list_any (λ x. f (g x)) xs
+any_map : {X Y : Type 0} (f : Y → Bool) (g : X → Y) (xs : List X) → list_any f (map g xs) ≡ list_any (λ x. f (g x)) xs
 any_map f g [] = refl
 any_map f g (x ∷ xs) = ap (λ (b : Bool). f (g x) || b) (any_map f g xs)
 
 module _ (after : State) (g : Files) (n : ℕ) (raised : List (ℕ × ℕ)) (apart : (0 == n) ≡ false) where
+  abbrev stays : Watch → Bool
+  stays x = stays_in g (kernel_watch after x)
+
   abbrev left : List Watch
-  left = filter (stays_in g) after.watches
+  left = filter stays after.watches
 
   abbrev b : State
   b = record after { files = g; watches = left }
@@ -86,37 +88,37 @@ module _ (after : State) (g : Files) (n : ℕ) (raised : List (ℕ × ℕ)) (apa
   abbrev live : List (ℕ × ℕ)
   live = raised_alive b raised
 
-  abbrev note : Watch → Watch
+  abbrev note : Watch → KernelWatch
   note x = freshened n raised (kernel_watch after x)
 
   second : (p q : Bool) → (p && q) ≡ true → q ≡ true
   second true q h = h
   second false q h = cc
 
-  target_lives : (x : Watch) → stays_in g x ≡ true → is_live g x.target ≡ true
+  target_lives : (x : Watch) → stays x ≡ true → is_live g x.target ≡ true
   target_lives x h = second (is_live g x.instance) (is_live g x.target) h
 
   -- the bits of the spread at its target
-  bits_are : (r : ℕ → Bool) (x : Watch) → stays_in g x ≡ true → bit_or (raised_of live x.target) (reaching_of r x.target (object_of g x.target)) ≡ bit_or (raised_of raised x.target) (when (watches_instance g x && r x.target) IN)
-  bits_are r x stays = λ i. bit_or (alive_raised g raised x.target (target_lives x stays) i) (reaching_is r x.target (object_of g x.target) i)
+  bits_are : (r : ℕ → Bool) (x : Watch) → stays x ≡ true → bit_or (raised_of live x.target) (reaching_of r x.target (object_of g x.target)) ≡ bit_or (raised_of raised x.target) (when (watches_instance g (kernel_watch after x) && r x.target) IN)
+  bits_are r x holds = λ i. bit_or (alive_raised g raised x.target (target_lives x holds) i) (reaching_is r x.target (object_of g x.target) i)
 
-  passes_as_noted : (r : ℕ → Bool) (x : Watch) → stays_in g x ≡ true → passes_on_by r b live x ≡ carries r g n (note x)
-  passes_as_noted r x stays =
+  passes_as_noted : (r : ℕ → Bool) (x : Watch) → stays x ≡ true → passes_on_by r b live x ≡ carries r g n (note x)
+  passes_as_noted r x holds =
       let direct = nat_lt 0 (asked x.mask (raised_of raised x.target)) in
-      let below = watches_instance g x && r x.target in
-      ap (λ (k : ℕ). x.armed && nat_lt 0 (asked x.mask k)) (bits_are r x stays)
+      let below = watches_instance g (kernel_watch after x) && r x.target in
+      ap (λ (k : ℕ). x.armed && nat_lt 0 (asked x.mask k)) (bits_are r x holds)
       ∙ (ap (λ (t : Bool). x.armed && t) (asked_either x.mask (raised_of raised x.target) (when below IN) ∙ ap (λ (t : Bool). direct || t) (asked_when x.mask IN below))
-      ∙ (passes x.armed direct (watches_instance g x) (r x.target) (nat_lt 0 (asked x.mask IN))
-      ∙ ap (λ (t : Bool). t || x.armed && watches_instance g x && r x.target && nat_lt 0 (asked x.mask IN)) (sym (noted n (x.armed && direct) apart))))
+      ∙ (passes x.armed direct (watches_instance g (kernel_watch after x)) (r x.target) (nat_lt 0 (asked x.mask IN))
+      ∙ ap (λ (t : Bool). t || x.armed && watches_instance g (kernel_watch after x) && r x.target && nat_lt 0 (asked x.mask IN)) (sym (noted n (x.armed && direct) apart))))
 
   within_same : (k : ℕ) (e : ℕ) → is_reached_within k b live e ≡ reached_within k g n (map (freshened n raised) (kernel_watches after left)) e
   within_same zero e = refl
   within_same (suc k) e =
       let r : ℕ → Bool = reached_within k g n (map (freshened n raised) (kernel_watches after left)) in
       let same : is_reached_within k b live ≡ r = λ i d. within_same k d i in
-      let carried : Watch → Bool = λ y. y.instance == e && carries r g n y in
-      any_left (stays_in g) (λ x. x.instance == e && passes_on_by (is_reached_within k b live) b live x) (λ x. carried (note x)) after.watches
-      (λ x stays. ap (λ (t : Bool). x.instance == e && t) (ap (λ (q : ℕ → Bool). passes_on_by q b live x) same ∙ passes_as_noted r x stays))
+      let carried : KernelWatch → Bool = λ y. y.instance == e && carries r g n y in
+      any_left stays (λ x. x.instance == e && passes_on_by (is_reached_within k b live) b live x) (λ x. carried (note x)) after.watches
+      (λ x holds. ap (λ (t : Bool). x.instance == e && t) (ap (λ (q : ℕ → Bool). passes_on_by q b live x) same ∙ passes_as_noted r x holds))
       ∙ (sym (any_map (λ y. carried (freshened n raised y)) (kernel_watch after) left) ∙ sym (any_map carried (freshened n raised) (kernel_watches after left)))
 
   abbrev pub reached : ℕ → Bool
@@ -130,12 +132,12 @@ module _ (after : State) (g : Files) (n : ℕ) (raised : List (ℕ × ℕ)) (apa
   a = arrived b raised
 
   -- a registration after arrivals
-  pub kept_arrived : (x : Watch) → stays_in g x ≡ true → is_fresh a x ≡ (is_fresh after x || brings x.mask (spread b live x.target)) → kernel_watch a x ≡ climbed reached g (note x)
-  kept_arrived x stays fresh =
-      let below = watches_instance g x && reached x.target in
+  pub kept_arrived : (x : Watch) → stays x ≡ true → is_fresh a x ≡ (is_fresh after x || brings x.mask (spread b live x.target)) → kernel_watch a x ≡ climbed reached g (note x)
+  kept_arrived x holds fresh =
+      let below = watches_instance g (kernel_watch after x) && reached x.target in
       let direct = raised_of raised x.target in
       let brought : brings x.mask (spread b live x.target) ≡ (brings x.mask direct || below && brings x.mask IN) =
-      ap (brings x.mask) (ap (λ (r : ℕ → Bool). bit_or (raised_of live x.target) (reaching_of r x.target (object_of g x.target))) reached_same ∙ bits_are reached x stays)
+      ap (brings x.mask) (ap (λ (r : ℕ → Bool). bit_or (raised_of live x.target) (reaching_of r x.target (object_of g x.target))) reached_same ∙ bits_are reached x holds)
       ∙ (brings_either x.mask direct (when below IN) ∙ ap (λ (t : Bool). brings x.mask direct || t) (brings_when x.mask IN below)) in
-      ap (λ (o : Option Counts). record x { seen = o; from = 0 })
-      (ap seen_where (fresh ∙ ap (λ (t : Bool). is_fresh after x || t) brought) ∙ seen_joined (is_fresh after x) (brings x.mask direct) (below && brings x.mask IN))
+      ap (λ (t : Bool). record (kernel_watch after x) { fresh = t })
+      (fresh ∙ ap (λ (t : Bool). is_fresh after x || t) brought ∙ fresh_joined (is_fresh after x) (brings x.mask direct) (below && brings x.mask IN))

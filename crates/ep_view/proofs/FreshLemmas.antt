@@ -16,7 +16,7 @@ use Rattle.std.proofs.lemmas.Nat.{le_or_l, le_or_r}
 use Rattle.std.proofs.lemmas.Nat.Bits.{bit_at_and, bit_at_or, same_from_bits}
 use Rattle.ep_machine.specs.Deaths.{die, die_all}
 use Rattle.ep_machine.specs.Lists.{numbered}
-use Rattle.ep_view.specs.KernelView.{freshened, stays_in, stirred}
+use Rattle.ep_view.specs.KernelView.{KernelWatch, freshened, stays_in, stirred}
 
 -- When a registration is fresh after the settling of a change.
 
@@ -227,7 +227,7 @@ pub raised_parts : (xs ys : List (ℕ × ℕ)) (d : ℕ) → raised_of (xs ++ ys
 raised_parts [] ys d = refl
 raised_parts (x ∷ xs) ys d = ap (bit_or (when (x.0 == d) x.1)) (raised_parts xs ys d) ∙ or_assoc (when (x.0 == d) x.1) (raised_of xs d) (raised_of ys d)
 
-joined : (n : ℕ) (a b p q : Bool) (x : Watch) → stirred n (a || b) (p || q) x ≡ stirred n b q (stirred n a p x)
+joined : (n : ℕ) (a b p q : Bool) (x : KernelWatch) → stirred n (a || b) (p || q) x ≡ stirred n b q (stirred n a p x)
 joined n true true true true x = refl
 joined n true true true false x = refl
 joined n true true false true x = refl
@@ -258,7 +258,7 @@ and_either true a b = refl
 and_either false a b = refl
 
 -- what is noted of one part, then of the other
-pub fresh_parts : (n : ℕ) (rs qs : List (ℕ × ℕ)) (xs : List Watch) → map (freshened n (rs ++ qs)) xs ≡ map (freshened n qs) (map (freshened n rs) xs)
+pub fresh_parts : (n : ℕ) (rs qs : List (ℕ × ℕ)) (xs : List KernelWatch) → map (freshened n (rs ++ qs)) xs ≡ map (freshened n qs) (map (freshened n rs) xs)
 fresh_parts n rs qs [] = refl
 fresh_parts n rs qs (x ∷ xs) =
     let a = raised_of rs x.target in
@@ -272,7 +272,7 @@ fresh_parts n rs qs (x ∷ xs) =
     λ i. one i ∷ fresh_parts n rs qs xs i
 
 -- where the same is raised at each target
-pub fresh_same : (n : ℕ) (rs qs : List (ℕ × ℕ)) (xs : List Watch) → All (λ x. raised_of rs x.target ≡ raised_of qs x.target) xs → map (freshened n rs) xs ≡ map (freshened n qs) xs
+pub fresh_same : (n : ℕ) (rs qs : List (ℕ × ℕ)) (xs : List KernelWatch) → All (λ x. raised_of rs x.target ≡ raised_of qs x.target) xs → map (freshened n rs) xs ≡ map (freshened n qs) xs
 fresh_same n rs qs [] h = refl
 fresh_same n rs qs (x ∷ xs) h =
     let one : freshened n rs x ≡ freshened n qs x = ap (λ (k : ℕ). stirred n (brings x.mask k) (x.armed && nat_lt 0 (asked x.mask k)) x) (h 0 x (omega arith)) in
@@ -280,12 +280,12 @@ fresh_same n rs qs (x ∷ xs) h =
     λ i. one i ∷ rest i
 
 -- which registrations stay has nothing to do with what is noted
-pub fresh_filter : (n : ℕ) (f : Files) (rs : List (ℕ × ℕ)) (xs : List Watch) → filter (stays_in f) (map (freshened n rs) xs) ≡ map (freshened n rs) (filter (stays_in f) xs)
+pub fresh_filter : (n : ℕ) (f : Files) (rs : List (ℕ × ℕ)) (xs : List KernelWatch) → filter (stays_in f) (map (freshened n rs) xs) ≡ map (freshened n rs) (filter (stays_in f) xs)
 fresh_filter n f rs [] = refl
 fresh_filter n f rs (x ∷ xs) =
     let rest = fresh_filter n f rs xs in
     elim (stays_in f x) as (λ b. cond b (freshened n rs x ∷ filter (stays_in f) (map (freshened n rs) xs)) (filter (stays_in f) (map (freshened n rs) xs)) ≡ map (freshened n rs) (cond b (x ∷ filter (stays_in f) xs) (filter (stays_in f) xs))) [
-      | true ↦ ap (λ (ys : List Watch). freshened n rs x ∷ ys) rest
+      | true ↦ ap (λ (ys : List KernelWatch). freshened n rs x ∷ ys) rest
       | false ↦ rest
     ]
 

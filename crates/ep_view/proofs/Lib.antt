@@ -1,5 +1,5 @@
 pub mod KernelViewLemmas
-pub mod ReportLemmas
+pub mod ResumeLemmas
 pub mod FilesLemmas
 pub mod WaiterLemmas
 pub mod FreshLemmas

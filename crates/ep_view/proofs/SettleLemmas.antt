@@ -1,17 +1,17 @@
 -- What a settling leaves.
-use Rattle.std.proofs.Common.{◌≡◌, ℕ, zero, suc, ◌<◌, ◌≤◌, ◌==◌, ◌&&◌, ◌||◌, ◌++◌, ◌∙◌, All, Bool, List, [], ◌∷◌, None, Some, true, false, not, ap, arith, cond, filter, get_or, if◌then◌else◌, inl, inr, is_some, map, nat_eq, nat_lt, refl, subst, sym}
+use Rattle.std.proofs.Common.{◌≡◌, ℕ, zero, suc, ◌<◌, ◌≤◌, ◌==◌, ◌&&◌, ◌||◌, ◌++◌, ◌∙◌, All, Bool, List, [], ◌∷◌, Some, true, false, not, ap, arith, cond, filter, get_or, inl, inr, is_some, map, nat_eq, nat_lt, refl, subst, sym}
 use Rattle.std.proofs.lemmas.Bool.{cases_Bool, false≢true}
 use Rattle.std.proofs.lemmas.List.Elements.{All-cons, All-map}
 use Rattle.std.proofs.lemmas.Bool.Decides.{nat_tests}
 use Rattle.ep_base.specs.declared.counts.Counts.{Counts}
 use Rattle.ep_machine.specs.Bits.{ERR, HUP, IN, ONESHOT, OUT, RDHUP, asked, has_bit}
-use Rattle.ep_machine.specs.Counts.{arrived_since, brings, every_shown_bit, no_counts}
+use Rattle.ep_machine.specs.Counts.{arrived_since, brings, every_shown_bit}
 use Rattle.ep_machine.specs.Deaths.{buried, die_all, dying, is_kept, named, named_in_tables}
 use Rattle.ep_machine.specs.Files.{Files, Place, is_live, object_of, place_of}
 use Rattle.ep_machine.specs.Lists.{is_among}
-use Rattle.ep_view.specs.KernelView.{carries, climbed, climbed_all, freshened, kernel_watches, kernel_watch, reached_now, reached_within, reported_in, seen_where, settled_watches, stays_in, stirred, watches_instance}
+use Rattle.ep_view.specs.KernelView.{KernelWatch, carries, climbed, climbed_all, freshened, kernel_reported, kernel_watches, kernel_watch, reached_now, reached_within, settled_watches, stays_in, stirred, watches_instance}
 use Rattle.ep_view.specs.AtRest.{Changed, HasSeen, Settles, IsSteady, AtRest, can_be_watched, is_backed, kind_of, marks_of}
-use Rattle.ep_machine.specs.Readiness.{is_ready, is_reportable}
+use Rattle.ep_machine.specs.Readiness.{is_fresh, is_ready, is_reportable}
 use Rattle.ep_machine.specs.Report.{reported}
 use Rattle.ep_machine.specs.Settle.{came, reportable_numbers, settle, with_from}
 use Rattle.ep_machine.specs.Spread.{arrived}
@@ -40,38 +40,28 @@ kept_came earlier s (x ∷ xs) =
     let rest = kept_came earlier s xs in
     λ i. one i ∷ rest i
 
-to_kept : (files : Files) (s : State) (x : Watch) → IsSteady files x → IsSteady files (kernel_watch s x)
-to_kept files s x h = record { instance_lives = h.instance_lives; target_lives = h.target_lives; target_shows = h.target_shows }
+-- what says of a registration that it is steady is kept
+abbrev AreSteady : Files → List KernelWatch → Type 0
+AreSteady files xs = All (λ x. IsSteady files x.instance x.target) xs
 
-from_kept : (files : Files) (s : State) (x : Watch) → IsSteady files (kernel_watch s x) → IsSteady files x
-from_kept files s x h = record { instance_lives = h.instance_lives; target_lives = h.target_lives; target_shows = h.target_shows }
-
-all_from_kept : (files : Files) (s : State) (xs : List Watch) → All (IsSteady files) (kernel_watches s xs) → All (IsSteady files) xs
+all_from_kept : (files : Files) (s : State) (xs : List Watch) → AreSteady files (kernel_watches s xs) → All (λ x. IsSteady files x.instance x.target) xs
 all_from_kept files s [] h k d lt = absurd (omega arith)
-all_from_kept files s (x ∷ xs) h zero d lt = from_kept files s x (h 0 d (omega arith))
+all_from_kept files s (x ∷ xs) h zero d lt = h 0 (kernel_watch s x) (omega arith)
 all_from_kept files s (x ∷ xs) h (suc k) d lt = all_from_kept files s xs (λ j c l. h (suc j) c (omega arith)) k d (omega arith)
 
-all_to_kept : (files : Files) (s : State) (xs : List Watch) → All (IsSteady files) xs → All (IsSteady files) (kernel_watches s xs)
-all_to_kept files s xs h = All-map (IsSteady files) (kernel_watch s) xs (λ k d lt. to_kept files s (get_or xs k d) (h k d lt))
+all_to_kept : (files : Files) (s : State) (xs : List Watch) → All (λ x. IsSteady files x.instance x.target) xs → AreSteady files (kernel_watches s xs)
+all_to_kept files s xs h = All-map (λ x. IsSteady files x.instance x.target) (kernel_watch s) xs h
 
--- what is noted in registrations leaves them steady
-all_noted : (files : Files) (f : Watch → Watch) (xs : List Watch) → ((x : Watch) → IsSteady files x → IsSteady files (f x)) → All (IsSteady files) xs → All (IsSteady files) (map f xs)
-all_noted files f xs keeps h = All-map (IsSteady files) f xs (λ k d lt. keeps (get_or xs k d) (h k d lt))
-
-steady_fresh : (files : Files) (n : ℕ) (raised : List (ℕ × ℕ)) (x : Watch) → IsSteady files x → IsSteady files (freshened n raised x)
-steady_fresh files n raised x h = record { instance_lives = h.instance_lives; target_lives = h.target_lives; target_shows = h.target_shows }
-
-steady_climbed : (files : Files) (reached : ℕ → Bool) (g : Files) (x : Watch) → IsSteady files x → IsSteady files (climbed reached g x)
-steady_climbed files reached g x h = record { instance_lives = h.instance_lives; target_lives = h.target_lives; target_shows = h.target_shows }
-
-all_settled : (files : Files) (n : ℕ) (g : Files) (raised : List (ℕ × ℕ)) (xs : List Watch) → All (IsSteady files) xs → All (IsSteady files) (settled_watches n g (freshened n raised) xs)
+-- and what is noted in registrations leaves them steady
+all_settled : (files : Files) (n : ℕ) (g : Files) (raised : List (ℕ × ℕ)) (xs : List KernelWatch) → AreSteady files xs → AreSteady files (settled_watches n g (freshened n raised) xs)
 all_settled files n g raised xs h =
     let ys = map (freshened n raised) xs in
-    all_noted files (climbed (reached_now g n ys) g) ys (steady_climbed files (reached_now g n ys) g) (all_noted files (freshened n raised) xs (steady_fresh files n raised) h)
+    let P : KernelWatch → Type 0 = λ x. IsSteady files x.instance x.target in
+    All-map P (climbed (reached_now g n ys) g) ys (All-map P (freshened n raised) xs h)
 
 -- the registrations whose instance and target live stay steady
-steady_left : (f g : Files) (xs : List Watch) → ((d : ℕ) → is_live g d ≡ true → can_be_watched (object_of f d) ≡ true → kind_of (object_of g d) ≡ kind_of (object_of f d))
-    → All (IsSteady f) xs → All (IsSteady g) (filter (stays_in g) xs)
+steady_left : (f g : Files) (xs : List KernelWatch) → ((d : ℕ) → is_live g d ≡ true → can_be_watched (object_of f d) ≡ true → kind_of (object_of g d) ≡ kind_of (object_of f d))
+    → AreSteady f xs → AreSteady g (filter (stays_in g) xs)
 steady_left f g [] shows h = λ k d lt. absurd (omega arith)
 steady_left f g (x ∷ xs) shows h =
     let rest = steady_left f g xs shows (λ j c l. h (suc j) c (omega arith)) in
@@ -79,9 +69,9 @@ steady_left f g (x ∷ xs) shows h =
     elim (cases_Bool (stays_in g x)) [
       | inl holds ↦
           let both = both_true (is_live g x.instance) (is_live g x.target) holds in
-          let steady : IsSteady g x = record { instance_lives = both.0; target_lives = both.1; target_shows = watched_same _ _ (shows x.target both.1 one.target_shows) one.target_shows } in
-          subst (λ (b : Bool). All (IsSteady g) (cond b (x ∷ filter (stays_in g) xs) (filter (stays_in g) xs))) (sym holds) (All-cons (IsSteady g) x (filter (stays_in g) xs) steady rest)
-      | inr fails ↦ subst (λ (b : Bool). All (IsSteady g) (cond b (x ∷ filter (stays_in g) xs) (filter (stays_in g) xs))) (sym fails) rest
+          let steady : IsSteady g x.instance x.target = record { instance_lives = both.0; target_lives = both.1; target_shows = watched_same _ _ (shows x.target both.1 one.target_shows) one.target_shows } in
+          subst (λ (b : Bool). AreSteady g (cond b (x ∷ filter (stays_in g) xs) (filter (stays_in g) xs))) (sym holds) (All-cons (λ y. IsSteady g y.instance y.target) x (filter (stays_in g) xs) steady rest)
+      | inr fails ↦ subst (λ (b : Bool). AreSteady g (cond b (x ∷ filter (stays_in g) xs) (filter (stays_in g) xs))) (sym fails) rest
     ]
 
 module _ (after : State) (h : Changed after) where
@@ -116,8 +106,8 @@ module _ (after : State) (h : Changed after) where
         now = subst (λ (k : ℕ). k ≤ last_moment) (sym same.now) h.now;
         placed = files (λ u. (d : ℕ) → is_backed u (place_of u d) ≡ true) left.placed;
         named = files (λ u. (d : ℕ) → is_among (named_in_tables u.tables ++ map (λ w. w.instance) t.waiters) d ≡ is_live u d) (λ d. (λ i. is_among (named_in_tables (left.tables i) ++ places i) d) ∙ sym (live_after d));
-        watches = all_from_kept t.files t t.watches (subst (λ (xs : List Watch). All (IsSteady t.files) xs) (sym same.watches)
-            (files (λ u. All (IsSteady u) (settled_watches after.n u (freshened after.n came) (filter (stays_in u) (kernel_watches after after.watches))))
+        watches = all_from_kept t.files t t.watches (subst (AreSteady t.files) (sym same.watches)
+            (files (λ u. AreSteady u (settled_watches after.n u (freshened after.n came) (filter (stays_in u) (kernel_watches after after.watches))))
             (all_settled g after.n g came _ (steady_left f g (kernel_watches after after.watches) left.shows (all_to_kept f after after.watches h.watches)))));
         seen = same.seen;
         waiting = subst (λ (ws : List Waiter). All (λ w. kind_of (object_of t.files w.instance) ≡ 1) ws) (sym same.waiters)
@@ -128,8 +118,11 @@ module _ (after : State) (h : Changed after) where
 
 -- the registrations after arrivals in a state of other files
 module _ (after : State) (g : Files) (raised : List (ℕ × ℕ)) (counted : (0 == after.n) ≡ false) where
+  abbrev stays : Watch → Bool
+  stays x = stays_in g (kernel_watch after x)
+
   abbrev remaining : List Watch
-  remaining = filter (stays_in g) after.watches
+  remaining = filter stays after.watches
 
   abbrev b : State
   b = record after { files = g; watches = remaining }
@@ -137,42 +130,42 @@ module _ (after : State) (g : Files) (raised : List (ℕ × ℕ)) (counted : (0 
   abbrev a : State
   a = arrived b raised
 
-  abbrev noted : Watch → Watch
+  abbrev noted : Watch → KernelWatch
   noted x = climbed (reached after g after.n raised counted) g (freshened after.n raised (kernel_watch after x))
 
-  lives_in : (x : Watch) → stays_in g x ≡ true → is_live g x.target ≡ true
-  lives_in x stays = (both_true (is_live g x.instance) (is_live g x.target) stays).1
+  lives_in : (x : Watch) → stays x ≡ true → is_live g x.target ≡ true
+  lives_in x holds = (both_true (is_live g x.instance) (is_live g x.target) holds).1
 
-  settled_kept : (xs : List Watch) → All (λ x. HasSeen x.seen (counts_of after x.target)) xs → kernel_watches a (filter (stays_in g) xs) ≡ map noted (filter (stays_in g) xs)
+  settled_kept : (xs : List Watch) → All (λ x. HasSeen x.seen (counts_of after x.target)) xs → kernel_watches a (filter stays xs) ≡ map noted (filter stays xs)
   settled_kept [] seen = refl
   settled_kept (x ∷ xs) seen =
       let rest = settled_kept xs (λ j c l. seen (suc j) c (omega arith)) in
       let sees = seen 0 x (omega arith) in
-      with_one (stays_in g x) (λ stays. kept_arrived after g after.n raised counted x stays (fresh_arrived b raised x.target (lives_in x stays) x refl sees)) rest where
-        with_one : (t : Bool) → (t ≡ true → kernel_watch a x ≡ noted x) → kernel_watches a (filter (stays_in g) xs) ≡ map noted (filter (stays_in g) xs) → kernel_watches a (cond t (x ∷ filter (stays_in g) xs) (filter (stays_in g) xs)) ≡ map noted (cond t (x ∷ filter (stays_in g) xs) (filter (stays_in g) xs))
+      with_one (stays x) (λ holds. kept_arrived after g after.n raised counted x holds (fresh_arrived b raised x.target (lives_in x holds) x refl sees)) rest where
+        with_one : (t : Bool) → (t ≡ true → kernel_watch a x ≡ noted x) → kernel_watches a (filter stays xs) ≡ map noted (filter stays xs) → kernel_watches a (cond t (x ∷ filter stays xs) (filter stays xs)) ≡ map noted (cond t (x ∷ filter stays xs) (filter stays xs))
         with_one true one rest = λ i. one refl i ∷ rest i
         with_one false one rest = rest
 
   map_thrice : (xs : List Watch) → map noted xs ≡ map (climbed (reached after g after.n raised counted) g) (map (freshened after.n raised) (kernel_watches after xs))
   map_thrice [] = refl
-  map_thrice (x ∷ xs) = ap (λ (ys : List Watch). noted x ∷ ys) (map_thrice xs)
+  map_thrice (x ∷ xs) = ap (λ (ys : List KernelWatch). noted x ∷ ys) (map_thrice xs)
 
   -- by registrations as they are kept
   settled_all : All (λ x. HasSeen x.seen (counts_of after x.target)) after.watches → kernel_watches a remaining ≡ settled_watches after.n g (freshened after.n raised) (filter (stays_in g) (kernel_watches after after.watches))
   settled_all seen =
       settled_kept after.watches seen
       ∙ (map_thrice remaining
-      ∙ ap (λ (xs : List Watch). settled_watches after.n g (freshened after.n raised) xs) (kept_filter after (stays_in g) after.watches))
+      ∙ ap (λ (xs : List KernelWatch). settled_watches after.n g (freshened after.n raised) xs) (kept_filter after (stays_in g) after.watches))
 
-  settled_seen : (xs : List Watch) → All (λ x. HasSeen x.seen (counts_of after x.target)) xs → All (λ x. HasSeen x.seen (counts_of a x.target)) (filter (stays_in g) xs)
+  settled_seen : (xs : List Watch) → All (λ x. HasSeen x.seen (counts_of after x.target)) xs → All (λ x. HasSeen x.seen (counts_of a x.target)) (filter stays xs)
   settled_seen [] seen = λ k d lt. absurd (omega arith)
   settled_seen (x ∷ xs) seen =
       let rest = settled_seen xs (λ j c l. seen (suc j) c (omega arith)) in
-      with_one (stays_in g x) refl (seen 0 x (omega arith)) rest where
-        with_one : (t : Bool) → stays_in g x ≡ t → HasSeen x.seen (counts_of after x.target) → All (λ y. HasSeen y.seen (counts_of a y.target)) (filter (stays_in g) xs)
-            → All (λ y. HasSeen y.seen (counts_of a y.target)) (cond t (x ∷ filter (stays_in g) xs) (filter (stays_in g) xs))
-        with_one true stays sees rest = All-cons (λ y. HasSeen y.seen (counts_of a y.target)) x (filter (stays_in g) xs) (seen_arrived b raised x.target (lives_in x stays) x refl sees) rest
-        with_one false stays sees rest = rest
+      with_one (stays x) refl (seen 0 x (omega arith)) rest where
+        with_one : (t : Bool) → stays x ≡ t → HasSeen x.seen (counts_of after x.target) → All (λ y. HasSeen y.seen (counts_of a y.target)) (filter stays xs)
+            → All (λ y. HasSeen y.seen (counts_of a y.target)) (cond t (x ∷ filter stays xs) (filter stays xs))
+        with_one true holds sees rest = All-cons (λ y. HasSeen y.seen (counts_of a y.target)) x (filter stays xs) (seen_arrived b raised x.target (lives_in x holds) x refl sees) rest
+        with_one false holds sees rest = rest
 
 -- neither marks nor `from` show in what was seen
 seen_came : (earlier : List ℕ) (a : State) (xs : List Watch) → All (λ x. HasSeen x.seen (counts_of a x.target)) xs → All (λ x. HasSeen x.seen (counts_of a x.target)) (map (came earlier a) xs)
@@ -215,20 +208,20 @@ no_news wanted c =
         never true = refl
         never false = refl
 
-reported_one : (s : State) (ks : List ℕ) (x : Watch) → kernel_watch s (reported s ks x) ≡ reported_in s.n ks (kernel_watch s x)
+reported_one : (s : State) (ks : List ℕ) (x : Watch) → kernel_watch s (reported s ks x) ≡ kernel_reported s.n ks (kernel_watch s x)
 reported_one s ks x =
     elim (is_among ks x.number) as (λ b. kernel_watch s (cond b (record x { seen = Some (counts_of s x.target); rep = s.n; from = s.n; armed = x.armed && not (has_bit x.mask ONESHOT) }) x)
-    ≡ cond b (record (kernel_watch s x) { seen = Some no_counts; rep = s.n; armed = x.armed && not (has_bit x.mask ONESHOT) }) (kernel_watch s x)) [
-      | true ↦ ap (λ (t : Bool). let y : Watch = record x { seen = seen_where t; rep = s.n; from = 0; armed = x.armed && not (has_bit x.mask ONESHOT) } in y) (no_news (asked x.mask every_shown_bit) (counts_of s x.target))
+    ≡ cond b (record (kernel_watch s x) { armed = x.armed && not (has_bit x.mask ONESHOT); fresh = false; reported_in = s.n }) (kernel_watch s x)) [
+      | true ↦ ap (λ (t : Bool). record (kernel_watch s x) { armed = x.armed && not (has_bit x.mask ONESHOT); fresh = t; reported_in = s.n }) (no_news (asked x.mask every_shown_bit) (counts_of s x.target))
       | false ↦ refl
     ]
 
-reported_all : (s : State) (ks : List ℕ) (xs : List Watch) → kernel_watches s (map (reported s ks) xs) ≡ map (reported_in s.n ks) (kernel_watches s xs)
+reported_all : (s : State) (ks : List ℕ) (xs : List Watch) → kernel_watches s (map (reported s ks) xs) ≡ map (kernel_reported s.n ks) (kernel_watches s xs)
 reported_all s ks [] = refl
 reported_all s ks (x ∷ xs) = let one = reported_one s ks x in let rest = reported_all s ks xs in λ i. one i ∷ rest i
 
 -- what a report does to registrations, as they are kept
-pub reported_kept : (s : State) (ks : List ℕ) → kernel_watches s (map (reported s ks) s.watches) ≡ map (reported_in s.n ks) (kernel_watches s s.watches)
+pub reported_kept : (s : State) (ks : List ℕ) → kernel_watches s (map (reported s ks) s.watches) ≡ map (kernel_reported s.n ks) (kernel_watches s s.watches)
 reported_kept s ks = reported_all s ks s.watches
 
 -- Which descriptions die: those that live and that nothing names.
@@ -266,28 +259,28 @@ not_itself false = refl
 none_dying : (s : State) → AtRest s → dying s ≡ []
 none_dying s h = none_among (dying s) (λ d. dying_test s d ∙ (ap (λ (b : Bool). is_live s.files d && not b) (h.named d) ∙ not_itself (is_live s.files d)))
 
-all_stay : (f : Files) (xs : List Watch) → All (IsSteady f) xs → filter (stays_in f) xs ≡ xs
+all_stay : (f : Files) (xs : List KernelWatch) → AreSteady f xs → filter (stays_in f) xs ≡ xs
 all_stay f [] h = refl
 all_stay f (x ∷ xs) h =
     let one = h 0 x (omega arith) in
     let keeps : stays_in f x ≡ true = λ i. one.instance_lives i && one.target_lives i in
     let rest = all_stay f xs (λ k d lt. h (suc k) d (omega arith)) in
-    ap (λ (b : Bool). cond b (x ∷ filter (stays_in f) xs) (filter (stays_in f) xs)) keeps ∙ ap (λ (ys : List Watch). x ∷ ys) rest
+    ap (λ (b : Bool). cond b (x ∷ filter (stays_in f) xs) (filter (stays_in f) xs)) keeps ∙ ap (λ (ys : List KernelWatch). x ∷ ys) rest
 
 -- what is raised nowhere is noted nowhere, and reaches no instance
 module _ (s : State) (counted : (0 == s.n) ≡ false) where
-  unnoted : (xs : List Watch) → map (freshened s.n []) xs ≡ xs
+  unnoted : (xs : List KernelWatch) → map (freshened s.n []) xs ≡ xs
   unnoted [] = refl
   unnoted (x ∷ xs) = λ i. nothing_new x i ∷ unnoted xs i where
     never : (p : Bool) → (p && false) ≡ false
     never true = refl
     never false = refl
 
-    nothing_new : (y : Watch) → freshened s.n [] y ≡ y
+    nothing_new : (y : KernelWatch) → freshened s.n [] y ≡ y
     nothing_new y = λ i. stirred s.n (zero_brings y.mask i) ((ap (λ (t : Bool). y.armed && t) (zero_asked y.mask) ∙ never y.armed) i) y
 
   carries_nothing : (files : Files) (x : Watch) → carries (λ d. false) files s.n (kernel_watch s x) ≡ false
-  carries_nothing files x = λ i. counted i || none x.armed (watches_instance files x) (nat_lt 0 (asked x.mask IN)) i where
+  carries_nothing files x = λ i. counted i || none x.armed (watches_instance files (kernel_watch s x)) (nat_lt 0 (asked x.mask IN)) i where
     none : (a w q : Bool) → (a && w && false && q) ≡ false
     none true true q = refl
     none true false q = refl
@@ -310,8 +303,8 @@ module _ (s : State) (counted : (0 == s.n) ≡ false) where
 
   unclimbed : (files : Files) (xs : List Watch) → map (climbed (λ d. false) files) (kernel_watches s xs) ≡ kernel_watches s xs
   unclimbed files [] = refl
-  unclimbed files (x ∷ xs) = λ i. still (watches_instance files x) i ∷ unclimbed files xs i where
-    still : (w : Bool) → record (kernel_watch s x) { seen = if w && false && brings x.mask IN then None else (kernel_watch s x).seen; from = 0 } ≡ kernel_watch s x
+  unclimbed files (x ∷ xs) = λ i. still (watches_instance files (kernel_watch s x)) i ∷ unclimbed files xs i where
+    still : (w : Bool) → record (kernel_watch s x) { fresh = w && false && brings x.mask IN || is_fresh s x; passes_in = 0 } ≡ kernel_watch s x
     still true = refl
     still false = refl
 

@@ -9,7 +9,7 @@ use Rattle.ep_view.specs.KernelView.{freshened, kernel_watches, ready_now, settl
 use Rattle.ep_machine.specs.Lists.{is_among}
 use Rattle.ep_machine.specs.Marks.{marked_by}
 use Rattle.ep_machine.specs.Objects.{Object, instance, plain}
-use Rattle.ep_machine.specs.State.{State, Waiter, Watch, counts_of}
+use Rattle.ep_machine.specs.State.{State, Waiter, counts_of}
 use Rattle.ep_machine.specs.Timer.{last_moment}
 
 -- 0 where nothing can be watched, 1 at an instance, 2 at what shows bits of its own
@@ -23,10 +23,11 @@ kind_of (Some x) = 2
 abbrev pub can_be_watched : Option Object → Bool
 can_be_watched o = nat_lt 0 (kind_of o)
 
-pub record IsSteady (files : Files) (x : Watch) : Type 0 where
-  pub instance_lives : is_live files x.instance ≡ true
-  pub target_lives : is_live files x.target ≡ true
-  pub target_shows : can_be_watched (object_of files x.target) ≡ true
+-- a registration of an instance that lives watches what lives and can be watched
+pub record IsSteady (files : Files) (instance target : ℕ) : Type 0 where
+  pub instance_lives : is_live files instance ≡ true
+  pub target_lives : is_live files target ≡ true
+  pub target_shows : can_be_watched (object_of files target) ≡ true
 
 -- no count was above what it is now
 pub record IsPast (old now : Counts) : Type 0 where
@@ -53,7 +54,7 @@ pub record AtRest (s : State) : Type 0 where
   pub now : s.now ≤ last_moment
   pub placed : (d : ℕ) → is_backed s.files (place_of s.files d) ≡ true
   pub named : (d : ℕ) → is_among (named s) d ≡ is_live s.files d  -- tables and waiters name what lives, and nothing else
-  pub watches : All (IsSteady s.files) s.watches
+  pub watches : All (λ x. IsSteady s.files x.instance x.target) s.watches
   pub seen : All (λ x. HasSeen x.seen (counts_of s x.target)) s.watches
   pub waiting : All (λ w. kind_of (object_of s.files w.instance) ≡ 1) s.waiters
   pub callers : IsDistinct nat_eq (map (λ w. w.caller) s.waiters)
@@ -64,7 +65,7 @@ pub record Changed (s : State) : Type 0 where
   pub now : s.now ≤ last_moment
   pub placed : (d : ℕ) → is_backed s.files (place_of s.files d) ≡ true
   pub lives : (d : ℕ) → is_among (named s) d ≡ true → is_live s.files d ≡ true
-  pub watches : All (IsSteady s.files) s.watches
+  pub watches : All (λ x. IsSteady s.files x.instance x.target) s.watches
   pub seen : All (λ x. HasSeen x.seen (counts_of s x.target)) s.watches
   pub waiting : All (λ w. kind_of (object_of s.files w.instance) ≡ 1) s.waiters
   pub callers : IsDistinct nat_eq (map (λ w. w.caller) s.waiters)

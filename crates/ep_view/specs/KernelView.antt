@@ -1,11 +1,10 @@
 -- Registrations and waiters as a kernel keeps them: of the counts only whether something arrived since the last report,
--- and of the event since which one is reportable nothing. In its place stands the event in which it passes something on.
-use Rattle.std.specs.List.{list_any}
-use Rattle.std.specs.Prelude.{Bool, List, None, Option, Some, false, if◌then◌else◌, is_none, map, nat_lt, not, suc, unwrap_or, zero, ℕ, ◌&&◌, ◌||◌, ◌==◌}
+-- and of the event since which one is reportable nothing.
+use Rattle.std.specs.List.{find, list_any}
+use Rattle.std.specs.Prelude.{Bool, List, Option, false, if◌then◌else◌, map, nat_lt, not, suc, true, unwrap_or, zero, ℕ, ◌&&◌, ◌||◌, ◌==◌}
 use Rattle.ep_base.specs.declared.answer.Report.{Report}
-use Rattle.ep_base.specs.declared.counts.Counts.{Counts}
 use Rattle.ep_machine.specs.Bits.{ET, IN, ONESHOT, asked, has_bit, when}
-use Rattle.ep_machine.specs.Counts.{brings, no_counts}
+use Rattle.ep_machine.specs.Counts.{brings}
 use Rattle.ep_machine.specs.Files.{Files, is_live, object_of, side_of}
 use Rattle.ep_machine.specs.Lists.{is_among}
 use Rattle.ep_machine.specs.Objects.{is_instance, plain}
@@ -13,78 +12,115 @@ use Rattle.ep_machine.specs.Readiness.{is_fresh, present_of}
 use Rattle.ep_machine.specs.Spread.{raised_of}
 use Rattle.ep_machine.specs.State.{State, Waiter, Watch}
 
-abbrev pub seen_where : Bool → Option Counts
-seen_where fresh = if fresh then None else Some no_counts
+-- a registration: instance and target are numbers of descriptions
+pub record KernelWatch : Type 0 where
+  pub number : ℕ
+  pub instance : ℕ
+  pub fd : ℕ
+  pub target : ℕ
+  pub mask : ℕ
+  pub tag : ℕ
+  pub armed : Bool
+  pub fresh : Bool  -- a bit that it asks for arrived since its last report
+  pub reported_in : ℕ  -- the event of its last report, 0 before the first
+  pub passes_in : ℕ  -- the event in which it passes something on, 0 outside of an event
 
-abbrev pub kernel_watch : State → Watch → Watch
-kernel_watch s x = record x { seen = seen_where (is_fresh s x); from = 0 }
+-- the machine's, between two events
+abbrev pub kernel_watch : State → Watch → KernelWatch
+kernel_watch s x = record {
+  number = x.number;
+  instance = x.instance;
+  fd = x.fd;
+  target = x.target;
+  mask = x.mask;
+  tag = x.tag;
+  armed = x.armed;
+  fresh = is_fresh s x;
+  reported_in = x.rep;
+  passes_in = 0;
+}
 
-abbrev pub kernel_watches : State → List Watch → List Watch
+abbrev pub kernel_watches : State → List Watch → List KernelWatch
 kernel_watches s xs = map (kernel_watch s) xs
 
+-- the one with this number
+abbrev pub view_of : List KernelWatch → ℕ → Option KernelWatch
+view_of xs k = find (λ x. x.number == k) xs
+
+-- What epoll_ctl asks and does.
+abbrev pub is_at : ℕ → ℕ → ℕ → KernelWatch → Bool
+is_at e fd d x = x.instance == e && x.fd == fd && x.target == d
+
+abbrev pub kernel_modified : ℕ → ℕ → ℕ → ℕ → ℕ → KernelWatch → KernelWatch
+kernel_modified e fd d mask tag x = if is_at e fd d x then record x { mask = mask; tag = tag; armed = true; fresh = true } else x
+
+-- Looking down: a registration of an instance passes a test, which asks of the instances below whether they have one that
+-- passes. The longest chain of instances has five.
+abbrev pub any_within : ((ℕ → Bool) → KernelWatch → Bool) → ℕ → List KernelWatch → ℕ → Bool
+any_within test zero xs e = false
+any_within test (suc levels) xs e = list_any (λ x. x.instance == e && test (any_within test levels xs) x) xs
+
+abbrev pub watches_instance : Files → KernelWatch → Bool
+watches_instance files x = is_instance (unwrap_or (object_of files x.target) plain)
+
 -- Readiness, where `ready` says which instances are ready.
-abbrev pub shown_at : (ℕ → Bool) → Files → ℕ → Watch → ℕ
+abbrev pub shown_at : (ℕ → Bool) → Files → ℕ → KernelWatch → ℕ
 shown_at ready files now x = when x.armed (asked x.mask (present_of ready x.target (object_of files x.target) (side_of files x.target) now))
 
 -- an edge-triggered one shows nothing twice
-abbrev pub shows : (ℕ → Bool) → Files → ℕ → Watch → Bool
-shows ready files now x = nat_lt 0 (shown_at ready files now x) && (not (has_bit x.mask ET) || is_none x.seen)
+abbrev pub shows : (ℕ → Bool) → Files → ℕ → KernelWatch → Bool
+shows ready files now x = nat_lt 0 (shown_at ready files now x) && (not (has_bit x.mask ET) || x.fresh)
 
 -- it belongs to this instance and shows something
-abbrev pub shows_in : (ℕ → Bool) → Files → ℕ → ℕ → Watch → Bool
+abbrev pub shows_in : (ℕ → Bool) → Files → ℕ → ℕ → KernelWatch → Bool
 shows_in ready files now e x = x.instance == e && shows ready files now x
 
-abbrev pub ready_within : ℕ → Files → ℕ → List Watch → ℕ → Bool
-ready_within zero files now xs e = false
-ready_within (suc levels) files now xs e = list_any (shows_in (ready_within levels files now xs) files now e) xs
+abbrev pub ready_within : ℕ → Files → ℕ → List KernelWatch → ℕ → Bool
+ready_within levels files now xs e = any_within (λ ready x. shows ready files now x) levels xs e
 
-unfoldable pub ready_now : Files → ℕ → List Watch → ℕ → Bool
+unfoldable pub ready_now : Files → ℕ → List KernelWatch → ℕ → Bool
 ready_now files now xs e = ready_within 5 files now xs e
 
-abbrev pub report_at : (ℕ → Bool) → Files → ℕ → Watch → Report
+abbrev pub report_at : (ℕ → Bool) → Files → ℕ → KernelWatch → Report
 report_at ready files now x = record { bits = record { 0 = shown_at ready files now x }; tag = x.tag }
 
 -- reported in event n, where its number is among these: a one-shot is disarmed
-abbrev pub reported_in : ℕ → List ℕ → Watch → Watch
-reported_in n ks x = if is_among ks x.number then record x { seen = Some no_counts; rep = n; armed = x.armed && not (has_bit x.mask ONESHOT) } else x
+abbrev pub kernel_reported : ℕ → List ℕ → KernelWatch → KernelWatch
+kernel_reported n ks x = if is_among ks x.number then record x { armed = x.armed && not (has_bit x.mask ONESHOT); fresh = false; reported_in = n } else x
 
 -- What is raised.
-abbrev pub stirred : ℕ → Bool → Bool → Watch → Watch
-stirred n arrives passes x = record x { seen = if arrives then None else x.seen; from = if passes then n else x.from }
+abbrev pub stirred : ℕ → Bool → Bool → KernelWatch → KernelWatch
+stirred n arrives passes x = record x { fresh = arrives || x.fresh; passes_in = if passes then n else x.passes_in }
 
 -- where these bits are raised at its target in event n: something that it asks for arrives, and an armed one passes it on
-abbrev pub freshened_by : ℕ → (ℕ → ℕ) → Watch → Watch
+abbrev pub freshened_by : ℕ → (ℕ → ℕ) → KernelWatch → KernelWatch
 freshened_by n bits x = stirred n (brings x.mask (bits x.target)) (x.armed && nat_lt 0 (asked x.mask (bits x.target))) x
 
-abbrev pub freshened : ℕ → List (ℕ × ℕ) → Watch → Watch
+abbrev pub freshened : ℕ → List (ℕ × ℕ) → KernelWatch → KernelWatch
 freshened n raised x = freshened_by n (raised_of raised) x
 
-abbrev pub watches_instance : Files → Watch → Bool
-watches_instance files x = is_instance (unwrap_or (object_of files x.target) plain)
-
 -- where `reached` says which instances IN reaches from below
-abbrev pub carries : (ℕ → Bool) → Files → ℕ → Watch → Bool
-carries reached files n x = x.from == n || x.armed && watches_instance files x && reached x.target && nat_lt 0 (asked x.mask IN)
+abbrev pub carries : (ℕ → Bool) → Files → ℕ → KernelWatch → Bool
+carries reached files n x = x.passes_in == n || x.armed && watches_instance files x && reached x.target && nat_lt 0 (asked x.mask IN)
 
-abbrev pub reached_within : ℕ → Files → ℕ → List Watch → ℕ → Bool
-reached_within zero files n xs e = false
-reached_within (suc levels) files n xs e = list_any (λ x. x.instance == e && carries (reached_within levels files n xs) files n x) xs
+abbrev pub reached_within : ℕ → Files → ℕ → List KernelWatch → ℕ → Bool
+reached_within levels files n xs e = any_within (λ reached x. carries reached files n x) levels xs e
 
-unfoldable pub reached_now : Files → ℕ → List Watch → ℕ → Bool
+unfoldable pub reached_now : Files → ℕ → List KernelWatch → ℕ → Bool
 reached_now files n xs e = reached_within 5 files n xs e
 
 -- and what watches such an instance is fresh
-abbrev pub climbed : (ℕ → Bool) → Files → Watch → Watch
-climbed reached files x = record x { seen = if watches_instance files x && reached x.target && brings x.mask IN then None else x.seen; from = 0 }
+abbrev pub climbed : (ℕ → Bool) → Files → KernelWatch → KernelWatch
+climbed reached files x = record x { fresh = watches_instance files x && reached x.target && brings x.mask IN || x.fresh; passes_in = 0 }
 
-abbrev pub climbed_all : ℕ → Files → List Watch → List Watch
+abbrev pub climbed_all : ℕ → Files → List KernelWatch → List KernelWatch
 climbed_all n files xs = map (climbed (reached_now files n xs) files) xs
 
-abbrev pub settled_watches : ℕ → Files → (Watch → Watch) → List Watch → List Watch
+abbrev pub settled_watches : ℕ → Files → (KernelWatch → KernelWatch) → List KernelWatch → List KernelWatch
 settled_watches n files raise xs = climbed_all n files (map raise xs)
 
 -- its instance and its target live
-abbrev pub stays_in : Files → Watch → Bool
+abbrev pub stays_in : Files → KernelWatch → Bool
 stays_in files x = is_live files x.instance && is_live files x.target
 
 -- a waiter whose instance stands under another number

@@ -10,7 +10,7 @@ pub returns-in-Delete-clause-nested : goal.returns-in-Delete-clause-nested
 returns-in-Delete-clause-nested c = λ tables nested.
     let r = c.args.interest.now in
     let k = unwrap_or (number_under r c.args.id) 0 in
-    let is : c.link_name.result.0 ≡ k = c.link_name.ensures ∙ sym (ap (λ o. unwrap_or o 0) c.entry.ensures.number) in
+    let is : c.entry.result.now.number ≡ k = sym (ap (λ o. unwrap_or o 0) c.entry.ensures.number) in
     c.unlink.ensures
     ∙ ((λ i. without (is i) (nested i))
     ∙ (links_filtered (is_nested tables) (λ l. not (l.entry.0 == k)) r.entries

@@ -1,4 +1,4 @@
-use Rattle.std.proofs.Common.{◌≡◌, ◌∙◌, ◌&&◌, ◌||◌, ◌==◌, ℕ, Bool, Option, ap, if◌then◌else◌, is_none, is_some, nat_lt, not, sym, unwrap_or}
+use Rattle.std.proofs.Common.{◌≡◌, ◌∙◌, ◌&&◌, ◌||◌, ◌==◌, ℕ, Bool, Option, ap, if◌then◌else◌, is_some, nat_lt, not, sym, unwrap_or}
 use Rattle.ep_machine.specs.Bits.{ET, has_bit}
 use Rattle.ep_interest.specs.Registrations.{has_key, number_under, numbered}
 use Rattle.ep_calls.specs.Readiness.{entry_shows, readiness}
@@ -32,7 +32,7 @@ returns-then-not-is_reportable c =
     let one = one_looked r n.instance c.args.fd n.desc k x (entry_shows (readiness v c.args.now r) v c.args.now) c.known.ensures (sym c.find.ensures.there ∙ ap (λ o. is_some o) c.in-Some.is) c.in-Some.ensures.entry (ap (numbered r.entries) is ∙ c.entry-entry.ensures.entry) in
     ap (λ (b : Bool). if b then Instance n.instance else Nowhere)
     (sym (one
-    ∙ (ap (λ (b : ℕ). nat_lt 0 b && (not (has_bit x.mask.0 ET) || is_none x.seen)) (sym c.shown.ensures) ∙ (sym c.is_reportable.ensures ∙ c.if-not-is_reportable.true))))
+    ∙ (ap (λ (b : ℕ). nat_lt 0 b && (not (has_bit x.mask.0 ET) || x.fresh)) (sym c.shown.ensures) ∙ (sym c.is_reportable.ensures ∙ c.if-not-is_reportable.true))))
 
 pub returns : goal.returns
 returns c =
@@ -45,4 +45,4 @@ returns c =
     let one = one_looked r n.instance c.args.fd n.desc k x (entry_shows (readiness v c.args.now r) v c.args.now) c.known.ensures (sym c.find.ensures.there ∙ ap (λ o. is_some o) c.in-Some.is) c.in-Some.ensures.entry (ap (numbered r.entries) is ∙ c.entry-entry.ensures.entry) in
     ap (λ (b : Bool). if b then Instance n.instance else Nowhere)
     (sym (one
-    ∙ (ap (λ (b : ℕ). nat_lt 0 b && (not (has_bit x.mask.0 ET) || is_none x.seen)) (sym c.shown.ensures) ∙ (sym c.is_reportable.ensures ∙ c.if-not-is_reportable.false))))
+    ∙ (ap (λ (b : ℕ). nat_lt 0 b && (not (has_bit x.mask.0 ET) || x.fresh)) (sym c.shown.ensures) ∙ (sym c.is_reportable.ensures ∙ c.if-not-is_reportable.false))))

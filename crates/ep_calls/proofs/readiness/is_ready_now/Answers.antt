@@ -3,4 +3,4 @@ use Rattle.ep_calls.proofs.readiness.is_ready_now.Goals as goal
 
 pub returns : goal.returns
 unfolding ready_now
-returns c = c.is_ready.ensures
+returns c = c.any_below.ensures

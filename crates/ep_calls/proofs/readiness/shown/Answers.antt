@@ -18,7 +18,7 @@ returns c =
     let kind = same_kind (object_of v.files d) c.object.result.now c.object.ensures in
     let is : c.if-is_instance.below ≡ (is_instance (unwrap_or (object_of v.files d) plain) && ready d) =
     elim c.if-is_instance.branch [
-      | then-is_instance w ↦ w.below-is ∙ (w.is_ready-below.ensures ∙ ap (λ (b : Bool). b && ready d) (sym (kind ∙ (sym c.is_instance.ensures ∙ w.if-is_instance.true))))
+      | then-is_instance w ↦ w.below-is ∙ (w.is_ready_now-below.ensures ∙ ap (λ (b : Bool). b && ready d) (sym (kind ∙ (sym c.is_instance.ensures ∙ w.if-is_instance.true))))
       | else-is_instance w ↦ w.below-is ∙ (w.if-is_instance.false ∙ ap (λ (b : Bool). b && ready d) (sym (kind ∙ (sym c.is_instance.ensures ∙ w.if-is_instance.false))))
     ] in
     c.shown_at.ensures ∙ shown_below ready v c.args.now c.if-is_instance.below x (below_is (is_instance (unwrap_or (object_of v.files d) plain)) (ready d) c.if-is_instance.below is)

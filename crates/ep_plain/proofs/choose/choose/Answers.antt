@@ -19,7 +19,7 @@ returns c =
       found = map (λ (x : Reportable). x.entry) c.sort_by_key.new.self.items;
       moved = subst (λ (xs : List Entry). IsPermutation xs (map (λ (x : Reportable). x.entry) c.sort_by_key.new.self.items)) c.in_ok-chosen.ensures.entries
           (IsPermutation-map (λ (x : Reportable). x.entry) c.in_ok-chosen.chosen.items c.sort_by_key.new.self.items c.sort_by_key.ensures.permutation);
-      sorted = sorted_entries c.sort_by_key.new.self.items (IsNonDecreasingBy-from_sort_by_key (λ (x : Reportable). x.entry.rep) _ c.in_ok-sort_by_key.ensures.sorted (λ a r q k. search rules));
+      sorted = sorted_entries c.sort_by_key.new.self.items (IsNonDecreasingBy-from_sort_by_key (λ (x : Reportable). x.entry.reported_in) _ c.in_ok-sort_by_key.ensures.sorted (λ a r q k. search rules));
       taken = ap (map (λ (x : Reportable). x.entry)) (c.truncate.ensures.items ∙ ap (λ (n : ℕ). take n c.sort_by_key.new.self.items) count) ∙ sym (take-map (λ (x : Reportable). x.entry) (number_in c.args.max) c.sort_by_key.new.self.items);
       keyed =
           let P = IsKeyed c.args.tables.now c.args.now c.args.interest.now in

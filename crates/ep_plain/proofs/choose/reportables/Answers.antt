@@ -1,4 +1,4 @@
-use Rattle.std.proofs.Common.{◌≡◌, Some, ℕ, nat_lt, not, is_none, ◌&&◌, ◌||◌, ◌++◌, [], List, filter, sym, ap, ◌∙◌, subst, append-nil, refl}
+use Rattle.std.proofs.Common.{◌≡◌, Some, ℕ, nat_lt, not, ◌&&◌, ◌||◌, ◌++◌, [], List, filter, sym, ap, ◌∙◌, subst, append-nil, refl}
 use Rattle.std.proofs.lemmas.List.Elements.{All-filter, All-from_recursion}
 use Rattle.ep_base.specs.declared.ids.EntryId.{EntryId}
 use Rattle.ep_machine.specs.Bits.{ET, has_bit}
@@ -38,7 +38,7 @@ loop-id-preserved-in-Continue-1 c =
     let x : Reportable = record { id = c.in-Some.id; entry = c.in-Some.entry.now; bits = c.shown-bits.result } in
     subst (λ (found : List Reportable). Collects v c.args.now r found c.next.new.self all) (sym c.in_ok-push.ensures.items)
     (collects_more v c.args.now r c.loop-id.found.items c.in-Some.id c.in-Some.entry.now c.next.new.self all (subst P c.in-Some.ensures.steps c.loop-id.invariant) x refl refl c.shown-bits.ensures
-    (ap (λ (b : ℕ). nat_lt 0 b && (not (has_bit c.in-Some.entry.now.mask.0 ET) || is_none c.in-Some.entry.now.seen)) (sym c.shown-bits.ensures) ∙ (sym c.is_reportable.ensures ∙ c.if-is_reportable.true)))
+    (ap (λ (b : ℕ). nat_lt 0 b && (not (has_bit c.in-Some.entry.now.mask.0 ET) || c.in-Some.entry.now.fresh)) (sym c.shown-bits.ensures) ∙ (sym c.is_reportable.ensures ∙ c.if-is_reportable.true)))
 
 pub loop-id-preserved : goal.loop-id-preserved
 loop-id-preserved c =
@@ -47,7 +47,7 @@ loop-id-preserved c =
     let all = filter (entry_shows (readiness v c.args.now r) v c.args.now) (filter (is_of c.args.instance) r.entries) in
     let P : List (EntryId × Entry) → Type 0 = λ rest. Collects v c.args.now r c.loop-id.found.items rest all in
     collects_same v c.args.now r c.loop-id.found.items c.in-Some.id c.in-Some.entry.now c.next.new.self all (subst P c.in-Some.ensures.steps c.loop-id.invariant)
-    (ap (λ (b : ℕ). nat_lt 0 b && (not (has_bit c.in-Some.entry.now.mask.0 ET) || is_none c.in-Some.entry.now.seen)) (sym c.shown-bits.ensures) ∙ (sym c.is_reportable.ensures ∙ c.if-is_reportable.false))
+    (ap (λ (b : ℕ). nat_lt 0 b && (not (has_bit c.in-Some.entry.now.mask.0 ET) || c.in-Some.entry.now.fresh)) (sym c.shown-bits.ensures) ∙ (sym c.is_reportable.ensures ∙ c.if-is_reportable.false))
 
 pub returns-clause-entries : goal.returns-clause-entries
 returns-clause-entries c =

@@ -10,7 +10,7 @@ use Rattle.ep_calls.specs.Climb.{is_nested, link_of}
 use Rattle.ep_plain.specs.Climb.{climbs_to}
 use Rattle.ep_calls.specs.Readiness.{watches_of}
 use Rattle.ep_calls.specs.Stands.{IsLinked, number_at, watch_at}
-use Rattle.ep_plain.proofs.ClimbLemmas.{LeadsToLive, climbed_is, climbs_none, climbs_on, inners, inners_of, linked_climbs, linked_settled, links_live, map_climbs_more, reached_seen, seen_after}
+use Rattle.ep_plain.proofs.ClimbLemmas.{LeadsToLive, climbed_is, climbs_none, climbs_on, inners, inners_of, linked_climbs, linked_settled, links_live, map_climbs_more, reached_fresh, fresh_after}
 use Rattle.ep_calls.proofs.Nesting.{links_mapped}
 use Rattle.ep_plain.proofs.climb.climb_links.Goals as goal
 
@@ -51,7 +51,7 @@ loop-link-preserved c =
     let entries =
     c.climb_to.ensures.entries
     ∙ (ap (λ (xs : List Entry). map (climbs_to (reached_now v.files n (map (watch_at v.keys) xs) (number_at v.keys inner)) inner) xs) c.loop-link.invariant.entries
-    ∙ (ap (λ (r : ℕ → Bool). map (climbs_to (r (number_at v.keys inner)) inner) (map (climbs_on reached v.keys ds) old.entries)) (reached_seen v.keys v.files n (seen_after reached v.keys ds) old.entries)
+    ∙ (ap (λ (r : ℕ → Bool). map (climbs_to (r (number_at v.keys inner)) inner) (map (climbs_on reached v.keys ds) old.entries)) (reached_fresh v.keys v.files n (fresh_after reached v.keys ds) old.entries)
     ∙ (map_climbs_more reached v.keys ds inner old.entries
     ∙ ap (λ (ks : List DescId). map (climbs_on reached v.keys ks) old.entries) (sym (map_more (λ (l : Link). l.inner) ls i nowhere c.loop-link-test.true))))) in
     record { entries = entries; added = c.climb_to.ensures.added ∙ c.loop-link.invariant.added }

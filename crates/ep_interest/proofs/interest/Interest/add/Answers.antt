@@ -11,9 +11,9 @@ use Rattle.ep_interest.specs.Places.{place_cmp}
 use Rattle.ep_interest.specs.View.{IsIndex, instance_of, target_of, key_of, place_of, registrations, same_key}
 use Rattle.ep_interest.specs.declared.entry.Entry.{Entry}
 use Rattle.ep_interest.specs.declared.place.Place.{Place}
-use Rattle.ep_interest.proofs.Adding.{Inserted, put_back, same_place_exact, entries_more, fresh_place, inserted, key_more, keys_more, numbers_more, on_ok, place_more}
-use Rattle.ep_interest.proofs.Indexed.{index_same}
-use Rattle.ep_interest.proofs.Sets.{find_none}
+use Rattle.ep_interest.proofs.AddLemmas.{Inserted, put_back, same_place_exact, entries_more, fresh_place, inserted, key_more, keys_more, numbers_more, on_ok, place_more}
+use Rattle.ep_interest.proofs.IndexLemmas.{index_same}
+use Rattle.ep_interest.proofs.KeyLemmas.{find_none}
 use Rattle.ep_interest.proofs.interest.Interest.add.Given.{Over}
 use Rattle.ep_interest.proofs.interest.Interest.add.Goals as goal
 

@@ -1,4 +1,4 @@
-use Rattle.std.proofs.Common.{◌≡◌, ℕ, Some, ap, map, refl, set, subst, sym, unwrap_or, ◌∙◌, true, None}
+use Rattle.std.proofs.Common.{◌≡◌, ℕ, Some, ap, map, refl, set, subst, sym, unwrap_or, ◌∙◌, true}
 use Rattle.std.specs.BTreeMap as tree
 use Rattle.std.specs.HashMap as hash
 use Rattle.ep_interest.specs.ByNumber.{in_order}
@@ -6,14 +6,14 @@ use Rattle.ep_interest.specs.Registrations.{Registrations, modified, number_unde
 use Rattle.ep_interest.specs.Places.{place_cmp}
 use Rattle.ep_interest.specs.View.{instance_of, target_of, key_of, place_of, same_key}
 use Rattle.ep_interest.specs.declared.entry.Entry.{Entry}
-use Rattle.ep_interest.proofs.Held.{held_next, numbered_next}
-use Rattle.ep_interest.proofs.Indexed.{index_next}
-use Rattle.ep_interest.proofs.Noting.{Replaced, keys_same, modified_other, modified_this, number_is, replaced}
+use Rattle.ep_interest.proofs.InOrderLemmas.{held_next, numbered_next}
+use Rattle.ep_interest.proofs.IndexLemmas.{index_next}
+use Rattle.ep_interest.proofs.ReplaceLemmas.{Replaced, keys_same, modified_other, modified_this, number_is, replaced}
 use Rattle.ep_interest.proofs.interest.Interest.modify.Given.{Over}
 use Rattle.ep_interest.proofs.interest.Interest.modify.Goals as goal
 
 abbrev next : (g : Over) (c : goal.After-self-1 g) → Entry
-next g c = record c.index_mut-changed.result.now { mask = c.args.mask; tag = c.args.tag; armed = true; seen = None }
+next g c = record c.index_mut-changed.result.now { mask = c.args.mask; tag = c.args.tag; armed = true; fresh = true }
 
 in_slots : (g : Over) (c : goal.After-self-1 g) → Replaced c.self.inside.slots.slots (set c.self.inside.slots.slots c.args.id.0 (Some (next g c))) c.args.id.0 c.index_mut-changed.result.now (next g c)
 in_slots g c = replaced c.self.inside.slots.slots c.args.id.0 c.index_mut-changed.result.now (next g c) c.index_mut-changed.ensures.value

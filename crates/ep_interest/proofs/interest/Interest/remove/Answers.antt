@@ -7,11 +7,11 @@ use Rattle.ep_interest.specs.Places.{place_cmp}
 use Rattle.ep_interest.specs.Registrations.{Registrations, is_other, number_under}
 use Rattle.ep_interest.specs.View.{IsIndex, instance_of, key_of, number_in, place_of, same_key, target_of}
 use Rattle.ep_interest.specs.declared.entry.Entry.{Entry}
-use Rattle.ep_interest.proofs.Adding.{same_place_exact, same_place_self}
-use Rattle.ep_interest.proofs.Indexed.{index_less}
-use Rattle.ep_interest.proofs.Noting.{number_is}
-use Rattle.ep_interest.proofs.Removing.{Emptied, held_less, keys_less, numbered_less}
-use Rattle.ep_interest.proofs.Sets.{same_key_exact, same_key_self}
+use Rattle.ep_interest.proofs.AddLemmas.{same_place_exact, same_place_self}
+use Rattle.ep_interest.proofs.IndexLemmas.{index_less}
+use Rattle.ep_interest.proofs.ReplaceLemmas.{number_is}
+use Rattle.ep_interest.proofs.RemoveLemmas.{Emptied, held_less, keys_less, numbered_less}
+use Rattle.ep_interest.proofs.KeyLemmas.{same_key_exact, same_key_self}
 use Rattle.ep_interest.proofs.interest.Interest.remove.Given.{Over}
 use Rattle.ep_interest.proofs.interest.Interest.remove.Goals as goal
 

@@ -4,7 +4,7 @@ use Rattle.ep_interest.specs.ByNumber.{in_order}
 use Rattle.ep_interest.specs.Registrations.{Registrations, settled}
 use Rattle.ep_interest.specs.View.{number_in}
 use Rattle.ep_interest.specs.declared.entry.Entry.{Entry}
-use Rattle.ep_interest.proofs.Raising.{settled_keeps, in_order_changed, interest_changed, keys_changed, retained_map}
+use Rattle.ep_interest.proofs.ChangeLemmas.{settled_keeps, in_order_changed, interest_changed, keys_changed, retained_map}
 use Rattle.ep_interest.proofs.interest.Interest.settle.Given.{Over}
 use Rattle.ep_interest.proofs.interest.Interest.settle.Goals as goal
 

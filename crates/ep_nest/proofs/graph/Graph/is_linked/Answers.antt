@@ -1,7 +1,7 @@
 use Rattle.std.proofs.Common.{List, ap, ◌∙◌}
 use Rattle.std.specs.List.{list_any}
 use Rattle.ep_machine.specs.Lists.{is_among}
-use Rattle.ep_nest.proofs.Allowed.{of_entry}
+use Rattle.ep_nest.proofs.MayAddLemmas.{of_entry}
 use Rattle.ep_nest.specs.Links.{entries, is_of}
 use Rattle.ep_nest.specs.declared.link.Link.{Link}
 use Rattle.ep_nest.proofs.graph.Graph.is_linked.Goals as goal

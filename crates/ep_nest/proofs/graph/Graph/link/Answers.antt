@@ -2,7 +2,7 @@ use Rattle.std.proofs.Common.{Bool, List, [], ap, arith, false, length, subst, s
 use Rattle.std.proofs.lemmas.List.{length_push}
 use Rattle.ep_machine.specs.Lists.{is_among}
 use Rattle.ep_machine.specs.Watches.{is_legal}
-use Rattle.ep_nest.proofs.Kept.{distinct_pushed, kept_grown, legal_pushed, places_down, places_pushed}
+use Rattle.ep_nest.proofs.ScratchLemmas.{distinct_pushed, kept_grown, legal_pushed, places_down, places_pushed}
 use Rattle.ep_nest.specs.Lengths.{AreLengths, HasPlaces}
 use Rattle.ep_nest.specs.Links.{along, edges, entries}
 use Rattle.ep_nest.specs.Scratch.{IsKept}

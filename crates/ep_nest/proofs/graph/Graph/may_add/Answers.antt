@@ -1,7 +1,7 @@
 use Rattle.std.proofs.Common.{List, ap, arith, refl, slice_index, sym, true, ℕ, ◌+◌, ◌<◌, ◌∙◌, ◌∷◌, ◌≡◌}
 use Rattle.std.proofs.lemmas.Bool.{eqb-false, eqb-true}
 use Rattle.ep_machine.specs.Watches.{is_legal}
-use Rattle.ep_nest.proofs.Allowed.{between, fits_if_legal, legal_if_fits, machine_from_words, not_between, words_from_machine}
+use Rattle.ep_nest.proofs.MayAddLemmas.{between, fits_if_legal, legal_if_fits, machine_from_words, not_between, words_from_machine}
 use Rattle.ep_nest.specs.Links.{edges, is_between}
 use Rattle.ep_nest.specs.declared.link.Link.{Link}
 use Rattle.std.specs.List.{list_any}

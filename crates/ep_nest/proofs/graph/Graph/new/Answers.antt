@@ -1,4 +1,4 @@
-use Rattle.ep_nest.proofs.Kept.{kept_none}
+use Rattle.ep_nest.proofs.ScratchLemmas.{kept_none}
 use Rattle.ep_nest.proofs.graph.Graph.new.Goals as goal
 
 pub invariant_of-result : goal.invariant_of-result

@@ -1,6 +1,6 @@
 use Rattle.std.proofs.Common.{Bool, List, ap, filter, length, not, rules, subst, ◌∙◌, ◌≡◌}
 use Rattle.std.proofs.lemmas.Fn.{filter_same}
-use Rattle.ep_nest.proofs.Kept.{kept_left, legal_left, places_down, places_left}
+use Rattle.ep_nest.proofs.ScratchLemmas.{kept_left, legal_left, places_down, places_left}
 use Rattle.ep_nest.specs.Links.{is_of}
 use Rattle.ep_nest.specs.Scratch.{IsKept}
 use Rattle.ep_nest.specs.declared.link.Link.{Link}

@@ -4,7 +4,7 @@ use Rattle.ep_machine.specs.Watches.{is_legal}
 use Rattle.std.proofs.lemmas.Bool.Decides.{nat_tests}
 use Rattle.ep_nest.proofs.Addition.{Fits, fits_from_short, stays_short}
 use Rattle.ep_nest.proofs.Chains.{legal_from_short, short_from_legal}
-use Rattle.ep_nest.proofs.Kept.{chain_down, chain_up}
+use Rattle.ep_nest.proofs.ScratchLemmas.{chain_down, chain_up}
 use Rattle.ep_nest.proofs.Legality.{is_legal_from_short, short_from_is_legal}
 use Rattle.ep_nest.specs.Chains.{IsLegalGraph, LeadsBy}
 use Rattle.ep_nest.specs.Links.{edges, ends_of, entries, is_between, is_of}

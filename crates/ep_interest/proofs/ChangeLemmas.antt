@@ -1,5 +1,5 @@
 -- What a closure leaves that is called at each registration, and what an arrival keeps.
-use Rattle.std.proofs.Common.{if◌then◌else◌, ◌≡◌, ◌∙◌, ◌+◌, ◌<◌, ◌≤◌, ◌==◌, ◌&&◌, ℕ, zero, suc, Bool, true, false, List, [], ◌∷◌, None, Option, Some, MutBor, ap, cond, get_or, map, nat_lt, refl, subst, sym, unwrap_or}
+use Rattle.std.proofs.Common.{if◌then◌else◌, ◌≡◌, ◌∙◌, ◌+◌, ◌<◌, ◌≤◌, ◌==◌, ◌&&◌, ◌||◌, ℕ, zero, suc, Bool, true, false, List, [], ◌∷◌, None, Option, Some, MutBor, ap, cond, get_or, map, nat_lt, refl, subst, sym, unwrap_or}
 use Rattle.std.proofs.lemmas.Option.{none-some}
 use Rattle.std.specs.List.{cons_option, filter_map, range_with_len}
 use Rattle.std.specs.Option.{option_map}
@@ -93,10 +93,10 @@ pub record Keeps (f : Entry → Entry) : Type 0 where
 
 pub freshened_keeps : (desc : DescId) (bits : Mask) → Keeps (freshened_on desc bits)
 freshened_keeps desc bits = record {
-  number = λ x. elim (is_on desc x && brings x.mask.0 bits.0) as (λ b. (cond b (record x { seen = None }) x).number ≡ x.number) [ true ↦ refl | false ↦ refl ];
-  instance = λ x. elim (is_on desc x && brings x.mask.0 bits.0) as (λ b. (cond b (record x { seen = None }) x).instance ≡ x.instance) [ true ↦ refl | false ↦ refl ];
-  target = λ x. elim (is_on desc x && brings x.mask.0 bits.0) as (λ b. (cond b (record x { seen = None }) x).desc ≡ x.desc) [ true ↦ refl | false ↦ refl ];
-  descriptor = λ x. elim (is_on desc x && brings x.mask.0 bits.0) as (λ b. (cond b (record x { seen = None }) x).fd ≡ x.fd) [ true ↦ refl | false ↦ refl ];
+  number = λ x. elim (is_on desc x && brings x.mask.0 bits.0) as (λ b. (cond b (record x { fresh = true }) x).number ≡ x.number) [ true ↦ refl | false ↦ refl ];
+  instance = λ x. elim (is_on desc x && brings x.mask.0 bits.0) as (λ b. (cond b (record x { fresh = true }) x).instance ≡ x.instance) [ true ↦ refl | false ↦ refl ];
+  target = λ x. elim (is_on desc x && brings x.mask.0 bits.0) as (λ b. (cond b (record x { fresh = true }) x).desc ≡ x.desc) [ true ↦ refl | false ↦ refl ];
+  descriptor = λ x. elim (is_on desc x && brings x.mask.0 bits.0) as (λ b. (cond b (record x { fresh = true }) x).fd ≡ x.fd) [ true ↦ refl | false ↦ refl ];
 }
 
 pub raised_keeps : (desc : DescId) (bits : Mask) (event : ℕ) → Keeps (raised_on desc bits event)
@@ -107,7 +107,7 @@ raised_keeps desc bits event = record {
   descriptor = λ x. elim (is_on desc x) as (λ b. (cond b (changed x) x).fd ≡ x.fd) [ true ↦ refl | false ↦ refl ];
 } where
   changed : Entry → Entry
-  changed x = record x { seen = if brings x.mask.0 bits.0 then None else x.seen; from = if x.armed && nat_lt 0 (asked x.mask.0 bits.0) then event else x.from }
+  changed x = record x { fresh = brings x.mask.0 bits.0 || x.fresh; passes_in = if x.armed && nat_lt 0 (asked x.mask.0 bits.0) then event else x.passes_in }
 
 pub settled_keeps : Keeps settled
 settled_keeps = record { number = λ x. refl; instance = λ x. refl; target = λ x. refl; descriptor = λ x. refl }

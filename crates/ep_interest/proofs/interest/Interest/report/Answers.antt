@@ -1,0 +1,41 @@
+use Rattle.std.proofs.Common.{◌≡◌, ℕ, false, Some, ap, map, refl, set, subst, sym, unwrap_or, ◌∙◌}
+use Rattle.std.specs.BTreeMap as tree
+use Rattle.std.specs.HashMap as hash
+use Rattle.ep_interest.specs.ByNumber.{in_order}
+use Rattle.ep_interest.specs.Registrations.{Registrations, number_under, reported}
+use Rattle.ep_interest.specs.Places.{place_cmp}
+use Rattle.ep_interest.specs.View.{instance_of, target_of, key_of, place_of, same_key}
+use Rattle.ep_interest.specs.declared.entry.Entry.{Entry}
+use Rattle.ep_interest.proofs.InOrderLemmas.{held_next, numbered_next}
+use Rattle.ep_interest.proofs.IndexLemmas.{index_next}
+use Rattle.ep_interest.proofs.ReplaceLemmas.{Replaced, keys_same, number_is, replaced, reported_other, reported_this}
+use Rattle.ep_interest.proofs.interest.Interest.report.Given.{Over}
+use Rattle.ep_interest.proofs.interest.Interest.report.Goals as goal
+
+abbrev next : (g : Over) (c : goal.After-self-1 g) → Entry
+next g c = record c.index_mut-entry.result.now { armed = c.stays_armed.result; fresh = false; reported_in = c.args.event }
+
+in_slots : (g : Over) (c : goal.After-self-1 g) → Replaced c.self.inside.slots.slots (set c.self.inside.slots.slots c.args.id.0 (Some (next g c))) c.args.id.0 c.index_mut-entry.result.now (next g c)
+in_slots g c = replaced c.self.inside.slots.slots c.args.id.0 c.index_mut-entry.result.now (next g c) c.index_mut-entry.ensures.value
+
+pub invariant_of-self : goal.invariant_of-self
+invariant_of-self g c =
+    let k = c.self.inside in let x = c.index_mut-entry.result.now in let s = in_slots g c in
+    let after = set k.slots.slots c.args.id.0 (Some (next g c)) in
+    record {
+      numbered = numbered_next k.slots.slots after c.args.id.0 x (next g c) s.was s.here s.others refl k.added c.self.invariant.numbered;
+      by_key = index_next key_of k.slots.slots after c.args.id.0 x (next g c) s.was s.here s.others refl (hash.get same_key k.by_key) c.self.invariant.by_key;
+      by_instance = index_next (place_of instance_of) k.slots.slots after c.args.id.0 x (next g c) s.was s.here s.others refl (tree.get place_cmp k.by_instance) c.self.invariant.by_instance;
+      by_target = index_next (place_of target_of) k.slots.slots after c.args.id.0 x (next g c) s.was s.here s.others refl (tree.get place_cmp k.by_target) c.self.invariant.by_target;
+    }
+
+pub returns-clause-entries : goal.returns-clause-entries
+returns-clause-entries g c =
+    let k = c.self.inside in let x = c.index_mut-entry.result.now in let s = in_slots g c in
+    let after = set k.slots.slots c.args.id.0 (Some (next g c)) in
+    let h = held_next k.slots.slots after c.args.id.0 x (next g c) s.was s.here s.others refl k.added c.self.invariant.numbered (reported x.number c.args.event) (reported_this x c.args.event ∙ (λ i. record x { armed = sym c.stays_armed.ensures i; fresh = false; reported_in = c.args.event })) (λ z ne. reported_other x.number z c.args.event ne) in
+    subst (λ (r : Registrations). in_order after k.added ≡ map (reported (unwrap_or (number_under r c.args.id) 0) c.args.event) r.entries) c.self.view_is
+    (h ∙ ap (λ (n : ℕ). map (reported n c.args.event) (in_order k.slots.slots k.added)) (sym (number_is k.slots.slots c.args.id.0 x s.was)))
+
+pub returns-clause-keys : goal.returns-clause-keys
+returns-clause-keys g c = keys_same c.self.inside.slots.slots c.args.id.0 c.index_mut-entry.result.now (next g c) c.index_mut-entry.ensures.value refl ∙ ap (λ (r : Registrations). r.keys) c.self.view_is
