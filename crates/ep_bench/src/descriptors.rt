@@ -1,5 +1,5 @@
 //! Descriptors come and go.
-ghost use Rattle.std.specs.Prelude.{◌≡◌, ◌+◌, ◌<◌, ◌≤◌, ◌^◌, length};
+ghost use Rattle.std.specs.Prelude.{◌<◌, ◌^◌};
 
 use ep_base::{Answer, Fd, Limits, Pid};
 use ep_object::Object;
@@ -18,21 +18,16 @@ fn limits() -> Limits {
 }
 
 /// Whether the process got a descriptor of a new instance.
-fn open(tables: &mut Tables) -> Result<bool, AllocError>
-    requires descriptions { length tables.old.files.descriptions + 2 < 2 ^ 64 }
-    requires objects { length tables.old.files.objects + 2 < 2 ^ 64 }
-    ensures descriptions { length tables.new.files.descriptions ≤ length tables.old.files.descriptions + 1 }
-    ensures objects { length tables.new.files.objects ≤ length tables.old.files.objects + 1 }
-{
+fn open(tables: &mut Tables) -> Result<bool, AllocError> {
+    if !tables.has_process(PROCESS) {
+        return Ok(false);
+    }
     let answer = tables.create(PROCESS, false, Object::instance())?;
     Ok(matches!(answer, Answer::Num(_)))
 }
 
 /// Opens so many descriptors, or as many as the limits allow, and answers how many.
-fn open_all(tables: &mut Tables, count: u32) -> Result<u32, AllocError>
-    requires descriptions { length tables.old.files.descriptions ≤ 1 }
-    requires objects { length tables.old.files.objects ≤ 1 }
-{
+fn open_all(tables: &mut Tables, count: u32) -> Result<u32, AllocError> {
     let mut opened = 0;
     for number in 0..count {
         if open(tables)? {
@@ -47,7 +42,9 @@ fn close_below(tables: &mut Tables, end: u32)
     requires { end < 2 ^ 31 }
 {
     for number in 0..end {
-        tables.close(PROCESS, Fd(number as i32));
+        if tables.has_process(PROCESS) {
+            tables.close(PROCESS, Fd(number as i32));
+        }
         tables.take_dead();
     }
 }

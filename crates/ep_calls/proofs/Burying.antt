@@ -1,8 +1,8 @@
 -- Descriptions die one by one, and the registrations that go with each.
-use Rattle.std.proofs.Common.{nat_lt, ◌≡◌, ◌≢◌, ◌∙◌, ◌==◌, ◌&&◌, ◌||◌, ◌++◌, ℕ, zero, suc, All, Bool, true, false, IsSome, List, [], ◌∷◌, None, Option, Some, ap, append_assoc, arith, cond, filter, get_or, inl, inr, length, map, not, refl, set, slice_index_or, subst, sym, unwrap_or}
+use Rattle.std.proofs.Common.{nat_lt, ◌≡◌, ◌≢◌, ◌∙◌, ◌==◌, ◌&&◌, ◌||◌, ◌++◌, ℕ, zero, suc, All, Bool, true, false, IsSome, List, [], ◌∷◌, None, Option, Some, ap, append_assoc, arith, cond, filter, get_or, inl, inr, map, not, refl, set, slice_index_or, subst, sym, unwrap_or}
 use Rattle.std.proofs.lemmas.Bool.{cases_Bool, false≢true}
 use Rattle.std.proofs.lemmas.Bool.Decides.{nat_tests}
-use Rattle.std.proofs.lemmas.List.{length-set, map-append}
+use Rattle.std.proofs.lemmas.List.{map-append}
 use Rattle.std.proofs.lemmas.Option.{none-some}
 use Rattle.std.proofs.lemmas.List.Elements.{All-cons, All-head, All-nil, All-tail}
 use Rattle.ep_base.specs.declared.ids.DescId.{DescId}
@@ -295,8 +295,6 @@ buries_none n v r linked = record {
   numbers = refl;
   placed = tt;
   files = refl;
-  descriptions = refl;
-  objects = refl;
   limits = refl;
   holds = refl;
   keys = λ key d h. h;
@@ -327,8 +325,6 @@ module _ (n : ℕ) (v0 v w : Seen) (r0 r q : Registrations) (dead : Dead) (befor
         ∙ (ap (λ (ks : List ℕ). numbers before.dead ++ ks) (sym takes.dying) ∙ before.numbers));
     placed = placed_more v0.files before.dead one before.placed placed;
     files = files_next;
-    descriptions = ap (λ (f : Files). length f.descriptions) takes.files ∙ (length-set v.files.descriptions takes.number None ∙ before.descriptions);
-    objects = ap (λ (f : Files). length f.objects) takes.files ∙ (length-set v.files.objects takes.place.object _ ∙ before.objects);
     limits = takes.limits ∙ before.limits;
     holds = takes.holds ∙ before.holds;
     keys = λ key d h. before.keys key d (key_before v w dead takes sound n m m_is key d h);

@@ -1,5 +1,5 @@
 -- epoll_ctl over the parts.
-use Rattle.std.proofs.Common.{◌≡◌, ◌∙◌, ◌+◌, ◌++◌, ◌≤◌, ◌==◌, ℕ, All, Bool, List, [], ◌∷◌, None, Option, Some, true, false, ap, arith, cond, length, nat_le, refl, subst, sym, unwrap_or}
+use Rattle.std.proofs.Common.{◌≡◌, ◌∙◌, ◌+◌, ◌++◌, ◌≤◌, ◌==◌, ℕ, All, Bool, List, [], ◌∷◌, None, Option, Some, true, false, ap, cond, length, nat_le, refl, subst, sym, unwrap_or}
 use Rattle.std.specs.Prelude.{MatchBool}
 use Rattle.std.proofs.lemmas.List.Elements.{All-append, All-cons, All-filter, All-map, All-nil, All-weaker}
 use Rattle.ep_base.specs.declared.answer.Answer.{Answer}
@@ -87,5 +87,5 @@ ctl_does p interest graph pid args answer outcome told none is added n caller bo
       raising = is;
       limits = refl;
       keys = λ key d h. h;
-      grows = record { added = added; descriptions = omega arith; objects = omega arith };
+      grows = record { added = added };
     }

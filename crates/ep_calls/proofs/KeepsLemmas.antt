@@ -6,7 +6,6 @@ use Rattle.ep_base.specs.declared.call.Event.{Event}
 use Rattle.ep_base.specs.declared.ids.CallerId.{CallerId}
 use Rattle.ep_base.specs.declared.record.Record.{Record}
 use Rattle.ep_interest.specs.Registrations.{Registrations}
-use Rattle.ep_machine.specs.Files.{Files}
 use Rattle.ep_machine.specs.Marks.{marked_by}
 use Rattle.ep_machine.specs.Refusal.{refusals}
 use Rattle.ep_machine.specs.Run.{run}
@@ -49,8 +48,6 @@ keeps_opening limits p h = record {
   };
   few = record {
     added = omega (arith, ap (λ (r : Registrations). r.added) h.interest);
-    descriptions = omega (arith, ap (λ (f : Files). length f.descriptions) h.files);
-    objects = omega (arith, ap (λ (f : Files). length f.objects) h.files);
   };
 }
 
@@ -140,8 +137,6 @@ module _ (past : List Record) (old mid noted buried climbed new : Parts) (keeps 
         (settles.marks ∙ ap (λ (p : Parts). marked_by (ready_key p.tables p.clock p.interest) p.clock p.parked) settles.climbed_others) next.stands;
     few = record {
       added = omega (arith, does.grows.added, keeps.few.added, length_is, settles.climbs.added, burial.buries.added, stirs_added outcome.raising mid.tables mid.clock n mid.interest noted.interest settles.stirs);
-      descriptions = omega (arith, does.grows.descriptions, keeps.few.descriptions, length_is, burial.buries.descriptions);
-      objects = omega (arith, does.grows.objects, keeps.few.objects, length_is, burial.buries.objects);
     };
   }
 

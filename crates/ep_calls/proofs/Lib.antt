@@ -1,7 +1,6 @@
 pub mod Seeing
 pub mod Controlling
 pub mod Going
-pub mod Growing
 pub mod Keys
 pub mod Linking
 pub mod Found
@@ -20,8 +19,8 @@ pub mod Entering
 pub mod Choosing
 pub mod Reported
 pub mod Waited
-pub mod Opening
-pub mod TableCalling
+pub mod FilesCallLemmas
+pub mod TableCallLemmas
 pub mod Purging
 pub mod Burying
 pub mod Watched

@@ -19,9 +19,9 @@ use Rattle.ep_machine.specs.Files.{Files, Place, named_by, names_nothing, object
 use Rattle.ep_machine.specs.Objects.{Object, counter, instance, object_effect, object_refusals, pair, pipe, plain, timer}
 use Rattle.ep_machine.specs.Tables.{affected}
 use Rattle.ep_object.specs.Memory.{asked_of, object_waiting}
-use Rattle.ep_calls.specs.Moves.{Opened, Opens, Stayed}
-use Rattle.ep_calls.specs.ObjectCall.{FitsRoom, fd_of, object_effect_of}
-use Rattle.ep_table.specs.Value.{Seen, content_of, effect_at, number_of, number_under}
+use Rattle.ep_machine.specs.FilesCalls.{FilesCall}
+use Rattle.ep_calls.specs.ObjectCall.{FitsRoom, fd_of, object_call_of}
+use Rattle.ep_table.specs.Value.{Does, Refuses, Seen, Succeeds, content_of, effect_at, holds_of, number_of, number_under}
 use Rattle.ep_base.specs.declared.ids.DescId.{DescId}
 use Rattle.ep_base.specs.declared.ids.Fd.{Fd}
 
@@ -109,21 +109,20 @@ module _ (old new : Seen) (d now : ℕ) (call : Call) (answer : Answer) (lives :
   abbrev after : Effect Object → Seen
   after f = record old { files = with_object old.files (object_number (place_of old.files d)) f.1 }
 
-  opens_by : (refusal : Option Errno) → answer ≡ (unless refusal content effect).0 → new ≡ after (unless refusal content effect)
-      → MatchOption refusal (Opened effect.0 (affected old.files d effect) answer old new) (λ e. Stayed e answer old new)
-  opens_by (Some e) is tables = record {
+  -- where this is the call
+  does_by : (c : FilesCall) → c.answer ≡ effect.0 → c.after ≡ affected old.files d effect → (refusal : Option Errno) → answer ≡ (unless refusal content effect).0 → new ≡ after (unless refusal content effect)
+      → MatchOption refusal (Succeeds c answer old new) (λ e. Refuses e answer old new)
+  does_by c told left (Some e) is tables = record {
     answers = is;
     tables = tables ∙ ap (λ (f : Files). record old { files = f }) (object_back old.files (place_of old.files d) content (content_is (object_of old.files d) lives));
   }
-  opens_by None is tables = record {
-    answers = is;
-    files = ap (λ (v : Seen). v.files) tables;
-    keys = λ key k h. ap (λ (v : Seen). slice_index_or v.keys key.0 None) tables ∙ h;
+  does_by c told left None is tables = record {
+    answers = is ∙ sym told;
+    files = ap (λ (v : Seen). v.files) tables ∙ sym left;
     limits = ap (λ (v : Seen). v.limits) tables;
+    keys = λ key k h. ap (λ (v : Seen). slice_index_or v.keys key.0 None) tables ∙ h;
+    holds = λ k. ap (λ (v : Seen). holds_of v k) tables;
   }
-
-  pub opens : answer ≡ (effect_at old.files d now call).0 → new ≡ after (effect_at old.files d now call) → Opens (object_refusals content side now call) effect.0 (affected old.files d effect) answer old new
-  opens is tables = opens_by (first (object_refusals content side now call)) is tables
 
 -- what a descriptor that is found names
 pub named_some : (n : Option ℕ) → IsSome n → is_none n ≡ false
@@ -145,9 +144,13 @@ module _ (old new : Seen) (p : ℕ) (fd : ℤ) (desc : DescId) (now : ℕ) (call
 
   pub calls_object : answer ≡ (effect_at old.files (number_of old desc) now call).0
       → new ≡ record old { files = with_object old.files (object_number (place_of old.files (number_of old desc))) (effect_at old.files (number_of old desc) now call).1 }
-      → Opens ((names_nothing old.files p fd, Ebadf) ∷ object_refusals (object_under old.files p fd) (side_under old.files p fd) now call) (object_effect_of old.files p fd now call).0 (affected old.files (named_by old.files p fd) (object_effect_of old.files p fd now call)) answer old new
+      → Does (object_call_of old.files p fd now call) answer old new
   calls_object is tables =
-      let at : ℕ → Type 0 = λ d. MatchOption (first (object_refusals (content_of old.files d) (side_of old.files d) now call)) (Opened (object_effect (content_of old.files d) (side_of old.files d) now call).0 (affected old.files d (object_effect (content_of old.files d) (side_of old.files d) now call)) answer old new) (λ e. Stayed e answer old new) in
-      let here : at (named_by old.files p fd) = subst at (sym number_is) (opens old new (number_of old desc) now call answer lives is tables) in
-      let P : Option Errno → Type 0 = λ r. MatchOption r (Opened (object_effect_of old.files p fd now call).0 (affected old.files (named_by old.files p fd) (object_effect_of old.files p fd now call)) answer old new) (λ e. Stayed e answer old new) in
-      subst P (sym (past_first (names_nothing old.files p fd) Ebadf (object_refusals (object_under old.files p fd) (side_under old.files p fd) now call) names_some)) here
+      let c = object_call_of old.files p fd now call in
+      let f = old.files in
+      let told = ap (λ (d : ℕ). (object_effect (content_of f d) (side_of f d) now call).0) number_is in
+      let left = ap (λ (d : ℕ). affected f d (object_effect (content_of f d) (side_of f d) now call)) number_is in
+      let refusals = past_first (names_nothing f p fd) Ebadf (object_refusals (object_under f p fd) (side_under f p fd) now call) names_some
+      ∙ ap (λ (d : ℕ). first (object_refusals (content_of f d) (side_of f d) now call)) number_is in
+      let P : Option Errno → Type 0 = λ r. MatchOption r (Succeeds c answer old new) (λ e. Refuses e answer old new) in
+      subst P (sym refusals) (does_by old new (number_of old desc) now call answer lives c told left _ is tables)

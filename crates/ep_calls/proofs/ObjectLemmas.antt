@@ -24,7 +24,7 @@ use Rattle.ep_calls.specs.Moves.{Goes}
 use Rattle.ep_calls.specs.Raising.{IsRaising, Raises, RaisesByCall}
 use Rattle.ep_calls.specs.Stands.{KeepsKinds}
 use Rattle.ep_calls.proofs.ObjectRaising.{object_raises}
-use Rattle.ep_calls.proofs.Opening.{CallsObject, IsOnObject, object_called, object_keys, object_limits}
+use Rattle.ep_calls.proofs.FilesCallLemmas.{CallsObject, IsOnObject, object_called, object_keys, object_limits}
 use Rattle.ep_table.specs.Value.{Seen, Sound, content_of, effect_at, number_of, number_under}
 use Rattle.ep_calls.proofs.Keys.{under_key}
 

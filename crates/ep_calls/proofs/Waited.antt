@@ -51,7 +51,7 @@ use Rattle.ep_calls.proofs.Going.{goes_made}
 use Rattle.ep_calls.proofs.Keys.{under_key}
 use Rattle.ep_calls.proofs.Reported.{after, linked_noted, no_numbers, told_change, waits, waits_now}
 use Rattle.ep_table.specs.Value.{Seen, Sound as SoundTables, holds_of, number_of, number_under}
-use Rattle.ep_table.proofs.Leaving.{under_named}
+use Rattle.ep_table.proofs.UnnameLemmas.{under_named}
 
 -- the first test does not hold
 past_one : (a : Bool) (e : Errno) (rest : List (Bool × Errno)) → first ((not a, e) ∷ rest) ≡ None → a ≡ true
@@ -115,7 +115,7 @@ coherent_parked p v us h files keys placed held =
 module _ (Also : State → Type 0) (n caller : ℕ) (outcome : Outcome) (p new : Parts) (raising : outcome.raising ≡ Nowhere) (files : new.tables.files ≡ p.tables.files) (keys : new.tables.keys ≡ p.tables.keys)
     (limits : new.tables.limits ≡ p.tables.limits) (added : new.interest.added ≡ p.interest.added) where
   grown : Grows p new
-  grown = record { added = omega (arith, added); descriptions = omega (arith, ap (λ (f : Files). length f.descriptions) files); objects = omega (arith, ap (λ (f : Files). length f.objects) files) }
+  grown = record { added = omega (arith, added) }
 
   kept : KeepsKeys p.tables new.tables
   kept = λ key d h. ap (λ (ks : List (Option ℕ)). slice_index_or ks key.0 None) keys ∙ h

@@ -1,6 +1,6 @@
 -- What is left of the parts of a kernel once the descriptions that nothing names are dead.
 use Rattle.std.specs.List.{AllByRecursion}
-use Rattle.std.specs.Prelude.{◌≡◌, Bool, List, Some, [], filter, length, map, not, ℕ, ◌&&◌, ◌++◌}
+use Rattle.std.specs.Prelude.{◌≡◌, Bool, List, Some, [], filter, map, not, ℕ, ◌&&◌, ◌++◌}
 use Rattle.ep_machine.specs.Deaths.{die_all}
 use Rattle.ep_machine.specs.Files.{Place, place_of}
 use Rattle.ep_machine.specs.Lists.{is_among}
@@ -19,8 +19,6 @@ pub record Buries (n : ℕ) (old_tables : Seen) (old_interest : Registrations) (
   pub numbers : map (λ x. x.0) dead ++ tables.dying ≡ old_tables.dying
   pub placed : AllByRecursion (λ x. place_of old_tables.files x.0 ≡ Some x.1) dead
   pub files : tables.files ≡ (die_all (old_tables.files, []) dead).0
-  pub descriptions : length tables.files.descriptions ≡ length old_tables.files.descriptions
-  pub objects : length tables.files.objects ≡ length old_tables.files.objects
   pub limits : tables.limits ≡ old_tables.limits
   pub holds : tables.holds ≡ old_tables.holds
   pub keys : KeepsKeys tables old_tables  -- what is left has kept its key

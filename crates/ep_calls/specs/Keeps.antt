@@ -1,5 +1,5 @@
 -- What a kernel keeps.
-use Rattle.std.specs.Prelude.{◌≡◌, ◌*◌, ◌+◌, ◌≤◌, List, Some, length, ℕ}
+use Rattle.std.specs.Prelude.{◌≡◌, ◌≤◌, List, Some, length, ℕ}
 use Rattle.ep_base.specs.declared.record.Record.{Record}
 use Rattle.ep_view.specs.AtRest.{AtRest}
 use Rattle.ep_machine.specs.Run.{run}
@@ -8,11 +8,9 @@ use Rattle.ep_machine.specs.State.{State, opening}
 use Rattle.ep_calls.specs.Moves.{StandFor}
 use Rattle.ep_calls.specs.Parts.{Parts}
 
--- so many events leave room for as many more
+-- so many events leave room for as many more registrations
 pub record AreFew (events : ℕ) (p : Parts) : Type 0 where
   pub added : p.interest.added ≤ events
-  pub descriptions : length p.tables.files.descriptions ≤ 2 * events + 1
-  pub objects : length p.tables.files.objects ≤ events + 1
 
 -- the history leads to a state for which the parts stand
 pub record Keeps (past : List Record) (p : Parts) : Type 0 where

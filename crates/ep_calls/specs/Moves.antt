@@ -1,5 +1,5 @@
 -- What an event does to the parts of a kernel.
-use Rattle.std.specs.Prelude.{true, ◌≡◌, ◌+◌, ◌≤◌, Bool, List, MatchOption, Option, Some, [], length, map, ℕ}
+use Rattle.std.specs.Prelude.{true, ◌≡◌, Bool, List, MatchOption, Option, Some, [], map, ℕ}
 use Rattle.ep_base.specs.Limits.{Limits}
 use Rattle.ep_base.specs.declared.answer.Answer.{Answer}
 use Rattle.ep_base.specs.declared.answer.Answer.TheVariants.{Refused}
@@ -7,7 +7,6 @@ use Rattle.ep_base.specs.declared.call.Call.{Call}
 use Rattle.ep_base.specs.declared.call.Event.{Event}
 use Rattle.ep_base.specs.declared.errno.Errno.{Errno}
 use Rattle.ep_machine.specs.Effect.{first}
-use Rattle.ep_machine.specs.Files.{Files}
 use Rattle.ep_view.specs.KernelView.{climbed_all, freshened, kernel_watches}
 use Rattle.ep_view.specs.AtRest.{AtRest, marks_of}
 use Rattle.ep_machine.specs.Refusal.{call_refusals, refusals}
@@ -17,7 +16,7 @@ use Rattle.ep_machine.specs.Step.{call_change, change}
 use Rattle.ep_machine.specs.Watches.{is_legal, links}
 use Rattle.ep_calls.specs.Raising.{Raises}
 use Rattle.ep_calls.specs.declared.raising.Raising.{Raising}
-use Rattle.ep_calls.specs.Stands.{watch_at, waiters_at, KeepsKeys, Stands}
+use Rattle.ep_calls.specs.Stands.{watch_at, waiters_at, Stands}
 use Rattle.ep_table.specs.Value.{Seen}
 use Rattle.ep_calls.specs.Parts.{Parts}
 
@@ -77,22 +76,3 @@ RaisesCall limits n caller p call picked raising old tables now = MovesBy n old 
 
 abbrev pub RaisesEvent : Limits → ℕ → ℕ → Event → List ℕ → Raising → Parts → Seen → ℕ → Type 0
 RaisesEvent limits n caller event picked raising old tables now = MovesBy n old (λ s. Raises (refusals limits s caller event) (change limits s caller event picked) raising tables now)
-
--- a call on the tables alone: a refusal of the list leaves them
-pub record Opened (given : Answer) (after : Files) (answer : Answer) (old new : Seen) : Type 0 where
-  pub answers : answer ≡ given
-  pub files : new.files ≡ after
-  pub keys : KeepsKeys old new
-  pub limits : new.limits ≡ old.limits
-
-pub record Stayed (e : Errno) (answer : Answer) (old new : Seen) : Type 0 where
-  pub answers : answer ≡ Refused e
-  pub tables : new ≡ old
-
-abbrev pub Opens : List (Bool × Errno) → Answer → Files → Answer → Seen → Seen → Type 0
-Opens refusals given after answer old new = MatchOption (first refusals) (Opened given after answer old new) (λ e. Stayed e answer old new)
-
--- at most two descriptions and one object more
-pub record Grows (old new : Files) : Type 0 where
-  pub descriptions : length new.descriptions ≤ length old.descriptions + 2
-  pub objects : length new.objects ≤ length old.objects + 1

@@ -1,5 +1,5 @@
 -- What a call on an object answers, and the room for a copy of it.
-use Rattle.std.specs.Prelude.{None, Option, Some, length, ℕ, ℤ}
+use Rattle.std.specs.Prelude.{None, Option, Some, length, ℕ, ℤ, ◌∷◌}
 use Rattle.ep_base.specs.declared.ids.Fd.{Fd}
 use Rattle.std.specs.declared.alloc.Global.{Global}
 use Rattle.smallvec.specs.SmallVec.{HasRoomFor}
@@ -10,10 +10,13 @@ use Rattle.ep_base.specs.declared.call.Call.{Call}
 use Rattle.ep_base.specs.declared.call.Call.TheVariants.{GetTime, Read, SetTime, Shutdown, Write}
 use Rattle.ep_machine.specs.Effect.{Effect}
 use Rattle.ep_base.specs.declared.ids.DescId.{DescId}
-use Rattle.ep_machine.specs.Files.{Files, object_under, side_of, side_under}
+use Rattle.ep_machine.specs.Files.{Files, named_by, names_nothing, object_under, side_of, side_under}
+use Rattle.ep_machine.specs.FilesCalls.{FilesCall}
 use Rattle.ep_object.specs.Memory.{object_waiting}
 use Rattle.ep_table.specs.Value.{Seen, content_of, number_of}
-use Rattle.ep_machine.specs.Objects.{Object, object_effect}
+use Rattle.ep_base.specs.declared.errno.Errno.TheVariants.{Ebadf}
+use Rattle.ep_machine.specs.Objects.{Object, object_effect, object_refusals}
+use Rattle.ep_machine.specs.Tables.{affected}
 
 -- the descriptor whose object such a call is on
 abbrev pub fd_of : Call → Option Fd
@@ -27,6 +30,16 @@ fd_of call = None
 -- what it gives where it isn't refused
 abbrev pub object_effect_of : Files → ℕ → ℤ → ℕ → Call → Effect Object
 object_effect_of files p fd now call = object_effect (object_under files p fd) (side_under files p fd) now call
+
+-- what the machine has of such a call
+abbrev pub object_call_of : Files → ℕ → ℤ → ℕ → Call → FilesCall
+object_call_of files p fd now call =
+    let effect = object_effect_of files p fd now call in record {
+      refusals = (names_nothing files p fd, Ebadf)
+          ∷ object_refusals (object_under files p fd) (side_under files p fd) now call;
+      answer = effect.0;
+      after = affected files (named_by files p fd) effect;
+    }
 
 -- an answer of such a call, with room for its bytes
 abbrev pub FitsRoom : Answer → SmallVec ℕ 16 Global → Type 0

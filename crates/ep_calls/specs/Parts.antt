@@ -1,5 +1,5 @@
 -- What contracts see of the parts of a kernel, and what holds of them between calls.
-use Rattle.std.specs.Prelude.{◌≡◌, ◌+◌, ◌<◌, ◌≤◌, ◌^◌, ◌∷◌, All, List, [], length, true, ℕ}
+use Rattle.std.specs.Prelude.{◌≡◌, ◌+◌, ◌<◌, ◌≤◌, ◌^◌, ◌∷◌, All, List, [], true, ℕ}
 use Rattle.ep_base.specs.Limits.{Limits}
 use Rattle.ep_interest.specs.Registrations.{Registrations}
 use Rattle.ep_interest.specs.declared.entry.Entry.{Entry}
@@ -35,14 +35,10 @@ pub record AreCoherent (p : Parts) : Type 0 where
 -- one event more finds room
 pub record HasRoom (p : Parts) : Type 0 where
   pub added : p.interest.added + 1 < 2 ^ 64
-  pub descriptions : length p.tables.files.descriptions + 2 < 2 ^ 64
-  pub objects : length p.tables.files.objects + 2 < 2 ^ 64
 
 -- and takes so much of it
 pub record Grows (old new : Parts) : Type 0 where
   pub added : new.interest.added ≤ old.interest.added + 1
-  pub descriptions : length new.tables.files.descriptions ≤ length old.tables.files.descriptions + 2
-  pub objects : length new.tables.files.objects ≤ length old.tables.files.objects + 1
 
 -- the parts at the start: process 1, and nothing registered, linked or parked
 pub record AreOpening (within : Limits) (p : Parts) : Type 0 where

@@ -1,5 +1,5 @@
 -- Which states of the machine the parts of a kernel stand for.
-use Rattle.std.specs.Prelude.{true, Some, ◌≡◌, ◌<◌, All, IsSome, List, None, Option, map, pos, slice_index_or, unwrap_or, ℕ, filter, length, ◌==◌}
+use Rattle.std.specs.Prelude.{true, ◌≡◌, ◌<◌, All, IsSome, List, None, Option, map, pos, slice_index_or, unwrap_or, ℕ, filter, length, ◌==◌}
 use Rattle.ep_base.specs.declared.ids.DescId.{DescId}
 use Rattle.ep_machine.specs.Files.{Files, object_of}
 use Rattle.ep_view.specs.KernelView.{KernelWatch, kernel_watches, at_number}
@@ -9,6 +9,7 @@ use Rattle.ep_machine.specs.Watches.{number_in}
 use Rattle.ep_interest.specs.declared.entry.Entry.{Entry}
 use Rattle.ep_interest.specs.Registrations.{Registrations}
 use Rattle.ep_table.specs.Value.{Seen, holds_of}
+pub use Rattle.ep_table.specs.Value.{KeepsHolds, KeepsKeys}
 
 -- the number of the description under a key
 abbrev pub number_at : List (Option ℕ) → DescId → ℕ
@@ -57,17 +58,9 @@ pub record Stands (tables : Seen) (interest : Registrations) (parked : List Wait
   pub added : s.added ≡ interest.added
   pub waiters : s.waiters ≡ waiters_at tables.keys parked
 
--- each key keeps its number
-abbrev pub KeepsKeys : Seen → Seen → Type 0
-KeepsKeys old new = (key : DescId) (d : ℕ) → slice_index_or old.keys key.0 None ≡ Some d → slice_index_or new.keys key.0 None ≡ Some d
-
 -- what can be watched keeps its kind
 abbrev pub KeepsKinds : Files → Files → Type 0
 KeepsKinds f g = (d : ℕ) → can_be_watched (object_of f d) ≡ true → kind_of (object_of g d) ≡ kind_of (object_of f d)
-
--- each description is held as often
-abbrev pub KeepsHolds : Seen → Seen → Type 0
-KeepsHolds old new = (d : ℕ) → holds_of new d ≡ holds_of old d
 
 -- a description is held once for each waiter at it
 abbrev pub AreHeld : Seen → List Waiter → Type 0

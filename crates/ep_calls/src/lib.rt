@@ -5,8 +5,6 @@ mod below;
 mod bury;
 mod clock;
 mod control;
-mod create;
-mod descriptors;
 mod due;
 mod kernel;
 mod object_call;

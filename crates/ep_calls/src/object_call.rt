@@ -6,7 +6,6 @@ ghost use Rattle.ep_machine.specs.Objects.{object_refusals};
 ghost use Rattle.ep_machine.specs.Tables.{affected};
 ghost use Rattle.ep_machine.specs.Timer.{last_moment};
 ghost use Rattle.ep_object.specs.Memory.{asked_of, object_waiting};
-ghost use Rattle.ep_calls.specs.Moves.{Grows, Opens};
 ghost use Rattle.ep_calls.specs.Stands.{KeepsHolds};
 ghost use Rattle.ep_calls.specs.Does.{DoesCall};
 ghost use Rattle.ep_calls.specs.ObjectCall.{FitsRoom, fd_of, waiting_at};

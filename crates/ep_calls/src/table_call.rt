@@ -1,99 +1,112 @@
 //! Calls on the tables alone: those that open descriptors of a new object, and those on descriptors and processes.
-ghost use Rattle.std.specs.Prelude.{ℕ, ◌≡◌, ◌+◌, ◌<◌, ◌^◌, [], IfOk, OnErr, OnOk, false, is_some, length, true};
+ghost use Rattle.std.specs.List.{list_any};
+ghost use Rattle.std.specs.Prelude.{ℕ, ◌≡◌, IfOk, IsSome, OnErr, is_some, true};
 ghost use Rattle.ep_machine.specs.Files.{table_of};
-ghost use Rattle.ep_calls.specs.declared.raising.Raising.TheVariants.{Nowhere};
+ghost use Rattle.ep_machine.specs.FilesCalls.{exec_of, exit_of, timerfd_of};
+ghost use Rattle.ep_park.specs.Waiters.{is_of};
 ghost use Rattle.ep_calls.specs.Does.{DoesCall};
-ghost use Rattle.ep_calls.specs.Moves.{Grows};
-ghost use Rattle.ep_calls.specs.Parts.{HasRoom};
-ghost use Rattle.ep_calls.specs.Stands.{KeepsHolds};
-ghost use Rattle.ep_calls.specs.TableCall.{CallsTables, IsTableCall};
+ghost use Rattle.ep_calls.specs.TableCall.{IsTableCall, called};
+ghost use Rattle.ep_table.specs.Value.{Does};
 
-use crate::create::{create_pair, create_pipe, create_single, create_timer};
-use crate::descriptors::{close, dup, dup2, exec, exit, fork};
+use crate::raising::Raising;
 use crate::{Outcome, Parts};
-use ep_base::{Call, Limits, Pid};
+use ep_base::{Answer, Call, Errno, Pid};
 use ep_object::Object;
 use ep_park::Park;
 use ep_table::Tables;
 use std::alloc::{AllocError, Global};
 
-/// A call on the tables alone, which asks who is parked only for exec and exit.
-/// An `Err` is want of memory and leaves the tables.
-fn call_tables(
+/// timerfd_create(2): a disarmed timer at the lowest free number, or EINVAL for a clock other than 0 and 1,
+/// EMFILE or ENFILE. An `Err`, which is that of `Tables::create`, leaves the tables.
+fn create_timer(
     alloc: Global,
-    limits: &Limits,
+    tables: &mut Tables,
+    pid: Pid,
+    clock: i32,
+    cloexec: bool,
+) -> Result<Answer, AllocError>
+    requires { IsSome (table_of tables.old.files pid.0) }
+    ensures ok { IfOk result (λ answer. Does (timerfd_of tables.old.limits tables.old.files pid.0 clock cloexec) answer tables.old tables.new) }
+    ensures err { OnErr result (tables.new ≡ tables.old) }
+{
+    if clock != 0 && clock != 1 {
+        return Ok(Answer::Refused(Errno::Einval));
+    }
+    tables.create(pid, cloexec, Object::timer(alloc))
+}
+
+/// execve(2): closes the descriptors with close-on-exec, or EBUSY where a caller of the process is parked.
+fn exec(tables: &mut Tables, waiters: &Park, pid: Pid) -> Answer
+    requires { IsSome (table_of tables.old.files pid.0) }
+    ensures { Does (exec_of tables.old.files pid.0 (list_any (is_of pid.0) waiters.now)) result tables.old tables.new }
+{
+    if waiters.any_of(pid) {
+        return Answer::Refused(Errno::Ebusy);
+    }
+    tables.exec(pid);
+    Answer::Done
+}
+
+/// _exit(2): closes all descriptors and ends the process, or EBUSY where a caller of it is parked.
+fn exit(tables: &mut Tables, waiters: &Park, pid: Pid) -> Answer
+    requires { IsSome (table_of tables.old.files pid.0) }
+    ensures { Does (exit_of tables.old.files pid.0 (list_any (is_of pid.0) waiters.now)) result tables.old tables.new }
+{
+    if waiters.any_of(pid) {
+        return Answer::Refused(Errno::Ebusy);
+    }
+    tables.exit(pid);
+    Answer::Done
+}
+
+/// What a call on the tables alone is answered, which asks who is parked only for exec and exit.
+/// An `Err`, which comes for want of memory or of a number for what is made, leaves the tables.
+fn answer_of(
+    alloc: Global,
     tables: &mut Tables,
     waiters: &Park,
     pid: Pid,
     call: &Call,
-) -> Result<Outcome, AllocError>
+) -> Result<Answer, AllocError>
     requires call { IsTableCall call.now }
-    requires process { is_some (table_of tables.old.files pid.0) ≡ true }
-    requires limits { tables.old.limits ≡ limits.now }
-    requires descriptions { length tables.old.files.descriptions + 2 < 2 ^ 64 }
-    requires objects { length tables.old.files.objects + 2 < 2 ^ 64 }
-    ensures ok { IfOk result (λ outcome. CallsTables limits.now waiters.now pid.0 call.now outcome.answer tables.old tables.new) }
-    ensures picked { IfOk result (λ outcome. outcome.picked ≡ []) }
-    ensures raising { IfOk result (λ outcome. outcome.raising ≡ Nowhere) }
-    ensures grows { OnOk result (Grows tables.old.files tables.new.files) }
-    ensures holds { OnOk result (KeepsHolds tables.old tables.new) }
+    requires process { IsSome (table_of tables.old.files pid.0) }
+    ensures ok { IfOk result (λ answer. Does (called tables.old waiters.now pid.0 call.now) answer tables.old tables.new) }
     ensures err { OnErr result (tables.new ≡ tables.old) }
 {
     match *call {
-        Call::Pipe { cloexec } => create_pipe(alloc, tables, pid, cloexec, limits.pipe_bytes()),
-        Call::SocketPair { cloexec } => create_pair(
-            alloc,
-            tables,
-            pid,
-            cloexec,
-            limits.sock_bytes(),
-        ),
+        Call::Pipe { cloexec } => tables.pipe(alloc, pid, cloexec),
+        Call::SocketPair { cloexec } => tables.socketpair(alloc, pid, cloexec),
         Call::EventFd {
             init,
             semaphore,
             cloexec,
         } => {
             let counter = Object::counter(alloc, init, semaphore);
-            create_single(alloc, tables, pid, cloexec, counter)
+            tables.create(pid, cloexec, counter)
         }
         Call::TimerFd { clock, cloexec } => create_timer(alloc, tables, pid, clock, cloexec),
-        Call::Plain { cloexec } => create_single(alloc, tables, pid, cloexec, Object::plain(alloc)),
-        Call::EpollCreate { cloexec } => create_single(
-            alloc,
-            tables,
-            pid,
-            cloexec,
-            Object::instance(),
-        ),
-        Call::Dup { fd } => dup(alloc, tables, pid, fd),
-        Call::Dup2 { fd, to } => dup2(alloc, tables, pid, fd, to),
-        Call::Close { fd } => Ok(close(alloc, tables, pid, fd)),
-        Call::Fork => fork(alloc, tables, pid),
-        Call::Exec => Ok(exec(alloc, tables, waiters, pid)),
-        Call::Exit => Ok(exit(alloc, tables, waiters, pid)),
+        Call::Plain { cloexec } => tables.create(pid, cloexec, Object::plain(alloc)),
+        Call::EpollCreate { cloexec } => tables.create(pid, cloexec, Object::instance()),
+        Call::Dup { fd } => tables.dup(pid, fd),
+        Call::Dup2 { fd, to } => tables.dup2(pid, fd, to),
+        Call::Close { fd } => Ok(tables.close(pid, fd)),
+        Call::Fork => tables.fork(pid),
+        Call::Exec => Ok(exec(tables, waiters, pid)),
+        Call::Exit => Ok(exit(tables, waiters, pid)),
         _ => unreachable!(),
     }
 }
 
 impl Parts {
     /// A call that opens descriptors of a new object, or one on descriptors or the process.
-    /// An `Err` is want of memory and leaves the parts.
+    /// An `Err`, which comes for want of memory or of a number for what is made, leaves the parts.
     pub fn table_call(&mut self, pid: Pid, call: &Call) -> Result<Outcome, AllocError>
         requires call { IsTableCall call.now }
         requires process { is_some (table_of self.old.tables.files pid.0) ≡ true }
-        requires room { HasRoom self.old }
         ensures ok { IfOk result (λ outcome. (n caller : ℕ) → DoesCall n caller pid.0 call.now outcome self.old self.new) }
         ensures err { OnErr result (self.new ≡ self.old) }
     {
-        let limits = *self.tables.limits();
-        let outcome = call_tables(
-            self.alloc,
-            &limits,
-            &mut self.tables,
-            &self.waiters,
-            pid,
-            call,
-        )?;
-        Ok(outcome)
+        let answer = answer_of(self.alloc, &mut self.tables, &self.waiters, pid, call)?;
+        Ok(Outcome::settled(self.alloc, answer, Raising::Nowhere))
     }
 }

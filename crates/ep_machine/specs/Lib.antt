@@ -18,6 +18,7 @@ pub mod Waits
 pub mod Marks
 pub mod Deaths
 pub mod Settle
+pub mod FilesCalls
 pub mod Refusal
 pub mod Step
 pub mod Run

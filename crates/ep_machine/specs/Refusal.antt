@@ -2,20 +2,19 @@
 use Rattle.std.specs.Prelude.{Bool, List, [], is_none, length, nat_le, nat_lt, not, ℕ, ℤ, ◌&&◌, ◌+◌, ◌==◌, ◌||◌, ◌∷◌}
 use Rattle.ep_base.specs.Limits.{Limits}
 use Rattle.ep_base.specs.declared.call.Call.{Call}
-use Rattle.ep_base.specs.declared.call.Call.TheVariants.{Close, Dup, Dup2, EpollCreate, EpollCtl, EpollWait, EventFd, Exec, Exit, Fork, GetTime, Pipe as PipeCall, Plain, Read, SetTime, Shutdown, SocketPair, TimerFd, Write}
+use Rattle.ep_base.specs.declared.call.Call.TheVariants.{EpollCtl, EpollWait, GetTime, Read, SetTime, Shutdown, Write}
 use Rattle.ep_base.specs.declared.call.Event.{Event}
 use Rattle.ep_base.specs.declared.call.Event.TheVariants.{Call as CallOf, Resume, Tick}
 use Rattle.ep_base.specs.declared.errno.Errno.{Errno}
-use Rattle.ep_base.specs.declared.errno.Errno.TheVariants.{Eagain, Ebadf, Ebusy, Eexist, Einval, Eloop, Emfile, Enoent, Enospc, Eperm, Esrch}
+use Rattle.ep_base.specs.declared.errno.Errno.TheVariants.{Ebadf, Ebusy, Eexist, Einval, Eloop, Enoent, Enospc, Eperm, Esrch}
 use Rattle.ep_machine.specs.Bits.{EXCLUSIVE, has_bit}
-use Rattle.ep_machine.specs.Files.{named_by, names_nothing, numbers_of, object_under, side_under, table_of}
-use Rattle.ep_machine.specs.Lists.{numbered}
+use Rattle.ep_machine.specs.Files.{named_by, names_nothing, object_under, side_under, table_of}
+use Rattle.ep_machine.specs.FilesCalls.{files_call}
 use Rattle.ep_machine.specs.Objects.{is_instance, is_plain, object_refusals}
 use Rattle.ep_machine.specs.State.{State}
-use Rattle.ep_machine.specs.Tables.{is_in_range, one_free, one_refusals, two_refusals}
 use Rattle.ep_machine.specs.Timer.{last_moment}
 use Rattle.ep_machine.specs.Waits.{has_parked, is_parked, is_positive}
-use Rattle.ep_machine.specs.Watches.{is_add, is_del, is_legal, is_mod, is_op, is_there, links, number_in}
+use Rattle.ep_machine.specs.Watches.{is_add, is_del, is_legal, is_mod, is_there, links, number_in}
 
 abbrev pub ctl_refusals : Limits → State → ℕ → ℤ → ℤ → ℤ → ℕ → List (Bool × Errno)
 ctl_refusals limits s p epfd op fd mask =
@@ -40,21 +39,11 @@ wait_refusals s p epfd most =
     ∷ (names_nothing s.files p epfd, Ebadf)
     ∷ (not (is_instance (object_under s.files p epfd)), Einval) ∷ []
 
--- both clocks are the one simulated clock
-abbrev pub is_clock : ℤ → Bool
-is_clock clock = is_op 0 clock || is_op 1 clock
-
 -- of a call on the object under a descriptor number
 abbrev pub on_object : State → ℕ → ℤ → Call → List (Bool × Errno)
 on_object s p fd call = (names_nothing s.files p fd, Ebadf) ∷ object_refusals (object_under s.files p fd) (side_under s.files p fd) s.now call
 
 abbrev pub call_refusals : Limits → State → ℕ → Call → List (Bool × Errno)
-call_refusals limits s p (PipeCall cloexec) = two_refusals limits s.files p
-call_refusals limits s p (EventFd init semaphore cloexec) = one_refusals limits s.files p
-call_refusals limits s p (TimerFd clock cloexec) = (not (is_clock clock), Einval) ∷ one_refusals limits s.files p
-call_refusals limits s p (SocketPair cloexec) = two_refusals limits s.files p
-call_refusals limits s p (Plain cloexec) = one_refusals limits s.files p
-call_refusals limits s p (EpollCreate cloexec) = one_refusals limits s.files p
 call_refusals limits s p (EpollCtl epfd op fd mask tag) = ctl_refusals limits s p epfd.0 op fd.0 mask.0
 call_refusals limits s p (EpollWait epfd most timeout) = wait_refusals s p epfd.0 most
 call_refusals limits s p (Read fd n) = on_object s p fd.0 (Read fd n)
@@ -62,12 +51,7 @@ call_refusals limits s p (Write fd bytes) = on_object s p fd.0 (Write fd bytes)
 call_refusals limits s p (Shutdown fd) = on_object s p fd.0 (Shutdown fd)
 call_refusals limits s p (SetTime fd absolute value interval) = on_object s p fd.0 (SetTime fd absolute value interval)
 call_refusals limits s p (GetTime fd) = on_object s p fd.0 (GetTime fd)
-call_refusals limits s p (Dup fd) = (names_nothing s.files p fd.0, Ebadf) ∷ (nat_le limits.descriptors (one_free (numbers_of s.files p)), Emfile) ∷ []
-call_refusals limits s p (Dup2 fd to) = (names_nothing s.files p fd.0, Ebadf) ∷ (not (is_in_range limits to.0), Ebadf) ∷ []
-call_refusals limits s p (Close fd) = (names_nothing s.files p fd.0, Ebadf) ∷ []
-call_refusals limits s p Fork = (nat_le limits.processes (length (numbered 0 s.files.tables)), Eagain) ∷ []
-call_refusals limits s p Exec = (has_parked s p, Ebusy) ∷ []
-call_refusals limits s p Exit = (has_parked s p, Ebusy) ∷ []
+call_refusals limits s p call = (files_call limits s.files p (has_parked s p) call).refusals
 
 abbrev pub refusals : Limits → State → ℕ → Event → List (Bool × Errno)
 refusals limits s caller (CallOf p call) = (is_none (table_of s.files p.0), Esrch) ∷ (is_parked s caller, Ebusy) ∷ call_refusals limits s p.0 call

@@ -1,25 +1,23 @@
 -- One step: a refusal, or a change and then its settling. Once the picked registrations are given nothing is free.
-use Rattle.std.specs.Prelude.{Bool, List, None, Option, Some, [], length, ℕ, ℤ, ◌+◌}
+use Rattle.std.specs.Prelude.{List, None, Option, Some, [], ℕ, ℤ, ◌+◌}
 use Rattle.ep_base.specs.Limits.{Limits}
 use Rattle.ep_base.specs.declared.answer.Answer.{Answer}
-use Rattle.ep_base.specs.declared.answer.Answer.TheVariants.{Done, Num, Refused}
+use Rattle.ep_base.specs.declared.answer.Answer.TheVariants.{Refused}
 use Rattle.ep_base.specs.declared.call.Call.{Call}
-use Rattle.ep_base.specs.declared.call.Call.TheVariants.{Close, Dup, Dup2, EpollCreate, EpollCtl, EpollWait, EventFd, Exec, Exit, Fork, GetTime, Pipe as PipeCall, Plain, Read, SetTime, Shutdown, SocketPair, TimerFd, Write}
+use Rattle.ep_base.specs.declared.call.Call.TheVariants.{EpollCtl, EpollWait, GetTime, Read, SetTime, Shutdown, Write}
 use Rattle.ep_base.specs.declared.call.Event.{Event}
 use Rattle.ep_base.specs.declared.call.Event.TheVariants.{Call as CallOf, Resume, Tick}
 use Rattle.ep_base.specs.declared.errno.Errno.{Errno}
-use Rattle.ep_machine.specs.Files.{Files, named_by, object_under, side_under}
-use Rattle.ep_machine.specs.Objects.{Object, counter, instance, object_effect, pair, pipe, plain, timer}
-use Rattle.ep_machine.specs.Pipe.{new_pipe}
+use Rattle.ep_machine.specs.Files.{named_by, object_under, side_under}
+use Rattle.ep_machine.specs.FilesCalls.{FilesCall, files_call}
+use Rattle.ep_machine.specs.Objects.{object_effect}
 use Rattle.ep_machine.specs.Effect.{first}
 use Rattle.ep_machine.specs.Refusal.{refusals}
 use Rattle.ep_machine.specs.Report.{plainly}
 use Rattle.ep_machine.specs.Settle.{settle}
-use Rattle.ep_machine.specs.Sockets.{new_pair}
 use Rattle.ep_machine.specs.State.{Change, State}
-use Rattle.ep_machine.specs.Tables.{affected, affected_raises, answer_one, answer_two, close, create_one, create_two, dup, dup2, exec, exit, fork}
-use Rattle.ep_machine.specs.Timer.{new_timer}
-use Rattle.ep_machine.specs.Waits.{resume, tick, wait}
+use Rattle.ep_machine.specs.Tables.{affected, affected_raises}
+use Rattle.ep_machine.specs.Waits.{has_parked, resume, tick, wait}
 use Rattle.ep_machine.specs.Watches.{ctl, number_in}
 
 -- of a call on the object under a descriptor number
@@ -29,25 +27,12 @@ object_change s p fd call =
     let f = object_effect (object_under s.files p fd) (side_under s.files p fd) s.now call in
     (f.0, record s { files = affected s.files d f }, affected_raises s.files d f)
 
--- of a call that makes an object with one description, or with two
-abbrev pub one_change : State → ℕ → Object → Bool → Change
-one_change s p x cloexec = (answer_one s.files p, record s { files = create_one s.files p x cloexec }, [])
-
-abbrev pub two_change : State → ℕ → Object → Bool → Change
-two_change s p x cloexec = (answer_two s.files p, record s { files = create_two s.files p x cloexec }, [])
-
 -- of a call on the tables alone
-abbrev pub files_change : State → Answer → Files → Change
-files_change s answer files = (answer, record s { files = files }, [])
+abbrev pub files_change : State → FilesCall → Change
+files_change s c = (c.answer, record s { files = c.after }, [])
 
 -- of a call that isn't refused
 abbrev pub call_change : Limits → State → ℕ → ℕ → Call → List ℕ → Option Change
-call_change limits s caller p (PipeCall cloexec) picked = plainly picked (two_change s p (pipe (new_pipe limits.pipe_bytes)) cloexec)
-call_change limits s caller p (EventFd init semaphore cloexec) picked = plainly picked (one_change s p (counter (record { count = init; is_semaphore = semaphore })) cloexec)
-call_change limits s caller p (TimerFd clock cloexec) picked = plainly picked (one_change s p (timer new_timer) cloexec)
-call_change limits s caller p (SocketPair cloexec) picked = plainly picked (two_change s p (pair (new_pair limits.sock_bytes)) cloexec)
-call_change limits s caller p (Plain cloexec) picked = plainly picked (one_change s p plain cloexec)
-call_change limits s caller p (EpollCreate cloexec) picked = plainly picked (one_change s p instance cloexec)
 call_change limits s caller p (EpollCtl epfd op fd mask tag) picked = plainly picked (ctl s p epfd.0 op fd.0 mask.0 tag)
 call_change limits s caller p (EpollWait epfd most timeout) picked = wait s caller p (named_by s.files p epfd.0) (number_in most) timeout picked
 call_change limits s caller p (Read fd n) picked = plainly picked (object_change s p fd.0 (Read fd n))
@@ -55,12 +40,7 @@ call_change limits s caller p (Write fd bytes) picked = plainly picked (object_c
 call_change limits s caller p (Shutdown fd) picked = plainly picked (object_change s p fd.0 (Shutdown fd))
 call_change limits s caller p (SetTime fd absolute value interval) picked = plainly picked (object_change s p fd.0 (SetTime fd absolute value interval))
 call_change limits s caller p (GetTime fd) picked = plainly picked (object_change s p fd.0 (GetTime fd))
-call_change limits s caller p (Dup fd) picked = plainly picked (files_change s (answer_one s.files p) (dup s.files p (named_by s.files p fd.0)))
-call_change limits s caller p (Dup2 fd to) picked = plainly picked (files_change s (Num (number_in to.0)) (dup2 s.files p fd.0 to.0 (named_by s.files p fd.0)))
-call_change limits s caller p (Close fd) picked = plainly picked (files_change s Done (close s.files p fd.0))
-call_change limits s caller p Fork picked = plainly picked (files_change s (Num (length s.files.tables)) (fork s.files p))
-call_change limits s caller p Exec picked = plainly picked (files_change s Done (exec s.files p))
-call_change limits s caller p Exit picked = plainly picked (files_change s Done (exit s.files p))
+call_change limits s caller p call picked = plainly picked (files_change s (files_call limits s.files p (has_parked s p) call))
 
 abbrev pub change : Limits → State → ℕ → Event → List ℕ → Option Change
 change limits s caller (CallOf p call) picked = call_change limits s caller p.0 call picked

@@ -7,7 +7,8 @@
 //! 2. `Effect`, `Pipe`, `Sockets`, `Counters`, `Timer`, `Objects`: the six kinds of object, and what a call on one gives.
 //! 3. `Files`, `State`: descriptors, open file descriptions and objects; the whole state.
 //! 4. `Readiness`: what holds at a description, and what is reportable.
-//! 5. `Tables`, `Watches`, `Report`, `Waits`: what each call changes.
+//! 5. `Tables`, `Watches`, `FilesCalls`, `Report`, `Waits`: what each call changes; of a call on the tables alone
+//!    its refusals and its answer, too.
 //! 6. `Deaths`, `Spread`, `Settle`: the end of each event.
 //! 7. `Refusal`, `Step`, `Run`: the refusals of every call, one step, and which lists of records are runs.
 //!

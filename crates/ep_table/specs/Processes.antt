@@ -39,6 +39,10 @@ abbrev pub kept_in : Process → Process
 kept_in None = None
 kept_in (Some t) = Some (map kept t)
 
+-- the tables once that of a process is changed
+abbrev pub change_at : {A : Type 0} → List (Option (Table A)) → ℕ → (Process → Process) → List Process
+change_at xs p change = slice_set (lists xs) p (change (process_of xs p))
+
 -- so many more numbers find room
 abbrev pub HasRoom : {A : Type 0} → Option (Table A) → ℕ → Type 0
 HasRoom None n = Unit {0}

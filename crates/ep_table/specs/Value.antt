@@ -1,17 +1,19 @@
 -- What contracts see of the tables.
 use Rattle.ep_base.specs.declared.object.End.TheVariants.{First, Second}
-use Rattle.std.specs.Prelude.{if◌then◌else◌, true, false, not, slice_set, ◌-◌, ◌&&◌, ◌==◌, Bool, IsSome, List, None, Option, Some, is_none, is_some, nat_le, negsuc, pos, slice_index_or, unwrap_or, ℕ, ℤ, ◌+◌, ◌≡◌, ◌≢◌, ◌∷◌, [], length, ◌++◌}
+use Rattle.std.specs.Prelude.{if◌then◌else◌, true, false, not, slice_set, ◌-◌, ◌&&◌, ◌==◌, Bool, IsSome, List, MatchOption, None, Option, Some, is_some, negsuc, pos, slice_index_or, unwrap_or, ℕ, ℤ, ◌+◌, ◌≡◌, ◌≢◌, ◌∷◌, [], length, ◌++◌}
 use Rattle.ep_base.specs.Limits.{Limits}
+use Rattle.ep_base.specs.declared.answer.Answer.{Answer}
+use Rattle.ep_base.specs.declared.answer.Answer.TheVariants.{Refused}
 use Rattle.ep_base.specs.declared.call.Call.{Call}
 use Rattle.ep_base.specs.declared.errno.Errno.{Errno}
-use Rattle.ep_base.specs.declared.errno.Errno.TheVariants.{Eagain, Ebadf, Emfile, Esrch}
 use Rattle.ep_base.specs.declared.ids.DescId.{DescId}
 use Rattle.ep_machine.specs.Effect.{Effect, attempt, first}
 use Rattle.ep_machine.specs.Deaths.{named_in_tables}
-use Rattle.ep_machine.specs.Files.{Files, Place, is_live, names_nothing, numbers_of, object_of, place_of, side_of, table_of, under}
-use Rattle.ep_machine.specs.Lists.{are_distinct, is_among, numbered}
+use Rattle.ep_machine.specs.Files.{Files, Place, is_live, numbers_of, object_of, place_of, side_of, under}
+use Rattle.ep_machine.specs.FilesCalls.{FilesCall}
+use Rattle.ep_machine.specs.Lists.{are_distinct, is_among, place_at}
 use Rattle.ep_machine.specs.Objects.{Object, object_effect, object_refusals, plain}
-use Rattle.ep_machine.specs.Tables.{create_one, create_two, is_in_range, one_free, one_refusals, two_refusals}
+use Rattle.ep_machine.specs.Tables.{affected, create_one, create_two, slot, with_table}
 use Rattle.ep_object.specs.Memory.{object_waiting}
 
 pub record Seen : Type 0 where
@@ -76,39 +78,30 @@ pub record GainsTwo (old new : List (Option ℕ)) (number : ℕ) : Type 0 where
   pub first : Gains old middle number
   pub second : Gains middle new (number + 1)
 
--- what creating one description is refused with, if anything
-abbrev pub one_refusal : Seen → ℕ → Option Errno
-one_refusal v p = first ((is_none (table_of v.files p), Esrch) ∷ one_refusals v.limits v.files p)
+-- each key keeps its number
+abbrev pub KeepsKeys : Seen → Seen → Type 0
+KeepsKeys old new = (key : DescId) (d : ℕ) → number_under old key ≡ Some d → number_under new key ≡ Some d
 
--- the same for two
-abbrev pub two_refusal : Seen → ℕ → Option Errno
-two_refusal v p = first ((is_none (table_of v.files p), Esrch) ∷ two_refusals v.limits v.files p)
+-- each description is held as often
+abbrev pub KeepsHolds : Seen → Seen → Type 0
+KeepsHolds old new = (d : ℕ) → holds_of new d ≡ holds_of old d
 
--- what dup is refused with, if anything
-abbrev pub dup_refusal : Seen → ℕ → ℤ → Option Errno
-dup_refusal v p fd =
-    first ((is_none (table_of v.files p), Esrch)
-    ∷ (names_nothing v.files p fd, Ebadf)
-    ∷ (nat_le v.limits.descriptors (one_free (numbers_of v.files p)), Emfile) ∷ [])
+-- a call on the tables that isn't refused
+pub record Succeeds (call : FilesCall) (answer : Answer) (old new : Seen) : Type 0 where
+  pub answers : answer ≡ call.answer
+  pub files : new.files ≡ call.after
+  pub limits : new.limits ≡ old.limits
+  pub keys : KeepsKeys old new
+  pub holds : KeepsHolds old new
 
--- what fork is refused with, if anything
-abbrev pub fork_refusal : Seen → ℕ → Option Errno
-fork_refusal v p = first ((is_none (table_of v.files p), Esrch) ∷ (nat_le v.limits.processes (length (numbered 0 v.files.tables)), Eagain) ∷ [])
+pub record Refuses (e : Errno) (answer : Answer) (old new : Seen) : Type 0 where
+  pub answers : answer ≡ Refused e
+  pub tables : new ≡ old
 
--- what dup2 is refused with, if anything
-abbrev pub dup2_refusal : Seen → ℕ → ℤ → ℤ → Option Errno
-dup2_refusal v p fd to =
-    first ((is_none (table_of v.files p), Esrch)
-    ∷ (names_nothing v.files p fd, Ebadf)
-    ∷ (not (is_in_range v.limits to), Ebadf) ∷ [])
-
--- what exec and exit are refused with, if anything
-abbrev pub process_refusal : Seen → ℕ → Option Errno
-process_refusal v p = first ((is_none (table_of v.files p), Esrch) ∷ [])
-
--- what close is refused with, if anything
-abbrev pub close_refusal : Seen → ℕ → ℤ → Option Errno
-close_refusal v p fd = first ((is_none (table_of v.files p), Esrch) ∷ (names_nothing v.files p fd, Ebadf) ∷ [])
+-- the first of its refusals, which leaves the tables, or what the machine makes of them
+abbrev pub Does : FilesCall → Answer → Seen → Seen → Type 0
+Does call answer old new =
+    MatchOption (first call.refusals) (Succeeds call answer old new) (λ e. Refuses e answer old new)
 
 -- an object with one description more
 pub record CreatesOne (old new : Seen) (p : ℕ) (x : Object) (cloexec : Bool) : Type 0 where
@@ -143,6 +136,17 @@ effect_at s d now call =
 abbrev pub waiting_at : Files → ℕ → ℕ
 waiting_at s d = object_waiting (content_of s d) (side_of s d)
 
+-- the same under a key, and the files after it
+abbrev pub effect_under : Seen → DescId → ℕ → Call → Effect Object
+effect_under v key now call = effect_at v.files (number_of v key) now call
+
+abbrev pub files_after : Seen → DescId → ℕ → Call → Files
+files_after v key now call = affected v.files (number_of v key) (effect_under v key now call)
+
+-- the files once a number of a process names what is under a key
+abbrev pub named_at : Seen → ℕ → ℕ → DescId → Files
+named_at v p fd key = with_table v.files p (place_at (numbers_of v.files p) fd (slot (number_of v key) false))
+
 -- a description that no table names and no waiter holds
 abbrev pub is_dying : Seen → ℕ → Bool
 is_dying v d = is_live v.files d && (not (is_among (named_in_tables v.files.tables) d) && holds_of v d == 0)
@@ -175,6 +179,17 @@ files_in v = record { tables = []; descriptions = v.descriptions; objects = v.ob
 
 abbrev pub thing_number : Things → DescId → ℕ
 thing_number v key = unwrap_or (number_at v.keys key) 0
+
+-- what a call on the object under a key gives, and the objects after it
+abbrev pub thing_effect : Things → DescId → ℕ → Call → Effect Object
+thing_effect v key now call = effect_at (files_in v) (thing_number v key) now call
+
+abbrev pub objects_after : Things → DescId → ℕ → Call → List (Option Object)
+objects_after v key now call = (affected (files_in v) (thing_number v key) (thing_effect v key now call)).objects
+
+-- how many bytes a read could give there
+abbrev pub thing_waiting : Things → DescId → ℕ
+thing_waiting v key = waiting_at (files_in v) (thing_number v key)
 
 abbrev pub is_unused : List (Option Place) → List ℕ → List ℕ → ℕ → Bool
 is_unused ds names holds d = is_some (slice_index_or ds d None) && (count_at names d == 0 && count_at holds d == 0)

@@ -1,7 +1,7 @@
 //! The descriptor tables of all processes, by process number. A process that has ended has none.
 ghost use Rattle.std.specs.Prelude.{◌+◌, ◌<◌, ◌≡◌, ◌^◌, None, OnErr, OnOk, option_copied, slice_index_or, slice_set};
 ghost use Rattle.ep_machine.specs.Lists.{enter as entered_at, lowest_free};
-ghost use Rattle.ep_table.specs.Processes.{HasRoom, entered, items_of, kept_in, left, lists, process_of, put_at, slots_of};
+ghost use Rattle.ep_table.specs.Processes.{HasRoom, change_at, entered, items_of, kept_in, left, lists, process_of, put_at, slots_of};
 ghost use Rattle.ep_table.specs.declared.words.Descriptor.{Descriptor as the_descriptor};
 
 use crate::table::Table;
@@ -108,7 +108,7 @@ pub fn enter<A: Allocator>(
     descriptor: Descriptor,
 )
     requires { HasRoom (slice_index_or processes.old.items pid.0 None) 1 }
-    ensures { lists processes.new.items ≡ slice_set (lists processes.old.items) pid.0 (entered (process_of processes.old.items pid.0) descriptor) }
+    ensures { lists processes.new.items ≡ change_at processes.old.items pid.0 (λ q. entered q descriptor) }
 {
     let at = pid.0 as usize;
     if at < processes.len() {
@@ -124,7 +124,7 @@ pub fn enter_two<A: Allocator>(
     second: Descriptor,
 )
     requires { HasRoom (slice_index_or processes.old.items pid.0 None) 2 }
-    ensures { lists processes.new.items ≡ slice_set (lists processes.old.items) pid.0 (entered (entered (process_of processes.old.items pid.0) first) second) }
+    ensures { lists processes.new.items ≡ change_at processes.old.items pid.0 (λ q. entered (entered q first) second) }
 {
     let at = pid.0 as usize;
     if at < processes.len() {
@@ -142,7 +142,7 @@ fn leave_in<A: Allocator>(process: &mut Option<Table<A>>, number: usize)
 
 /// Frees a number of a process.
 pub fn leave<A: Allocator>(processes: &mut Vec<Option<Table<A>>, A>, pid: Pid, number: usize)
-    ensures { lists processes.new.items ≡ slice_set (lists processes.old.items) pid.0 (left (process_of processes.old.items pid.0) number) }
+    ensures { lists processes.new.items ≡ change_at processes.old.items pid.0 (λ q. left q number) }
 {
     let at = pid.0 as usize;
     if at < processes.len() {
@@ -173,7 +173,7 @@ pub fn put<A: Allocator>(
     descriptor: Descriptor,
 ) -> Result<(), AllocError>
     requires { number + 1 < 2 ^ 64 }
-    ensures ok { OnOk result (lists processes.new.items ≡ slice_set (lists processes.old.items) pid.0 (put_at (process_of processes.old.items pid.0) number descriptor)) }
+    ensures ok { OnOk result (lists processes.new.items ≡ change_at processes.old.items pid.0 (λ q. put_at q number descriptor)) }
     ensures err { OnErr result (lists processes.new.items ≡ lists processes.old.items) }
 {
     let at = pid.0 as usize;
@@ -193,18 +193,12 @@ fn close_flagged_in<A: Allocator>(process: &mut Option<Table<A>>)
 
 /// Frees the numbers of a process whose close-on-exec flag is on.
 pub fn close_flagged<A: Allocator>(processes: &mut Vec<Option<Table<A>>, A>, pid: Pid)
-    ensures { lists processes.new.items ≡ slice_set (lists processes.old.items) pid.0 (kept_in (process_of processes.old.items pid.0)) }
+    ensures { lists processes.new.items ≡ change_at processes.old.items pid.0 kept_in }
 {
     let at = pid.0 as usize;
     if at < processes.len() {
         close_flagged_in(&mut processes[at]);
     }
-}
-
-fn end_in<A: Allocator>(process: &mut Option<Table<A>>)
-    ensures { items_of process.new ≡ None }
-{
-    *process = None;
 }
 
 /// Takes the table of a process away.
@@ -213,6 +207,6 @@ pub fn end<A: Allocator>(processes: &mut Vec<Option<Table<A>>, A>, pid: Pid)
 {
     let at = pid.0 as usize;
     if at < processes.len() {
-        end_in(&mut processes[at]);
+        processes[at] = None;
     }
 }

@@ -5,13 +5,12 @@ ghost use Rattle.std.specs.Map.Iter.{ShowsInOrder};
 ghost use Rattle.ep_base.specs.declared.ids.DescId.{DescId};
 ghost use Rattle.ep_machine.specs.Lists.{is_among, numbered};
 ghost use Rattle.ep_machine.specs.Files.{object_of, place_of, side_of};
-ghost use Rattle.ep_machine.specs.Tables.{affected};
 ghost use Rattle.ep_object.specs.Memory.{asked_of};
 ghost use Rattle.ep_machine.specs.Objects.{close_end};
 ghost use Rattle.ep_machine.specs.Timer.{last_moment};
 ghost use Rattle.ep_table.specs.Closing.{Dies, IsAt, across, closed_in, closed_slot, other_key, other_slot, raised_slot};
 ghost use Rattle.ep_table.specs.Live.{live_ids};
-ghost use Rattle.ep_table.specs.Value.{InsertsOne, InsertsTwo, SoundThings, count_at, effect_at, files_in, less_at, more_at, number_at, thing_number, waiting_at};
+ghost use Rattle.ep_table.specs.Value.{InsertsOne, InsertsTwo, SoundThings, count_at, files_in, less_at, more_at, number_at, objects_after, thing_effect, thing_number, thing_waiting};
 
 use crate::live::Live;
 use crate::words::{Dead, Description, Dying, Shared};
@@ -168,13 +167,24 @@ impl<A: Allocator> Store<A> {
         &self.objects[description.object].object
     }
 
-    /// A new object with one description that has one name, or nothing changed where there is no memory.
+    /// Whether so many more descriptions and one more object find numbers.
+    fn has_numbers(&self, additional: u64) -> Result<(), AllocError>
+        ensures descriptions { OnOk result (length self.now.descriptions + additional < 2 ^ 64) }
+        ensures objects { OnOk result (length self.now.objects + 1 < 2 ^ 64) }
+    {
+        if u64::MAX - self.described < additional || self.made == u64::MAX {
+            return Err(AllocError);
+        }
+        Ok(())
+    }
+
+    /// A new object with one description that has one name, or nothing changed where there is no
+    /// memory or no number left.
     pub fn insert(&mut self, object: Object) -> Result<DescId, AllocError>
-        requires descriptions { length self.old.descriptions + 1 < 2 ^ 64 }
-        requires objects { length self.old.objects + 1 < 2 ^ 64 }
         ensures ok { IfOk result (λ key. InsertsOne self.old self.new key object) }
         ensures err { OnErr result (self.new ≡ self.old) }
     {
+        self.has_numbers(1)?;
         reserve(
             &mut self.descriptions,
             &mut self.objects,
@@ -201,13 +211,13 @@ impl<A: Allocator> Store<A> {
         Ok(DescId(key))
     }
 
-    /// A new object with a description of each end that have one name each, or nothing changed where there is no memory.
+    /// A new object with a description of each end that have one name each, or nothing changed where
+    /// there is no memory or no number left.
     pub fn insert_two(&mut self, object: Object) -> Result<(DescId, DescId), AllocError>
-        requires descriptions { length self.old.descriptions + 2 < 2 ^ 64 }
-        requires objects { length self.old.objects + 1 < 2 ^ 64 }
         ensures ok { IfOk result (λ keys. InsertsTwo self.old self.new keys.0 keys.1 object) }
         ensures err { OnErr result (self.new ≡ self.old) }
     {
+        self.has_numbers(2)?;
         reserve(
             &mut self.descriptions,
             &mut self.objects,
@@ -252,11 +262,11 @@ impl<A: Allocator> Store<A> {
     ) -> Result<(Answer, Raised), AllocError>
         requires live { IsSome (number_at self.old.keys key) }
         requires clock { now ≤ last_moment }
-        ensures answer { IfOk result (λ r. r.0 ≡ (effect_at (files_in self.old) (thing_number self.old key) now call.now).0) }
-        ensures raised { IfOk result (λ r. r.1 ≡ (effect_at (files_in self.old) (thing_number self.old key) now call.now).2) }
-        ensures objects { OnOk result (self.new ≡ record self.old { objects = (affected (files_in self.old) (thing_number self.old key) (effect_at (files_in self.old) (thing_number self.old key) now call.now)).objects }) }
+        ensures answer { IfOk result (λ r. r.0 ≡ (thing_effect self.old key now call.now).0) }
+        ensures raised { IfOk result (λ r. r.1 ≡ (thing_effect self.old key now call.now).2) }
+        ensures objects { OnOk result (self.new ≡ record self.old { objects = objects_after self.old key now call.now }) }
         ensures err { OnErr result (self.new ≡ self.old) }
-        ensures inline { min (asked_of call.now) (waiting_at (files_in self.old) (thing_number self.old key)) ≤ 16 → IsOk result }
+        ensures inline { min (asked_of call.now) (thing_waiting self.old key) ≤ 16 → IsOk result }
     {
         let description = self.descriptions[key.0];
         let shared = &mut self.objects[description.object];

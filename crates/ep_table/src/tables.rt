@@ -1,20 +1,19 @@
 //! The tables: processes, descriptors, open file descriptions and objects.
 ghost use Rattle.std.specs.Prelude.{◌≡◌, ◌+◌, ◌<◌, ◌≤◌, ◌^◌, ◌∷◌, [], ℕ, false, IfNone, IfOk, IfSome, IsOk, IsSome, None, OnErr, OnOk, Some, is_some, length, min, pos, true};
 ghost use Rattle.std.specs.Map.Iter.{ShowsInOrder};
-ghost use Rattle.ep_base.specs.declared.answer.Answer.TheVariants.{Done, Num, Refused};
-ghost use Rattle.ep_base.specs.declared.errno.Errno.{Errno as the_errno};
 ghost use Rattle.ep_base.specs.declared.ids.DescId.{DescId};
 ghost use Rattle.ep_machine.specs.Deaths.{named_in_tables};
 ghost use Rattle.ep_machine.specs.Effect.{first};
-ghost use Rattle.ep_machine.specs.Lists.{is_among, numbered, place_at};
+ghost use Rattle.ep_machine.specs.Lists.{is_among, numbered};
 ghost use Rattle.ep_machine.specs.Files.{named_by, numbers_of, object_of, opening_files, place_of, side_of, table_of, under};
 ghost use Rattle.ep_machine.specs.Bits.{raises};
 ghost use Rattle.ep_machine.specs.Objects.{advance, object_present};
-ghost use Rattle.ep_machine.specs.Tables.{affected, answer_one, answer_two, close, create_refusals, dup, dup2, exec, exit, fork, is_in_range, one_refusals, slot, two_refusals, with_table};
+ghost use Rattle.ep_machine.specs.FilesCalls.{close_of, dup2_of, dup_of, fork_of, one_of, pipe_of, socketpair_of, two_of};
+ghost use Rattle.ep_machine.specs.Tables.{close, create_refusals, dup, exec, exit, fork, is_in_range, second_free, two_refusals};
 ghost use Rattle.ep_machine.specs.Timer.{last_moment};
 ghost use Rattle.ep_table.specs.Closing.{IsAt, Takes, across};
 ghost use Rattle.ep_table.specs.Live.{live_ids};
-ghost use Rattle.ep_table.specs.Value.{CreatesOne, CreatesTwo, Gains, Sound, close_refusal, content_of, dup2_refusal, dup_refusal, effect_at, fork_refusal, holds_of, less_at, more_at, natural, number_found, number_of, number_under, one_refusal, process_refusal, two_refusal, waiting_at};
+ghost use Rattle.ep_table.specs.Value.{CreatesOne, CreatesTwo, Does, Gains, Sound, content_of, effect_under, files_after, holds_of, less_at, more_at, named_at, natural, number_found, number_of, number_under, waiting_at};
 ghost use Rattle.ep_object.specs.Memory.{asked_of};
 ghost use Rattle.ep_object.specs.Next.{IsNextMoment};
 
@@ -157,27 +156,17 @@ impl<A: Allocator> Tables<A> {
         None
     }
 
-    /// What making one description in a process is refused with: EMFILE where none of its numbers is
-    /// free, else ENFILE where the limit of live descriptions is reached. A process that isn't there
-    /// counts as one whose numbers are all free.
-    pub fn refuses_one(&self, pid: Pid) -> Option<Errno>
-        ensures { result ≡ first (one_refusals self.now.limits self.now.files pid.0) }
-    {
-        self.refuses(lowest(&self.processes, pid), 1)
-    }
-
-    /// The same for two descriptions, at two numbers.
-    pub fn refuses_two(&self, pid: Pid) -> Option<Errno>
-        ensures { result ≡ first (two_refusals self.now.limits self.now.files pid.0) }
+    /// The same for two descriptions at the two lowest free numbers of a process.
+    fn refuses_two(&self, pid: Pid) -> Option<Errno>
+        ensures first { result ≡ first (two_refusals self.now.limits self.now.files pid.0) }
+        ensures small { IfNone result (second_free (numbers_of self.now.files pid.0) < 65536) }
     {
         self.refuses(second(&self.processes, pid), 2)
     }
 
     /// An object with one description, at the lowest free number of a process that is there.
     fn add_one(&mut self, pid: Pid, cloexec: bool, object: Object) -> Result<(), AllocError>
-        requires process { IsSome (table_of self.old.files pid.0) }
-        requires descriptions { length self.old.files.descriptions + 2 < 2 ^ 64 }
-        requires objects { length self.old.files.objects + 2 < 2 ^ 64 }
+        requires { IsSome (table_of self.old.files pid.0) }
         ensures ok { OnOk result (CreatesOne self.old self.new pid.0 object cloexec) }
         ensures err { OnErr result (self.new ≡ self.old) }
     {
@@ -197,9 +186,7 @@ impl<A: Allocator> Tables<A> {
 
     /// An object with two descriptions, at the lowest two free numbers of a process that is there.
     fn add_two(&mut self, pid: Pid, cloexec: bool, object: Object) -> Result<(), AllocError>
-        requires process { IsSome (table_of self.old.files pid.0) }
-        requires descriptions { length self.old.files.descriptions + 2 < 2 ^ 64 }
-        requires objects { length self.old.files.objects + 2 < 2 ^ 64 }
+        requires { IsSome (table_of self.old.files pid.0) }
         ensures ok { OnOk result (CreatesTwo self.old self.new pid.0 object cloexec) }
         ensures err { OnErr result (self.new ≡ self.old) }
     {
@@ -218,21 +205,16 @@ impl<A: Allocator> Tables<A> {
         Ok(())
     }
 
-    /// A new object with one description at the lowest free number of a process, which is the answer.
-    /// Refused, with nothing changed: ESRCH where there is no such process, EMFILE where none of its
-    /// numbers is free, ENFILE where the limit of live descriptions is reached. An `AllocError` leaves
-    /// the tables.
+    /// A new object with one description at the lowest free number of a process that is there, which
+    /// is the answer: eventfd(2), timerfd_create(2), epoll_create(2). Refused, with nothing changed:
+    /// EMFILE where none of its numbers is free, ENFILE where the limit of live descriptions is
+    /// reached. An `AllocError`, which comes for want of memory or where 2^64 - 1 descriptions or
+    /// objects were made, leaves the tables.
     pub fn create(&mut self, pid: Pid, cloexec: bool, object: Object) -> Result<Answer, AllocError>
-        requires descriptions { length self.old.files.descriptions + 2 < 2 ^ 64 }
-        requires objects { length self.old.files.objects + 2 < 2 ^ 64 }
-        ensures refused { IfOk result (λ answer. (e : the_errno) → one_refusal self.old pid.0 ≡ Some e → (answer ≡ Refused e) × (self.new ≡ self.old)) }
-        ensures answer { IfOk result (λ answer. one_refusal self.old pid.0 ≡ None → answer ≡ answer_one self.old.files pid.0) }
-        ensures created { OnOk result (one_refusal self.old pid.0 ≡ None → CreatesOne self.old self.new pid.0 object cloexec) }
+        requires { IsSome (table_of self.old.files pid.0) }
+        ensures ok { IfOk result (λ answer. Does (one_of self.old.limits self.old.files pid.0 object cloexec) answer self.old self.new) }
         ensures err { OnErr result (self.new ≡ self.old) }
     {
-        if !self.has_process(pid) {
-            return Ok(Answer::Refused(Errno::Esrch));
-        }
         let number = lowest(&self.processes, pid);
         if let Some(errno) = self.refuses(number, 1) {
             return Ok(Answer::Refused(errno));
@@ -241,33 +223,56 @@ impl<A: Allocator> Tables<A> {
         Ok(Answer::Num(number as u64))
     }
 
-    /// A new object with two descriptions at the lowest two free numbers of a process, which are the
-    /// answer: the first end at the lower one. Refused, with nothing changed: ESRCH where there is no
-    /// such process, EMFILE where fewer than two of its numbers are free, ENFILE where fewer than two
-    /// descriptions are left of the limit. An `AllocError` leaves the tables.
-    pub fn create_two(
-        &mut self,
-        pid: Pid,
-        cloexec: bool,
-        object: Object,
-    ) -> Result<Answer, AllocError>
-        requires descriptions { length self.old.files.descriptions + 2 < 2 ^ 64 }
-        requires objects { length self.old.files.objects + 2 < 2 ^ 64 }
-        ensures refused { IfOk result (λ answer. (e : the_errno) → two_refusal self.old pid.0 ≡ Some e → (answer ≡ Refused e) × (self.new ≡ self.old)) }
-        ensures answer { IfOk result (λ answer. two_refusal self.old pid.0 ≡ None → answer ≡ answer_two self.old.files pid.0) }
-        ensures created { OnOk result (two_refusal self.old pid.0 ≡ None → CreatesTwo self.old self.new pid.0 object cloexec) }
+    /// An object with two descriptions at the two lowest free numbers, where that isn't refused.
+    fn create_two(&mut self, pid: Pid, cloexec: bool, object: Object) -> Result<Answer, AllocError>
+        requires process { IsSome (table_of self.old.files pid.0) }
+        requires free { first (two_refusals self.old.limits self.old.files pid.0) ≡ None }
+        requires small { second_free (numbers_of self.old.files pid.0) < 65536 }
+        ensures ok { IfOk result (λ answer. Does (two_of self.old.limits self.old.files pid.0 object cloexec) answer self.old self.new) }
         ensures err { OnErr result (self.new ≡ self.old) }
     {
-        if !self.has_process(pid) {
-            return Ok(Answer::Refused(Errno::Esrch));
-        }
         let first = lowest(&self.processes, pid);
         let second = second(&self.processes, pid);
-        if let Some(errno) = self.refuses(second, 2) {
-            return Ok(Answer::Refused(errno));
-        }
         self.add_two(pid, cloexec, object)?;
         Ok(Answer::Two(fd_of(first), fd_of(second)))
+    }
+
+    /// pipe(2): a pipe, whose first end is read and whose second is written, at the two lowest free
+    /// numbers of a process that is there, which are the answer: the read end at the lower one. The
+    /// limits have how many bytes it holds. Refused, with nothing changed: EMFILE where fewer than two
+    /// of its numbers are free, ENFILE where fewer than two descriptions are left of the limit. An
+    /// `AllocError`, which comes for want of memory or where 2^64 - 2 descriptions or 2^64 - 1 objects
+    /// were made, leaves the tables.
+    pub fn pipe(&mut self, alloc: Global, pid: Pid, cloexec: bool) -> Result<Answer, AllocError>
+        requires { IsSome (table_of self.old.files pid.0) }
+        ensures ok { IfOk result (λ answer. Does (pipe_of self.old.limits self.old.files pid.0 cloexec) answer self.old self.new) }
+        ensures err { OnErr result (self.new ≡ self.old) }
+    {
+        if let Some(errno) = self.refuses_two(pid) {
+            return Ok(Answer::Refused(errno));
+        }
+        let object = Object::pipe(alloc, self.limits.pipe_bytes())?;
+        self.create_two(pid, cloexec, object)
+    }
+
+    /// socketpair(2): two connected sockets at the two lowest free numbers of a process that is there,
+    /// which are the answer. The limits have how many bytes each direction holds. Refusals and
+    /// `AllocError` are those of `pipe`.
+    pub fn socketpair(
+        &mut self,
+        alloc: Global,
+        pid: Pid,
+        cloexec: bool,
+    ) -> Result<Answer, AllocError>
+        requires { IsSome (table_of self.old.files pid.0) }
+        ensures ok { IfOk result (λ answer. Does (socketpair_of self.old.limits self.old.files pid.0 cloexec) answer self.old self.new) }
+        ensures err { OnErr result (self.new ≡ self.old) }
+    {
+        if let Some(errno) = self.refuses_two(pid) {
+            return Ok(Answer::Refused(errno));
+        }
+        let object = Object::pair(alloc, self.limits.sock_bytes())?;
+        self.create_two(pid, cloexec, object)
     }
 
     /// Another descriptor of a description, at the lowest free number of a process that is there.
@@ -289,19 +294,15 @@ impl<A: Allocator> Tables<A> {
         Ok(())
     }
 
-    /// dup(2): another descriptor of what `fd` names, at the lowest free number of the process, which
-    /// is the answer; its close-on-exec flag is off. Refused, with nothing changed: ESRCH where there
-    /// is no such process, EBADF where `fd` names nothing, EMFILE where none of its numbers is free.
-    /// An `AllocError` leaves the tables.
+    /// dup(2): another descriptor of what `fd` names, at the lowest free number of a process that is
+    /// there, which is the answer; its close-on-exec flag is off. Refused, with nothing changed: EBADF
+    /// where `fd` names nothing, EMFILE where none of its numbers is free. An `AllocError` leaves the
+    /// tables.
     pub fn dup(&mut self, pid: Pid, fd: Fd) -> Result<Answer, AllocError>
-        ensures refused { IfOk result (λ answer. (e : the_errno) → dup_refusal self.old pid.0 fd.0 ≡ Some e → (answer ≡ Refused e) × (self.new ≡ self.old)) }
-        ensures answer { IfOk result (λ answer. dup_refusal self.old pid.0 fd.0 ≡ None → answer ≡ answer_one self.old.files pid.0) }
-        ensures done { OnOk result (dup_refusal self.old pid.0 fd.0 ≡ None → self.new ≡ record self.old { files = dup self.old.files pid.0 (named_by self.old.files pid.0 fd.0) }) }
+        requires { IsSome (table_of self.old.files pid.0) }
+        ensures ok { IfOk result (λ answer. Does (dup_of self.old.limits self.old.files pid.0 fd.0) answer self.old self.new) }
         ensures err { OnErr result (self.new ≡ self.old) }
     {
-        if !self.has_process(pid) {
-            return Ok(Answer::Refused(Errno::Esrch));
-        }
         let Some(description) = self.lookup(pid, fd) else {
             return Ok(Answer::Refused(Errno::Ebadf));
         };
@@ -319,7 +320,7 @@ impl<A: Allocator> Tables<A> {
         requires live { IsSome (number_under self.old description) }
         requires named { is_among (named_in_tables self.old.files.tables) (number_of self.old description) ≡ true }
         requires small { number < 65536 }
-        ensures ok { OnOk result (self.new ≡ record self.old { files = with_table self.old.files pid.0 (place_at (numbers_of self.old.files pid.0) number (slot (number_of self.old description) false)); dying = self.new.dying }) }
+        ensures ok { OnOk result (self.new ≡ record self.old { files = named_at self.old pid.0 number description; dying = self.new.dying }) }
         ensures err { OnErr result (self.new ≡ self.old) }
     {
         let replaced = descriptor_at(&self.processes, pid, number);
@@ -349,20 +350,15 @@ impl<A: Allocator> Tables<A> {
         }
     }
 
-    /// dup2(2): `to` names what `fd` names, with the close-on-exec flag off, and is the answer. What
-    /// it named before is closed first, silently; where `to` is `fd`, nothing is done. Refused, with
-    /// nothing changed: ESRCH where there is no such process, EBADF where `fd` names nothing, EBADF
-    /// where `to` is out of range. An `AllocError` leaves the tables. The time is that of growing the
-    /// table up to `to`.
+    /// dup2(2): in a process that is there `to` names what `fd` names, with the close-on-exec flag off,
+    /// and is the answer. What it named before is closed first, silently; where `to` is `fd`, nothing
+    /// is done. Refused, with nothing changed: EBADF where `fd` names nothing, EBADF where `to` is out
+    /// of range. An `AllocError` leaves the tables. The time is that of growing the table up to `to`.
     pub fn dup2(&mut self, pid: Pid, fd: Fd, to: Fd) -> Result<Answer, AllocError>
-        ensures refused { IfOk result (λ answer. (e : the_errno) → dup2_refusal self.old pid.0 fd.0 to.0 ≡ Some e → (answer ≡ Refused e) × (self.new ≡ self.old)) }
-        ensures answer { IfOk result (λ answer. dup2_refusal self.old pid.0 fd.0 to.0 ≡ None → (n : ℕ) → to.0 ≡ pos n → answer ≡ Num n) }
-        ensures done { OnOk result (dup2_refusal self.old pid.0 fd.0 to.0 ≡ None → self.new ≡ record self.old { files = dup2 self.old.files pid.0 fd.0 to.0 (named_by self.old.files pid.0 fd.0); dying = self.new.dying }) }
+        requires { IsSome (table_of self.old.files pid.0) }
+        ensures ok { IfOk result (λ answer. Does (dup2_of self.old.limits self.old.files pid.0 fd.0 to.0) answer self.old self.new) }
         ensures err { OnErr result (self.new ≡ self.old) }
     {
-        if !self.has_process(pid) {
-            return Ok(Answer::Refused(Errno::Esrch));
-        }
         let Some(description) = self.lookup(pid, fd) else {
             return Ok(Answer::Refused(Errno::Ebadf));
         };
@@ -395,21 +391,17 @@ impl<A: Allocator> Tables<A> {
         Ok(())
     }
 
-    /// fork(2): a new process with a copy of the table, flags included, which shares the descriptions.
-    /// The answer is its number, which is never used again. Refused, with nothing changed: ESRCH where
-    /// there is no such process, EAGAIN where as many processes live as the limit allows. An
-    /// `AllocError` leaves the tables. The time is that of going through its table.
+    /// fork(2): a new process with a copy of the table of a process that is there, flags included, which
+    /// shares the descriptions. The answer is its number, which is never used again. Refused, with
+    /// nothing changed: EAGAIN where as many processes live as the limit allows. An `AllocError` leaves
+    /// the tables. The time is that of going through its table.
     pub fn fork(&mut self, pid: Pid) -> Result<Answer, AllocError>
     where
         A: Copy,
-        ensures refused { IfOk result (λ answer. (e : the_errno) → fork_refusal self.old pid.0 ≡ Some e → (answer ≡ Refused e) × (self.new ≡ self.old)) }
-        ensures answer { IfOk result (λ answer. fork_refusal self.old pid.0 ≡ None → answer ≡ Num (length self.old.files.tables)) }
-        ensures done { OnOk result (fork_refusal self.old pid.0 ≡ None → self.new ≡ record self.old { files = fork self.old.files pid.0 }) }
+        requires { IsSome (table_of self.old.files pid.0) }
+        ensures ok { IfOk result (λ answer. Does (fork_of self.old.limits self.old.files pid.0) answer self.old self.new) }
         ensures err { OnErr result (self.new ≡ self.old) }
     {
-        if !self.has_process(pid) {
-            return Ok(Answer::Refused(Errno::Esrch));
-        }
         if self.limits.processes() as usize <= self.living {
             return Ok(Answer::Refused(Errno::Eagain));
         }
@@ -429,17 +421,13 @@ impl<A: Allocator> Tables<A> {
         self.store.drop_name(description);
     }
 
-    /// close(2): frees a descriptor number. A description that no table names and no waiter holds any
-    /// more stays live until `take_dead` gives it. Refused, with nothing changed: ESRCH where there is
-    /// no such process, EBADF where `fd` names nothing. The time is constant.
+    /// close(2): frees a descriptor number of a process that is there. A description that no table names
+    /// and no waiter holds any more stays live until `take_dead` gives it. Refused, with nothing
+    /// changed: EBADF where `fd` names nothing. The time is constant.
     pub fn close(&mut self, pid: Pid, fd: Fd) -> Answer
-        ensures refused { (e : the_errno) → close_refusal self.old pid.0 fd.0 ≡ Some e → (result ≡ Refused e) × (self.new ≡ self.old) }
-        ensures answer { close_refusal self.old pid.0 fd.0 ≡ None → result ≡ Done }
-        ensures done { close_refusal self.old pid.0 fd.0 ≡ None → self.new ≡ record self.old { files = close self.old.files pid.0 fd.0; dying = self.new.dying } }
+        requires { IsSome (table_of self.old.files pid.0) }
+        ensures { Does (close_of self.old.files pid.0 fd.0) result self.old self.new }
     {
-        if !self.has_process(pid) {
-            return Answer::Refused(Errno::Esrch);
-        }
         let Some(description) = self.lookup(pid, fd) else {
             return Answer::Refused(Errno::Ebadf);
         };
@@ -449,8 +437,9 @@ impl<A: Allocator> Tables<A> {
         Answer::Done
     }
 
-    /// Closes the numbers of a process that is there whose close-on-exec flag is on.
-    fn unname_flagged(&mut self, pid: Pid)
+    /// execve(2): closes the numbers of a process that is there whose close-on-exec flag is on. It is
+    /// never refused. The time is that of going through its table.
+    pub fn exec(&mut self, pid: Pid)
         requires { IsSome (table_of self.old.files pid.0) }
         ensures { self.new ≡ record self.old { files = exec self.old.files pid.0; dying = self.new.dying } }
     {
@@ -460,22 +449,9 @@ impl<A: Allocator> Tables<A> {
         }
     }
 
-    /// execve(2): closes the numbers of a process whose close-on-exec flag is on. Refused, with nothing
-    /// changed: ESRCH where there is no such process. The time is that of going through its table.
-    pub fn exec(&mut self, pid: Pid) -> Answer
-        ensures refused { (e : the_errno) → process_refusal self.old pid.0 ≡ Some e → (result ≡ Refused e) × (self.new ≡ self.old) }
-        ensures answer { process_refusal self.old pid.0 ≡ None → result ≡ Done }
-        ensures done { process_refusal self.old pid.0 ≡ None → self.new ≡ record self.old { files = exec self.old.files pid.0; dying = self.new.dying } }
-    {
-        if !self.has_process(pid) {
-            return Answer::Refused(Errno::Esrch);
-        }
-        self.unname_flagged(pid);
-        Answer::Done
-    }
-
-    /// Closes all numbers of a process that is there, which ends.
-    fn remove_process(&mut self, pid: Pid)
+    /// _exit(2): closes all numbers of a process that is there and ends it. Its number is never used
+    /// again. It is never refused. The time is that of going through its table.
+    pub fn exit(&mut self, pid: Pid)
         requires { IsSome (table_of self.old.files pid.0) }
         ensures { self.new ≡ record self.old { files = exit self.old.files pid.0; dying = self.new.dying } }
     {
@@ -484,21 +460,6 @@ impl<A: Allocator> Tables<A> {
             end(&mut self.processes, pid);
             self.living -= 1;
         }
-    }
-
-    /// _exit(2): closes all numbers of a process and ends it. Its number is never used again. Refused,
-    /// with nothing changed: ESRCH where there is no such process. The time is that of going through
-    /// its table.
-    pub fn exit(&mut self, pid: Pid) -> Answer
-        ensures refused { (e : the_errno) → process_refusal self.old pid.0 ≡ Some e → (result ≡ Refused e) × (self.new ≡ self.old) }
-        ensures answer { process_refusal self.old pid.0 ≡ None → result ≡ Done }
-        ensures done { process_refusal self.old pid.0 ≡ None → self.new ≡ record self.old { files = exit self.old.files pid.0; dying = self.new.dying } }
-    {
-        if !self.has_process(pid) {
-            return Answer::Refused(Errno::Esrch);
-        }
-        self.remove_process(pid);
-        Answer::Done
     }
 
     /// Holds a live description for a waiter: it lives until each hold is released, whether a table
@@ -600,14 +561,6 @@ impl<A: Allocator> Tables<A> {
         self.object(desc).next(now)
     }
 
-    /// How many bytes a read at a live description could give.
-    pub fn waiting(&self, desc: DescId) -> usize
-        requires { IsSome (number_under self.now desc) }
-        ensures { result ≡ waiting_at self.now.files (number_of self.now desc) }
-    {
-        self.object(desc).waiting(self.end(desc))
-    }
-
     /// A call on the object of a live description, at its end: what it is answered at the moment
     /// `now`, in milliseconds, and what it raises at the ends of the object. An `AllocError` leaves
     /// the tables, and comes only where a read asks for more than 16 bytes and more than 16 wait.
@@ -620,9 +573,9 @@ impl<A: Allocator> Tables<A> {
     ) -> Result<(Answer, Raised), AllocError>
         requires live { IsSome (number_under self.old desc) }
         requires clock { now ≤ last_moment }
-        ensures answer { IfOk result (λ r. r.0 ≡ (effect_at self.old.files (number_of self.old desc) now call.now).0) }
-        ensures raised { IfOk result (λ r. r.1 ≡ (effect_at self.old.files (number_of self.old desc) now call.now).2) }
-        ensures files { OnOk result (self.new ≡ record self.old { files = affected self.old.files (number_of self.old desc) (effect_at self.old.files (number_of self.old desc) now call.now) }) }
+        ensures answer { IfOk result (λ r. r.0 ≡ (effect_under self.old desc now call.now).0) }
+        ensures raised { IfOk result (λ r. r.1 ≡ (effect_under self.old desc now call.now).2) }
+        ensures files { OnOk result (self.new ≡ record self.old { files = files_after self.old desc now call.now }) }
         ensures err { OnErr result (self.new ≡ self.old) }
         ensures inline { min (asked_of call.now) (waiting_at self.old.files (number_of self.old desc)) ≤ 16 → IsOk result }
     {

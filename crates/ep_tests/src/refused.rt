@@ -1,8 +1,8 @@
 //! Each call on the tables that can grow is refused its memory over heaps of rising size, and leaves the tables.
-ghost use Rattle.std.specs.Prelude.{◌≡◌, ◌+◌, ◌<◌, ◌≤◌, ◌^◌, [], length};
+ghost use Rattle.std.specs.Prelude.{◌≡◌, []};
 
 use self::Growth::{Create, CreateTwo, Dup, Dup2, Fork};
-use ep_base::{Answer, Fd, Limits, Pid};
+use ep_base::{Answer, Errno, Fd, Limits, Pid};
 use ep_object::Object;
 use ep_table::Tables;
 use linked_list_allocator::LocalHeap;
@@ -25,15 +25,13 @@ fn call(
     alloc: Global,
     growth: Growth,
     to: u16,
-) -> Result<Answer, AllocError>
-    requires descriptions { length tables.old.files.descriptions + 2 < 2 ^ 64 }
-    requires objects { length tables.old.files.objects + 2 < 2 ^ 64 }
-    ensures descriptions { length tables.new.files.descriptions ≤ length tables.old.files.descriptions + 2 }
-    ensures objects { length tables.new.files.objects ≤ length tables.old.files.objects + 1 }
-{
+) -> Result<Answer, AllocError> {
+    if !tables.has_process(Pid(1)) {
+        return Ok(Answer::Refused(Errno::Esrch));
+    }
     match growth {
         Create => tables.create(Pid(1), true, Object::instance()),
-        CreateTwo => tables.create_two(Pid(1), false, Object::pair(alloc, 1)?),
+        CreateTwo => tables.socketpair(alloc, Pid(1), false),
         Dup => tables.dup(Pid(1), Fd(0)),
         Dup2 => tables.dup2(Pid(1), Fd(0), Fd(i32::from(to))),
         Fork => tables.fork(Pid(1)),
@@ -51,7 +49,6 @@ fn sizes(tables: &Tables<&LocalHeap>) -> (usize, usize, usize) {
 // Whether a description can be held.
 fn is_held(tables: &mut Tables<&LocalHeap>) -> bool
     requires { tables.old.dying ≡ [] }
-    ensures { tables.new.files ≡ tables.old.files }
 {
     match tables.lookup(Pid(1), Fd(0)) {
         Some(desc) => tables.hold(desc).is_ok(),
@@ -61,10 +58,7 @@ fn is_held(tables: &mut Tables<&LocalHeap>) -> bool
 
 // Whether the tables answer as before the first of 16 calls in a row that is refused its memory, or
 // `None` where none is.
-fn first_refusal(tables: &mut Tables<&LocalHeap>, alloc: Global, growth: Growth) -> Option<bool>
-    requires descriptions { length tables.old.files.descriptions ≤ 1 }
-    requires objects { length tables.old.files.objects ≤ 1 }
-{
+fn first_refusal(tables: &mut Tables<&LocalHeap>, alloc: Global, growth: Growth) -> Option<bool> {
     for turn in 0..16_u16 {
         let before = sizes(tables);
         if call(tables, alloc, growth, 3 + turn).is_err() {

@@ -1,5 +1,6 @@
 //! Worked runs of the tables: tables of calls, which one function makes in turn, after an object is made.
-ghost use Rattle.std.specs.Prelude.{◌≡◌, ◌+◌, ◌<◌, ◌^◌, length};
+ghost use Rattle.std.specs.Prelude.{◌≡◌, IsSome};
+ghost use Rattle.ep_table.specs.Value.{holds_of, number_of, number_under};
 
 use self::Kind::{Instance, Pipe, Timer};
 use self::Op::{
@@ -38,6 +39,7 @@ type Start = (u32, u32, u32, u64, Kind, bool, Want);
 #[derive(Clone, Copy)]
 enum Op {
     Has(u64),
+    // An instance is made, or a pipe.
     One(u64),
     Two(u64),
     Names(u64, i32),
@@ -121,10 +123,6 @@ fn answered(answer: Answer) -> Want {
     }
 }
 
-fn refused(errno: Option<Errno>) -> Want {
-    errno.map_or(Nothing, Refused)
-}
-
 fn called(tables: &mut Tables, fd: i32, call: &Call) -> Result<Want, AllocError> {
     let Some(desc) = tables.lookup(Pid(1), Fd(fd)) else {
         return Ok(Nothing);
@@ -173,7 +171,7 @@ fn looked(tables: &Tables, ends: Ends, fd: i32, view: View) -> Want {
         Side => Bits(u32::from(tables.end(desc) == End::Second), 0),
         Other => Named(which(ends, tables.other(desc))),
         Present => Bits(tables.present(desc, 0).0, 0),
-        Waiting => Number(tables.waiting(desc) as u64),
+        Waiting => Number(tables.object(desc).waiting(tables.end(desc)) as u64),
         Next(now) => tables.next(desc, now.min(T_MAX)).map_or(Nothing, Number),
         Advance(old, new) => {
             let raised = tables.advance(desc, old.min(T_MAX), new.min(T_MAX));
@@ -185,8 +183,6 @@ fn looked(tables: &Tables, ends: Ends, fd: i32, view: View) -> Want {
 fn asked(tables: &Tables, ends: Ends, op: Op) -> Want {
     match op {
         Has(pid) => Bits(u32::from(tables.has_process(Pid(pid))), 0),
-        One(pid) => refused(tables.refuses_one(Pid(pid))),
-        Two(pid) => refused(tables.refuses_two(Pid(pid))),
         Names(pid, fd) => Named(which(ends, tables.lookup(Pid(pid), Fd(fd)))),
         Lives(place) => Named(which(ends, tables.live().nth(place))),
         At(fd, view) => looked(tables, ends, fd, view),
@@ -194,23 +190,54 @@ fn asked(tables: &Tables, ends: Ends, op: Op) -> Want {
     }
 }
 
-fn named(tables: &mut Tables, op: Op) -> Result<Answer, AllocError> {
-    Ok(match op {
-        Dup(pid, fd) => tables.dup(Pid(pid), Fd(fd))?,
-        Dup2(pid, fd, to) => tables.dup2(Pid(pid), Fd(fd), Fd(to))?,
-        Fork(pid) => tables.fork(Pid(pid))?,
-        Close(pid, fd) => tables.close(Pid(pid), Fd(fd)),
-        Exec(pid) => tables.exec(Pid(pid)),
-        Exit(pid) => tables.exit(Pid(pid)),
-        _ => Answer::Parked,
-    })
+// A call on the tables in a process, once it is there.
+fn named(tables: &mut Tables, pid: u64, op: Op) -> Result<Want, AllocError> {
+    let pid = Pid(pid);
+    if !tables.has_process(pid) {
+        return Ok(Refused(Esrch));
+    }
+    match op {
+        Dup(_, fd) => Ok(answered(tables.dup(pid, Fd(fd))?)),
+        Dup2(_, fd, to) => Ok(answered(tables.dup2(pid, Fd(fd), Fd(to))?)),
+        Fork(_) => Ok(answered(tables.fork(pid)?)),
+        Close(_, fd) => Ok(answered(tables.close(pid, Fd(fd)))),
+        Exec(_) => {
+            tables.exec(pid);
+            Ok(Done)
+        }
+        _ => {
+            tables.exit(pid);
+            Ok(Done)
+        }
+    }
+}
+
+fn created(
+    tables: &mut Tables,
+    alloc: Global,
+    pid: u64,
+    kind: Kind,
+    cloexec: bool,
+) -> Result<Want, AllocError> {
+    let pid = Pid(pid);
+    if !tables.has_process(pid) {
+        return Ok(Refused(Esrch));
+    }
+    let answer = match kind {
+        Pipe => tables.pipe(alloc, pid, cloexec)?,
+        Instance => tables.create(pid, cloexec, Object::instance())?,
+        Timer => tables.create(pid, cloexec, Object::timer(alloc))?,
+    };
+    Ok(answered(answer))
 }
 
 fn make(tables: &mut Tables, alloc: Global, ends: Ends, op: Op) -> Result<Want, AllocError> {
     match op {
-        Dup(..) | Dup2(..) | Fork(_) | Close(..) | Exec(_) | Exit(_) => {
-            Ok(answered(named(tables, op)?))
+        Dup(pid, ..) | Dup2(pid, ..) | Fork(pid) | Close(pid, _) | Exec(pid) | Exit(pid) => {
+            named(tables, pid, op)
         }
+        One(pid) => created(tables, alloc, pid, Instance, false),
+        Two(pid) => created(tables, alloc, pid, Pipe, false),
         Dead => Ok(took(tables, ends)),
         Write(fd, byte) => written(tables, alloc, fd, byte),
         Read(fd, n) => called(tables, fd, &Call::Read { fd: Fd(fd), n }),
@@ -240,24 +267,6 @@ fn limits(descriptors: u32, files: u32, processes: u32) -> Limits {
         Some(limits) => limits,
         None => Limits::default(),
     }
-}
-
-fn created(
-    tables: &mut Tables,
-    alloc: Global,
-    pid: u64,
-    kind: Kind,
-    cloexec: bool,
-) -> Result<Want, AllocError>
-    requires descriptions { length tables.old.files.descriptions + 2 < 2 ^ 64 }
-    requires objects { length tables.old.files.objects + 2 < 2 ^ 64 }
-{
-    let answer = match kind {
-        Pipe => tables.create_two(Pid(pid), cloexec, Object::pipe(alloc, 4_096)?)?,
-        Instance => tables.create(Pid(pid), cloexec, Object::instance())?,
-        Timer => tables.create(Pid(pid), cloexec, Object::timer(alloc))?,
-    };
-    Ok(answered(answer))
 }
 
 fn run(alloc: Global, start: Start, steps: &[Step]) -> Result<Option<usize>, AllocError> {
@@ -302,8 +311,8 @@ const OPENING: [Step; 17] = [
     (At(3, Other), Named(Nobody)),
     (At(3, Present), Bits(0, 0)),
     (At(3, Side), Bits(0, 0)),
-    (One(1), Nothing),
-    (Two(1), Nothing),
+    (One(1), Number(4)),
+    (Two(1), Pair(5, 6)),
 ];
 
 // The numbers that pipe(2) gives, the ends under them, and a byte on its way from one to the other.
@@ -495,14 +504,13 @@ const TIMER: [Step; 6] = [
     (At(3, Next(5)), Nothing),
 ];
 
-// Whether a number of the first process is closed.
-fn closes(tables: &mut Tables, fd: i32) -> bool
-    ensures keys { tables.new.keys ≡ tables.old.keys }
-    ensures holds { tables.new.holds ≡ tables.old.holds }
-    ensures descriptions { tables.new.files.descriptions ≡ tables.old.files.descriptions }
-    ensures objects { tables.new.files.objects ≡ tables.old.files.objects }
+// Whether a number of the first process is closed, while a description is held.
+fn closes(tables: &mut Tables, held: DescId, fd: i32) -> bool
+    requires { IsSome (number_under tables.old held) }
+    ensures live { IsSome (number_under tables.new held) }
+    ensures held { holds_of tables.new (number_of tables.new held) ≡ holds_of tables.old (number_of tables.old held) }
 {
-    answered(tables.close(Pid(1), Fd(fd))) == Done
+    tables.has_process(Pid(1)) && answered(tables.close(Pid(1), Fd(fd))) == Done
 }
 
 // A held description lives on without a number until its release.
@@ -512,10 +520,10 @@ fn is_held(alloc: Global) -> Result<bool, AllocError> {
         return Ok(false);
     };
     tables.hold(held)?;
-    if !closes(&mut tables, 0) || !closes(&mut tables, 1) || !closes(&mut tables, 2) {
-        return Ok(false);
-    }
-    if tables.take_dead().is_some() {
+    let is_closed = closes(&mut tables, held, 0)
+        && closes(&mut tables, held, 1)
+        && closes(&mut tables, held, 2);
+    if !is_closed || tables.take_dead().is_some() {
         return Ok(false);
     }
     let is_plain = tables.object(held).is_plain();
@@ -529,15 +537,15 @@ fn held(rt: HostRuntime) {
     assert!(rt; matches!(is_held(rt.alloc()), Ok(true)));
 }
 
-// Whether closing a number frees it for the next object.
-fn is_freed(alloc: Global) -> Result<bool, AllocError> {
-    let mut tables = Tables::new(alloc, limits(16, 16, 1))?;
-    let is_closed = closes(&mut tables, 0) && closes(&mut tables, 2);
-    let pipe = created(&mut tables, alloc, 1, Pipe, false)?;
-    Ok(is_closed && pipe == Pair(0, 2))
-}
-
+// Closing a number frees it for the next object.
 #[test]
 fn freed(rt: HostRuntime) {
-    assert!(rt; matches!(is_freed(rt.alloc()), Ok(true)));
+    let start = (16, 16, 1, 1, Instance, false, Number(3));
+    expect(&rt, run(rt.alloc(), start, &FREED));
 }
+
+const FREED: [Step; 3] = [
+    (Close(1, 0), Done),
+    (Close(1, 2), Done),
+    (Two(1), Pair(0, 2)),
+];

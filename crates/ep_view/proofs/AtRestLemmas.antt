@@ -1,11 +1,11 @@
 -- In each state of a run what holds at the end of each event holds, and no waiter is forgotten.
-use Rattle.std.proofs.Common.{ap, ◌≡◌, ◌==◌, ℕ, zero, suc, ◌+◌, ◌≤◌, ◌&&◌, ◌++◌, All, Bool, List, [], ◌∷◌, MatchOption, None, Option, Some, ℤ, pos, negsuc, true, false, not, arith, cond, filter, get_or, inl, inr, if◌then◌else◌, is_none, is_some, length, map, nat_eq, nat_lt, refl, subst, sym, ◌∙◌, unwrap_or}
+use Rattle.std.proofs.Common.{ap, ◌≡◌, ◌==◌, ℕ, zero, suc, ◌+◌, ◌≤◌, ◌&&◌, ◌++◌, All, Bool, List, [], ◌∷◌, MatchOption, None, Option, Some, ℤ, pos, negsuc, true, false, not, arith, cond, filter, get_or, inl, inr, if◌then◌else◌, is_none, is_some, map, nat_eq, nat_lt, refl, subst, sym, ◌∙◌, unwrap_or}
 use Rattle.std.specs.List.{AllByRecursion, IsDistinct}
 use Rattle.std.proofs.lemmas.Bool.Decides.{nat_tests}
 use Rattle.std.proofs.lemmas.List.Elements.{All-filter, All-map, All-push, All-weaker}
 use Rattle.ep_base.specs.Limits.{Limits}
 use Rattle.ep_base.specs.declared.answer.Answer.{Answer}
-use Rattle.ep_base.specs.declared.answer.Answer.TheVariants.{Done, Events, Num}
+use Rattle.ep_base.specs.declared.answer.Answer.TheVariants.{Events}
 use Rattle.ep_base.specs.declared.call.Call.{Call}
 use Rattle.ep_base.specs.declared.call.Call.TheVariants.{Close, Dup, Dup2, EpollCreate, EpollCtl, EpollWait, EventFd, Exec, Exit, Fork, GetTime, Pipe as PipeCall, Plain, Read, SetTime, Shutdown, SocketPair, TimerFd, Write}
 use Rattle.ep_base.specs.declared.call.Event.{Event}
@@ -20,6 +20,7 @@ use Rattle.ep_law.proofs.StepLemmas.{run_keeps, step_changed, resumes, change_co
 use Rattle.ep_machine.specs.Bits.{ONESHOT, has_bit}
 use Rattle.ep_machine.specs.Effect.{first}
 use Rattle.ep_machine.specs.Files.{Files, Place, is_live, named_by, names_nothing, object_at, object_number, object_of, object_under, place_of, side_under, table_of}
+use Rattle.ep_machine.specs.FilesCalls.{FilesCall, close_of, dup2_of, dup_of, epoll_create_of, eventfd_of, exec_of, exit_of, fork_of, pipe_of, plain_of, socketpair_of, timerfd_of}
 use Rattle.ep_machine.specs.Lists.{is_among}
 use Rattle.ep_machine.specs.Objects.{Object, counter, instance, is_instance, is_plain, object_effect, pair, pipe, plain, timer}
 use Rattle.ep_machine.specs.Pipe.{new_pipe}
@@ -29,10 +30,9 @@ use Rattle.ep_machine.specs.Refusal.{call_refusals, ctl_refusals, refusals, wait
 use Rattle.ep_machine.specs.Report.{is_pick, plainly, report, report_of, reported, watches_at}
 use Rattle.ep_machine.specs.State.{Change, State, Waiter, Watch, counts_of, opening}
 use Rattle.ep_machine.specs.Sockets.{new_pair}
-use Rattle.ep_machine.specs.Step.{next_event, call_change, change, files_change, object_change, one_change, refused_or, settled, step, two_change}
-use Rattle.ep_machine.specs.Tables.{answer_one, close, dup, dup2, exec, exit, fork}
+use Rattle.ep_machine.specs.Step.{next_event, call_change, change, files_change, object_change, refused_or, settled, step}
 use Rattle.ep_machine.specs.Timer.{last_moment, new_timer}
-use Rattle.ep_machine.specs.Waits.{is_parked, leave_after, resume, tick, unmark, unmarked, wait, wait_for, leave}
+use Rattle.ep_machine.specs.Waits.{has_parked, is_parked, leave_after, resume, tick, unmark, unmarked, wait, wait_for, leave}
 use Rattle.ep_machine.specs.Watches.{add, ctl, delete, has_key, is_add, is_del, modified, modify, new_watch, number_in}
 use Rattle.ep_machine.specs.Deaths.{named_in_tables}
 use Rattle.ep_view.proofs.WaiterLemmas.{callers_filter, callers_push, instance_filter, instance_push, unmarked_part}
@@ -308,25 +308,18 @@ fine_resume s caller ks h =
     let was = weaken s h in
     resumes Fine s caller ks (fine_plainly ks _ was) (λ w. fine_left w.caller _ (fine_report s w.instance w.most ks h)) (λ w. fine_plainly ks _ (changed_left s (λ v. not (v.caller == w.caller)) was)) (λ w. fine_plainly ks _ (changed_unmarked s w.caller was))
 
--- A creation.
-fine_one : (s : State) (p : ℕ) (x : Object) (cloexec : Bool) (ks : List ℕ) → is_none (get_or s.files.tables p None) ≡ false → AtRest s → Filed s.files → Fine (plainly ks (one_change s p x cloexec))
-fine_one s p x cloexec ks there h f = fine_plainly ks _ (quiet_files s _ h (filed_one s.files p x cloexec there f) (extends_one s.files p x cloexec))
-
-fine_two : (s : State) (p : ℕ) (x : Object) (cloexec : Bool) (ks : List ℕ) → is_none (get_or s.files.tables p None) ≡ false → AtRest s → Filed s.files → Fine (plainly ks (two_change s p x cloexec))
-fine_two s p x cloexec ks there h f = fine_plainly ks _ (quiet_files s _ h (filed_two s.files p x cloexec there f) (extends_two s.files p x cloexec))
-
 -- A call on the tables alone.
-fine_files : (s : State) (answer : Answer) (g : Files) (ks : List ℕ) → AtRest s → Filed g → Extends s.files g → Fine (plainly ks (files_change s answer g))
-fine_files s answer g ks h filed extends = fine_plainly ks _ (quiet_files s g h filed extends)
+fine_files : (s : State) (c : FilesCall) (ks : List ℕ) → AtRest s → Filed c.after → Extends s.files c.after → Fine (plainly ks (files_change s c))
+fine_files s c ks h filed extends = fine_plainly ks _ (quiet_files s c.after h filed extends)
 
 -- The calls.
 fine_call : (limits : Limits) (s : State) (caller p : ℕ) (call : Call) (ks : List ℕ) → AtRest s → Filed s.files → is_parked s caller ≡ false → AllByRecursion (λ t. t.0 ≡ false) ((is_none (get_or s.files.tables p None), Esrch) ∷ call_refusals limits s p call) → Fine (call_change limits s caller p call ks)
-fine_call limits s caller p (PipeCall cloexec) ks h f free tests = fine_two s p (pipe (new_pipe limits.pipe_bytes)) cloexec ks tests.0 h f
-fine_call limits s caller p (EventFd init semaphore cloexec) ks h f free tests = fine_one s p (counter (record { count = init; is_semaphore = semaphore })) cloexec ks tests.0 h f
-fine_call limits s caller p (TimerFd clock cloexec) ks h f free tests = fine_one s p (timer new_timer) cloexec ks tests.0 h f
-fine_call limits s caller p (SocketPair cloexec) ks h f free tests = fine_two s p (pair (new_pair limits.sock_bytes)) cloexec ks tests.0 h f
-fine_call limits s caller p (Plain cloexec) ks h f free tests = fine_one s p plain cloexec ks tests.0 h f
-fine_call limits s caller p (EpollCreate cloexec) ks h f free tests = fine_one s p instance cloexec ks tests.0 h f
+fine_call limits s caller p (PipeCall cloexec) ks h f free tests = fine_files s (pipe_of limits s.files p cloexec) ks h (filed_two s.files p (pipe (new_pipe limits.pipe_bytes)) cloexec tests.0 f) (extends_two s.files p (pipe (new_pipe limits.pipe_bytes)) cloexec)
+fine_call limits s caller p (EventFd init semaphore cloexec) ks h f free tests = fine_files s (eventfd_of limits s.files p init semaphore cloexec) ks h (filed_one s.files p (counter (record { count = init; is_semaphore = semaphore })) cloexec tests.0 f) (extends_one s.files p (counter (record { count = init; is_semaphore = semaphore })) cloexec)
+fine_call limits s caller p (TimerFd clock cloexec) ks h f free tests = fine_files s (timerfd_of limits s.files p clock cloexec) ks h (filed_one s.files p (timer new_timer) cloexec tests.0 f) (extends_one s.files p (timer new_timer) cloexec)
+fine_call limits s caller p (SocketPair cloexec) ks h f free tests = fine_files s (socketpair_of limits s.files p cloexec) ks h (filed_two s.files p (pair (new_pair limits.sock_bytes)) cloexec tests.0 f) (extends_two s.files p (pair (new_pair limits.sock_bytes)) cloexec)
+fine_call limits s caller p (Plain cloexec) ks h f free tests = fine_files s (plain_of limits s.files p cloexec) ks h (filed_one s.files p plain cloexec tests.0 f) (extends_one s.files p plain cloexec)
+fine_call limits s caller p (EpollCreate cloexec) ks h f free tests = fine_files s (epoll_create_of limits s.files p cloexec) ks h (filed_one s.files p instance cloexec tests.0 f) (extends_one s.files p instance cloexec)
 fine_call limits s caller p (EpollCtl epfd op fd mask tag) ks h f free tests = fine_plainly ks _ (quiet_ctl limits s p epfd.0 op fd.0 mask.0 tag h tests.1)
 fine_call limits s caller p (EpollWait epfd most timeout) ks h f free tests = fine_wait s caller p epfd.0 most timeout ks h free tests.1
 fine_call limits s caller p (Read fd n) ks h f free tests = fine_plainly ks _ (quiet_object_change s p fd.0 (Read fd n) h tests.1.0)
@@ -334,15 +327,15 @@ fine_call limits s caller p (Write fd bytes) ks h f free tests = fine_plainly ks
 fine_call limits s caller p (Shutdown fd) ks h f free tests = fine_plainly ks _ (quiet_object_change s p fd.0 (Shutdown fd) h tests.1.0)
 fine_call limits s caller p (SetTime fd absolute value interval) ks h f free tests = fine_plainly ks _ (quiet_object_change s p fd.0 (SetTime fd absolute value interval) h tests.1.0)
 fine_call limits s caller p (GetTime fd) ks h f free tests = fine_plainly ks _ (quiet_object_change s p fd.0 (GetTime fd) h tests.1.0)
-fine_call limits s caller p (Dup fd) ks h f free tests = fine_files s (answer_one s.files p) (dup s.files p (named_by s.files p fd.0)) ks h (filed_dup s.files p (named_by s.files p fd.0) f (named_lives s.files p fd.0 f tests.1.0)) (same_tables s.files _)
+fine_call limits s caller p (Dup fd) ks h f free tests = fine_files s (dup_of limits s.files p fd.0) ks h (filed_dup s.files p (named_by s.files p fd.0) f (named_lives s.files p fd.0 f tests.1.0)) (same_tables s.files _)
 fine_call limits s caller p (Dup2 fd to) ks h f free tests =
     let d = named_by s.files p fd.0 in
     let lives = named_lives s.files p fd.0 f tests.1.0 in
-    fine_files s (Num (number_in to.0)) (dup2 s.files p fd.0 to.0 d) ks h (filed_dup2 s.files p fd.0 to.0 d f lives) (extends_dup2 s.files p fd.0 to.0 d)
-fine_call limits s caller p (Close fd) ks h f free tests = fine_files s Done (close s.files p fd.0) ks h (filed_close s.files p fd.0 f) (same_tables s.files _)
-fine_call limits s caller p Fork ks h f free tests = fine_files s (Num (length s.files.tables)) (fork s.files p) ks h (filed_fork s.files p f) (same_tables s.files _)
-fine_call limits s caller p Exec ks h f free tests = fine_files s Done (exec s.files p) ks h (filed_exec s.files p f) (same_tables s.files _)
-fine_call limits s caller p Exit ks h f free tests = fine_files s Done (exit s.files p) ks h (filed_exit s.files p f) (same_tables s.files _)
+    fine_files s (dup2_of limits s.files p fd.0 to.0) ks h (filed_dup2 s.files p fd.0 to.0 d f lives) (extends_dup2 s.files p fd.0 to.0 d)
+fine_call limits s caller p (Close fd) ks h f free tests = fine_files s (close_of s.files p fd.0) ks h (filed_close s.files p fd.0 f) (same_tables s.files _)
+fine_call limits s caller p Fork ks h f free tests = fine_files s (fork_of limits s.files p) ks h (filed_fork s.files p f) (same_tables s.files _)
+fine_call limits s caller p Exec ks h f free tests = fine_files s (exec_of s.files p (has_parked s p)) ks h (filed_exec s.files p f) (same_tables s.files _)
+fine_call limits s caller p Exit ks h f free tests = fine_files s (exit_of s.files p (has_parked s p)) ks h (filed_exit s.files p f) (same_tables s.files _)
 
 -- The clock goes on within its range.
 not_above : (a b : ℕ) → nat_lt a b ≡ false → b ≤ a

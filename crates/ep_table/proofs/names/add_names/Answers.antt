@@ -2,7 +2,7 @@ use Rattle.std.proofs.Common.{List, None, Option, [], ap, arith, get_or, subst, 
 use Rattle.ep_table.specs.Counting.{numbers}
 use Rattle.ep_table.specs.Value.{Things, count_at, times}
 use Rattle.ep_table.specs.View.{LiveSlot}
-use Rattle.ep_table.proofs.Going.{live_at_slot, one_fewer, rest_fewer}
+use Rattle.ep_table.proofs.NamesLemmas.{live_at_slot, one_fewer, rest_fewer}
 use Rattle.ep_table.proofs.names.add_names.Goals as goal
 
 pub add_name-requires-clause-live : goal.add_name-requires-clause-live

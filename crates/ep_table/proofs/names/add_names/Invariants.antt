@@ -1,6 +1,6 @@
 use Rattle.std.proofs.Common.{drop, ◌+◌, ◌≤◌}
 use Rattle.ep_table.specs.Counting.{numbers}
-use Rattle.ep_table.proofs.Going.{Raising}
+use Rattle.ep_table.proofs.NamesLemmas.{Raising}
 use Rattle.ep_table.proofs.names.add_names.Given as goal
 
 abbrev pub invariant-loop-slot : goal.invariant-loop-slot

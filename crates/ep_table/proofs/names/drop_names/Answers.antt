@@ -2,7 +2,7 @@ use Rattle.std.proofs.Common.{List, ℕ, Option, arith, ap, subst, sym}
 use Rattle.ep_table.specs.View.{LiveSlot}
 use Rattle.ep_table.specs.Value.{Things}
 use Rattle.ep_table.specs.declared.words.Descriptor.{Descriptor}
-use Rattle.ep_table.proofs.Going.{live_at_slot, live_closing}
+use Rattle.ep_table.proofs.NamesLemmas.{live_at_slot, live_closing}
 use Rattle.ep_table.proofs.names.drop_names.Goals as goal
 
 pub drop_name-requires-clause-live : goal.drop_name-requires-clause-live

@@ -1,7 +1,7 @@
 use Rattle.std.proofs.Common.{drop, map}
 use Rattle.ep_table.specs.Counting.{numbers}
 use Rattle.ep_table.specs.Flagged.{closing}
-use Rattle.ep_table.proofs.Going.{Lowering}
+use Rattle.ep_table.proofs.NamesLemmas.{Lowering}
 use Rattle.ep_table.proofs.names.drop_names.Given as goal
 
 abbrev pub invariant-loop-slot : goal.invariant-loop-slot

@@ -1,6 +1,6 @@
 use Rattle.std.proofs.Common.{arith}
 use Rattle.ep_table.specs.Processes.{kept_in}
-use Rattle.ep_table.proofs.Writing.{lists_write}
+use Rattle.ep_table.proofs.ProcessesLemmas.{lists_write}
 use Rattle.ep_table.proofs.processes.close_flagged.Goals as goal
 
 pub returns-then-at-len : goal.returns-then-at-len

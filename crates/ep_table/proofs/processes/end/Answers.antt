@@ -1,7 +1,7 @@
-use Rattle.std.proofs.Common.{None, arith}
-use Rattle.ep_table.specs.Processes.{Process}
-use Rattle.ep_table.proofs.Writing.{lists_write}
+use Rattle.std.proofs.Common.{None}
+use Rattle.ep_table.specs.Processes.{items_of}
+use Rattle.ep_table.proofs.ViewLemmas.{map_set}
 use Rattle.ep_table.proofs.processes.end.Goals as goal
 
 pub returns-then-at-len : goal.returns-then-at-len
-returns-then-at-len g c = lists_write (λ (p : Process). None) _ _ _ _ (omega (arith, c.len.ensures)) c.index_mut.ensures.value c.end_in.ensures
+returns-then-at-len g c = map_set items_of c.args.processes.now.items c.args.pid.0 None

@@ -1,6 +1,6 @@
 use Rattle.std.proofs.Common.{arith}
 use Rattle.ep_table.specs.Processes.{Process, entered}
-use Rattle.ep_table.proofs.Writing.{lists_write}
+use Rattle.ep_table.proofs.ProcessesLemmas.{lists_write}
 use Rattle.ep_table.proofs.processes.enter.Goals as goal
 
 pub returns-then-at-len : goal.returns-then-at-len

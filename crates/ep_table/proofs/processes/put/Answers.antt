@@ -1,6 +1,6 @@
 use Rattle.std.proofs.Common.{arith}
 use Rattle.ep_table.specs.Processes.{Process, put_at}
-use Rattle.ep_table.proofs.Writing.{lists_same, lists_write, on_err}
+use Rattle.ep_table.proofs.ProcessesLemmas.{lists_same, lists_write, on_err}
 use Rattle.ep_table.proofs.processes.put.Goals as goal
 
 pub returns-in_err-put_in-clause-err : goal.returns-in_err-put_in-clause-err

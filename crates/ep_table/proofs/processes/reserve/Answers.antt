@@ -1,5 +1,5 @@
 use Rattle.std.proofs.Common.{arith}
-use Rattle.ep_table.proofs.Writing.{lists_same}
+use Rattle.ep_table.proofs.ProcessesLemmas.{lists_same}
 use Rattle.ep_table.proofs.processes.reserve.Goals as goal
 
 pub returns-in_err-reserve_in-clause-lists : goal.returns-in_err-reserve_in-clause-lists

@@ -1,5 +1,5 @@
 use Rattle.std.proofs.Common.{ap, not, ◌∙◌}
-use Rattle.ep_table.proofs.Closing.{gone, none_test}
+use Rattle.ep_table.proofs.CloseLemmas.{gone, none_test}
 use Rattle.ep_table.proofs.store.close.Goals as goal
 
 pub returns-then-is_none-clause-slots : goal.returns-then-is_none-clause-slots

@@ -1,7 +1,7 @@
 use Rattle.std.proofs.Common.{List, None, Option, ap, arith, drop, get_or, map, slice_set, suc, sym, take, ℕ, ◌++◌, ◌+◌, ◌∙◌, ◌≡◌}
 use Rattle.ep_table.specs.Flagged.{kept}
 use Rattle.ep_table.specs.declared.words.Descriptor.{Descriptor}
-use Rattle.ep_table.proofs.Growing.{kept_next}
+use Rattle.ep_table.proofs.PutLemmas.{kept_next}
 use Rattle.ep_table.proofs.table.free_flagged.Goals as goal
 
 pub loop-number-preserved : goal.loop-number-preserved

@@ -1,6 +1,6 @@
 use Rattle.std.proofs.Common.{List, None, Option, ap, arith, replicate, sym, vec_len, ◌++◌, ◌+◌, ◌-◌, ◌∙◌}
 use Rattle.ep_table.specs.declared.words.Descriptor.{Descriptor}
-use Rattle.ep_table.proofs.Growing.{grown_more, grown_within, take_long}
+use Rattle.ep_table.proofs.PutLemmas.{grown_more, grown_within, take_long}
 use Rattle.ep_table.proofs.table.grow_to.Goals as goal
 
 pub returns-in_ok-resize-clause-ok : goal.returns-in_ok-resize-clause-ok

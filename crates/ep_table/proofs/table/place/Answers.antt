@@ -1,5 +1,5 @@
 use Rattle.std.proofs.Common.{Some, ap, arith, slice_set, sym, ◌∙◌}
-use Rattle.ep_table.proofs.Places.{enter_end, enter_set}
+use Rattle.ep_table.proofs.LowestFreeLemmas.{enter_end, enter_set}
 use Rattle.ep_table.proofs.table.place.Goals as goal
 
 pub returns-then-number-len-clause-slots : goal.returns-then-number-len-clause-slots

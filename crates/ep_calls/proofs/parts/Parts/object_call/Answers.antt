@@ -1,5 +1,4 @@
 use Rattle.std.proofs.Common.{◌∙◌, IsSome, ap, arith, refl, slice_index_or, None, subst, sym}
-use Rattle.std.proofs.Math.ListN.{length-set}
 use Rattle.ep_base.specs.declared.answer.Answer.{Answer}
 use Rattle.ep_machine.specs.Files.{side_of}
 use Rattle.ep_calls.specs.Parts.{Grows, Parts}
@@ -10,7 +9,7 @@ use Rattle.ep_calls.specs.Stands.{KeepsKinds}
 use Rattle.ep_calls.proofs.Keys.{object_there}
 use Rattle.ep_calls.specs.Raising.{IsRaising, RaisesByCall}
 use Rattle.ep_calls.specs.declared.raising.Raising.{Raising}
-use Rattle.ep_calls.proofs.Opening.{CallsObject}
+use Rattle.ep_calls.proofs.FilesCallLemmas.{CallsObject}
 use Rattle.ep_calls.proofs.ObjectCalling.{calls_object, fits}
 use Rattle.ep_calls.proofs.ObjectRaising.{raises_object}
 use Rattle.ep_table.specs.Value.{Seen, content_of, holds_of, number_of, number_under}
@@ -47,4 +46,4 @@ returns-clause-ok c =
     rw (← c.self.view_is) (object_does p new c.args.pid.0 c.args.fd c.args.call.now c.copied.result c.self.invariant c.requires
     (subst (λ (a : Answer). CallsObject c.args.pid.0 c.args.fd k.clock c.args.call.now a v new) (sym o.answer) calls)
     (subst (λ (r : Raising). RaisesByCall v new c.args.pid.0 c.args.fd.0 k.clock c.args.call.now r) (sym o.raising) raises) o.picked (subst (λ (r : Raising). IsRaising r new) (sym o.raising) lives)
-    (subst (λ (t : Seen). Grows p (record p { tables = t })) (sym e.files) (record { added = omega arith; descriptions = omega arith; objects = rw length-set (omega arith) })))
+    (subst (λ (t : Seen). Grows p (record p { tables = t })) (sym e.files) (record { added = omega arith })))

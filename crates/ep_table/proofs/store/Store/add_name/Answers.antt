@@ -1,6 +1,6 @@
 use Rattle.std.proofs.Common.{ap, arith, refl, sym, ◌+◌, ◌<◌, ◌∙◌}
 use Rattle.ep_table.specs.Value.{Things}
-use Rattle.ep_table.proofs.Changing.{more_names, named_tests, names_are, store_stays, things_names}
+use Rattle.ep_table.proofs.StoreCountsLemmas.{more_names, named_tests, names_are, store_stays, things_names}
 use Rattle.ep_table.proofs.store.Store.add_name.Goals as goal
 
 pub overflow_add-description : goal.overflow_add-description

@@ -2,8 +2,8 @@ use Rattle.std.proofs.Common.{ap, sym, ◌≡◌, slice_set, Some}
 use Rattle.ep_machine.specs.Files.{object_number, place_of}
 use Rattle.ep_machine.specs.Objects.{Object}
 use Rattle.ep_table.specs.Value.{Things, files_in, thing_number}
-use Rattle.ep_table.proofs.Applying.{backed_same, effect_is, err_same, numbered_same, ok_answer, ok_content, ok_raised, owned_same, things_applied, things_kept}
-use Rattle.ep_table.proofs.Storing.{object_found, object_there, side_is}
+use Rattle.ep_table.proofs.ApplyLemmas.{backed_same, effect_is, err_same, numbered_same, ok_answer, ok_content, ok_raised, owned_same, things_applied, things_kept}
+use Rattle.ep_table.proofs.StoreLemmas.{object_found, object_there, side_is}
 use Rattle.std.proofs.Common.{min, subst, ℕ, ◌≤◌}
 use Rattle.ep_object.specs.Memory.{asked_of, object_waiting}
 use Rattle.ep_table.specs.Value.{unwrapped, waiting_at}

@@ -1,7 +1,7 @@
 use Rattle.std.proofs.Common.{ap, arith, refl, sym, ◌-◌, ◌<◌, ◌∙◌}
 use Rattle.ep_table.specs.Stored.{queued}
 use Rattle.ep_table.specs.Value.{Things}
-use Rattle.ep_table.proofs.Changing.{has_room, named_tests, less_names, names_are, store_goes, store_stays, things_names}
+use Rattle.ep_table.proofs.StoreCountsLemmas.{has_room, named_tests, less_names, names_are, store_goes, store_stays, things_names}
 use Rattle.ep_table.proofs.store.Store.drop_name.Goals as goal
 
 pub overflow_sub-description : goal.overflow_sub-description

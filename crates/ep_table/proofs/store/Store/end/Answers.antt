@@ -1,5 +1,5 @@
 use Rattle.std.proofs.Common.{sym}
-use Rattle.ep_table.proofs.Storing.{side_is}
+use Rattle.ep_table.proofs.StoreLemmas.{side_is}
 use Rattle.ep_table.proofs.store.Store.end.Goals as goal
 
 pub returns : goal.returns

@@ -1,6 +1,6 @@
 use Rattle.std.proofs.Common.{ap, arith, refl, sym, ◌+◌, ◌∙◌}
 use Rattle.ep_table.specs.Value.{Things}
-use Rattle.ep_table.proofs.Changing.{held_tests, holds_are, more_holds, store_stays, things_holds, used_tests}
+use Rattle.ep_table.proofs.StoreCountsLemmas.{held_tests, holds_are, more_holds, store_stays, things_holds, used_tests}
 use Rattle.ep_table.proofs.store.Store.hold.Goals as goal
 
 pub invariant_of-self : goal.invariant_of-self

@@ -7,17 +7,17 @@ use Rattle.ep_table.specs.Value.{Queue, Things}
 use Rattle.ep_table.specs.declared.words.Description.{Description}
 use Rattle.ep_table.specs.declared.words.Dying.{Dying}
 use Rattle.ep_table.specs.declared.words.Shared.{Shared}
-use Rattle.ep_table.proofs.Queueing.{keyed_more}
-use Rattle.ep_table.proofs.Inserting.{fewer_one, keys_more, queue_one, Inserted, counted_more, holds_of, holds_one, inserted, inserts_one, places_one}
-use Rattle.ep_table.proofs.Numbers.{contents_length}
+use Rattle.ep_table.proofs.QueueLemmas.{keyed_more}
+use Rattle.ep_table.proofs.InsertLemmas.{fewer_one, keys_more, queue_one, Inserted, counted_more, holds_of, holds_one, inserted, inserts_one, places_one}
+use Rattle.ep_table.proofs.ByNumberLemmas.{contents_length}
 use Rattle.ep_table.proofs.store.Store.insert.Given.{Over}
 use Rattle.ep_table.proofs.store.Store.insert.Goals as goal
 
 pub overflow_add-self : goal.overflow_add-self
-overflow_add-self g c = omega (arith, c.requires.descriptions, ap (λ (v : Things). length v.descriptions) c.self.view_is, contents_length number_in place_in c.self.inside.descriptions.slots c.self.inside.described)
+overflow_add-self g c = omega (arith, c.in_ok-has_numbers.ensures.descriptions, ap (λ (v : Things). length v.descriptions) c.self.view_is, contents_length number_in place_in c.self.inside.descriptions.slots c.self.inside.described)
 
 pub overflow_add-self-2 : goal.overflow_add-self-2
-overflow_add-self-2 g c = omega (arith, c.requires.objects, ap (λ (v : Things). length v.objects) c.self.view_is, contents_length object_number_in object_in c.self.inside.objects.slots c.self.inside.made)
+overflow_add-self-2 g c = omega (arith, c.in_ok-has_numbers.ensures.objects, ap (λ (v : Things). length v.objects) c.self.view_is, contents_length object_number_in object_in c.self.inside.objects.slots c.self.inside.made)
 
 described : (g : Over) (c : goal.After-self-2-1 g) → Inserted c.self.inside.descriptions.slots c.insert_reserved-key.new.self.slots c.insert_reserved-key.result (record { number = c.self.inside.described; object_number = c.self.inside.made; object = c.vacant_key-at.result; end = First; names = 1; holds = 0 })
 described g c = inserted c.self.inside.descriptions.slots c.reserve.new.descriptions c.insert_reserved-key.new.self c.insert_reserved-key.result _ c.reserve.ensures.descriptions c.insert_reserved-key.ensures.was_vacant c.insert_reserved-key.ensures.updates

@@ -1,4 +1,4 @@
-use Rattle.ep_table.proofs.Sounding.{sound_things}
+use Rattle.ep_table.proofs.SoundLemmas.{sound_things}
 use Rattle.ep_table.proofs.store.Store.known.Goals as goal
 
 pub returns : goal.returns

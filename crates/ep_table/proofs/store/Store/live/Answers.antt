@@ -4,7 +4,7 @@ use Rattle.std.specs.Map.Iter.{TakesFirst}
 use Rattle.ep_base.specs.declared.ids.DescId.{DescId}
 use Rattle.ep_table.specs.Live.{keys_shown, live_ids}
 use Rattle.ep_table.specs.Value.{Things}
-use Rattle.ep_table.proofs.Listing.{keys_listed}
+use Rattle.ep_table.proofs.LiveLemmas.{keys_listed}
 use Rattle.ep_table.proofs.store.Store.live.Goals as goal
 
 pub returns-clause-exact : goal.returns-clause-exact

@@ -1,4 +1,4 @@
-use Rattle.ep_table.proofs.Storing.{object_found, object_there}
+use Rattle.ep_table.proofs.StoreLemmas.{object_found, object_there}
 use Rattle.ep_table.proofs.store.Store.object.Goals as goal
 
 pub index-requires : goal.index-requires

@@ -3,8 +3,8 @@ use Rattle.ep_machine.specs.Files.{Place}
 use Rattle.ep_table.specs.Closing.{IsAt, across, other_key}
 use Rattle.ep_table.specs.Value.{Things, files_in}
 use Rattle.ep_table.specs.declared.words.Shared.{Shared}
-use Rattle.ep_table.proofs.Others.{other_at}
-use Rattle.ep_table.proofs.Storing.{backs, object_there, place_is}
+use Rattle.ep_table.proofs.OtherLemmas.{other_at}
+use Rattle.ep_table.proofs.StoreLemmas.{backs, object_there, place_is}
 use Rattle.ep_table.proofs.store.Store.other.Goals as goal
 
 pub index-requires : goal.index-requires

@@ -8,11 +8,11 @@ use Rattle.ep_table.specs.declared.store.Store.TheInside.{Inside}
 use Rattle.ep_table.specs.declared.words.Dying.{Dying}
 use Rattle.ep_table.specs.declared.words.Description.{Description}
 use Rattle.ep_table.specs.declared.words.Shared.{Shared}
-use Rattle.ep_table.proofs.Closing.{backed_left, counted_left, numbered_left, objects_left, owned_left}
-use Rattle.ep_table.proofs.Dying.{dies, fewer_left, keyed_left, queue_left}
-use Rattle.ep_table.proofs.Queueing.{keyed_last}
-use Rattle.ep_table.proofs.Sounding.{there}
-use Rattle.ep_table.proofs.Storing.{key_at, object_there}
+use Rattle.ep_table.proofs.CloseLemmas.{backed_left, counted_left, numbered_left, objects_left, owned_left}
+use Rattle.ep_table.proofs.DieLemmas.{dies, fewer_left, keyed_left, queue_left}
+use Rattle.ep_table.proofs.QueueLemmas.{keyed_last}
+use Rattle.ep_table.proofs.SoundLemmas.{there}
+use Rattle.ep_table.proofs.StoreLemmas.{key_at, object_there}
 use Rattle.ep_table.proofs.store.Store.take_dead.Goals as goal
 
 -- the last of the queue stands under its key

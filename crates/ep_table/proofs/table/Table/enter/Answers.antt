@@ -1,6 +1,6 @@
 use Rattle.std.proofs.Common.{ap, arith}
 use Rattle.ep_machine.specs.Lists.{lowest_free}
-use Rattle.ep_table.proofs.Places.{low_enter}
+use Rattle.ep_table.proofs.LowestFreeLemmas.{low_enter}
 use Rattle.ep_table.proofs.table.Table.enter.Goals as goal
 
 pub invariant_of-self : goal.invariant_of-self

@@ -1,5 +1,5 @@
 use Rattle.std.proofs.Common.{◌∙◌}
-use Rattle.ep_table.proofs.Places.{lowest_from}
+use Rattle.ep_table.proofs.LowestFreeLemmas.{lowest_from}
 use Rattle.ep_table.proofs.table.Table.lowest.Goals as goal
 
 pub returns : goal.returns

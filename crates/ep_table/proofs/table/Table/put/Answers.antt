@@ -1,7 +1,7 @@
 use Rattle.std.proofs.Common.{List, Option, Some, ap, arith, length, slice_set, ◌∙◌, ◌≡◌}
 use Rattle.ep_machine.specs.Lists.{lowest_free, place_at}
 use Rattle.ep_table.specs.declared.words.Descriptor.{Descriptor}
-use Rattle.ep_table.proofs.Growing.{grown_has, low_place, placed}
+use Rattle.ep_table.proofs.PutLemmas.{grown_has, low_place, placed}
 use Rattle.ep_table.proofs.table.Table.put.Given.{Over}
 use Rattle.ep_table.proofs.table.Table.put.Goals as goal
 

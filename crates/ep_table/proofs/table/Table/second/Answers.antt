@@ -1,5 +1,5 @@
 use Rattle.std.proofs.Common.{ap, arith, ◌+◌, ◌∙◌}
-use Rattle.ep_table.proofs.Places.{lowest_within, second_from}
+use Rattle.ep_table.proofs.LowestFreeLemmas.{lowest_within, second_from}
 use Rattle.ep_table.proofs.table.Table.second.Goals as goal
 
 pub overflow_add-lowest : goal.overflow_add-lowest

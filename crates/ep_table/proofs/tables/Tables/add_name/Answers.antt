@@ -6,9 +6,9 @@ use Rattle.ep_machine.specs.Tables.{dup, slot}
 use Rattle.ep_table.specs.Value.{Things}
 use Rattle.ep_table.specs.Processes.{Process, entered, lists}
 use Rattle.ep_table.specs.Value.{Seen, number_of, number_under, thing_number}
-use Rattle.ep_table.proofs.Creating.{lists_entered}
-use Rattle.ep_table.proofs.Leaving.{named_counts}
-use Rattle.ep_table.proofs.Renaming.{Renames, renames_dup}
+use Rattle.ep_table.proofs.CreateLemmas.{lists_entered}
+use Rattle.ep_table.proofs.UnnameLemmas.{named_counts}
+use Rattle.ep_table.proofs.RenamesLemmas.{Renames, renames_dup}
 use Rattle.std.proofs.Common.{ap, ◌∙◌}
 use Rattle.ep_table.proofs.tables.Tables.add_name.Given.{Over}
 use Rattle.ep_table.proofs.tables.Tables.add_name.Goals as goal

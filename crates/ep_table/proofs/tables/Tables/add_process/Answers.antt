@@ -3,10 +3,10 @@ use Rattle.std.proofs.lemmas.Bool.{false≢true}
 use Rattle.ep_table.specs.Processes.{items_of, lists, process_of}
 use Rattle.ep_table.specs.declared.table.Table.{Table}
 use Rattle.ep_table.specs.declared.words.Descriptor.{Descriptor}
-use Rattle.ep_table.proofs.Finding.{there_is}
-use Rattle.ep_table.proofs.Forking.{fits_forked, value_forked}
-use Rattle.ep_table.proofs.Leaving.{names_within, table_live}
-use Rattle.ep_table.proofs.Seeing.{lists_at}
+use Rattle.ep_table.proofs.LookupLemmas.{there_is}
+use Rattle.ep_table.proofs.ForkLemmas.{fits_forked, value_forked}
+use Rattle.ep_table.proofs.UnnameLemmas.{names_within, table_live}
+use Rattle.ep_table.proofs.ViewLemmas.{lists_at}
 use Rattle.ep_table.proofs.tables.Tables.add_process.Goals as goal
 
 pub add_names-requires-clause-live : goal.add_names-requires-clause-live

@@ -3,13 +3,13 @@ use Rattle.ep_machine.specs.Files.{table_of}
 use Rattle.ep_table.specs.Processes.{Process, entered, lists}
 use Rattle.ep_table.specs.Value.{Seen}
 use Rattle.ep_table.specs.View.{value_of}
-use Rattle.ep_table.proofs.Entering.{fits_two}
-use Rattle.ep_table.proofs.Creating.{creates_two, lists_entered}
+use Rattle.ep_table.proofs.AddLemmas.{fits_two}
+use Rattle.ep_table.proofs.CreateLemmas.{creates_two, lists_entered}
 use Rattle.ep_table.proofs.tables.Tables.add_two.Given.{Over}
 use Rattle.ep_table.proofs.tables.Tables.add_two.Goals as goal
 
 there : (g : Over) (c : goal.After-enter_two g) → IsSome (table_of (value_of c.self.inside).files c.args.pid.0)
-there g c = subst (λ (v : Seen). IsSome (table_of v.files c.args.pid.0)) (sym c.self.view_is) c.requires.process
+there g c = subst (λ (v : Seen). IsSome (table_of v.files c.args.pid.0)) (sym c.self.view_is) c.requires
 
 written : (g : Over) (c : goal.After-enter_two g) → lists c.enter_two.new.processes.items
     ≡ slice_set (lists c.self.inside.processes.items) c.args.pid.0 (entered (entered (get_or (lists c.self.inside.processes.items) c.args.pid.0 None) (record { description = c.in_ok-first.first; cloexec = c.args.cloexec })) (record { description = c.in_ok-first.second; cloexec = c.args.cloexec }))

@@ -1,4 +1,4 @@
-use Rattle.ep_table.proofs.Applying.{ok_same, value_applied}
+use Rattle.ep_table.proofs.ApplyLemmas.{ok_same, value_applied}
 use Rattle.ep_table.proofs.tables.Tables.apply.Goals as goal
 
 pub returns-clause-files : goal.returns-clause-files

@@ -1,37 +1,25 @@
-use Rattle.std.proofs.Common.{ap, refl, sym, ◌∙◌}
+use Rattle.std.proofs.Common.{ap, sym, ◌∙◌, ℕ}
 use Rattle.ep_base.specs.declared.answer.Answer.TheVariants.{Num}
-use Rattle.ep_table.specs.Value.{one_refusal}
-use Rattle.ep_table.proofs.Finding.{one_is}
-use Rattle.ep_table.proofs.Refusing.{never, not_both, one_refusal_is, refused_with}
+use Rattle.ep_machine.specs.Effect.{first}
+use Rattle.ep_machine.specs.FilesCalls.{one_of}
+use Rattle.ep_machine.specs.Tables.{create_refusals}
+use Rattle.ep_table.proofs.DoesLemmas.{does_done, does_refused, succeeds_one}
+use Rattle.ep_table.proofs.LookupLemmas.{one_is}
 use Rattle.ep_table.proofs.tables.Tables.create.Goals as goal
 
-pub returns-in-Some-clause-refused : goal.returns-in-Some-clause-refused
-returns-in-Some-clause-refused g c = λ e h.
+pub returns-in-Some-clause-ok : goal.returns-in-Some-clause-ok
+returns-in-Some-clause-ok g c =
     let v = c.args.self.now in
-    let n = one_is c.self.inside v c.args.pid.0 c.lowest-number.result c.deref.result.now c.self.view_is c.deref.ensures.value c.lowest-number.ensures in
-    let r = one_refusal_is v c.args.pid.0 c.lowest-number.result c.refuses.result (sym c.has_process.ensures ∙ c.if-not-has_process.false) n c.refuses.ensures.first in
-    (refused_with c.in-Some.errno e (one_refusal v c.args.pid.0) c.refuses.result r c.in-Some.is h, refl)
+    let p = c.args.pid.0 in
+    let n = one_is c.self.inside v p c.lowest-number.result c.deref.result.now c.self.view_is c.deref.ensures.value c.lowest-number.ensures in
+    let r = sym (c.refuses.ensures.first ∙ ap (λ (m : ℕ). first (create_refusals v.limits v.files m 1)) n) in
+    does_refused (one_of v.limits v.files p c.args.object c.args.cloexec) v c.in-Some.errno (r ∙ c.in-Some.is)
 
-pub returns-in-Some-clause-answer : goal.returns-in-Some-clause-answer
-returns-in-Some-clause-answer g c = λ h.
+pub returns-clause-ok : goal.returns-clause-ok
+returns-clause-ok g c =
     let v = c.args.self.now in
-    let n = one_is c.self.inside v c.args.pid.0 c.lowest-number.result c.deref.result.now c.self.view_is c.deref.ensures.value c.lowest-number.ensures in
-    let r = one_refusal_is v c.args.pid.0 c.lowest-number.result c.refuses.result (sym c.has_process.ensures ∙ c.if-not-has_process.false) n c.refuses.ensures.first in
-    not_both c.in-Some.errno (one_refusal v c.args.pid.0) c.refuses.result _ r c.in-Some.is h
-
-pub returns-in-Some-clause-created : goal.returns-in-Some-clause-created
-returns-in-Some-clause-created g c = λ h.
-    let v = c.args.self.now in
-    let n = one_is c.self.inside v c.args.pid.0 c.lowest-number.result c.deref.result.now c.self.view_is c.deref.ensures.value c.lowest-number.ensures in
-    let r = one_refusal_is v c.args.pid.0 c.lowest-number.result c.refuses.result (sym c.has_process.ensures ∙ c.if-not-has_process.false) n c.refuses.ensures.first in
-    not_both c.in-Some.errno (one_refusal v c.args.pid.0) c.refuses.result _ r c.in-Some.is h
-
-pub returns-clause-refused : goal.returns-clause-refused
-returns-clause-refused g c = λ e h.
-    let v = c.args.self.now in
-    let n = one_is c.self.inside v c.args.pid.0 c.lowest-number.result c.deref.result.now c.self.view_is c.deref.ensures.value c.lowest-number.ensures in
-    let r = one_refusal_is v c.args.pid.0 c.lowest-number.result c.refuses.result (sym c.has_process.ensures ∙ c.if-not-has_process.false) n c.refuses.ensures.first in
-    never e (one_refusal v c.args.pid.0) c.refuses.result _ r c.in_default.is h
-
-pub returns-clause-answer : goal.returns-clause-answer
-returns-clause-answer g c = λ h. ap Num (one_is c.self.inside c.args.self.now c.args.pid.0 c.lowest-number.result c.deref.result.now c.self.view_is c.deref.ensures.value c.lowest-number.ensures)
+    let p = c.args.pid.0 in
+    let n = one_is c.self.inside v p c.lowest-number.result c.deref.result.now c.self.view_is c.deref.ensures.value c.lowest-number.ensures in
+    let r = sym (c.refuses.ensures.first ∙ ap (λ (m : ℕ). first (create_refusals v.limits v.files m 1)) n) in
+    does_done (one_of v.limits v.files p c.args.object c.args.cloexec) _ v c.add_one.new.self (r ∙ c.in_default.is)
+    (succeeds_one v c.add_one.new.self p c.args.object c.args.cloexec _ (ap Num n) c.in_ok-add_one.ensures.ok)

@@ -1,6 +1,6 @@
 use Rattle.ep_table.specs.Value.{number_of}
-use Rattle.ep_table.proofs.Refusing.{found_is}
-use Rattle.ep_table.proofs.Leaving.{under_named}
+use Rattle.ep_table.proofs.DoesLemmas.{found_is}
+use Rattle.ep_table.proofs.UnnameLemmas.{under_named}
 use Rattle.ep_table.proofs.tables.Tables.dup2.Goals as goal
 
 pub name_at-requires-clause-named : goal.name_at-requires-clause-named

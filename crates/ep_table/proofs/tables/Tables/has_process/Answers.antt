@@ -1,5 +1,5 @@
 use Rattle.std.proofs.Common.{None, ap, get_or, ◌∙◌}
-use Rattle.ep_table.proofs.Finding.{there_is}
+use Rattle.ep_table.proofs.LookupLemmas.{there_is}
 use Rattle.ep_table.proofs.tables.Tables.has_process.Goals as goal
 
 pub returns : goal.returns

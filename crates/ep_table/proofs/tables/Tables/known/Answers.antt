@@ -1,4 +1,4 @@
-use Rattle.ep_table.proofs.Finding.{sound_is}
+use Rattle.ep_table.proofs.LookupLemmas.{sound_is}
 use Rattle.ep_table.proofs.tables.Tables.known.Goals as goal
 
 pub returns : goal.returns

@@ -2,7 +2,7 @@ use Rattle.std.proofs.Common.{None, Option, ap, get_or, sym, ◌∙◌}
 use Rattle.ep_table.specs.Processes.{process_of, slots_of}
 use Rattle.ep_table.specs.Value.{number_found}
 use Rattle.ep_base.specs.declared.ids.DescId.{DescId}
-use Rattle.ep_table.proofs.Finding.{live_is, under_is}
+use Rattle.ep_table.proofs.LookupLemmas.{live_is, under_is}
 use Rattle.ep_table.proofs.tables.Tables.lookup.Goals as goal
 
 pub returns-in_err-descriptor-clause-number : goal.returns-in_err-descriptor-clause-number

@@ -8,11 +8,11 @@ use Rattle.ep_table.specs.Value.{Seen, Things, count_at, more_at, number_at, num
 use Rattle.ep_table.specs.View.{IsTables, LiveSlot, slot_in, value_of}
 use Rattle.ep_table.specs.declared.tables.Tables.TheInside.{Inside}
 use Rattle.ep_table.specs.declared.words.Descriptor.{Descriptor}
-use Rattle.ep_table.proofs.Counting.{count_more}
-use Rattle.ep_table.proofs.Creating.{lists_entered}
-use Rattle.ep_table.proofs.Leaving.{named_counts, slot_counts}
-use Rattle.ep_table.proofs.Renaming.{old_slot, renames_free, renames_replaced}
-use Rattle.ep_table.proofs.Seeing.{live_found}
+use Rattle.ep_table.proofs.TimesLemmas.{count_more}
+use Rattle.ep_table.proofs.CreateLemmas.{lists_entered}
+use Rattle.ep_table.proofs.UnnameLemmas.{named_counts, slot_counts}
+use Rattle.ep_table.proofs.RenamesLemmas.{old_slot, renames_free, renames_replaced}
+use Rattle.ep_table.proofs.ViewLemmas.{live_found}
 use Rattle.ep_table.proofs.tables.Tables.name_at.Goals as goal
 
 live_replaced : {A : Type 0} (k : Inside A) → IsTables k → (p i : ℕ) (r : Descriptor) → Some r ≡ get_or (slots_of (process_of k.processes.items p)) i None → IsSome (number_at k.store.keys r.description)

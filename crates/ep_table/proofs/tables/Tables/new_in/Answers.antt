@@ -2,7 +2,7 @@ use Rattle.std.proofs.Common.{List, None, Option, Some, [], ap, ◌++◌, ◌∙
 use Rattle.ep_table.specs.Processes.{lists}
 use Rattle.ep_table.specs.declared.table.Table.{Table}
 use Rattle.ep_table.specs.declared.words.Descriptor.{Descriptor}
-use Rattle.ep_table.proofs.Starting.{fits_opening, three_names}
+use Rattle.ep_table.proofs.OpeningLemmas.{fits_opening, three_names}
 use Rattle.ep_table.proofs.tables.Tables.new_in.Goals as goal
 
 pub invariant_of-result : goal.invariant_of-result

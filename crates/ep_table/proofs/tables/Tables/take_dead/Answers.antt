@@ -1,4 +1,4 @@
-use Rattle.ep_table.proofs.Leaving.{fits_taken, takes_some}
+use Rattle.ep_table.proofs.UnnameLemmas.{fits_taken, takes_some}
 use Rattle.ep_table.proofs.tables.Tables.take_dead.Goals as goal
 
 pub invariant_of-self : goal.invariant_of-self

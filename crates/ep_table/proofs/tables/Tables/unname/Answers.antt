@@ -2,10 +2,10 @@ use Rattle.std.proofs.Common.{slice_set, IsSome, None, get_or, pos, refl, subst,
 use Rattle.ep_machine.specs.Files.{numbers_of, description_in, table_of, under}
 use Rattle.ep_table.specs.Processes.{Process, left, lists}
 use Rattle.ep_table.specs.Value.{Seen, number_found, number_under, thing_number}
-use Rattle.ep_table.proofs.Creating.{lists_entered}
-use Rattle.ep_table.proofs.Leaving.{slot_counts}
-use Rattle.ep_table.proofs.Renaming.{Renames, renames_left}
-use Rattle.ep_table.proofs.Refusing.{found_is}
+use Rattle.ep_table.proofs.CreateLemmas.{lists_entered}
+use Rattle.ep_table.proofs.UnnameLemmas.{slot_counts}
+use Rattle.ep_table.proofs.RenamesLemmas.{Renames, renames_left}
+use Rattle.ep_table.proofs.DoesLemmas.{found_is}
 use Rattle.std.proofs.Common.{Some, ◌<◌, ◌≡◌, []}
 use Rattle.ep_table.specs.Value.{count_at}
 use Rattle.ep_table.specs.View.{IsTables, value_of}

@@ -1,0 +1,109 @@
+-- A call on the tables, as the machine makes it.
+use Rattle.std.proofs.Common.{◌≡◌, ℕ, Bool, List, [], Option, Some, None, refl, ap, sym, ◌⊎◌, inl, inr, subst}
+use Rattle.std.specs.Prelude.{MatchOption}
+use Rattle.ep_base.specs.Limits.{Limits}
+use Rattle.ep_base.specs.declared.answer.Answer.{Answer}
+use Rattle.ep_base.specs.declared.call.Call.{Call}
+use Rattle.ep_base.specs.declared.call.Call.TheVariants.{GetTime, Read, SetTime, Shutdown, Write}
+use Rattle.ep_base.specs.declared.errno.Errno.{Errno}
+use Rattle.ep_base.specs.declared.ids.Fd.{Fd}
+use Rattle.ep_interest.specs.Registrations.{Registrations}
+use Rattle.ep_machine.specs.Effect.{first}
+use Rattle.ep_machine.specs.Files.{Files, named_by}
+use Rattle.ep_machine.specs.FilesCalls.{FilesCall}
+use Rattle.ep_machine.specs.Refusal.{call_refusals, on_object}
+use Rattle.ep_machine.specs.State.{Change, State, Waiter}
+use Rattle.ep_machine.specs.Step.{call_change, object_change}
+use Rattle.ep_machine.specs.Tables.{affected_raises}
+use Rattle.ep_calls.specs.Moves.{Goes, Makes, Refuses as Refused}
+use Rattle.ep_calls.specs.Parts.{Parts}
+use Rattle.ep_calls.specs.Stands.{AreLinked, ArePlaced, KeepsHolds, KeepsKeys, KeepsKinds, Stands}
+use Rattle.ep_calls.specs.ObjectCall.{object_call_of, object_effect_of}
+use Rattle.ep_calls.proofs.Linking.{stands_kept}
+use Rattle.ep_nest.specs.declared.link.Link.{Link}
+use Rattle.ep_table.specs.Value.{Does, Refuses, Seen, Succeeds}
+
+match_map : (o : Option Errno) (A B : Type 0) (F G : Errno → Type 0) → (A → B) → ((e : Errno) → F e → G e) → MatchOption o A F → MatchOption o B G
+match_map None A B F G f g h = f h
+match_map (Some e) A B F G f g h = g e h
+
+match_one : (o : Option Errno) (A C : Type 0) (F : Errno → Type 0) → (A → C) → ((e : Errno) → F e → C) → MatchOption o A F → C
+match_one None A C F f g h = f h
+match_one (Some e) A C F f g h = g e h
+
+module _ (call : FilesCall) (answer : Answer) (v new : Seen) (does : Does call answer v new) where
+  either : (C : Type 0) → (Succeeds call answer v new → C) → ((e : Errno) → Refuses e answer v new → C) → C
+  either C done refused = match_one (first call.refusals) (Succeeds call answer v new) C (λ e. Refuses e answer v new) done refused does
+
+  pub does_keys : KeepsKeys v new
+  does_keys = either (KeepsKeys v new) (λ d. d.keys) (λ e r. subst (λ (x : Seen). KeepsKeys v x) (sym r.tables) (λ key n h. h))
+
+  pub does_holds : KeepsHolds v new
+  does_holds = either (KeepsHolds v new) (λ d. d.holds) (λ e r. subst (λ (x : Seen). KeepsHolds v x) (sym r.tables) (λ n. refl))
+
+  pub does_limits : new.limits ≡ v.limits
+  does_limits = either (new.limits ≡ v.limits) (λ d. d.limits) (λ e r. ap (λ (x : Seen). x.limits) r.tables)
+
+  pub does_kinds : KeepsKinds v.files call.after → KeepsKinds v.files new.files
+  does_kinds kinds = either (KeepsKinds v.files new.files) (λ d. subst (KeepsKinds v.files) (sym d.files) kinds) (λ e r. subst (λ (x : Seen). KeepsKinds v.files x.files) (sym r.tables) (λ d h. refl))
+
+  pub does_goes : {ws : List Waiter} (g : List Link) (r : Registrations) → AreLinked v r → ArePlaced v ws → (now : ℕ) (s : State) (raised : List (ℕ × ℕ)) → Stands v r ws now s
+      → Goes call.refusals (Some (call.answer, record s { files = call.after }, raised)) s answer [] (record { tables = new; interest = r; graph = g; parked = ws; clock = now })
+  does_goes {ws = ws} g r linked placed now s raised stands =
+      let parts : Parts = record { tables = new; interest = r; graph = g; parked = ws; clock = now } in
+      let made : Change = (call.answer, record s { files = call.after }, raised) in
+      match_map (first call.refusals) (Succeeds call answer v new) (Makes (Some made) answer parts) (λ e. Refuses e answer v new) (λ e. Refused s e answer [] parts)
+      (λ d. record {
+        made = made;
+        is = refl;
+        answers = sym d.answers;
+        stands = stands_kept v new r now s (record s { files = call.after }) does_keys linked placed stands refl (sym d.files) refl refl refl refl;
+      })
+      (λ e q. record {
+        answers = q.answers;
+        unpicked = refl;
+        stands = subst (λ (x : Seen). Stands x r ws now s) (sym q.tables) stands;
+      })
+      does
+
+-- on the object that a descriptor names
+abbrev pub CallsObject : ℕ → Fd → ℕ → Call → Answer → Seen → Seen → Type 0
+CallsObject p fd now call answer v new = Does (object_call_of v.files p fd.0 now call) answer v new
+
+-- what the machine asks of such a call and does
+abbrev pub IsOnObject : Fd → Call → Type 0
+IsOnObject fd call = (limits : Limits) (s : State) (caller p : ℕ) → (call_refusals limits s p call ≡ on_object s p fd.0 call) × (call_change limits s caller p call [] ≡ Some (object_change s p fd.0 call))
+
+pub on_object_is : (fd : Fd) (call : Call)
+    → ((n : ℕ) × (call ≡ Read fd n)) ⊎ ((bytes : List ℕ) × (call ≡ Write fd bytes)) ⊎ (call ≡ Shutdown fd) ⊎ ((absolute : Bool) × (value : ℕ) × (interval : ℕ) × (call ≡ SetTime fd absolute value interval)) ⊎ (call ≡ GetTime fd)
+    → IsOnObject fd call
+on_object_is fd call (inl q) = subst (IsOnObject fd) (sym q.1) (λ limits s caller p. (refl, refl))
+on_object_is fd call (inr (inl q)) = subst (IsOnObject fd) (sym q.1) (λ limits s caller p. (refl, refl))
+on_object_is fd call (inr (inr (inl q))) = subst (IsOnObject fd) (sym q) (λ limits s caller p. (refl, refl))
+on_object_is fd call (inr (inr (inr (inl q)))) = subst (IsOnObject fd) (sym q.3) (λ limits s caller p. (refl, refl))
+on_object_is fd call (inr (inr (inr (inr q)))) = subst (IsOnObject fd) (sym q) (λ limits s caller p. (refl, refl))
+
+module _ (v new : Seen) (p : ℕ) (fd : Fd) (now : ℕ) (call : Call) (answer : Answer) (calls : CallsObject p fd now call answer v new) where
+  pub object_limits : new.limits ≡ v.limits
+  object_limits = does_limits (object_call_of v.files p fd.0 now call) answer v new calls
+
+  pub object_keys : KeepsKeys v new
+  object_keys = does_keys (object_call_of v.files p fd.0 now call) answer v new calls
+
+  object_goes : {ws : List Waiter} (g : List Link) (r : Registrations) (s : State) → AreLinked v r → ArePlaced v ws → Stands v r ws now s
+      → Goes (on_object s p fd.0 call) (Some (object_change s p fd.0 call)) s answer [] (record { tables = new; interest = r; graph = g; parked = ws; clock = now })
+  object_goes {ws = ws} g r s linked placed stands =
+      let parts : Parts = record { tables = new; interest = r; graph = g; parked = ws; clock = now } in
+      let P : ℕ → Files → Type 0 = λ at f.
+      let c = object_call_of f p fd.0 at call in
+      Goes c.refusals (Some (c.answer, record s { files = c.after }, affected_raises f (named_by f p fd.0) (object_effect_of f p fd.0 at call))) s answer [] parts in
+      subst (λ (n : ℕ). P n s.files) (sym stands.now) (subst (P now) (sym stands.files)
+      (does_goes (object_call_of v.files p fd.0 now call) answer v new calls g r linked placed now s (affected_raises v.files (named_by v.files p fd.0) (object_effect_of v.files p fd.0 now call)) stands))
+
+  pub object_called : {ws : List Waiter} (g : List Link) (limits : Limits) (r : Registrations) (s : State) (caller : ℕ) → AreLinked v r → ArePlaced v ws → Stands v r ws now s → v.limits ≡ limits → IsOnObject fd call
+      → Goes (call_refusals limits s p call) (call_change limits s caller p call []) s answer [] (record { tables = new; interest = r; graph = g; parked = ws; clock = now })
+  object_called {ws = ws} g limits r s caller linked placed stands same is =
+      let both = is limits s caller p in
+      let P : List (Bool × Errno) → Option Change → Type 0 = λ tests o. Goes tests o s answer [] (record { tables = new; interest = r; graph = g; parked = ws; clock = now }) in
+      subst (λ (tests : List (Bool × Errno)). P tests (call_change limits s caller p call [])) (sym both.0)
+      (subst (λ (o : Option Change). P (on_object s p fd.0 call) o) (sym both.1) (object_goes g r s linked placed stands))

@@ -1,0 +1,100 @@
+-- Calls on the tables alone: what refuses each, in order, its answer, and the files after it.
+use Rattle.std.specs.Prelude.{Bool, List, [], length, nat_le, not, ℕ, ℤ, ◌||◌, ◌∷◌}
+use Rattle.ep_base.specs.Limits.{Limits}
+use Rattle.ep_base.specs.declared.answer.Answer.{Answer}
+use Rattle.ep_base.specs.declared.answer.Answer.TheVariants.{Done, Num}
+use Rattle.ep_base.specs.declared.call.Call.{Call}
+use Rattle.ep_base.specs.declared.call.Call.TheVariants.{Close, Dup, Dup2, EpollCreate, EventFd, Exec, Exit, Fork, Pipe as PipeCall, Plain, SocketPair, TimerFd}
+use Rattle.ep_base.specs.declared.errno.Errno.{Errno}
+use Rattle.ep_base.specs.declared.errno.Errno.TheVariants.{Eagain, Ebadf, Ebusy, Einval, Emfile}
+use Rattle.ep_machine.specs.Files.{Files, named_by, names_nothing, numbers_of}
+use Rattle.ep_machine.specs.Lists.{numbered}
+use Rattle.ep_machine.specs.Objects.{Object, counter, instance, pair, pipe, plain, timer}
+use Rattle.ep_machine.specs.Pipe.{new_pipe}
+use Rattle.ep_machine.specs.Sockets.{new_pair}
+use Rattle.ep_machine.specs.Tables.{answer_one, answer_two, close, create_one, create_two, dup, dup2, exec, exit, fork, is_in_range, one_free, one_refusals, two_refusals}
+use Rattle.ep_machine.specs.Timer.{new_timer}
+use Rattle.ep_machine.specs.Watches.{is_op, number_in}
+
+pub record FilesCall : Type 0 where
+  pub refusals : List (Bool × Errno)
+  pub answer : Answer
+  pub after : Files
+
+-- makes an object with one description, or with two
+abbrev pub one_of : Limits → Files → ℕ → Object → Bool → FilesCall
+one_of limits s p x cloexec = record { refusals = one_refusals limits s p; answer = answer_one s p; after = create_one s p x cloexec }
+
+abbrev pub two_of : Limits → Files → ℕ → Object → Bool → FilesCall
+two_of limits s p x cloexec = record { refusals = two_refusals limits s p; answer = answer_two s p; after = create_two s p x cloexec }
+
+abbrev pub pipe_of : Limits → Files → ℕ → Bool → FilesCall
+pipe_of limits s p cloexec = two_of limits s p (pipe (new_pipe limits.pipe_bytes)) cloexec
+
+abbrev pub socketpair_of : Limits → Files → ℕ → Bool → FilesCall
+socketpair_of limits s p cloexec = two_of limits s p (pair (new_pair limits.sock_bytes)) cloexec
+
+abbrev pub eventfd_of : Limits → Files → ℕ → ℕ → Bool → Bool → FilesCall
+eventfd_of limits s p init semaphore cloexec = one_of limits s p (counter (record { count = init; is_semaphore = semaphore })) cloexec
+
+abbrev pub plain_of : Limits → Files → ℕ → Bool → FilesCall
+plain_of limits s p cloexec = one_of limits s p plain cloexec
+
+abbrev pub epoll_create_of : Limits → Files → ℕ → Bool → FilesCall
+epoll_create_of limits s p cloexec = one_of limits s p instance cloexec
+
+-- both clocks are the one simulated clock
+abbrev pub is_clock : ℤ → Bool
+is_clock clock = is_op 0 clock || is_op 1 clock
+
+abbrev pub timerfd_of : Limits → Files → ℕ → ℤ → Bool → FilesCall
+timerfd_of limits s p clock cloexec =
+    let made = one_of limits s p (timer new_timer) cloexec in
+    record made { refusals = (not (is_clock clock), Einval) ∷ made.refusals }
+
+abbrev pub dup_of : Limits → Files → ℕ → ℤ → FilesCall
+dup_of limits s p fd = record {
+  refusals = (names_nothing s p fd, Ebadf) ∷ (nat_le limits.descriptors (one_free (numbers_of s p)), Emfile) ∷ [];
+  answer = answer_one s p;
+  after = dup s p (named_by s p fd);
+}
+
+abbrev pub dup2_of : Limits → Files → ℕ → ℤ → ℤ → FilesCall
+dup2_of limits s p fd to = record {
+  refusals = (names_nothing s p fd, Ebadf) ∷ (not (is_in_range limits to), Ebadf) ∷ [];
+  answer = Num (number_in to);
+  after = dup2 s p fd to (named_by s p fd);
+}
+
+abbrev pub close_of : Files → ℕ → ℤ → FilesCall
+close_of s p fd = record { refusals = (names_nothing s p fd, Ebadf) ∷ []; answer = Done; after = close s p fd }
+
+abbrev pub fork_of : Limits → Files → ℕ → FilesCall
+fork_of limits s p = record {
+  refusals = (nat_le limits.processes (length (numbered 0 s.tables)), Eagain) ∷ [];
+  answer = Num (length s.tables);
+  after = fork s p;
+}
+
+-- busy: some caller of the process is parked
+abbrev pub exec_of : Files → ℕ → Bool → FilesCall
+exec_of s p busy = record { refusals = (busy, Ebusy) ∷ []; answer = Done; after = exec s p }
+
+abbrev pub exit_of : Files → ℕ → Bool → FilesCall
+exit_of s p busy = record { refusals = (busy, Ebusy) ∷ []; answer = Done; after = exit s p }
+
+-- a call on the tables alone; any other does nothing here
+abbrev pub files_call : Limits → Files → ℕ → Bool → Call → FilesCall
+files_call limits s p busy (PipeCall cloexec) = pipe_of limits s p cloexec
+files_call limits s p busy (SocketPair cloexec) = socketpair_of limits s p cloexec
+files_call limits s p busy (EventFd init semaphore cloexec) = eventfd_of limits s p init semaphore cloexec
+files_call limits s p busy (TimerFd clock cloexec) = timerfd_of limits s p clock cloexec
+files_call limits s p busy (Plain cloexec) = plain_of limits s p cloexec
+files_call limits s p busy (EpollCreate cloexec) = epoll_create_of limits s p cloexec
+files_call limits s p busy (Dup fd) = dup_of limits s p fd.0
+files_call limits s p busy (Dup2 fd to) = dup2_of limits s p fd.0 to.0
+files_call limits s p busy (Close fd) = close_of s p fd.0
+files_call limits s p busy Fork = fork_of limits s p
+files_call limits s p busy Exec = exec_of s p busy
+files_call limits s p busy Exit = exit_of s p busy
+files_call limits s p busy call = record { refusals = []; answer = Done; after = s }
