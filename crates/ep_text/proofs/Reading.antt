@@ -1,5 +1,5 @@
 -- What is left of reading a line: lists that are no pair, and texts that are no JSON.
-use Rattle.std.proofs.Common.{◌≡◌, ℕ, List, [], ◌∷◌, length, Bool, true, false, Option, Some, None, refl, sym, ap, IsUtf8, option_and_then, if◌then◌else◌}
+use Rattle.std.proofs.Common.{◌≡◌, ℕ, List, [], ◌∷◌, length, Bool, true, false, Option, Some, None, refl, sym, ap, ok_or, Err, IsUtf8, if◌then◌else◌}
 use Rattle.std.specs.Str.{is_utf8}
 use Rattle.std.proofs.lemmas.Str.{IsUtf8-from_is_utf8, is_utf8-from_IsUtf8}
 use Rattle.serde_json.specs.Data.{Data}
@@ -7,7 +7,10 @@ use Rattle.serde_json.specs.Read.{read as json}
 use Rattle.serde_json.specs.View.{items_view}
 use Rattle.serde_json.specs.declared.value.Value.{Value}
 use Rattle.ep_text.specs.Bytes.{repeated}
-use Rattle.ep_text.specs.Event.{command, event}
+use Rattle.ep_text.specs.declared.reason.Reason.{Reason}
+use Rattle.ep_text.specs.Event.{command, reading}
+use Rattle.ep_text.specs.Keys.{◌>>=◌}
+use Rattle.ep_text.specs.Reason.{unread}
 
 pub repeated-other : (vs : List Value) → (length vs ≡ 2 → ⊥) → None ≡ repeated (items_view vs)
 repeated-other [] h = refl
@@ -15,16 +18,16 @@ repeated-other (a ∷ []) h = refl
 repeated-other (a ∷ b ∷ []) h = absurd (h refl)
 repeated-other (a ∷ b ∷ c ∷ vs) h = refl
 
-guarded_none : (b : Bool) (o : Option Data) → (b ≡ true → o ≡ None) → None ≡ (if b then option_and_then command o else None)
-guarded_none true o h = ap (option_and_then command) (sym (h refl))
-guarded_none false o h = refl
+guarded_none : (b : Bool) (o : Option Data) (e : Reason) → (b ≡ true → o ≡ None) → Err e ≡ (if b then ok_or o e >>= command else Err e)
+guarded_none true o e h = ap (λ p. ok_or p e >>= command) (sym (h refl))
+guarded_none false o e h = refl
 
-pub event-refused : (line : List ℕ) → (IsUtf8 line → json line ≡ None) → None ≡ event line
-event-refused line h = guarded_none (is_utf8 line) (json line) (λ e. h (IsUtf8-from_is_utf8 line e))
+pub no_json : (line : List ℕ) → (IsUtf8 line → json line ≡ None) → Err (unread line) ≡ reading line
+no_json line h = guarded_none (is_utf8 line) (json line) (unread line) (λ e. h (IsUtf8-from_is_utf8 line e))
 
-guarded_some : (b : Bool) (o : Option Data) (d : Data) → b ≡ true → o ≡ Some d → command d ≡ (if b then option_and_then command o else None)
-guarded_some true o d e h = ap (option_and_then command) (sym h)
-guarded_some false o d e h = cc
+guarded_some : (b : Bool) (o : Option Data) (d : Data) (r : Reason) → b ≡ true → o ≡ Some d → command d ≡ (if b then ok_or o r >>= command else Err r)
+guarded_some true o d r e h = ap (λ p. ok_or p r >>= command) (sym h)
+guarded_some false o d r e h = cc
 
-pub event-accepted : (line : List ℕ) (d : Data) → IsUtf8 line → json line ≡ Some d → command d ≡ event line
-event-accepted line d u h = guarded_some (is_utf8 line) (json line) d (is_utf8-from_IsUtf8 line u) h
+pub read_json : (line : List ℕ) (d : Data) → IsUtf8 line → json line ≡ Some d → command d ≡ reading line
+read_json line d u h = guarded_some (is_utf8 line) (json line) d (unread line) (is_utf8-from_IsUtf8 line u) h

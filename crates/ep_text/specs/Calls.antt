@@ -1,111 +1,111 @@
 -- The calls, each with what its keys mean.
-use Rattle.std.specs.Prelude.{Bool, Option, Some, codes, false}
+use Rattle.std.specs.Prelude.{Bool, Ok, Result}
 use Rattle.serde_json.specs.Data.{Data}
-use Rattle.serde_json.specs.Find.{as_bool}
 use Rattle.ep_base.specs.declared.call.Call.{Call}
 use Rattle.ep_base.specs.declared.call.Call.TheVariants.{Close, Dup, Dup2, EpollCreate, EpollCtl, EpollWait, EventFd, Exec, Exit, Fork, GetTime, Pipe, Plain, Read, SetTime, Shutdown, SocketPair, TimerFd, Write}
 use Rattle.ep_base.specs.declared.ids.Fd.{Fd}
-use Rattle.ep_text.specs.Bytes.{bytes_value}
-use Rattle.ep_text.specs.Keys.{optional, required}
-use Rattle.ep_text.specs.Mask.{mask_value, operation_value}
-use Rattle.ep_text.specs.Values.{i32_value, i64_value, u32_value, u64_value, ◌>>=◌}
+use Rattle.ep_text.specs.declared.key.Key.TheVariants as key
+use Rattle.ep_text.specs.declared.reason.Reason.{Reason}
+use Rattle.ep_text.specs.Bytes.{bytes_in}
+use Rattle.ep_text.specs.Keys.{flag, optional, required, signed32, signed64, unsigned32, unsigned64, ◌>>=◌}
+use Rattle.ep_text.specs.Mask.{mask, operation}
 
 -- what only `cloexec` says more of
-abbrev pub created : (Bool → Call) → Data → Option Call
+abbrev pub created : (Bool → Call) → Data → Result Call Reason
 created make d = do
-  cloexec ← optional (codes "cloexec") as_bool false d
-  Some (make cloexec)
+  cloexec ← flag key.Cloexec d
+  Ok (make cloexec)
 
-abbrev pub pipe_call : Data → Option Call
+abbrev pub pipe_call : Data → Result Call Reason
 pipe_call = created (λ cloexec. Pipe cloexec)
 
-abbrev pub socketpair_call : Data → Option Call
+abbrev pub socketpair_call : Data → Result Call Reason
 socketpair_call = created (λ cloexec. SocketPair cloexec)
 
-abbrev pub plain_call : Data → Option Call
+abbrev pub plain_call : Data → Result Call Reason
 plain_call = created (λ cloexec. Plain cloexec)
 
-abbrev pub epoll_call : Data → Option Call
+abbrev pub epoll_call : Data → Result Call Reason
 epoll_call = created (λ cloexec. EpollCreate cloexec)
 
-abbrev pub eventfd_call : Data → Option Call
+abbrev pub eventfd_call : Data → Result Call Reason
 eventfd_call d = do
-  init ← required (codes "init") u32_value d
-  semaphore ← optional (codes "sem") as_bool false d
-  cloexec ← optional (codes "cloexec") as_bool false d
-  Some (EventFd init semaphore cloexec)
+  init ← required unsigned32 key.Init d
+  semaphore ← flag key.Sem d
+  cloexec ← flag key.Cloexec d
+  Ok (EventFd init semaphore cloexec)
 
-abbrev pub timerfd_call : Data → Option Call
+abbrev pub timerfd_call : Data → Result Call Reason
 timerfd_call d = do
-  clock ← required (codes "clock") i32_value d
-  cloexec ← optional (codes "cloexec") as_bool false d
-  Some (TimerFd clock cloexec)
+  clock ← required signed32 key.Clock d
+  cloexec ← flag key.Cloexec d
+  Ok (TimerFd clock cloexec)
 
-abbrev pub ctl_call : Data → Option Call
+abbrev pub ctl_call : Data → Result Call Reason
 ctl_call d = do
-  epfd ← required (codes "ep") i32_value d
-  op ← required (codes "act") operation_value d
-  fd ← required (codes "fd") i32_value d
-  mask ← optional (codes "mask") mask_value 0 d
-  tag ← optional (codes "data") u64_value 0 d
-  Some (EpollCtl (record { 0 = epfd }) op (record { 0 = fd }) (record { 0 = mask }) tag)
+  epfd ← required signed32 key.Ep d
+  fd ← required signed32 key.Fd d
+  op ← required operation key.Act d
+  bits ← optional mask 0 key.Mask d
+  tag ← optional unsigned64 0 key.Data d
+  Ok (EpollCtl (record { 0 = epfd }) op (record { 0 = fd }) (record { 0 = bits }) tag)
 
-abbrev pub wait_call : Data → Option Call
+abbrev pub wait_call : Data → Result Call Reason
 wait_call d = do
-  epfd ← required (codes "ep") i32_value d
-  max ← required (codes "max") i32_value d
-  timeout ← required (codes "timeout") i64_value d
-  Some (EpollWait (record { 0 = epfd }) max timeout)
+  epfd ← required signed32 key.Ep d
+  max ← required signed32 key.Max d
+  timeout ← required signed64 key.Timeout d
+  Ok (EpollWait (record { 0 = epfd }) max timeout)
 
-abbrev pub read_call : Data → Option Call
+abbrev pub read_call : Data → Result Call Reason
 read_call d = do
-  fd ← required (codes "fd") i32_value d
-  n ← required (codes "n") u32_value d
-  Some (Read (record { 0 = fd }) n)
+  fd ← required signed32 key.Fd d
+  n ← required unsigned32 key.N d
+  Ok (Read (record { 0 = fd }) n)
 
-abbrev pub write_call : Data → Option Call
+abbrev pub write_call : Data → Result Call Reason
 write_call d = do
-  fd ← required (codes "fd") i32_value d
-  bytes ← bytes_value d
-  Some (Write (record { 0 = fd }) bytes)
+  fd ← required signed32 key.Fd d
+  bytes ← bytes_in d
+  Ok (Write (record { 0 = fd }) bytes)
 
 -- what a descriptor alone says all of
-abbrev pub at_descriptor : (Fd → Call) → Data → Option Call
+abbrev pub at_descriptor : (Fd → Call) → Data → Result Call Reason
 at_descriptor make d = do
-  fd ← required (codes "fd") i32_value d
-  Some (make (record { 0 = fd }))
+  fd ← required signed32 key.Fd d
+  Ok (make (record { 0 = fd }))
 
-abbrev pub shutdown_call : Data → Option Call
+abbrev pub shutdown_call : Data → Result Call Reason
 shutdown_call = at_descriptor (λ fd. Shutdown fd)
 
-abbrev pub gettime_call : Data → Option Call
+abbrev pub gettime_call : Data → Result Call Reason
 gettime_call = at_descriptor (λ fd. GetTime fd)
 
-abbrev pub settime_call : Data → Option Call
+abbrev pub settime_call : Data → Result Call Reason
 settime_call d = do
-  fd ← required (codes "fd") i32_value d
-  absolute ← optional (codes "abs") as_bool false d
-  value ← required (codes "value") u64_value d
-  interval ← optional (codes "interval") u64_value 0 d
-  Some (SetTime (record { 0 = fd }) absolute value interval)
+  fd ← required signed32 key.Fd d
+  value ← required unsigned64 key.Value d
+  interval ← optional unsigned64 0 key.Interval d
+  absolute ← flag key.Abs d
+  Ok (SetTime (record { 0 = fd }) absolute value interval)
 
-abbrev pub dup_call : Data → Option Call
+abbrev pub dup_call : Data → Result Call Reason
 dup_call = at_descriptor (λ fd. Dup fd)
 
-abbrev pub dup2_call : Data → Option Call
+abbrev pub dup2_call : Data → Result Call Reason
 dup2_call d = do
-  fd ← required (codes "fd") i32_value d
-  to ← required (codes "to") i32_value d
-  Some (Dup2 (record { 0 = fd }) (record { 0 = to }))
+  fd ← required signed32 key.Fd d
+  to ← required signed32 key.To d
+  Ok (Dup2 (record { 0 = fd }) (record { 0 = to }))
 
-abbrev pub close_call : Data → Option Call
+abbrev pub close_call : Data → Result Call Reason
 close_call = at_descriptor (λ fd. Close fd)
 
-abbrev pub fork_call : Data → Option Call
-fork_call d = Some Fork
+abbrev pub fork_call : Data → Result Call Reason
+fork_call d = Ok Fork
 
-abbrev pub exec_call : Data → Option Call
-exec_call d = Some Exec
+abbrev pub exec_call : Data → Result Call Reason
+exec_call d = Ok Exec
 
-abbrev pub exit_call : Data → Option Call
-exit_call d = Some Exit
+abbrev pub exit_call : Data → Result Call Reason
+exit_call d = Ok Exit

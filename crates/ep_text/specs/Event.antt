@@ -1,82 +1,87 @@
 -- What a line of a script asks for: a table of its operations, each with its keys.
-use Rattle.std.specs.Prelude.{List, None, Option, Some, [], bytes_eq, codes, if◌then◌else◌, option_and_then, ℕ, ◌∷◌}
+use Rattle.std.specs.Prelude.{Err, List, None, Ok, Option, Result, Some, [], bytes_eq, codes, if◌then◌else◌, ok_or, ℕ, ◌∷◌}
+use Rattle.std.specs.Result.{result_err, result_ok}
 use Rattle.std.specs.Str.{is_utf8}
 use Rattle.serde_json.specs.Data.{Data}
-use Rattle.serde_json.specs.Find.{as_str}
+use Rattle.serde_json.specs.Find.{as_object}
 use Rattle.serde_json.specs.Read.{read as json}
 use Rattle.ep_base.specs.declared.call.Call.{Call}
 use Rattle.ep_base.specs.declared.call.Event.{Event}
 use Rattle.ep_base.specs.declared.call.Event.TheVariants.{Call as CallOf, Resume, Tick}
 use Rattle.ep_base.specs.declared.ids.CallerId.{CallerId}
+use Rattle.ep_text.specs.declared.key.Key.{Key}
+use Rattle.ep_text.specs.declared.key.Key.TheVariants as key
+use Rattle.ep_text.specs.declared.reason.Reason.{Reason}
+use Rattle.ep_text.specs.declared.reason.Reason.TheVariants.{NoObject, UnknownOp}
 use Rattle.ep_text.specs.Calls.{close_call, ctl_call, dup2_call, dup_call, epoll_call, eventfd_call, exec_call, exit_call, fork_call, gettime_call, pipe_call, plain_call, read_call, settime_call, shutdown_call, socketpair_call, timerfd_call, wait_call, write_call}
-use Rattle.ep_text.specs.Keys.{has_only_keys, optional, required}
-use Rattle.ep_text.specs.Values.{u32_value, u64_value, ◌>>=◌}
+use Rattle.ep_text.specs.Keys.{has_only, optional, required, text, unsigned32, unsigned64, ◌>>=◌}
+use Rattle.ep_text.specs.Reason.{unread}
 
 -- its name, its keys beside `op` and `by`, and the event that it asks for
 pub record Operation : Type 0 where
   pub name : List ℕ
-  pub keys : List (List ℕ)
-  pub asks : Data → Option Event
+  pub keys : List Key
+  pub asks : Data → Result Event Reason
 
 -- ---- the calls
 
 -- a call, of the process that `pid` names
-abbrev pub by_process : (Data → Option Call) → Data → Option Event
+abbrev pub by_process : (Data → Result Call Reason) → Data → Result Event Reason
 by_process meaning d = do
-  pid ← optional (codes "pid") u64_value 1 d
+  pid ← optional unsigned64 1 key.Pid d
   call ← meaning d
-  Some (CallOf (record { 0 = pid }) call)
+  Ok (CallOf (record { 0 = pid }) call)
 
-abbrev pub call_operation : List ℕ → List (List ℕ) → (Data → Option Call) → Operation
-call_operation name keys meaning = record { name = name; keys = codes "pid" ∷ keys; asks = by_process meaning }
+abbrev pub call_operation : List ℕ → List Key → (Data → Result Call Reason) → Operation
+call_operation name keys meaning = record { name = name; keys = key.Pid ∷ keys; asks = by_process meaning }
 
 abbrev pub pipe_operation : Operation
-pipe_operation = call_operation (codes "pipe") (codes "cloexec" ∷ []) pipe_call
+pipe_operation = call_operation (codes "pipe") (key.Cloexec ∷ []) pipe_call
 
 abbrev pub socketpair_operation : Operation
-socketpair_operation = call_operation (codes "socketpair") (codes "cloexec" ∷ []) socketpair_call
+socketpair_operation = call_operation (codes "socketpair") (key.Cloexec ∷ []) socketpair_call
 
 abbrev pub plain_operation : Operation
-plain_operation = call_operation (codes "plain") (codes "cloexec" ∷ []) plain_call
+plain_operation = call_operation (codes "plain") (key.Cloexec ∷ []) plain_call
 
 abbrev pub epoll_operation : Operation
-epoll_operation = call_operation (codes "epoll") (codes "cloexec" ∷ []) epoll_call
+epoll_operation = call_operation (codes "epoll") (key.Cloexec ∷ []) epoll_call
 
 abbrev pub eventfd_operation : Operation
-eventfd_operation = call_operation (codes "eventfd") (codes "init" ∷ codes "sem" ∷ codes "cloexec" ∷ []) eventfd_call
+eventfd_operation = call_operation (codes "eventfd") (key.Init ∷ key.Sem ∷ key.Cloexec ∷ []) eventfd_call
 
 abbrev pub timerfd_operation : Operation
-timerfd_operation = call_operation (codes "timerfd") (codes "clock" ∷ codes "cloexec" ∷ []) timerfd_call
+timerfd_operation = call_operation (codes "timerfd") (key.Clock ∷ key.Cloexec ∷ []) timerfd_call
 
 abbrev pub ctl_operation : Operation
-ctl_operation = call_operation (codes "ctl") (codes "ep" ∷ codes "fd" ∷ codes "act" ∷ codes "mask" ∷ codes "data" ∷ []) ctl_call
+ctl_operation = call_operation (codes "ctl") (key.Ep ∷ key.Fd ∷ key.Act ∷ key.Mask ∷ key.Data ∷ []) ctl_call
 
 abbrev pub wait_operation : Operation
-wait_operation = call_operation (codes "wait") (codes "ep" ∷ codes "max" ∷ codes "timeout" ∷ []) wait_call
+wait_operation = call_operation (codes "wait") (key.Ep ∷ key.Max ∷ key.Timeout ∷ []) wait_call
 
 abbrev pub read_operation : Operation
-read_operation = call_operation (codes "read") (codes "fd" ∷ codes "n" ∷ []) read_call
+read_operation = call_operation (codes "read") (key.Fd ∷ key.N ∷ []) read_call
 
 abbrev pub write_operation : Operation
-write_operation = call_operation (codes "write") (codes "fd" ∷ codes "hex" ∷ codes "fill" ∷ []) write_call
+write_operation = call_operation (codes "write") (key.Fd ∷ key.Hex ∷ key.Fill ∷ []) write_call
 
 abbrev pub shutdown_operation : Operation
-shutdown_operation = call_operation (codes "shutdown") (codes "fd" ∷ []) shutdown_call
+shutdown_operation = call_operation (codes "shutdown") (key.Fd ∷ []) shutdown_call
 
 abbrev pub gettime_operation : Operation
-gettime_operation = call_operation (codes "gettime") (codes "fd" ∷ []) gettime_call
+gettime_operation = call_operation (codes "gettime") (key.Fd ∷ []) gettime_call
 
 abbrev pub settime_operation : Operation
-settime_operation = call_operation (codes "settime") (codes "fd" ∷ codes "value" ∷ codes "interval" ∷ codes "abs" ∷ []) settime_call
+settime_operation = call_operation (codes "settime") (key.Fd ∷ key.Value ∷ key.Interval ∷ key.Abs ∷ []) settime_call
 
 abbrev pub dup_operation : Operation
-dup_operation = call_operation (codes "dup") (codes "fd" ∷ []) dup_call
+dup_operation = call_operation (codes "dup") (key.Fd ∷ []) dup_call
 
 abbrev pub dup2_operation : Operation
-dup2_operation = call_operation (codes "dup2") (codes "fd" ∷ codes "to" ∷ []) dup2_call
+dup2_operation = call_operation (codes "dup2") (key.Fd ∷ key.To ∷ []) dup2_call
 
 abbrev pub close_operation : Operation
-close_operation = call_operation (codes "close") (codes "fd" ∷ []) close_call
+close_operation = call_operation (codes "close") (key.Fd ∷ []) close_call
 
 abbrev pub fork_operation : Operation
 fork_operation = call_operation (codes "fork") [] fork_call
@@ -95,17 +100,17 @@ call_operations =
 
 -- ---- what is no call
 
-abbrev pub tick_event : Data → Option Event
+abbrev pub tick_event : Data → Result Event Reason
 tick_event d = do
-  n ← required (codes "n") u64_value d
-  Some (Tick n)
+  n ← required unsigned64 key.N d
+  Ok (Tick n)
 
 -- it is of no process
 abbrev pub tick_operation : Operation
-tick_operation = record { name = codes "tick"; keys = codes "n" ∷ []; asks = tick_event }
+tick_operation = record { name = codes "tick"; keys = key.N ∷ []; asks = tick_event }
 
-abbrev pub resume_event : Data → Option Event
-resume_event d = Some Resume
+abbrev pub resume_event : Data → Result Event Reason
+resume_event d = Ok Resume
 
 -- it is of the process in which its caller is parked, so no line names one
 abbrev pub resume_operation : Operation
@@ -123,18 +128,31 @@ named (o ∷ os) name = if bytes_eq name o.name then Some o else named os name
 abbrev pub Command : Type 0
 Command = CallerId × Event
 
-abbrev pub asked : Operation → Data → Option Command
+abbrev pub asked : Operation → Data → Result Command Reason
 asked operation d = do
-  caller ← optional (codes "by") u32_value 0 d
+  caller ← optional unsigned32 0 key.By d
   event ← operation.asks d
-  Some (record { 0 = caller }, event)
+  Ok (record { 0 = caller }, event)
 
-unfoldable pub command : Data → Option Command
+abbrev pub operation_in : Data → Result Operation Reason
+operation_in d = do
+  name ← required text key.Op d
+  ok_or (named operations name) (UnknownOp name)
+
+unfoldable pub command : Data → Result Command Reason
 command d = do
-  name ← required (codes "op") as_str d
-  operation ← named operations name
-  if has_only_keys (codes "op" ∷ codes "by" ∷ operation.keys) d then asked operation d else None
+  members ← ok_or (as_object d) NoObject
+  operation ← operation_in d
+  known ← has_only (key.Op ∷ key.By ∷ operation.keys) members
+  asked operation d
+
+abbrev pub reading : List ℕ → Result Command Reason
+reading line = if is_utf8 line then ok_or (json line) (unread line) >>= command else Err (unread line)
 
 -- who asks for what, if the line is a command
 abbrev pub event : List ℕ → Option Command
-event line = if is_utf8 line then option_and_then command (json line) else None
+event line = result_ok (reading line)
+
+-- why it is none, if it is none
+abbrev pub reason : List ℕ → Option Reason
+reason line = result_err (reading line)

@@ -1,3 +1,5 @@
+pub mod Key
+pub mod Reason
 pub mod Values
 pub mod Keys
 pub mod Mask

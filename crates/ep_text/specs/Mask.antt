@@ -3,6 +3,8 @@ use Rattle.std.specs.Prelude.{List, None, Option, Result, Ok, Err, Some, [], byt
 use Rattle.bitflags.specs.Text.{name_piece, read_text}
 use Rattle.serde_json.specs.Data.{Data}
 use Rattle.serde_json.specs.Find.{as_str}
+use Rattle.ep_text.specs.declared.value_kind.ValueKind.TheVariants as kinds
+use Rattle.ep_text.specs.Keys.{Meaning}
 use Rattle.ep_text.specs.Values.{i32_value, u32_value}
 
 abbrev pub mask_names : List (List ℕ × ℕ)
@@ -34,3 +36,9 @@ mask_value d = text_or_number mask_of_text u32_value d (as_str d)
 
 abbrev pub operation_value : Data → Option ℤ
 operation_value d = text_or_number operation_of_text i32_value d (as_str d)
+
+abbrev pub mask : Meaning ℕ
+mask = record { kind = kinds.Mask; value = mask_value }
+
+abbrev pub operation : Meaning ℤ
+operation = record { kind = kinds.Operation; value = operation_value }

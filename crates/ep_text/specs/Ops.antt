@@ -1,11 +1,14 @@
 -- The operations that the code names, as lines of the table.
-use Rattle.std.specs.Prelude.{List, Option, [], codes, ℕ, ◌∷◌}
+use Rattle.std.specs.Prelude.{List, Result, [], codes, ℕ, ◌∷◌}
 use Rattle.serde_json.specs.Data.{Data}
 use Rattle.ep_base.specs.declared.call.Call.{Call}
+use Rattle.ep_text.specs.declared.key.Key.{Key}
+use Rattle.ep_text.specs.declared.key.Key.TheVariants as key
 use Rattle.ep_text.specs.declared.op.CallOp.{CallOp}
 use Rattle.ep_text.specs.declared.op.CallOp.TheVariants as op
 use Rattle.ep_text.specs.declared.op.Op.{Op}
 use Rattle.ep_text.specs.declared.op.Op.TheVariants as any
+use Rattle.ep_text.specs.declared.reason.Reason.{Reason}
 use Rattle.ep_text.specs.Calls.{close_call, ctl_call, dup2_call, dup_call, epoll_call, eventfd_call, exec_call, exit_call, fork_call, gettime_call, pipe_call, plain_call, read_call, settime_call, shutdown_call, socketpair_call, timerfd_call, wait_call, write_call}
 use Rattle.ep_text.specs.Event.{Operation, call_operation, resume_operation, tick_operation}
 
@@ -30,28 +33,28 @@ name_of op.Fork = codes "fork"
 name_of op.Exec = codes "exec"
 name_of op.Exit = codes "exit"
 
-abbrev pub keys_of : CallOp → List (List ℕ)
-keys_of op.Pipe = codes "cloexec" ∷ []
-keys_of op.SocketPair = codes "cloexec" ∷ []
-keys_of op.Plain = codes "cloexec" ∷ []
-keys_of op.Epoll = codes "cloexec" ∷ []
-keys_of op.EventFd = codes "init" ∷ codes "sem" ∷ codes "cloexec" ∷ []
-keys_of op.TimerFd = codes "clock" ∷ codes "cloexec" ∷ []
-keys_of op.Ctl = codes "ep" ∷ codes "fd" ∷ codes "act" ∷ codes "mask" ∷ codes "data" ∷ []
-keys_of op.Wait = codes "ep" ∷ codes "max" ∷ codes "timeout" ∷ []
-keys_of op.Read = codes "fd" ∷ codes "n" ∷ []
-keys_of op.Write = codes "fd" ∷ codes "hex" ∷ codes "fill" ∷ []
-keys_of op.Shutdown = codes "fd" ∷ []
-keys_of op.GetTime = codes "fd" ∷ []
-keys_of op.SetTime = codes "fd" ∷ codes "value" ∷ codes "interval" ∷ codes "abs" ∷ []
-keys_of op.Dup = codes "fd" ∷ []
-keys_of op.Dup2 = codes "fd" ∷ codes "to" ∷ []
-keys_of op.Close = codes "fd" ∷ []
+abbrev pub keys_of : CallOp → List Key
+keys_of op.Pipe = key.Cloexec ∷ []
+keys_of op.SocketPair = key.Cloexec ∷ []
+keys_of op.Plain = key.Cloexec ∷ []
+keys_of op.Epoll = key.Cloexec ∷ []
+keys_of op.EventFd = key.Init ∷ key.Sem ∷ key.Cloexec ∷ []
+keys_of op.TimerFd = key.Clock ∷ key.Cloexec ∷ []
+keys_of op.Ctl = key.Ep ∷ key.Fd ∷ key.Act ∷ key.Mask ∷ key.Data ∷ []
+keys_of op.Wait = key.Ep ∷ key.Max ∷ key.Timeout ∷ []
+keys_of op.Read = key.Fd ∷ key.N ∷ []
+keys_of op.Write = key.Fd ∷ key.Hex ∷ key.Fill ∷ []
+keys_of op.Shutdown = key.Fd ∷ []
+keys_of op.GetTime = key.Fd ∷ []
+keys_of op.SetTime = key.Fd ∷ key.Value ∷ key.Interval ∷ key.Abs ∷ []
+keys_of op.Dup = key.Fd ∷ []
+keys_of op.Dup2 = key.Fd ∷ key.To ∷ []
+keys_of op.Close = key.Fd ∷ []
 keys_of op.Fork = []
 keys_of op.Exec = []
 keys_of op.Exit = []
 
-abbrev pub call_of : CallOp → Data → Option Call
+abbrev pub call_of : CallOp → Data → Result Call Reason
 call_of op.Pipe = pipe_call
 call_of op.SocketPair = socketpair_call
 call_of op.Plain = plain_call

@@ -3,10 +3,6 @@ use Rattle.std.specs.Prelude.{Option, Some, None, if◌then◌else◌, int_le, i
 use Rattle.serde_json.specs.Data.{Data}
 use Rattle.serde_json.specs.Find.{as_i64, as_number, as_u64}
 
-infixl 10 ◌>>=◌
-abbrev pub ◌>>=◌ : {A B : Type 0} → Option A → (A → Option B) → Option B
-o >>= f = option_and_then f o
-
 abbrev pub u64_value : Data → Option ℕ
 u64_value d = option_and_then as_u64 (as_number d)
 

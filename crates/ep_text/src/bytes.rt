@@ -1,8 +1,13 @@
 //! The bytes of a write.
 ghost use Rattle.std.specs.Prelude.{◌≡◌, IfOk, option_map, replicate};
 ghost use Rattle.serde_json.specs.View.{items_view, view};
-ghost use Rattle.ep_text.specs.Bytes.{bytes_value, fill_value, hex_value, one_of, repeated};
+ghost use Rattle.ep_text.specs.Bytes.{bytes_in, fill_value, hex_value, one_of, repeated};
+ghost use Rattle.ep_text.specs.Keys.{ok_map};
 
+use crate::fields::fit;
+use crate::key::Key;
+use crate::reason::Reason;
+use crate::value_kind::ValueKind;
 use hex::FromHexError;
 use serde_json::Value;
 use std::alloc::{AllocError, Global};
@@ -55,20 +60,27 @@ fn one_of(
     alloc: Global,
     hex: Option<&Value>,
     fill: Option<&Value>,
-) -> Result<Option<Vec<u8>>, AllocError>
-    ensures { IfOk result (λ b. option_map (λ v. v.items) b
+) -> Result<Result<Vec<u8>, Reason>, AllocError>
+    ensures { IfOk result (λ b. ok_map (λ v. v.items) b
         ≡ one_of (option_map (λ v. view v.now) hex.entry) (option_map (λ v. view v.now) fill.entry)) }
 {
     match (hex, fill) {
-        (Some(hex), None) => hex_bytes(alloc, hex),
-        (None, Some(fill)) => fill_bytes(alloc, fill),
-        (None, None) | (Some(_), Some(_)) => Ok(None),
+        (Some(hex), None) => {
+            let bytes = hex_bytes(alloc, hex)?;
+            Ok(fit(bytes, hex, Key::Hex, ValueKind::Hex))
+        }
+        (None, Some(fill)) => {
+            let bytes = fill_bytes(alloc, fill)?;
+            Ok(fit(bytes, fill, Key::Fill, ValueKind::Fill))
+        }
+        (None, None) => Ok(Err(Reason::NeitherHexNorFill)),
+        (Some(_), Some(_)) => Ok(Err(Reason::HexAndFill)),
     }
 }
 
 /// The bytes that `hex` or `fill` says, where just one of them is there.
-pub(crate) fn bytes_value(alloc: Global, value: &Value) -> Result<Option<Vec<u8>>, AllocError>
-    ensures { IfOk result (λ b. option_map (λ v. v.items) b ≡ bytes_value (view value.now)) }
+pub(crate) fn bytes_in(alloc: Global, line: &Value) -> Result<Result<Vec<u8>, Reason>, AllocError>
+    ensures { IfOk result (λ b. ok_map (λ v. v.items) b ≡ bytes_in (view line.now)) }
 {
-    one_of(alloc, value.get("hex"), value.get("fill"))
+    one_of(alloc, line.get(Key::Hex.name()), line.get(Key::Fill.name()))
 }

@@ -4,72 +4,74 @@ ghost use Rattle.serde_json.specs.View.{view};
 ghost use Rattle.ep_text.specs.Calls.{close_call, ctl_call, dup2_call, dup_call, epoll_call, eventfd_call, gettime_call, pipe_call, plain_call, read_call, settime_call, shutdown_call, socketpair_call, timerfd_call, wait_call, write_call};
 ghost use Rattle.ep_text.specs.Ops.{call_of};
 
-use crate::bytes::bytes_value;
+use crate::bytes::bytes_in;
 use crate::fields::{flag, required_i32, required_i64, required_u32, required_u64, u64_or};
+use crate::key::Key;
 use crate::masks::{mask_or_empty, required_operation};
 use crate::op::CallOp;
+use crate::reason::Reason;
 use ep_base::{Buffer, Call, Fd};
 use serde_json::Value;
 use std::alloc::{AllocError, Global};
 
-fn pipe_call(value: &Value) -> Option<Call>
+fn pipe_call(value: &Value) -> Result<Call, Reason>
     ensures { result ≡ pipe_call (view value.now) }
 {
-    let cloexec = flag(value, "cloexec")?;
-    Some(Call::Pipe { cloexec })
+    let cloexec = flag(value, Key::Cloexec)?;
+    Ok(Call::Pipe { cloexec })
 }
 
-fn socketpair_call(value: &Value) -> Option<Call>
+fn socketpair_call(value: &Value) -> Result<Call, Reason>
     ensures { result ≡ socketpair_call (view value.now) }
 {
-    let cloexec = flag(value, "cloexec")?;
-    Some(Call::SocketPair { cloexec })
+    let cloexec = flag(value, Key::Cloexec)?;
+    Ok(Call::SocketPair { cloexec })
 }
 
-fn plain_call(value: &Value) -> Option<Call>
+fn plain_call(value: &Value) -> Result<Call, Reason>
     ensures { result ≡ plain_call (view value.now) }
 {
-    let cloexec = flag(value, "cloexec")?;
-    Some(Call::Plain { cloexec })
+    let cloexec = flag(value, Key::Cloexec)?;
+    Ok(Call::Plain { cloexec })
 }
 
-fn epoll_call(value: &Value) -> Option<Call>
+fn epoll_call(value: &Value) -> Result<Call, Reason>
     ensures { result ≡ epoll_call (view value.now) }
 {
-    let cloexec = flag(value, "cloexec")?;
-    Some(Call::EpollCreate { cloexec })
+    let cloexec = flag(value, Key::Cloexec)?;
+    Ok(Call::EpollCreate { cloexec })
 }
 
-fn eventfd_call(value: &Value) -> Option<Call>
+fn eventfd_call(value: &Value) -> Result<Call, Reason>
     ensures { result ≡ eventfd_call (view value.now) }
 {
-    let init = required_u32(value, "init")?;
-    let semaphore = flag(value, "sem")?;
-    let cloexec = flag(value, "cloexec")?;
-    Some(Call::EventFd {
+    let init = required_u32(value, Key::Init)?;
+    let semaphore = flag(value, Key::Sem)?;
+    let cloexec = flag(value, Key::Cloexec)?;
+    Ok(Call::EventFd {
         init,
         semaphore,
         cloexec,
     })
 }
 
-fn timerfd_call(value: &Value) -> Option<Call>
+fn timerfd_call(value: &Value) -> Result<Call, Reason>
     ensures { result ≡ timerfd_call (view value.now) }
 {
-    let clock = required_i32(value, "clock")?;
-    let cloexec = flag(value, "cloexec")?;
-    Some(Call::TimerFd { clock, cloexec })
+    let clock = required_i32(value, Key::Clock)?;
+    let cloexec = flag(value, Key::Cloexec)?;
+    Ok(Call::TimerFd { clock, cloexec })
 }
 
-fn ctl_call(value: &Value) -> Option<Call>
+fn ctl_call(value: &Value) -> Result<Call, Reason>
     ensures { result ≡ ctl_call (view value.now) }
 {
-    let epfd = Fd(required_i32(value, "ep")?);
+    let epfd = Fd(required_i32(value, Key::Ep)?);
+    let fd = Fd(required_i32(value, Key::Fd)?);
     let op = required_operation(value)?;
-    let fd = Fd(required_i32(value, "fd")?);
     let mask = mask_or_empty(value)?;
-    let tag = u64_or(value, "data", 0)?;
-    Some(Call::EpollCtl {
+    let tag = u64_or(value, Key::Data, 0)?;
+    Ok(Call::EpollCtl {
         epfd,
         op,
         fd,
@@ -78,60 +80,61 @@ fn ctl_call(value: &Value) -> Option<Call>
     })
 }
 
-fn wait_call(value: &Value) -> Option<Call>
+fn wait_call(value: &Value) -> Result<Call, Reason>
     ensures { result ≡ wait_call (view value.now) }
 {
-    let epfd = Fd(required_i32(value, "ep")?);
-    let max = required_i32(value, "max")?;
-    let timeout = required_i64(value, "timeout")?;
-    Some(Call::EpollWait { epfd, max, timeout })
+    let epfd = Fd(required_i32(value, Key::Ep)?);
+    let max = required_i32(value, Key::Max)?;
+    let timeout = required_i64(value, Key::Timeout)?;
+    Ok(Call::EpollWait { epfd, max, timeout })
 }
 
-fn read_call(value: &Value) -> Option<Call>
+fn read_call(value: &Value) -> Result<Call, Reason>
     ensures { result ≡ read_call (view value.now) }
 {
-    let fd = Fd(required_i32(value, "fd")?);
-    let n = required_u32(value, "n")?;
-    Some(Call::Read { fd, n })
+    let fd = Fd(required_i32(value, Key::Fd)?);
+    let n = required_u32(value, Key::N)?;
+    Ok(Call::Read { fd, n })
 }
 
-fn write_call(alloc: Global, value: &Value) -> Result<Option<Call>, AllocError>
+fn write_call(alloc: Global, value: &Value) -> Result<Result<Call, Reason>, AllocError>
     ensures { IfOk result (λ c. c ≡ write_call (view value.now)) }
 {
-    let Some(fd) = required_i32(value, "fd") else {
-        return Ok(None);
+    let fd = match required_i32(value, Key::Fd) {
+        Ok(fd) => fd,
+        Err(reason) => return Ok(Err(reason)),
     };
-    let Some(bytes) = bytes_value(alloc, value)? else {
-        return Ok(None);
-    };
-    Ok(Some(Call::Write {
-        fd: Fd(fd),
-        bytes: Buffer::new(bytes),
-    }))
+    match bytes_in(alloc, value)? {
+        Ok(bytes) => Ok(Ok(Call::Write {
+            fd: Fd(fd),
+            bytes: Buffer::new(bytes),
+        })),
+        Err(reason) => Ok(Err(reason)),
+    }
 }
 
-fn shutdown_call(value: &Value) -> Option<Call>
+fn shutdown_call(value: &Value) -> Result<Call, Reason>
     ensures { result ≡ shutdown_call (view value.now) }
 {
-    let fd = Fd(required_i32(value, "fd")?);
-    Some(Call::Shutdown { fd })
+    let fd = Fd(required_i32(value, Key::Fd)?);
+    Ok(Call::Shutdown { fd })
 }
 
-fn gettime_call(value: &Value) -> Option<Call>
+fn gettime_call(value: &Value) -> Result<Call, Reason>
     ensures { result ≡ gettime_call (view value.now) }
 {
-    let fd = Fd(required_i32(value, "fd")?);
-    Some(Call::GetTime { fd })
+    let fd = Fd(required_i32(value, Key::Fd)?);
+    Ok(Call::GetTime { fd })
 }
 
-fn settime_call(line: &Value) -> Option<Call>
+fn settime_call(line: &Value) -> Result<Call, Reason>
     ensures { result ≡ settime_call (view line.now) }
 {
-    let fd = Fd(required_i32(line, "fd")?);
-    let absolute = flag(line, "abs")?;
-    let value = required_u64(line, "value")?;
-    let interval = u64_or(line, "interval", 0)?;
-    Some(Call::SetTime {
+    let fd = Fd(required_i32(line, Key::Fd)?);
+    let value = required_u64(line, Key::Value)?;
+    let interval = u64_or(line, Key::Interval, 0)?;
+    let absolute = flag(line, Key::Abs)?;
+    Ok(Call::SetTime {
         fd,
         absolute,
         value,
@@ -139,30 +142,34 @@ fn settime_call(line: &Value) -> Option<Call>
     })
 }
 
-fn dup_call(value: &Value) -> Option<Call>
+fn dup_call(value: &Value) -> Result<Call, Reason>
     ensures { result ≡ dup_call (view value.now) }
 {
-    let fd = Fd(required_i32(value, "fd")?);
-    Some(Call::Dup { fd })
+    let fd = Fd(required_i32(value, Key::Fd)?);
+    Ok(Call::Dup { fd })
 }
 
-fn dup2_call(value: &Value) -> Option<Call>
+fn dup2_call(value: &Value) -> Result<Call, Reason>
     ensures { result ≡ dup2_call (view value.now) }
 {
-    let fd = Fd(required_i32(value, "fd")?);
-    let to = Fd(required_i32(value, "to")?);
-    Some(Call::Dup2 { fd, to })
+    let fd = Fd(required_i32(value, Key::Fd)?);
+    let to = Fd(required_i32(value, Key::To)?);
+    Ok(Call::Dup2 { fd, to })
 }
 
-fn close_call(value: &Value) -> Option<Call>
+fn close_call(value: &Value) -> Result<Call, Reason>
     ensures { result ≡ close_call (view value.now) }
 {
-    let fd = Fd(required_i32(value, "fd")?);
-    Some(Call::Close { fd })
+    let fd = Fd(required_i32(value, Key::Fd)?);
+    Ok(Call::Close { fd })
 }
 
-/// The call of an operation, or `None` where a key that must be there is missing or a value is out of its range.
-pub(crate) fn call_of(alloc: Global, op: CallOp, value: &Value) -> Result<Option<Call>, AllocError>
+/// The call of an operation, or why there is none: its first key that is missing or has a wrong value.
+pub(crate) fn call_of(
+    alloc: Global,
+    op: CallOp,
+    value: &Value,
+) -> Result<Result<Call, Reason>, AllocError>
     ensures { IfOk result (λ c. c ≡ call_of op (view value.now)) }
 {
     match op {
@@ -182,8 +189,8 @@ pub(crate) fn call_of(alloc: Global, op: CallOp, value: &Value) -> Result<Option
         CallOp::Dup => Ok(dup_call(value)),
         CallOp::Dup2 => Ok(dup2_call(value)),
         CallOp::Close => Ok(close_call(value)),
-        CallOp::Fork => Ok(Some(Call::Fork)),
-        CallOp::Exec => Ok(Some(Call::Exec)),
-        CallOp::Exit => Ok(Some(Call::Exit)),
+        CallOp::Fork => Ok(Ok(Call::Fork)),
+        CallOp::Exec => Ok(Ok(Call::Exec)),
+        CallOp::Exit => Ok(Ok(Call::Exit)),
     }
 }

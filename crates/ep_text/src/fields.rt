@@ -1,11 +1,29 @@
 //! The values of the keys of a line.
-ghost use Rattle.std.specs.Prelude.{◌≡◌, false};
-ghost use Rattle.serde_json.specs.Find.{as_bool};
+ghost use Rattle.std.specs.Prelude.{◌≡◌, ok_or};
 ghost use Rattle.serde_json.specs.View.{view};
-ghost use Rattle.ep_text.specs.Keys.{optional, required};
-ghost use Rattle.ep_text.specs.Values.{i32_value, i64_value, u32_value, u64_value};
+ghost use Rattle.ep_text.specs.Keys.{flag, optional, required, signed32, signed64, unsigned32, unsigned64};
+ghost use Rattle.ep_text.specs.Reason.{unfit};
+ghost use Rattle.ep_text.specs.Values.{i32_value, u32_value};
 
+use crate::key::Key;
+use crate::reason::{Reason, unfit};
+use crate::value_kind::ValueKind;
 use serde_json::Value;
+
+/// What was read of a value, or why nothing was.
+pub(crate) fn fit<T: Drop>(
+    read: Option<T>,
+    value: &Value,
+    key: Key,
+    kind: ValueKind,
+) -> Result<T, Reason>
+    ensures { result ≡ ok_or read (unfit key kind (view value.now)) }
+{
+    match read {
+        Some(read) => Ok(read),
+        None => Err(unfit(value, key, kind)),
+    }
+}
 
 pub(crate) fn u32_value(value: &Value) -> Option<u32>
     ensures { result ≡ u32_value (view value.now) }
@@ -19,54 +37,66 @@ pub(crate) fn i32_value(value: &Value) -> Option<i32>
     i32::try_from(value.as_i64()?).ok()
 }
 
-pub(crate) fn required_i32(value: &Value, key: &str) -> Option<i32>
-    ensures { result ≡ required key.now i32_value (view value.now) }
+pub(crate) fn required_i32(line: &Value, key: Key) -> Result<i32, Reason>
+    ensures { result ≡ required signed32 key (view line.now) }
 {
-    i32_value(value.get(key)?)
-}
-
-pub(crate) fn required_i64(value: &Value, key: &str) -> Option<i64>
-    ensures { result ≡ required key.now i64_value (view value.now) }
-{
-    value.get(key)?.as_i64()
-}
-
-pub(crate) fn required_u32(value: &Value, key: &str) -> Option<u32>
-    ensures { result ≡ required key.now u32_value (view value.now) }
-{
-    u32_value(value.get(key)?)
-}
-
-pub(crate) fn required_u64(value: &Value, key: &str) -> Option<u64>
-    ensures { result ≡ required key.now u64_value (view value.now) }
-{
-    value.get(key)?.as_u64()
-}
-
-pub(crate) fn u32_or(value: &Value, key: &str, missing: u32) -> Option<u32>
-    ensures { result ≡ optional key.now u32_value missing (view value.now) }
-{
-    match value.get(key) {
-        None => Some(missing),
-        Some(value) => u32_value(value),
+    match line.get(key.name()) {
+        None => Err(Reason::Missing(key)),
+        Some(value) => fit(i32_value(value), value, key, ValueKind::Signed32),
     }
 }
 
-pub(crate) fn u64_or(value: &Value, key: &str, missing: u64) -> Option<u64>
-    ensures { result ≡ optional key.now u64_value missing (view value.now) }
+pub(crate) fn required_i64(line: &Value, key: Key) -> Result<i64, Reason>
+    ensures { result ≡ required signed64 key (view line.now) }
 {
-    match value.get(key) {
-        None => Some(missing),
-        Some(value) => value.as_u64(),
+    match line.get(key.name()) {
+        None => Err(Reason::Missing(key)),
+        Some(value) => fit(value.as_i64(), value, key, ValueKind::Signed64),
+    }
+}
+
+pub(crate) fn required_u32(line: &Value, key: Key) -> Result<u32, Reason>
+    ensures { result ≡ required unsigned32 key (view line.now) }
+{
+    match line.get(key.name()) {
+        None => Err(Reason::Missing(key)),
+        Some(value) => fit(u32_value(value), value, key, ValueKind::Unsigned32),
+    }
+}
+
+pub(crate) fn required_u64(line: &Value, key: Key) -> Result<u64, Reason>
+    ensures { result ≡ required unsigned64 key (view line.now) }
+{
+    match line.get(key.name()) {
+        None => Err(Reason::Missing(key)),
+        Some(value) => fit(value.as_u64(), value, key, ValueKind::Unsigned64),
+    }
+}
+
+pub(crate) fn u32_or(line: &Value, key: Key, missing: u32) -> Result<u32, Reason>
+    ensures { result ≡ optional unsigned32 missing key (view line.now) }
+{
+    match line.get(key.name()) {
+        None => Ok(missing),
+        Some(value) => fit(u32_value(value), value, key, ValueKind::Unsigned32),
+    }
+}
+
+pub(crate) fn u64_or(line: &Value, key: Key, missing: u64) -> Result<u64, Reason>
+    ensures { result ≡ optional unsigned64 missing key (view line.now) }
+{
+    match line.get(key.name()) {
+        None => Ok(missing),
+        Some(value) => fit(value.as_u64(), value, key, ValueKind::Unsigned64),
     }
 }
 
 /// A truth value, which is false where it is left out.
-pub(crate) fn flag(value: &Value, key: &str) -> Option<bool>
-    ensures { result ≡ optional key.now as_bool false (view value.now) }
+pub(crate) fn flag(line: &Value, key: Key) -> Result<bool, Reason>
+    ensures { result ≡ flag key (view line.now) }
 {
-    match value.get(key) {
-        None => Some(false),
-        Some(value) => value.as_bool(),
+    match line.get(key.name()) {
+        None => Ok(false),
+        Some(value) => fit(value.as_bool(), value, key, ValueKind::Truth),
     }
 }

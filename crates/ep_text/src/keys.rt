@@ -1,38 +1,37 @@
 //! Which keys an object has.
-ghost use Rattle.std.specs.Prelude.{◌≡◌, map};
-ghost use Rattle.serde_json.specs.View.{members_view, view};
-ghost use Rattle.ep_text.specs.Keys.{has_only_keys, is_among, members_among};
+ghost use Rattle.std.specs.Prelude.{◌≡◌, ◌∷◌, option_map};
+ghost use Rattle.serde_json.specs.View.{members_view};
+ghost use Rattle.ep_text.specs.Keys.{first_other, is_among};
 
+use crate::key::Key;
 use serde_json::{Map, Value};
 
-fn is_among(keys: &[&str], key: &str) -> bool
-    ensures { result ≡ is_among (map (λ k. k.now) keys.now) key.now }
+fn is_among(keys: &[Key], name: &str) -> bool
+    ensures { result ≡ is_among keys.now name.now }
 {
-    for k in keys {
-        if *k == key {
+    for key in keys {
+        if key.name() == name {
             return true;
         }
     }
     false
 }
 
-fn members_among(keys: &[&str], members: &Map<String, Value>) -> bool
-    ensures { result ≡ members_among (map (λ k. k.now) keys.now) (members_view members.now.entries) }
+fn is_known(keys: &[Key], name: &str) -> bool
+    ensures { result ≡ is_among (Key.Op ∷ Key.By ∷ keys.now) name.now }
 {
-    for (key, _) in members.iter() {
-        if !is_among(keys, key.as_str()) {
-            return false;
-        }
-    }
-    true
+    Key::Op.name() == name || Key::By.name() == name || is_among(keys, name)
 }
 
-/// Whether it is an object, and each of its keys is one of these.
-pub(crate) fn has_only_keys(keys: &[&str], value: &Value) -> bool
-    ensures { result ≡ has_only_keys (map (λ k. k.now) keys.now) (view value.now) }
+/// The first member whose name is none of these keys, and not `op` or `by`.
+pub(crate) fn first_other<'a>(keys: &[Key], members: &'a Map<String, Value>) -> Option<&'a str>
+    ensures { option_map (λ n. n.now) result
+        ≡ first_other (Key.Op ∷ Key.By ∷ keys.now) (members_view members.now.entries) }
 {
-    match value.as_object() {
-        Some(members) => members_among(keys, members),
-        None => false,
+    for (name, _) in members.iter() {
+        if !is_known(keys, name.as_str()) {
+            return Some(name.as_str());
+        }
     }
+    None
 }

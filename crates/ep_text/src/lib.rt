@@ -4,13 +4,19 @@
 mod bytes;
 mod calls;
 mod fields;
+mod key;
 mod keys;
 mod limits;
 mod masks;
 mod op;
 mod print;
 mod read;
+mod reason;
+mod value_kind;
 
+pub use crate::key::Key;
 pub use crate::limits::parse_limits;
 pub use crate::print::{print_answer, push_answer, push_bad};
-pub use crate::read::read_line;
+pub use crate::read::{explain, read_line};
+pub use crate::reason::{Name, Reason};
+pub use crate::value_kind::ValueKind;

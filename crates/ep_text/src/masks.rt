@@ -1,10 +1,13 @@
 //! Masks and operations of epoll_ctl(2), each a number or a text.
-ghost use Rattle.std.specs.Prelude.{◌≡◌, codes, option_map};
+ghost use Rattle.std.specs.Prelude.{◌≡◌, option_map};
 ghost use Rattle.serde_json.specs.View.{view};
-ghost use Rattle.ep_text.specs.Keys.{optional, required};
-ghost use Rattle.ep_text.specs.Mask.{mask_value, operation_value};
+ghost use Rattle.ep_text.specs.Keys.{ok_map, optional, required};
+ghost use Rattle.ep_text.specs.Mask.{mask, mask_value, operation, operation_value};
 
-use crate::fields::{i32_value, u32_value};
+use crate::fields::{fit, i32_value, u32_value};
+use crate::key::Key;
+use crate::reason::Reason;
+use crate::value_kind::ValueKind;
 use bitflags::parser::from_str_strict;
 use ep_base::Mask;
 use serde_json::Value;
@@ -19,12 +22,12 @@ fn mask_value(value: &Value) -> Option<Mask>
 }
 
 /// The mask of the key `mask`, which is empty where it is left out.
-pub(crate) fn mask_or_empty(value: &Value) -> Option<Mask>
-    ensures { option_map (λ m. m.0) result ≡ optional (codes "mask") mask_value 0 (view value.now) }
+pub(crate) fn mask_or_empty(line: &Value) -> Result<Mask, Reason>
+    ensures { ok_map (λ m. m.0) result ≡ optional mask 0 Key.Mask (view line.now) }
 {
-    match value.get("mask") {
-        None => Some(Mask(0)),
-        Some(value) => mask_value(value),
+    match line.get(Key::Mask.name()) {
+        None => Ok(Mask(0)),
+        Some(value) => fit(mask_value(value), value, Key::Mask, ValueKind::Mask),
     }
 }
 
@@ -41,8 +44,16 @@ fn operation_value(value: &Value) -> Option<i32>
 }
 
 /// The operation of the key `act`.
-pub(crate) fn required_operation(value: &Value) -> Option<i32>
-    ensures { result ≡ required (codes "act") operation_value (view value.now) }
+pub(crate) fn required_operation(line: &Value) -> Result<i32, Reason>
+    ensures { result ≡ required operation Key.Act (view line.now) }
 {
-    operation_value(value.get("act")?)
+    match line.get(Key::Act.name()) {
+        None => Err(Reason::Missing(Key::Act)),
+        Some(value) => fit(
+            operation_value(value),
+            value,
+            Key::Act,
+            ValueKind::Operation,
+        ),
+    }
 }

@@ -1,12 +1,9 @@
 //! The operations of a script.
-ghost use Rattle.std.specs.Prelude.{◌≡◌, ◌∷◌, codes, option_map};
-ghost use Rattle.serde_json.specs.View.{view};
+ghost use Rattle.std.specs.Prelude.{◌≡◌, option_map};
 ghost use Rattle.ep_text.specs.Event.{call_operations, named, operations};
-ghost use Rattle.ep_text.specs.Keys.{has_only_keys};
 ghost use Rattle.ep_text.specs.Ops.{call_operation_of, operation_of};
 
-use crate::keys::has_only_keys;
-use serde_json::Value;
+use crate::key::Key;
 
 /// A call of a process.
 #[derive(Clone, Copy, Debug, PartialEq, Eq)]
@@ -67,33 +64,26 @@ impl CallOp {
         }
     }
 
-    fn has_only_its_keys(self, value: &Value) -> bool
-        ensures { result ≡ has_only_keys (codes "op" ∷ codes "by" ∷ (call_operation_of self).keys) (view value.now) }
+    /// The keys that it may have, beside `op` and `by`.
+    fn keys(self) -> &'static [Key]
+        ensures { result.now ≡ (call_operation_of self).keys }
     {
         match self {
             CallOp::Pipe | CallOp::SocketPair | CallOp::Plain | CallOp::Epoll => {
-                has_only_keys(&["op", "by", "pid", "cloexec"], value)
+                &[Key::Pid, Key::Cloexec]
             }
-            CallOp::EventFd => has_only_keys(&["op", "by", "pid", "init", "sem", "cloexec"], value),
-            CallOp::TimerFd => has_only_keys(&["op", "by", "pid", "clock", "cloexec"], value),
-            CallOp::Ctl => has_only_keys(
-                &["op", "by", "pid", "ep", "fd", "act", "mask", "data"],
-                value,
-            ),
-            CallOp::Wait => has_only_keys(&["op", "by", "pid", "ep", "max", "timeout"], value),
-            CallOp::Read => has_only_keys(&["op", "by", "pid", "fd", "n"], value),
-            CallOp::Write => has_only_keys(&["op", "by", "pid", "fd", "hex", "fill"], value),
+            CallOp::EventFd => &[Key::Pid, Key::Init, Key::Sem, Key::Cloexec],
+            CallOp::TimerFd => &[Key::Pid, Key::Clock, Key::Cloexec],
+            CallOp::Ctl => &[Key::Pid, Key::Ep, Key::Fd, Key::Act, Key::Mask, Key::Data],
+            CallOp::Wait => &[Key::Pid, Key::Ep, Key::Max, Key::Timeout],
+            CallOp::Read => &[Key::Pid, Key::Fd, Key::N],
+            CallOp::Write => &[Key::Pid, Key::Fd, Key::Hex, Key::Fill],
             CallOp::Shutdown | CallOp::GetTime | CallOp::Dup | CallOp::Close => {
-                has_only_keys(&["op", "by", "pid", "fd"], value)
+                &[Key::Pid, Key::Fd]
             }
-            CallOp::Dup2 => has_only_keys(&["op", "by", "pid", "fd", "to"], value),
-            CallOp::Fork | CallOp::Exec | CallOp::Exit => {
-                has_only_keys(&["op", "by", "pid"], value)
-            }
-            CallOp::SetTime => has_only_keys(
-                &["op", "by", "pid", "fd", "value", "interval", "abs"],
-                value,
-            ),
+            CallOp::Dup2 => &[Key::Pid, Key::Fd, Key::To],
+            CallOp::Fork | CallOp::Exec | CallOp::Exit => &[Key::Pid],
+            CallOp::SetTime => &[Key::Pid, Key::Fd, Key::Value, Key::Interval, Key::Abs],
         }
     }
 }
@@ -109,14 +99,14 @@ impl Op {
         }
     }
 
-    /// Whether every key is one that the operation may have.
-    pub(crate) fn has_only_its_keys(self, value: &Value) -> bool
-        ensures { result ≡ has_only_keys (codes "op" ∷ codes "by" ∷ (operation_of self).keys) (view value.now) }
+    /// The keys that it may have, beside `op` and `by`.
+    pub(crate) fn keys(self) -> &'static [Key]
+        ensures { result.now ≡ (operation_of self).keys }
     {
         match self {
-            Op::Call(op) => op.has_only_its_keys(value),
-            Op::Resume => has_only_keys(&["op", "by"], value),
-            Op::Tick => has_only_keys(&["op", "by", "n"], value),
+            Op::Call(op) => op.keys(),
+            Op::Resume => &[],
+            Op::Tick => &[Key::N],
         }
     }
 }

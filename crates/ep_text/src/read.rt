@@ -1,74 +1,117 @@
 //! A line to what it asks for.
-ghost use Rattle.std.specs.Prelude.{◌≡◌, IfOk};
+ghost use Rattle.std.specs.Prelude.{◌≡◌, ◌↔◌, IfOk, IsNone, IsSome};
 ghost use Rattle.serde_json.specs.View.{view};
-ghost use Rattle.ep_text.specs.Event.{asked, by_process, command, event, tick_event};
+ghost use Rattle.ep_text.specs.Event.{asked, by_process, command, event, operation_in, reading, reason, tick_event};
+ghost use Rattle.ep_text.specs.Keys.{ok_map};
 ghost use Rattle.ep_text.specs.Ops.{call_of, operation_of};
 
 use crate::calls::call_of;
 use crate::fields::{required_u64, u32_or, u64_or};
+use crate::key::Key;
+use crate::keys::first_other;
 use crate::op::{CallOp, Op};
+use crate::reason::{Name, Reason, unfit, unread};
+use crate::value_kind::ValueKind;
 use ep_base::{CallerId, Event, Pid};
 use serde_json::Value;
 use std::alloc::{AllocError, Global};
 
-fn call_event(alloc: Global, op: CallOp, value: &Value) -> Result<Option<Event>, AllocError>
+fn call_event(alloc: Global, op: CallOp, value: &Value) -> Result<Result<Event, Reason>, AllocError>
     ensures { IfOk result (λ e. e ≡ by_process (call_of op) (view value.now)) }
 {
-    let Some(pid) = u64_or(value, "pid", 1) else {
-        return Ok(None);
+    let pid = match u64_or(value, Key::Pid, 1) {
+        Ok(pid) => pid,
+        Err(reason) => return Ok(Err(reason)),
     };
-    let Some(call) = call_of(alloc, op, value)? else {
-        return Ok(None);
-    };
-    Ok(Some(Event::Call {
-        pid: Pid(pid),
-        call,
-    }))
+    match call_of(alloc, op, value)? {
+        Ok(call) => Ok(Ok(Event::Call {
+            pid: Pid(pid),
+            call,
+        })),
+        Err(reason) => Ok(Err(reason)),
+    }
 }
 
-fn tick_event(value: &Value) -> Option<Event>
+fn tick_event(value: &Value) -> Result<Event, Reason>
     ensures { result ≡ tick_event (view value.now) }
 {
-    let n = required_u64(value, "n")?;
-    Some(Event::Tick { n })
+    let n = required_u64(value, Key::N)?;
+    Ok(Event::Tick { n })
 }
 
-fn event_of(alloc: Global, op: Op, value: &Value) -> Result<Option<Event>, AllocError>
+fn event_of(alloc: Global, op: Op, value: &Value) -> Result<Result<Event, Reason>, AllocError>
     ensures { IfOk result (λ e. e ≡ (operation_of op).asks (view value.now)) }
 {
     match op {
         Op::Call(op) => call_event(alloc, op, value),
-        Op::Resume => Ok(Some(Event::Resume)),
+        Op::Resume => Ok(Ok(Event::Resume)),
         Op::Tick => Ok(tick_event(value)),
     }
 }
 
-fn asked(alloc: Global, op: Op, value: &Value) -> Result<Option<(CallerId, Event)>, AllocError>
+fn asked(
+    alloc: Global,
+    op: Op,
+    value: &Value,
+) -> Result<Result<(CallerId, Event), Reason>, AllocError>
     ensures { IfOk result (λ r. r ≡ asked (operation_of op) (view value.now)) }
 {
-    let Some(by) = u32_or(value, "by", 0) else {
-        return Ok(None);
+    let by = match u32_or(value, Key::By, 0) {
+        Ok(by) => by,
+        Err(reason) => return Ok(Err(reason)),
     };
-    let Some(event) = event_of(alloc, op, value)? else {
-        return Ok(None);
+    match event_of(alloc, op, value)? {
+        Ok(event) => Ok(Ok((CallerId(by), event))),
+        Err(reason) => Ok(Err(reason)),
+    }
+}
+
+fn operation_in(alloc: Global, line: &Value) -> Result<Result<Op, Reason>, AllocError>
+    ensures { IfOk result (λ r. ok_map operation_of r ≡ operation_in (view line.now)) }
+{
+    let Some(value) = line.get(Key::Op.name()) else {
+        return Ok(Err(Reason::Missing(Key::Op)));
     };
-    Ok(Some((CallerId(by), event)))
+    let Some(name) = value.as_str() else {
+        return Ok(Err(unfit(value, Key::Op, ValueKind::Text)));
+    };
+    match Op::named(name) {
+        Some(op) => Ok(Ok(op)),
+        None => Ok(Err(Reason::UnknownOp(Name::new(alloc, name)?))),
+    }
 }
 
 #[tactic(auto, unfolding(crate::specs::Event::command))]
-fn command(alloc: Global, value: &Value) -> Result<Option<(CallerId, Event)>, AllocError>
+fn command(alloc: Global, value: &Value) -> Result<Result<(CallerId, Event), Reason>, AllocError>
     ensures { IfOk result (λ r. r ≡ command (view value.now)) }
 {
-    let Some(name) = value.get("op").and_then(Value::as_str) else {
-        return Ok(None);
+    let Some(members) = value.as_object() else {
+        return Ok(Err(Reason::NoObject));
     };
-    let Some(op) = Op::named(name) else {
-        return Ok(None);
+    let op = match operation_in(alloc, value)? {
+        Ok(op) => op,
+        Err(reason) => return Ok(Err(reason)),
     };
-    if !op.has_only_its_keys(value) {
-        return Ok(None);
+    match first_other(op.keys(), members) {
+        Some(name) => Ok(Err(Reason::UnknownKey(Name::new(alloc, name)?))),
+        None => asked(alloc, op, value),
     }
-    asked(alloc, op, value)
+}
+
+fn reading(alloc: Global, line: &[u8]) -> Result<Result<(CallerId, Event), Reason>, AllocError>
+    ensures { IfOk result (λ r. r ≡ reading line.now) }
+{
+    let value = match Value::from_slice(alloc, line) {
+        Ok(value) => value,
+        Err(error) => {
+            return if error.is_memory() {
+                Err(AllocError)
+            } else {
+                Ok(Err(unread(line)))
+            };
+        }
+    };
+    command(alloc, &value)
 }
 
 /// What a line of a script asks for and who asks, or `None` exactly where the line is no command:
@@ -78,15 +121,17 @@ fn command(alloc: Global, value: &Value) -> Result<Option<(CallerId, Event)>, Al
 pub fn read_line(alloc: Global, line: &[u8]) -> Result<Option<(CallerId, Event)>, AllocError>
     ensures { IfOk result (λ r. r ≡ event line.now) }
 {
-    let value = match Value::from_slice(alloc, line) {
-        Ok(value) => value,
-        Err(error) => {
-            return if error.is_memory() {
-                Err(AllocError)
-            } else {
-                Ok(None)
-            };
-        }
-    };
-    command(alloc, &value)
+    Ok(reading(alloc, line)?.ok())
+}
+
+/// Why a line is no command, or `None` exactly where `read_line` finds one. It is the first reason
+/// that holds, in this order: no JSON, no object, `op` missing, no text or unknown; a key that the
+/// operation does not have; then the wrong value of `by`, of `pid`, and of each further key in the
+/// order of docs/script.md, or that the key is missing. `AllocError` comes only where a growth was
+/// refused.
+pub fn explain(alloc: Global, line: &[u8]) -> Result<Option<Reason>, AllocError>
+    ensures first { IfOk result (λ r. r ≡ reason line.now) }
+    ensures exact { IfOk result (λ r. IsSome r ↔ IsNone (event line.now)) }
+{
+    Ok(reading(alloc, line)?.err())
 }

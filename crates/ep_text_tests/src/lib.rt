@@ -6,4 +6,6 @@ mod limits;
 #[cfg(test)]
 mod lines;
 #[cfg(test)]
+mod reasons;
+#[cfg(test)]
 mod same;

@@ -1,0 +1,27 @@
+-- The keys as a line has them.
+use Rattle.std.specs.Prelude.{List, codes, ℕ}
+use Rattle.ep_text.specs.declared.key.Key.{Key}
+use Rattle.ep_text.specs.declared.key.Key.TheVariants as key
+
+abbrev pub key_name : Key → List ℕ
+key_name key.Op = codes "op"
+key_name key.By = codes "by"
+key_name key.Pid = codes "pid"
+key_name key.Cloexec = codes "cloexec"
+key_name key.Init = codes "init"
+key_name key.Sem = codes "sem"
+key_name key.Clock = codes "clock"
+key_name key.Ep = codes "ep"
+key_name key.Fd = codes "fd"
+key_name key.Act = codes "act"
+key_name key.Mask = codes "mask"
+key_name key.Data = codes "data"
+key_name key.Max = codes "max"
+key_name key.Timeout = codes "timeout"
+key_name key.N = codes "n"
+key_name key.Hex = codes "hex"
+key_name key.Fill = codes "fill"
+key_name key.Value = codes "value"
+key_name key.Interval = codes "interval"
+key_name key.Abs = codes "abs"
+key_name key.To = codes "to"

@@ -1,0 +1,123 @@
+//! Why a line is no command.
+ghost use Rattle.std.specs.Prelude.{◌≡◌, IfOk};
+ghost use Rattle.serde_json.specs.View.{view};
+ghost use Rattle.ep_text.specs.Reason.{unfit, unread};
+
+use crate::key::Key;
+use crate::value_kind::ValueKind;
+use serde_json::Value;
+use std::alloc::{AllocError, Global};
+use std::fmt::{self, Display, Formatter, Write};
+use std::marker::Model;
+
+/// A name as a line has it, which contracts see as its bytes.
+#[derive(Drop)]
+pub struct Name {
+    text: String,
+}
+
+impl Model for Name {
+    ghost use Rattle.std.specs.Prelude.{List, string_bytes, ℕ};
+
+    ghost Value = { List ℕ };
+
+    ghost view = { λ name. string_bytes name.text };
+}
+
+impl Name {
+    pub(crate) fn new(alloc: Global, name: &str) -> Result<Name, AllocError>
+        ensures { IfOk result (λ n. n ≡ name.now) }
+    {
+        let text = String::from_str(alloc, name)?;
+        Ok(Name { text })
+    }
+
+    /// The name as a text.
+    pub fn as_str(&self) -> &str
+        ensures { result.now ≡ self.now }
+    {
+        self.text.as_str()
+    }
+}
+
+/// A line that is a command.
+const EXAMPLE: &str = "{\"op\":\"pipe\"}";
+
+/// Why a line is no command.
+#[derive(Drop)]
+pub enum Reason {
+    /// The line is empty.
+    Empty,
+    /// It is no JSON text, since it begins with a byte order mark.
+    ByteOrderMark,
+    /// It is no JSON text.
+    NoJson,
+    /// It is JSON, but no object.
+    NoObject,
+    /// This key must be there and is missing.
+    Missing(Key),
+    /// The value of the key is of another kind than this.
+    WrongKind { key: Key, kind: ValueKind },
+    /// The value of the key is of this kind, but out of its range.
+    OutOfRange { key: Key, kind: ValueKind },
+    /// `op` is a text, but names no operation.
+    UnknownOp(Name),
+    /// The operation does not have this key.
+    UnknownKey(Name),
+    /// A write has neither `hex` nor `fill`.
+    NeitherHexNorFill,
+    /// A write has both.
+    HexAndFill,
+}
+
+/// Why a line that is no JSON text is none.
+pub(crate) fn unread(line: &[u8]) -> Reason
+    ensures { result ≡ unread line.now }
+{
+    if line.is_empty() {
+        Reason::Empty
+    } else if line.starts_with(b"\xef\xbb\xbf") {
+        Reason::ByteOrderMark
+    } else {
+        Reason::NoJson
+    }
+}
+
+/// Why a value that is none of this kind and in its range is none.
+pub(crate) fn unfit(value: &Value, key: Key, kind: ValueKind) -> Reason
+    ensures { result ≡ unfit key kind (view value.now) }
+{
+    if kind.is_kind_of(value) {
+        Reason::OutOfRange { key, kind }
+    } else {
+        Reason::WrongKind { key, kind }
+    }
+}
+
+impl Display for Reason {
+    /// The reason in words, on one line: a name has what would end the line escaped.
+    fn fmt<W: Write>(&self, f: &mut Formatter<W>) -> fmt::Result {
+        match self {
+            Reason::Empty => write!(f, "empty"),
+            Reason::ByteOrderMark => write!(f, "it begins with a byte order mark"),
+            Reason::NoJson => write!(f, "no JSON: a line is one object, as {EXAMPLE}"),
+            Reason::NoObject => write!(f, "no object, as {EXAMPLE} is one"),
+            Reason::Missing(key) => write!(f, "key \"{}\" is missing", key.name()),
+            Reason::WrongKind { key, kind } => {
+                write!(f, "key \"{}\" must be {}", key.name(), kind.words())
+            }
+            Reason::OutOfRange { key, kind } => {
+                write!(
+                    f,
+                    "key \"{}\" is out of range: {}",
+                    key.name(),
+                    kind.words()
+                )
+            }
+            Reason::UnknownOp(name) => write!(f, "unknown op {:?}", name.as_str()),
+            Reason::UnknownKey(name) => write!(f, "unknown key {:?}", name.as_str()),
+            Reason::NeitherHexNorFill => write!(f, "key \"hex\" or \"fill\" is missing"),
+            Reason::HexAndFill => write!(f, "keys \"hex\" and \"fill\" are both there"),
+        }
+    }
+}

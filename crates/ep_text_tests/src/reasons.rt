@@ -1,0 +1,201 @@
+//! Why lines are no commands, in words.
+
+use ep_text::explain;
+use std::process::Abort;
+use std::test::Fail;
+
+const SIGNED: &str = "a whole number from -2147483648 to 2147483647";
+
+const UNSIGNED: &str = "a whole number from 0 to 4294967295";
+
+const LONG: &str = "a whole number from 0 to 18446744073709551615";
+
+const MASK: &str =
+    "a whole number from 0 to 4294967295, or names with | between: IN, PRI, OUT, ERR, HUP, RDHUP, EXCLUSIVE, WAKEUP, ONESHOT, ET";
+
+const ACT: &str = "\"add\", \"del\", \"mod\" or a whole number from -2147483648 to 2147483647";
+
+const HEX: &str = "a text of an even number of hexadecimal digits";
+
+const FILL: &str = "a list of a byte, 0 to 255, and a count, 0 to 1048576";
+
+fn expect(rt: &(impl AllocGlobal + Abort), line: &[u8], wanted: &str) -> Result<(), Fail> {
+    let Some(reason) = explain(rt.alloc(), line)? else {
+        return Err(Fail::from("a command"));
+    };
+    let text = format!(in rt.alloc(); "{reason}")?;
+    assert_eq!(rt; text.as_str(), wanted, "at {line:?}");
+    Ok(())
+}
+
+#[test]
+fn tells_what_is_no_object(rt: HostRuntime) -> Result<(), Fail> {
+    for (line, wanted) in [
+        (b"".as_slice(), "empty"),
+        (
+            b"\xef\xbb\xbf{\"op\":\"pipe\"}",
+            "it begins with a byte order mark",
+        ),
+        (b"\r", "no JSON: a line is one object, as {\"op\":\"pipe\"}"),
+        (
+            b"# pipe",
+            "no JSON: a line is one object, as {\"op\":\"pipe\"}",
+        ),
+        (
+            b"{\"op\":\"pi",
+            "no JSON: a line is one object, as {\"op\":\"pipe\"}",
+        ),
+        (
+            b"{\"op\":\"pipe\",\"\xff\":1}",
+            "no JSON: a line is one object, as {\"op\":\"pipe\"}",
+        ),
+        (
+            b"[{\"op\":\"pipe\"}]",
+            "no object, as {\"op\":\"pipe\"} is one",
+        ),
+    ] {
+        expect(&rt, line, wanted)?;
+    }
+    Ok(())
+}
+
+#[test]
+fn tells_what_is_wrong_with_op(rt: HostRuntime) -> Result<(), Fail> {
+    for (line, wanted) in [
+        ("{}", "key \"op\" is missing"),
+        ("{\"Op\":\"pipe\"}", "key \"op\" is missing"),
+        ("{\"op\":1}", "key \"op\" must be a text"),
+        ("{\"op\":\"pip\",\"fd\":1}", "unknown op \"pip\""),
+        ("{\"op\":\"a\\nb\"}", "unknown op \"a\\nb\""),
+    ] {
+        expect(&rt, line.as_bytes(), wanted)?;
+    }
+    Ok(())
+}
+
+// A key that the operation does not have, also where another is missing or has a wrong value; of
+// two the first in the order of their bytes.
+#[test]
+fn tells_an_unknown_key(rt: HostRuntime) -> Result<(), Fail> {
+    for (line, wanted) in [
+        ("{\"op\":\"pipe\",\"pd\":1}", "unknown key \"pd\""),
+        (
+            "{\"op\":\"read\",\"fd\":\"3\",\"m\":1}",
+            "unknown key \"m\"",
+        ),
+        (
+            "{\"op\":\"pipe\",\"z\":1,\"Z\":1,\"a\":1}",
+            "unknown key \"Z\"",
+        ),
+        ("{\"op\":\"tick\",\"n\":1,\"pid\":1}", "unknown key \"pid\""),
+        ("{\"op\":\"resume\",\"n\":1}", "unknown key \"n\""),
+        ("{\"op\":\"fork\",\"fd\":0}", "unknown key \"fd\""),
+        (
+            "{\"op\":\"pipe\",\"\\u001b\\u2028\":1}",
+            "unknown key \"\\u{1b}\\u{2028}\"",
+        ),
+    ] {
+        expect(&rt, line.as_bytes(), wanted)?;
+    }
+    Ok(())
+}
+
+fn expect_key(
+    rt: &(impl AllocGlobal + Abort),
+    keys: &str,
+    key: &str,
+    wrong: &str,
+    range: &str,
+) -> Result<(), Fail> {
+    let alloc = rt.alloc();
+    let line = format!(in alloc; "{{\"op\":{keys}}}")?;
+    let wanted = format!(in alloc; "key \"{key}\" {wrong}{range}")?;
+    expect(rt, line.as_bytes(), wanted.as_str())
+}
+
+#[test]
+fn tells_a_missing_key(rt: HostRuntime) -> Result<(), Fail> {
+    for (keys, key) in [
+        ("\"eventfd\"", "init"),
+        ("\"timerfd\"", "clock"),
+        ("\"ctl\"", "ep"),
+        ("\"ctl\",\"ep\":1", "fd"),
+        ("\"ctl\",\"ep\":1,\"fd\":2", "act"),
+        ("\"wait\",\"ep\":1", "max"),
+        ("\"wait\",\"ep\":1,\"max\":2", "timeout"),
+        ("\"read\",\"fd\":1", "n"),
+        ("\"settime\",\"fd\":1", "value"),
+        ("\"dup2\",\"fd\":1", "to"),
+        ("\"close\"", "fd"),
+        ("\"write\"", "fd"),
+        ("\"tick\"", "n"),
+    ] {
+        expect_key(&rt, keys, key, "is missing", "")?;
+    }
+    let neither = b"{\"op\":\"write\",\"fd\":1}";
+    expect(&rt, neither, "key \"hex\" or \"fill\" is missing")?;
+    let both = b"{\"op\":\"write\",\"fd\":1,\"hex\":\"6\",\"fill\":[0,0]}";
+    expect(&rt, both, "keys \"hex\" and \"fill\" are both there")
+}
+
+#[test]
+fn tells_a_value_of_another_kind(rt: HostRuntime) -> Result<(), Fail> {
+    for (keys, key, range) in [
+        ("\"pipe\",\"cloexec\":1", "cloexec", "true or false"),
+        ("\"pipe\",\"by\":\"1\"", "by", UNSIGNED),
+        ("\"pipe\",\"pid\":null", "pid", LONG),
+        ("\"dup\",\"fd\":[3]", "fd", SIGNED),
+        ("\"ctl\",\"ep\":1,\"fd\":2,\"act\":true", "act", ACT),
+        (
+            "\"ctl\",\"ep\":1,\"fd\":2,\"act\":1,\"mask\":{}",
+            "mask",
+            MASK,
+        ),
+        ("\"write\",\"fd\":1,\"hex\":6", "hex", HEX),
+        ("\"write\",\"fd\":1,\"fill\":7", "fill", FILL),
+    ] {
+        expect_key(&rt, keys, key, "must be ", range)?;
+    }
+    Ok(())
+}
+
+#[test]
+fn tells_a_value_out_of_range(rt: HostRuntime) -> Result<(), Fail> {
+    for (keys, key, range) in [
+        ("\"pipe\",\"by\":4294967296", "by", UNSIGNED),
+        ("\"pipe\",\"by\":-1,\"pid\":-1", "by", UNSIGNED),
+        ("\"read\",\"pid\":-1,\"fd\":1.0", "pid", LONG),
+        ("\"dup\",\"fd\":2147483648", "fd", SIGNED),
+        ("\"tick\",\"n\":1.0", "n", LONG),
+        ("\"read\",\"fd\":0,\"n\":4294967296", "n", UNSIGNED),
+        ("\"ctl\",\"ep\":1,\"fd\":2,\"act\":\"ADD\"", "act", ACT),
+        (
+            "\"ctl\",\"ep\":1,\"fd\":2,\"act\":1,\"mask\":\"EPOLLIN\"",
+            "mask",
+            MASK,
+        ),
+        ("\"write\",\"fd\":1,\"hex\":\"6\"", "hex", HEX),
+        ("\"write\",\"fd\":1,\"fill\":[256,1]", "fill", FILL),
+        ("\"write\",\"fd\":1,\"fill\":[1,1,1]", "fill", FILL),
+    ] {
+        expect_key(&rt, keys, key, "is out of range: ", range)?;
+    }
+    let timeout = "a whole number from -9223372036854775808 to 9223372036854775807";
+    let keys = "\"wait\",\"ep\":0,\"max\":1,\"timeout\":9223372036854775808";
+    expect_key(&rt, keys, "timeout", "is out of range: ", timeout)
+}
+
+#[test]
+fn explains_no_command(rt: HostRuntime) -> Result<(), Fail> {
+    for line in [
+        "{\"op\":\"pipe\"}",
+        "{\"op\":\"resume\",\"by\":4}\r",
+        "{\"op\":\"write\",\"fd\":1,\"hex\":\"\"}",
+    ] {
+        assert!(rt;
+            explain(rt.alloc(), line.as_bytes())?.is_none(),
+            "at {line}"
+        );
+    }
+    Ok(())
+}
