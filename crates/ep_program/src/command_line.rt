@@ -1,11 +1,33 @@
 //! The words of the command line.
-ghost use Rattle.std.specs.Prelude.{◌≡◌, ◌↔◌, IfOk, IsTrue, Some, codes, false, map, option_map, string_bytes};
+ghost use Rattle.std.specs.Prelude.{◌≡◌, ◌↔◌, IfOk, IsTrue, codes, false, map, option_map, string_bytes};
 ghost use Rattle.clap.specs.Words.{FailsBy, app_of, fault_of, first_of, rule_of};
-ghost use Rattle.ep_program.specs.Options.{limits_rule, plain_rule, program, rows_in, source_of};
+ghost use Rattle.ep_program.specs.Options.{IsGiven, explain_rule, limits_rule, plain_rule, program, rows_in};
 
 use clap::parser::ValueSource;
 use clap::{Arg, ArgAction, Command, Error};
 use std::alloc::{AllocError, Global};
+
+/// The version of the program, and the line of the toolchain that it was proved with, as `rt version` prints it.
+const VERSION: &str = "1.0.0\nproved with rattle-kit-13b logic dac8208d650f15bf";
+
+/// What is said below the options.
+const EXAMPLE: &str =
+    "A line of a script is a JSON object, and each line is answered by one line. For example
+
+  echo '{\"op\":\"pipe\"}' | epsim
+
+prints {\"two\":[3,4]}: a pipe whose ends are the descriptors 3 and 4.
+docs/script.md describes the lines and their answers, docs/calls.md what each call does.";
+
+/// What `--limits` takes, with the names that `--explain` uses.
+const LIMITS_HELP: &str =
+    "Runs the script under these limits: six numbers with commas between, in this order
+  descriptors  numbers of a process                     3 to 65536       else 1024
+  files        live open file descriptions              1 to 1000000     else 4096
+  processes    living processes                         1 to 10000       else 64
+  watches      registrations                            0 to 1000000     else 4096
+  pipe_bytes   bytes of a pipe                          4096 to 1048576  else 65536
+  sock_bytes   bytes in one direction of a socket pair  1 to 1048576     else 65536";
 
 /// What the words of the command line ask for.
 #[derive(Clone, Copy, Debug)]
@@ -14,6 +36,8 @@ pub struct Settings<'a> {
     pub limits: Option<&'a str>,
     /// Whether `--plain` is there.
     pub plain: bool,
+    /// Whether `--explain` is there.
+    pub explain: bool,
 }
 
 fn limits_argument<'a>(alloc: Global) -> Arg<'a>
@@ -23,9 +47,7 @@ fn limits_argument<'a>(alloc: Global) -> Arg<'a>
     Arg::new(alloc, "limits")
         .long("limits")
         .value_name("TEXT")
-        .help(
-            "Six numbers with commas between: descriptors, files, processes, watches, pipe bytes, socket bytes",
-        )
+        .help(LIMITS_HELP)
 }
 
 fn plain_argument<'a>(alloc: Global) -> Arg<'a>
@@ -38,25 +60,42 @@ fn plain_argument<'a>(alloc: Global) -> Arg<'a>
         .help("Takes the kernel that scans, as every run does for now")
 }
 
+fn explain_argument<'a>(alloc: Global) -> Arg<'a>
+    ensures rule { rule_of result ≡ explain_rule }
+    ensures local { result.global ≡ false }
+{
+    Arg::new(alloc, "explain")
+        .long("explain")
+        .action(ArgAction::SetTrue)
+        .help("Says on standard error why a line is no command, or what is wrong with the limits")
+}
+
 fn command<'a>(alloc: Global) -> Result<Command<'a>, AllocError>
     ensures { IfOk result (λ c. app_of c ≡ program) }
 {
     Command::new(alloc, "epsim")
+        .version(VERSION)
         .about("Runs a script of calls on the kernel, from standard input to standard output")
+        .override_usage("epsim [OPTIONS] < SCRIPT")
+        .after_help(EXAMPLE)
         .arg(limits_argument(alloc))?
-        .arg(plain_argument(alloc))
+        .arg(plain_argument(alloc))?
+        .arg(explain_argument(alloc))
 }
 
-/// Reads the words of the command line, the program's name first: `--limits TEXT` and `--plain`,
-/// each at most once and both at will. Help is an `Err` too, with a kind of its own.
+/// Reads the words of the command line, the program's name first: `--limits TEXT`, `--plain` and
+/// `--explain`, each at most once and all at will. What `--help` and `--version` print is an `Err`,
+/// too, each with a kind of its own.
 pub fn options<'a>(alloc: Global, words: &'a [String]) -> Result<Settings<'a>, Error>
     ensures limits { IfOk result (λ s. option_map (λ t. t.now) s.limits ≡ first_of (codes "limits") (rows_in (map string_bytes words.entry.now))) }
-    ensures plain { IfOk result (λ s. IsTrue s.plain ↔ (source_of (codes "plain") (rows_in (map string_bytes words.entry.now)) ≡ Some ValueSource.CommandLine)) }
+    ensures plain { IfOk result (λ s. IsTrue s.plain ↔ IsGiven (codes "plain") (map string_bytes words.entry.now)) }
+    ensures explain { IfOk result (λ s. IsTrue s.explain ↔ IsGiven (codes "explain") (map string_bytes words.entry.now)) }
     ensures fault { FailsBy (fault_of program (map string_bytes words.entry.now)) result }
 {
     let matches = command(alloc)?.try_get_matches_from(words)?;
     Ok(Settings {
         limits: matches.get_str("limits"),
         plain: matches.value_source("plain") == Some(ValueSource::CommandLine),
+        explain: matches.value_source("explain") == Some(ValueSource::CommandLine),
     })
 }

@@ -1,19 +1,22 @@
 //! The program, over any reader and writers.
-ghost use Rattle.std.specs.Prelude.{◌≡◌, ◌≢◌, ◌≤◌, IfSome, IsNone, Some};
+ghost use Rattle.std.specs.Prelude.{◌≡◌, ◌≢◌, ◌≤◌, IfSome, IsNone, Some, true};
 ghost use Rattle.std.specs.IoError.{error_kind};
 ghost use Rattle.clap.specs.Words.{kind_of};
 ghost use Rattle.ep_base.specs.Limits.{Limits as Numbers, default_limits};
+ghost use Rattle.ep_program.specs.Options.{is_mistake};
 ghost use Rattle.ep_text.specs.Limits.{IsLimitsText};
 
-use crate::command_line::options;
+use crate::bad_limits::explain_limits;
+use crate::command_line::{Settings, options};
+use crate::explainer::Explainer;
 use clap::error::ErrorKind;
 use ep_base::Limits;
-use ep_plain::PlainKernel;
+use ep_plain::{Kernel, PlainKernel};
 use ep_script::{ScriptFault, Summary, Watched, parse_limits, run_script};
 use std::alloc::Global;
 use std::io::{self, ErrorKind as IoKind, Read, Write};
 
-/// The end of the input was reached, or help was asked for.
+/// The end of the input was reached, or help or the version was asked for.
 const DONE: u8 = 0;
 
 /// The script was not run to its end.
@@ -50,10 +53,13 @@ pub fn no_words<E: Write>(error: &io::Error, errors: &mut E) -> u8
 }
 
 /// Tells that the text of `--limits` is none. A write that fails changes nothing.
-fn refuse_limits<E: Write>(errors: &mut E) -> u8
+fn refuse_limits<E: Write>(settings: &Settings<'_>, errors: &mut E) -> u8
     ensures { result ≡ 2 }
 {
     let _ = write!(errors, "epsim: bad limits\n");
+    if settings.explain {
+        explain_limits(settings.limits.unwrap_or(""), errors);
+    }
     BAD_LIMITS
 }
 
@@ -62,15 +68,16 @@ fn write_text<W: Write>(text: &clap::Error, writer: &mut W) -> io::Result<()> {
     writer.flush()
 }
 
-/// Tells what `clap` found: help on the output, a mistake in the words on `errors`.
+/// Tells what `clap` found: help or the version on the output, a mistake in the words on `errors`.
 fn tell<W: Write, E: Write>(found: &clap::Error, output: &mut W, errors: &mut E) -> u8
     ensures memory { kind_of found.now ≡ ErrorKind.OutOfMemory → result ≡ 1 }
     ensures help { kind_of found.now ≡ ErrorKind.DisplayHelp → result ≤ 1 }
-    ensures mistake { kind_of found.now ≢ ErrorKind.OutOfMemory → kind_of found.now ≢ ErrorKind.DisplayHelp → result ≡ 2 }
+    ensures version { kind_of found.now ≡ ErrorKind.DisplayVersion → result ≤ 1 }
+    ensures mistake { is_mistake (kind_of found.now) ≡ true → result ≡ 2 }
 {
     match found.kind() {
         ErrorKind::OutOfMemory => fail(&ScriptFault::Memory, errors),
-        ErrorKind::DisplayHelp => match write_text(found, output) {
+        ErrorKind::DisplayHelp | ErrorKind::DisplayVersion => match write_text(found, output) {
             Ok(()) => DONE,
             Err(_) => fail(&ScriptFault::Write, errors),
         },
@@ -94,26 +101,60 @@ fn limits_of(text: Option<&str>) -> Option<Limits>
     }
 }
 
-fn run<R: Read + Drop, W: Write + Drop>(
+fn run_plainly<K: Kernel, R: Read + Drop, W: Write + Drop>(
     alloc: Global,
-    limits: Limits,
+    kernel: &mut K,
     reader: R,
     output: W,
+) -> Result<Summary, ScriptFault> {
+    let mut reader = Watched::new(reader);
+    let mut writer = Watched::new(output);
+    run_script(alloc, kernel, &mut reader, &mut writer)
+}
+
+fn run_explained<K: Kernel, R: Read + Drop, W: Write + Drop, E: Write + Drop>(
+    alloc: Global,
+    kernel: &mut K,
+    reader: R,
+    output: W,
+    errors: E,
+) -> Result<Summary, ScriptFault> {
+    let Ok(explainer) = Explainer::new(alloc, reader, errors) else {
+        return Err(ScriptFault::Memory);
+    };
+    let mut reader = Watched::new(explainer);
+    let mut writer = Watched::new(output);
+    let result = run_script(alloc, kernel, &mut reader, &mut writer);
+    let mut explainer = reader.into_inner();
+    explainer.finish(result.is_ok());
+    result
+}
+
+fn run<R: Read + Drop, W: Write + Drop, E: Write + Drop>(
+    alloc: Global,
+    limits: Limits,
+    explain: bool,
+    reader: R,
+    output: W,
+    errors: E,
 ) -> Result<Summary, ScriptFault> {
     let Ok(mut kernel) = PlainKernel::new(alloc, limits) else {
         return Err(ScriptFault::Memory);
     };
-    let mut reader = Watched::new(reader);
-    let mut writer = Watched::new(output);
-    run_script(alloc, &mut kernel, &mut reader, &mut writer)
+    if explain {
+        run_explained(alloc, &mut kernel, reader, output, errors)
+    } else {
+        run_plainly(alloc, &mut kernel, reader, output)
+    }
 }
 
 /// Does what the words of the command line, the program's name first, ask for, and gives the
-/// status: 0 at the end of the script or for `--help`, 1 where the script was not run to its end
-/// or help could not be written, 2 for a bad command line or limits that are none. The words are
-/// looked at first, then the limits, and the script is read last. `--plain` changes nothing while
-/// the scanning kernel is the only one. What went wrong is one line on `errors`, or the text of
-/// `clap`; a write there that fails changes no status.
+/// status: 0 at the end of the script or for `--help` and `--version`, 1 where the script was not
+/// run to its end or such a text could not be written, 2 for a bad command line or limits that are
+/// none. The words are looked at first, then the limits, and the script is read last. `--plain`
+/// changes nothing while the scanning kernel is the only one. `--explain` changes what stands on
+/// `errors` alone. What went wrong is one line there, or the text of `clap`; a write there that
+/// fails changes no status.
 pub fn run_with<R: Read + Drop, W: Write, E: Write>(
     alloc: Global,
     words: Vec<String>,
@@ -128,9 +169,16 @@ pub fn run_with<R: Read + Drop, W: Write, E: Write>(
         Err(found) => return tell(&found, output, errors),
     };
     let Some(limits) = limits_of(settings.limits) else {
-        return refuse_limits(errors);
+        return refuse_limits(&settings, errors);
     };
-    match run(alloc, limits, reader, output) {
+    match run(
+        alloc,
+        limits,
+        settings.explain,
+        reader,
+        output,
+        &mut *errors,
+    ) {
         Ok(_) => DONE,
         Err(fault) => fail(&fault, errors),
     }

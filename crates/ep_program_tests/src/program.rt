@@ -44,7 +44,7 @@ fn expect_options(
 ) -> Result<(), Fail> {
     let line = words(rt.alloc(), given)?;
     let settings = options(rt.alloc(), line.as_slice())?;
-    assert!(rt; settings.limits == limits && settings.plain == plain);
+    assert!(rt; settings.limits == limits && settings.plain == plain && !settings.explain);
     Ok(())
 }
 
@@ -55,7 +55,7 @@ fn expect_bad_words(rt: &(impl AllocGlobal + Abort), given: &[&str]) -> Result<(
 }
 
 #[test]
-fn reads_both_options(rt: HostRuntime) -> Result<(), Fail> {
+fn reads_the_options(rt: HostRuntime) -> Result<(), Fail> {
     expect_options(&rt, &[], None, false)?;
     expect_options(&rt, &["--plain"], None, true)?;
     expect_options(
@@ -66,6 +66,10 @@ fn reads_both_options(rt: HostRuntime) -> Result<(), Fail> {
     )?;
     expect_options(&rt, &["--limits=6,5", "--plain"], Some("6,5"), true)?;
     expect_options(&rt, &["--plain", "--limits", "none"], Some("none"), true)?;
+    let line = words(rt.alloc(), &["--explain", "--plain"])?;
+    let settings = options(rt.alloc(), line.as_slice())?;
+    assert!(rt; settings.limits.is_none() && settings.plain && settings.explain);
+    expect_bad_words(&rt, &["--explain", "--explain"])?;
     expect_bad_words(&rt, &["--limits"])?;
     expect_bad_words(&rt, &["--plain=yes"])?;
     expect_bad_words(&rt, &["--plain", "--plain"])?;
@@ -151,7 +155,8 @@ fn expect_failed_write(rt: &(impl AllocGlobal + Abort), options: &[&str]) -> Res
 #[test]
 fn tells_a_failed_write(rt: HostRuntime) -> Result<(), Fail> {
     expect_failed_write(&rt, &[])?;
-    expect_failed_write(&rt, &["--help"])
+    expect_failed_write(&rt, &["--help"])?;
+    expect_failed_write(&rt, &["--version"])
 }
 
 #[test]
@@ -163,6 +168,11 @@ fn reads_the_words_first(rt: HostRuntime) -> Result<(), Fail> {
     let status = run_with(alloc, help, Failing, &mut written, &mut errors);
     assert_eq!(rt; status, 0);
     assert!(rt; !written.is_empty() && errors.is_empty());
+    written.clear();
+    let version = words(alloc, &["--version"])?;
+    let status = run_with(alloc, version, Failing, &mut written, &mut errors);
+    assert_eq!(rt; status, 0);
+    assert!(rt; written.starts_with(b"epsim ") && errors.is_empty());
     written.clear();
     let unknown = words(alloc, &["--unknown"])?;
     let status = run_with(alloc, unknown, Failing, &mut written, &mut errors);
@@ -195,4 +205,110 @@ fn runs_under_the_limits(rt: HostRuntime) -> Result<(), Fail> {
     let of_five = b"{\"two\":[3,4]}\n{\"err\":[24,\"EMFILE\"]}\n";
     let options = ["--limits", "5,9,2,8,4096,1", "--plain"];
     expect_run(&rt, &options, LEVEL, 0, of_five, b"")
+}
+
+#[test]
+fn explains_bad_limits(rt: HostRuntime) -> Result<(), Fail> {
+    for (text, wanted) in [
+        (
+            "2,5,2,8,4096,1",
+            "descriptors is 2, and goes from 3 to 65536",
+        ),
+        (
+            "65537,5,2,8,4096,1",
+            "descriptors is 65537, and goes from 3 to 65536",
+        ),
+        ("6,0,2,8,4096,1", "files is 0, and goes from 1 to 1000000"),
+        (
+            "6,1000001,2,8,4096,1",
+            "files is 1000001, and goes from 1 to 1000000",
+        ),
+        ("6,5,0,8,4096,1", "processes is 0, and goes from 1 to 10000"),
+        (
+            "6,5,10001,8,4096,1",
+            "processes is 10001, and goes from 1 to 10000",
+        ),
+        (
+            "6,5,2,1000001,4096,1",
+            "watches is 1000001, and goes from 0 to 1000000",
+        ),
+        (
+            "6,5,2,8,4095,1",
+            "pipe_bytes is 4095, and goes from 4096 to 1048576",
+        ),
+        (
+            "6,5,2,8,1048577,1",
+            "pipe_bytes is 1048577, and goes from 4096 to 1048576",
+        ),
+        (
+            "6,5,2,8,4096,0",
+            "sock_bytes is 0, and goes from 1 to 1048576",
+        ),
+        (
+            "6,5,2,8,4096,1048577",
+            "sock_bytes is 1048577, and goes from 1 to 1048576",
+        ),
+        (
+            "+6,5,2,8,4096,1",
+            "descriptors is \"+6\", and goes from 3 to 65536",
+        ),
+        (
+            "6, 5,2,8,4096,1",
+            "files is \" 5\", and goes from 1 to 1000000",
+        ),
+        (
+            "6,5,2,8,4096",
+            "six numbers with commas between are wanted, and there are 5",
+        ),
+        (
+            "6,5,2,8,4096,1,1",
+            "six numbers with commas between are wanted, and there are 7",
+        ),
+        (
+            "",
+            "six numbers with commas between are wanted, and there are 1",
+        ),
+    ] {
+        let error = format!(in rt.alloc(); "epsim: bad limits\nepsim: bad limits: {wanted}\n")?;
+        let options = ["--explain", "--limits", text];
+        expect_run(&rt, &options, Failing, 2, b"", error.as_bytes())?;
+    }
+    Ok(())
+}
+
+// The answers and the status are those that are given without the option.
+#[test]
+fn explains_lines_that_are_no_command(rt: HostRuntime) -> Result<(), Fail> {
+    let script = b"{\"op\":\"pipe\",\"pd\":1}\n\n{\"op\":\"pipe\"}\n{\"op\":\"pip\"}";
+    let answers = b"{\"bad\":1}\n{\"bad\":2}\n{\"two\":[3,4]}\n{\"bad\":4}\n";
+    let errors = b"epsim: line 1: unknown key \"pd\"
+epsim: line 2: empty
+epsim: line 4: unknown op \"pip\"
+epsim: 3 of 4 lines were no command
+";
+    expect_run(&rt, &[], script.as_slice(), 0, answers, b"")?;
+    expect_run(&rt, &["--explain"], script.as_slice(), 0, answers, errors)?;
+    let none = b"epsim: 0 of 0 lines were no command\n";
+    expect_run(&rt, &["--explain"], b"".as_slice(), 0, b"", none)?;
+    let end = b"epsim: 0 of 0 lines were no command\nepsim: cannot read the script\n";
+    expect_run(&rt, &["--explain"], Failing, 1, b"", end)
+}
+
+#[test]
+fn explains_no_line_that_is_too_long(rt: HostRuntime) -> Result<(), Fail> {
+    let long = vec![in rt.alloc(); b'x'; 65_537]?;
+    let errors = b"epsim: 0 of 0 lines were no command\nepsim: line 1 is longer than 65536 bytes\n";
+    expect_run(&rt, &["--explain"], long.as_slice(), 1, b"", errors)
+}
+
+#[test]
+fn explains_to_nobody(rt: HostRuntime) -> Result<(), Fail> {
+    let alloc = rt.alloc();
+    let mut written = Vec::new(alloc);
+    let line = words(alloc, &["--explain"])?;
+    let status = run_with(alloc, line, b"\n[]".as_slice(), &mut written, &mut Failing);
+    assert_eq!(rt; status, 0);
+    let answers: &[u8] = b"{\"bad\":1}\n{\"bad\":2}\n";
+    assert_eq!(rt; written.as_slice(), answers);
+    Ok(())
 }

@@ -18,6 +18,13 @@ returns-clause-plain c =
     sym (c.value_source.ensures ∙ source-rows (found_of c.in_ok-matches.matches) (codes "plain") ∙ ap (source_of (codes "plain")) rows) in
     rw source (search rules)
 
+pub returns-clause-explain : goal.returns-clause-explain
+returns-clause-explain c =
+    let rows = rows_found _ (map string_bytes c.args.words.now) c.in_ok-matches.matches c.in_ok-command.ensures c.in_ok-matches.ensures.matches in
+    let source : source_of (codes "explain") (rows_in (map string_bytes c.args.words.now)) ≡ c.value_source-2.result =
+    sym (c.value_source-2.ensures ∙ source-rows (found_of c.in_ok-matches.matches) (codes "explain") ∙ ap (source_of (codes "explain")) rows) in
+    rw source (search rules)
+
 pub returns-clause-fault : goal.returns-clause-fault
 returns-clause-fault c =
     ap (λ (a : App). fault_of a (map string_bytes c.args.words.now)) (sym c.in_ok-command.ensures) ∙ c.in_ok-matches.ensures.kinds (ap is_simple_and_free c.in_ok-command.ensures ∙ program_is_free)
