@@ -1,4 +1,4 @@
--- A bit that begins to hold at a description is in the event's spread.
+-- What begins to hold at a description is in the event's spread, and what begins to be reportable passes on some of it.
 use Rattle.std.proofs.Common.{◌≡◌, ℕ, zero, suc, ◌+◌, ◌<◌, ◌&&◌, ◌∙◌, Bool, true, false, List, [], ◌∷◌, None, Option, Some, MatchOption, not, cond, get_or, inl, inr, is_some, length, refl, ap, arith, subst, sym, unwrap_or}
 use Rattle.std.specs.Int.{bit_at}
 use Rattle.std.proofs.lemmas.Bool.{cases_Bool}
@@ -9,16 +9,18 @@ use Rattle.ep_base.specs.declared.counts.Counts.{Counts}
 use Rattle.ep_base.specs.declared.errno.Errno.{Errno}
 use Rattle.ep_base.specs.declared.object.End.{End}
 use Rattle.ep_base.specs.declared.object.End.TheVariants.{First}
+use Rattle.ep_base.specs.declared.record.Record.{Record}
 use Rattle.ep_machine.specs.Counts.{counted, no_counts}
 use Rattle.ep_machine.specs.Deaths.{buried, die, die_all, dying, is_kept}
 use Rattle.ep_machine.specs.Effect.{first}
 use Rattle.ep_machine.specs.Files.{Files, Place, is_live, object_of, opening_files, place_of, side_of}
-use Rattle.ep_law.specs.Laws.{Member, BeginningsAreSpread, spread_of}
+use Rattle.ep_law.specs.Laws.{BeginningsAreSpread, HasCause, IsNoted, Member, ReportablesAreSpread, spread_of}
 use Rattle.ep_machine.specs.Lists.{is_among}
 use Rattle.ep_machine.specs.Objects.{Object, counter, instance, is_instance, object_present, pair, pipe, plain, timer}
 use Rattle.ep_law.proofs.Present.{present_at}
-use Rattle.ep_machine.specs.Readiness.{is_ready, is_ready_within, is_reportable, present, present_by, present_of}
+use Rattle.ep_machine.specs.Readiness.{is_ready, is_ready_within, is_reportable, is_reportable_by, present, present_by, present_of}
 use Rattle.ep_machine.specs.Refusal.{refusals}
+use Rattle.ep_machine.specs.Run.{run}
 use Rattle.ep_machine.specs.Settle.{came, reportable_numbers, settle}
 use Rattle.ep_machine.specs.Spread.{arrived, counts_from, raised_alive, raised_of, spread}
 use Rattle.ep_machine.specs.State.{Change, State, Watch, counts_of, opening}
@@ -35,7 +37,7 @@ use Rattle.ep_law.proofs.BitLemmas.{Covers, from_bits}
 use Rattle.ep_law.proofs.ChangeLemmas.{Moves, kept_same, moves_change}
 use Rattle.ep_law.proofs.EndLemmas.{Own, object_there, own_deaths}
 use Rattle.ep_law.proofs.RaiseLemmas.{covers_more, covers_self, deaths_cover, first_bit, live_place, lived_before, no_bit, raised_first, raised_stays}
-use Rattle.ep_law.proofs.ReachLemmas.{IsNoted, Leads, all_covered, instance_is, passes, reach}
+use Rattle.ep_law.proofs.ReachLemmas.{Leads, all_covered, instance_is, passes, reach}
 
 place_below : (ds : List (Option Place)) (d : ℕ) (p : Place) → get_or ds d None ≡ Some p → d < length ds
 place_below [] d p e = cc
@@ -180,6 +182,32 @@ module _ (close : CloseLaw) (b after : State) (rises : List (ℕ × ℕ)) (linke
     shows = shows b linked_b.legal moves.arrivals moves.narrows moves.shows;
   }
 
+  -- an instance that begins to be ready has IN in the spread
+  begins : (e : ℕ) → object_of t.files e ≡ Some instance → is_ready t e ≡ true → is_ready b e ≡ false → bit_at (spread left up e) 0 ≡ 1
+  unfolding is_ready
+  begins e here ready silent = reach b left t up leads 5 e here ready silent
+
+  -- what is reportable at the end was so before, or passes on something of the spread
+  has_cause : (answer : Answer) (y : Watch) → Member y t.watches → is_reportable t y ≡ true → HasCause b (answer, after, rises) y
+  unfolding is_ready
+  has_cause answer y m shown =
+      let from = noted b after rises y m in
+      let x = from.0 in
+      let shows : is_reportable_by (is_ready_within 5 t) t x ≡ true = subst (λ (w : Watch). is_reportable t w ≡ true) from.2.1 shown in
+      record {
+        x = x;
+        left = from.1;
+        noted = from.2;
+        changed = elim (cases_Bool (is_reportable after x)) [
+          | inl holds ↦ inl holds
+          | inr fails ↦ inr (passes after left t up leads_after (is_ready_within 5 t) (reach after left t up leads_after 5) x from.1 (kept_same after x (was_left after rises x from.1)) shows fails)
+        ];
+        kept = λ k. elim (cases_Bool (is_reportable b k.was)) [
+          | inl holds ↦ inl holds
+          | inr fails ↦ inr (passes b left t up leads (is_ready_within 5 t) (reach b left t up leads 5) x from.1 k shows fails)
+        ];
+      }
+
 -- Each state of a run: descriptions have ends of their own, and targets live.
 record Stands (s : State) : Type 0 where
   pub own : Own s.files
@@ -233,15 +261,40 @@ stands_opening = record { own = own; lives = λ x m. absurd m } where
 present_begun : (s : State) (d : ℕ) → present (next_event s) d ≡ present s d
 present_begun s d = λ i. present_of (λ e. ready_same s (s.n + 1) s.waiters e i) d (object_of s.files d) (side_of s.files d) s.now
 
+-- An event of a run.
+module _ (apply : ApplyLaw) (close : CloseLaw) (clock : AdvanceLaw) (limits : Limits) (past : List Record) (s : State) (caller : ℕ) (event : Event) (picked : List ℕ) (c : Change)
+    (is : run limits opening past ≡ Some s) (allowed : first (refusals limits (next_event s) caller event) ≡ None) (made : change limits (next_event s) caller event picked ≡ Some c) where
+  abbrev begun : State
+  begun = next_event s
+
+  stands_run : Stands s
+  stands_run = run_keeps Stands limits (stands_step apply clock limits) opening s past stands_opening is
+
+  linked_before : Linked begun
+  linked_before = linked_begun s (linked_run limits past s is)
+
+  linked_after : Linked c.1
+  linked_after = linked_change limits begun caller event picked c allowed made linked_before
+
+  moves_run : Moves begun c.1 c.2
+  moves_run = moves_change apply clock limits begun caller picked stands_run.own event c allowed made
+
+  pub instance_begins : (e : ℕ) → object_of (settle begun c.1 c.2).files e ≡ Some instance → is_ready (settle begun c.1 c.2) e ≡ true → is_ready begun e ≡ false → bit_at (spread_of c e) 0 ≡ 1
+  instance_begins = begins close begun c.1 c.2 linked_before linked_after stands_run.lives moves_run
+
+  cause_run : (y : Watch) → Member y (settle begun c.1 c.2).watches → is_reportable (settle begun c.1 c.2) y ≡ true → HasCause begun c y
+  cause_run = has_cause close begun c.1 c.2 linked_before linked_after stands_run.lives moves_run c.0
+
+  covered_run : (d : ℕ) → is_live s.files d ≡ true → is_live (settle begun c.1 c.2).files d ≡ true → Covers (present begun d) (present (settle begun c.1 c.2) d) (spread_of c d)
+  covered_run d lived lives =
+      let left = (buried c.1 c.2).0 in
+      all_covered begun left (settle begun c.1 c.2) (raised_alive left (buried c.1 c.2).1) (leads close begun c.1 c.2 linked_before linked_after stands_run.lives moves_run) d lived lives
+
 pub beginnings_are_spread : ApplyLaw → CloseLaw → AdvanceLaw → BeginningsAreSpread
 beginnings_are_spread apply close clock limits past s caller event picked c d is allowed made lived lives =
-    let b = next_event s in
-    let t = settle b c.1 c.2 in
-    let left = (buried c.1 c.2).0 in
-    let up = raised_alive left (buried c.1 c.2).1 in
-    let stands = run_keeps Stands limits (stands_step apply clock limits) opening s past stands_opening is in
-    let linked_b = linked_begun s (linked_run limits past s is) in
-    let linked = linked_change limits b caller event picked c allowed made linked_b in
-    let moves = moves_change apply clock limits b caller picked stands.own event c allowed made in
-    let covered = all_covered b left t up (leads close b c.1 c.2 linked_b linked stands.lives moves) d lived lives in
+    let t = settle (next_event s) c.1 c.2 in
+    let covered = covered_run apply close clock limits past s caller event picked c is allowed made d lived lives in
     from_bits (present s d) (present t d) (spread_of c d) (subst (λ (n : ℕ). Covers n (present t d) (spread_of c d)) (present_begun s d) covered)
+
+pub reportables_are_spread : ApplyLaw → CloseLaw → AdvanceLaw → ReportablesAreSpread
+reportables_are_spread apply close clock limits past s caller event picked c y is allowed made = cause_run apply close clock limits past s caller event picked c is allowed made y

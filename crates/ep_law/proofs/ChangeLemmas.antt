@@ -18,7 +18,7 @@ use Rattle.ep_base.specs.declared.object.End.TheVariants.{First, Second}
 use Rattle.ep_machine.specs.Bits.{IN, ONESHOT, at_end, has_bit, raises, when}
 use Rattle.ep_machine.specs.Effect.{Effect, first, unless}
 use Rattle.ep_machine.specs.Files.{Files, Place, live, named_by, names_nothing, object_at, object_number, object_under, place_of, raised_at, side_under, table_of}
-use Rattle.ep_law.specs.Laws.{Member}
+use Rattle.ep_law.specs.Laws.{Kept, Member}
 use Rattle.ep_machine.specs.Lists.{is_among}
 use Rattle.ep_machine.specs.Objects.{Object, advance, is_plain, object_effect, object_present, object_refusals, plain}
 use Rattle.ep_law.proofs.Present.{present_at}
@@ -39,7 +39,6 @@ use Rattle.ep_object.specs.Law.{AdvanceLaw, ApplyLaw, object_has}
 use Rattle.ep_law.proofs.BitLemmas.{Covers, to_bits}
 use Rattle.ep_law.proofs.EndLemmas.{Own, effect_has, object_there, own_one, own_two, own_with_object, plain_is, plain_stays}
 use Rattle.ep_law.proofs.RaiseLemmas.{covers_more, covers_self, live_member, no_bit, present_place, raised_member, raised_there}
-use Rattle.ep_law.proofs.ReachLemmas.{Kept}
 
 -- one that was looked at, as it was made or changed
 abbrev pub IsLooked : State → List (ℕ × ℕ) → Watch → Type 0

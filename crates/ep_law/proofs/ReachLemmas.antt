@@ -9,7 +9,7 @@ use Rattle.ep_base.specs.declared.counts.Counts.{Counts}
 use Rattle.ep_machine.specs.Bits.{ET, IN, asked, has_bit, when}
 use Rattle.ep_machine.specs.Counts.{counted, every_shown_bit}
 use Rattle.ep_machine.specs.Files.{is_live, object_of, side_of}
-use Rattle.ep_law.specs.Laws.{Member}
+use Rattle.ep_law.specs.Laws.{IsNoted, Kept, Member}
 use Rattle.ep_machine.specs.Objects.{Object, counter, instance, is_instance, pair, pipe, plain, timer}
 use Rattle.ep_machine.specs.Readiness.{is_fresh_since, is_ready, is_ready_within, is_reportable, is_reportable_by, present, present_by, present_of}
 use Rattle.ep_machine.specs.Spread.{is_reached, passes_on, raised_of, reaching_of, spread}
@@ -22,20 +22,6 @@ use Rattle.ep_law.proofs.ListLemmas.{any_member, first_of_and, second_of_and}
 use Rattle.ep_law.proofs.TestLemmas.{from_test}
 use Rattle.ep_law.proofs.BitLemmas.{Covers}
 use Rattle.ep_law.proofs.MaskLemmas.{asked_begins, fresh_begins, no_some, not_fresh}
-
--- A registration of the later state, before it is noted since when it is reportable.
-abbrev pub IsNoted : Watch → Watch → Type 0
-IsNoted x y = (f : ℕ) × (y ≡ record x { from = f })
-
--- a registration that was there before: it may have been disarmed, and reported
-pub record Kept (u : State) (x : Watch) : Type 0 where
-  pub was : Watch
-  pub there : Member was u.watches
-  pub instance : was.instance ≡ x.instance
-  pub target : was.target ≡ x.target
-  pub mask : was.mask ≡ x.mask
-  pub armed : x.armed ≡ true → was.armed ≡ true
-  pub seen : (x.seen ≡ was.seen) ⊎ (x.seen ≡ Some (counts_of u x.target))
 
 -- what was raised holds IN at this instance
 abbrev pub HasIn : State → List (ℕ × ℕ) → ℕ → Type 0

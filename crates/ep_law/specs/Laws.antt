@@ -16,7 +16,7 @@ use Rattle.ep_machine.specs.Refusal.{refusals}
 use Rattle.ep_machine.specs.Run.{go_on, run}
 use Rattle.ep_law.specs.Sound.{Sound}
 use Rattle.ep_machine.specs.Spread.{is_reached, passes_on, spread, raised_alive}
-use Rattle.ep_machine.specs.State.{State, Watch, opening, Change}
+use Rattle.ep_machine.specs.State.{State, Watch, counts_of, opening, Change}
 use Rattle.ep_machine.specs.Step.{next_event, step, change}
 use Rattle.ep_machine.specs.Waits.{is_marked_at, waits_at}
 use Rattle.ep_machine.specs.Watches.{is_legal, links}
@@ -106,3 +106,37 @@ spread_of c d = let left = buried c.1 c.2 in spread left.0 (raised_alive left.0 
 abbrev pub BeginningsAreSpread : Type 0
 BeginningsAreSpread = (limits : Limits) (past : List Record) (s : State) (caller : ℕ) (event : Event) (picked : List ℕ) (c : Change) (d : ℕ) → run limits opening past ≡ Some s → first (refusals limits (next_event s) caller event) ≡ None → change limits (next_event s) caller event picked ≡ Some c
     → is_live s.files d ≡ true → is_live (settle (next_event s) c.1 c.2).files d ≡ true → IsCovered (present s d) (present (settle (next_event s) c.1 c.2) d) (spread_of c d)
+
+-- a registration of the later state, but for the event since which it is reportable
+abbrev pub IsNoted : Watch → Watch → Type 0
+IsNoted x y = (f : ℕ) × (y ≡ record x { from = f })
+
+-- a registration that was there before: it may have been disarmed, and reported
+pub record Kept (u : State) (x : Watch) : Type 0 where
+  pub was : Watch
+  pub there : Member was u.watches
+  pub instance : was.instance ≡ x.instance
+  pub target : was.target ≡ x.target
+  pub mask : was.mask ≡ x.mask
+  pub armed : x.armed ≡ true → was.armed ≡ true
+  pub seen : (x.seen ≡ was.seen) ⊎ (x.seen ≡ Some (counts_of u x.target))
+
+-- whether a registration passes on something of the spread of an event's change
+abbrev pub passes_on_of : Change → Watch → Bool
+passes_on_of c x = let left = buried c.1 c.2 in passes_on left.0 (raised_alive left.0 left.1) x
+
+-- why y is reportable at the end of an event that began at state b: what the change left of it was reportable, or passes on
+-- something; where it was there before, the same of how it was then
+pub record HasCause (b : State) (c : Change) (y : Watch) : Type 0 where
+  pub x : Watch
+  pub left : Member x (buried c.1 c.2).0.watches
+  pub noted : IsNoted x y
+  pub changed : (is_reportable c.1 x ≡ true) ⊎ (passes_on_of c x ≡ true)
+  pub kept : (k : Kept b x) → (is_reportable b k.was ≡ true) ⊎ (passes_on_of c x ≡ true)
+
+-- a registration that is reportable after an event was so before, or passes on something of the event's spread
+abbrev pub ReportablesAreSpread : Type 0
+ReportablesAreSpread = (limits : Limits) (past : List Record) (s : State) (caller : ℕ) (event : Event) (picked : List ℕ) (c : Change) (y : Watch)
+    → run limits opening past ≡ Some s → first (refusals limits (next_event s) caller event) ≡ None
+    → change limits (next_event s) caller event picked ≡ Some c → Member y (settle (next_event s) c.1 c.2).watches
+    → is_reportable (settle (next_event s) c.1 c.2) y ≡ true → HasCause (next_event s) c y

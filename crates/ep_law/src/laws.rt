@@ -1,5 +1,5 @@
 //! Each law is the contract of a function that does nothing, so that it is proved.
-ghost use Rattle.ep_law.specs.Laws.{BeginningsAreSpread, DeathsInAnyOrder, Determined, EachSound, FairRounds, GraphStaysLegal, NamedLives, ReadyEquation, ReadyMarked, RefusalChangesNothing, SpreadEquation, SpreadLeast};
+ghost use Rattle.ep_law.specs.Laws.{BeginningsAreSpread, DeathsInAnyOrder, Determined, EachSound, FairRounds, GraphStaysLegal, NamedLives, ReadyEquation, ReadyMarked, RefusalChangesNothing, ReportablesAreSpread, SpreadEquation, SpreadLeast};
 
 /// An instance is ready exactly where one of its registrations is reportable: five levels are enough
 /// where the graph of instances is legal.
@@ -62,6 +62,15 @@ pub fn graph_stays_legal()
 /// event's spread, at instances too. It rests on the law of objects.
 pub fn beginnings_are_spread()
     ensures law { BeginningsAreSpread }
+{
+    ep_object::arrivals_are_raised();
+}
+
+/// A registration that is reportable after an event was so once the event had changed it, or passes on
+/// something of the event's spread; where it was there before the event, it was reportable then, or
+/// passes on something. It rests on the law of objects.
+pub fn reportables_are_spread()
+    ensures law { ReportablesAreSpread }
 {
     ep_object::arrivals_are_raised();
 }

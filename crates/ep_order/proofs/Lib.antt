@@ -2,3 +2,4 @@ pub mod OrderLemmas
 pub mod PickLemmas
 pub mod StepLemmas
 pub mod ReachLemmas
+pub mod MarkLemmas

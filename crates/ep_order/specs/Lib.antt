@@ -2,3 +2,4 @@ pub mod Order
 pub mod Pick
 pub mod Step
 pub mod Reach
+pub mod Mark

@@ -1,4 +1,5 @@
 //! The laws. Each is the contract of a function that does nothing.
+ghost use Rattle.ep_order.specs.Mark.{UnmarkedAreReached};
 ghost use Rattle.ep_order.specs.Order.{FirstAreFair, StaysComplete, StaysFair};
 ghost use Rattle.ep_order.specs.Pick.{FirstArePick};
 ghost use Rattle.ep_order.specs.Reach.{ReachedIsAbove};
@@ -35,3 +36,11 @@ pub fn step_keeps_turns()
 pub fn reached_is_above()
     ensures law { ReachedIsAbove }
 {}
+
+/// An instance that is ready after an event and has waiters, none of them marked before marks are set, has IN in the event's
+/// spread, or the event resumed a caller that waits there. So no other instance needs a look when marks are set. Does nothing.
+pub fn unmarked_are_reached()
+    ensures law { UnmarkedAreReached }
+{
+    ep_object::arrivals_are_raised();
+}

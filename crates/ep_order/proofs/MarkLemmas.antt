@@ -1,0 +1,302 @@
+-- A ready instance that has waiters and lost its mark, or begins to be ready.
+use Rattle.std.proofs.Common.{◌≡◌, ℕ, zero, suc, ◌+◌, ◌==◌, ◌&&◌, ◌||◌, ◌++◌, ◌⊎◌, ◌∙◌, All, Bool, List, [], ◌∷◌, MatchOption, None, Option, Some, ℤ, pos, negsuc, true, false, not, ap, arith, cond, filter, if◌then◌else◌, inl, inr, map, nat_eq, refl, subst, sym}
+use Rattle.std.specs.List.{AllByRecursion, IsDistinct, find, list_any}
+use Rattle.std.proofs.lemmas.Bool.{cases_Bool, false≢true}
+use Rattle.std.proofs.lemmas.Bool.Decides.{nat_tests}
+use Rattle.ep_base.specs.Limits.{Limits}
+use Rattle.ep_base.specs.declared.answer.Answer.TheVariants.{Events, Still}
+use Rattle.ep_base.specs.declared.call.Call.{Call}
+use Rattle.ep_base.specs.declared.call.Call.TheVariants.{Close, Dup, Dup2, EpollCreate, EpollCtl, EpollWait, EventFd, Exec, Exit, Fork, GetTime, Pipe as PipeCall, Plain, Read, SetTime, Shutdown, SocketPair, TimerFd, Write}
+use Rattle.ep_base.specs.declared.call.Event.{Event}
+use Rattle.ep_base.specs.declared.call.Event.TheVariants.{Call as CallOf, Resume, Tick}
+use Rattle.ep_machine.specs.Files.{named_by, object_of}
+use Rattle.ep_law.specs.Laws.{Member}
+use Rattle.ep_machine.specs.Objects.{Object, counter, instance, pair, pipe, plain, timer}
+use Rattle.ep_view.specs.AtRest.{AtRest, kind_of}
+use Rattle.ep_machine.specs.Readiness.{is_ready}
+use Rattle.ep_machine.specs.Report.{is_pick, plainly, report}
+use Rattle.ep_machine.specs.Settle.{settle}
+use Rattle.ep_machine.specs.State.{Change, State, Waiter}
+use Rattle.ep_machine.specs.Step.{call_change, change, next_event}
+use Rattle.ep_machine.specs.Waits.{is_marked_at, leave_after, resume, resume_by, tick, unmark, wait_for, waiter_of, waits_at}
+use Rattle.ep_machine.specs.Watches.{ctl, is_add, is_del, number_in}
+use Rattle.ep_law.proofs.StepLemmas.{change_counted}
+use Rattle.ep_law.proofs.MarkLemmas.{marked_parts, ready_marked, ready_same}
+use Rattle.ep_view.proofs.AtRestLemmas.{quiet_begun, quiet_change, quiet_run}
+use Rattle.ep_view.proofs.SettleLemmas.{quiet_settled, settle_changed}
+use Rattle.ep_view.proofs.KernelViewLemmas.{readiness}
+use Rattle.ep_law.proofs.TestLemmas.{from_test, or_left, or_right}
+use Rattle.ep_object.specs.Law.{AdvanceLaw, ApplyLaw, CloseLaw}
+use Rattle.ep_order.specs.Mark.{ResumesAt, UnmarkedAreReached}
+use Rattle.ep_law.proofs.BeginningLemmas.{instance_begins}
+
+instance_of_kind : (o : Option Object) → kind_of o ≡ 1 → o ≡ Some instance
+instance_of_kind None h = cc
+instance_of_kind (Some plain) h = cc
+instance_of_kind (Some (pipe p)) h = cc
+instance_of_kind (Some (pair p)) h = cc
+instance_of_kind (Some (counter c)) h = cc
+instance_of_kind (Some (timer t)) h = cc
+instance_of_kind (Some instance) h = refl
+
+abbrev at_any : ℕ → List ℕ → Bool
+at_any e ks = list_any (λ k. k == e) ks
+
+waits_by : (ws : List Waiter) (e : ℕ) → waits_at ws e ≡ at_any e (map (λ w. w.instance) ws)
+waits_by [] e = refl
+waits_by (w ∷ ws) e = ap (λ (b : Bool). w.instance == e || b) (waits_by ws e)
+
+waiter_there : (P : Waiter → Type 0) (ws : List Waiter) (e : ℕ) → All P ws → waits_at ws e ≡ true → (w : Waiter) × P w × (w.instance ≡ e)
+waiter_there P [] e h t = absurd (false≢true t)
+waiter_there P (w ∷ ws) e h t = elim (cases_Bool (w.instance == e)) [
+  | inl here ↦ (w, h 0 w (omega arith), from_test w.instance e here)
+  | inr other ↦ waiter_there P ws e (λ k d lt. h (suc k) d (omega (arith, lt))) (sym (ap (λ (b : Bool). b || waits_at ws e) other) ∙ t)
+]
+
+-- from state b: where an instance has waiters and was ready, it had waiters, and a mark at it stays
+record Stays (b u : State) (e : ℕ) : Type 0 where
+  pub waits : waits_at u.waiters e ≡ true → is_ready b e ≡ true → waits_at b.waiters e ≡ true
+  pub marks : is_marked_at b.waiters e ≡ true → is_marked_at u.waiters e ≡ true
+
+stays_same : (b u : State) (e : ℕ) → u.waiters ≡ b.waiters → Stays b u e
+stays_same b u e h = record {
+  waits = λ t r. ap (λ (ws : List Waiter). waits_at ws e) (sym h) ∙ t;
+  marks = λ t. ap (λ (ws : List Waiter). is_marked_at ws e) h ∙ t;
+}
+
+or_nothing : (a c : Bool) → (a || (c || false)) ≡ true → c ≡ false → a ≡ true
+or_nothing true c h e = refl
+or_nothing false true h e = cc
+or_nothing false false h e = cc
+
+pushed_waits : (ws : List Waiter) (w : Waiter) (e : ℕ) → waits_at (ws ++ w ∷ []) e ≡ true → (w.instance == e) ≡ false → waits_at ws e ≡ true
+pushed_waits [] w e h f = absurd (false≢true (sym (ap (λ (b : Bool). b || false) f) ∙ h))
+pushed_waits (v ∷ ws) w e h f = elim (cases_Bool (v.instance == e)) [
+  | inl t ↦ or_left _ _ t
+  | inr n ↦ or_right _ _ (pushed_waits ws w e (sym (ap (λ (b : Bool). b || waits_at (ws ++ w ∷ []) e) n) ∙ h) f)
+]
+
+pushed_marks : (ws : List Waiter) (w : Waiter) (e : ℕ) → is_marked_at ws e ≡ true → is_marked_at (ws ++ w ∷ []) e ≡ true
+pushed_marks [] w e h = absurd (false≢true h)
+pushed_marks (v ∷ ws) w e h = elim (cases_Bool (v.instance == e && v.marked)) [
+  | inl t ↦ or_left _ _ t
+  | inr n ↦ or_right _ _ (pushed_marks ws w e (sym (ap (λ (b : Bool). b || is_marked_at ws e) n) ∙ h))
+]
+
+-- One event.
+module _ (limits : Limits) (b : State) (e : ℕ) where
+  StaysAfter : Option Change → Type 0
+  StaysAfter c = MatchOption c (Unit {0}) (λ o. Stays b o.1 e)
+
+  stays_after_plainly : (ks : List ℕ) (c : Change) → Stays b c.1 e → StaysAfter (plainly ks c)
+  unfolding StaysAfter
+  stays_after_plainly [] c g = g
+  stays_after_plainly (k ∷ ks) c g = tt
+
+  stays_after_same : (ks : List ℕ) (c : Change) → c.1.waiters ≡ b.waiters → StaysAfter (plainly ks c)
+  stays_after_same ks c h = stays_after_plainly ks c (stays_same b c.1 e h)
+
+  stays_after_report : (i most : ℕ) (ks : List ℕ) → StaysAfter (report b i most ks)
+  unfolding StaysAfter
+  stays_after_report i most ks = by (is_pick b i most ks) _ _ where
+    by : (d : Bool) (a : _) (ws : _) → StaysAfter (cond d (Some (a, record b { watches = ws }, [])) None)
+    by true a ws = stays_same b (record b { watches = ws }) e refl
+    by false a ws = tt
+
+  stays_wait_for : (caller p i most : ℕ) (timeout : ℤ) → is_ready b i ≡ false → Stays b (wait_for b caller p i most timeout).1 e
+  stays_wait_for caller p i most timeout silent = by timeout where
+    one : (w : Waiter) → w.instance ≡ i → Stays b (record b { waiters = b.waiters ++ w ∷ [] }) e
+    one w at = record {
+      waits = λ t r. pushed_waits b.waiters w e t (elim (cases_Bool (w.instance == e)) [
+        | inl here ↦ absurd (false≢true (sym silent ∙ (ap (is_ready b) (sym at ∙ from_test w.instance e here) ∙ r)))
+        | inr f ↦ f
+      ]);
+      marks = λ t. pushed_marks b.waiters w e t;
+    }
+
+    by : (t : ℤ) → Stays b (wait_for b caller p i most t).1 e
+    by (pos zero) = stays_same b b e refl
+    by (pos (suc k)) = one _ refl
+    by (negsuc k) = one _ refl
+
+  stays_after_wait : (caller p i most : ℕ) (timeout : ℤ) (ks : List ℕ) → StaysAfter (cond (is_ready b i) (report b i most ks) (plainly ks (wait_for b caller p i most timeout)))
+  stays_after_wait caller p i most timeout ks = elim (cases_Bool (is_ready b i)) [
+    | inl r ↦ subst (λ (d : Bool). StaysAfter (cond d (report b i most ks) (plainly ks (wait_for b caller p i most timeout)))) (sym r) (stays_after_report i most ks)
+    | inr n ↦ subst (λ (d : Bool). StaysAfter (cond d (report b i most ks) (plainly ks (wait_for b caller p i most timeout)))) (sym n) (stays_after_plainly ks _ (stays_wait_for caller p i most timeout n))
+  ]
+
+  ctl_waiters : (p : ℕ) (epfd op fd : ℤ) (mask tag : ℕ) → (ctl b p epfd op fd mask tag).1.waiters ≡ b.waiters
+  ctl_waiters p epfd op fd mask tag = by (is_add op) (is_del op) _ _ _ refl refl refl where
+    by : (x y : Bool) (a d m : Change) → a.1.waiters ≡ b.waiters → d.1.waiters ≡ b.waiters → m.1.waiters ≡ b.waiters → (cond x a (cond y d m)).1.waiters ≡ b.waiters
+    by true y a d m p q r = p
+    by false true a d m p q r = q
+    by false false a d m p q r = r
+
+  stays_after_call : (caller p : ℕ) (call : Call) (ks : List ℕ) → StaysAfter (call_change limits b caller p call ks)
+  stays_after_call caller p (PipeCall cloexec) ks = stays_after_same ks _ refl
+  stays_after_call caller p (EventFd init semaphore cloexec) ks = stays_after_same ks _ refl
+  stays_after_call caller p (TimerFd clock cloexec) ks = stays_after_same ks _ refl
+  stays_after_call caller p (SocketPair cloexec) ks = stays_after_same ks _ refl
+  stays_after_call caller p (Plain cloexec) ks = stays_after_same ks _ refl
+  stays_after_call caller p (EpollCreate cloexec) ks = stays_after_same ks _ refl
+  stays_after_call caller p (EpollCtl epfd op fd mask tag) ks = stays_after_same ks _ (ctl_waiters p epfd.0 op fd.0 mask.0 tag)
+  stays_after_call caller p (EpollWait epfd most timeout) ks = stays_after_wait caller p (named_by b.files p epfd.0) (number_in most) timeout ks
+  stays_after_call caller p (Read fd n) ks = stays_after_same ks _ refl
+  stays_after_call caller p (Write fd bytes) ks = stays_after_same ks _ refl
+  stays_after_call caller p (Shutdown fd) ks = stays_after_same ks _ refl
+  stays_after_call caller p (SetTime fd absolute value interval) ks = stays_after_same ks _ refl
+  stays_after_call caller p (GetTime fd) ks = stays_after_same ks _ refl
+  stays_after_call caller p (Dup fd) ks = stays_after_same ks _ refl
+  stays_after_call caller p (Dup2 fd to) ks = stays_after_same ks _ refl
+  stays_after_call caller p (Close fd) ks = stays_after_same ks _ refl
+  stays_after_call caller p Fork ks = stays_after_same ks _ refl
+  stays_after_call caller p Exec ks = stays_after_same ks _ refl
+  stays_after_call caller p Exit ks = stays_after_same ks _ refl
+
+apart_caller : (c : ℕ) (ws : List Waiter) (v : Waiter) → AllByRecursion (λ k. nat_eq c k ≡ false) (map (λ w. w.caller) ws) → Member v ws → nat_eq c v.caller ≡ false
+apart_caller c [] v h m = absurd m
+apart_caller c (w ∷ ws) v h (inl e) = ap (λ (u : Waiter). nat_eq c u.caller) e ∙ h.0
+apart_caller c (w ∷ ws) v h (inr m) = apart_caller c ws v h.1 m
+
+not_apart : (a c : ℕ) → nat_eq a c ≡ false → a ≡ c → ⊥
+not_apart a c h e = grind (arith, nat_tests, h, e)
+
+-- a caller has one waiter
+one_caller : (ws : List Waiter) (v w : Waiter) → IsDistinct nat_eq (map (λ u. u.caller) ws) → Member v ws → Member w ws → v.caller ≡ w.caller → v ≡ w
+unfolding IsDistinct
+one_caller [] v w h m n e = absurd m
+one_caller (u ∷ ws) v w h (inl a) (inl c) e = a ∙ sym c
+one_caller (u ∷ ws) v w h (inl a) (inr n) e = absurd (not_apart u.caller w.caller (apart_caller u.caller ws w h.0 n) (sym (ap (λ (x : Waiter). x.caller) a) ∙ e))
+one_caller (u ∷ ws) v w h (inr m) (inl c) e = absurd (not_apart u.caller v.caller (apart_caller u.caller ws v h.0 m) (sym (ap (λ (x : Waiter). x.caller) c) ∙ sym e))
+one_caller (u ∷ ws) v w h (inr m) (inr n) e = one_caller ws v w h.1 m n e
+
+found_waiter : (ws : List Waiter) (caller : ℕ) (w : Waiter) → find (λ v. v.caller == caller) ws ≡ Some w → Member w ws
+found_waiter [] caller w h = cc
+found_waiter (v ∷ ws) caller w h = elim (cases_Bool (v.caller == caller)) [
+  | inl t ↦ let same : Some v ≡ Some w = sym (ap (λ (b : Bool). cond b (Some v) (find (λ u. u.caller == caller) ws)) t) ∙ h in let e : w ≡ v = cc in inl e
+  | inr f ↦ inr (found_waiter ws caller w (sym (ap (λ (b : Bool). cond b (Some v) (find (λ u. u.caller == caller) ws)) f) ∙ h))
+]
+
+-- whoever waits at another instance is another caller
+abbrev AreOthers : ℕ → ℕ → List Waiter → Type 0
+AreOthers c e ws = (v : Waiter) → Member v ws → (v.instance == e) ≡ true → (v.caller == c) ≡ false
+
+left_waits : (p : Waiter → Bool) (ws : List Waiter) (e : ℕ) → waits_at (filter p ws) e ≡ true → waits_at ws e ≡ true
+left_waits p [] e h = h
+left_waits p (w ∷ ws) e h =
+    elim (p w) as (λ d. waits_at (cond d (w ∷ filter p ws) (filter p ws)) e ≡ true → waits_at (w ∷ ws) e ≡ true) [
+      | true ↦ λ t. elim (cases_Bool (w.instance == e)) [ inl here ↦ or_left _ _ here | inr f ↦ or_right _ _ (left_waits p ws e (sym (ap (λ (d : Bool). d || waits_at (filter p ws) e) f) ∙ t)) ]
+      | false ↦ λ t. or_right _ _ (left_waits p ws e t)
+    ] h
+
+and_left : (a b : Bool) → (a && b) ≡ true → a ≡ true
+and_left true b h = refl
+and_left false b h = h
+
+left_marks : (c : ℕ) (ws : List Waiter) (e : ℕ) → AreOthers c e ws → is_marked_at ws e ≡ true → is_marked_at (filter (λ w. not (w.caller == c)) ws) e ≡ true
+left_marks c [] e others h = h
+left_marks c (w ∷ ws) e others h =
+    let rest = left_marks c ws e (λ v m. others v (inr m)) in
+    elim (cases_Bool (w.instance == e && w.marked)) [
+      | inl here ↦
+          let stays : (w.caller == c) ≡ false = others w (inl refl) (and_left _ _ here) in
+          ap (λ (d : Bool). is_marked_at (cond (not d) (w ∷ filter (λ v. not (v.caller == c)) ws) (filter (λ v. not (v.caller == c)) ws)) e) stays ∙ or_left _ _ here
+      | inr f ↦
+          let more = rest (sym (ap (λ (d : Bool). d || is_marked_at ws e) f) ∙ h) in
+          elim (w.caller == c) as (λ d. is_marked_at (cond (not d) (w ∷ filter (λ v. not (v.caller == c)) ws) (filter (λ v. not (v.caller == c)) ws)) e ≡ true) [ true ↦ more | false ↦ or_right _ _ more ]
+    ]
+
+unmarked_waits : (c : ℕ) (ws : List Waiter) (e : ℕ) → waits_at (map (unmark c) ws) e ≡ waits_at ws e
+unmarked_waits c [] e = refl
+unmarked_waits c (w ∷ ws) e = ap (λ (b : Bool). w.instance == e || b) (unmarked_waits c ws e)
+
+unmarked_marks : (c : ℕ) (ws : List Waiter) (e : ℕ) → AreOthers c e ws → is_marked_at ws e ≡ true → is_marked_at (map (unmark c) ws) e ≡ true
+unmarked_marks c [] e others h = h
+unmarked_marks c (w ∷ ws) e others h = elim (cases_Bool (w.instance == e && w.marked)) [
+  | inl here ↦
+      let stays : (w.caller == c) ≡ false = others w (inl refl) (and_left _ _ here) in
+      or_left _ _ (ap (λ (d : Bool). w.instance == e && (w.marked && not d)) stays ∙ same (w.instance == e) w.marked here)
+  | inr f ↦ or_right _ _ (unmarked_marks c ws e (λ v m. others v (inr m)) (sym (ap (λ (d : Bool). d || is_marked_at ws e) f) ∙ h))
+] where
+  same : (a b : Bool) → (a && b) ≡ true → (a && (b && true)) ≡ true
+  same true true h = refl
+  same true false h = cc
+  same false b h = cc
+
+-- A resumption.
+module _ (limits : Limits) (b : State) (e caller : ℕ) (distinct : IsDistinct nat_eq (map (λ w. w.caller) b.waiters)) where
+  stays_left : (w : Waiter) → AreOthers w.caller e b.waiters → (u : State) → u.waiters ≡ filter (λ v. not (v.caller == w.caller)) b.waiters → Stays b u e
+  stays_left w others u is = record {
+    waits = λ t r. left_waits (λ v. not (v.caller == w.caller)) b.waiters e (ap (λ (ws : List Waiter). waits_at ws e) (sym is) ∙ t);
+    marks = λ t. ap (λ (ws : List Waiter). is_marked_at ws e) is ∙ left_marks w.caller b.waiters e others t;
+  }
+
+  module _ (w : Waiter) (others : AreOthers w.caller e b.waiters) (ks : List ℕ) where
+    stays_after_gone : StaysAfter limits b e (leave_after w.caller (report b w.instance w.most ks))
+    unfolding StaysAfter
+    stays_after_gone = by (is_pick b w.instance w.most ks) _ _ where
+      by : (d : Bool) (a : _) (ws : _) → MatchOption (leave_after w.caller (cond d (Some (a, record b { watches = ws }, [])) None)) (Unit {0}) (λ o. Stays b o.1 e)
+      by true a ws = stays_left w others _ refl
+      by false a ws = tt
+
+    stays_after_empty : (d : Bool) → StaysAfter limits b e (plainly ks (cond d (Events [], record b { waiters = filter (λ v. not (v.caller == w.caller)) b.waiters }, []) (Still, record b { waiters = map (unmark w.caller) b.waiters }, [])))
+    stays_after_empty true = stays_after_plainly limits b e ks _ (stays_left w others _ refl)
+    stays_after_empty false = stays_after_plainly limits b e ks _ (record { waits = λ t r. sym (unmarked_waits w.caller b.waiters e) ∙ t; marks = λ t. unmarked_marks w.caller b.waiters e others t })
+
+    stays_after_marked : (d r q : Bool) → StaysAfter limits b e (if not d then plainly ks (Still, b, []) else if r then leave_after w.caller (report b w.instance w.most ks) else plainly ks (cond q (Events [], record b { waiters = filter (λ v. not (v.caller == w.caller)) b.waiters }, []) (Still, record b { waiters = map (unmark w.caller) b.waiters }, [])))
+    stays_after_marked false r q = stays_after_same limits b e ks _ refl
+    stays_after_marked true true q = stays_after_gone
+    stays_after_marked true false q = stays_after_empty q
+
+  stays_after_resume : (ks : List ℕ) → ResumesAt b caller Resume e ⊎ StaysAfter limits b e (resume b caller ks)
+  stays_after_resume ks = by (waiter_of b caller) refl where
+    by : (o : Option Waiter) → waiter_of b caller ≡ o → ResumesAt b caller Resume e ⊎ StaysAfter limits b e (resume_by b o ks)
+    by None is = inr (stays_after_same limits b e ks _ refl)
+    by (Some w) is = elim (cases_Bool (w.instance == e)) [
+      | inl here ↦ inl (w, is, from_test w.instance e here)
+      | inr apart ↦
+          let others : AreOthers w.caller e b.waiters = λ v m at. elim (cases_Bool (v.caller == w.caller)) [
+            | inl same ↦
+                let one : v ≡ w = one_caller b.waiters v w distinct m (found_waiter b.waiters caller w is) (from_test v.caller w.caller same) in
+                absurd (false≢true (sym apart ∙ (ap (λ (u : Waiter). u.instance == e) (sym one) ∙ at)))
+            | inr f ↦ f
+          ] in
+          inr (stays_after_marked w others ks w.marked (is_ready b w.instance) _)
+    ]
+
+  stays_after_event : (event : Event) (ks : List ℕ) → ResumesAt b caller event e ⊎ StaysAfter limits b e (change limits b caller event ks)
+  stays_after_event (CallOf p call) ks = inr (stays_after_call limits b e caller p.0 call ks)
+  stays_after_event Resume ks = stays_after_resume ks
+  stays_after_event (Tick n) ks = inr (stays_after_same limits b e ks (tick b n) refl)
+
+  from_stays : (o : Option Change) (c : Change) → o ≡ Some c → StaysAfter limits b e o → Stays b c.1 e
+  unfolding StaysAfter
+  from_stays o c is f = subst (λ (q : Option Change). MatchOption q (Unit {0}) (λ x. Stays b x.1 e)) is f
+
+not_true : (a : Bool) → a ≡ false → a ≡ true → ⊥
+not_true a h k = absurd (false≢true (sym h ∙ k))
+
+pub unmarked_are_reached : ApplyLaw → CloseLaw → AdvanceLaw → UnmarkedAreReached
+unmarked_are_reached apply close clock limits past s caller event picked c e is allowed made waits unmarked ready =
+    let b = next_event s in
+    let t = settle b c.1 c.2 in
+    let quiet = quiet_run limits past s is in
+    let still = quiet_begun s quiet in
+    let changed = quiet_change limits b caller event picked c still allowed made in
+    let settled = settle_changed b c.1 c.2 (change_counted limits s caller event picked c made) changed in
+    let after : AtRest t = quiet_settled c.1 changed c.2 t settled in
+    let places : map (λ w. w.instance) t.waiters ≡ map (λ w. w.instance) c.1.waiters = ap (map (λ (w : Waiter). w.instance)) settled.waiters ∙ marked_parts (readiness t) (λ w. w.instance) (λ w x. refl) t.now c.1.waiters in
+    let there : waits_at t.waiters e ≡ true = waits_by t.waiters e ∙ (ap (at_any e) places ∙ (sym (waits_by c.1.waiters e) ∙ waits)) in
+    let who = waiter_there (λ w. kind_of (object_of t.files w.instance) ≡ 1) t.waiters e after.waiting there in
+    let here : object_of t.files e ≡ Some instance = instance_of_kind (object_of t.files e) (ap (λ (d : ℕ). kind_of (object_of t.files d)) (sym who.2) ∙ who.1) in
+    elim (cases_Bool (is_ready b e)) [
+      | inr silent ↦ inl (instance_begins apply close clock limits past s caller event picked c is allowed made e here ready silent)
+      | inl was ↦ elim (stays_after_event limits b e caller quiet.callers event picked) [
+        | inl attends ↦ inr attends
+        | inr kept ↦
+            let stays = from_stays limits b e caller quiet.callers (change limits b caller event picked) c made kept in
+            let waited = stays.waits waits was in
+            let marked = ready_marked limits past s e is waited (sym (ready_same s (s.n + 1) s.waiters e) ∙ was) in
+            absurd (not_true (is_marked_at c.1.waiters e) unmarked (stays.marks marked))
+      ]
+    ]
