@@ -2,3 +2,4 @@ pub mod Marks
 pub mod Tallied
 pub mod Turns
 pub mod Views
+pub mod DeadlineLemmas

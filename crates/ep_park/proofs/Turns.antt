@@ -8,7 +8,7 @@ use Rattle.ep_machine.specs.Marks.{first_marked as first_of_each}
 use Rattle.ep_machine.specs.State.{Waiter as Parked}
 use Rattle.ep_machine.specs.Waits.{is_marked_at, waits_at}
 use Rattle.ep_park.proofs.Views.{either, swapped}
-use Rattle.ep_park.specs.Turns.{NamesReady, marked_in_turn}
+use Rattle.ep_park.specs.Turns.{NamesReady, NamesUnmarked, marked_in_turn}
 use Rattle.ep_park.specs.Waiters.{first_marked, longest_marked}
 
 -- the first of each instance that passes the test is marked
@@ -119,9 +119,15 @@ in_turn (e ∷ es) ws =
       | inr p ↦ rw (p.0, apart e x ws p.0) refl
     ]
 
-pub marks_agree : (ready : ℕ → Bool) (ws : List Parked) (es : List ℕ) → NamesReady ready ws es → marked_in_turn es ws ≡ first_of_each ready ws [] ws
-marks_agree ready ws es names =
+pub marks_agree_unmarked : (ready : ℕ → Bool) (ws : List Parked) (es : List ℕ) → NamesUnmarked ready ws es → marked_in_turn es ws ≡ first_of_each ready ws [] ws
+marks_agree_unmarked ready ws es names =
     in_turn es ws
     ∙ (alike (λ x. not (is_marked_at ws x) && list_any (λ y. x == y) es) (λ x. not (is_marked_at ws x) && ready x) [] ws
-    (λ x there. ap (λ b. not (is_marked_at ws x) && b) (sym (names x there)))
+    (λ x there. elim (either (is_marked_at ws x)) [
+      | inl marked ↦ rw marked refl
+      | inr off ↦ ap (λ b. not (is_marked_at ws x) && b) (sym (names x there off))
+    ])
     ∙ as_machine ready ws [] ws)
+
+pub marks_agree : (ready : ℕ → Bool) (ws : List Parked) (es : List ℕ) → NamesReady ready ws es → marked_in_turn es ws ≡ first_of_each ready ws [] ws
+marks_agree ready ws es names = marks_agree_unmarked ready ws es (λ e there off. names e there)

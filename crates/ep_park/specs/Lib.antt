@@ -1,4 +1,5 @@
 pub mod Changes
+pub mod Deadlines
 pub mod Tallies
 pub mod Turns
 pub mod Waiters

@@ -1,6 +1,7 @@
 //! Callers that are parked in epoll_wait(2), in order of parking, and which of them are marked.
 #![tactic(auto)]
 
+mod deadlines;
 pub mod laws;
 mod park;
 mod scan;

@@ -2,16 +2,18 @@
 //!
 //! Waiters stand in a map by caller, in order of parking, and each instance that has waiters has a tally: who waits longest there, and
 //! how many are marked. So what is asked of one caller or of one instance costs the same, however many are parked.
-ghost use Rattle.std.specs.Prelude.{◌≡◌, ◌++◌, ◌∷◌, ◌<◌, [], OnErr, OnOk, false, filter, length, map, nat_eq, slice_index_or};
+ghost use Rattle.std.specs.Prelude.{◌≡◌, ◌++◌, ◌∷◌, ◌<◌, [], MatchOption, OnErr, OnOk, false, filter, length, map, nat_eq, slice_index_or};
 ghost use Rattle.std.specs.List.{IsDistinct, find, list_any, position};
 ghost use Rattle.std.specs.Option.{option_map};
 ghost use Rattle.ep_machine.specs.Waits.{is_marked_at, marked_if_due, unmark, waits_at};
 ghost use Rattle.ep_park.specs.Changes.{changed_at, with_mark_of};
+ghost use Rattle.ep_park.specs.Deadlines.{IsAwaitedAt};
 ghost use Rattle.ep_park.specs.Waiters.{is_caller, is_marked_caller, is_of, longest_marked, parked, without};
 
-use crate::scan::{longest, waits_for};
+use crate::deadlines::Deadlines;
+use crate::scan::{caller_at, longest, waits_for};
 use crate::tally::{Tallies, count, discount, recount};
-use crate::waiter::{Waiter, Waiters, is_due};
+use crate::waiter::{Waiter, Waiters, awaited};
 use ep_base::{CallerId, DescId, Pid};
 use indexmap::IndexMap;
 use std::alloc::{AllocError, Allocator, Global};
@@ -23,6 +25,8 @@ use std::marker::Model;
 pub struct Park<A: Allocator = Global> {
     waiters: Waiters<A>,
     tallies: Tallies<A>,
+    // The deadline of each waiter that isn't marked.
+    deadlines: Deadlines<A>,
 }
 
 impl<A: Allocator> Model for Park<A> {
@@ -31,12 +35,13 @@ impl<A: Allocator> Model for Park<A> {
 
     ghost Value = { List Parked };
 
+    ghost use Rattle.ep_park.specs.Deadlines.{HasDeadlines};
     ghost use Rattle.ep_park.specs.Tallies.{IsTallied};
     ghost use Rattle.ep_park.specs.Waiters.{listed};
 
     ghost view = { λ p. listed p.waiters.entries };
 
-    ghost invariant = { λ p. IsTallied p.waiters.entries p.tallies.entries };
+    ghost invariant = { λ p. IsTallied p.waiters.entries p.tallies.entries × HasDeadlines p.waiters.entries p.deadlines };
 }
 
 impl<A: Allocator> Park<A> {
@@ -49,11 +54,12 @@ impl<A: Allocator> Park<A> {
         Park {
             waiters: IndexMap::new(alloc),
             tallies: IndexMap::new(alloc),
+            deadlines: Deadlines::new(alloc),
         }
     }
 
     /// Parks a caller that isn't parked behind all others. This is the one call that takes memory; an error says that memory was
-    /// refused, and leaves all as it was. The cost doesn't grow with the callers that are parked, but where a table grows.
+    /// refused, and leaves all as it was. The cost grows as the logarithm of the callers that are parked, but where a table grows.
     pub fn park(&mut self, caller: CallerId, waiter: Waiter) -> Result<(), AllocError>
         requires { list_any (is_caller caller.0) self.old ≡ false }
         ensures parked { OnOk result (self.new ≡ self.old ++ parked caller.0 waiter ∷ []) }
@@ -61,9 +67,17 @@ impl<A: Allocator> Park<A> {
     {
         prove!(self.waiters.len() < usize::MAX);
         self.waiters.reserve(1)?;
-        count(&mut self.tallies, caller, waiter)?;
-        self.waiters.insert(caller.0, waiter).unwrap();
-        Ok(())
+        self.deadlines.add(caller, awaited(waiter))?;
+        match count(&mut self.tallies, caller, waiter) {
+            Ok(()) => {
+                self.waiters.insert(caller.0, waiter).unwrap();
+                Ok(())
+            }
+            Err(refused) => {
+                self.deadlines.remove(caller);
+                Err(refused)
+            }
+        }
     }
 
     /// Takes a caller's waiter out and answers it; the rest stay in order. `None` where the caller isn't parked: nothing changes.
@@ -74,6 +88,7 @@ impl<A: Allocator> Park<A> {
         ensures rest { self.new ≡ without caller.0 self.old }
     {
         let waiter = self.waiters.shift_remove(&caller.0)?;
+        self.deadlines.remove(caller);
         let tally = self.tallies[&waiter.instance.0];
         let first = longest(&self.waiters, waiter.instance);
         discount(&mut self.tallies, tally, waiter, first);
@@ -81,7 +96,8 @@ impl<A: Allocator> Park<A> {
     }
 
     /// Marks the caller that waits longest at an instance, where none of that instance is marked, else changes nothing. That the longest
-    /// waiting one goes on is a rule of this kernel's own. The cost doesn't grow with the callers that are parked.
+    /// waiting one goes on is a rule of this kernel's own. The cost grows as the
+    /// logarithm of the callers that are parked.
     pub fn mark_longest(&mut self, instance: DescId)
         ensures { self.new ≡ longest_marked instance.0 self.old }
     {
@@ -97,17 +113,17 @@ impl<A: Allocator> Park<A> {
     }
 
     /// Marks exactly the callers whose deadline, in the clock's unit, is at or below `now`; a mark that is there stays. The cost grows
-    /// with the callers that are parked.
+    /// with the callers that this marks, each time the logarithm of those that are parked, and not with others.
     pub fn mark_due(&mut self, now: u64)
         ensures { self.new ≡ map (marked_if_due now) self.old }
     {
-        for index in 0..self.waiters.len() {
-            self.mark_if_due(index, now);
+        while let Some(index) = self.next_due(now) {
+            self.set_mark(index, true);
         }
     }
 
-    /// Takes a caller's mark away; nothing changes where it isn't parked or not marked. The cost doesn't grow with the callers that are
-    /// parked.
+    /// Takes a caller's mark away; nothing changes where it isn't parked or not marked. The cost grows as the logarithm of the callers
+    /// that are parked.
     pub fn unmark(&mut self, caller: CallerId)
         ensures { self.new ≡ map (unmark caller.0) self.old }
     {
@@ -116,14 +132,13 @@ impl<A: Allocator> Park<A> {
         }
     }
 
-    /// Marks the waiter at a place if its deadline is at or below `now`.
-    fn mark_if_due(&mut self, index: usize, now: u64)
-        requires { index < length self.old }
-        ensures { self.new ≡ changed_at (marked_if_due now) index self.old }
+    /// The place of a waiter that isn't marked and whose deadline is at or below `now`.
+    fn next_due(&self, now: u64) -> Option<usize>
+        ensures { MatchOption result (self.now ≡ map (marked_if_due now) self.now) (λ i. IsAwaitedAt self.now now i) }
     {
-        if is_due(self.waiters[index], now) {
-            self.set_mark(index, true);
-        }
+        let _parked = self.waiters.len();
+        let caller = self.deadlines.first(now)?;
+        self.waiters.get_index_of(&caller.0)
     }
 
     /// Sets or takes the mark of the waiter at a place.
@@ -134,6 +149,9 @@ impl<A: Allocator> Park<A> {
         prove!(index < self.waiters.len());
         let waiter = self.waiters[index];
         let tally = self.tallies[&waiter.instance.0];
+        let caller = caller_at(&self.waiters, index);
+        self.deadlines
+            .set(caller, awaited(Waiter { marked, ..waiter }));
         self.waiters[index].marked = marked;
         recount(&mut self.tallies, tally, waiter, marked);
     }

@@ -1,5 +1,5 @@
-//! The questions that look at one waiter after another.
-ghost use Rattle.std.specs.Prelude.{◌≡◌, ◌==◌};
+//! Questions about the waiters in their order.
+ghost use Rattle.std.specs.Prelude.{◌≡◌, ◌==◌, ◌<◌, Some, length, slice_get};
 ghost use Rattle.std.specs.List.{list_any, position};
 ghost use Rattle.std.specs.Option.{option_map};
 ghost use Rattle.indexmap.specs.IndexMap.{values};
@@ -33,4 +33,13 @@ pub fn waits_for<A: Allocator>(waiters: &Waiters<A>, process: Pid) -> bool
     ensures { result ≡ list_any (λ w. w.process.0 == process.0) (values waiters.now) }
 {
     waiters.values().any(|waiter| waiter.process.0 == process.0)
+}
+
+/// The caller of the waiter at a place.
+pub fn caller_at<A: Allocator>(waiters: &Waiters<A>, index: usize) -> CallerId
+    requires { index < length waiters.now.entries }
+    ensures { option_map (λ e. e.0) (slice_get waiters.now.entries index) ≡ Some result.0 }
+{
+    let (caller, _) = waiters.get_index(index).unwrap();
+    CallerId(*caller)
 }

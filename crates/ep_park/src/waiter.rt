@@ -2,6 +2,7 @@
 
 ghost use Rattle.std.specs.Prelude.{◌≡◌};
 ghost use Rattle.ep_machine.specs.Waits.{is_due as is_reached};
+ghost use Rattle.ep_park.specs.Deadlines.{awaited as deadline_of};
 
 use ep_base::{DescId, Pid};
 use indexmap::IndexMap;
@@ -33,4 +34,14 @@ pub fn is_due(waiter: Waiter, now: u64) -> bool
         Some(deadline) => deadline <= now,
         None => false,
     }
+}
+
+/// The moment at which a waiter gets its mark, none where it has it.
+pub fn awaited(waiter: Waiter) -> Option<u64>
+    ensures { result ≡ deadline_of waiter }
+{
+    if waiter.marked {
+        return None;
+    }
+    waiter.deadline
 }

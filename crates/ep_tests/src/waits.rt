@@ -46,13 +46,18 @@ fn one_after_the_other(rt: HostRuntime) -> Result<(), Fail> {
     Ok(())
 }
 
-/// A wait of five milliseconds: at four it isn't marked, at five it is, and then it is gone.
+/// A wait of five milliseconds: at four it isn't marked, at five it is, and again once its mark is taken away.
 #[test]
 fn until_the_deadline(rt: HostRuntime) -> Result<(), Fail> {
     let mut waits = Park::new(rt.alloc());
     let caller = CallerId(1);
     waits.park(caller, waiting(Some(5)))?;
     assert!(rt; waits.any_of(Pid(1)));
+    waits.mark_due(4);
+    assert!(rt; !waits.is_marked(caller));
+    waits.mark_due(5);
+    assert!(rt; waits.is_marked(caller));
+    waits.unmark(caller);
     waits.mark_due(4);
     assert!(rt; !waits.is_marked(caller));
     waits.mark_due(5);

@@ -1,10 +1,11 @@
-use Rattle.std.proofs.Common.{length, ◌≡◌}
+use Rattle.std.proofs.Common.{map, ◌≡◌}
+use Rattle.std.specs.List.{count_by}
 use Rattle.ep_machine.specs.Waits.{marked_if_due}
-use Rattle.ep_park.specs.Changes.{changed_below}
+use Rattle.ep_park.specs.Deadlines.{awaits_mark}
 use Rattle.ep_park.proofs.park.Park.mark_due.Given as goal
 
 abbrev pub invariant-loop-index : goal.invariant-loop-index
-invariant-loop-index g l = record {
-  changed : l.self ≡ changed_below (marked_if_due l.now) l.index l.initial.self;
-  all : l.index-end ≡ length l.initial.self;
-}
+invariant-loop-index g l = map (marked_if_due l.now) l.self ≡ map (marked_if_due l.now) l.initial.self
+
+abbrev pub decreases-loop-index : goal.decreases-loop-index
+decreases-loop-index g l = count_by (awaits_mark l.now) l.self

@@ -1,0 +1,5 @@
+use Rattle.ep_park.proofs.Turns.{marks_agree_unmarked}
+use Rattle.ep_park.proofs.laws.unmarked_in_turn.Goals as goal
+
+pub returns : goal.returns
+returns c = marks_agree_unmarked
