@@ -25,3 +25,4 @@ pub mod UnnameLemmas
 pub mod RenamesLemmas
 pub mod LiveLemmas
 pub mod OpeningLemmas
+pub mod DyingKeysLemmas

@@ -8,3 +8,4 @@ pub mod Closing
 pub mod Counting
 pub mod Flagged
 pub mod Live
+pub mod DyingKeys

@@ -1,6 +1,7 @@
 //! Descriptor tables and open file descriptions.
 #![tactic(auto)]
 
+mod dying_keys;
 mod live;
 mod names;
 mod processes;
@@ -9,6 +10,7 @@ mod table;
 mod tables;
 mod words;
 
+pub use crate::dying_keys::DyingKeys;
 pub use crate::live::Live;
 pub use crate::tables::Tables;
 pub use crate::words::Dead;

@@ -1,5 +1,5 @@
 //! Open file descriptions and their objects.
-ghost use Rattle.std.specs.Prelude.{◌≡◌, ◌+◌, ◌<◌, ◌≤◌, ◌^◌, [], false, IfNone, IfOk, IfSome, IsOk, IsSome, None, OnErr, OnOk, Some, length, min, slice_index_or, slice_set, vec_capacity};
+ghost use Rattle.std.specs.Prelude.{◌≡◌, ◌+◌, ◌<◌, ◌≤◌, ◌^◌, [], false, IfNone, IfOk, IfSome, IsOk, IsSome, None, OnErr, OnOk, Some, length, map, min, slice_index_or, slice_set, vec_capacity};
 ghost use Rattle.slab.specs.Slab.{HasRoomFor, slab_len};
 ghost use Rattle.std.specs.Map.Iter.{ShowsInOrder};
 ghost use Rattle.ep_base.specs.declared.ids.DescId.{DescId};
@@ -12,6 +12,7 @@ ghost use Rattle.ep_table.specs.Closing.{Dies, IsAt, across, closed_in, closed_s
 ghost use Rattle.ep_table.specs.Live.{live_ids};
 ghost use Rattle.ep_table.specs.Value.{InsertsOne, InsertsTwo, SoundThings, count_at, files_in, less_at, more_at, number_at, objects_after, thing_effect, thing_number, thing_waiting};
 
+use crate::dying_keys::DyingKeys;
 use crate::live::Live;
 use crate::words::{Dead, Description, Dying, Shared};
 use ep_base::{Answer, Call, DescId, End, Raised};
@@ -139,6 +140,14 @@ impl<A: Allocator> Store<A> {
         Live {
             entries: self.descriptions.iter(),
         }
+    }
+
+    /// The keys of the descriptions that nothing names or holds, in the order of the queue.
+    pub fn dying(&self) -> DyingKeys<'_>
+        ensures exact { map (number_at self.now.keys) result ≡ map Some self.now.dying }
+        ensures runs { ShowsInOrder (λ (id : DescId). id) }
+    {
+        DyingKeys { queue: &self.dying }
     }
 
     /// Which end of its object a description is.

@@ -1,5 +1,5 @@
 //! The tables: processes, descriptors, open file descriptions and objects.
-ghost use Rattle.std.specs.Prelude.{◌≡◌, ◌+◌, ◌<◌, ◌≤◌, ◌^◌, ◌∷◌, [], ℕ, false, IfNone, IfOk, IfSome, IsOk, IsSome, None, OnErr, OnOk, Some, is_some, length, min, pos, true};
+ghost use Rattle.std.specs.Prelude.{◌≡◌, ◌+◌, ◌<◌, ◌≤◌, ◌^◌, ◌∷◌, [], ℕ, false, IfNone, IfOk, IfSome, IsOk, IsSome, None, OnErr, OnOk, Some, is_some, length, map, min, pos, true};
 ghost use Rattle.std.specs.Map.Iter.{ShowsInOrder};
 ghost use Rattle.ep_base.specs.declared.ids.DescId.{DescId};
 ghost use Rattle.ep_machine.specs.Deaths.{named_in_tables};
@@ -17,6 +17,7 @@ ghost use Rattle.ep_table.specs.Value.{CreatesOne, CreatesTwo, Does, Gains, Soun
 ghost use Rattle.ep_object.specs.Memory.{asked_of};
 ghost use Rattle.ep_object.specs.Next.{IsNextMoment};
 
+use crate::dying_keys::DyingKeys;
 use crate::live::Live;
 use crate::names::{add_names, drop_names};
 use crate::processes::{
@@ -503,6 +504,16 @@ impl<A: Allocator> Tables<A> {
         ensures runs { ShowsInOrder (λ (id : DescId). id) }
     {
         self.store.live()
+    }
+
+    /// The keys of the descriptions that no table names and no waiter holds, each once, for whoever keeps
+    /// something under them: `take_dead` ends exactly these, as long as no name goes. It takes no memory,
+    /// and its time is that of going over them.
+    pub fn dying(&self) -> DyingKeys<'_>
+        ensures exact { map (number_under self.now) result ≡ map Some self.now.dying }
+        ensures runs { ShowsInOrder (λ (id : DescId). id) }
+    {
+        self.store.dying()
     }
 
     /// Which end of its object a live description is: the first where the object has one description.
