@@ -1,5 +1,5 @@
 -- What a closure leaves that is called at each registration, and what an arrival keeps.
-use Rattle.std.proofs.Common.{if◌then◌else◌, ◌≡◌, ◌∙◌, ◌+◌, ◌<◌, ◌≤◌, ◌==◌, ◌&&◌, ◌||◌, ℕ, zero, suc, Bool, true, false, List, [], ◌∷◌, None, Option, Some, MutBor, ap, cond, get_or, map, nat_lt, refl, subst, sym, unwrap_or}
+use Rattle.std.proofs.Common.{if◌then◌else◌, ◌≡◌, ◌∙◌, ◌+◌, ◌<◌, ◌≤◌, ◌==◌, ◌&&◌, ◌||◌, ℕ, zero, suc, Bool, true, false, List, [], ◌∷◌, length, vec_capacity, None, Option, Some, MutBor, ap, cond, get_or, map, nat_lt, refl, subst, sym, unwrap_or}
 use Rattle.std.proofs.lemmas.Option.{none-some}
 use Rattle.std.specs.List.{cons_option, filter_map, range_with_len}
 use Rattle.std.specs.Option.{option_map}
@@ -16,7 +16,9 @@ use Rattle.std.specs.HashMap as hash
 use Rattle.ep_interest.specs.Places.{place_cmp}
 use Rattle.ep_interest.specs.View.{IsIndex, IsInterest, instance_of, key_of, number_in, place_of, same_key, target_of}
 use Rattle.ep_interest.specs.declared.interest.Interest.TheInside.{Inside}
+use Rattle.ep_interest.specs.Passes.{ArePassing}
 use Rattle.ep_interest.specs.declared.entry.Entry.{Entry}
+use Rattle.ep_interest.specs.declared.passes.Passes.{Passes}
 
 module _ {F : Type 0} (step : F → ℕ → MutBor Entry → Bool → MutBor Entry → F → Type 0) (P : F → Type 0) (g : Entry → Entry)
     (each : (f : F) (key : ℕ) (old : Entry) (keep : Bool) (new : Entry) (next : F) → P f → CalledAt step f key old keep new next → (keep ≡ true) × (new ≡ g old) × P next) where
@@ -44,7 +46,7 @@ module _ (f : Entry → Entry) (number : (x : Entry) → (f x).number ≡ x.numb
   was (Some x) y h = (x, refl, ap (λ (o : Option Entry). unwrap_or o (f x)) h)
 
   -- what stood there before
-  before : (slots : List (Option Entry)) (k : ℕ) (y : Entry) → get_or (changed slots) k None ≡ Some y → (x : Entry) × (get_or slots k None ≡ Some x) × (f x ≡ y)
+  pub before : (slots : List (Option Entry)) (k : ℕ) (y : Entry) → get_or (changed slots) k None ≡ Some y → (x : Entry) × (get_or slots k None ≡ Some x) × (f x ≡ y)
   before slots k y h = was (get_or slots k None) y (sym (get_changed slots k) ∙ h)
 
   pub keys_changed : (slots : List (Option Entry)) → map number_in (changed slots) ≡ map number_in slots
@@ -113,8 +115,9 @@ pub settled_keeps : Keeps settled
 settled_keeps = record { number = λ x. refl; instance = λ x. refl; target = λ x. refl; descriptor = λ x. refl }
 
 -- the same registrations changed in place are those of an `Interest` again
-pub interest_changed : {A : Type 0} (k : Inside A) (f : Entry → Entry) (slots : Slab Entry) → Keeps f → slots.slots ≡ map (option_map f) k.slots.slots → IsInterest k → IsInterest (record k { slots = slots })
-interest_changed k f slots keeps same h =
+pub interest_changed : {A : Type 0} (k : Inside A) (f : Entry → Entry) (slots : Slab Entry) (passes : Passes A) → Keeps f → slots.slots ≡ map (option_map f) k.slots.slots → ArePassing slots.slots passes.keys.items → length slots.slots ≤ vec_capacity passes.keys → IsInterest k
+    → IsInterest (record k { slots = slots; passes = passes })
+interest_changed k f slots passes keeps same passing room h =
     let old = k.slots.slots in
     let a = numbered_changed f keeps.number old k.added h.numbered in
     let b = index_changed f keeps.number key_of old (hash.get same_key k.by_key) (λ x i. record { instance = (keeps.instance x i).0; fd = (keeps.descriptor x i).0; desc = (keeps.target x i).0 }) h.by_key in
@@ -125,4 +128,6 @@ interest_changed k f slots keeps same h =
       by_key = subst (λ (xs : List (Option Entry)). IsIndex key_of xs (hash.get same_key k.by_key)) (sym same) b;
       by_instance = subst (λ (xs : List (Option Entry)). IsIndex (place_of instance_of) xs (tree.get place_cmp k.by_instance)) (sym same) d;
       by_target = subst (λ (xs : List (Option Entry)). IsIndex (place_of target_of) xs (tree.get place_cmp k.by_target)) (sym same) e;
+      passing = passing;
+      room = room;
     }

@@ -10,3 +10,5 @@ pub mod ChangeLemmas
 pub mod RemoveLemmas
 pub mod EntriesLemmas
 pub mod PurgeLemmas
+pub mod InTurnLemmas
+pub mod PassesLemmas

@@ -2,11 +2,12 @@
 use Rattle.std.specs.BTreeMap as tree
 use Rattle.std.specs.HashMap as hash
 use Rattle.std.specs.Ordering.{int_eq}
-use Rattle.std.specs.Prelude.{◌≡◌, ◌&&◌, ◌==◌, Bool, ℕ, List, Option, Some, None, map, slice_index_or}
+use Rattle.std.specs.Prelude.{◌≡◌, ◌≤◌, ◌&&◌, ◌==◌, Bool, ℕ, List, Option, Some, None, length, map, slice_index_or, vec_capacity}
 use Rattle.ep_base.specs.declared.ids.EntryId.{EntryId}
 use Rattle.ep_interest.specs.ByNumber.{NumberedBy, in_order}
 use Rattle.ep_interest.specs.Places.{place_cmp}
 use Rattle.ep_interest.specs.Registrations.{Registrations}
+use Rattle.ep_interest.specs.Passes.{ArePassing}
 use Rattle.ep_interest.specs.declared.entry.Entry.{Entry}
 use Rattle.ep_interest.specs.declared.interest.Interest.TheInside.{Inside}
 use Rattle.ep_interest.specs.declared.interest.Key.{Key}
@@ -46,3 +47,5 @@ pub record IsInterest {A : Type 0} (k : Inside A) : Type 0 where
   pub by_key : IsIndex key_of k.slots.slots (hash.get same_key k.by_key)
   pub by_instance : IsIndex (place_of instance_of) k.slots.slots (tree.get place_cmp k.by_instance)
   pub by_target : IsIndex (place_of target_of) k.slots.slots (tree.get place_cmp k.by_target)
+  pub passing : ArePassing k.slots.slots k.passes.keys.items
+  pub room : length k.slots.slots ≤ vec_capacity k.passes.keys

@@ -1,16 +1,19 @@
 //! All interest sets together.
-ghost use Rattle.std.specs.Prelude.{nat_lt, not, ◌≡◌, ◌&&◌, ◌+◌, ◌<◌, ◌^◌, [], ◌∷◌, ◌++◌, false, IfOk, IfNone, IfSome, OnErr, IsSome, Some, is_some, All, filter, length, map, slice_index_or, slice_set, None, unwrap_or};
+ghost use Rattle.std.specs.Prelude.{nat_eq, nat_lt, not, vec_capacity, ◌≤◌, ◌≡◌, ◌&&◌, ◌+◌, ◌<◌, ◌^◌, [], ◌∷◌, ◌++◌, false, IfOk, IfNone, IfSome, OnErr, IsSome, Some, is_some, All, filter, length, map, slice_index_or, slice_set, None, option_copied, unwrap_or};
 ghost use Rattle.std.specs.Map.Iter.{ShowsInOrder};
 ghost use Rattle.std.specs.Option.{option_map};
 ghost use Rattle.ep_base.specs.declared.ids.EntryId.{EntryId};
+ghost use Rattle.ep_interest.specs.InTurn.{AllHeld, changed_at};
 ghost use Rattle.ep_interest.specs.Listed.{shown};
-ghost use Rattle.std.specs.List.{find as first_where, list_any};
-ghost use Rattle.ep_interest.specs.Registrations.{GainsKey, IsSound, Touches, is_apart_from, left_number, has_key, id_of, ids, is_of, is_on, is_other, modified, new_entry, number_under, numbered, freshened_on, raised_on, reported, settled, with_ids};
+ghost use Rattle.std.specs.List.{IsDistinct, find as first_where, list_any};
+ghost use Rattle.ep_interest.specs.Registrations.{GainsKey, IsSound, Touches, is_apart_from, left_number, entry_under, has_key, id_of, ids, is_of, is_on, is_other, lets_in, modified, new_entry, number_under, numbered, freshened_on, raised_on, reported, settled, with_ids};
+ghost use Rattle.ep_interest.specs.Passes.{ArePassing, has_id, key_numbers, passes_on};
 ghost use Rattle.ep_machine.specs.Bits.{ONESHOT, asked, has_bit};
 ghost use Rattle.ep_machine.specs.Counts.{brings};
 
 use crate::entries::{Entries, Watchers};
 use crate::entry::Entry;
+use crate::passes::Passes;
 use crate::place::{Place, places_of};
 use bitflags::Flags;
 use ep_base::{DescId, EntryId, Fd, Mask};
@@ -89,6 +92,65 @@ fn note_raise(entry: &mut Entry, desc: DescId, bits: Mask, event: u64)
     }
 }
 
+/// Notes it in the registration under a key, and whether that passes something on now.
+fn raise_one<A: Allocator>(
+    slots: &mut Slab<Entry, A>,
+    passes: &mut Passes<A>,
+    id: EntryId,
+    desc: DescId,
+    bits: Mask,
+    event: u64,
+)
+    requires held { IsSome (slice_index_or slots.old.slots id.0 None) }
+    requires passing { ArePassing slots.old.slots passes.old.keys.items }
+    requires room { length slots.old.slots ≤ vec_capacity passes.old.keys }
+    ensures slots { slots.new.slots ≡ slice_set slots.old.slots id.0 (option_map (raised_on desc bits event) (slice_index_or slots.old.slots id.0 None)) }
+    ensures passing { ArePassing slots.new.slots passes.new.keys.items }
+    ensures room { length slots.new.slots ≤ vec_capacity passes.new.keys }
+{
+    let entry = &mut slots[id.0];
+    let before = entry.passes_in;
+    note_raise(entry, desc, bits, event);
+    let after = entry.passes_in;
+    passes.follow(id, before > 0, after > 0);
+}
+
+/// Notes it in each of these registrations, one after another.
+fn raise_each<A: Allocator>(
+    slots: &mut Slab<Entry, A>,
+    passes: &mut Passes<A>,
+    watchers: Watchers<'_>,
+    desc: DescId,
+    bits: Mask,
+    event: u64,
+)
+    requires held { AllHeld slots.old.slots watchers }
+    requires passing { ArePassing slots.old.slots passes.old.keys.items }
+    requires room { length slots.old.slots ≤ vec_capacity passes.old.keys }
+    ensures slots { slots.new.slots ≡ changed_at (raised_on desc bits event) watchers.entry slots.old.slots }
+    ensures passing { ArePassing slots.new.slots passes.new.keys.items }
+    ensures room { length slots.new.slots ≤ vec_capacity passes.new.keys }
+{
+    for id in watchers {
+        raise_one(slots, passes, id, desc, bits, event);
+    }
+}
+
+/// Makes each of these registrations fresh that is on a description and asks for one of these bits, one after another.
+fn freshen_each<A: Allocator>(
+    slots: &mut Slab<Entry, A>,
+    watchers: Watchers<'_>,
+    desc: DescId,
+    bits: Mask,
+)
+    requires { AllHeld slots.old.slots watchers }
+    ensures { slots.new.slots ≡ changed_at (freshened_on desc bits) watchers.entry slots.old.slots }
+{
+    for id in watchers {
+        refresh(&mut slots[id.0], desc, bits);
+    }
+}
+
 /// The registration passes nothing on any more.
 fn rest(entry: &mut Entry)
     ensures { entry.new ≡ settled entry.old }
@@ -103,6 +165,24 @@ fn stays_armed(entry: &Entry) -> bool
     entry.armed && !entry.mask.intersects(Mask::ONESHOT)
 }
 
+/// Forgets it of the registration under a key, where there still is one.
+fn rest_at<A: Allocator>(slots: &mut Slab<Entry, A>, id: EntryId)
+    ensures { slots.new.slots ≡ slice_set slots.old.slots id.0 (option_map settled (slice_index_or slots.old.slots id.0 None)) }
+{
+    if let Some(entry) = slots.get_mut(id.0) {
+        rest(entry);
+    }
+}
+
+/// Forgets it of the registrations under these keys.
+fn rest_each<A: Allocator>(slots: &mut Slab<Entry, A>, ids: &[EntryId])
+    ensures { slots.new.slots ≡ changed_at settled ids.now slots.old.slots }
+{
+    for id in ids {
+        rest_at(slots, *id);
+    }
+}
+
 /// The registrations of every instance. Contracts see them in order of registration, the number under each key, and how many
 /// were ever added. Adding n of them and removing them again takes time that grows as n log n, however they are spread over
 /// instances and descriptions. Memory comes from `A`.
@@ -112,6 +192,7 @@ pub struct Interest<A: Allocator = Global> {
     by_key: IndexMap<Key, EntryId, BuildHasherDefault<FoldHasher>, A>,
     by_instance: BTreeMap<Place, EntryId, A>,
     by_target: BTreeMap<Place, EntryId, A>,
+    passes: Passes<A>,
     added: u64,
 }
 
@@ -129,6 +210,7 @@ impl<A: Allocator> Model for Interest<A> {
 
 impl<A: Allocator> Interest<A> {
     /// No registrations, which takes no memory.
+    #[tactic(auto, using(crate::proofs::PassesLemmas::passing_none))]
     pub fn new(alloc: A) -> Interest<A>
     where
         A: Copy,
@@ -141,6 +223,7 @@ impl<A: Allocator> Interest<A> {
             by_key: IndexMap::new(alloc),
             by_instance: BTreeMap::new(alloc),
             by_target: BTreeMap::new(alloc),
+            passes: Passes::new(alloc),
             added: 0,
         }
     }
@@ -199,6 +282,7 @@ impl<A: Allocator> Interest<A> {
     {
         self.slots.reserve(1)?;
         self.by_key.reserve(1)?;
+        self.passes.reserve(self.slots.capacity())?;
         let id = EntryId(self.slots.vacant_key());
         let number = self.added + 1;
         let of_instance = Place::new(instance, number);
@@ -215,6 +299,7 @@ impl<A: Allocator> Interest<A> {
         self.by_key.insert(key, id).unwrap();
         let entry = Entry::new(number, instance, fd, desc, mask, tag);
         self.slots.insert_reserved(entry);
+        let _room = self.slots.capacity();
         self.added = number;
         Ok(id)
     }
@@ -237,6 +322,24 @@ impl<A: Allocator> Interest<A> {
         ensures entry { numbered self.now.entries result.now.number ≡ Some result.now }
     {
         &self.slots[id.0]
+    }
+
+    /// The registration under a key, `None` where there is none. The cost doesn't grow with the registrations.
+    pub fn get(&self, id: EntryId) -> Option<&Entry>
+        ensures { option_copied result ≡ entry_under self.now id }
+    {
+        self.slots.get(id.0)
+    }
+
+    /// Whether IN that reaches the description of the registration under a key goes on to its instance: it is armed and asks for
+    /// IN. `false` where there is none. The cost doesn't grow with the registrations.
+    pub fn lets_by(&self, id: EntryId) -> bool
+        ensures { result ≡ lets_in (entry_under self.now id) }
+    {
+        match self.slots.get(id.0) {
+            Some(entry) => entry.armed && is_asked(entry.mask, Mask::IN),
+            None => false,
+        }
     }
 
     /// Notes that an event reports the registration under a key, as epoll_wait(2) does: nothing arrived since, and a one-shot
@@ -283,45 +386,58 @@ impl<A: Allocator> Interest<A> {
     }
 
     /// Notes that an event raised these bits at a description. Each registration on it whose mask asks for one of them, ERR
-    /// and HUP unasked, is fresh; one that is armed passes them on in this event. Every registration is looked at.
+    /// and HUP unasked, is fresh; one that is armed passes them on in this event. Only those on it are visited; the cost of finding
+    /// the first grows as the logarithm of the number of registrations.
     pub fn raise(&mut self, desc: DescId, bits: Mask, event: u64)
         ensures entries { self.new.entries ≡ map (raised_on desc bits event) self.old.entries }
         ensures keys { self.new.keys ≡ self.old.keys }
         ensures added { self.new.added ≡ self.old.added }
     {
-        self.slots.retain(|_, entry| {
-            note_raise(entry, desc, bits, event);
-            true
-        });
+        let places = places_of(&self.by_target, desc, self.added);
+        let watchers = Watchers { places };
+        raise_each(
+            &mut self.slots,
+            &mut self.passes,
+            watchers,
+            desc,
+            bits,
+            event,
+        );
     }
 
     /// The same of what reached a description from below, where nothing is left to pass on: each registration on it whose mask
-    /// asks for one of these bits is fresh. Every registration is looked at.
+    /// asks for one of these bits is fresh. Only those on it are visited, as by `raise`.
     pub fn freshen(&mut self, desc: DescId, bits: Mask)
         ensures entries { self.new.entries ≡ map (freshened_on desc bits) self.old.entries }
         ensures keys { self.new.keys ≡ self.old.keys }
         ensures added { self.new.added ≡ self.old.added }
     {
-        self.slots.retain(|_, entry| {
-            refresh(entry, desc, bits);
-            true
-        });
+        let places = places_of(&self.by_target, desc, self.added);
+        let watchers = Watchers { places };
+        freshen_each(&mut self.slots, watchers, desc, bits);
     }
 
-    /// Ends an event: no registration passes anything on. Every registration is looked at.
+    /// Ends an event: no registration passes anything on. Only those are visited that passed something on since the last call.
     pub fn settle(&mut self)
         ensures entries { self.new.entries ≡ map settled self.old.entries }
         ensures keys { self.new.keys ≡ self.old.keys }
         ensures added { self.new.added ≡ self.old.added }
     {
-        self.slots.retain(|_, entry| {
-            rest(entry);
-            true
-        });
+        rest_each(&mut self.slots, &self.passes.keys);
+        self.passes.keys.clear();
+    }
+
+    /// The keys of the registrations that pass something on in this event, each once. It takes no memory.
+    pub fn passing(&self) -> &[EntryId]
+        ensures exact { (id : EntryId) → has_id result.now id.0 ≡ passes_on (entry_under self.now id) }
+        ensures once { IsDistinct nat_eq (key_numbers result.now) }
+    {
+        &self.passes.keys
     }
 
     /// Takes away the registration under a key, as DEL of epoll_ctl(2) does. The key may be given out again, the number is not.
-    /// The cost grows as the logarithm of the number of registrations.
+    /// The cost grows as the logarithm of the number of registrations and,
+    /// where it passes something on, with those that do.
     pub fn remove(&mut self, id: EntryId)
         requires { IsSome (number_under self.old id) }
         ensures entries { self.new.entries ≡ filter (is_other (unwrap_or (number_under self.old id) 0)) self.old.entries }
@@ -329,6 +445,7 @@ impl<A: Allocator> Interest<A> {
         ensures added { self.new.added ≡ self.old.added }
     {
         let entry = self.slots.remove(id.0);
+        self.passes.follow(id, entry.passes_in > 0, false);
         let key = Key::new(entry.instance, entry.fd, entry.desc);
         let of_instance = Place::new(entry.instance, entry.number);
         let on_target = Place::new(entry.desc, entry.number);

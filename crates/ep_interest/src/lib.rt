@@ -4,6 +4,7 @@
 mod entries;
 mod entry;
 mod interest;
+mod passes;
 mod place;
 
 pub use crate::entries::{Entries, Watchers};

@@ -8,6 +8,8 @@ mod graphs;
 #[cfg(test)]
 mod objects;
 #[cfg(test)]
+mod passing;
+#[cfg(test)]
 mod refused;
 #[cfg(test)]
 mod registrations;

@@ -1,4 +1,4 @@
-use Rattle.std.proofs.Common.{◌≡◌, ◌+◌, [], ◌∷◌, ◌++◌, false, cond, List, Option, Some, ap, refl, sym, subst, ◌∙◌, arith}
+use Rattle.std.proofs.Common.{◌≡◌, ◌+◌, [], ◌∷◌, ◌++◌, false, cond, List, None, Option, Some, ap, get_or, length, refl, vec_capacity, ◌≤◌, sym, subst, ◌∙◌, arith}
 use Rattle.std.specs.BTreeMap as tree
 use Rattle.std.specs.HashMap as hash
 use Rattle.std.specs.List.{list_any}
@@ -6,6 +6,7 @@ use Rattle.std.specs.Map.{lookup}
 use Rattle.std.specs.Ordering.{is_eq}
 use Rattle.slab.specs.Slab.{Slab, Updates}
 use Rattle.ep_interest.specs.ByNumber.{NumberedBy, in_order}
+use Rattle.ep_interest.specs.Passes.{passes_on}
 use Rattle.ep_interest.specs.Registrations.{GainsKey, Registrations, has_key, new_entry}
 use Rattle.ep_interest.specs.Places.{place_cmp}
 use Rattle.ep_interest.specs.View.{IsIndex, instance_of, target_of, key_of, place_of, registrations, same_key}
@@ -14,6 +15,7 @@ use Rattle.ep_interest.specs.declared.place.Place.{Place}
 use Rattle.ep_interest.proofs.AddLemmas.{Inserted, put_back, same_place_exact, entries_more, fresh_place, inserted, key_more, keys_more, numbers_more, on_ok, place_more}
 use Rattle.ep_interest.proofs.IndexLemmas.{index_same}
 use Rattle.ep_interest.proofs.KeyLemmas.{find_none}
+use Rattle.ep_interest.proofs.PassesLemmas.{passing_more, passing_same}
 use Rattle.ep_interest.proofs.interest.Interest.add.Given.{Over}
 use Rattle.ep_interest.proofs.interest.Interest.add.Goals as goal
 
@@ -55,6 +57,8 @@ invariant_of-self-2 g c = record {
   by_key = by_key g c;
   by_instance = by_instance g c;
   by_target = by_target g c;
+  passing = let k = c.self.inside in let s = in_slots g c in passing_more k.slots.slots c.insert_reserved.new.self.slots k.passes.keys.items c.reserve-3.new.self.keys.items c.reserve-3.ensures.keys c.vacant_key.result (one g c) s.was s.here refl s.others c.self.invariant.passing;
+  room = omega (arith, c.capacity-room.ensures.slots, c.capacity-room.ensures.value, c.insert_reserved.ensures.capacity, c.capacity.ensures.value, c.in_ok-reserve-3.ensures.room);
 }
 
 pub returns-clause-entries : goal.returns-clause-entries
@@ -62,7 +66,7 @@ returns-clause-entries g c = subst (λ (r : Registrations). in_order c.insert_re
     (entries_more c.self.inside.slots.slots c.insert_reserved.new.self.slots c.vacant_key.result (one g c) (in_slots g c) c.self.inside.added refl c.self.invariant.numbered)
 
 pub returns-clause-keys : goal.returns-clause-keys
-returns-clause-keys g c = subst (λ (r : Registrations). GainsKey r (registrations {A = g.row.A.Denot} (record { slots = c.insert_reserved.new.self; by_key = c.insert-3.new.self; by_instance = c.insert.new.self; by_target = c.insert-2.new.self; added = c.self.inside.added + 1 })) (record { 0 = c.vacant_key.result }) (r.added + 1)) c.self.view_is
+returns-clause-keys g c = subst (λ (r : Registrations). GainsKey r (registrations {A = g.row.A.Denot} (record { slots = c.insert_reserved.new.self; by_key = c.insert-3.new.self; by_instance = c.insert.new.self; by_target = c.insert-2.new.self; passes = c.reserve-3.new.self; added = c.self.inside.added + 1 })) (record { 0 = c.vacant_key.result }) (r.added + 1)) c.self.view_is
     (keys_more c.self.inside.slots.slots c.insert_reserved.new.self.slots c.vacant_key.result (one g c) (in_slots g c) c.self.inside.added refl c.self.invariant.numbered)
 
 -- what was put at one place and taken away leaves no trace
@@ -78,4 +82,6 @@ invariant_of-self-in-Err g c =
       by_instance = index_same (place_of instance_of) k.slots.slots c.reserve.new.self.slots slots (tree.get place_cmp k.by_instance) (tree.get place_cmp c.remove.new.self)
           (λ q. c.remove.ensures.updates.0 q ∙ put_back (is_eq (place_cmp p q)) (Some (record { 0 = c.vacant_key.result })) (tree.get place_cmp k.by_instance q) (tree.get place_cmp c.insert.new.self q) (c.in_ok-insert.ensures.updates.0 q) (λ t. ap (tree.get place_cmp k.by_instance) (sym (same_place_exact p q t)) ∙ fresh)) c.self.invariant.by_instance;
       by_target = index_same (place_of target_of) k.slots.slots c.reserve.new.self.slots slots (tree.get place_cmp k.by_target) (tree.get place_cmp c.insert-2.new.self) (λ q. λ i. lookup (λ e. is_eq (place_cmp q e)) (c.in-Err.ensures.err i)) c.self.invariant.by_target;
+      passing = passing_same k.slots.slots c.reserve.new.self.slots k.passes.keys.items c.reserve-3.new.self.keys.items c.reserve-3.ensures.keys (λ j. ap (λ (xs : List (Option Entry)). passes_on (get_or xs j None)) (sym slots)) c.self.invariant.passing;
+      room = subst (λ (xs : List (Option Entry)). length xs ≤ vec_capacity c.reserve-3.new.self.keys) slots (omega (arith, c.self.invariant.room, c.reserve-3.ensures.kept));
     }

@@ -1,3 +1,4 @@
+use Rattle.std.proofs.lemmas.List.{length-set}
 use Rattle.std.proofs.Common.{◌≡◌, ℕ, Some, ap, map, refl, set, subst, sym, unwrap_or, ◌∙◌, true}
 use Rattle.std.specs.BTreeMap as tree
 use Rattle.std.specs.HashMap as hash
@@ -9,6 +10,7 @@ use Rattle.ep_interest.specs.declared.entry.Entry.{Entry}
 use Rattle.ep_interest.proofs.InOrderLemmas.{held_next, numbered_next}
 use Rattle.ep_interest.proofs.IndexLemmas.{index_next}
 use Rattle.ep_interest.proofs.ReplaceLemmas.{Replaced, keys_same, modified_other, modified_this, number_is, replaced}
+use Rattle.ep_interest.proofs.PassesLemmas.{passing_replaced}
 use Rattle.ep_interest.proofs.interest.Interest.modify.Given.{Over}
 use Rattle.ep_interest.proofs.interest.Interest.modify.Goals as goal
 
@@ -27,6 +29,8 @@ invariant_of-self g c =
       by_key = index_next key_of k.slots.slots after c.args.id.0 x (next g c) s.was s.here s.others refl (hash.get same_key k.by_key) c.self.invariant.by_key;
       by_instance = index_next (place_of instance_of) k.slots.slots after c.args.id.0 x (next g c) s.was s.here s.others refl (tree.get place_cmp k.by_instance) c.self.invariant.by_instance;
       by_target = index_next (place_of target_of) k.slots.slots after c.args.id.0 x (next g c) s.was s.here s.others refl (tree.get place_cmp k.by_target) c.self.invariant.by_target;
+      passing = passing_replaced k.slots.slots after k.passes.keys.items c.args.id.0 x (next g c) s refl c.self.invariant.passing;
+      room = rw (length-set k.slots.slots c.args.id.0 (Some (next g c))) c.self.invariant.room;
     }
 
 pub returns-clause-entries : goal.returns-clause-entries

@@ -1,9 +1,11 @@
-use Rattle.std.proofs.Common.{◌≡◌, ℕ, List, None, Option, ap, cond, filter, map, slice_set, subst, sym, unwrap_or, ◌∙◌}
+use Rattle.std.proofs.Common.{◌≡◌, ℕ, List, None, Option, ap, arith, cond, false, filter, map, slice_set, subst, sym, unwrap_or, ◌∙◌}
+use Rattle.std.proofs.lemmas.List.{length-set}
 use Rattle.std.specs.BTreeMap as tree
 use Rattle.std.specs.HashMap as hash
 use Rattle.std.specs.Ordering.{is_eq}
 use Rattle.ep_interest.specs.ByNumber.{in_order}
 use Rattle.ep_interest.specs.Places.{place_cmp}
+use Rattle.ep_interest.specs.Passes.{passes_on}
 use Rattle.ep_interest.specs.Registrations.{Registrations, is_other, number_under}
 use Rattle.ep_interest.specs.View.{IsIndex, instance_of, key_of, number_in, place_of, same_key, target_of}
 use Rattle.ep_interest.specs.declared.entry.Entry.{Entry}
@@ -12,6 +14,7 @@ use Rattle.ep_interest.proofs.IndexLemmas.{index_less}
 use Rattle.ep_interest.proofs.ReplaceLemmas.{number_is}
 use Rattle.ep_interest.proofs.RemoveLemmas.{Emptied, held_less, keys_less, numbered_less}
 use Rattle.ep_interest.proofs.KeyLemmas.{same_key_exact, same_key_self}
+use Rattle.ep_interest.proofs.PassesLemmas.{held_within, passing_one, room_for}
 use Rattle.ep_interest.proofs.interest.Interest.remove.Given.{Over}
 use Rattle.ep_interest.proofs.interest.Interest.remove.Goals as goal
 
@@ -36,12 +39,21 @@ by_target g c =
     index_less (place_of target_of) k.slots.slots c.remove-entry.new.self.slots c.args.id.0 x s.was s.gone s.others (tree.get place_cmp k.by_target) (tree.get place_cmp c.remove-2.new.self) (λ q. is_eq (place_cmp p q)) (same_place_self p) (same_place_exact p)
     (λ q. c.remove-2.ensures.updates.0 q ∙ (λ i. cond (is_eq (place_cmp (c.new-on_target.ensures i) q)) None (tree.get place_cmp k.by_target q))) c.self.invariant.by_target
 
+pub follow-requires-clause-room : goal.follow-requires-clause-room
+follow-requires-clause-room g c off =
+    let k = c.self.inside in
+    let was = c.remove-entry.ensures.value in
+    let fits = room_for k.slots.slots k.passes.keys.items c.args.id.0 c.self.invariant.passing (held_within k.slots.slots c.args.id.0 c.remove-entry.result was) (c.self.invariant.passing.each c.args.id.0 ∙ (ap passes_on was ∙ off)) in
+    omega (arith, fits, c.self.invariant.room)
+
 pub invariant_of-self : goal.invariant_of-self
 invariant_of-self g c = record {
   numbered = numbered_less c.self.inside.slots.slots c.remove-entry.new.self.slots c.args.id.0 c.remove-entry.result (in_slots g c) c.self.inside.added c.self.invariant.numbered;
   by_key = by_key g c;
   by_instance = by_instance g c;
   by_target = by_target g c;
+  passing = let k = c.self.inside in let s = in_slots g c in passing_one k.slots.slots c.remove-entry.new.self.slots k.passes.keys.items c.follow.new.self.keys.items c.args.id.0 false c.self.invariant.passing c.follow.ensures.once c.follow.ensures.noted (ap passes_on s.gone) s.others;
+  room = rw (c.remove-entry.ensures.slots, length-set c.self.inside.slots.slots c.args.id.0 None) (omega (arith, c.follow.ensures.kept, c.self.invariant.room));
 }
 
 pub returns-clause-entries : goal.returns-clause-entries

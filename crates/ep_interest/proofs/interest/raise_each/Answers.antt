@@ -1,0 +1,26 @@
+use Rattle.std.proofs.Common.{List, ◌∷◌, subst}
+use Rattle.ep_base.specs.declared.ids.EntryId.{EntryId}
+use Rattle.ep_interest.specs.Registrations.{raised_on}
+use Rattle.ep_interest.proofs.InTurnLemmas.{Goes, goes_begins, goes_after}
+use Rattle.ep_interest.proofs.interest.raise_each.Given.{Over}
+use Rattle.ep_interest.proofs.interest.raise_each.Goals as goal
+use Rattle.ep_interest.proofs.interest.raise_each.Goals.{In-Some}
+
+pub loop-id-init : goal.loop-id-init
+loop-id-init g c = record { goes = goes_begins (raised_on c.args.desc c.args.bits c.args.event) c.args.watchers c.into_iter-id-iterator.result c.args.slots.now.slots c.requires.held c.into_iter-id-iterator.ensures.into_iter_gives; passing = c.requires.passing; room = c.requires.room }
+
+-- what is left begins with this key
+here : (g : Over) (c : In-Some g) → Goes (raised_on c.args.desc c.args.bits c.args.event) c.args.watchers (c.in-Some.id ∷ c.next.new.self) c.args.slots.now.slots c.loop-id.slots.slots
+here g c = subst (λ (left : List EntryId). Goes (raised_on c.args.desc c.args.bits c.args.event) c.args.watchers left c.args.slots.now.slots c.loop-id.slots.slots) c.in-Some.ensures.steps c.loop-id.invariant.goes
+
+pub raise_one-requires-clause-held : goal.raise_one-requires-clause-held
+raise_one-requires-clause-held g c = (here g (goal.at.raise_one-requires-clause-held g c).In-Some).held.0
+
+pub loop-id-preserved : goal.loop-id-preserved
+loop-id-preserved g c =
+    let h = here g (goal.at.loop-id-preserved g c).In-Some in
+    record {
+      goes = goes_after (raised_on c.args.desc c.args.bits c.args.event) c.args.watchers c.args.slots.now.slots c.in-Some.id c.next.new.self c.loop-id.slots.slots c.raise_one.new.slots.slots h c.raise_one.ensures.slots;
+      passing = c.raise_one.ensures.passing;
+      room = c.raise_one.ensures.room;
+    }

@@ -1,0 +1,47 @@
+//! What passes something on in an event, until it is removed or the event ends.
+ghost use Rattle.std.specs.Prelude.{◌+◌, ◌<◌, ◌≤◌, ◌^◌};
+
+use ep_base::{DescId, EntryId, Fd, Mask};
+use ep_interest::Interest;
+use std::alloc::AllocError;
+use std::test::Fail;
+
+const IN: Mask = Mask(1);
+const OUT: Mask = Mask(4);
+
+/// The key of the registration of an instance on a description, which is added where it isn't there.
+fn key(sets: &mut Interest, instance: usize, desc: usize, mask: Mask) -> Result<EntryId, AllocError>
+    requires { sets.old.added + 1 < 2 ^ 64 }
+    ensures { sets.new.added ≤ sets.old.added + 1 }
+{
+    match sets.find(DescId(instance), Fd(5), DescId(desc)) {
+        Some(id) => Ok(id),
+        None => sets.add(DescId(instance), Fd(5), DescId(desc), mask, 30),
+    }
+}
+
+/// How many pass something on once IN is raised twice at a description in one event.
+fn raised(sets: &mut Interest, desc: usize) -> usize {
+    sets.raise(DescId(desc), IN, 7);
+    sets.raise(DescId(desc), IN, 7);
+    sets.passing().len()
+}
+
+/// Instances 3 and 4 watch 9 for IN, and 4 watches 8 for OUT: both registrations on 9 pass IN on, once each, one of them until it is
+/// removed and the other until the event ends. The one on 8 lets no IN by.
+#[test]
+fn passes_on_until_the_event_ends(rt: HostRuntime) -> Result<(), Fail> {
+    let mut sets = Interest::new(rt.alloc());
+    let first = key(&mut sets, 3, 9, IN)?;
+    key(&mut sets, 4, 9, IN)?;
+    let other = key(&mut sets, 4, 8, OUT)?;
+    assert!(rt; sets.lets_by(first) && !sets.lets_by(other));
+    assert!(rt; raised(&mut sets, 9) == 2);
+    assert!(rt; raised(&mut sets, 8) == 2);
+    sets.purge(DescId(3));
+    assert!(rt; sets.get(first).is_none());
+    assert!(rt; sets.passing().len() == 1);
+    sets.settle();
+    assert!(rt; sets.passing().is_empty());
+    Ok(())
+}
