@@ -8,13 +8,15 @@ use Rattle.ep_nest.proofs.Gather.{distinct_push}
 use Rattle.ep_nest.proofs.Legality.{is_legal_from_short, short_from_is_legal}
 use Rattle.ep_nest.specs.Chains.{IsShort, LeadsBy}
 use Rattle.ep_nest.specs.Lengths.{AreLengths, HasPlaces}
-use Rattle.ep_nest.specs.Links.{along, edges, ends_of, entries}
+use Rattle.ep_nest.specs.Links.{along, edges, ends_of, entries, is_apart_from, is_of, without}
 use Rattle.ep_nest.specs.Scratch.{HasGrown, IsKept}
 use Rattle.ep_nest.specs.declared.link.Link.{Link}
 use Rattle.ep_nest.specs.declared.link.Way.TheVariants.{Down, Up}
 use Rattle.ep_nest.specs.declared.scratch.Scratch.{Scratch}
-use Rattle.std.proofs.Common.{Bool, Contains, List, [], ap, arith, false, filter, get_or, inl, inr, length, not, refl, replicate, slice_index, subst, suc, sym, true, vec_capacity, zero, ℕ, ◌++◌, ◌-◌, ◌<◌, ◌∙◌, ◌∷◌, ◌≡◌, ◌≤◌}
-use Rattle.std.proofs.lemmas.Bool.{and_from, and_parts, cases_Bool, cases_lt, not-true}
+use Rattle.std.proofs.Common.{Bool, Contains, List, [], ap, arith, false, filter, get_or, inl, inr, length, not, refl, replicate, slice_index, subst, suc, sym, true, vec_capacity, zero, ℕ, ◌&&◌, ◌==◌, ◌++◌, ◌-◌, ◌<◌, ◌∙◌, ◌∷◌, ◌≡◌, ◌≤◌}
+use Rattle.std.specs.List.{list_any}
+use Rattle.std.proofs.lemmas.Bool.{and_from, and_parts, cases_Bool, cases_lt, eqb-true, not-true}
+use Rattle.std.proofs.lemmas.Bool.Decides.{eqb_tells}
 use Rattle.std.proofs.lemmas.List.{get_or-append_right, get_or_append_left, get_or_past, length-append, map-append}
 use Rattle.std.proofs.lemmas.List.Elements.{All-contains, Contains-get_or, Contains-push_cases}
 
@@ -191,3 +193,44 @@ kept_none ls s e eh ed = record {
   admitted = let n = ap (λ (ls : List Link). length ls) e in omega (arith, n);
   reached = let n = ap (λ (ls : List Link). length ls) e in omega (arith, n);
 }
+
+-- Nothing is taken away where no link is met.
+pub all_stay : (p : Link → Bool) (ls : List Link) → ((l : Link) → Contains ls l → p l ≡ true) → ls ≡ filter p ls
+all_stay p [] h = refl
+all_stay p (l ∷ ls) h =
+    let t = h l (Contains-head l ls) in
+    rw t (ap (λ (rest : List Link). l ∷ rest) (all_stay p ls (λ m c. h m (Contains-cons l ls m c))))
+
+-- an instance without chains has no links
+pub apart_stays : (ls : List Link) (heights depths : List ℕ) (d : ℕ) → AreLengths (along Down ls) heights → AreLengths (along Up ls) depths → (slice_index heights d == 0 && slice_index depths d == 0) ≡ true → ls ≡ filter (is_apart_from d) ls
+apart_stays ls heights depths d down up none = all_stay (is_apart_from d) ls (λ l c. both (l.outer.0 == d) (l.inner.0 == d) (outer l c) (inner l c))
+  where
+    both : (a b : Bool) → a ≡ false → b ≡ false → (not a && not b) ≡ true
+    both a b e f = rw (e, f) refl
+
+    parts : (slice_index heights d ≡ 0) × (slice_index depths d ≡ 0)
+    parts = let t = and_parts (slice_index heights d == 0) (slice_index depths d == 0) none in (eqb-true (slice_index heights d) 0 t.0, eqb-true (slice_index depths d) 0 t.1)
+
+    outer : (l : Link) → Contains ls l → (l.outer.0 == d) ≡ false
+    outer l c = elim (eqb_tells l.outer.0 d) [
+      | inl p ↦
+          let up_to = up.longest 1 1 l.inner.0 l.outer.0 (omega arith) (l.outer.0, Contains-map (ends_of Up) ls l c, refl) in
+          absurd (let at = ap (slice_index depths) p.1 in let zero = parts.1 in omega (arith, up_to, at, zero))
+      | inr p ↦ p.0
+    ]
+
+    inner : (l : Link) → Contains ls l → (l.inner.0 == d) ≡ false
+    inner l c = elim (eqb_tells l.inner.0 d) [
+      | inl p ↦
+          let down_to = down.longest 1 1 l.outer.0 l.inner.0 (omega arith) (l.inner.0, Contains-map (ends_of Down) ls l c, refl) in
+          absurd (let at = ap (slice_index heights) p.1 in let zero = parts.0 in omega (arith, down_to, at, zero))
+      | inr p ↦ p.0
+    ]
+
+-- nor an entry without a link
+pub unlinked_stays : (entry : ℕ) (ls : List Link) → list_any (is_of entry) ls ≡ false → ls ≡ without entry ls
+unlinked_stays entry [] h = refl
+unlinked_stays entry (l ∷ ls) h = elim (cases_Bool (is_of entry l)) [
+  | inl t ↦ absurd (let bad : true ≡ false = rw t at h in cc)
+  | inr f ↦ rw f (ap (λ (rest : List Link). l ∷ rest) (unlinked_stays entry ls (rw f at h)))
+]

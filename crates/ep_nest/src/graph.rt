@@ -116,20 +116,26 @@ impl<A: Allocator> Graph<A> {
         Ok(())
     }
 
-    /// Takes the link of an entry away, where it has one; the others stay.
-    /// Its cost grows as the number of links.
+    /// Takes the link of an entry away, where it has one; the others stay. It looks at each link once, and
+    /// again only where the entry has one.
     pub fn unlink(&mut self, entry: EntryNumber)
         ensures { self.new ≡ without entry.0 self.old }
     {
+        if !has_link(&self.links, entry) {
+            return;
+        }
         self.links.retain(|link| link.entry != entry);
         self.scratch.measure(&self.links);
     }
 
     /// Takes the links from or to an instance away, as its death does; the others stay.
-    /// Its cost grows as the number of links.
+    /// Its cost grows as the number of links where the instance has one, and is constant where it has none.
     pub fn purge(&mut self, instance: DescId)
         ensures { self.new ≡ filter (is_apart_from instance.0) self.old }
     {
+        if self.scratch.is_apart(instance) {
+            return;
+        }
         self.links
             .retain(|link| link.outer != instance && link.inner != instance);
         self.scratch.measure(&self.links);

@@ -1,12 +1,12 @@
 //! The tables of a graph and the room of its walks.
-ghost use Rattle.std.specs.Prelude.{◌≡◌, ◌≤◌, OnOk, [], length, true, vec_capacity};
+ghost use Rattle.std.specs.Prelude.{◌≡◌, ◌≤◌, ◌&&◌, ◌==◌, OnOk, [], length, slice_index, true, vec_capacity};
 ghost use Rattle.ep_machine.specs.Watches.{is_legal};
 ghost use Rattle.ep_nest.specs.Lengths.{AreLengths, HasPlaces};
 ghost use Rattle.ep_nest.specs.Links.{along, edges};
 ghost use Rattle.ep_nest.specs.Scratch.{HasGrown, HasRoom};
 ghost use Rattle.ep_nest.specs.declared.link.Way.TheVariants.{Down, Up};
 
-use crate::lengths::{measure, widen};
+use crate::lengths::{length_at, measure, widen};
 use crate::link::{Link, Way};
 use ep_base::DescId;
 use std::alloc::{AllocError, Allocator};
@@ -58,6 +58,13 @@ impl<A: Allocator> Scratch<A> {
         self.reached.clear();
         self.reached.reserve(many)?;
         Ok(())
+    }
+
+    /// Whether no chain leads down to an instance and none from it. Its cost is constant.
+    pub fn is_apart(&self, desc: DescId) -> bool
+        ensures { result ≡ (slice_index self.now.heights.items desc.0 == 0 && slice_index self.now.depths.items desc.0 == 0) }
+    {
+        length_at(&self.heights, desc) == 0 && length_at(&self.depths, desc) == 0
     }
 
     /// Fills both tables of chains anew. It looks at each link eight times.

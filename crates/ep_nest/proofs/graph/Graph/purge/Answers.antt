@@ -1,10 +1,16 @@
-use Rattle.std.proofs.Common.{Bool, List, ap, filter, length, rules, subst, ◌∙◌, ◌≡◌}
+use Rattle.std.proofs.Common.{Bool, List, ap, filter, length, rules, subst, sym, ◌∙◌, ◌≡◌}
 use Rattle.std.proofs.lemmas.Fn.{filter_same}
-use Rattle.ep_nest.proofs.ScratchLemmas.{kept_left, legal_left, places_down, places_left}
+use Rattle.ep_nest.proofs.ScratchLemmas.{apart_stays, kept_left, legal_left, places_down, places_left}
 use Rattle.ep_nest.specs.Links.{is_apart_from}
 use Rattle.ep_nest.specs.Scratch.{IsKept}
 use Rattle.ep_nest.specs.declared.link.Link.{Link}
 use Rattle.ep_nest.proofs.graph.Graph.purge.Goals as goal
+
+pub returns-then-is_apart : goal.returns-then-is_apart
+returns-then-is_apart g c =
+    let kept = c.self.invariant in
+    let stays = apart_stays c.self.inside.links.items c.self.inside.scratch.heights.items c.self.inside.scratch.depths.items c.args.instance.0 kept.heights kept.depths (sym c.if-is_apart.ensures) in
+    sym c.self.view_is ∙ (stays ∙ ap (λ (ls : List Link). filter (is_apart_from c.args.instance.0) ls) c.self.view_is)
 
 pub measure-requires-clause-legal : goal.measure-requires-clause-legal
 measure-requires-clause-legal g c =

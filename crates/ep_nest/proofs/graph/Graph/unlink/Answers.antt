@@ -1,24 +1,31 @@
-use Rattle.std.proofs.Common.{Bool, List, ap, filter, length, not, rules, subst, ◌∙◌, ◌≡◌}
+use Rattle.std.specs.List.{list_any}
+use Rattle.std.proofs.Common.{Bool, List, ap, filter, length, not, rules, subst, sym, ◌∙◌, ◌≡◌}
 use Rattle.std.proofs.lemmas.Fn.{filter_same}
-use Rattle.ep_nest.proofs.ScratchLemmas.{kept_left, legal_left, places_down, places_left}
-use Rattle.ep_nest.specs.Links.{is_of}
+use Rattle.ep_nest.proofs.ScratchLemmas.{kept_left, legal_left, places_down, places_left, unlinked_stays}
+use Rattle.ep_nest.specs.Links.{is_of, without}
 use Rattle.ep_nest.specs.Scratch.{IsKept}
 use Rattle.ep_nest.specs.declared.link.Link.{Link}
 use Rattle.ep_nest.proofs.graph.Graph.unlink.Goals as goal
+
+pub returns-then-not-has_link : goal.returns-then-not-has_link
+returns-then-not-has_link g c =
+    let none = ap (λ (ls : List Link). list_any (is_of c.args.entry.0) ls) (sym c.deref.ensures.value) ∙ (sym c.has_link.ensures ∙ c.if-not-has_link.true) in
+    let stays = unlinked_stays c.args.entry.0 c.self.inside.links.items none in
+    sym c.self.view_is ∙ (stays ∙ ap (λ (ls : List Link). without c.args.entry.0 ls) c.self.view_is)
 
 pub measure-requires-clause-legal : goal.measure-requires-clause-legal
 measure-requires-clause-legal g c =
     let ls = c.self.inside.links.items in
     let test : Link → Bool = λ l. not (is_of c.args.entry.0 l) in
     let left : c.retain.new.self.items ≡ filter test ls = filter_same _ test _ (λ x b f' k. search rules) _ _ c.retain.ensures.filtered in
-    legal_left test ls c.deref.result.now (c.deref.ensures.value ∙ left) c.self.invariant.legal
+    legal_left test ls c.deref-2.result.now (c.deref-2.ensures.value ∙ left) c.self.invariant.legal
 
 pub measure-requires-clause-heights_fit : goal.measure-requires-clause-heights_fit
 measure-requires-clause-heights_fit g c =
     let ls = c.self.inside.links.items in
     let test : Link → Bool = λ l. not (is_of c.args.entry.0 l) in
     let left : c.retain.new.self.items ≡ filter test ls = filter_same _ test _ (λ x b f' k. search rules) _ _ c.retain.ensures.filtered in
-    places_left test ls c.deref.result.now (c.deref.ensures.value ∙ left) (length c.self.inside.scratch.heights.items) c.self.invariant.heights.places
+    places_left test ls c.deref-2.result.now (c.deref-2.ensures.value ∙ left) (length c.self.inside.scratch.heights.items) c.self.invariant.heights.places
 
 pub measure-requires-clause-depths_fit : goal.measure-requires-clause-depths_fit
 measure-requires-clause-depths_fit g c =
@@ -26,7 +33,7 @@ measure-requires-clause-depths_fit g c =
     let test : Link → Bool = λ l. not (is_of c.args.entry.0 l) in
     let left : c.retain.new.self.items ≡ filter test ls = filter_same _ test _ (λ x b f' k. search rules) _ _ c.retain.ensures.filtered in
     let room = length c.self.inside.scratch.depths.items in
-    places_left test ls c.deref.result.now (c.deref.ensures.value ∙ left) room (places_down ls room c.self.invariant.depths.places)
+    places_left test ls c.deref-2.result.now (c.deref-2.ensures.value ∙ left) room (places_down ls room c.self.invariant.depths.places)
 
 pub invariant_of-self : goal.invariant_of-self
 invariant_of-self g c =
@@ -35,8 +42,8 @@ invariant_of-self g c =
     let left : c.retain.new.self.items ≡ filter test ls = filter_same _ test _ (λ x b f' k. search rules) _ _ c.retain.ensures.filtered in
     let told = c.measure.ensures in
     let new = c.measure.new.self in
-    let kept = kept_left test ls c.deref.result.now (c.deref.ensures.value ∙ left) c.self.inside.scratch new c.self.invariant told.heights told.depths told.marks told.admitted told.reached in
-    subst (λ (ls : List Link). IsKept ls new) c.deref.ensures.value kept
+    let kept = kept_left test ls c.deref-2.result.now (c.deref-2.ensures.value ∙ left) c.self.inside.scratch new c.self.invariant told.heights told.depths told.marks told.admitted told.reached in
+    subst (λ (ls : List Link). IsKept ls new) c.deref-2.ensures.value kept
 
 pub returns : goal.returns
 returns g c =
