@@ -17,7 +17,7 @@ use Rattle.ep_machine.specs.Step.{change}
 use Rattle.ep_machine.specs.Waits.{is_parked, tick}
 use Rattle.ep_machine.specs.Report.{plainly}
 use Rattle.ep_machine.specs.Timer.{last_moment}
-use Rattle.ep_calls.proofs.Ticking.{tick_raises}
+use Rattle.ep_calls.proofs.TickLemmas.{tick_raises}
 use Rattle.ep_park.specs.Waiters.{is_caller}
 use Rattle.ep_calls.specs.Does.{Does, DoesCall, DoesEvent}
 use Rattle.ep_calls.specs.Parts.{Parts}
@@ -27,8 +27,8 @@ use Rattle.ep_calls.specs.Moves.{Goes, MovesBy, MovesIf, Makes, RaisesEvent, Ref
 use Rattle.ep_calls.specs.Raising.{IsRaising}
 use Rattle.ep_calls.specs.declared.raising.Raising.{Raising}
 use Rattle.ep_calls.specs.declared.raising.Raising.TheVariants.{Nowhere}
-use Rattle.ep_calls.proofs.Going.{goes_past, goes_refused, goes_told, raises_past, raises_refused, second_holds}
-use Rattle.ep_calls.proofs.Linking.{caller_waits}
+use Rattle.ep_calls.proofs.OutcomeLemmas.{goes_past, goes_refused, goes_told, raises_past, raises_refused, second_holds}
+use Rattle.ep_calls.proofs.RegistrationLemmas.{caller_waits}
 
 some_not_none : {X : Type 0} (o : Option X) → is_some o ≡ true → is_none o ≡ false
 some_not_none None h = sym h

@@ -26,7 +26,7 @@ use Rattle.ep_calls.specs.declared.control.Control.{Control}
 use Rattle.ep_calls.specs.declared.control.Named.{Named}
 use Rattle.ep_calls.specs.declared.control.Operation.{Operation}
 use Rattle.ep_calls.specs.declared.control.Operation.TheVariants.{Add, Delete, Modify}
-use Rattle.ep_calls.proofs.Going.{goes_told, raises_told}
+use Rattle.ep_calls.proofs.OutcomeLemmas.{goes_told, raises_told}
 use Rattle.ep_table.specs.Value.{Seen}
 
 shows_of : (o : Option Object) → is_plain (unwrap_or o plain) ≡ false → can_be_watched o ≡ true

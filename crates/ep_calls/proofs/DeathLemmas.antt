@@ -26,9 +26,9 @@ use Rattle.ep_calls.specs.Burial.{Burial, is_untouched}
 use Rattle.ep_calls.specs.Climb.{KeepsLinks}
 use Rattle.ep_calls.specs.Moves.{StandsBuried, StandsRaised}
 use Rattle.ep_calls.specs.Stands.{IsLinked, IsPlaced, number_at, waiters_at, watch_at}
-use Rattle.ep_calls.proofs.Held.{not_held}
-use Rattle.ep_calls.proofs.Keys.{under_key}
-use Rattle.ep_calls.proofs.Watched.{KeepKinds, nested_left}
+use Rattle.ep_calls.proofs.HoldLemmas.{not_held}
+use Rattle.ep_calls.proofs.KeyLemmas.{under_key}
+use Rattle.ep_calls.proofs.KindLemmas.{KeepKinds, nested_left}
 use Rattle.ep_calls.specs.Parts.{AreCoherent, Parts}
 use Rattle.ep_table.specs.Value.{Sound, count_at, holds_of}
 

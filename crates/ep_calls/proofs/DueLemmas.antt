@@ -5,7 +5,7 @@ use Rattle.ep_base.specs.declared.ids.DescId.{DescId}
 use Rattle.ep_base.specs.declared.mask.Mask.{Mask}
 use Rattle.ep_interest.specs.Registrations.{Registrations, is_on, raised_on}
 use Rattle.ep_interest.specs.declared.entry.Entry.{Entry}
-use Rattle.ep_calls.proofs.Across.{noted, zero_noted}
+use Rattle.ep_calls.proofs.OtherEndLemmas.{noted, zero_noted}
 use Rattle.ep_calls.specs.Raising.{due_bits, raised_each, raised_there}
 use Rattle.ep_table.specs.Live.{key_of, live_from, live_ids}
 use Rattle.ep_table.specs.Value.{Seen, number_under}

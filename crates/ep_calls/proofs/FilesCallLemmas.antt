@@ -19,7 +19,7 @@ use Rattle.ep_calls.specs.Moves.{Goes, Makes, Refuses as Refused}
 use Rattle.ep_calls.specs.Parts.{Parts}
 use Rattle.ep_calls.specs.Stands.{AreLinked, ArePlaced, KeepsHolds, KeepsKeys, KeepsKinds, Stands}
 use Rattle.ep_calls.specs.ObjectCall.{object_call_of, object_effect_of}
-use Rattle.ep_calls.proofs.Linking.{stands_kept}
+use Rattle.ep_calls.proofs.RegistrationLemmas.{stands_kept}
 use Rattle.ep_nest.specs.declared.link.Link.{Link}
 use Rattle.ep_table.specs.Value.{Does, Refuses, Seen, Succeeds}
 

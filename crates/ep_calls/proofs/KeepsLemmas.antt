@@ -23,7 +23,7 @@ use Rattle.ep_calls.specs.Parking.{ready_key}
 use Rattle.ep_calls.specs.Raising.{IsRaising, Raises, Stirs}
 use Rattle.ep_calls.specs.Stands.{waiters_at, watch_at}
 use Rattle.ep_calls.specs.declared.raising.Raising.{Raising}
-use Rattle.ep_calls.proofs.Stirring.{stirs_added}
+use Rattle.ep_calls.proofs.RaiseLemmas.{stirs_added}
 use Rattle.ep_calls.specs.Does.{DoesEvent}
 use Rattle.ep_calls.specs.Keeps.{Keeps}
 use Rattle.ep_calls.specs.Parts.{AreCoherent, AreOpening, Grows, Parts}

@@ -23,10 +23,10 @@ use Rattle.ep_calls.specs.declared.outcome.Outcome.{Outcome}
 use Rattle.ep_calls.specs.Moves.{Goes}
 use Rattle.ep_calls.specs.Raising.{IsRaising, Raises, RaisesByCall}
 use Rattle.ep_calls.specs.Stands.{KeepsKinds}
-use Rattle.ep_calls.proofs.ObjectRaising.{object_raises}
+use Rattle.ep_calls.proofs.ObjectRaiseLemmas.{object_raises}
 use Rattle.ep_calls.proofs.FilesCallLemmas.{CallsObject, IsOnObject, object_called, object_keys, object_limits}
 use Rattle.ep_table.specs.Value.{Seen, Sound, content_of, effect_at, number_of, number_under}
-use Rattle.ep_calls.proofs.Keys.{under_key}
+use Rattle.ep_calls.proofs.KeyLemmas.{under_key}
 
 pub on_object : (call : Call) (fd : Fd) → fd_of call ≡ Some fd → IsOnObject fd call
 on_object (Read f n) fd h = let e : f ≡ fd = ap (λ (o : Option Fd). unwrap_or o f) h in subst (λ (g : Fd). IsOnObject g (Read f n)) e (λ limits s caller p. (refl, refl))

@@ -15,11 +15,11 @@ use Rattle.ep_calls.specs.Stands.{KeepsHolds}
 use Rattle.ep_calls.specs.Raising.{IsRaising, Stirs, raised_bits}
 use Rattle.ep_calls.specs.declared.raising.Raising.{Raising}
 use Rattle.ep_calls.specs.Stands.{IsLinked, IsPlaced, KeepsKeys, KeepsKinds, number_at, waiters_at, watch_at}
-use Rattle.ep_calls.proofs.Keys.{number_kept}
-use Rattle.ep_calls.proofs.Linking.{held_kept, linked_kept, placed_kept}
-use Rattle.ep_calls.proofs.Purging.{links_stirred}
-use Rattle.ep_calls.proofs.Stirring.{stirs_watches}
-use Rattle.ep_calls.proofs.Watched.{nested_over}
+use Rattle.ep_calls.proofs.KeyLemmas.{number_kept}
+use Rattle.ep_calls.proofs.RegistrationLemmas.{held_kept, linked_kept, placed_kept}
+use Rattle.ep_calls.proofs.PurgeLemmas.{links_stirred}
+use Rattle.ep_calls.proofs.RaiseLemmas.{stirs_watches}
+use Rattle.ep_calls.proofs.KindLemmas.{nested_over}
 use Rattle.ep_table.specs.Value.{Seen, Sound, count_at}
 
 module _ (p : Parts) (new : Seen) (h : AreCoherent p) (keys : KeepsKeys p.tables new) (kinds : KeepsKinds p.tables.files new.files) where

@@ -32,8 +32,8 @@ use Rattle.ep_calls.specs.Raising.{AsRaised, AsRaisedIn, IsRaising, Raises, Stir
 use Rattle.ep_calls.specs.Readiness.{readiness}
 use Rattle.ep_calls.specs.Stands.{ArePlaced, number_at, waiters_at}
 use Rattle.ep_calls.specs.declared.raising.Raising.{Raising}
-use Rattle.ep_calls.proofs.Held.{numbers_apart_at}
-use Rattle.ep_calls.proofs.Stirring.{Freshens, stirs_added, stirs_watches}
+use Rattle.ep_calls.proofs.HoldLemmas.{numbers_apart_at}
+use Rattle.ep_calls.proofs.RaiseLemmas.{Freshens, stirs_added, stirs_watches}
 use Rattle.ep_calls.specs.Parts.{AreCoherent, Parts}
 use Rattle.ep_calls.proofs.DeathLemmas.{buried_stands}
 use Rattle.ep_calls.proofs.PartsLemmas.{coherent_raised}

@@ -23,8 +23,8 @@ use Rattle.ep_calls.specs.declared.outcome.Outcome.{Outcome}
 use Rattle.ep_calls.specs.declared.raising.Raising.{Raising}
 use Rattle.ep_calls.specs.declared.raising.Raising.TheVariants.{Nowhere}
 use Rattle.ep_calls.proofs.FilesCallLemmas.{does_goes, does_keys, does_limits}
-use Rattle.ep_calls.proofs.Linking.{process_waits}
-use Rattle.ep_calls.proofs.Unraised.{nowhere_raises, off_object}
+use Rattle.ep_calls.proofs.RegistrationLemmas.{process_waits}
+use Rattle.ep_calls.proofs.NothingRaisedLemmas.{nowhere_raises, off_object}
 use Rattle.ep_table.specs.Value.{Does, Seen}
 
 -- what the machine asks of such a call and does

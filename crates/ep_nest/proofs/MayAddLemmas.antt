@@ -2,10 +2,10 @@
 use Rattle.ep_machine.specs.Lists.{is_among}
 use Rattle.ep_machine.specs.Watches.{is_legal}
 use Rattle.std.proofs.lemmas.Bool.Decides.{nat_tests}
-use Rattle.ep_nest.proofs.Addition.{Fits, fits_from_short, stays_short}
-use Rattle.ep_nest.proofs.Chains.{legal_from_short, short_from_legal}
+use Rattle.ep_nest.proofs.AdditionLemmas.{Fits, fits_from_short, stays_short}
+use Rattle.ep_nest.proofs.ChainLemmas.{legal_from_short, short_from_legal}
 use Rattle.ep_nest.proofs.ScratchLemmas.{chain_down, chain_up}
-use Rattle.ep_nest.proofs.Legality.{is_legal_from_short, short_from_is_legal}
+use Rattle.ep_nest.proofs.LegalityLemmas.{is_legal_from_short, short_from_is_legal}
 use Rattle.ep_nest.specs.Chains.{IsLegalGraph, LeadsBy}
 use Rattle.ep_nest.specs.Links.{edges, ends_of, entries, is_between, is_of}
 use Rattle.ep_nest.specs.Scratch.{IsKept}
@@ -15,7 +15,7 @@ use Rattle.ep_nest.specs.declared.scratch.Scratch.{Scratch}
 use Rattle.std.proofs.Common.{Contains, List, [], arith, eq-eqb, eqb, false, inl, inr, slice_index, subst, sym, true, ℕ, ◌∙◌, ◌∷◌, ◌≡◌, ◌≤◌, refl}
 use Rattle.std.proofs.lemmas.Bool.{and_from, and_parts, cases_Bool, eqb-true, or_cases}
 use Rattle.std.specs.List.{list_any}
-use Rattle.ep_nest.proofs.Elements.{Contains-cons, Contains-cons_cases, Contains-head, Contains-nil}
+use Rattle.ep_nest.proofs.ElementLemmas.{Contains-cons, Contains-cons_cases, Contains-head, Contains-nil}
 
 -- the test of a link against the link itself
 pub between : (ls : List Link) (a b : ℕ) → list_any (is_between a b) ls ≡ true → Contains (edges ls) (a, b)

@@ -1,8 +1,8 @@
 -- For a caller who knows the instances by other numbers than their keys.
 use Rattle.ep_machine.specs.Watches.{is_legal}
-use Rattle.ep_nest.proofs.Elements.{Contains-from_map, Contains-map}
-use Rattle.ep_nest.proofs.Chains.{short_part}
-use Rattle.ep_nest.proofs.Legality.{is_legal_from_short, short_from_is_legal}
+use Rattle.ep_nest.proofs.ElementLemmas.{Contains-from_map, Contains-map}
+use Rattle.ep_nest.proofs.ChainLemmas.{short_part}
+use Rattle.ep_nest.proofs.LegalityLemmas.{is_legal_from_short, short_from_is_legal}
 use Rattle.ep_nest.specs.Chains.{LeadsBy}
 use Rattle.std.proofs.Common.{Contains, List, ap, false, inl, inr, map, refl, subst, suc, sym, true, zero, ℕ, ◌∙◌, ◌≡◌}
 use Rattle.std.proofs.lemmas.Bool.{cases_Bool}

@@ -1,11 +1,11 @@
 -- What a graph keeps, through each of its changes.
 use Rattle.ep_machine.specs.Lists.{are_distinct, is_among}
 use Rattle.ep_machine.specs.Watches.{is_legal}
-use Rattle.ep_nest.proofs.Chains.{short_part, turned}
-use Rattle.ep_nest.proofs.Elements.{Contains-cons, Contains-from_filter, Contains-from_map, Contains-head, Contains-map, Contains-nil, among, from_among}
-use Rattle.ep_nest.proofs.Fill.{at_fill}
-use Rattle.ep_nest.proofs.Gather.{distinct_push}
-use Rattle.ep_nest.proofs.Legality.{is_legal_from_short, short_from_is_legal}
+use Rattle.ep_nest.proofs.ChainLemmas.{short_part, turned}
+use Rattle.ep_nest.proofs.ElementLemmas.{Contains-cons, Contains-from_filter, Contains-from_map, Contains-head, Contains-map, Contains-nil, among, from_among}
+use Rattle.ep_nest.proofs.FillLemmas.{at_fill}
+use Rattle.ep_nest.proofs.GatherLemmas.{distinct_push}
+use Rattle.ep_nest.proofs.LegalityLemmas.{is_legal_from_short, short_from_is_legal}
 use Rattle.ep_nest.specs.Chains.{IsShort, LeadsBy}
 use Rattle.ep_nest.specs.Lengths.{AreLengths, HasPlaces}
 use Rattle.ep_nest.specs.Links.{along, edges, ends_of, entries, is_apart_from, is_of, without}

@@ -9,8 +9,8 @@ use Rattle.std.specs.Option.{IfSome, option_map}
 use Rattle.indexmap.specs.IndexMap.{set_value_at}
 use Rattle.ep_machine.specs.State.{Waiter as Parked}
 use Rattle.ep_machine.specs.Waits.{is_due, marked_if_due}
-use Rattle.ep_park.proofs.Tallied.{counted}
-use Rattle.ep_park.proofs.Views.{either, swapped}
+use Rattle.ep_park.proofs.TallyLemmas.{counted}
+use Rattle.ep_park.proofs.ViewLemmas.{either, swapped}
 use Rattle.ep_park.specs.Changes.{changed_at, with_mark_of}
 use Rattle.ep_park.specs.Deadlines.{HasDeadlines, IsAwaitedAt, Moments, SetsMoment, awaited, awaits_mark, moment_of}
 use Rattle.ep_park.specs.Waiters.{listed, parked}

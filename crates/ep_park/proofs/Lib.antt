@@ -1,5 +1,5 @@
-pub mod Marks
-pub mod Tallied
-pub mod Turns
-pub mod Views
+pub mod MarkLemmas
+pub mod TallyLemmas
+pub mod TurnLemmas
+pub mod ViewLemmas
 pub mod DeadlineLemmas

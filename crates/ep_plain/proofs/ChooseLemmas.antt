@@ -19,8 +19,8 @@ use Rattle.ep_calls.specs.Readiness.{entry_shows, readiness}
 use Rattle.ep_calls.specs.Wait.{IsPick, numbers_of}
 use Rattle.ep_plain.specs.Choose.{IsChosen}
 use Rattle.ep_calls.specs.declared.wait.Reportable.{Reportable}
-use Rattle.ep_calls.proofs.Keys.{same_keys}
-use Rattle.ep_calls.proofs.Waiting.{entries_in}
+use Rattle.ep_calls.proofs.KeyLemmas.{same_keys}
+use Rattle.ep_calls.proofs.CollectLemmas.{entries_in}
 use Rattle.ep_table.specs.Value.{Seen, Sound as SoundTables, number_under}
 use Rattle.std.specs.List.{swap}
 use Rattle.std.specs.List.Sorted.{SwapsInRange, apply_swaps}

@@ -11,7 +11,7 @@ use Rattle.ep_machine.specs.Waits.{is_marked_at, marked_if_due, waits_at}
 use Rattle.ep_park.specs.Turns.{NamesReady, marked_in_turn}
 use Rattle.ep_park.specs.Waiters.{first_marked, longest_marked, with_mark}
 use Rattle.ep_plain.specs.Mark.{instance_of}
-use Rattle.ep_calls.proofs.Held.{instances_same, place}
+use Rattle.ep_calls.proofs.HoldLemmas.{instances_same, place}
 use Rattle.ep_law.proofs.TestLemmas.{from_test, same_nat}
 use Rattle.ep_table.specs.Value.{Seen, number_under}
 use Rattle.ep_base.specs.declared.ids.DescId.{DescId}

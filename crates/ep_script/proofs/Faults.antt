@@ -14,9 +14,9 @@ use Rattle.ep_script.specs.Outcome.{Broken, Cut, Faulted, GrowsBeyond, IsHeld, S
 use Rattle.ep_script.specs.Steps.{AnswerFault, Behind, IsTooLong, MayGain, TakesLine, Tells}
 use Rattle.ep_script.specs.Transcript.{Grows, Outcome, said, transcript}
 use Rattle.ep_script.proofs.Lines.{long_line}
-use Rattle.ep_script.proofs.Running.{Progress, Ran, ran_nothing, takes_first}
-use Rattle.ep_script.proofs.Tallying.{are_more, as_many, grows_more}
-use Rattle.ep_script.proofs.Writing.{appends_kept, appends_more}
+use Rattle.ep_script.proofs.RunLemmas.{Progress, Ran, ran_nothing, takes_first}
+use Rattle.ep_script.proofs.TallyLemmas.{are_more, as_many, grows_more}
+use Rattle.ep_script.proofs.WriterLemmas.{appends_kept, appends_more}
 
 -- ---- no line was answered in part
 

@@ -1,7 +1,7 @@
 pub mod Lines
 pub mod Pieces
-pub mod Writing
-pub mod Recording
-pub mod Tallying
-pub mod Running
+pub mod WriterLemmas
+pub mod RecordLemmas
+pub mod TallyLemmas
+pub mod RunLemmas
 pub mod Faults

@@ -6,11 +6,11 @@ use Rattle.ep_interest.specs.declared.entry.Entry.{Entry}
 use Rattle.ep_view.specs.KernelView.{KernelWatch, any_within}
 use Rattle.ep_machine.specs.Files.{object_of}
 use Rattle.std.specs.List.{list_any}
-use Rattle.ep_calls.proofs.Waiting.{entries_of}
+use Rattle.ep_calls.proofs.CollectLemmas.{entries_of}
 use Rattle.ep_calls.specs.Below.{IsBelow}
 use Rattle.ep_calls.specs.Readiness.{watches_of}
 use Rattle.ep_calls.specs.Stands.{IsLinked, number_at, watch_at}
-use Rattle.ep_calls.proofs.Looking.{Looks, any_scanned, fewer_levels, first_looked, looks_begins, looks_found, looks_on, same_kind, within_step}
+use Rattle.ep_calls.proofs.ReadinessLemmas.{Looks, any_scanned, fewer_levels, first_looked, looks_begins, looks_found, looks_on, same_kind, within_step}
 use Rattle.ep_calls.proofs.below.+any_below.Goals as goal
 use Rattle.ep_calls.proofs.below.+any_below.Goals.{then-is_instance, else-is_instance}
 

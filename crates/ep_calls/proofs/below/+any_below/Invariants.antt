@@ -2,7 +2,7 @@ use Rattle.std.proofs.Common.{◌-◌, Bool, filter, ℕ}
 use Rattle.ep_interest.specs.Registrations.{is_of}
 use Rattle.ep_view.specs.KernelView.{KernelWatch, any_within}
 use Rattle.ep_calls.specs.Readiness.{watches_of}
-use Rattle.ep_calls.proofs.Looking.{Looks}
+use Rattle.ep_calls.proofs.ReadinessLemmas.{Looks}
 use Rattle.ep_calls.proofs.below.+any_below.Given as goal
 
 abbrev pub decreases-any_below : goal.decreases-any_below

@@ -2,8 +2,8 @@ use Rattle.std.proofs.Common.{◌∙◌, ap, map, sym}
 use Rattle.ep_machine.specs.Bits.{at_end}
 use Rattle.ep_calls.specs.Raising.{raised_there}
 use Rattle.ep_machine.specs.Files.{Files, place_of}
-use Rattle.ep_calls.proofs.Burying.{buries_more, buries_none, placed_before}
-use Rattle.ep_calls.proofs.Purging.{keeps_purged}
+use Rattle.ep_calls.proofs.BurialLemmas.{buries_more, buries_none, placed_before}
+use Rattle.ep_calls.proofs.PurgeLemmas.{keeps_purged}
 use Rattle.ep_calls.proofs.bury.end_each.Goals as goal
 
 pub loop-dead-init : goal.loop-dead-init

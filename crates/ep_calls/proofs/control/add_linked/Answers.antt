@@ -3,7 +3,7 @@ use Rattle.ep_base.specs.declared.ids.EntryNumber.{EntryNumber}
 use Rattle.ep_machine.specs.Lists.{is_among}
 use Rattle.ep_nest.specs.Links.{entries, without}
 use Rattle.ep_nest.specs.declared.link.Link.{Link}
-use Rattle.ep_calls.proofs.Entering.{unlinked}
+use Rattle.ep_calls.proofs.LinkLemmas.{unlinked}
 use Rattle.ep_calls.proofs.control.add_linked.Goals as goal
 
 pub returns-in-Err-clause-err : goal.returns-in-Err-clause-err

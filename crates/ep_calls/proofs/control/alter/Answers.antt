@@ -2,8 +2,8 @@ use Rattle.std.proofs.Common.{◌≡◌, ◌∙◌, ◌==◌, ap, filter, map, n
 use Rattle.ep_interest.specs.Registrations.{number_under}
 use Rattle.ep_nest.specs.Links.{without}
 use Rattle.ep_calls.specs.Climb.{is_nested, link_of}
-use Rattle.ep_calls.proofs.Entering.{links_modified}
-use Rattle.ep_calls.proofs.Nesting.{links_filtered}
+use Rattle.ep_calls.proofs.LinkLemmas.{links_modified}
+use Rattle.ep_calls.proofs.GraphLemmas.{links_filtered}
 use Rattle.ep_calls.proofs.control.alter.Goals as goal
 
 pub returns-in-Delete-clause-nested : goal.returns-in-Delete-clause-nested

@@ -2,7 +2,7 @@ use Rattle.std.proofs.Common.{◌∙◌, ◌+◌, ap}
 use Rattle.ep_machine.specs.Lists.{is_among}
 use Rattle.ep_nest.specs.Links.{entries}
 use Rattle.ep_calls.specs.Climb.{is_nested}
-use Rattle.ep_calls.proofs.Entering.{fresh_link}
+use Rattle.ep_calls.proofs.LinkLemmas.{fresh_link}
 use Rattle.ep_calls.proofs.control.enter.Goals as goal
 
 pub add-requires-clause-fresh : goal.add-requires-clause-fresh

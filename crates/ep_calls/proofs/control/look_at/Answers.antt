@@ -4,7 +4,7 @@ use Rattle.ep_interest.specs.Registrations.{has_key, number_under, numbered}
 use Rattle.ep_calls.specs.Readiness.{entry_shows, readiness}
 use Rattle.ep_calls.specs.Stands.{IsLinked}
 use Rattle.ep_calls.specs.declared.raising.Raising.TheVariants.{Instance, Nowhere}
-use Rattle.ep_calls.proofs.Looked.{found_passes, none_looked, one_looked}
+use Rattle.ep_calls.proofs.AdditionLemmas.{found_passes, none_looked, one_looked}
 use Rattle.ep_calls.proofs.control.look_at.Goals as goal
 
 pub returns-in_default : goal.returns-in_default

@@ -1,7 +1,7 @@
 use Rattle.std.proofs.Common.{List, ap, ◌∙◌, sym, subst}
 use Rattle.ep_machine.specs.State.{Waiter}
 use Rattle.ep_calls.specs.Stands.{AreHeld}
-use Rattle.ep_calls.proofs.Parked.{found_placed, held_found, held_left, none_left}
+use Rattle.ep_calls.proofs.ParkLemmas.{found_placed, held_found, held_left, none_left}
 use Rattle.ep_table.specs.Value.{Seen}
 use Rattle.ep_calls.proofs.parking.leave.Goals as goal
 

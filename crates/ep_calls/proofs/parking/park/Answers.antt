@@ -2,7 +2,7 @@ use Rattle.std.proofs.Common.{List, ap, ◌∙◌, sym, subst}
 use Rattle.ep_machine.specs.State.{Waiter}
 use Rattle.ep_park.specs.Waiters.{without}
 use Rattle.ep_calls.specs.Stands.{AreHeld}
-use Rattle.ep_calls.proofs.Parked.{held_parked, left_parked}
+use Rattle.ep_calls.proofs.ParkLemmas.{held_parked, left_parked}
 use Rattle.ep_table.specs.Value.{Seen}
 use Rattle.ep_calls.proofs.parking.park.Goals as goal
 

@@ -4,7 +4,7 @@ use Rattle.ep_view.specs.KernelView.{ready_now}
 use Rattle.ep_machine.specs.Objects.{is_instance, plain}
 use Rattle.ep_calls.specs.Readiness.{readiness}
 use Rattle.ep_calls.specs.Stands.{number_at}
-use Rattle.ep_calls.proofs.Looking.{below_is, same_kind, shown_below}
+use Rattle.ep_calls.proofs.ReadinessLemmas.{below_is, same_kind, shown_below}
 use Rattle.ep_calls.proofs.readiness.shown.Goals as goal
 use Rattle.ep_calls.proofs.readiness.shown.Goals.{then-is_instance, else-is_instance}
 

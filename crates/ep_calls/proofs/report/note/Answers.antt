@@ -4,7 +4,7 @@ use Rattle.ep_interest.specs.Registrations.{reported}
 use Rattle.ep_interest.specs.declared.entry.Entry.{Entry}
 use Rattle.ep_calls.specs.Wait.{with_report, numbers_of}
 use Rattle.ep_calls.specs.declared.wait.Reportable.{Reportable}
-use Rattle.ep_calls.proofs.Choosing.{noted_more, noted_none, reported_one}
+use Rattle.ep_calls.proofs.PickLemmas.{noted_more, noted_none, reported_one}
 use Rattle.ep_calls.proofs.report.note.Goals as goal
 
 pub loop-x-init : goal.loop-x-init

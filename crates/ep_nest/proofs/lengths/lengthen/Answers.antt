@@ -2,8 +2,8 @@ use Rattle.std.proofs.Common.{arith, get_or, length, max, refl, slice_index, sym
 use Rattle.std.proofs.lemmas.List.{length-map}
 use Rattle.std.proofs.lemmas.List.Elements.{All-same}
 use Rattle.ep_nest.specs.Links.{along, ends_of}
-use Rattle.ep_nest.proofs.Lengthen.{chains_more, done_more, grown_at, length_fits, longer}
-use Rattle.ep_nest.proofs.Places.{along_at, along_lt, linked, nowhere, placed}
+use Rattle.ep_nest.proofs.LengthLemmas.{chains_more, done_more, grown_at, length_fits, longer}
+use Rattle.ep_nest.proofs.PlaceLemmas.{along_at, along_lt, linked, nowhere, placed}
 use Rattle.ep_nest.proofs.lengths.lengthen.Goals as goal
 
 pub bounds-lengths-start : goal.bounds-lengths-start

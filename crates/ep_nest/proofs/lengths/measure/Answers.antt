@@ -2,8 +2,8 @@ use Rattle.std.proofs.Common.{arith, length, refl, subst, suc, sym, ℕ, ◌+◌
 use Rattle.ep_nest.specs.Chains.{LeadsBy}
 use Rattle.ep_nest.specs.Lengths.{AreLongestTo, HasPlaces}
 use Rattle.ep_nest.specs.Links.{along}
-use Rattle.ep_nest.proofs.Fill.{at_fill}
-use Rattle.ep_nest.proofs.Lengthen.{lengths_from}
+use Rattle.ep_nest.proofs.FillLemmas.{at_fill}
+use Rattle.ep_nest.proofs.LengthLemmas.{lengths_from}
 use Rattle.ep_nest.proofs.lengths.measure.Goals as goal
 
 pub loop-round-init : goal.loop-round-init

@@ -1,7 +1,7 @@
 use Rattle.std.proofs.Common.{Bool, List, [], ap, append-nil, vec_capacity, vec_len, arith, cond, get_or, sym, take, true, ◌++◌, ◌∙◌, ◌∷◌, ◌≡◌}
 use Rattle.ep_nest.specs.Links.{admitted_by}
-use Rattle.ep_nest.proofs.Admit.{also, asked_more, kept_more}
-use Rattle.ep_nest.proofs.Places.{nowhere}
+use Rattle.ep_nest.proofs.AdmitLemmas.{also, asked_more, kept_more}
+use Rattle.ep_nest.proofs.PlaceLemmas.{nowhere}
 use Rattle.ep_nest.proofs.walk.admit.Goals as goal
 use Rattle.ep_nest.proofs.walk.admit.Goals.{then-passes, else-passes}
 use Rattle.ep_base.specs.declared.ids.EntryNumber.{EntryNumber}

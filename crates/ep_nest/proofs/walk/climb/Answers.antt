@@ -5,8 +5,8 @@ use Rattle.std.proofs.lemmas.Bool.{eqb-false, eqb-true}
 use Rattle.ep_nest.specs.Links.{edges, ends_of}
 use Rattle.ep_nest.specs.Marks.{IsMarked}
 use Rattle.ep_nest.specs.declared.link.Way.TheVariants.{Down}
-use Rattle.ep_nest.proofs.Climb.{above_more, followed_more, followed_still, further, marked_still}
-use Rattle.ep_nest.proofs.Places.{along_at, along_lt, linked, nowhere, placed}
+use Rattle.ep_nest.proofs.ClimbLemmas.{above_more, followed_more, followed_still, further, marked_still}
+use Rattle.ep_nest.proofs.PlaceLemmas.{along_at, along_lt, linked, nowhere, placed}
 use Rattle.ep_nest.proofs.walk.climb.Goals as goal
 use Rattle.ep_nest.proofs.walk.climb.Goals.{then-eq, then-eq-via-then-eq, then-eq-via-else-eq+then-marks-link, else-eq+else-marks-link}
 

@@ -5,8 +5,8 @@ use Rattle.std.proofs.lemmas.List.Elements.{All-same}
 use Rattle.ep_machine.specs.Lists.{are_distinct, is_among}
 use Rattle.ep_nest.specs.Links.{edges, ends_of, keys}
 use Rattle.ep_nest.specs.declared.link.Way.TheVariants.{Down}
-use Rattle.ep_nest.proofs.Gather.{distinct_push, keys_push, left_more, marked_before, taken_exactly, taken_more, unmarked_more, unmarked_too}
-use Rattle.ep_nest.proofs.Places.{along_at, along_lt, linked, nowhere, placed}
+use Rattle.ep_nest.proofs.GatherLemmas.{distinct_push, keys_push, left_more, marked_before, taken_exactly, taken_more, unmarked_more, unmarked_too}
+use Rattle.ep_nest.proofs.PlaceLemmas.{along_at, along_lt, linked, nowhere, placed}
 use Rattle.ep_nest.proofs.walk.gather.Goals as goal
 use Rattle.ep_nest.proofs.walk.gather.Goals.{then-marks-link, else-marks-link}
 use Rattle.ep_nest.specs.Marks.{IsMarked}

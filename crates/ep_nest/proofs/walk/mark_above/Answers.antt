@@ -1,7 +1,7 @@
 use Rattle.std.proofs.Common.{arith, subst, suc, ℕ, ◌+◌, ◌≡◌}
 use Rattle.ep_nest.specs.Links.{edges}
 use Rattle.ep_nest.specs.Marks.{AreAllTo}
-use Rattle.ep_nest.proofs.Climb.{marked_exactly}
+use Rattle.ep_nest.proofs.ClimbLemmas.{marked_exactly}
 use Rattle.ep_nest.proofs.walk.mark_above.Goals as goal
 
 pub loop-round-preserved : goal.loop-round-preserved

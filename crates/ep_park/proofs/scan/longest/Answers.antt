@@ -1,7 +1,7 @@
 use Rattle.std.proofs.Common.{ap, ◌∙◌, ℕ}
 use Rattle.std.specs.Option.{option_map}
 use Rattle.ep_base.specs.declared.ids.CallerId.{CallerId}
-use Rattle.ep_park.proofs.Views.{first_none, first_some}
+use Rattle.ep_park.proofs.ViewLemmas.{first_none, first_some}
 use Rattle.ep_park.specs.declared.waiter.Waiter.{Waiter}
 use Rattle.ep_park.proofs.scan.longest.Goals as goal
 

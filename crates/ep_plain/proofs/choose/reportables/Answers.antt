@@ -7,8 +7,8 @@ use Rattle.ep_interest.specs.declared.entry.Entry.{Entry}
 use Rattle.ep_calls.specs.Stands.{IsLinked}
 use Rattle.ep_calls.specs.Readiness.{entry_shows, readiness}
 use Rattle.ep_calls.specs.declared.wait.Reportable.{Reportable}
-use Rattle.ep_calls.proofs.Found.{each_numbered}
-use Rattle.ep_calls.proofs.Waiting.{Collects, begins, collects_more, collects_same, entries_in, entries_of, first_linked}
+use Rattle.ep_calls.proofs.FindLemmas.{each_numbered}
+use Rattle.ep_calls.proofs.CollectLemmas.{Collects, begins, collects_more, collects_same, entries_in, entries_of, first_linked}
 use Rattle.ep_plain.proofs.choose.reportables.Goals as goal
 
 pub loop-id-init : goal.loop-id-init

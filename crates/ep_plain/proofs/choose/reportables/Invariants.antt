@@ -1,7 +1,7 @@
 use Rattle.std.proofs.Common.{filter}
 use Rattle.ep_interest.specs.Registrations.{is_of}
 use Rattle.ep_calls.specs.Readiness.{entry_shows, readiness}
-use Rattle.ep_calls.proofs.Waiting.{Collects}
+use Rattle.ep_calls.proofs.CollectLemmas.{Collects}
 use Rattle.ep_plain.proofs.choose.reportables.Given as goal
 
 abbrev pub invariant-loop-id : goal.invariant-loop-id

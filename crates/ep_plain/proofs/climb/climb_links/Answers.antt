@@ -11,7 +11,7 @@ use Rattle.ep_plain.specs.Climb.{climbs_to}
 use Rattle.ep_calls.specs.Readiness.{watches_of}
 use Rattle.ep_calls.specs.Stands.{IsLinked, number_at, watch_at}
 use Rattle.ep_plain.proofs.ClimbLemmas.{LeadsToLive, climbed_is, climbs_none, climbs_on, inners, inners_of, linked_climbs, linked_settled, links_live, map_climbs_more, reached_fresh, fresh_after}
-use Rattle.ep_calls.proofs.Nesting.{links_mapped}
+use Rattle.ep_calls.proofs.GraphLemmas.{links_mapped}
 use Rattle.ep_plain.proofs.climb.climb_links.Goals as goal
 
 abbrev nowhere : Link

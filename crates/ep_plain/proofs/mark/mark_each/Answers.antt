@@ -3,7 +3,7 @@ use Rattle.std.proofs.Math.ListN.{length-map}
 use Rattle.ep_machine.specs.State.{Waiter}
 use Rattle.ep_machine.specs.Waits.{marked_if_due}
 use Rattle.ep_calls.specs.Parking.{ready_key}
-use Rattle.ep_calls.proofs.Held.{as_many, placed_same}
+use Rattle.ep_calls.proofs.HoldLemmas.{as_many, placed_same}
 use Rattle.ep_plain.proofs.MarkLemmas.{turns_begin, turns_end, turns_on}
 use Rattle.ep_plain.proofs.mark.mark_each.Goals as goal
 

@@ -17,10 +17,10 @@ use Rattle.ep_plain.specs.Choose.{IsChosen}
 use Rattle.ep_calls.specs.declared.wait.Reportable.{Reportable}
 use Rattle.ep_calls.proofs.ActLemmas.{does_all}
 use Rattle.ep_plain.proofs.ChooseLemmas.{chosen_is_pick}
-use Rattle.ep_calls.proofs.Going.{goes_told}
-use Rattle.ep_calls.proofs.Parked.{found_all}
-use Rattle.ep_calls.proofs.Resumed.{goes_still, goes_unparked, is_off}
-use Rattle.ep_calls.proofs.Waited.{asked_some, resume_does}
+use Rattle.ep_calls.proofs.OutcomeLemmas.{goes_told}
+use Rattle.ep_calls.proofs.ParkLemmas.{found_all}
+use Rattle.ep_calls.proofs.ResumeLemmas.{goes_still, goes_unparked, is_off}
+use Rattle.ep_calls.proofs.WaitLemmas.{asked_some, resume_does}
 use Rattle.ep_plain.proofs.wait.resume.Goals as goal
 
 pub returns-in_default-clause-ok : goal.returns-in_default-clause-ok

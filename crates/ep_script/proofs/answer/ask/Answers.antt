@@ -1,6 +1,6 @@
 use Rattle.std.proofs.Common.{ap, sym, ◌++◌, ◌∙◌}
 use Rattle.ep_text.specs.Line.{line_of}
-use Rattle.ep_script.proofs.Recording.{tells_answer}
+use Rattle.ep_script.proofs.RecordLemmas.{tells_answer}
 use Rattle.ep_script.proofs.answer.ask.Goals as goal
 
 pub returns-in_ok-push_answer-in-Some-clause-ok : goal.returns-in_ok-push_answer-in-Some-clause-ok

@@ -1,5 +1,5 @@
 use Rattle.std.proofs.Common.{◌∙◌}
-use Rattle.ep_script.proofs.Writing.{appends_rest, rest_bound, not_failed}
+use Rattle.ep_script.proofs.WriterLemmas.{appends_rest, rest_bound, not_failed}
 use Rattle.ep_script.proofs.emit.emit.Goals as goal
 
 pub loop-at-preserved : goal.loop-at-preserved

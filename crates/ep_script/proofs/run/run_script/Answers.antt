@@ -3,8 +3,8 @@ use Rattle.std.specs.Io.KnownBytes.{prepend_known}
 use Rattle.ep_script.specs.Unread.{unread}
 use Rattle.ep_script.proofs.Faults.{answer_cut, answer_fault, cut_at_once, end_fault, err_same, gains_none, keeps_itself, lines_fault, memory_at_once, memory_cut, never_read, next_fault, no_part, read_cut}
 use Rattle.ep_script.proofs.Pieces.{holds_line}
-use Rattle.ep_script.proofs.Running.{ran_more, ran_nothing, ran_whole}
-use Rattle.ep_script.proofs.Tallying.{few_bad, few_records, gains_more, one_lines}
+use Rattle.ep_script.proofs.RunLemmas.{ran_more, ran_nothing, ran_whole}
+use Rattle.ep_script.proofs.TallyLemmas.{few_bad, few_records, gains_more, one_lines}
 use Rattle.ep_script.proofs.run.run_script.Goals as goal
 
 pub returns-in_default-clause-fault : goal.returns-in_default-clause-fault

@@ -2,7 +2,7 @@ use Rattle.std.proofs.Common.{false, ◌≡◌, ◌≤◌}
 use Rattle.std.specs.Io.KnownBytes.{prepend_known}
 use Rattle.ep_script.specs.Outcome.{Gains}
 use Rattle.ep_script.specs.Unread.{unread}
-use Rattle.ep_script.proofs.Running.{Ran}
+use Rattle.ep_script.proofs.RunLemmas.{Ran}
 use Rattle.ep_script.proofs.run.run_script.Given as goal
 
 abbrev pub invariant-loop-done : goal.invariant-loop-done

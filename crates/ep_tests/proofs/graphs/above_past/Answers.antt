@@ -1,6 +1,6 @@
 use Rattle.std.proofs.Common.{nat_lt, rules, ◌≡◌}
 use Rattle.std.specs.List.{All}
-use Rattle.ep_nest.proofs.Rule.{above_by_rule}
+use Rattle.ep_nest.proofs.RuleLemmas.{above_by_rule}
 use Rattle.ep_nest.specs.Links.{keys}
 use Rattle.ep_tests.proofs.graphs.above_past.Goals as goal
 

@@ -1,5 +1,5 @@
 use Rattle.std.proofs.Common.{arith}
-use Rattle.ep_text.proofs.Reading.{repeated-other}
+use Rattle.ep_text.proofs.ReadLemmas.{repeated-other}
 use Rattle.ep_text.proofs.bytes.byte_and_count.Goals as goal
 
 pub returns-then-len-ne2 : goal.returns-then-len-ne2

@@ -1,7 +1,7 @@
 use Rattle.std.proofs.Common.{◌∙◌}
 use Rattle.std.proofs.lemmas.Bool.{false≢true}
 use Rattle.std.proofs.lemmas.Result.{IfOk-weaker}
-use Rattle.ep_text.proofs.Reading.{no_json, read_json}
+use Rattle.ep_text.proofs.ReadLemmas.{no_json, read_json}
 use Rattle.ep_text.proofs.read.reading.Goals as goal
 
 pub returns-else-is_memory : goal.returns-else-is_memory

@@ -16,9 +16,9 @@ use Rattle.ep_calls.specs.Readiness.{entry_shows, readiness}
 use Rattle.ep_calls.specs.declared.control.Named.{Named}
 use Rattle.ep_calls.specs.declared.raising.Raising.{Raising}
 use Rattle.ep_calls.specs.declared.raising.Raising.TheVariants.{Instance, Nowhere}
-use Rattle.ep_calls.proofs.Controlling.{deep_is_at, goes_altered, goes_einval, goes_entered, is_deep, linked_altered, linked_entered, refused_name}
-use Rattle.ep_calls.proofs.Found.{has_number}
-use Rattle.ep_calls.proofs.Going.{goes_refused, raises_refused}
+use Rattle.ep_calls.proofs.EpollCtlLemmas.{deep_is_at, goes_altered, goes_einval, goes_entered, is_deep, linked_altered, linked_entered, refused_name}
+use Rattle.ep_calls.proofs.FindLemmas.{has_number}
+use Rattle.ep_calls.proofs.OutcomeLemmas.{goes_refused, raises_refused}
 use Rattle.ep_table.specs.Value.{Seen, number_under as number_of_key}
 use Rattle.ep_calls.proofs.ControlLemmas.{ctl_does, watched_altered, watched_entered}
 use Rattle.ep_calls.proofs.parts.Parts.epoll_ctl.Goals as goal

@@ -6,12 +6,12 @@ use Rattle.ep_calls.proofs.ObjectLemmas.{applied_kinds, is_object_call, object_d
 use Rattle.ep_calls.proofs.PartsLemmas.{coherent_kept}
 use Rattle.ep_calls.specs.ObjectCall.{FitsRoom}
 use Rattle.ep_calls.specs.Stands.{KeepsKinds}
-use Rattle.ep_calls.proofs.Keys.{object_there}
+use Rattle.ep_calls.proofs.KeyLemmas.{object_there}
 use Rattle.ep_calls.specs.Raising.{IsRaising, RaisesByCall}
 use Rattle.ep_calls.specs.declared.raising.Raising.{Raising}
 use Rattle.ep_calls.proofs.FilesCallLemmas.{CallsObject}
-use Rattle.ep_calls.proofs.ObjectCalling.{calls_object, fits}
-use Rattle.ep_calls.proofs.ObjectRaising.{raises_object}
+use Rattle.ep_calls.proofs.ObjectCallLemmas.{calls_object, fits}
+use Rattle.ep_calls.proofs.ObjectRaiseLemmas.{raises_object}
 use Rattle.ep_table.specs.Value.{Seen, content_of, holds_of, number_of, number_under}
 use Rattle.ep_calls.proofs.parts.Parts.object_call.Goals as goal
 

@@ -12,11 +12,11 @@ use Rattle.ep_park.specs.Waiters.{is_caller, parked}
 use Rattle.ep_calls.specs.Parts.{Parts}
 use Rattle.ep_calls.specs.Stands.{IsPlaced}
 use Rattle.ep_calls.specs.Wait.{AreKeyed, IsPick}
-use Rattle.ep_calls.proofs.Going.{goes_told}
-use Rattle.ep_calls.proofs.Held.{held_same, place, placed_same}
-use Rattle.ep_calls.proofs.Parked.{found_all}
-use Rattle.ep_calls.proofs.Resumed.{goes_left, goes_unmarked}
-use Rattle.ep_calls.proofs.Waited.{coherent_parked, coherent_reported, resume_does}
+use Rattle.ep_calls.proofs.OutcomeLemmas.{goes_told}
+use Rattle.ep_calls.proofs.HoldLemmas.{held_same, place, placed_same}
+use Rattle.ep_calls.proofs.ParkLemmas.{found_all}
+use Rattle.ep_calls.proofs.ResumeLemmas.{goes_left, goes_unmarked}
+use Rattle.ep_calls.proofs.WaitLemmas.{coherent_parked, coherent_reported, resume_does}
 use Rattle.ep_calls.proofs.parts.Parts.resume_with.Goals as goal
 use Rattle.ep_calls.proofs.parts.Parts.resume_with.Goals.{else-is_empty-via-then-is_empty+else-not-is_due, else-is_empty-via-else-is_empty}
 

@@ -7,8 +7,8 @@ use Rattle.ep_machine.specs.Waits.{wait}
 use Rattle.ep_machine.specs.Watches.{number_in}
 use Rattle.ep_calls.specs.Parts.{Parts}
 use Rattle.ep_calls.specs.Wait.{AreKeyed, IsPick, Waits}
-use Rattle.ep_calls.proofs.Going.{goes_told}
-use Rattle.ep_calls.proofs.Waited.{coherent_parked, coherent_reported, goes_parked, goes_reported, not_dying, parked_waiting, placed_waiting, wait_does}
+use Rattle.ep_calls.proofs.OutcomeLemmas.{goes_told}
+use Rattle.ep_calls.proofs.WaitLemmas.{coherent_parked, coherent_reported, goes_parked, goes_reported, not_dying, parked_waiting, placed_waiting, wait_does}
 use Rattle.ep_calls.proofs.parts.Parts.wait_with.Goals as goal
 
 pub invariant_of-self-then-not-is_empty : goal.invariant_of-self-then-not-is_empty

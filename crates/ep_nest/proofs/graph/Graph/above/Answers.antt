@@ -1,7 +1,7 @@
 use Rattle.std.proofs.Common.{Bool, List, ap, arith, length, subst, sym, ℕ, ◌∙◌, ◌≡◌}
-use Rattle.ep_nest.proofs.Chains.{short_part}
+use Rattle.ep_nest.proofs.ChainLemmas.{short_part}
 use Rattle.ep_nest.proofs.ScratchLemmas.{kept_edge, length_part, places_part}
-use Rattle.ep_nest.proofs.Legality.{short_from_is_legal}
+use Rattle.ep_nest.proofs.LegalityLemmas.{short_from_is_legal}
 use Rattle.ep_nest.specs.Chains.{IsShort}
 use Rattle.ep_nest.specs.Lengths.{HasPlaces}
 use Rattle.ep_nest.specs.Links.{admitted_by, edges}

@@ -1,6 +1,6 @@
 use Rattle.std.proofs.Common.{List, ap, length, subst, sym, ℕ, ◌≡◌}
 use Rattle.ep_nest.proofs.ScratchLemmas.{places_up, short_up}
-use Rattle.ep_nest.proofs.Legality.{short_from_is_legal}
+use Rattle.ep_nest.proofs.LegalityLemmas.{short_from_is_legal}
 use Rattle.ep_nest.specs.Lengths.{HasPlaces}
 use Rattle.ep_nest.specs.Links.{along, edges}
 use Rattle.ep_nest.specs.declared.link.Way.TheVariants.{Up}

@@ -1,6 +1,6 @@
 use Rattle.std.proofs.Common.{ap, ◌∙◌}
 use Rattle.std.specs.List.{list_any}
-use Rattle.ep_park.proofs.Views.{any_listed}
+use Rattle.ep_park.proofs.ViewLemmas.{any_listed}
 use Rattle.ep_park.specs.Waiters.{is_of}
 use Rattle.ep_park.proofs.park.Park.any_of.Goals as goal
 

@@ -1,6 +1,6 @@
 use Rattle.std.proofs.Common.{ap, nat_lt, ◌∙◌}
 use Rattle.ep_machine.specs.Waits.{is_marked_at}
-use Rattle.ep_park.proofs.Tallied.{any_counted, marked_is, none_marked}
+use Rattle.ep_park.proofs.TallyLemmas.{any_counted, marked_is, none_marked}
 use Rattle.ep_park.specs.Tallies.{is_marked_of}
 use Rattle.ep_park.specs.Waiters.{listed}
 use Rattle.ep_park.proofs.park.Park.has_mark.Goals as goal

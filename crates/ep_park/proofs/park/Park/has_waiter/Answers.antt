@@ -1,6 +1,6 @@
 use Rattle.std.proofs.Common.{ap, ◌∙◌, is_some}
 use Rattle.ep_machine.specs.Waits.{waits_at}
-use Rattle.ep_park.proofs.Tallied.{any_tally}
+use Rattle.ep_park.proofs.TallyLemmas.{any_tally}
 use Rattle.ep_park.specs.Waiters.{listed}
 use Rattle.ep_park.proofs.park.Park.has_waiter.Goals as goal
 

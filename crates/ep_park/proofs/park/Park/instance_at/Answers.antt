@@ -1,5 +1,5 @@
 use Rattle.std.proofs.Common.{ap, map, slice_index_or, ◌∙◌}
-use Rattle.ep_park.proofs.Marks.{instance_listed}
+use Rattle.ep_park.proofs.MarkLemmas.{instance_listed}
 use Rattle.ep_park.proofs.park.Park.instance_at.Goals as goal
 
 pub returns : goal.returns

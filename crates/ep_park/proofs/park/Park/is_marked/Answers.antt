@@ -1,6 +1,6 @@
 use Rattle.std.proofs.Common.{ap, sym, ◌∙◌}
 use Rattle.std.specs.List.{list_any}
-use Rattle.ep_park.proofs.Marks.{mark_absent, mark_found}
+use Rattle.ep_park.proofs.MarkLemmas.{mark_absent, mark_found}
 use Rattle.ep_park.specs.Waiters.{is_marked_caller}
 use Rattle.ep_park.proofs.park.Park.is_marked.Goals as goal
 

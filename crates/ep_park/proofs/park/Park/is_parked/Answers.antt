@@ -1,6 +1,6 @@
 use Rattle.std.proofs.Common.{ap, ◌∙◌}
 use Rattle.std.specs.List.{list_any}
-use Rattle.ep_park.proofs.Views.{present}
+use Rattle.ep_park.proofs.ViewLemmas.{present}
 use Rattle.ep_park.specs.Waiters.{is_caller}
 use Rattle.ep_park.proofs.park.Park.is_parked.Goals as goal
 

@@ -1,7 +1,7 @@
 use Rattle.std.proofs.Common.{List, ap, map, nat_eq, subst, sym, ◌∙◌, ℕ}
 use Rattle.std.specs.List.{IsDistinct}
 use Rattle.ep_machine.specs.State.{Waiter as Parked}
-use Rattle.ep_park.proofs.Views.{callers}
+use Rattle.ep_park.proofs.ViewLemmas.{callers}
 use Rattle.ep_park.proofs.park.Park.known.Goals as goal
 
 pub returns : goal.returns

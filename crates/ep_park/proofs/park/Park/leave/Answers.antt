@@ -3,8 +3,8 @@ use Rattle.std.specs.List.{find}
 use Rattle.std.specs.Map.{lookup}
 use Rattle.std.specs.Option.{option_map}
 use Rattle.ep_park.proofs.DeadlineLemmas.{moments_follow}
-use Rattle.ep_park.proofs.Tallied.{least_marked, tallied_less, tally_found}
-use Rattle.ep_park.proofs.Views.{found, removed}
+use Rattle.ep_park.proofs.TallyLemmas.{least_marked, tallied_less, tally_found}
+use Rattle.ep_park.proofs.ViewLemmas.{found, removed}
 use Rattle.ep_park.specs.Tallies.{IsTallied, first_at}
 use Rattle.ep_park.specs.Waiters.{is_caller, listed, parked, without}
 use Rattle.ep_park.proofs.park.Park.leave.Goals as goal

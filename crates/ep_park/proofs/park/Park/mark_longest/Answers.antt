@@ -1,6 +1,6 @@
 use Rattle.std.proofs.Common.{true, Some, ap, sym, ◌∙◌, ◌≡◌}
-use Rattle.ep_park.proofs.Marks.{first_found, longest_at, longest_kept, longest_nobody, no_entry, placed}
-use Rattle.ep_park.proofs.Tallied.{first_is}
+use Rattle.ep_park.proofs.MarkLemmas.{first_found, longest_at, longest_kept, longest_nobody, no_entry, placed}
+use Rattle.ep_park.proofs.TallyLemmas.{first_is}
 use Rattle.ep_park.specs.Changes.{changed_at, with_mark_of}
 use Rattle.ep_park.specs.Tallies.{tally_of}
 use Rattle.ep_park.specs.Waiters.{listed, longest_marked}

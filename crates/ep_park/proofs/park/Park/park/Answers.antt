@@ -4,8 +4,8 @@ use Rattle.std.specs.List.{list_any}
 use Rattle.std.specs.Map.{lookup}
 use Rattle.indexmap.proofs.CallerLemmas.{insert_entry-new}
 use Rattle.ep_park.proofs.DeadlineLemmas.{moments_back, moments_follow}
-use Rattle.ep_park.proofs.Tallied.{few_marked, tallied_last}
-use Rattle.ep_park.proofs.Views.{absent}
+use Rattle.ep_park.proofs.TallyLemmas.{few_marked, tallied_last}
+use Rattle.ep_park.proofs.ViewLemmas.{absent}
 use Rattle.ep_park.specs.Deadlines.{HasDeadlines, awaited}
 use Rattle.ep_park.specs.Tallies.{IsTallied}
 use Rattle.ep_park.specs.Waiters.{is_caller, listed, parked}

@@ -1,8 +1,8 @@
 use Rattle.std.proofs.Common.{ap, arith, refl, sym, ◌∙◌, ◌≡◌, Some}
 use Rattle.ep_park.proofs.DeadlineLemmas.{found_set, has_moment, moments_follow}
 use Rattle.indexmap.specs.IndexMap.{set_value_at}
-use Rattle.ep_park.proofs.Tallied.{few_marked, least_placed, tallied_placed, tally_placed}
-use Rattle.ep_park.proofs.Views.{changed}
+use Rattle.ep_park.proofs.TallyLemmas.{few_marked, least_placed, tallied_placed, tally_placed}
+use Rattle.ep_park.proofs.ViewLemmas.{changed}
 use Rattle.ep_park.specs.Changes.{changed_at, with_mark_of}
 use Rattle.ep_park.proofs.park.Park.set_mark.Goals as goal
 

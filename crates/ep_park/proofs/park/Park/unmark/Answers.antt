@@ -1,7 +1,7 @@
 use Rattle.std.proofs.Common.{ap, false, map, sym, ◌∙◌}
 use Rattle.std.specs.Map.{keys_of}
 use Rattle.ep_machine.specs.Waits.{unmark}
-use Rattle.ep_park.proofs.Marks.{kept_absent, no_entry, placed, unmarked_at}
+use Rattle.ep_park.proofs.MarkLemmas.{kept_absent, no_entry, placed, unmarked_at}
 use Rattle.ep_park.specs.Changes.{changed_at, with_mark_of}
 use Rattle.ep_park.proofs.park.Park.unmark.Goals as goal
 

@@ -1,7 +1,7 @@
 use Rattle.std.proofs.Common.{ap, ◌∙◌}
 use Rattle.std.specs.List.{find}
 use Rattle.std.specs.Option.{option_map}
-use Rattle.ep_park.proofs.Views.{found}
+use Rattle.ep_park.proofs.ViewLemmas.{found}
 use Rattle.ep_park.specs.Waiters.{is_caller, parked}
 use Rattle.ep_park.proofs.park.Park.waiter.Goals as goal
 

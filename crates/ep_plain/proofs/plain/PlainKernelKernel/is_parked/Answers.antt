@@ -4,7 +4,7 @@ use Rattle.ep_machine.specs.State.{State}
 use Rattle.ep_machine.specs.Waits.{is_parked}
 use Rattle.ep_park.specs.Waiters.{is_caller}
 use Rattle.ep_calls.specs.Book.{Book, state_of}
-use Rattle.ep_calls.proofs.Linking.{caller_waits}
+use Rattle.ep_calls.proofs.RegistrationLemmas.{caller_waits}
 use Rattle.ep_plain.specs.declared.plain.PlainKernel.TheInside.{Inside}
 use Rattle.ep_calls.proofs.KeepsLemmas.{state_is}
 use Rattle.ep_plain.proofs.plain.PlainKernelKernel.is_parked.Goals as goal

@@ -17,7 +17,7 @@ use Rattle.ep_view.proofs.DeathLemmas.{Apart}
 use Rattle.ep_law.proofs.TestLemmas.{from_test, same_test}
 use Rattle.ep_calls.specs.Raising.{raised_there}
 use Rattle.ep_calls.specs.Stands.{IsLinked, number_at, watch_at}
-use Rattle.ep_calls.proofs.Keys.{under_key}
+use Rattle.ep_calls.proofs.KeyLemmas.{under_key}
 use Rattle.ep_table.specs.Closing.{IsAt, across, opposite}
 
 pub never : (p : Bool) → (p && false) ≡ false

@@ -1,6 +1,6 @@
 -- When a graph stays legal with one more link.
-use Rattle.ep_nest.proofs.Chains.{at_most_four, first_use, included, joined}
-use Rattle.ep_nest.proofs.Elements.{Contains-cons, Contains-head}
+use Rattle.ep_nest.proofs.ChainLemmas.{at_most_four, first_use, included, joined}
+use Rattle.ep_nest.proofs.ElementLemmas.{Contains-cons, Contains-head}
 use Rattle.ep_nest.specs.Chains.{IsShort, LeadsBy}
 use Rattle.std.proofs.Common.{Contains, List, arith, inl, inr, refl, subst, suc, sym, zero, ℕ, ◌+◌, ◌<◌, ◌∷◌, ◌≢◌, ◌≤◌}
 

@@ -12,7 +12,7 @@ use Rattle.ep_park.specs.Waiters.{is_caller, parked, without}
 use Rattle.ep_park.specs.declared.waiter.Waiter.{Waiter as ParkedWaiter}
 use Rattle.ep_calls.specs.Stands.{AreHeld}
 use Rattle.ep_calls.specs.Stands.{ArePlaced, IsPlaced, number_at, waiters_at}
-use Rattle.ep_calls.proofs.Keys.{under_key}
+use Rattle.ep_calls.proofs.KeyLemmas.{under_key}
 use Rattle.ep_table.specs.Value.{Seen, Sound, count_at, holds_of, less_at, more_at, number_of, number_under}
 use Rattle.ep_law.proofs.TestLemmas.{from_test, neither, same_nat}
 

@@ -25,7 +25,7 @@ use Rattle.ep_calls.specs.Raising.{AsRaised, AsRaisedIn, Raises, RaisesByCall, o
 use Rattle.ep_calls.specs.Stands.{Stands}
 use Rattle.ep_calls.specs.declared.raising.Raising.{Raising}
 use Rattle.ep_calls.specs.declared.raising.Raising.TheVariants.{Object as AtObject}
-use Rattle.ep_calls.proofs.ObjectCalling.{named_some, past_first}
+use Rattle.ep_calls.proofs.ObjectCallLemmas.{named_some, past_first}
 use Rattle.ep_calls.proofs.FilesCallLemmas.{IsOnObject}
 use Rattle.ep_interest.specs.Registrations.{Registrations}
 use Rattle.ep_table.specs.Value.{Seen, content_of, effect_at, number_of, number_under}

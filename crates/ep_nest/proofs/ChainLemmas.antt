@@ -1,5 +1,5 @@
 -- Chains, joined and cut.
-use Rattle.ep_nest.proofs.Elements.{Contains-cons_cases}
+use Rattle.ep_nest.proofs.ElementLemmas.{Contains-cons_cases}
 use Rattle.ep_nest.specs.Chains.{IsLegalGraph, IsShort, LeadsBy}
 use Rattle.std.proofs.Common.{Contains, List, ap, arith, inl, inr, refl, subst, suc, sym, zero, ℕ, ◌+◌, ◌∷◌, ◌≡◌, ◌≤◌, ◌⊎◌}
 use Rattle.std.proofs.lemmas.Bool.{cases_lt}

@@ -1,6 +1,6 @@
 -- What a filter answered, entry by entry.
 use Rattle.ep_machine.specs.Lists.{are_distinct, is_among}
-use Rattle.ep_nest.proofs.Elements.{Contains-map, among}
+use Rattle.ep_nest.proofs.ElementLemmas.{Contains-map, among}
 use Rattle.ep_nest.specs.Links.{admitted_by, entries}
 use Rattle.ep_nest.specs.declared.link.Link.{Link}
 use Rattle.ep_base.specs.declared.ids.EntryNumber.{EntryNumber}

@@ -31,7 +31,7 @@ use Rattle.ep_calls.specs.Wait.{wait_call}
 use Rattle.ep_calls.specs.declared.outcome.Outcome.{Outcome}
 use Rattle.ep_calls.specs.declared.raising.Raising.{Raising}
 use Rattle.ep_calls.specs.declared.raising.Raising.TheVariants.{Nowhere}
-use Rattle.ep_calls.proofs.Unraised.{nowhere_raises, resume_raises}
+use Rattle.ep_calls.proofs.NothingRaisedLemmas.{nowhere_raises, resume_raises}
 use Rattle.ep_machine.specs.State.{Change, State, Waiter}
 use Rattle.ep_machine.specs.Waits.{is_positive, parked, resume, wait, wait_for}
 use Rattle.ep_machine.specs.Bits.{ONESHOT, has_bit}
@@ -39,7 +39,7 @@ use Rattle.ep_machine.specs.Lists.{is_among}
 use Rattle.ep_machine.specs.Watches.{is_legal, links, number_in}
 use Rattle.ep_nest.specs.declared.link.Link.{Link}
 use Rattle.ep_calls.specs.Climb.{KeepsLinks, is_nested, link_of}
-use Rattle.ep_calls.proofs.Nesting.{links_mapped}
+use Rattle.ep_calls.proofs.GraphLemmas.{links_mapped}
 use Rattle.ep_calls.specs.Moves.{Goes, StandFor}
 use Rattle.ep_calls.specs.Parts.{Parts}
 use Rattle.ep_calls.specs.Reports.{Reports}
@@ -47,9 +47,9 @@ use Rattle.ep_calls.specs.Stands.{AreLinked, ArePlaced, IsLinked, IsPlaced, Stan
 use Rattle.ep_calls.specs.Wait.{AreKeyed, IsPick, Waits, deadline_of, with_report, numbers_of, wait_tests}
 use Rattle.ep_calls.specs.declared.wait.Reportable.{Reportable}
 use Rattle.ep_calls.specs.declared.wait.Wait.{Wait}
-use Rattle.ep_calls.proofs.Going.{goes_made}
-use Rattle.ep_calls.proofs.Keys.{under_key}
-use Rattle.ep_calls.proofs.Reported.{after, linked_noted, no_numbers, told_change, waits, waits_now}
+use Rattle.ep_calls.proofs.OutcomeLemmas.{goes_made}
+use Rattle.ep_calls.proofs.KeyLemmas.{under_key}
+use Rattle.ep_calls.proofs.ReportLemmas.{after, linked_noted, no_numbers, told_change, waits, waits_now}
 use Rattle.ep_table.specs.Value.{Seen, Sound as SoundTables, holds_of, number_of, number_under}
 use Rattle.ep_table.proofs.UnnameLemmas.{under_named}
 

@@ -11,7 +11,7 @@ use Rattle.ep_machine.specs.Files.{Files, named_by, object_of, object_under}
 use Rattle.ep_machine.specs.Objects.{is_instance, plain}
 use Rattle.ep_nest.specs.declared.link.Link.{Link}
 use Rattle.ep_calls.specs.Climb.{AreNested}
-use Rattle.ep_calls.proofs.Nesting.{legal_both}
+use Rattle.ep_calls.proofs.GraphLemmas.{legal_both}
 use Rattle.ep_machine.specs.Refusal.{ctl_refusals}
 use Rattle.ep_machine.specs.State.{Change, State, Waiter}
 use Rattle.ep_machine.specs.Watches.{is_add, is_del, is_legal, is_mod, is_there, links, number_in}
@@ -34,8 +34,8 @@ use Rattle.ep_calls.specs.declared.control.Named.{Named}
 use Rattle.ep_calls.specs.declared.control.Operation.{Operation}
 use Rattle.ep_calls.specs.declared.control.Operation.TheVariants.{Add, Delete, Modify}
 use Rattle.ep_interest.specs.declared.entry.Entry.{Entry}
-use Rattle.ep_calls.proofs.Going.{goes_made, goes_refused, raises_made, raises_refused}
-use Rattle.ep_calls.proofs.Seeing.{has_own, keyed_last, none_other, raises_looked}
+use Rattle.ep_calls.proofs.OutcomeLemmas.{goes_made, goes_refused, raises_made, raises_refused}
+use Rattle.ep_calls.proofs.AdditionRaiseLemmas.{has_own, keyed_last, none_other, raises_looked}
 use Rattle.ep_machine.specs.Spread.{raised_of}
 use Rattle.ep_machine.specs.State.{Watch}
 use Rattle.ep_calls.specs.Raising.{Raises, raised_bits}
@@ -43,8 +43,8 @@ use Rattle.ep_calls.specs.Readiness.{entry_shows, readiness}
 use Rattle.ep_calls.specs.declared.raising.Raising.{Raising}
 use Rattle.ep_calls.specs.declared.raising.Raising.TheVariants.{Instance, Nowhere}
 use Rattle.ep_view.proofs.KernelViewLemmas.{kept_filter}
-use Rattle.ep_calls.proofs.Found.{all_modified, changed, linked_modified, without}
-use Rattle.ep_calls.proofs.Linking.{count_is, there_is}
+use Rattle.ep_calls.proofs.FindLemmas.{all_modified, changed, linked_modified, without}
+use Rattle.ep_calls.proofs.RegistrationLemmas.{count_is, there_is}
 
 -- of two lists of tests, the second is asked where nothing of the first holds
 pub first_some : (xs ys : List (Bool × Errno)) (e : Errno) → first xs ≡ Some e → first (xs ++ ys) ≡ Some e

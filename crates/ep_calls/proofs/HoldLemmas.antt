@@ -11,7 +11,7 @@ use Rattle.ep_law.proofs.MarkLemmas.{marked_parts}
 use Rattle.ep_view.proofs.WaiterLemmas.{AreApart}
 use Rattle.ep_calls.specs.Stands.{AreHeld}
 use Rattle.ep_calls.specs.Stands.{ArePlaced, IsPlaced, number_at, waiters_at}
-use Rattle.ep_calls.proofs.Keys.{same_keys}
+use Rattle.ep_calls.proofs.KeyLemmas.{same_keys}
 use Rattle.ep_table.specs.Value.{Seen, Sound}
 
 turned : (a b : ℕ) → (a == b) ≡ (b == a)

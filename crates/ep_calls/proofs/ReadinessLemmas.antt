@@ -15,8 +15,8 @@ use Rattle.ep_machine.specs.Objects.{Object, counter, instance, is_instance, pai
 use Rattle.ep_machine.specs.Readiness.{present_of}
 use Rattle.ep_calls.specs.Readiness.{entry_bits, shown_over}
 use Rattle.ep_calls.specs.Stands.{IsLinked, number_at, watch_at}
-use Rattle.ep_calls.proofs.Keys.{same_keys}
-use Rattle.ep_calls.proofs.Waiting.{entries_of}
+use Rattle.ep_calls.proofs.KeyLemmas.{same_keys}
+use Rattle.ep_calls.proofs.CollectLemmas.{entries_of}
 use Rattle.ep_table.specs.Value.{Seen, Sound, number_under}
 
 -- only an instance asks what is ready

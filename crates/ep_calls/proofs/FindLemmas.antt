@@ -14,7 +14,7 @@ use Rattle.ep_view.specs.KernelView.{KernelWatch, is_at, kernel_modified, kernel
 use Rattle.ep_machine.specs.State.{State, Watch}
 use Rattle.ep_machine.specs.Watches.{has_key as has_numbers, modified as modified_watch, number_in}
 use Rattle.ep_calls.specs.Stands.{IsLinked, number_at, watch_at}
-use Rattle.ep_calls.proofs.Linking.{same_key_test}
+use Rattle.ep_calls.proofs.RegistrationLemmas.{same_key_test}
 use Rattle.ep_table.specs.Value.{Seen, Sound, number_under}
 use Rattle.ep_law.proofs.TestLemmas.{from_test, same_nat}
 

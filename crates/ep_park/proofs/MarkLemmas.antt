@@ -10,8 +10,8 @@ use Rattle.std.specs.Map.{keys_of, lookup, values_of}
 use Rattle.std.specs.Option.{option_map}
 use Rattle.ep_machine.specs.State.{Waiter as Parked}
 use Rattle.ep_machine.specs.Waits.{is_due, marked_if_due, unmark}
-use Rattle.ep_park.proofs.Tallied.{any_counted, first_is, marked_is, none_marked}
-use Rattle.ep_park.proofs.Views.{either, swapped}
+use Rattle.ep_park.proofs.TallyLemmas.{any_counted, first_is, marked_is, none_marked}
+use Rattle.ep_park.proofs.ViewLemmas.{either, swapped}
 use Rattle.ep_park.specs.Changes.{changed_at, changed_below, with_mark_of}
 use Rattle.ep_park.specs.Tallies.{first_at, is_marked_of, tally_by, tally_of}
 use Rattle.ep_park.specs.Waiters.{first_marked, is_at, is_marked_caller, listed, longest_marked, parked}

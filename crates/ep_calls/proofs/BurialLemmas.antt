@@ -26,8 +26,8 @@ use Rattle.ep_view.proofs.DeathLemmas.{Apart}
 use Rattle.ep_calls.specs.Raising.{raised_there}
 use Rattle.ep_calls.specs.Stands.{AreLinked, IsLinked, number_at, watch_at}
 use Rattle.ep_view.proofs.ClimbLemmas.{zero_asked, zero_brings}
-use Rattle.ep_calls.proofs.Across.{a_place, elsewhere, link_noted, noted, watch_noted}
-use Rattle.ep_calls.proofs.Keys.{same_keys, under_key}
+use Rattle.ep_calls.proofs.OtherEndLemmas.{a_place, elsewhere, link_noted, noted, watch_noted}
+use Rattle.ep_calls.proofs.KeyLemmas.{same_keys, under_key}
 use Rattle.ep_table.specs.Closing.{opposite}
 use Rattle.ep_table.specs.Closing.{Takes}
 use Rattle.ep_table.specs.Value.{Seen, Sound, number_under}

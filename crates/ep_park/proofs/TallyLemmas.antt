@@ -12,7 +12,7 @@ use Rattle.indexmap.specs.IndexMap.{set_value_at}
 use Rattle.ep_base.specs.declared.ids.CallerId.{CallerId}
 use Rattle.ep_machine.specs.State.{Waiter as Parked}
 use Rattle.ep_machine.specs.Waits.{waits_at}
-use Rattle.ep_park.proofs.Views.{either}
+use Rattle.ep_park.proofs.ViewLemmas.{either}
 use Rattle.ep_park.specs.Tallies.{IsTallied, Rewrites, bit, first_at, is_marked_of, joined, left, remarked, tally_by, tally_of}
 use Rattle.ep_park.specs.Waiters.{is_at, listed, parked}
 use Rattle.ep_park.specs.declared.tally.Tally.{Tally}

@@ -7,7 +7,7 @@ use Rattle.std.specs.List.{list_any}
 use Rattle.ep_machine.specs.Marks.{first_marked as first_of_each}
 use Rattle.ep_machine.specs.State.{Waiter as Parked}
 use Rattle.ep_machine.specs.Waits.{is_marked_at, waits_at}
-use Rattle.ep_park.proofs.Views.{either, swapped}
+use Rattle.ep_park.proofs.ViewLemmas.{either, swapped}
 use Rattle.ep_park.specs.Turns.{NamesReady, NamesUnmarked, marked_in_turn}
 use Rattle.ep_park.specs.Waiters.{first_marked, longest_marked}
 

@@ -1,7 +1,7 @@
 -- Marked instances, taken once each.
 use Rattle.ep_base.specs.declared.ids.DescId.{DescId}
 use Rattle.ep_machine.specs.Lists.{are_distinct, is_among}
-use Rattle.ep_nest.proofs.Elements.{among, from_among}
+use Rattle.ep_nest.proofs.ElementLemmas.{among, from_among}
 use Rattle.ep_nest.specs.Links.{keys}
 use Rattle.ep_nest.specs.Marks.{IsMarked}
 use Rattle.std.proofs.Common.{Bool, Contains, List, [], ap, eq-eqb, eqb, false, get_or, inl, inr, length, not, refl, set, subst, sym, take, true, ℕ, ◌+◌, ◌++◌, ◌<◌, ◌∙◌, ◌∷◌, ◌↔◌, ◌≡◌, ◌⊎◌}

@@ -20,7 +20,7 @@ use Rattle.ep_calls.specs.Stands.{AreHeld, KeepsHolds}
 use Rattle.ep_calls.specs.Stands.{AreLinked, ArePlaced, IsLinked, IsPlaced, KeepsKeys, Stands, number_at, waiters_at, watch_at}
 use Rattle.ep_table.specs.Value.{Seen, Sound, number_under}
 use Rattle.ep_interest.specs.declared.entry.Entry.{Entry}
-use Rattle.ep_calls.proofs.Keys.{number_kept, same_keys, some_kept}
+use Rattle.ep_calls.proofs.KeyLemmas.{number_kept, same_keys, some_kept}
 
 -- the test of a key sees nothing of what a kernel keeps otherwise
 there_kept : (s : State) (e fd d : ℕ) (xs : List Watch) → list_any (is_at e fd d) (kernel_watches s xs) ≡ list_any (has_numbers e fd d) xs

@@ -1,8 +1,8 @@
 -- The machine's search for long chains.
 use Rattle.ep_machine.specs.Lists.{is_among, is_empty}
 use Rattle.ep_machine.specs.Watches.{ends_of_chains, is_legal}
-use Rattle.ep_nest.proofs.Chains.{joined}
-use Rattle.ep_nest.proofs.Elements.{Contains-filter, Contains-from_filter, Contains-from_map, Contains-head, Contains-map, Contains-nil, among, from_among}
+use Rattle.ep_nest.proofs.ChainLemmas.{joined}
+use Rattle.ep_nest.proofs.ElementLemmas.{Contains-filter, Contains-from_filter, Contains-from_map, Contains-head, Contains-map, Contains-nil, among, from_among}
 use Rattle.ep_nest.specs.Chains.{IsShort, LeadsBy}
 use Rattle.std.proofs.Common.{Bool, Contains, List, [], arith, filter, refl, subst, suc, true, zero, ℕ, ◌+◌, ◌∷◌, ◌≡◌}
 

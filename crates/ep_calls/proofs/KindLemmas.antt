@@ -10,8 +10,8 @@ use Rattle.ep_view.specs.AtRest.{kind_of}
 use Rattle.ep_nest.specs.declared.link.Link.{Link}
 use Rattle.ep_calls.specs.Climb.{AreNested, is_nested}
 use Rattle.ep_calls.specs.Stands.{AreLinked, KeepsKeys, number_at, watch_at}
-use Rattle.ep_calls.proofs.Keys.{number_kept}
-use Rattle.ep_calls.proofs.Nesting.{links_same}
+use Rattle.ep_calls.proofs.KeyLemmas.{number_kept}
+use Rattle.ep_calls.proofs.GraphLemmas.{links_same}
 use Rattle.ep_table.specs.Value.{Seen}
 
 -- Targets that keep their kind.

@@ -20,7 +20,7 @@ use Rattle.ep_calls.specs.Readiness.{entry_shows, readiness}
 use Rattle.ep_calls.specs.Stands.{AreLinked, IsLinked, Stands, number_at, watch_at}
 use Rattle.ep_calls.specs.declared.control.Named.{Named}
 use Rattle.ep_calls.specs.declared.raising.Raising.TheVariants.{Instance, Nowhere}
-use Rattle.ep_calls.proofs.Linking.{same_key_test}
+use Rattle.ep_calls.proofs.RegistrationLemmas.{same_key_test}
 use Rattle.ep_table.specs.Value.{Seen, Sound, number_under}
 
 -- of the others none has the key

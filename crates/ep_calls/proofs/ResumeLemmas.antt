@@ -23,8 +23,8 @@ use Rattle.ep_calls.specs.Reports.{Reports}
 use Rattle.ep_calls.specs.Stands.{IsPlaced, Stands, number_at, waiters_at, watch_at}
 use Rattle.ep_calls.specs.Wait.{AreKeyed, IsPick, numbers_of}
 use Rattle.ep_calls.specs.declared.wait.Reportable.{Reportable}
-use Rattle.ep_calls.proofs.Going.{goes_made, goes_refused}
-use Rattle.ep_calls.proofs.Reported.{told_change, after, no_numbers, resumes, resumes_due}
+use Rattle.ep_calls.proofs.OutcomeLemmas.{goes_made, goes_refused}
+use Rattle.ep_calls.proofs.ReportLemmas.{told_change, after, no_numbers, resumes, resumes_due}
 use Rattle.ep_table.specs.Value.{Seen}
 
 pub is_off : (b : Bool) → not b ≡ true → b ≡ false

@@ -1,6 +1,6 @@
 -- For a caller of `above` whose filter follows a rule: what `exact` says of what it answered is then true of the rule.
 use Rattle.ep_machine.specs.Lists.{is_among}
-use Rattle.ep_nest.proofs.Admit.{same_kept}
+use Rattle.ep_nest.proofs.AdmitLemmas.{same_kept}
 use Rattle.ep_nest.specs.Chains.{IsAbove}
 use Rattle.ep_nest.specs.Links.{admitted_by, edges}
 use Rattle.ep_nest.specs.declared.link.Link.{Link}

@@ -10,7 +10,7 @@ use Rattle.ep_machine.specs.Lists.{is_among}
 use Rattle.ep_nest.specs.Links.{entries, without}
 use Rattle.ep_nest.specs.declared.link.Link.{Link}
 use Rattle.ep_calls.specs.Climb.{is_nested, link_of}
-use Rattle.ep_calls.proofs.Nesting.{links_mapped}
+use Rattle.ep_calls.proofs.GraphLemmas.{links_mapped}
 use Rattle.ep_table.specs.Value.{Seen}
 use Rattle.ep_law.proofs.TestLemmas.{same_nat}
 

@@ -9,7 +9,7 @@ use Rattle.ep_base.specs.declared.ids.DescId.{DescId}
 use Rattle.ep_base.specs.declared.ids.Fd.{Fd}
 use Rattle.ep_interest.specs.Registrations.{IsSound, Registrations, RisesFrom, has_key, numbered}
 use Rattle.ep_interest.specs.declared.entry.Entry.{Entry}
-use Rattle.ep_calls.proofs.Found.{has_number, rises_above, some_one}
+use Rattle.ep_calls.proofs.FindLemmas.{has_number, rises_above, some_one}
 use Rattle.ep_law.proofs.TestLemmas.{from_test}
 
 -- none is looked at where there is none

@@ -1,5 +1,5 @@
 -- A pass over the links makes the table say chains of one link more.
-use Rattle.ep_nest.proofs.Chains.{at_most_four, joined, last_link}
+use Rattle.ep_nest.proofs.ChainLemmas.{at_most_four, joined, last_link}
 use Rattle.ep_nest.specs.Chains.{IsShort, LeadsBy}
 use Rattle.ep_nest.specs.Lengths.{AreChains, AreLengths, AreLongestTo, HasPlaces}
 use Rattle.std.proofs.Common.{Contains, List, ap, arith, get_or, inl, inr, length, max, set, slice_index, subst, suc, sym, take, zero, ℕ, ◌+◌, ◌<◌, ◌∙◌, ◌≡◌, ◌≤◌}

@@ -12,8 +12,8 @@ use Rattle.ep_calls.specs.Climb.{KeepsLinks, is_nested, is_nested_key, link_of}
 use Rattle.ep_calls.specs.Raising.{Stirs, bits_of, due_bits, raised_each, raised_there}
 use Rattle.ep_calls.specs.declared.raising.Raising.{Raising}
 use Rattle.ep_calls.specs.declared.raising.Raising.TheVariants.{Clock, Instance, Nowhere, Object}
-use Rattle.ep_calls.proofs.Across.{noted}
-use Rattle.ep_calls.proofs.Nesting.{links_filtered, links_mapped}
+use Rattle.ep_calls.proofs.OtherEndLemmas.{noted}
+use Rattle.ep_calls.proofs.GraphLemmas.{links_filtered, links_mapped}
 use Rattle.ep_table.specs.Closing.{opposite}
 use Rattle.ep_table.specs.Live.{live_ids}
 use Rattle.ep_table.specs.Value.{Seen, number_of}

@@ -1,5 +1,5 @@
 -- A pass over the links marks the instances with a chain of one link more.
-use Rattle.ep_nest.proofs.Chains.{at_most_four}
+use Rattle.ep_nest.proofs.ChainLemmas.{at_most_four}
 use Rattle.ep_nest.specs.Chains.{IsAbove, IsShort}
 use Rattle.ep_nest.specs.Marks.{AreAbove, AreAllTo, IsMarked}
 use Rattle.std.proofs.Common.{Bool, Contains, List, arith, false, get_or, inl, inr, length, set, subst, suc, sym, take, true, zero, ℕ, ◌+◌, ◌<◌, ◌∙◌, ◌↔◌, ◌≡◌, ◌⊎◌}

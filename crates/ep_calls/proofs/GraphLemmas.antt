@@ -13,7 +13,7 @@ use Rattle.ep_nest.specs.Links.{edges}
 use Rattle.ep_nest.specs.declared.link.Link.{Link}
 use Rattle.ep_calls.specs.Climb.{AreNested, is_nested, link_of}
 use Rattle.ep_calls.specs.Stands.{AreLinked, IsLinked, Stands, number_at, watch_at}
-use Rattle.ep_calls.proofs.Keys.{same_tests, under_key}
+use Rattle.ep_calls.proofs.KeyLemmas.{same_tests, under_key}
 use Rattle.ep_table.specs.Value.{Seen, Sound}
 
 -- A graph under other names for its instances.

@@ -12,8 +12,8 @@ use Rattle.ep_script.specs.Steps.{TakesLine, Tells}
 use Rattle.ep_script.specs.Tally.{counted}
 use Rattle.ep_script.specs.Transcript.{AreOf, Grows, Outcome, said, transcript}
 use Rattle.ep_script.proofs.Lines.{open_line, whole_line}
-use Rattle.ep_script.proofs.Tallying.{are_more, fit_more, grows_more, tally_more, transcript_more}
-use Rattle.ep_script.proofs.Writing.{appends_more, appends_nothing}
+use Rattle.ep_script.proofs.TallyLemmas.{are_more, fit_more, grows_more, tally_more, transcript_more}
+use Rattle.ep_script.proofs.WriterLemmas.{appends_more, appends_nothing}
 
 -- the first lines are answered, and the rest is left
 pub record Progress (input rest : List ℕ) (before written : Option (List ℕ)) (start history : List Record) (summary : Summary) : Type 0 where

@@ -21,8 +21,8 @@ use Rattle.ep_calls.specs.Stands.{AreLinked, IsLinked, number_at, watch_at}
 use Rattle.ep_calls.specs.declared.raising.Raising.{Raising}
 use Rattle.ep_calls.specs.declared.raising.Raising.TheVariants.{Clock, Instance, Nowhere, Object}
 use Rattle.ep_view.specs.KernelView.{freshened_by}
-use Rattle.ep_calls.proofs.Across.{a_place, elsewhere, link_noted, noted, off_own, some_place, watch_noted, zero_noted}
-use Rattle.ep_calls.proofs.Keys.{same_keys, under_key}
+use Rattle.ep_calls.proofs.OtherEndLemmas.{a_place, elsewhere, link_noted, noted, off_own, some_place, watch_noted, zero_noted}
+use Rattle.ep_calls.proofs.KeyLemmas.{same_keys, under_key}
 use Rattle.ep_table.specs.Closing.{IsAt, across, opposite}
 use Rattle.ep_table.specs.Live.{live_from, live_ids}
 use Rattle.ep_table.specs.Value.{Seen, Sound, number_of, number_under}
