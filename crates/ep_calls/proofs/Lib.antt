@@ -34,3 +34,4 @@ pub mod ObjectLemmas
 pub mod ControlLemmas
 pub mod KeepsLemmas
 pub mod StepLemmas
+pub mod KeptLemmas

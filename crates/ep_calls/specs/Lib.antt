@@ -1,4 +1,6 @@
 pub mod Acts
+pub mod KeptRecords
+pub mod Kept
 pub mod Stands
 pub mod Parts
 pub mod Moves

@@ -6,6 +6,7 @@ ghost use Rattle.ep_machine.specs.Run.{run};
 ghost use Rattle.ep_machine.specs.Waits.{is_marked, is_parked};
 ghost use Rattle.ep_machine.specs.State.{State, opening};
 ghost use Rattle.ep_calls.specs.Acts.{Acts};
+ghost use Rattle.ep_calls.specs.KeptRecords.{KeepsRecord};
 
 use ep_base::{Answer, CallerId, Event, Limits, Record};
 use std::alloc::AllocError;
@@ -32,6 +33,15 @@ pub trait Kernel {
         ensures limits { bounds self.new ≡ bounds self.old }
         ensures capacity { capacity self.old ≤ capacity self.new }
         ensures acts { Acts (bounds self.old) caller event result (state self.old) (state self.new) (past self.old) (past self.new) };
+
+    /// A step whose record is put at the end of a list of the caller's too.
+    /// ENOMEM is answered where a growth of either was refused: then the list too is as before, but that it may have
+    /// more room.
+    fn step_kept(&mut self, caller: CallerId, event: Event, kept: &mut Vec<Record>) -> Answer
+        ensures limits { bounds self.new ≡ bounds self.old }
+        ensures capacity { capacity self.old ≤ capacity self.new }
+        ensures acts { Acts (bounds self.old) caller event result (state self.old) (state self.new) (past self.old) (past self.new) }
+        ensures kept { KeepsRecord result (past self.old) (past self.new) kept.old.items kept.new.items };
 
     /// Makes room for this many further records, or fails where memory is refused. State and history stay in both cases.
     fn reserve(&mut self, additional: usize) -> Result<(), AllocError>

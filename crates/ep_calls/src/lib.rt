@@ -15,6 +15,7 @@ mod raising;
 mod readiness;
 mod report;
 mod runs;
+mod spare;
 mod table_call;
 mod wait;
 
@@ -26,4 +27,5 @@ pub use crate::parts::Parts;
 pub use crate::raising::Raising;
 pub use crate::readiness::{is_ready_now, is_reportable, shown};
 pub use crate::runs::{ready_waiters_are_marked, run};
+pub use crate::spare::Spare;
 pub use crate::wait::{Reportable, Wait, find_instance};

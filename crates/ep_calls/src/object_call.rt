@@ -1,5 +1,5 @@
 //! Calls on the object that a descriptor names: read, write, shutdown, settime and gettime.
-ghost use Rattle.std.specs.Prelude.{ℕ, Some, ◌≡◌, ◌≤◌, [], ◌∷◌, IfOk, IsSome, OnErr, OnOk, false, min};
+ghost use Rattle.std.specs.Prelude.{ℕ, Some, ◌≡◌, ◌≤◌, [], ◌∷◌, IfOk, IsSome, MatchOption, OnErr, OnOk, false, min, true};
 ghost use Rattle.ep_base.specs.declared.errno.Errno.{Errno as AnErrno};
 ghost use Rattle.ep_machine.specs.Files.{names_nothing, object_under, side_of, side_under, named_by};
 ghost use Rattle.ep_machine.specs.Objects.{object_refusals};
@@ -8,6 +8,7 @@ ghost use Rattle.ep_machine.specs.Timer.{last_moment};
 ghost use Rattle.ep_object.specs.Memory.{asked_of, object_waiting};
 ghost use Rattle.ep_calls.specs.Stands.{KeepsHolds};
 ghost use Rattle.ep_calls.specs.Does.{DoesCall};
+ghost use Rattle.ep_calls.specs.Kept.{IsKept};
 ghost use Rattle.ep_calls.specs.ObjectCall.{FitsRoom, fd_of, waiting_at};
 ghost use Rattle.ep_calls.specs.Acts.{is_no_memory};
 ghost use Rattle.ep_calls.specs.Raising.{IsRaising, RaisesByCall};
@@ -15,25 +16,29 @@ ghost use Rattle.ep_table.specs.Value.{content_of, number_of, number_under};
 ghost use Rattle.smallvec.specs.SmallVec.{HasRoomFor};
 
 use crate::raising::Raising;
-use crate::{Outcome, Parts};
-use ep_base::{Answer, Bytes, Call, DescId, Errno, Fd, Pid};
+use crate::{Outcome, Parts, Spare};
+use ep_base::{Answer, Bytes, Call, DescId, Errno, Fd, Picked, Pid};
 use ep_table::Tables;
 use smallvec::SmallVec;
 use std::alloc::{AllocError, Global};
 
-/// Room for the bytes that a call gives, before it takes them from the object.
+/// Room for the bytes that a call gives, before it takes them from the object, where it is wanted.
 fn room_for_copy(
     alloc: Global,
     tables: &Tables,
     desc: DescId,
     call: &Call,
+    wanted: bool,
 ) -> Result<SmallVec<u8, 16>, AllocError>
     requires { IsSome (number_under tables.now desc) }
     ensures empty { IfOk result (λ room. room.items ≡ []) }
     ensures inline { IfOk result (λ room. HasRoomFor room 16) }
-    ensures room { IfOk result (λ room. HasRoomFor room (min (asked_of call.now) (waiting_at tables.now desc))) }
+    ensures room { IfOk result (λ room. wanted ≡ true → HasRoomFor room (min (asked_of call.now) (waiting_at tables.now desc))) }
 {
     let mut room = SmallVec::new(alloc);
+    if !wanted {
+        return Ok(room);
+    }
     if let Call::Read { n, .. } = call {
         let waiting = tables.object(desc).waiting(tables.end(desc));
         room.reserve((*n as usize).min(waiting))?;
@@ -62,23 +67,75 @@ fn answer_copy(answer: &Answer, mut room: SmallVec<u8, 16>) -> Answer
     }
 }
 
+/// Copies of an answer for a second record, where one is asked for.
+fn spare_of(
+    alloc: Global,
+    answer: &Answer,
+    room: SmallVec<u8, 16>,
+    kept: bool,
+) -> Option<Spare>
+    requires empty { room.items ≡ [] }
+    requires fits { kept ≡ true → FitsRoom answer.now room }
+    ensures { MatchOption result (kept ≡ false) (λ s. (s.answer ≡ answer.now) × (s.picked ≡ [])) }
+{
+    if !kept {
+        return None;
+    }
+    Some(Spare {
+        answer: answer_copy(answer, room),
+        picked: Picked::empty(alloc),
+    })
+}
+
+/// What a call came to, with copies of its answer in the rooms that were made for them.
+fn outcome_of(
+    alloc: Global,
+    answer: Answer,
+    room: SmallVec<u8, 16>,
+    more: SmallVec<u8, 16>,
+    kept: bool,
+    raising: Raising,
+) -> Outcome
+    requires empty { room.items ≡ [] }
+    requires fits { FitsRoom answer room }
+    requires more_empty { more.items ≡ [] }
+    requires more_fits { kept ≡ true → FitsRoom answer more }
+    requires real { is_no_memory answer ≡ false }
+    ensures answer { result.answer ≡ answer }
+    ensures picked { result.picked ≡ [] }
+    ensures raising { result.raising ≡ raising }
+    ensures kept { IsKept kept result }
+{
+    let recorded = answer_copy(&answer, room);
+    let spare = spare_of(alloc, &answer, more, kept);
+    Outcome::copied(alloc, answer, recorded, spare, raising)
+}
+
 impl Parts {
     /// read(2), write(2), shutdown(2), timerfd_settime(2) or timerfd_gettime(2) of what a descriptor names, at the end
-    /// that it names: EBADF where it names nothing, else what the object answers.
+    /// that it names: EBADF where it names nothing, else what the object answers. `kept`: a second record of it is
+    /// asked for.
     /// An `Err` is want of memory and leaves the parts.
-    pub fn object_call(&mut self, pid: Pid, fd: Fd, call: &Call) -> Result<Outcome, AllocError>
+    pub fn object_call(
+        &mut self,
+        pid: Pid,
+        fd: Fd,
+        call: &Call,
+        kept: bool,
+    ) -> Result<Outcome, AllocError>
         requires { fd_of call.now ≡ Some fd }
         ensures ok { IfOk result (λ outcome. (n caller : ℕ) → DoesCall n caller pid.0 call.now outcome self.old self.new) }
+        ensures kept { IfOk result (λ outcome. IsKept kept outcome) }
         ensures err { OnErr result (self.new ≡ self.old) }
     {
         let Some(desc) = self.tables.lookup(pid, fd) else {
             return Ok(Outcome::refused(self.alloc, Errno::Ebadf));
         };
         self.tables.known();
-        let room = room_for_copy(self.alloc, &self.tables, desc, call)?;
+        let room = room_for_copy(self.alloc, &self.tables, desc, call, true)?;
+        let more = room_for_copy(self.alloc, &self.tables, desc, call, kept)?;
         let (answer, raised) = self.tables.apply(desc, self.clock, call)?;
-        let recorded = answer_copy(&answer, room);
         let raising = Raising::Object { desc, raised };
-        Ok(Outcome::copied(self.alloc, answer, recorded, raising))
+        Ok(outcome_of(self.alloc, answer, room, more, kept, raising))
     }
 }

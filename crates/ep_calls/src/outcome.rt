@@ -1,11 +1,13 @@
 //! What an event came to.
-ghost use Rattle.std.specs.Prelude.{◌≡◌, [], false};
+ghost use Rattle.std.specs.Prelude.{◌≡◌, [], None, false};
 ghost use Rattle.ep_base.specs.Answer.{FitsInline};
 ghost use Rattle.ep_base.specs.declared.answer.Answer.TheVariants.{Refused as refused};
 ghost use Rattle.ep_calls.specs.Acts.{is_no_memory};
+ghost use Rattle.ep_calls.specs.KeptRecords.{IsCopied, IsInline};
 ghost use Rattle.ep_calls.specs.declared.raising.Raising.TheVariants.{Nowhere};
 
 use crate::raising::Raising;
+use crate::spare::Spare;
 use ep_base::{Answer, Errno, Picked};
 use std::alloc::Global;
 
@@ -18,8 +20,11 @@ pub struct Outcome {
     pub recorded: Answer,
     /// The numbers of the registrations that the answer reports, in its order.
     pub picked: Picked,
+    /// Both once more, for a second record, where one was asked for and they take memory to copy.
+    pub spare: Option<Spare>,
     pub raising: Raising,
     ghost same: { recorded ≡ answer },
+    ghost copied: { IsCopied spare answer picked },
     ghost real: { is_no_memory answer ≡ false },
 }
 
@@ -29,10 +34,11 @@ impl Outcome {
         requires { is_no_memory (refused errno) ≡ false }
         ensures answer { result.answer ≡ refused errno }
         ensures picked { result.picked ≡ [] }
+        ensures inline { IsInline result.answer result.picked }
         ensures raising { result.raising ≡ Nowhere }
     {
         let recorded = Answer::Refused(errno);
-        Outcome::copied(alloc, Answer::Refused(errno), recorded, Raising::Nowhere)
+        Outcome::copied(alloc, Answer::Refused(errno), recorded, None, Raising::Nowhere)
     }
 
     /// An answer that takes no memory to copy, and reports nothing.
@@ -41,40 +47,58 @@ impl Outcome {
         requires real { is_no_memory answer ≡ false }
         ensures answer { result.answer ≡ answer }
         ensures picked { result.picked ≡ [] }
+        ensures inline { IsInline result.answer result.picked }
         ensures raising { result.raising ≡ raising }
     {
         let recorded = answer.copy().unwrap();
-        Outcome::copied(alloc, answer, recorded, raising)
+        Outcome::copied(alloc, answer, recorded, None, raising)
     }
 
-    /// An answer and its copy, which report nothing.
-    pub fn copied(alloc: Global, answer: Answer, recorded: Answer, raising: Raising) -> Outcome
+    /// An answer and its copies, which report nothing.
+    pub fn copied(
+        alloc: Global,
+        answer: Answer,
+        recorded: Answer,
+        spare: Option<Spare>,
+        raising: Raising,
+    ) -> Outcome
         requires same { recorded ≡ answer }
+        requires copied { IsCopied spare answer [] }
         requires real { is_no_memory answer ≡ false }
         ensures answer { result.answer ≡ answer }
         ensures picked { result.picked ≡ [] }
+        ensures spare { result.spare ≡ spare }
         ensures raising { result.raising ≡ raising }
     {
         Outcome {
             answer,
             recorded,
             picked: Picked::empty(alloc),
+            spare,
             raising,
         }
     }
 
-    /// A report of these registrations, and its copy.
-    pub fn reported(answer: Answer, recorded: Answer, picked: Picked) -> Outcome
+    /// A report of these registrations, and its copies.
+    pub fn reported(
+        answer: Answer,
+        recorded: Answer,
+        picked: Picked,
+        spare: Option<Spare>,
+    ) -> Outcome
         requires same { recorded ≡ answer }
+        requires copied { IsCopied spare answer picked }
         requires real { is_no_memory answer ≡ false }
         ensures answer { result.answer ≡ answer }
         ensures picked { result.picked ≡ picked }
+        ensures spare { result.spare ≡ spare }
         ensures raising { result.raising ≡ Nowhere }
     {
         Outcome {
             answer,
             recorded,
             picked,
+            spare,
             raising: Raising::Nowhere,
         }
     }

@@ -5,6 +5,7 @@ ghost use Rattle.ep_base.specs.declared.call.Event.TheVariants.{Resume};
 ghost use Rattle.ep_machine.specs.Lists.{is_among};
 ghost use Rattle.ep_park.specs.Waiters.{is_caller, parked, without};
 ghost use Rattle.ep_calls.specs.Does.{DoesEvent, DoesResume};
+ghost use Rattle.ep_calls.specs.Kept.{IsKept};
 ghost use Rattle.ep_calls.specs.Stands.{AreHeld, ArePlaced};
 ghost use Rattle.ep_calls.specs.Wait.{AreKeyed};
 ghost use Rattle.ep_table.specs.Value.{number_of, number_under};
@@ -66,7 +67,8 @@ fn leave(tables: &mut Tables, waiters: &mut Park, caller: CallerId)
 
 impl Parts {
     /// A parked caller that is marked gets the reports of those that it picks, and is no longer parked. Where there are
-    /// none, it gets none at its deadline, and before that loses its mark and stays parked.
+    /// none, it gets none at its deadline, and before that loses its mark and stays parked. `kept`: a second record of
+    /// it is asked for.
     /// An `Err` is want of memory and leaves the parts.
     pub fn resume_with(
         &mut self,
@@ -74,11 +76,13 @@ impl Parts {
         caller: CallerId,
         waiter: Waiter,
         chosen: &[Reportable],
+        kept: bool,
     ) -> Result<Outcome, AllocError>
         requires parked { find (is_caller caller.0) self.old.parked ≡ Some (parked caller.0 waiter) }
         requires marked { waiter.marked ≡ true }
         requires keyed { AreKeyed self.old.tables self.old.clock self.old.interest chosen.now }
         ensures ok { IfOk result (λ outcome. DoesResume step caller.0 waiter chosen.now outcome self.old self.new) }
+        ensures kept { IfOk result (λ outcome. IsKept kept outcome) }
         ensures err { OnErr result (self.new ≡ self.old) }
     {
         self.tables.known();
@@ -86,7 +90,7 @@ impl Parts {
             self.waiters.unmark(caller);
             return Ok(Outcome::settled(self.alloc, Answer::Still, Raising::Nowhere));
         }
-        let outcome = report(self.alloc, &mut self.interest, step, chosen)?;
+        let outcome = report(self.alloc, &mut self.interest, step, chosen, kept)?;
         leave(&mut self.tables, &mut self.waiters, caller);
         Ok(outcome)
     }

@@ -1,13 +1,14 @@
 //! What a wait reports, and what it leaves of the registrations that it does.
-ghost use Rattle.std.specs.Prelude.{◌≡◌, All, IfOk, OnErr, Some, map};
+ghost use Rattle.std.specs.Prelude.{◌≡◌, All, IfOk, MatchOption, OnErr, Some, false, map};
 ghost use Rattle.ep_base.specs.declared.answer.Answer.TheVariants.{Events};
 ghost use Rattle.ep_interest.specs.Registrations.{number_under as number_of_entry};
+ghost use Rattle.ep_calls.specs.Kept.{IsKept};
 ghost use Rattle.ep_calls.specs.Reports.{Reports};
 ghost use Rattle.ep_calls.specs.Wait.{with_report, numbers_of, report_of};
 ghost use Rattle.ep_calls.specs.declared.raising.Raising.TheVariants.{Nowhere};
 
-use crate::Outcome;
 use crate::wait::Reportable;
+use crate::{Outcome, Spare};
 use ep_base::{Answer, Picked, Report, Reports as ReportList};
 use ep_interest::Interest;
 use smallvec::SmallVec;
@@ -50,31 +51,52 @@ fn note(interest: &mut Interest, step: u64, chosen: &[Reportable])
     }
 }
 
+/// Copies for a second record, where one is asked for.
+fn spare_of(
+    alloc: Global,
+    chosen: &[Reportable],
+    kept: bool,
+) -> Result<Option<Spare>, AllocError>
+    ensures { IfOk result (λ spare. MatchOption spare (kept ≡ false) (λ s. (s.answer ≡ Events (map report_of chosen.now)) × (s.picked ≡ numbers_of chosen.now))) }
+{
+    if !kept {
+        return Ok(None);
+    }
+    let answer = Answer::Events(reports_of(alloc, chosen)?);
+    let picked = picked_of(alloc, chosen)?;
+    Ok(Some(Spare { answer, picked }))
+}
+
 /// The answer that reports them.
-fn reported(alloc: Global, chosen: &[Reportable]) -> Result<Outcome, AllocError>
+fn reported(alloc: Global, chosen: &[Reportable], kept: bool) -> Result<Outcome, AllocError>
     ensures answer { IfOk result (λ outcome. outcome.answer ≡ Events (map report_of chosen.now)) }
     ensures picked { IfOk result (λ outcome. outcome.picked ≡ numbers_of chosen.now) }
+    ensures kept { IfOk result (λ outcome. IsKept kept outcome) }
     ensures raising { IfOk result (λ outcome. outcome.raising ≡ Nowhere) }
 {
     let answer = Answer::Events(reports_of(alloc, chosen)?);
     let recorded = Answer::Events(reports_of(alloc, chosen)?);
     let picked = picked_of(alloc, chosen)?;
-    Ok(Outcome::reported(answer, recorded, picked))
+    let spare = spare_of(alloc, chosen, kept)?;
+    Ok(Outcome::reported(answer, recorded, picked, spare))
 }
 
-/// Reports them, and notes that it did. An `Err` is want of memory and leaves the registrations.
+/// Reports them, and notes that it did. `kept`: a second record of it is asked for.
+/// An `Err` is want of memory and leaves the registrations.
 pub fn report(
     alloc: Global,
     interest: &mut Interest,
     step: u64,
     chosen: &[Reportable],
+    kept: bool,
 ) -> Result<Outcome, AllocError>
     requires keyed { All (λ x. number_of_entry interest.old x.id ≡ Some x.entry.number) chosen.now }
     ensures ok { IfOk result (λ outcome. Reports interest.old interest.new step chosen.now outcome.answer outcome.picked) }
+    ensures kept { IfOk result (λ outcome. IsKept kept outcome) }
     ensures raising { IfOk result (λ outcome. outcome.raising ≡ Nowhere) }
     ensures err { OnErr result (interest.new ≡ interest.old) }
 {
-    let outcome = reported(alloc, chosen)?;
+    let outcome = reported(alloc, chosen, kept)?;
     note(interest, step, chosen);
     Ok(outcome)
 }

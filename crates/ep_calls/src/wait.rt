@@ -5,6 +5,7 @@ ghost use Rattle.ep_machine.specs.Effect.{first};
 ghost use Rattle.ep_machine.specs.Timer.{last_moment};
 ghost use Rattle.ep_park.specs.Waiters.{is_caller};
 ghost use Rattle.ep_calls.specs.Does.{DoesCall, DoesWait};
+ghost use Rattle.ep_calls.specs.Kept.{IsKept};
 ghost use Rattle.ep_calls.specs.Wait.{AreKeyed, Waits, deadline_of, wait_call, wait_tests};
 
 use crate::parking::park;
@@ -24,6 +25,8 @@ pub struct Wait {
     pub epfd: Fd,
     pub max: i32,
     pub timeout: i64,
+    /// Whether a second record of it is asked for.
+    pub kept: bool,
 }
 
 /// A registration that is reportable, with its key and what it shows.
@@ -78,11 +81,12 @@ impl Parts {
         requires waits { Waits self.old.tables args instance }
         requires keyed { AreKeyed self.old.tables self.old.clock self.old.interest chosen.now }
         ensures ok { IfOk result (λ outcome. DoesWait step caller.0 args instance chosen.now outcome self.old self.new) }
+        ensures kept { IfOk result (λ outcome. IsKept args.kept outcome) }
         ensures err { OnErr result (self.new ≡ self.old) }
     {
         self.tables.known();
         if !chosen.is_empty() || args.timeout == 0 {
-            let outcome = report(self.alloc, &mut self.interest, step, chosen)?;
+            let outcome = report(self.alloc, &mut self.interest, step, chosen, args.kept)?;
             return Ok(outcome);
         }
         let waiter = Waiter {

@@ -4,6 +4,7 @@ ghost use Rattle.std.specs.List.{list_any};
 ghost use Rattle.ep_machine.specs.Files.{table_of};
 ghost use Rattle.ep_park.specs.Waiters.{is_caller};
 ghost use Rattle.ep_calls.specs.Does.{DoesCall, DoesEvent};
+ghost use Rattle.ep_calls.specs.Kept.{KeepsCall, KeepsEvent};
 ghost use Rattle.ep_calls.specs.Parts.{HasRoom};
 
 use crate::wait::{epoll_wait, resume};
@@ -11,18 +12,20 @@ use ep_base::{Call, CallerId, Errno, Event, Pid};
 use ep_calls::{Control, Outcome, Parts, Wait};
 use std::alloc::AllocError;
 
-/// A call of a process that is there.
+/// A call of a process that is there. `kept`: a second record of it is asked for.
 fn make_call(
     parts: &mut Parts,
     step: u64,
     caller: CallerId,
     pid: Pid,
     call: &Call,
+    kept: bool,
 ) -> Result<Outcome, AllocError>
     requires free { list_any (is_caller caller.0) parts.old.parked ≡ false }
     requires process { is_some (table_of parts.old.tables.files pid.0) ≡ true }
     requires room { HasRoom parts.old }
     ensures ok { IfOk result (λ outcome. DoesCall step caller.0 pid.0 call.now outcome parts.old parts.new) }
+    ensures kept { IfOk result (λ outcome. KeepsCall call.now kept outcome) }
     ensures err { OnErr result (parts.new ≡ parts.old) }
 {
     match *call {
@@ -48,6 +51,7 @@ fn make_call(
                 epfd,
                 max,
                 timeout,
+                kept,
             };
             epoll_wait(parts, step, caller, args)
         }
@@ -55,20 +59,23 @@ fn make_call(
         | Call::Write { fd, .. }
         | Call::Shutdown { fd }
         | Call::SetTime { fd, .. }
-        | Call::GetTime { fd } => parts.object_call(pid, fd, call),
+        | Call::GetTime { fd } => parts.object_call(pid, fd, call, kept),
         _ => parts.table_call(pid, call),
     }
 }
 
-/// One event: its refusal, ESRCH first for a call, or its change. An `Err` is want of memory and leaves the parts.
+/// One event: its refusal, ESRCH first for a call, or its change. `kept`: a second record of it is asked for.
+/// An `Err` is want of memory and leaves the parts.
 pub fn act(
     parts: &mut Parts,
     step: u64,
     caller: CallerId,
     event: &Event,
+    kept: bool,
 ) -> Result<Outcome, AllocError>
     requires { HasRoom parts.old }
     ensures ok { IfOk result (λ outcome. DoesEvent step caller.0 event.now outcome parts.old parts.new) }
+    ensures kept { IfOk result (λ outcome. KeepsEvent event.now kept outcome) }
     ensures err { OnErr result (parts.new ≡ parts.old) }
 {
     match event {
@@ -79,9 +86,9 @@ pub fn act(
             if parts.waiters.is_parked(caller) {
                 return Ok(Outcome::refused(parts.alloc, Errno::Ebusy));
             }
-            make_call(parts, step, caller, *pid, call)
+            make_call(parts, step, caller, *pid, call, kept)
         }
-        Event::Resume => resume(parts, step, caller),
+        Event::Resume => resume(parts, step, caller, kept),
         Event::Tick { n } => Ok(parts.tick(*n)),
     }
 }

@@ -1,13 +1,14 @@
 //! The kernel that scans.
-ghost use Rattle.std.specs.Prelude.{◌≡◌, ◌≤◌, [], IfOk, OnErr, false};
+ghost use Rattle.std.specs.Prelude.{◌≡◌, ◌≤◌, [], IfOk, OnErr, false, true};
 ghost use Rattle.ep_calls.specs.Acts.{Adds, is_no_memory};
 ghost use Rattle.ep_calls.specs.Book.{state_of};
+ghost use Rattle.ep_calls.specs.KeptRecords.{Gains, HasRecord};
 
 use crate::act::act;
 use crate::climb::climb;
 use crate::mark::mark;
 use ep_base::{Answer, CallerId, Errno, Event, Limits, Record};
-use ep_calls::{Kernel, Outcome, Parts};
+use ep_calls::{Kernel, Outcome, Parts, Spare};
 use std::alloc::{AllocError, Global};
 use std::marker::Model;
 
@@ -43,12 +44,19 @@ impl PlainKernel {
         })
     }
 
-    /// One event. An `AllocError` has changed nothing, but that there may be more room for records.
-    fn try_step(&mut self, caller: CallerId, event: Event) -> Result<Answer, AllocError>
+    /// One event. `kept`: what a second record of it is made of is asked for.
+    /// An `AllocError` has changed nothing, but that there may be more room for records.
+    fn try_step(
+        &mut self,
+        caller: CallerId,
+        event: Event,
+        kept: bool,
+    ) -> Result<(Answer, Option<Spare>), AllocError>
         ensures limits { self.new.limits ≡ self.old.limits }
         ensures capacity { self.old.capacity ≤ self.new.capacity }
-        ensures ok { IfOk result (λ answer. Adds self.old.limits caller event answer (state_of self.old) (state_of self.new) self.old.past self.new.past) }
-        ensures real { IfOk result (λ answer. is_no_memory answer ≡ false) }
+        ensures ok { IfOk result (λ r. Adds self.old.limits caller event r.0 (state_of self.old) (state_of self.new) self.old.past self.new.past) }
+        ensures real { IfOk result (λ r. is_no_memory r.0 ≡ false) }
+        ensures spare { IfOk result (λ r. kept ≡ true → HasRecord caller event r.1 self.old.past self.new.past) }
         ensures err { OnErr result (self.new ≡ record self.old { capacity = self.new.capacity }) }
     {
         self.history.reserve(1)?;
@@ -57,8 +65,10 @@ impl PlainKernel {
             answer,
             recorded,
             picked,
+            spare,
             raising,
-        } = act(&mut self.parts, step, caller, &event)?;
+        } = act(&mut self.parts, step, caller, &event, kept)?;
+        let spare = Spare::of(kept, spare, &answer, &picked);
         self.parts.known();
         self.parts.raise(step, raising);
         self.parts.bury(step);
@@ -68,6 +78,40 @@ impl PlainKernel {
         self.history.push_reserved(Record {
             caller,
             event,
+            answer: recorded,
+            picked,
+        });
+        Ok((answer, spare))
+    }
+
+    /// One event whose record is put at the end of a list of the caller's too.
+    /// An `AllocError` has changed nothing, but that there may be more room for records in either.
+    fn try_step_kept(
+        &mut self,
+        caller: CallerId,
+        event: Event,
+        kept: &mut Vec<Record>,
+    ) -> Result<Answer, AllocError>
+        ensures limits { self.new.limits ≡ self.old.limits }
+        ensures capacity { self.old.capacity ≤ self.new.capacity }
+        ensures ok { IfOk result (λ answer. Adds self.old.limits caller event answer (state_of self.old) (state_of self.new) self.old.past self.new.past) }
+        ensures real { IfOk result (λ answer. is_no_memory answer ≡ false) }
+        ensures kept { IfOk result (λ answer. Gains self.old.past self.new.past kept.old.items kept.new.items) }
+        ensures err { OnErr result (self.new ≡ record self.old { capacity = self.new.capacity }) }
+        ensures err_kept { OnErr result (kept.new.items ≡ kept.old.items) }
+    {
+        let again = event.copy()?;
+        kept.reserve(1)?;
+        let (answer, spare) = self.try_step(caller, event, true)?;
+        let Some(Spare {
+            answer: recorded,
+            picked,
+        }) = spare else {
+            unreachable!();
+        };
+        kept.push_reserved(Record {
+            caller,
+            event: again,
             answer: recorded,
             picked,
         });
@@ -85,7 +129,14 @@ impl Kernel for PlainKernel {
     ghost capacity = { λ book. book.capacity };
 
     fn step(&mut self, caller: CallerId, event: Event) -> Answer {
-        match self.try_step(caller, event) {
+        match self.try_step(caller, event, false) {
+            Ok((answer, _)) => answer,
+            Err(_) => Answer::Refused(Errno::Enomem),
+        }
+    }
+
+    fn step_kept(&mut self, caller: CallerId, event: Event, kept: &mut Vec<Record>) -> Answer {
+        match self.try_step_kept(caller, event, kept) {
             Ok(answer) => answer,
             Err(_) => Answer::Refused(Errno::Enomem),
         }

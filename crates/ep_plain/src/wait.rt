@@ -4,6 +4,7 @@ ghost use Rattle.std.specs.List.{list_any};
 ghost use Rattle.ep_base.specs.declared.call.Event.TheVariants.{Resume};
 ghost use Rattle.ep_park.specs.Waiters.{is_caller};
 ghost use Rattle.ep_calls.specs.Does.{DoesCall, DoesEvent};
+ghost use Rattle.ep_calls.specs.Kept.{IsKept};
 ghost use Rattle.ep_calls.specs.Wait.{wait_call};
 
 use crate::choose::choose;
@@ -24,6 +25,7 @@ pub fn epoll_wait(
 ) -> Result<Outcome, AllocError>
     requires { list_any (is_caller caller.0) parts.old.parked ≡ false }
     ensures ok { IfOk result (λ outcome. DoesCall step caller.0 args.pid.0 (wait_call args) outcome parts.old parts.new) }
+    ensures kept { IfOk result (λ outcome. IsKept args.kept outcome) }
     ensures err { OnErr result (parts.new ≡ parts.old) }
 {
     let instance = match find_instance(&parts.tables, args) {
@@ -45,10 +47,16 @@ pub fn epoll_wait(
 
 /// A parked caller asks whether it may go on: EINVAL where it is not parked, `Still` where it isn't marked. A marked one
 /// gets at most as many reports as it asked for and is no longer parked; where nothing is reportable, it gets none at its
-/// deadline, and before that loses its mark and stays parked.
+/// deadline, and before that loses its mark and stays parked. `kept`: a second record of it is asked for.
 /// A refusal and an `Err`, which is want of memory, leave the parts.
-pub fn resume(parts: &mut Parts, step: u64, caller: CallerId) -> Result<Outcome, AllocError>
+pub fn resume(
+    parts: &mut Parts,
+    step: u64,
+    caller: CallerId,
+    kept: bool,
+) -> Result<Outcome, AllocError>
     ensures ok { IfOk result (λ outcome. DoesEvent step caller.0 Resume outcome parts.old parts.new) }
+    ensures kept { IfOk result (λ outcome. IsKept kept outcome) }
     ensures err { OnErr result (parts.new ≡ parts.old) }
 {
     let Some(waiter) = parts.waiters.waiter(caller) else {
@@ -66,6 +74,6 @@ pub fn resume(parts: &mut Parts, step: u64, caller: CallerId) -> Result<Outcome,
         waiter.instance,
         waiter.max,
     )?;
-    let outcome = parts.resume_with(step, caller, waiter, &chosen)?;
+    let outcome = parts.resume_with(step, caller, waiter, &chosen, kept)?;
     Ok(outcome)
 }

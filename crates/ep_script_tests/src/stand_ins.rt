@@ -24,6 +24,10 @@ impl Kernel for NoMemory {
         Answer::Refused(Errno::Enomem)
     }
 
+    fn step_kept(&mut self, _: CallerId, _: Event, _: &mut Vec<Record>) -> Answer {
+        Answer::Refused(Errno::Enomem)
+    }
+
     fn reserve(&mut self, _additional: usize) -> Result<(), AllocError> {
         Err(AllocError)
     }

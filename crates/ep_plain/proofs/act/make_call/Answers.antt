@@ -5,13 +5,31 @@ use mir.Val.{SFits}
 use Rattle.ep_base.specs.declared.call.Call.{Call}
 use Rattle.ep_base.specs.declared.call.Call.TheVariants.{EpollCtl}
 use Rattle.ep_calls.specs.Does.{DoesCall}
+use Rattle.ep_calls.specs.Kept.{KeepsCall}
+use Rattle.ep_calls.specs.TableCall.{IsTableCall}
+use Rattle.ep_calls.proofs.KeptLemmas.{any_call, table_call_kept}
 use Rattle.ep_plain.proofs.act.make_call.Goals as goal
 
 pub returns-in_default : goal.returns-in_default
-returns-in_default c = record { ok = IfOk-weaker c.table_call.result _ _ (λ outcome h. h c.args.step c.args.caller.0) c.table_call.ensures.ok; err = c.table_call.ensures.err }
+returns-in_default c =
+    let on_tables : IsTableCall c.args.call.now = search rules in
+    record {
+      ok = IfOk-weaker c.table_call.result _ _ (λ outcome h. h c.args.step c.args.caller.0) c.table_call.ensures.ok;
+      kept = IfOk-weaker c.table_call.result _ _ (λ outcome h. table_call_kept c.args.call.now c.args.kept outcome on_tables) c.table_call.ensures.ok;
+      err = c.table_call.ensures.err;
+    }
 
 pub returns-in-Read-clause-ok : goal.returns-in-Read-clause-ok
 returns-in-Read-clause-ok c = IfOk-weaker c.object_call.result _ _ (λ outcome h. h c.args.step c.args.caller.0) c.object_call.ensures.ok
+
+pub returns-in-Read-clause-kept : goal.returns-in-Read-clause-kept
+returns-in-Read-clause-kept c = IfOk-weaker c.object_call.result _ _ (λ outcome h. any_call c.args.call.now c.args.kept outcome h) c.object_call.ensures.kept
+
+pub returns-in-EpollWait-clause-kept : goal.returns-in-EpollWait-clause-kept
+returns-in-EpollWait-clause-kept c = IfOk-weaker c.epoll_wait.result _ _ (λ outcome h. any_call c.args.call.now c.args.kept outcome h) c.epoll_wait.ensures.kept
+
+pub returns-in-EpollCtl-clause-kept : goal.returns-in-EpollCtl-clause-kept
+returns-in-EpollCtl-clause-kept c = IfOk-weaker c.epoll_ctl.result _ _ (λ outcome h. subst (λ (call : Call). KeepsCall call c.args.kept outcome) (sym c.in-EpollCtl.is) tt) c.epoll_ctl.ensures.ok
 
 pub returns-in-EpollCtl-clause-ok : goal.returns-in-EpollCtl-clause-ok
 returns-in-EpollCtl-clause-ok c =

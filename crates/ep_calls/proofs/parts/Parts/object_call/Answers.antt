@@ -15,13 +15,21 @@ use Rattle.ep_calls.proofs.ObjectRaiseLemmas.{raises_object}
 use Rattle.ep_table.specs.Value.{Seen, content_of, holds_of, number_of, number_under}
 use Rattle.ep_calls.proofs.parts.Parts.object_call.Goals as goal
 
-pub answer_copy-recorded-requires-clause-fits : goal.answer_copy-recorded-requires-clause-fits
-answer_copy-recorded-requires-clause-fits c =
+pub outcome_of-requires-clause-fits : goal.outcome_of-requires-clause-fits
+outcome_of-requires-clause-fits c =
     let v = c.self.inside.tables in
     let d = number_of v c.in-Some.desc in
     let room = c.in_ok-room.room in
     subst (λ (a : Answer). FitsRoom a room) (sym c.in_ok-answer.ensures.answer)
-    (fits (content_of v.files d) (side_of v.files d) c.self.inside.clock c.args.call.now room (is_object_call c.args.call.now c.args.fd c.requires) c.in_ok-room.ensures.inline c.in_ok-room.ensures.room)
+    (fits (content_of v.files d) (side_of v.files d) c.self.inside.clock c.args.call.now room (is_object_call c.args.call.now c.args.fd c.requires) c.in_ok-room.ensures.inline (c.in_ok-room.ensures.room refl))
+
+pub outcome_of-requires-clause-more_fits : goal.outcome_of-requires-clause-more_fits
+outcome_of-requires-clause-more_fits c wanted =
+    let v = c.self.inside.tables in
+    let d = number_of v c.in-Some.desc in
+    let more = c.in_ok-more.more in
+    subst (λ (a : Answer). FitsRoom a more) (sym c.in_ok-answer.ensures.answer)
+    (fits (content_of v.files d) (side_of v.files d) c.self.inside.clock c.args.call.now more (is_object_call c.args.call.now c.args.fd c.requires) c.in_ok-more.ensures.inline (c.in_ok-more.ensures.room wanted))
 
 pub invariant_of-self-2 : goal.invariant_of-self-2
 invariant_of-self-2 c =
@@ -42,8 +50,8 @@ returns-clause-ok c =
     let calls = calls_object v new c.args.pid.0 c.args.fd.0 c.in-Some.desc k.clock c.args.call.now c.in_ok-answer.answer found.number found.live (object_there v c.in-Some.desc c.known.ensures found.live) e.answer e.files in
     let raises = raises_object v c.in-Some.desc k.clock c.args.call.now c.in_ok-answer.raised _ refl new c.args.pid.0 c.args.fd.0 found.number found.live (ap (λ (t : Seen). t.keys) e.files) (ap (λ (t : Seen). t.files.descriptions) e.files) e.raised in
     let lives : IsSome (number_under new c.in-Some.desc) = subst (λ (t : Seen). IsSome (number_under t c.in-Some.desc)) (sym e.files) found.live in
-    let o = c.copied.ensures in
-    rw (← c.self.view_is) (object_does p new c.args.pid.0 c.args.fd c.args.call.now c.copied.result c.self.invariant c.requires
+    let o = c.outcome_of.ensures in
+    rw (← c.self.view_is) (object_does p new c.args.pid.0 c.args.fd c.args.call.now c.outcome_of.result c.self.invariant c.requires
     (subst (λ (a : Answer). CallsObject c.args.pid.0 c.args.fd k.clock c.args.call.now a v new) (sym o.answer) calls)
     (subst (λ (r : Raising). RaisesByCall v new c.args.pid.0 c.args.fd.0 k.clock c.args.call.now r) (sym o.raising) raises) o.picked (subst (λ (r : Raising). IsRaising r new) (sym o.raising) lives)
     (subst (λ (t : Seen). Grows p (record p { tables = t })) (sym e.files) (record { added = omega arith })))

@@ -5,6 +5,7 @@ use Rattle.ep_calls.specs.Acts.{Adds}
 use Rattle.ep_calls.specs.Book.{Book, state_of}
 use Rattle.ep_calls.specs.Keeps.{Keeps}
 use Rattle.ep_calls.proofs.KeepsLemmas.{DoesAt, Settles, adds_next, does_at, keeps_next, record_of}
+use Rattle.ep_calls.proofs.KeptLemmas.{inline_event}
 use Rattle.ep_plain.specs.Standing.{book_of}
 use Rattle.ep_plain.proofs.plain.PlainKernel.try_step.Goals as goal
 
@@ -14,6 +15,15 @@ number c = omega (arith, c.len.ensures, c.reserve.ensures.len)
 
 does : (c : goal.After-push_reserved) → DoesAt (next_event c.self.invariant.state) c.args.caller.0 c.args.event c.in_ok-answer.field-0 c.self.inside.parts c.act.new.parts
 does c = does_at c.self.inside.history.items c.self.inside.parts c.act.new.parts c.self.invariant (c.len.result + 1) c.args.caller.0 c.args.event c.in_ok-answer.field-0 (number c) c.in_ok-answer.ensures.ok
+
+-- where a second record is asked for, there is a copy, or none is needed
+pub of-spare-requires-clause-inline : goal.of-spare-requires-clause-inline
+of-spare-requires-clause-inline c asked none =
+    let k = c.self.inside in
+    let o = c.in_ok-answer.field-0 in
+    let n : c.len.result + 1 ≡ length k.history.items + 1 = omega (arith, c.len.ensures, c.reserve.ensures.len) in
+    let does = does_at k.history.items k.parts c.act.new.parts c.self.invariant (c.len.result + 1) c.args.caller.0 c.args.event o n c.in_ok-answer.ensures.ok in
+    inline_event k.parts.tables.limits (next_event c.self.invariant.state) c.args.caller.0 o c.args.kept asked none c.args.event c.act.new.parts does.goes c.in_ok-answer.ensures.kept
 
 settles : (c : goal.After-push_reserved) → Settles (c.len.result + 1) c.in_ok-answer.field-0.raising c.act.new.parts c.raise.new.self c.bury.new.self c.climb.new.parts c.mark.new.parts
 settles c = record {

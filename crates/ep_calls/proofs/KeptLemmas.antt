@@ -1,0 +1,85 @@
+-- What an event answers takes no memory to copy, or there is a copy.
+use Rattle.std.proofs.Common.{◌≡◌, ◌≤◌, ℕ, ℤ, Bool, false, true, if◌then◌else◌, List, [], ◌∷◌, Option, None, Some, arith, length, refl, subst, sym}
+use Rattle.std.specs.Prelude.{MatchOption}
+use Rattle.ep_base.specs.Answer.{FitsInline}
+use Rattle.ep_base.specs.Limits.{Limits}
+use Rattle.ep_base.specs.declared.answer.Answer.{Answer}
+use Rattle.ep_base.specs.declared.call.Call.{Call}
+use Rattle.ep_base.specs.declared.call.Call.TheVariants.{Close, Dup, Dup2, EpollCreate, EpollCtl, EpollWait, EventFd, Exec, Exit, Fork, GetTime, Pipe as PipeCall, Plain, Read, SetTime, Shutdown, SocketPair, TimerFd, Write}
+use Rattle.ep_base.specs.declared.call.Event.{Event}
+use Rattle.ep_base.specs.declared.call.Event.TheVariants.{Call as CallOf, Resume, Tick}
+use Rattle.ep_base.specs.declared.errno.Errno.{Errno}
+use Rattle.ep_machine.specs.Refusal.{refusals}
+use Rattle.ep_machine.specs.Report.{plainly}
+use Rattle.ep_machine.specs.State.{Change, State}
+use Rattle.ep_machine.specs.Step.{call_change, change}
+use Rattle.ep_machine.specs.Watches.{ctl, is_add, is_del}
+use Rattle.ep_calls.specs.Kept.{IsKept, KeepsCall, KeepsEvent}
+use Rattle.ep_calls.specs.KeptRecords.{IsInline}
+use Rattle.ep_calls.specs.Moves.{Goes, Makes, Refuses}
+use Rattle.ep_calls.specs.Parts.{Parts}
+use Rattle.ep_calls.specs.TableCall.{IsTableCall}
+use Rattle.ep_calls.specs.declared.outcome.Outcome.{Outcome}
+
+told_plainly : (picked : List ℕ) (x made : Change) (answer : Answer) → plainly picked x ≡ Some made → made.0 ≡ answer → FitsInline x.0 → IsInline answer picked
+told_plainly [] x made answer is same fits = let e : x.0 ≡ answer = cc in (subst FitsInline e fits, omega arith)
+told_plainly (k ∷ ks) x made answer is same fits = absurd cc
+
+-- a registration is changed with no word
+if_fits : (b : Bool) (x y : Change) → FitsInline x.0 → FitsInline y.0 → FitsInline (if b then x else y).0
+if_fits true x y f g = f
+if_fits false x y f g = g
+
+ctl_fits : (s : State) (p : ℕ) (epfd op fd : ℤ) (mask tag : ℕ) → FitsInline (ctl s p epfd op fd mask tag).0
+ctl_fits s p epfd op fd mask tag = if_fits (is_add op) _ _ tt (if_fits (is_del op) _ _ tt tt)
+
+module _ (limits : Limits) (s : State) (caller : ℕ) (o : Outcome) (kept : Bool) (asked : kept ≡ true) (none : o.spare ≡ None) where
+  told_call : (p : ℕ) (call : Call) (made : Change) → call_change limits s caller p call o.picked ≡ Some made → made.0 ≡ o.answer → KeepsCall call kept o → IsInline o.answer o.picked
+  told_call p (PipeCall cloexec) made is same keeps = told_plainly o.picked _ made o.answer is same tt
+  told_call p (EventFd init semaphore cloexec) made is same keeps = told_plainly o.picked _ made o.answer is same tt
+  told_call p (TimerFd clock cloexec) made is same keeps = told_plainly o.picked _ made o.answer is same tt
+  told_call p (SocketPair cloexec) made is same keeps = told_plainly o.picked _ made o.answer is same tt
+  told_call p (Plain cloexec) made is same keeps = told_plainly o.picked _ made o.answer is same tt
+  told_call p (EpollCreate cloexec) made is same keeps = told_plainly o.picked _ made o.answer is same tt
+  told_call p (EpollCtl epfd op fd mask tag) made is same keeps = told_plainly o.picked _ made o.answer is same (ctl_fits s p epfd.0 op fd.0 mask.0 tag)
+  told_call p (EpollWait epfd most timeout) made is same keeps = keeps asked none
+  told_call p (Read fd n) made is same keeps = keeps asked none
+  told_call p (Write fd bytes) made is same keeps = keeps asked none
+  told_call p (Shutdown fd) made is same keeps = keeps asked none
+  told_call p (SetTime fd absolute value interval) made is same keeps = keeps asked none
+  told_call p (GetTime fd) made is same keeps = keeps asked none
+  told_call p (Dup fd) made is same keeps = told_plainly o.picked _ made o.answer is same tt
+  told_call p (Dup2 fd to) made is same keeps = told_plainly o.picked _ made o.answer is same tt
+  told_call p (Close fd) made is same keeps = told_plainly o.picked _ made o.answer is same tt
+  told_call p Fork made is same keeps = told_plainly o.picked _ made o.answer is same tt
+  told_call p Exec made is same keeps = told_plainly o.picked _ made o.answer is same tt
+  told_call p Exit made is same keeps = told_plainly o.picked _ made o.answer is same tt
+
+  told : (r : Option Errno) (c : Option Change) (new : Parts) → ((made : Change) → c ≡ Some made → made.0 ≡ o.answer → IsInline o.answer o.picked)
+      → MatchOption r (Makes c o.answer new) (λ e. Refuses s e o.answer o.picked new) → IsInline o.answer o.picked
+  told None c new f goes = f goes.made goes.is goes.answers
+  told (Some e) c new f goes = (subst FitsInline (sym goes.answers) tt, subst (λ (ks : List ℕ). length ks ≤ 4) (sym goes.unpicked) (omega arith))
+
+  pub inline_event : (event : Event) (new : Parts) → Goes (refusals limits s caller event) (change limits s caller event o.picked) s o.answer o.picked new → KeepsEvent event kept o → IsInline o.answer o.picked
+  inline_event (CallOf pid call) new goes keeps = told _ _ new (λ made is same. told_call pid.0 call made is same keeps) goes
+  inline_event Resume new goes keeps = keeps asked none
+  inline_event (Tick k) new goes keeps = told _ _ new (λ made is same. told_plainly o.picked _ made o.answer is same tt) goes
+
+-- it holds of each call where it holds at all, and of those on the tables anyway
+pub any_call : (call : Call) (kept : Bool) (o : Outcome) → IsKept kept o → KeepsCall call kept o
+any_call (EpollWait epfd most timeout) kept o h = h
+any_call (Read fd n) kept o h = h
+any_call (Write fd bytes) kept o h = h
+any_call (Shutdown fd) kept o h = h
+any_call (SetTime fd absolute value interval) kept o h = h
+any_call (GetTime fd) kept o h = h
+any_call call kept o h = tt
+
+pub table_call_kept : (call : Call) (kept : Bool) (o : Outcome) → IsTableCall call → KeepsCall call kept o
+table_call_kept (EpollWait epfd most timeout) kept o h = absurd h
+table_call_kept (Read fd n) kept o h = absurd h
+table_call_kept (Write fd bytes) kept o h = absurd h
+table_call_kept (Shutdown fd) kept o h = absurd h
+table_call_kept (SetTime fd absolute value interval) kept o h = absurd h
+table_call_kept (GetTime fd) kept o h = absurd h
+table_call_kept call kept o h = tt
