@@ -1,0 +1,5 @@
+mod ReportLemmas
+mod Pigeon
+mod SameParts
+mod PartLemmas
+mod ParkedLemmas

@@ -1,0 +1,4 @@
+pub mod Parts
+pub mod Told
+pub mod Sessions
+pub mod Closes

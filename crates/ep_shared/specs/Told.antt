@@ -1,0 +1,61 @@
+-- What a call under the lock adds to the records of its session.
+use Rattle.std.specs.Prelude.{◌≡◌, ◌++◌, ◌∷◌, ◌⊎◌, [], All, Bool, List, MatchBool, false, true, ℕ}
+use Rattle.ep_base.specs.declared.answer.Answer.{Answer}
+use Rattle.ep_base.specs.declared.answer.Answer.TheVariants.{Parked, Still}
+use Rattle.ep_base.specs.declared.call.Call.TheVariants.{EpollWait}
+use Rattle.ep_base.specs.declared.call.Event.{Event}
+use Rattle.ep_base.specs.declared.call.Event.TheVariants.{Call as CallOf, Resume, Tick}
+use Rattle.ep_base.specs.declared.record.Record.{Record}
+use Rattle.ep_calls.specs.Acts.{is_no_memory}
+
+-- a record of a caller, with this event and this answer
+pub record IsTold (caller : ℕ) (event : Event) (answer : Answer) (r : Record) : Type 0 where
+  pub by : r.caller.0 ≡ caller
+  pub asked : r.event ≡ event
+  pub answered : r.answer ≡ answer
+
+-- one such record more
+pub record Gains (caller : ℕ) (event : Event) (answer : Answer) (old new : List Record) : Type 0 where
+  pub more : Record
+  pub told : IsTold caller event answer more
+  pub added : new ≡ old ++ more ∷ []
+
+-- what one event adds: its record, or none for want of memory
+abbrev pub Adds : ℕ → Event → Answer → List Record → List Record → Type 0
+Adds caller event answer old new = MatchBool (is_no_memory answer) (new ≡ old) (Gains caller event answer old new)
+
+-- resumptions in vain, each of which was answered that the caller is still parked
+pub record Vain (caller : ℕ) (old new : List Record) : Type 0 where
+  pub stills : List Record
+  pub told : All (IsTold caller Resume Still) stills
+  pub added : new ≡ old ++ stills
+
+-- what the resumption of a wait adds: some in vain, and then one that was answered otherwise, or want of memory
+pub record ResumeAdds (caller : ℕ) (answer : Answer) (old new : List Record) : Type 0 where
+  pub mid : List Record
+  pub vain : Vain caller old mid
+  pub ends : Adds caller Resume answer mid new
+
+-- what a wait that parked adds
+pub record ParkAdds (caller : ℕ) (event : Event) (answer : Answer) (old new : List Record) : Type 0 where
+  pub mid : List Record
+  pub parks : Gains caller event Parked old mid
+  pub resumes : ResumeAdds caller answer mid new
+
+-- what a wait adds: its record alone, or that it parked, and then what its resumption adds
+abbrev pub WaitAdds : ℕ → Event → Answer → List Record → List Record → Type 0
+WaitAdds caller event answer old new = Adds caller event answer old new ⊎ ParkAdds caller event answer old new
+
+-- an answer that ends a wait
+abbrev pub ends_wait : Answer → Bool
+ends_wait Parked = false
+ends_wait Still = false
+ends_wait answer = true
+
+-- a wait is not answered that its caller is still parked, nor a resumption that it parks
+abbrev pub may_answer : Event → Answer → Bool
+may_answer (CallOf pid (EpollWait epfd most timeout)) Still = false
+may_answer (CallOf pid call) answer = true
+may_answer Resume Parked = false
+may_answer Resume answer = true
+may_answer (Tick k) answer = true

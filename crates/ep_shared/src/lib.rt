@@ -1,0 +1,10 @@
+//! A kernel under one lock, which sessions call from threads.
+#![tactic(auto)]
+
+pub mod book;
+mod same;
+mod shared;
+
+pub use crate::book::laws;
+pub use crate::book::{Book, FinishFault, History, Session};
+pub use crate::shared::Shared;
