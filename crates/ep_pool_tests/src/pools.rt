@@ -1,0 +1,223 @@
+//! Two jobs of one kernel.
+ghost use Rattle.std.specs.Prelude.{◌≡◌};
+
+use crate::gates::{BothHere, Shut};
+use ep_base::{Answer, Buffer, Call, CallerId, Fd, Limits, Mask, Pid, Record};
+use ep_plain::PlainKernel;
+use ep_pool::{Gate, Job, PoolReport, Step, run_sessions};
+use ep_shared::{Session, Shared};
+use std::alloc::{AllocError, Global};
+use std::marker::Brand;
+use std::sync::Wait;
+use std::sync::ledger::{Blank, Ledger};
+use std::test::*;
+use std::thread::Threads;
+
+const PROCESS: Pid = Pid(1);
+
+/// How often the test of two threads is run.
+const TIMES: u32 = 100;
+
+fn check(holds: bool) -> Result<(), Fail> {
+    if holds { Ok(()) } else { Err(Fail::new("no")) }
+}
+
+/// Eventfd 3, instance 4 that watches it, and eventfd 5.
+fn opens<L: Ledger>(
+    rt: &impl Wait,
+    shared: &Shared<PlainKernel, L>,
+    one: &mut Session<L>,
+) -> Result<(), Fail> {
+    let counter = Call::EventFd {
+        init: 0,
+        semaphore: false,
+        cloexec: false,
+    };
+    check(matches!(shared.call(rt, one, PROCESS, counter), Answer::Num(3)))?;
+    let instance = Call::EpollCreate { cloexec: false };
+    check(matches!(shared.call(rt, one, PROCESS, instance), Answer::Num(4)))?;
+    let add = Call::EpollCtl {
+        epfd: Fd(4),
+        op: 1,
+        fd: Fd(3),
+        mask: Mask::IN,
+        tag: 3,
+    };
+    check(matches!(shared.call(rt, one, PROCESS, add), Answer::Done))?;
+    let other = Call::EventFd {
+        init: 0,
+        semaphore: false,
+        cloexec: false,
+    };
+    check(matches!(shared.call(rt, one, PROCESS, other), Answer::Num(5)))
+}
+
+/// A write of a number below 256 to an eventfd.
+fn write(alloc: Global, fd: Fd, number: u8) -> Result<Step, AllocError> {
+    let bytes = Buffer::new(vec![in alloc; number, 0, 0, 0, 0, 0, 0, 0]?);
+    Ok(Step::Call {
+        pid: PROCESS,
+        call: Call::Write { fd, bytes },
+    })
+}
+
+/// A wait for a report of instance 4.
+fn wait() -> Step {
+    Step::Wait {
+        pid: PROCESS,
+        epfd: Fd(4),
+        max: 1,
+        timeout: -1,
+    }
+}
+
+/// The job that waits, and the one that writes to 5, reads it and writes to 3.
+fn two_jobs<L: Ledger>(
+    alloc: Global,
+    one: Session<L>,
+    two: Session<L>,
+) -> Result<Vec<Job<L>>, AllocError> {
+    let read = Step::Call {
+        pid: PROCESS,
+        call: Call::Read { fd: Fd(5), n: 8 },
+    };
+    let waits = Job {
+        session: one,
+        steps: vec![in alloc; wait()]?,
+    };
+    let writes = Job {
+        session: two,
+        steps: vec![in alloc; write(alloc, Fd(5), 7)?, read, write(alloc, Fd(3), 1)?]?,
+    };
+    Ok(vec![in alloc; waits, writes]?)
+}
+
+/// The last answer is one report of eventfd 3.
+fn is_woken(records: &[Record]) -> bool {
+    let Some(Record {
+        answer: Answer::Events(reports),
+        ..
+    }) = records.last() else {
+        return false;
+    };
+    let reports = reports.as_slice();
+    reports.len() == 1 && reports[0].bits == Mask::IN && reports[0].tag == 3
+}
+
+/// Bytes 7 0 0 0 0 0 0 0.
+fn is_seven(answer: &Answer) -> bool {
+    match answer {
+        Answer::Bytes(bytes) => bytes.as_slice() == [7, 0, 0, 0, 0, 0, 0, 0].as_slice(),
+        _ => false,
+    }
+}
+
+/// The answers of the job that writes.
+fn is_told(records: &[Record]) -> bool {
+    records.len() == 3
+        && matches!(records[0].answer, Answer::Num(8))
+        && is_seven(&records[1].answer)
+        && matches!(records[2].answer, Answer::Num(8))
+}
+
+/// The sessions of both jobs, of which the first has made four calls before and parked.
+fn are_told<L: Ledger>(back: &[Session<L>]) -> bool {
+    back.len() == 2
+        && is_woken(back[0].records())
+        && back[0].answered() == 6
+        && is_told(back[1].records())
+}
+
+/// Two sessions of a kernel with default limits.
+fn two_sessions<L: Ledger>(
+    alloc: Global,
+    blank: Blank,
+) -> Result<(Shared<PlainKernel, L>, Vec<Session<L>>), Fail>
+    requires name { blank.name ≡ L.name }
+    requires parts { blank.parts ≡ L.parts }
+    requires two { blank.parts ≡ 2 }
+{
+    let kernel = PlainKernel::new(alloc, Limits::default())?;
+    Ok(Shared::<PlainKernel, L>::start(alloc, blank, kernel, 2)?)
+}
+
+/// Runs both jobs, and gives their sessions back where none stopped.
+fn run_both<L: Ledger + Send + Sync, R: Threads + Wait + Sync>(
+    rt: &R,
+    alloc: Global,
+    shared: &Shared<PlainKernel, L>,
+    jobs: Vec<Job<L>>,
+) -> Result<Vec<Session<L>>, Fail> {
+    let gate = BothHere::new();
+    let Ok(report) = run_sessions(rt, alloc, shared, jobs, &gate, 10_000_000) else {
+        return Err(Fail::new("a fault"));
+    };
+    let PoolReport { sessions, stopped } = report;
+    check(stopped.is_empty())?;
+    Ok(sessions)
+}
+
+fn one_wakes_the_other<L: Ledger + Send + Sync, R: Threads + Wait + Sync>(
+    rt: &R,
+    alloc: Global,
+    blank: Blank,
+) -> Result<(), Fail>
+    requires name { blank.name ≡ L.name }
+    requires parts { blank.parts ≡ L.parts }
+    requires two { blank.parts ≡ 2 }
+{
+    let (shared, mut sessions) = two_sessions::<L>(alloc, blank)?;
+    let two = sessions.pop().ok_or("missing")?;
+    let mut one = sessions.pop().ok_or("missing")?;
+    opens(rt, &shared, &mut one)?;
+    let back = run_both(rt, alloc, &shared, two_jobs(alloc, one, two)?)?;
+    check(are_told(&back))?;
+    match shared.finish(back) {
+        Ok(history) => check(history.records.len() == 9),
+        Err(_) => Err(Fail::new("not finished")),
+    }
+}
+
+/// A job of one step.
+fn one_step<L: Ledger>(alloc: Global, session: Session<L>) -> Result<Job<L>, AllocError> {
+    let steps = vec![in alloc; Step::Tick { n: 1 }]?;
+    Ok(Job { session, steps })
+}
+
+fn nobody_goes<L: Ledger + Send + Sync, R: Threads + Wait + Sync>(
+    rt: &R,
+    alloc: Global,
+    blank: Blank,
+) -> Result<(), Fail>
+    requires name { blank.name ≡ L.name }
+    requires parts { blank.parts ≡ L.parts }
+    requires two { blank.parts ≡ 2 }
+{
+    let (shared, mut sessions) = two_sessions::<L>(alloc, blank)?;
+    let two = sessions.pop().ok_or("missing")?;
+    let one = sessions.pop().ok_or("missing")?;
+    let jobs = vec![in alloc; one_step(alloc, one)?, one_step(alloc, two)?]?;
+    let Ok(report) = run_sessions(rt, alloc, &shared, jobs, &Shut, 3) else {
+        return Err(Fail::new("a fault"));
+    };
+    let PoolReport { sessions, stopped } = report;
+    check(stopped.as_slice() == [(CallerId(1), 0), (CallerId(2), 0)].as_slice())?;
+    check(sessions.iter().all(|s| s.records().is_empty()))?;
+    match shared.finish(sessions) {
+        Ok(history) => check(history.records.is_empty()),
+        Err(_) => Err(Fail::new("not finished")),
+    }
+}
+
+#[test]
+fn two_threads(rt: HostRuntime) -> Result<(), Fail> {
+    for _ in 0..TIMES {
+        one_wakes_the_other::<Brand, _>(&rt, rt.alloc(), Blank::new(2))?;
+    }
+    Ok(())
+}
+
+#[test]
+fn shut_gate(rt: HostRuntime) -> Result<(), Fail> {
+    nobody_goes::<Brand, _>(&rt, rt.alloc(), Blank::new(2))
+}
