@@ -1,0 +1,194 @@
+//! Who does what.
+ghost use Rattle.std.specs.Prelude.{◌≡◌};
+
+use ep_base::{Answer, Buffer, Call, CallerId, Fd, Limits, Mask, Pid, Record};
+use ep_plain::PlainKernel;
+use ep_pool::{Gate, Job, Step, run_sessions};
+use ep_shared::{Session, Shared};
+use std::alloc::{AllocError, Global};
+use std::sync::Wait;
+use std::sync::atomic::{AtomicU64, Ordering};
+use std::sync::ledger::{Blank, Ledger};
+use std::thread::Threads;
+
+const PROCESS: Pid = Pid(1);
+
+/// How often each reader is woken.
+const ROUNDS: usize = 50;
+
+/// What is known at the end, whatever the order of the threads was.
+#[derive(Clone, Copy)]
+pub struct Tally {
+    pub records: usize,
+    pub bytes: usize,
+    pub waits: usize,
+}
+
+/// Lets the writer write only to a reader that is parked in the wait whose turn it is.
+#[derive(Drop)]
+struct InTurn {
+    first: AtomicU64,
+    second: AtomicU64,
+}
+
+impl Gate for InTurn {
+    fn may_go(&self, caller: CallerId, step: usize, parked: &[CallerId]) -> bool {
+        match caller.0 {
+            1 => self.first.store(step as u64, Ordering::SeqCst),
+            2 => self.second.store(step as u64, Ordering::SeqCst),
+            3 => {
+                let (reader, at) = if step % 2 == 0 {
+                    (CallerId(1), self.first.load(Ordering::SeqCst))
+                } else {
+                    (CallerId(2), self.second.load(Ordering::SeqCst))
+                };
+                let turn = step as u64 / 2;
+                return at / 2 == turn && parked.iter().any(|caller| *caller == reader);
+            }
+            _ => {}
+        }
+        true
+    }
+}
+
+/// A call of process 1.
+fn call(call: Call) -> Step {
+    Step::Call { pid: PROCESS, call }
+}
+
+/// The descriptors: eventfd 3 and instance 4 that watches it, pipe 5 and 6 and instance 7 that watches its read end.
+fn opens<L: Ledger>(rt: &impl Wait, shared: &Shared<PlainKernel, L>, session: &mut Session<L>) {
+    let calls = [
+        Call::EventFd {
+            init: 0,
+            semaphore: false,
+            cloexec: false,
+        },
+        Call::EpollCreate { cloexec: false },
+        watch(Fd(4), Fd(3)),
+        Call::Pipe { cloexec: false },
+        Call::EpollCreate { cloexec: false },
+        watch(Fd(7), Fd(5)),
+    ];
+    for one in calls {
+        let _ = shared.call(rt, session, PROCESS, one);
+    }
+}
+
+/// ADD of a descriptor to an instance, for IN.
+fn watch(epfd: Fd, fd: Fd) -> Call {
+    Call::EpollCtl {
+        epfd,
+        op: 1,
+        fd,
+        mask: Mask::IN,
+        tag: 0,
+    }
+}
+
+/// Waits at an instance and reads, again and again.
+fn reads(alloc: Global, epfd: Fd, fd: Fd) -> Result<Vec<Step>, AllocError> {
+    let mut steps = Vec::new(alloc);
+    for _ in 0..ROUNDS {
+        steps.push(Step::Wait {
+            pid: PROCESS,
+            epfd,
+            max: 1,
+            timeout: -1,
+        })?;
+        steps.push(call(Call::Read { fd, n: 8 }))?;
+    }
+    Ok(steps)
+}
+
+/// Writes 1 to the eventfd and three bytes to the pipe, again and again.
+fn writes(alloc: Global) -> Result<Vec<Step>, AllocError> {
+    let mut steps = Vec::new(alloc);
+    for _ in 0..ROUNDS {
+        let bytes = Buffer::new(vec![in alloc; 1, 0, 0, 0, 0, 0, 0, 0]?);
+        steps.push(call(Call::Write { fd: Fd(3), bytes }))?;
+        let bytes = Buffer::new(vec![in alloc; 97, 98, 99]?);
+        steps.push(call(Call::Write { fd: Fd(6), bytes }))?;
+    }
+    Ok(steps)
+}
+
+/// Lets the clock go on.
+fn ticks(alloc: Global) -> Result<Vec<Step>, AllocError> {
+    let mut steps = Vec::new(alloc);
+    for _ in 0..ROUNDS {
+        steps.push(Step::Tick { n: 1 })?;
+    }
+    Ok(steps)
+}
+
+/// What each of the four callers does.
+fn steps_of(alloc: Global, caller: CallerId) -> Result<Vec<Step>, AllocError> {
+    match caller.0 {
+        1 => reads(alloc, Fd(4), Fd(3)),
+        2 => reads(alloc, Fd(7), Fd(5)),
+        3 => writes(alloc),
+        _ => ticks(alloc),
+    }
+}
+
+/// A job for each session.
+fn jobs_of<L: Ledger>(
+    alloc: Global,
+    sessions: Vec<Session<L>>,
+) -> Result<Vec<Job<L>>, AllocError> {
+    let mut jobs = Vec::new(alloc);
+    for session in sessions {
+        let steps = steps_of(alloc, session.caller())?;
+        jobs.push(Job { session, steps })?;
+    }
+    Ok(jobs)
+}
+
+/// How many bytes a read gave.
+fn bytes_of(record: &Record) -> usize {
+    match &record.answer {
+        Answer::Bytes(bytes) => bytes.as_slice().len(),
+        _ => 0,
+    }
+}
+
+/// What the history tells.
+fn tally_of(records: &[Record]) -> Tally {
+    let mut bytes: usize = 0;
+    let mut waits: usize = 0;
+    for record in records {
+        bytes = bytes.saturating_add(bytes_of(record));
+        if matches!(record.answer, Answer::Parked) {
+            waits = waits.saturating_add(1);
+        }
+    }
+    Tally {
+        records: records.len(),
+        bytes,
+        waits,
+    }
+}
+
+/// Runs the four, and tells what came of it where all came to their end.
+pub fn crowd<L: Ledger + Send + Sync, R: Threads + Wait + Sync>(
+    rt: &R,
+    alloc: Global,
+    blank: Blank,
+) -> Option<Tally>
+    requires name { blank.name ≡ L.name }
+    requires parts { blank.parts ≡ L.parts }
+    requires four { blank.parts ≡ 4 }
+{
+    let kernel = PlainKernel::new(alloc, Limits::default()).ok()?;
+    let (shared, mut sessions) = Shared::<PlainKernel, L>::start(alloc, blank, kernel, 4).ok()?;
+    opens(rt, &shared, sessions.first_mut()?);
+    let jobs = jobs_of(alloc, sessions).ok()?;
+    let gate = InTurn {
+        first: AtomicU64::new(0),
+        second: AtomicU64::new(0),
+    };
+    let report = run_sessions(rt, alloc, &shared, jobs, &gate, 100_000_000).ok()?;
+    let history = shared.finish(report.sessions).ok()?;
+    report.stopped.is_empty().then(|| tally_of(&history.records))
+}
