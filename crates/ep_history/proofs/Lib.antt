@@ -1,0 +1,5 @@
+pub mod CallLemmas
+pub mod DataLemmas
+pub mod FieldLemmas
+pub mod TextLemmas
+pub mod LineLemmas

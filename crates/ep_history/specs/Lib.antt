@@ -1,0 +1,5 @@
+pub mod Bytes
+pub mod Fields
+pub mod Calls
+pub mod Answers
+pub mod Records

@@ -1,0 +1,95 @@
+//! A record to its line, and back.
+ghost use Rattle.std.specs.Prelude.{◌≡◌, ◌≤◌, IfOk, Some};
+ghost use Rattle.std.specs.List.{All};
+ghost use Rattle.serde_json.specs.View.{view};
+ghost use Rattle.ep_history.specs.Records.{line_data, line_record, record_data, record_line, record_object, record_of};
+
+use crate::answer_value::answer_value;
+use crate::event::{event_of, event_value};
+use crate::fields::{required_u32, size};
+use crate::picks::{picks_of, picks_value};
+use crate::read_answer::answer_of;
+use ep_base::{CallerId, Record};
+use serde_json::{Value, json};
+use std::alloc::{AllocError, Global};
+
+fn record_value(
+    alloc: Global,
+    caller: u32,
+    event: Value,
+    answer: Value,
+    picked: Value,
+) -> Result<Value, AllocError>
+    ensures { IfOk result (λ v. view v ≡ record_object caller (view event) (view answer) (view picked)) }
+{
+    json!(in alloc; {"caller": caller, "event": event, "answer": answer, "picked": picked})
+}
+
+/// The line of a record, compact JSON without the byte 10 that ends it: `read_record` reads it as the same record.
+/// `AllocError` comes only where a growth was refused.
+pub fn print_record(alloc: Global, entry: &Record) -> Result<Vec<u8>, AllocError>
+    ensures text { IfOk result (λ line. line.items ≡ record_line entry.now) }
+    ensures one_line { IfOk result (λ line. All (λ b. 32 ≤ b) line.items) }
+    ensures data { IfOk result (λ line. line_data line.items ≡ Some (record_data entry.now)) }
+    ensures law { IfOk result (λ line. line_record line.items ≡ Some entry.now) }
+{
+    let event = event_value(alloc, &entry.event)?;
+    let answer = answer_value(alloc, &entry.answer)?;
+    let picked = picks_value(alloc, entry.picked.as_slice())?;
+    let value = record_value(alloc, entry.caller.0, event, answer, picked)?;
+    value.to_vec(alloc)
+}
+
+#[tactic(auto, unfolding(crate::specs::Records::record_of))]
+fn record_of(alloc: Global, value: &Value) -> Result<Option<Record>, AllocError>
+    ensures { IfOk result (λ r. r ≡ record_of (view value.now)) }
+{
+    let Some(caller) = required_u32(value, "caller") else {
+        return Ok(None);
+    };
+    let Some(event) = value.get("event") else {
+        return Ok(None);
+    };
+    let Some(event) = event_of(alloc, event)? else {
+        return Ok(None);
+    };
+    let Some(answer) = value.get("answer") else {
+        return Ok(None);
+    };
+    let Some(answer) = answer_of(alloc, answer)? else {
+        return Ok(None);
+    };
+    let Some(picked) = value.get("picked") else {
+        return Ok(None);
+    };
+    let Some(picked) = picks_of(alloc, picked)? else {
+        return Ok(None);
+    };
+    if size(value) != 4 {
+        return Ok(None);
+    }
+    Ok(Some(Record {
+        caller: CallerId(caller),
+        event,
+        answer,
+        picked,
+    }))
+}
+
+/// The record of a line, which comes without the byte that ends it, or `None` exactly where the line is no record.
+/// `AllocError` comes only where a growth was refused.
+pub fn read_record(alloc: Global, line: &[u8]) -> Result<Option<Record>, AllocError>
+    ensures { IfOk result (λ r. r ≡ line_record line.now) }
+{
+    let value = match Value::from_slice(alloc, line) {
+        Ok(value) => value,
+        Err(error) => {
+            return if error.is_memory() {
+                Err(AllocError)
+            } else {
+                Ok(None)
+            };
+        }
+    };
+    record_of(alloc, &value)
+}
