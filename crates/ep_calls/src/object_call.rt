@@ -68,12 +68,7 @@ fn answer_copy(answer: &Answer, mut room: SmallVec<u8, 16>) -> Answer
 }
 
 /// Copies of an answer for a second record, where one is asked for.
-fn spare_of(
-    alloc: Global,
-    answer: &Answer,
-    room: SmallVec<u8, 16>,
-    kept: bool,
-) -> Option<Spare>
+fn spare_of(alloc: Global, answer: &Answer, room: SmallVec<u8, 16>, kept: bool) -> Option<Spare>
     requires empty { room.items ≡ [] }
     requires fits { kept ≡ true → FitsRoom answer.now room }
     ensures { MatchOption result (kept ≡ false) (λ s. (s.answer ≡ answer.now) × (s.picked ≡ [])) }

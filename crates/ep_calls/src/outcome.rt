@@ -38,7 +38,13 @@ impl Outcome {
         ensures raising { result.raising ≡ Nowhere }
     {
         let recorded = Answer::Refused(errno);
-        Outcome::copied(alloc, Answer::Refused(errno), recorded, None, Raising::Nowhere)
+        Outcome::copied(
+            alloc,
+            Answer::Refused(errno),
+            recorded,
+            None,
+            Raising::Nowhere,
+        )
     }
 
     /// An answer that takes no memory to copy, and reports nothing.

@@ -52,11 +52,7 @@ fn note(interest: &mut Interest, step: u64, chosen: &[Reportable])
 }
 
 /// Copies for a second record, where one is asked for.
-fn spare_of(
-    alloc: Global,
-    chosen: &[Reportable],
-    kept: bool,
-) -> Result<Option<Spare>, AllocError>
+fn spare_of(alloc: Global, chosen: &[Reportable], kept: bool) -> Result<Option<Spare>, AllocError>
     ensures { IfOk result (λ spare. MatchOption spare (kept ≡ false) (λ s. (s.answer ≡ Events (map report_of chosen.now)) × (s.picked ≡ numbers_of chosen.now))) }
 {
     if !kept {

@@ -133,10 +133,7 @@ fn steps_of(alloc: Global, caller: CallerId) -> Result<Vec<Step>, AllocError> {
 }
 
 /// A job for each session.
-fn jobs_of<L: Ledger>(
-    alloc: Global,
-    sessions: Vec<Session<L>>,
-) -> Result<Vec<Job<L>>, AllocError> {
+fn jobs_of<L: Ledger>(alloc: Global, sessions: Vec<Session<L>>) -> Result<Vec<Job<L>>, AllocError> {
     let mut jobs = Vec::new(alloc);
     for session in sessions {
         let steps = steps_of(alloc, session.caller())?;
@@ -190,5 +187,8 @@ pub fn crowd<L: Ledger + Send + Sync, R: Threads + Wait + Sync>(
     };
     let report = run_sessions(rt, alloc, &shared, jobs, &gate, 100_000_000).ok()?;
     let history = shared.finish(report.sessions).ok()?;
-    report.stopped.is_empty().then(|| tally_of(&history.records))
+    report
+        .stopped
+        .is_empty()
+        .then(|| tally_of(&history.records))
 }

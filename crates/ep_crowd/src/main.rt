@@ -31,12 +31,13 @@ fn main(rt: HostRuntime) -> io::Result<()> {
         return Ok(());
     }
     match crowd::<Brand, _>(&rt, rt.alloc(), Blank::new(4)) {
-        Some(Tally {
-            records,
-            bytes,
-            waits,
-        }) => println!(
-            rt;
+        Some(
+            Tally {
+                records,
+                bytes,
+                waits,
+            },
+        ) => println!(rt;
             "{records} records, {bytes} bytes read, {waits} waits that parked; each session's part agrees"
         ),
         None => println!(rt; "it did not come to an end"),

@@ -27,7 +27,7 @@ pub record AreOwned (queue : List (Option (Option ℕ))) (places : List (ℕ × 
   pub used : (caller : ℕ) (p : DuePlace) → lookup (nat_eq caller) places ≡ Some p → IsSome (moment_at queue p.0)
   pub owned : (caller : ℕ) (p : DuePlace) → lookup (nat_eq caller) places ≡ Some p → lookup (nat_eq p.0) owners ≡ Some (record { 0 = caller })
   pub placed : (p : ℕ) → IsSome (moment_at queue p)
-    → (c : CallerId) × (lookup (nat_eq p) owners ≡ Some c) × (lookup (nat_eq c.0) places ≡ Some (record { 0 = p }))
+      → (c : CallerId) × (lookup (nat_eq p) owners ≡ Some c) × (lookup (nat_eq c.0) places ≡ Some (record { 0 = p }))
 
 -- one caller's moment is as given, the others stay
 abbrev pub SetsMoment : Moments → Moments → ℕ → Option (Option ℕ) → Type 0

@@ -103,10 +103,13 @@ impl PlainKernel {
         let again = event.copy()?;
         kept.reserve(1)?;
         let (answer, spare) = self.try_step(caller, event, true)?;
-        let Some(Spare {
-            answer: recorded,
-            picked,
-        }) = spare else {
+        let Some(
+            Spare {
+                answer: recorded,
+                picked,
+            },
+        ) = spare
+        else {
             unreachable!();
         };
         kept.push_reserved(Record {

@@ -23,7 +23,10 @@ pub trait Gate: Sync {
 #[derive(Drop)]
 pub enum Step {
     /// `Shared::call`.
-    Call { pid: Pid, call: Call },
+    Call {
+        pid: Pid,
+        call: Call,
+    },
     /// `Shared::wait`.
     Wait {
         pid: Pid,
@@ -32,7 +35,9 @@ pub enum Step {
         timeout: i64,
     },
     /// `Shared::tick`.
-    Tick { n: u64 },
+    Tick {
+        n: u64,
+    },
 }
 
 /// The steps of one session, in order.

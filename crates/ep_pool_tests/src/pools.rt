@@ -94,10 +94,13 @@ fn two_jobs<L: Ledger>(
 
 /// The last answer is one report of eventfd 3.
 fn is_woken(records: &[Record]) -> bool {
-    let Some(Record {
-        answer: Answer::Events(reports),
-        ..
-    }) = records.last() else {
+    let Some(
+        Record {
+            answer: Answer::Events(reports),
+            ..
+        },
+    ) = records.last()
+    else {
         return false;
     };
     let reports = reports.as_slice();

@@ -14,7 +14,6 @@ mod handed;
 pub mod laws;
 
 pub use crate::book::close::{FinishFault, History};
-
 use ep_base::{Answer, CallerId, Errno, Event, Record};
 use ep_calls::Kernel;
 use std::alloc::{AllocError, Global};

@@ -5,6 +5,5 @@ pub mod book;
 mod same;
 mod shared;
 
-pub use crate::book::laws;
-pub use crate::book::{Book, FinishFault, History, Session};
+pub use crate::book::{Book, FinishFault, History, Session, laws};
 pub use crate::shared::Shared;

@@ -124,10 +124,7 @@ fn copy_to(records: &[Record], list: &mut Vec<Record>) -> Result<(), Fail> {
 }
 
 /// Without the last record of caller 2 its part differs.
-fn differs_without_the_last<L: Ledger>(
-    alloc: Global,
-    sessions: &[Session<L>],
-) -> Result<(), Fail> {
+fn differs_without_the_last<L: Ledger>(alloc: Global, sessions: &[Session<L>]) -> Result<(), Fail> {
     let mut records = Vec::new(alloc);
     for session in sessions {
         copy_to(session.records(), &mut records)?;

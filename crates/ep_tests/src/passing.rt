@@ -7,6 +7,7 @@ use std::alloc::AllocError;
 use std::test::Fail;
 
 const IN: Mask = Mask(1);
+
 const OUT: Mask = Mask(4);
 
 /// The key of the registration of an instance on a description, which is added where it isn't there.

@@ -69,7 +69,10 @@ fn expect_again(rt: &(impl AllocGlobal + Abort), line: &str) -> Result<(), Fail>
 }
 
 fn expect_refused(rt: &(impl AllocGlobal + Abort), line: &str) -> Result<(), Fail> {
-    assert!(rt; read_record(rt.alloc(), line.as_bytes())?.is_none(), "at {line}");
+    assert!(rt;
+        read_record(rt.alloc(), line.as_bytes())?.is_none(),
+        "at {line}"
+    );
     Ok(())
 }
 
@@ -83,7 +86,8 @@ fn prints_what_it_read(rt: HostRuntime) -> Result<(), Fail> {
 
 #[test]
 fn reads_keys_in_any_order(rt: HostRuntime) -> Result<(), Fail> {
-    let line = " {\"caller\":1, \"event\":{\"tick\":5}, \"picked\":[], \"answer\":{\"done\":true}} ";
+    let line =
+        " {\"caller\":1, \"event\":{\"tick\":5}, \"picked\":[], \"answer\":{\"done\":true}} ";
     assert!(rt; read_record(rt.alloc(), line.as_bytes())?.is_some());
     Ok(())
 }
@@ -110,7 +114,8 @@ fn prints_a_record(rt: HostRuntime) -> Result<(), Fail> {
         picked: Picked::empty(alloc),
     };
     let line = print_record(alloc, &entry)?;
-    let wanted = "{\"answer\":{\"num\":3},\"caller\":1,\"event\":{\"call\":{\"fd\":4,\"hex\":\"616263\",\"op\":\"write\"},\"pid\":1},\"picked\":[]}";
+    let wanted =
+        "{\"answer\":{\"num\":3},\"caller\":1,\"event\":{\"call\":{\"fd\":4,\"hex\":\"616263\",\"op\":\"write\"},\"pid\":1},\"picked\":[]}";
     assert_eq!(rt; std::str::from_utf8(line.as_slice()), Ok(wanted));
     Ok(())
 }

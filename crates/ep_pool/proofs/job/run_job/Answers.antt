@@ -18,5 +18,5 @@ loop-step-preserved g c =
       count = omega (arith, length-append c.loop-step.yielded (c.in-Some.step ∷ []), inv.count);
       caller = c.make_step.ensures.caller ∙ inv.caller;
       adds = steps_push (caller_of job.session) (records_of job.session) (records_of mid) (records_of c.make_step.new.session) c.loop-step.yielded c.in-Some.step inv.adds
-      (subst (λ (n : ℕ). StepAdds n (records_of mid) (records_of c.make_step.new.session) c.in-Some.step) inv.caller made);
+          (subst (λ (n : ℕ). StepAdds n (records_of mid) (records_of c.make_step.new.session) c.in-Some.step) inv.caller made);
     }
