@@ -149,7 +149,9 @@ impl<K: Kernel + Drop, L: Ledger> Book<K, L> {
         requires empty { K.past kernel ≡ [] }
         ensures kernel { IfOk result (λ r. r.0.kernel ≡ kernel) }
         ensures len { IfOk result (λ r. vec_len r.1 ≡ sessions) }
-        ensures each { IfOk result (λ r. (i : ℕ) (d : _) → i < sessions → ((slice_index_or r.1.items i d).name.number ≡ i + 1) × ((slice_index_or r.1.items i d).records.items ≡ [])) }
+        ensures each { IfOk result (λ r. (i : ℕ) (d : _) → i < sessions →
+            ((slice_index_or r.1.items i d).name.number ≡ i + 1)
+            × ((slice_index_or r.1.items i d).records.items ≡ [])) }
     {
         let (made, mut rest) = blank.open::<L>();
         let mut handed = Vec::new(alloc);
@@ -168,10 +170,12 @@ impl<K: Kernel + Drop, L: Ledger> Book<K, L> {
     }
 
     /// One event by the session's caller, whose record is put at the end of the session's too.
-    /// ENOMEM is answered where a growth of the kernel or of the session's list was refused: then neither changes.
+    /// ENOMEM is want of memory, for the kernel or for the session's list: then neither changes.
     pub fn act(&mut self, session: &mut Session<L>, event: Event) -> Answer
         ensures limits { K.bounds self.new.kernel ≡ K.bounds self.old.kernel }
-        ensures acts { Acts (K.bounds self.old.kernel) (record { 0 = session.old.name.number }) event result (K.state self.old.kernel) (K.state self.new.kernel) (K.past self.old.kernel) (K.past self.new.kernel) }
+        ensures acts { Acts (K.bounds self.old.kernel) (record { 0 = session.old.name.number }) event result
+            (K.state self.old.kernel) (K.state self.new.kernel)
+            (K.past self.old.kernel) (K.past self.new.kernel) }
         ensures kept { KeepsRecord result (K.past self.old.kernel) (K.past self.new.kernel) session.old.records.items session.new.records.items }
         ensures adds { Adds session.old.name.number event result session.old.records.items session.new.records.items }
         ensures caller { session.new.name.number ≡ session.old.name.number }

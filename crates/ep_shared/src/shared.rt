@@ -43,7 +43,9 @@ impl<K: Kernel + Drop, L: Ledger> Shared<K, L> {
         requires empty { K.past kernel ≡ [] }
         ensures limits { IfOk result (λ r. r.0.limits ≡ K.bounds kernel) }
         ensures len { IfOk result (λ r. vec_len r.1 ≡ sessions) }
-        ensures each { IfOk result (λ r. (i : ℕ) (d : _) → i < sessions → (caller_of (slice_index_or r.1.items i d) ≡ i + 1) × (records_of (slice_index_or r.1.items i d) ≡ [])) }
+        ensures each { IfOk result (λ r. (i : ℕ) (d : _) → i < sessions →
+            (caller_of (slice_index_or r.1.items i d) ≡ i + 1)
+            × (records_of (slice_index_or r.1.items i d) ≡ [])) }
     {
         let limits = *kernel.limits();
         let (book, handed) = Book::open(alloc, blank, kernel, sessions)?;
@@ -148,6 +150,7 @@ impl<K: Kernel + Drop, L: Ledger> Shared<K, L> {
 
     /// The whole history, where each caller has a session here and the records of each caller are those of its session;
     /// else the first fault, in the order of `FinishFault`.
+    /// The time grows with the records times the sessions.
     pub fn finish(self, handed: Vec<Session<L>>) -> Result<History, FinishFault>
         ensures result { Finishes self.count.number self.limits handed.items result }
         ensures limits { IfOk result (λ h. h.limits ≡ self.limits) }

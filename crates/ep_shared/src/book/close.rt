@@ -59,6 +59,7 @@ fn copies_of(alloc: Global, records: &[Record]) -> Result<Vec<Record>, AllocErro
 impl<K: Kernel + Drop, L: Ledger> Book<K, L> {
     /// The whole history, where each caller from 1 to `sessions` has a session here, the kernel has these limits, and the
     /// records of each caller are those of its session; else the first fault, in the order of `FinishFault`.
+    /// The time grows with the records times the sessions.
     pub fn close(
         self,
         limits: &Limits,
@@ -66,7 +67,9 @@ impl<K: Kernel + Drop, L: Ledger> Book<K, L> {
         handed: Vec<Session<L>>,
     ) -> Result<History, FinishFault>
         requires { sessions ≡ L.parts }
-        ensures result { MatchResult result (IsHistory sessions limits.now (K.bounds self.kernel) (K.past self.kernel) handed.items) (IsFault sessions limits.now (K.bounds self.kernel) (K.past self.kernel) handed.items) }
+        ensures result { MatchResult result
+            (IsHistory sessions limits.now (K.bounds self.kernel) (K.past self.kernel) handed.items)
+            (IsFault sessions limits.now (K.bounds self.kernel) (K.past self.kernel) handed.items) }
         ensures replays { IfOk result (λ h. run h.limits opening h.records.items ≡ Some (K.state self.kernel)) }
         ensures within { IfOk result (λ h. All (λ r. IsBetween sessions r.caller.0) h.records.items) }
         ensures answered { IfOk result (λ h. vec_len h.records ≡ sum_by (λ s. vec_len s.records) handed.items) }

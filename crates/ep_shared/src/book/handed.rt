@@ -27,7 +27,7 @@ pub fn gather<L: Ledger>(handed: Vec<Session<L>>) -> Share<L>
 }
 
 /// Whether a caller has a session.
-fn has<L: Ledger>(handed: &[Session<L>], caller: u32) -> bool
+pub fn has<L: Ledger>(handed: &[Session<L>], caller: u32) -> bool
     ensures { result ≡ has_session handed.now caller }
 {
     for session in handed {

@@ -1,15 +1,17 @@
 //! What a list of records and the sessions have in common.
-ghost use Rattle.std.specs.Prelude.{◌≡◌, ℕ, ◌<◌, ◌≤◌, ◌↔◌, IfErr, IfOk, IfSome, IsTrue};
+ghost use Rattle.std.specs.Prelude.{◌≡◌, ℕ, ◌<◌, ◌≤◌, ◌↔◌, IfErr, IfOk, IfSome, IsTrue, true};
 ghost use Rattle.ep_shared.specs.Parts.{part};
-ghost use Rattle.ep_shared.specs.Sessions.{IsBelow, IsSame};
+ghost use Rattle.ep_shared.specs.Sessions.{IsBelow, IsSame, has_session};
 
 use crate::book::Session;
+use crate::book::handed::has;
 use crate::same::is_same_record;
 use ep_base::{CallerId, Record};
 use std::sync::ledger::Ledger;
 
 /// Whether the records of each caller are those of its session, in order, and none where it has no session; else the
 /// least caller of which this does not hold. It takes no memory.
+/// The time grows with the records times the sessions, where each caller in the history has a session.
 pub fn same_parts<L: Ledger>(history: &[Record], handed: &[Session<L>]) -> Result<(), CallerId>
     ensures ok { IfOk result (λ _. (c : ℕ) → IsSame history.now handed.now c) }
     ensures err { IfErr result (λ c. (IsSame history.now handed.now c.0 → ⊥) × ((d : ℕ) → d < c.0 → IsSame history.now handed.now d)) }
@@ -19,7 +21,7 @@ pub fn same_parts<L: Ledger>(history: &[Record], handed: &[Session<L>]) -> Resul
         least = lesser(history, handed, session.name.number, least);
     }
     for r in history {
-        least = lesser(history, handed, r.caller.0, least);
+        least = lesser_without_session(history, handed, r.caller.0, least);
     }
     match least {
         Some(caller) => Err(CallerId(caller)),
@@ -46,6 +48,26 @@ fn lesser<L: Ledger>(
         Some(before) if before <= caller => Some(before),
         _ => Some(caller),
     }
+}
+
+/// The same of a caller that may have no session: the sessions were compared before.
+fn lesser_without_session<L: Ledger>(
+    history: &[Record],
+    handed: &[Session<L>],
+    caller: u32,
+    least: Option<u32>,
+) -> Option<u32>
+    requires unlike { IfSome least (λ b. IsSame history.now handed.now b → ⊥) }
+    requires compared { (d : ℕ) → IsBelow least d → has_session handed.now d ≡ true →
+        IsSame history.now handed.now d }
+    ensures differs { IfSome result (λ b. IsSame history.now handed.now b → ⊥) }
+    ensures kept { (d : ℕ) → IsBelow result d → IsBelow least d }
+    ensures here { IsBelow result caller → IsSame history.now handed.now caller }
+{
+    if has(handed, caller) {
+        return least;
+    }
+    lesser(history, handed, caller, least)
 }
 
 /// Whether the records of a caller are those of its session.
