@@ -27,7 +27,7 @@ pub trait Kernel {
     ghost capacity: { Self → ℕ } = { λ _. 0 };
 
     /// One event. The answer is one that the machine allows here, a refusal too, and the history gains its record.
-    /// ENOMEM is answered only where a growth was refused: then nothing changes, and there is no record.
+    /// ENOMEM is want of memory: nothing changes, and there is no record.
     /// Room for records is never given back.
     fn step(&mut self, caller: CallerId, event: Event) -> Answer
         ensures limits { bounds self.new ≡ bounds self.old }
@@ -35,7 +35,7 @@ pub trait Kernel {
         ensures acts { Acts (bounds self.old) caller event result (state self.old) (state self.new) (past self.old) (past self.new) };
 
     /// A step whose record is put at the end of a list of the caller's too.
-    /// ENOMEM is answered where a growth of either was refused: then the list too is as before, but that it may have
+    /// ENOMEM is want of memory, for the history or for that list: then the list too is as before, but that it may have
     /// more room.
     fn step_kept(&mut self, caller: CallerId, event: Event, kept: &mut Vec<Record>) -> Answer
         ensures limits { bounds self.new ≡ bounds self.old }

@@ -26,7 +26,7 @@ fn record_value(
 }
 
 /// The line of a record, compact JSON without the byte 10 that ends it: `read_record` reads it as the same record.
-/// `AllocError` comes only where a growth was refused.
+/// `AllocError` is want of memory.
 pub fn print_record(alloc: Global, entry: &Record) -> Result<Vec<u8>, AllocError>
     ensures text { IfOk result (λ line. line.items ≡ record_line entry.now) }
     ensures one_line { IfOk result (λ line. All (λ b. 32 ≤ b) line.items) }
@@ -77,7 +77,7 @@ fn record_of(alloc: Global, value: &Value) -> Result<Option<Record>, AllocError>
 }
 
 /// The record of a line, which comes without the byte that ends it, or `None` exactly where the line is no record.
-/// `AllocError` comes only where a growth was refused.
+/// `AllocError` is want of memory.
 pub fn read_record(alloc: Global, line: &[u8]) -> Result<Option<Record>, AllocError>
     ensures { IfOk result (λ r. r ≡ line_record line.now) }
 {

@@ -102,7 +102,7 @@ pub fn push_bad(text: &mut String, number: u64) -> Result<(), AllocError>
 }
 
 /// The line that tells an answer, compact JSON with one key, and the byte 10 that ends it.
-/// `AllocError` comes only where a growth was refused.
+/// `AllocError` is want of memory.
 pub fn print_answer(alloc: Global, answer: &Answer) -> Result<Vec<u8>, AllocError>
     ensures { IfOk result (λ line. line.items ≡ line_of answer.now) }
 {

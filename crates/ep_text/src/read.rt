@@ -117,7 +117,7 @@ fn reading(alloc: Global, line: &[u8]) -> Result<Result<(CallerId, Event), Reaso
 /// What a line of a script asks for and who asks, or `None` exactly where the line is no command:
 /// one object, whose `op` is a call, `resume` or `tick`, with the keys of that operation and no other,
 /// each with a value of its kind and range. The line comes without the byte that ends it.
-/// `AllocError` comes only where a growth was refused.
+/// `AllocError` is want of memory.
 pub fn read_line(alloc: Global, line: &[u8]) -> Result<Option<(CallerId, Event)>, AllocError>
     ensures { IfOk result (λ r. r ≡ event line.now) }
 {
@@ -125,10 +125,10 @@ pub fn read_line(alloc: Global, line: &[u8]) -> Result<Option<(CallerId, Event)>
 }
 
 /// Why a line is no command, or `None` exactly where `read_line` finds one. It is the first reason
-/// that holds, in this order: no JSON, no object, `op` missing, no text or unknown; a key that the
-/// operation does not have; then the wrong value of `by`, of `pid`, and of each further key in the
-/// order of docs/script.md, or that the key is missing. `AllocError` comes only where a growth was
-/// refused.
+/// that holds, in this order: no byte at all, no JSON behind a byte order mark, no JSON, no object,
+/// `op` missing, no text or unknown; a key that the operation does not have; then the wrong value of
+/// `by`, of `pid`, and of each further key in the order of docs/script.md, or that the key is
+/// missing. `AllocError` is want of memory.
 pub fn explain(alloc: Global, line: &[u8]) -> Result<Option<Reason>, AllocError>
     ensures first { IfOk result (λ r. r ≡ reason line.now) }
     ensures exact { IfOk result (λ r. IsSome r ↔ IsNone (event line.now)) }
