@@ -43,7 +43,6 @@ does_all Also n tests changed outcome old new does also = record {
   raising = does.raising;
   limits = does.limits;
   keys = does.keys;
-  grows = does.grows;
 }
 
 -- a refusal leaves the parts
@@ -59,7 +58,6 @@ refused_does p n caller event e outcome first_is answer picked raising =
       raising = subst (λ (r : Raising). IsRaising r p.tables) (sym raising) tt;
       limits = refl;
       keys = λ key d h. h;
-      grows = record { added = omega arith };
     }
 
 module _ (p : Parts) (caller : ℕ) (pid : Pid) (call : Call) (there : is_some (table_of p.tables.files pid.0) ≡ true) where
@@ -84,7 +82,6 @@ module _ (p : Parts) (caller : ℕ) (pid : Pid) (call : Call) (there : is_some (
         raising = does.raising;
         limits = does.limits;
         keys = does.keys;
-        grows = does.grows;
       }
 
 -- the clock going on
@@ -119,7 +116,6 @@ module _ (p : Parts) (n caller k : ℕ) (outcome : Outcome) (clock : ℕ) (none 
         raising = is;
         limits = refl;
         keys = λ key d h. h;
-        grows = record { added = omega arith };
       }
 
 pub tick_does : (p : Parts) (n caller k : ℕ) (outcome : Outcome) (clock : ℕ) → Ticks p.clock k clock outcome.answer → Sets p.clock k outcome.raising → outcome.picked ≡ [] → IsRaising outcome.raising p.tables

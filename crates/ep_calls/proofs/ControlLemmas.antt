@@ -73,11 +73,11 @@ module _ (v : Seen) (r : Registrations) (p : ℕ) (args : Control) (named : Name
   watched_entered deep watches Modify new answer h = subst (λ (q : Registrations). AreWatched v q) (sym h.1) watched
 
 -- with this answer, nothing picked and this raised, the parts do what the machine does
-pub ctl_does : (p : Parts) (interest : Registrations) (graph : List Link) (pid : ℕ) (args : Control) (answer : Answer) (outcome : Outcome) → outcome.answer ≡ answer → outcome.picked ≡ [] → IsRaising outcome.raising p.tables → interest.added ≤ p.interest.added + 1 → (n caller : ℕ)
+pub ctl_does : (p : Parts) (interest : Registrations) (graph : List Link) (pid : ℕ) (args : Control) (answer : Answer) (outcome : Outcome) → outcome.answer ≡ answer → outcome.picked ≡ [] → IsRaising outcome.raising p.tables → (n caller : ℕ)
     → MovesBy n p (λ s. Goes (ctl_refusals p.tables.limits s pid args.epfd.0 args.op args.fd.0 args.mask.0) (call_change p.tables.limits s caller pid (control_call args) []) s answer [] (record p { interest = interest; graph = graph })
     × Raises (ctl_refusals p.tables.limits s pid args.epfd.0 args.op args.fd.0 args.mask.0) (call_change p.tables.limits s caller pid (control_call args) []) outcome.raising p.tables p.clock)
     → DoesCall n caller pid (control_call args) outcome p (record p { interest = interest; graph = graph })
-ctl_does p interest graph pid args answer outcome told none is added n caller both =
+ctl_does p interest graph pid args answer outcome told none is n caller both =
     let limits = p.tables.limits in
     record {
       moves = λ s at sound quiet legal stands.
@@ -87,5 +87,4 @@ ctl_does p interest graph pid args answer outcome told none is added n caller bo
       raising = is;
       limits = refl;
       keys = λ key d h. h;
-      grows = record { added = added };
     }

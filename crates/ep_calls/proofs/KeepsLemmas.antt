@@ -26,7 +26,7 @@ use Rattle.ep_calls.specs.declared.raising.Raising.{Raising}
 use Rattle.ep_calls.proofs.RaiseLemmas.{stirs_added}
 use Rattle.ep_calls.specs.Does.{DoesEvent}
 use Rattle.ep_calls.specs.Keeps.{Keeps}
-use Rattle.ep_calls.specs.Parts.{AreCoherent, AreOpening, Grows, Parts}
+use Rattle.ep_calls.specs.Parts.{AreCoherent, AreOpening, Parts}
 use Rattle.ep_calls.specs.declared.outcome.Outcome.{Outcome}
 use Rattle.ep_calls.proofs.StepLemmas.{Leads, climbed_stands, leads}
 use Rattle.ep_table.specs.Value.{Sound as SoundTables}
@@ -46,9 +46,6 @@ keeps_opening limits p h = record {
     added = ap (λ (r : Registrations). r.added) (sym h.interest);
     waiters = ap (waiters_at p.tables.keys) (sym h.parked);
   };
-  few = record {
-    added = omega (arith, ap (λ (r : Registrations). r.added) h.interest);
-  };
 }
 
 -- the state that contracts see is the one for which the parts stand
@@ -64,7 +61,6 @@ pub record DoesAt (s : State) (caller : ℕ) (event : Event) (outcome : Outcome)
   pub raises : Raises (refusals old.tables.limits s caller event) (change old.tables.limits s caller event outcome.picked) outcome.raising new.tables new.clock
   pub raising : IsRaising outcome.raising new.tables
   pub limits : new.tables.limits ≡ old.tables.limits
-  pub grows : Grows old new
 
 pub does_at : (past : List Record) (old new : Parts) (keeps : Keeps past old) (n caller : ℕ) (event : Event) (outcome : Outcome) → n ≡ length past + 1 → DoesEvent n caller event outcome old new → DoesAt (next_event keeps.state) caller event outcome old new
 does_at past old new keeps n caller event outcome at does =
@@ -77,7 +73,6 @@ does_at past old new keeps n caller event outcome at does =
       raises = does.raises (next_event s) begins (sound_begun s keeps.sound) (quiet_begun s keeps.quiet) legal stands;
       raising = does.raising;
       limits = does.limits;
-      grows = does.grows;
     }
 
 -- what follows a change in event n: what it raised is noted, the dead are taken, what was raised climbs, and marks are set
@@ -135,9 +130,6 @@ module _ (past : List Record) (old mid noted buried climbed new : Parts) (keeps 
     stands =
         climbed_stands n buried climbed.interest new.parked next.to settles.climbs settles.sound_buried settles.coherent_buried.placed
         (settles.marks ∙ ap (λ (p : Parts). marked_by (ready_key p.tables p.clock p.interest) p.clock p.parked) settles.climbed_others) next.stands;
-    few = record {
-      added = omega (arith, does.grows.added, keeps.few.added, length_is, settles.climbs.added, burial.buries.added, stirs_added outcome.raising mid.tables mid.clock n mid.interest noted.interest settles.stirs);
-    };
   }
 
   pub keeps_next : Keeps after new

@@ -18,7 +18,7 @@ use Rattle.ep_view.proofs.FilesLemmas.{extends_with_object}
 use Rattle.ep_view.proofs.AtRestLemmas.{effect_kind, kind_at, kind_there}
 use Rattle.ep_calls.specs.Does.{DoesCall}
 use Rattle.ep_calls.specs.ObjectCall.{fd_of}
-use Rattle.ep_calls.specs.Parts.{AreCoherent, Grows, Parts}
+use Rattle.ep_calls.specs.Parts.{AreCoherent, Parts}
 use Rattle.ep_calls.specs.declared.outcome.Outcome.{Outcome}
 use Rattle.ep_calls.specs.Moves.{Goes}
 use Rattle.ep_calls.specs.Raising.{IsRaising, Raises, RaisesByCall}
@@ -60,9 +60,9 @@ applied_kinds v key now call sound there =
 
 -- so the parts do what the machine does
 pub object_does : (p : Parts) (new : Seen) (pid : ℕ) (fd : Fd) (call : Call) (outcome : Outcome) → AreCoherent p → fd_of call ≡ Some fd → CallsObject pid fd p.clock call outcome.answer p.tables new
-    → RaisesByCall p.tables new pid fd.0 p.clock call outcome.raising → outcome.picked ≡ [] → IsRaising outcome.raising new → Grows p (record p { tables = new })
+    → RaisesByCall p.tables new pid fd.0 p.clock call outcome.raising → outcome.picked ≡ [] → IsRaising outcome.raising new
     → (n caller : ℕ) → DoesCall n caller pid call outcome p (record p { tables = new })
-object_does p new pid fd call outcome h on calls raises picked is grows n caller =
+object_does p new pid fd call outcome h on calls raises picked is n caller =
     let limits = p.tables.limits in
     let here = on_object call fd on in
     record {
@@ -75,5 +75,4 @@ object_does p new pid fd call outcome h on calls raises picked is grows n caller
       raising = is;
       limits = object_limits p.tables new pid fd p.clock call outcome.answer calls;
       keys = object_keys p.tables new pid fd p.clock call outcome.answer calls;
-      grows = grows;
     }

@@ -87,5 +87,4 @@ table_does p new pid call outcome h is does picked raising n caller =
       raising = subst (λ (r : Raising). IsRaising r new) (sym raising) tt;
       limits = does_limits (called p.tables p.parked pid call) outcome.answer p.tables new does;
       keys = does_keys (called p.tables p.parked pid call) outcome.answer p.tables new does;
-      grows = record { added = omega arith };
     }

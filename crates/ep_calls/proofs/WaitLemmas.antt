@@ -23,7 +23,7 @@ use Rattle.ep_machine.specs.Objects.{is_instance, plain}
 use Rattle.ep_machine.specs.Step.{call_change}
 use Rattle.std.proofs.lemmas.List.Elements.{All-map, All-weaker}
 use Rattle.ep_calls.specs.Does.{DoesCallIf, DoesEventIf}
-use Rattle.ep_calls.specs.Parts.{AreCoherent, AreWatched, Grows}
+use Rattle.ep_calls.specs.Parts.{AreCoherent, AreWatched}
 use Rattle.ep_calls.specs.Moves.{MovesIf}
 use Rattle.ep_calls.specs.Raising.{IsRaising}
 use Rattle.ep_calls.specs.Stands.{AreHeld, KeepsKeys}
@@ -111,12 +111,9 @@ coherent_parked p v us h files keys placed held =
       clock = h.clock;
     }
 
--- a wait raises nothing, and leaves files, keys and how many were added
+-- a wait raises nothing, and leaves files and keys
 module _ (Also : State → Type 0) (n caller : ℕ) (outcome : Outcome) (p new : Parts) (raising : outcome.raising ≡ Nowhere) (files : new.tables.files ≡ p.tables.files) (keys : new.tables.keys ≡ p.tables.keys)
-    (limits : new.tables.limits ≡ p.tables.limits) (added : new.interest.added ≡ p.interest.added) where
-  grown : Grows p new
-  grown = record { added = omega (arith, added) }
-
+    (limits : new.tables.limits ≡ p.tables.limits) where
   kept : KeepsKeys p.tables new.tables
   kept = λ key d h. ap (λ (ks : List (Option ℕ)). slice_index_or ks key.0 None) keys ∙ h
 
@@ -130,7 +127,6 @@ module _ (Also : State → Type 0) (n caller : ℕ) (outcome : Outcome) (p new :
     raising = subst (λ (r : Raising). IsRaising r new.tables) (sym raising) tt;
     limits = limits;
     keys = kept;
-    grows = grown;
   }
 
   pub resume_does : MovesIf Also n p (λ s. Goes (refusals p.tables.limits s caller Resume) (resume s caller outcome.picked) s outcome.answer outcome.picked new) → DoesEventIf Also n caller Resume outcome p new
@@ -140,7 +136,6 @@ module _ (Also : State → Type 0) (n caller : ℕ) (outcome : Outcome) (p new :
     raising = subst (λ (r : Raising). IsRaising r new.tables) (sym raising) tt;
     limits = limits;
     keys = kept;
-    grows = grown;
   }
 
 -- a number of reports that is asked for

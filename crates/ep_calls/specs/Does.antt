@@ -6,7 +6,7 @@ use Rattle.ep_base.specs.declared.errno.Errno.{Errno}
 use Rattle.ep_machine.specs.Refusal.{call_refusals, refusals}
 use Rattle.ep_machine.specs.State.{Change, State}
 use Rattle.ep_machine.specs.Step.{call_change, change}
-use Rattle.ep_calls.specs.Parts.{Grows, Parts}
+use Rattle.ep_calls.specs.Parts.{Parts}
 use Rattle.ep_calls.specs.declared.outcome.Outcome.{Outcome}
 use Rattle.ep_calls.specs.Moves.{Goes, MovesBy, MovesIf}
 use Rattle.ep_calls.specs.Raising.{IsRaising, Raises}
@@ -26,7 +26,6 @@ pub record Does (From : (State → Type 0) → Type 0) (tests : State → List (
   pub raising : IsRaising outcome.raising new.tables
   pub limits : new.tables.limits ≡ old.tables.limits
   pub keys : KeepsKeys old.tables new.tables
-  pub grows : Grows old new
 
 -- a call at event n
 abbrev pub DoesCall : ℕ → ℕ → ℕ → Call → Outcome → Parts → Parts → Type 0

@@ -1,5 +1,5 @@
 -- What a kernel keeps.
-use Rattle.std.specs.Prelude.{◌≡◌, ◌≤◌, List, Some, length, ℕ}
+use Rattle.std.specs.Prelude.{◌≡◌, List, Some, length}
 use Rattle.ep_base.specs.declared.record.Record.{Record}
 use Rattle.ep_view.specs.AtRest.{AtRest}
 use Rattle.ep_machine.specs.Run.{run}
@@ -7,10 +7,6 @@ use Rattle.ep_law.specs.Sound.{Sound}
 use Rattle.ep_machine.specs.State.{State, opening}
 use Rattle.ep_calls.specs.Moves.{StandFor}
 use Rattle.ep_calls.specs.Parts.{Parts}
-
--- so many events leave room for as many more registrations
-pub record AreFew (events : ℕ) (p : Parts) : Type 0 where
-  pub added : p.interest.added ≤ events
 
 -- the history leads to a state for which the parts stand
 pub record Keeps (past : List Record) (p : Parts) : Type 0 where
@@ -20,4 +16,3 @@ pub record Keeps (past : List Record) (p : Parts) : Type 0 where
   pub sound : Sound state
   pub quiet : AtRest state
   pub stands : StandFor p state
-  pub few : AreFew (length past) p

@@ -1,5 +1,5 @@
 -- What contracts see of the parts of a kernel, and what holds of them between calls.
-use Rattle.std.specs.Prelude.{◌≡◌, ◌+◌, ◌<◌, ◌≤◌, ◌^◌, ◌∷◌, All, List, [], true, ℕ}
+use Rattle.std.specs.Prelude.{◌≡◌, ◌≤◌, ◌∷◌, All, List, [], true, ℕ}
 use Rattle.ep_base.specs.Limits.{Limits}
 use Rattle.ep_interest.specs.Registrations.{Registrations}
 use Rattle.ep_interest.specs.declared.entry.Entry.{Entry}
@@ -31,14 +31,6 @@ pub record AreCoherent (p : Parts) : Type 0 where
   pub placed : ArePlaced p.tables p.parked
   pub held : AreHeld p.tables p.parked
   pub clock : p.clock ≤ last_moment
-
--- one event more finds room
-pub record HasRoom (p : Parts) : Type 0 where
-  pub added : p.interest.added + 1 < 2 ^ 64
-
--- and takes so much of it
-pub record Grows (old new : Parts) : Type 0 where
-  pub added : new.interest.added ≤ old.interest.added + 1
 
 -- the parts at the start: process 1, and nothing registered, linked or parked
 pub record AreOpening (within : Limits) (p : Parts) : Type 0 where

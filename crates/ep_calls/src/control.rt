@@ -1,5 +1,5 @@
 //! epoll_ctl.
-ghost use Rattle.std.specs.Prelude.{◌≡◌, ◌==◌, ◌+◌, ◌++◌, ◌∷◌, ◌<◌, ◌≤◌, ◌^◌, ℕ, [], if◌then◌else◌, IfNone, IfOk, IfSome, IsSome, List, MatchResult, OnErr, Some, false, true, unwrap_or};
+ghost use Rattle.std.specs.Prelude.{◌≡◌, ◌==◌, ◌+◌, ◌++◌, ◌∷◌, ◌≤◌, ℕ, [], if◌then◌else◌, IfNone, IfOk, IfSome, IsSome, List, MatchResult, OnErr, Some, false, true, unwrap_or};
 ghost use Rattle.std.specs.List.{list_any};
 ghost use Rattle.ep_base.specs.Answer.{FitsInline};
 ghost use Rattle.ep_machine.specs.Effect.{first};
@@ -13,7 +13,6 @@ ghost use Rattle.ep_calls.specs.Control.{Alters, EntersAt, Names, code_of, contr
 ghost use Rattle.ep_interest.specs.Registrations.{has_key, new_entry, number_under as number_of_entry};
 ghost use Rattle.ep_machine.specs.Timer.{last_moment};
 ghost use Rattle.ep_calls.specs.Does.{DoesCall};
-ghost use Rattle.ep_calls.specs.Parts.{HasRoom};
 ghost use Rattle.ep_calls.specs.Raising.{IsRaising};
 ghost use Rattle.ep_calls.specs.Stands.{AreLinked};
 ghost use Rattle.ep_calls.specs.declared.raising.Raising.TheVariants.{Nowhere};
@@ -139,7 +138,6 @@ fn add_linked(
     args: Control,
 ) -> Result<(), AllocError>
     requires absent { list_any (has_key named.instance args.fd named.desc) interest.old.entries ≡ false }
-    requires room { interest.old.added + 1 < 2 ^ 64 }
     requires legal { is_legal ((named.instance.0, named.desc.0) ∷ edges graph.old) ≡ true }
     requires fresh { is_among (entries graph.old) (interest.old.added + 1) ≡ false }
     ensures entries { IfOk result (λ _. interest.new.entries ≡ interest.old.entries ++ next_entry interest.old named args ∷ []) }
@@ -147,7 +145,8 @@ fn add_linked(
     ensures linked { IfOk result (λ _. graph.new ≡ graph.old ++ link_of (next_entry interest.old named args) ∷ []) }
     ensures err { OnErr result ((interest.new ≡ interest.old) × (graph.new ≡ graph.old)) }
 {
-    let link = EntryNumber(interest.next_number());
+    let number = interest.next_number()?;
+    let link = EntryNumber(number);
     graph.link(named.instance, named.desc, link)?;
     match interest.add(named.instance, args.fd, named.desc, args.mask, args.tag) {
         Ok(_) => Ok(()),
@@ -167,7 +166,6 @@ fn add(
     args: Control,
 ) -> Result<(), AllocError>
     requires absent { list_any (has_key named.instance args.fd named.desc) interest.old.entries ≡ false }
-    requires room { interest.old.added + 1 < 2 ^ 64 }
     requires legal { is_nested ≡ true → is_legal ((named.instance.0, named.desc.0) ∷ edges graph.old) ≡ true }
     requires fresh { is_among (entries graph.old) (interest.old.added + 1) ≡ false }
     ensures entries { IfOk result (λ _. interest.new.entries ≡ interest.old.entries ++ next_entry interest.old named args ∷ []) }
@@ -195,13 +193,11 @@ fn enter(
 ) -> Result<Answer, AllocError>
     requires desc { IsSome (number_under tables.now named.desc) }
     requires absent { list_any (has_key named.instance args.fd named.desc) interest.old.entries ≡ false }
-    requires room { interest.old.added + 1 < 2 ^ 64 }
     requires nested { AreNested tables.now interest.old graph.old }
     ensures ok { IfOk result (λ answer. EntersAt operation tables.now graph.old named args interest.old interest.new answer) }
     ensures nested { AreNested tables.now interest.new graph.new }
     ensures inline { IfOk result FitsInline }
     ensures real { IfOk result (λ answer. is_no_memory answer ≡ false) }
-    ensures added { interest.new.added ≤ interest.old.added + 1 }
     ensures err { OnErr result ((interest.new ≡ interest.old) × (graph.new ≡ graph.old)) }
 {
     let Operation::Add = operation else {
@@ -262,7 +258,6 @@ impl Parts {
     /// What is added or modified and reportable at once raises IN at its instance.
     /// A refusal and an `Err`, which is want of memory and comes of ADD alone, leave the parts.
     pub fn epoll_ctl(&mut self, pid: Pid, args: Control) -> Result<Outcome, AllocError>
-        requires { HasRoom self.old }
         ensures ok { IfOk result (λ outcome. (n caller : ℕ) → DoesCall n caller pid.0 (control_call args) outcome self.old self.new) }
         ensures err { OnErr result (self.new ≡ self.old) }
     {

@@ -1,5 +1,5 @@
 //! All interest sets together.
-ghost use Rattle.std.specs.Prelude.{nat_eq, nat_lt, not, vec_capacity, ◌≤◌, ◌≡◌, ◌&&◌, ◌+◌, ◌<◌, ◌^◌, [], ◌∷◌, ◌++◌, false, IfOk, IfNone, IfSome, OnErr, IsSome, Some, is_some, All, filter, length, map, slice_index_or, slice_set, None, option_copied, unwrap_or};
+ghost use Rattle.std.specs.Prelude.{nat_eq, nat_lt, not, vec_capacity, ◌≤◌, ◌≡◌, ◌&&◌, ◌+◌, ◌<◌, ◌^◌, [], ◌∷◌, ◌++◌, false, IfOk, IfNone, IfSome, IsOk, OnErr, IsSome, Some, is_some, All, filter, length, map, slice_index_or, slice_set, None, option_copied, unwrap_or};
 ghost use Rattle.std.specs.Map.Iter.{ShowsInOrder};
 ghost use Rattle.std.specs.Option.{option_map};
 ghost use Rattle.ep_base.specs.declared.ids.EntryId.{EntryId};
@@ -261,7 +261,7 @@ impl<A: Allocator> Interest<A> {
     }
 
     /// Adds a registration with the next number, armed and never reported, as ADD of epoll_ctl(2) does, and answers its key.
-    /// `AllocError` where there is no memory, and then nothing has changed. No other call of this type takes memory. The cost grows as
+    /// `AllocError` where there is no memory, or no number is left after 2^64 - 1 additions, and then nothing has changed. No other call of this type takes memory. The cost grows as
     /// the logarithm of the number of registrations, but where a table grows.
     pub fn add(
         &mut self,
@@ -274,12 +274,14 @@ impl<A: Allocator> Interest<A> {
     where
         A: Clone,
         requires absent { list_any (has_key instance fd desc) self.old.entries ≡ false }
-        requires room { self.old.added + 1 < 2 ^ 64 }
         ensures entries { IfOk result (λ _. self.new.entries ≡ self.old.entries ++ new_entry (self.old.added + 1) instance fd desc mask tag ∷ []) }
         ensures keys { IfOk result (λ id. GainsKey self.old self.new id (self.old.added + 1)) }
         ensures added { IfOk result (λ _. self.new.added ≡ self.old.added + 1) }
         ensures err { OnErr result (self.new ≡ self.old) }
     {
+        if self.added == u64::MAX {
+            return Err(AllocError);
+        }
         self.slots.reserve(1)?;
         self.by_key.reserve(1)?;
         self.passes.reserve(self.slots.capacity())?;
@@ -377,12 +379,13 @@ impl<A: Allocator> Interest<A> {
         };
     }
 
-    /// The number that the next registration gets: it is above each that was ever given.
-    pub fn next_number(&self) -> u64
-        requires { self.now.added + 1 < 2 ^ 64 }
-        ensures { result ≡ self.now.added + 1 }
+    /// The number that the next registration gets: it is above each that was ever given. An `Err` where none is left, after
+    /// 2^64 - 1 of them.
+    pub fn next_number(&self) -> Result<u64, AllocError>
+        ensures ok { IfOk result (λ number. number ≡ self.now.added + 1) }
+        ensures left { self.now.added + 1 < 2 ^ 64 → IsOk result }
     {
-        self.added + 1
+        self.added.checked_add(1).ok_or(AllocError)
     }
 
     /// Notes that an event raised these bits at a description. Each registration on it whose mask asks for one of them, ERR

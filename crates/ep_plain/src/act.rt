@@ -5,7 +5,6 @@ ghost use Rattle.ep_machine.specs.Files.{table_of};
 ghost use Rattle.ep_park.specs.Waiters.{is_caller};
 ghost use Rattle.ep_calls.specs.Does.{DoesCall, DoesEvent};
 ghost use Rattle.ep_calls.specs.Kept.{KeepsCall, KeepsEvent};
-ghost use Rattle.ep_calls.specs.Parts.{HasRoom};
 
 use crate::wait::{epoll_wait, resume};
 use ep_base::{Call, CallerId, Errno, Event, Pid};
@@ -23,7 +22,6 @@ fn make_call(
 ) -> Result<Outcome, AllocError>
     requires free { list_any (is_caller caller.0) parts.old.parked ≡ false }
     requires process { is_some (table_of parts.old.tables.files pid.0) ≡ true }
-    requires room { HasRoom parts.old }
     ensures ok { IfOk result (λ outcome. DoesCall step caller.0 pid.0 call.now outcome parts.old parts.new) }
     ensures kept { IfOk result (λ outcome. KeepsCall call.now kept outcome) }
     ensures err { OnErr result (parts.new ≡ parts.old) }
@@ -73,7 +71,6 @@ pub fn act(
     event: &Event,
     kept: bool,
 ) -> Result<Outcome, AllocError>
-    requires { HasRoom parts.old }
     ensures ok { IfOk result (λ outcome. DoesEvent step caller.0 event.now outcome parts.old parts.new) }
     ensures kept { IfOk result (λ outcome. KeepsEvent event.now kept outcome) }
     ensures err { OnErr result (parts.new ≡ parts.old) }

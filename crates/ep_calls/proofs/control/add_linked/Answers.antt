@@ -9,7 +9,7 @@ use Rattle.ep_calls.proofs.control.add_linked.Goals as goal
 pub returns-in-Err-clause-err : goal.returns-in-Err-clause-err
 returns-in-Err-clause-err c =
     let graph = c.args.graph.now in
-    let name : EntryNumber = record { 0 = c.next_number.result } in
+    let name : EntryNumber = record { 0 = c.in_ok-number.number } in
     let l : Link = record { outer = c.args.named.instance; inner = c.args.named.desc; entry = name } in
-    let fresh = ap (λ k. is_among (entries graph) k) c.next_number.ensures ∙ c.requires.fresh in
+    let fresh = ap (λ k. is_among (entries graph) k) c.in_ok-number.ensures.ok ∙ c.requires.fresh in
     (c.in-Err.ensures.err, c.unlink.ensures ∙ (ap (without name.0) c.in_ok-link.ensures.linked ∙ unlinked graph l fresh))

@@ -31,7 +31,7 @@ returns-in_default-clause-ok c =
     let caller = c.args.caller.0 in
     let any : State → Type 0 = λ s. Unit {0} in
     rw (← c.parts.view_is) (does_all any c.args.step (λ s. refusals p.tables.limits s caller Resume) (λ s picked. change p.tables.limits s caller Resume picked) c.refused.result p p
-    (resume_does any c.args.step caller c.refused.result p p o.raising refl refl refl refl (λ s at sound quiet legal stands u.
+    (resume_does any c.args.step caller c.refused.result p p o.raising refl refl refl (λ s at sound quiet legal stands u.
     goes_told (refusals p.tables.limits s caller Resume) (resume s caller) s c.refused.result.answer (Refused Einval) c.refused.result.picked p o.answer o.picked
     (goes_unparked p.graph p.tables p.interest p.parked p.clock caller p.tables.limits s stands (sym c.in_default.ensures)))) (λ s at sound quiet legal stands. tt))
 
@@ -43,7 +43,7 @@ returns-then-not-waiter-clause-ok c =
     let caller = c.args.caller.0 in
     let any : State → Type 0 = λ s. Unit {0} in
     rw (← c.parts.view_is) (does_all any c.args.step (λ s. refusals p.tables.limits s caller Resume) (λ s picked. change p.tables.limits s caller Resume picked) c.settled.result p p
-    (resume_does any c.args.step caller c.settled.result p p o.raising refl refl refl refl (λ s at sound quiet legal stands u.
+    (resume_does any c.args.step caller c.settled.result p p o.raising refl refl refl (λ s at sound quiet legal stands u.
     goes_told (refusals p.tables.limits s caller Resume) (resume s caller) s c.settled.result.answer Still c.settled.result.picked p o.answer o.picked
     (goes_still p.graph p.tables p.interest p.parked p.clock caller p.tables.limits s stands c.in-Some.waiter (sym c.in-Some.ensures) (is_off c.in-Some.waiter.marked c.if-not-waiter.true)))) (λ s at sound quiet legal stands. tt))
 

@@ -38,7 +38,7 @@ returns-in-Err-clause-ok c = λ n caller.
     let pid = c.args.pid.0 in
     let limits = v.limits in
     let e = c.refused.ensures in
-    rw (← c.self.view_is) (ctl_does p r k.graph pid a (Refused c.in-Err.errno) c.refused.result e.answer e.picked (subst (λ (q : Raising). IsRaising q v) (sym e.raising) tt) (omega arith) n caller (λ s at sound quiet legal stands.
+    rw (← c.self.view_is) (ctl_does p r k.graph pid a (Refused c.in-Err.errno) c.refused.result e.answer e.picked (subst (λ (q : Raising). IsRaising q v) (sym e.raising) tt) n caller (λ s at sound quiet legal stands.
     let first_is = refused_name limits s pid a.epfd.0 a.op a.fd.0 a.mask.0 c.in-Err.errno (ap (λ (f : Files). first (naming_refusals f pid a.epfd.0 a.fd.0)) stands.files ∙ c.in-Err.ensures) in (
       goes_refused (ctl_refusals limits s pid a.epfd.0 a.op a.fd.0 a.mask.0) (call_change limits s caller pid (control_call a) []) s p c.in-Err.errno first_is stands,
       raises_refused (ctl_refusals limits s pid a.epfd.0 a.op a.fd.0 a.mask.0) (call_change limits s caller pid (control_call a) []) v k.clock c.in-Err.errno c.refused.result.raising first_is e.raising,
@@ -55,7 +55,7 @@ returns-in_default-clause-ok c = λ n caller.
     let pid = c.args.pid.0 in
     let limits = v.limits in
     let e = c.refused-in_default.ensures in
-    rw (← c.self.view_is) (ctl_does p r k.graph pid a (Refused Einval) c.refused-in_default.result e.answer e.picked (subst (λ (q : Raising). IsRaising q v) (sym e.raising) tt) (omega arith) n caller (λ s at sound quiet legal stands.
+    rw (← c.self.view_is) (ctl_does p r k.graph pid a (Refused Einval) c.refused-in_default.result e.answer e.picked (subst (λ (q : Raising). IsRaising q v) (sym e.raising) tt) n caller (λ s at sound quiet legal stands.
     let goes = goes_einval k.graph limits v r s pid a c.in-Ok.named c.in-Ok.ensures c.known.ensures k.clock stands h.linked (is_deep limits s pid a.epfd.0 a.op a.fd.0 a.mask.0) refl n caller c.in_default.ensures.none in
     (goes.0, goes.1 c.refused-in_default.result.raising e.raising)))
 
@@ -95,7 +95,7 @@ returns-in-Some-find-clause-ok c = λ n caller.
     let found = sym c.in-Some-find.ensures.there in
     let new = c.alter-answer.new.interest in
     rw (← c.self.view_is) (ctl_does p new c.alter-answer.new.graph pid a c.alter-answer.result c.controlled.result e.answer e.picked
-    (subst (λ (q : Raising). IsRaising q v) (sym e.raising) (lives_if v k.clock new c.in-Ok.named a.fd (is_done c.alter-answer.result) c.in-Ok.ensures.instance_lives)) (omega (arith, c.alter-answer.ensures.added)) n caller (λ s at sound quiet legal stands.
+    (subst (λ (q : Raising). IsRaising q v) (sym e.raising) (lives_if v k.clock new c.in-Ok.named a.fd (is_done c.alter-answer.result) c.in-Ok.ensures.instance_lives)) n caller (λ s at sound quiet legal stands.
     let goes = goes_altered c.alter-answer.new.graph limits v r s pid a c.in-Ok.named c.in-Ok.ensures c.known.ensures k.clock stands h.linked (is_deep limits s pid a.epfd.0 a.op a.fd.0 a.mask.0) refl number found
     (has_number r c.in-Ok.named.instance a.fd c.in-Ok.named.desc number c.known-2.ensures found c.in-Some-find.ensures.entry) c.in-Some.ensures.some.1 n caller c.in-Some.operation new c.alter-answer.result c.in-Some.ensures.some.0 c.alter-answer.ensures.alters in
     (goes.0, goes.1 c.controlled.result.raising e.raising)))
@@ -138,7 +138,7 @@ returns-clause-ok c = λ n caller.
     let new = c.enter.new.interest in
     let enters = c.in_ok-answer.ensures.ok in
     rw (← c.self.view_is) (ctl_does p new c.enter.new.graph pid a c.in_ok-answer.answer c.controlled-2.result e.answer e.picked
-    (subst (λ (q : Raising). IsRaising q v) (sym e.raising) (lives_if v k.clock new named a.fd (is_done c.in_ok-answer.answer) c.in-Ok.ensures.instance_lives)) (omega (arith, c.in_ok-answer.ensures.added)) n caller (λ s at sound quiet legal stands.
+    (subst (λ (q : Raising). IsRaising q v) (sym e.raising) (lives_if v k.clock new named a.fd (is_done c.in_ok-answer.answer) c.in-Ok.ensures.instance_lives)) n caller (λ s at sound quiet legal stands.
     let goes = goes_entered c.enter.new.graph limits v r s pid a named c.in-Ok.ensures c.known.ensures k.clock stands h.linked deep (deep_is_at limits v r s pid a named c.in-Ok.ensures c.known.ensures k.clock stands h.linked k.graph h.nested)
     (sym c.in_default-find.ensures.there) c.in-Some.ensures.some.1 n caller c.in-Some.operation new c.in_ok-answer.answer c.in-Some.ensures.some.0 enters in
     (goes.0, goes.1 c.controlled-2.result.raising e.raising)))

@@ -1,7 +1,7 @@
 use Rattle.std.proofs.Common.{◌∙◌, IsSome, ap, arith, refl, slice_index_or, None, subst, sym}
 use Rattle.ep_base.specs.declared.answer.Answer.{Answer}
 use Rattle.ep_machine.specs.Files.{side_of}
-use Rattle.ep_calls.specs.Parts.{Grows, Parts}
+use Rattle.ep_calls.specs.Parts.{Parts}
 use Rattle.ep_calls.proofs.ObjectLemmas.{applied_kinds, is_object_call, object_does}
 use Rattle.ep_calls.proofs.PartsLemmas.{coherent_kept}
 use Rattle.ep_calls.specs.ObjectCall.{FitsRoom}
@@ -53,5 +53,4 @@ returns-clause-ok c =
     let o = c.outcome_of.ensures in
     rw (← c.self.view_is) (object_does p new c.args.pid.0 c.args.fd c.args.call.now c.outcome_of.result c.self.invariant c.requires
     (subst (λ (a : Answer). CallsObject c.args.pid.0 c.args.fd k.clock c.args.call.now a v new) (sym o.answer) calls)
-    (subst (λ (r : Raising). RaisesByCall v new c.args.pid.0 c.args.fd.0 k.clock c.args.call.now r) (sym o.raising) raises) o.picked (subst (λ (r : Raising). IsRaising r new) (sym o.raising) lives)
-    (subst (λ (t : Seen). Grows p (record p { tables = t })) (sym e.files) (record { added = omega arith })))
+    (subst (λ (r : Raising). RaisesByCall v new c.args.pid.0 c.args.fd.0 k.clock c.args.call.now r) (sym o.raising) raises) o.picked (subst (λ (r : Raising). IsRaising r new) (sym o.raising) lives))

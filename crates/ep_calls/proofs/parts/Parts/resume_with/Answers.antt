@@ -48,7 +48,7 @@ returns-then-not-is_due-clause-ok c =
     let placed = found_all (IsPlaced p.tables.keys) caller p.parked (parked caller w) is c.self.invariant.placed in
     let none : (length chosen == 0) ≡ true = sym c.if-is_empty.ensures in
     let early : is_due p.clock w.deadline ≡ false = sym c.is_due.ensures ∙ c.if-not-is_due.true in
-    rw (← c.self.view_is) (resume_does (IsPick p.tables w.instance (number_in w.max) chosen) c.args.step caller c.settled.result p new o.raising refl refl refl refl (λ s at sound quiet legal stands pick.
+    rw (← c.self.view_is) (resume_does (IsPick p.tables w.instance (number_in w.max) chosen) c.args.step caller c.settled.result p new o.raising refl refl refl (λ s at sound quiet legal stands pick.
     goes_told (refusals p.tables.limits s caller Resume) (resume s caller) s c.settled.result.answer Still c.settled.result.picked new o.answer o.picked
     (goes_unmarked p.graph p.tables p.interest p.parked p.clock caller p.tables.limits s stands w is c.args.step chosen at legal placed keyed pick c.requires.marked new.parked none early c.unmark.ensures)))
 
@@ -80,5 +80,5 @@ returns-clause-ok c =
       | else-is_empty-via-then-is_empty+else-not-is_due b ↦ inr (sym b.is_due.ensures ∙ b.if-not-is_due.false)
       | else-is_empty-via-else-is_empty b ↦ inl (sym c.is_empty.ensures ∙ b.if-is_empty.false)
     ] in
-    rw (← c.self.view_is) (resume_does (IsPick p.tables w.instance (number_in w.max) chosen) c.args.step caller o p new c.in_ok-outcome.ensures.raising e.files e.keys e.limits told.added (λ s at sound quiet legal stands pick.
+    rw (← c.self.view_is) (resume_does (IsPick p.tables w.instance (number_in w.max) chosen) c.args.step caller o p new c.in_ok-outcome.ensures.raising e.files e.keys e.limits (λ s at sound quiet legal stands pick.
     goes_left p.graph p.tables p.interest p.parked p.clock caller p.tables.limits s stands w is c.args.step chosen at legal placed keyed pick c.requires.marked new.interest o.answer o.picked new.tables new.parked told why e.files e.keys e.left))

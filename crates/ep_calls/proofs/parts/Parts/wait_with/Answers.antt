@@ -34,7 +34,7 @@ returns-then-not-is_empty-clause-ok c =
       | inl some ↦ inl (sym c.is_empty.ensures ∙ some)
       | inr none ↦ inr (sym (to_z-of_z w64 x.timeout time_fits) ∙ ap (to_z w64) none.1)
     ] in
-    rw (← c.self.view_is) (wait_does (IsPick p.tables c.args.instance (number_in x.max) chosen) c.args.step c.args.caller.0 o p new c.in_ok-outcome.ensures.raising refl refl refl told.added x (λ s at sound quiet legal stands pick.
+    rw (← c.self.view_is) (wait_does (IsPick p.tables c.args.instance (number_in x.max) chosen) c.args.step c.args.caller.0 o p new c.in_ok-outcome.ensures.raising refl refl refl x (λ s at sound quiet legal stands pick.
     goes_reported p.tables x c.args.instance of p.graph p.clock p.interest c.args.step chosen keyed c.args.caller.0 s at legal stands pick new.interest o.answer o.picked told why))
 
 pub park-requires-clause-used : goal.park-requires-clause-used
@@ -71,6 +71,6 @@ returns-clause-ok c =
     let time_fits : SFits w64 x.timeout = search rules in
     let none : (length chosen == 0) ≡ true = sym c.is_empty.ensures ∙ c.if-not-is_empty.false in
     let more = parked_waiting k.waiters new.parked caller x c.args.instance k.clock (to_z w32 (of_z w32 x.max)) (to_z w64 (of_z w64 x.timeout)) c.deadline.result (to_z-of_z w32 x.max max_fits) (to_z-of_z w64 x.timeout time_fits) c.deadline.ensures e.parked in
-    rw (← c.self.view_is) (wait_does (IsPick p.tables c.args.instance (number_in x.max) chosen) c.args.step caller c.settled.result p new o.raising e.files e.keys e.limits refl x (λ s at sound quiet legal stands pick.
+    rw (← c.self.view_is) (wait_does (IsPick p.tables c.args.instance (number_in x.max) chosen) c.args.step caller c.settled.result p new o.raising e.files e.keys e.limits x (λ s at sound quiet legal stands pick.
     goes_told (wait_refusals s x.pid.0 x.epfd.0 x.max) (λ ks. wait s caller x.pid.0 (named_by s.files x.pid.0 x.epfd.0) (number_in x.max) x.timeout ks) s c.settled.result.answer Parked c.settled.result.picked new o.answer o.picked
     (goes_parked p.tables x c.args.instance of p.graph p.clock p.interest c.args.step chosen keyed caller s at legal stands pick new.tables new.parked none (λ z. c.if-args-eq0.false (ap (of_z w64) z)) e.files e.keys more)))
