@@ -2,19 +2,25 @@
 ghost use Rattle.std.specs.Prelude.{◌+◌, ◌<◌, ◌≤◌, ◌^◌};
 
 use ep_base::{DescId, Fd, Mask};
-use ep_interest::Interest;
+use ep_interest::{Addition, Interest};
 use std::alloc::{AllocError, Global};
 
 /// The instance that all registrations are of.
 const INSTANCE: DescId = DescId(usize::MAX);
 
 /// Adds a registration on a description that has none.
-fn add(sets: &mut Interest, desc: DescId) -> Result<(), AllocError>
+pub fn add(sets: &mut Interest, desc: DescId) -> Result<(), AllocError>
     requires { sets.old.added + 1 < 2 ^ 64 }
     ensures { sets.new.added ≤ sets.old.added + 1 }
 {
     if sets.find(INSTANCE, Fd(3), desc).is_none() {
-        sets.add(INSTANCE, Fd(3), desc, Mask(1), 0)?;
+        sets.add(Addition {
+            instance: INSTANCE,
+            fd: Fd(3),
+            desc,
+            mask: Mask(1),
+            tag: 0,
+        })?;
     }
     Ok(())
 }

@@ -9,7 +9,8 @@ use Rattle.ep_base.specs.declared.errno.Errno.{Errno}
 use Rattle.ep_base.specs.declared.errno.Errno.TheVariants.{Ebadf, Eexist, Einval, Eloop, Enoent, Enospc, Eperm}
 use Rattle.ep_base.specs.declared.mask.Mask.{Mask}
 use Rattle.ep_base.specs.declared.ids.Fd.{Fd}
-use Rattle.ep_interest.specs.Registrations.{Registrations, has_key, is_other, modified, new_entry}
+use Rattle.ep_interest.specs.Registrations.{Registrations, entry_of, has_key, is_other, modified}
+use Rattle.ep_interest.specs.declared.addition.Addition.{Addition}
 use Rattle.ep_interest.specs.declared.entry.Entry.{Entry}
 use Rattle.ep_machine.specs.Bits.{EXCLUSIVE, has_bit}
 use Rattle.ep_machine.specs.Effect.{first}
@@ -66,9 +67,13 @@ Enters Add deep watches x old new answer =
 Enters Delete deep watches x old new answer = (answer ≡ Refused Enoent) × (new ≡ old)
 Enters Modify deep watches x old new answer = (answer ≡ Refused Enoent) × (new ≡ old)
 
+-- what it adds
+abbrev pub addition : Named → Control → Addition
+addition named args = record { instance = named.instance; fd = args.fd; desc = named.desc; mask = args.mask; tag = args.tag }
+
 -- the registration that is added next
 abbrev pub next_entry : Registrations → Named → Control → Entry
-next_entry r named args = new_entry (r.added + 1) named.instance args.fd named.desc args.mask args.tag
+next_entry r named args = entry_of (r.added + 1) (addition named args)
 
 -- its link would make the graph of instances illegal
 abbrev pub is_deep_at : Seen → List Link → Named → Bool

@@ -39,7 +39,7 @@ pub record AreOpening (within : Limits) (p : Parts) : Type 0 where
   pub keys : Gains [] p.tables.keys 0
   pub holds : p.tables.holds ≡ 0 ∷ []
   pub dying : p.tables.dying ≡ []
-  pub interest : p.interest ≡ record { entries = []; keys = []; added = 0 }
+  pub interest : p.interest ≡ record { entries = []; keys = []; added = 0; next = 0 }
   pub graph : p.graph ≡ []
   pub parked : p.parked ≡ []
   pub clock : p.clock ≡ 0

@@ -9,8 +9,8 @@ ghost use Rattle.ep_machine.specs.State.{Waiter};
 ghost use Rattle.ep_machine.specs.Watches.{is_legal};
 ghost use Rattle.ep_nest.specs.Links.{edges, entries};
 ghost use Rattle.ep_calls.specs.Climb.{AreNested, KeepsLinks, link_of};
-ghost use Rattle.ep_calls.specs.Control.{Alters, EntersAt, Names, code_of, control_call, is_deep_at, is_refused_op, raising_of_ctl, naming_refusals, next_entry, raising_after};
-ghost use Rattle.ep_interest.specs.Registrations.{has_key, new_entry, number_under as number_of_entry};
+ghost use Rattle.ep_calls.specs.Control.{Alters, EntersAt, Names, addition, code_of, control_call, is_deep_at, is_refused_op, raising_of_ctl, naming_refusals, next_entry, raising_after};
+ghost use Rattle.ep_interest.specs.Registrations.{has_key, number_under as number_of_entry};
 ghost use Rattle.ep_machine.specs.Timer.{last_moment};
 ghost use Rattle.ep_calls.specs.Does.{DoesCall};
 ghost use Rattle.ep_calls.specs.Raising.{IsRaising};
@@ -23,7 +23,7 @@ use crate::readiness::{is_reportable, shown};
 use crate::{Outcome, Parts};
 use bitflags::Flags;
 use ep_base::{Answer, DescId, EntryId, EntryNumber, Errno, Fd, Limits, Mask, Pid};
-use ep_interest::Interest;
+use ep_interest::{Addition, Interest};
 use ep_nest::Graph;
 use ep_table::Tables;
 use std::alloc::{AllocError, Global};
@@ -130,6 +130,19 @@ fn alter(
     }
 }
 
+/// What an ADD with these arguments adds.
+fn addition_of(named: Named, args: Control) -> Addition
+    ensures { result ≡ addition named args }
+{
+    Addition {
+        instance: named.instance,
+        fd: args.fd,
+        desc: named.desc,
+        mask: args.mask,
+        tag: args.tag,
+    }
+}
+
 /// Adds a registration with its link to an instance. An `Err` is want of memory and leaves both.
 fn add_linked(
     interest: &mut Interest,
@@ -148,7 +161,7 @@ fn add_linked(
     let number = interest.next_number()?;
     let link = EntryNumber(number);
     graph.link(named.instance, named.desc, link)?;
-    match interest.add(named.instance, args.fd, named.desc, args.mask, args.tag) {
+    match interest.add(addition_of(named, args)) {
         Ok(_) => Ok(()),
         Err(error) => {
             graph.unlink(link);
@@ -176,7 +189,7 @@ fn add(
     if is_nested {
         return add_linked(interest, graph, named, args);
     }
-    interest.add(named.instance, args.fd, named.desc, args.mask, args.tag)?;
+    interest.add(addition_of(named, args))?;
     Ok(())
 }
 

@@ -1,13 +1,15 @@
 -- The keys of the registrations that pass something on.
 use mathlib.Core.Bool.{beq}
-use Rattle.std.proofs.Common.{◌≡◌, ◌≢◌, ◌&&◌, ◌||◌, ◌==◌, ◌<◌, ℕ, zero, suc, set, Bool, true, false, not, cond, List, [], ◌∷◌, ◌++◌, map, length, nat_eq, nat_lt, eqb, Option, Some, None, get_or, refl, ap, sym, subst, ◌∙◌, inl, inr, filter, arith, if◌then◌else◌}
+use Rattle.std.proofs.Common.{◌≡◌, ◌≢◌, ◌&&◌, ◌||◌, ◌==◌, ◌<◌, ℕ, zero, suc, set, Bool, true, false, not, cond, List, [], ◌∷◌, ◌++◌, map, length, nat_eq, nat_lt, eqb, Option, Some, None, get_or, slice_get, refl, ap, sym, subst, ◌∙◌, inl, inr, filter, arith, if◌then◌else◌}
 use Rattle.std.proofs.lemmas.Bool.{cases_Bool, ltb-false}
 use Rattle.std.proofs.lemmas.Bool.Decides.{eqb_tells}
 use Rattle.std.proofs.lemmas.Cmp.{nat_eq_equiv}
 use Rattle.std.proofs.lemmas.List.{map-append}
-use Rattle.std.proofs.lemmas.Map.Keys.{IsDistinct-push}
+use Rattle.std.proofs.lemmas.List.Sorted.{IsPermutation-map, IsPermutation-swap_remove, list_any-IsPermutation}
+use Rattle.std.proofs.lemmas.Map.Keys.{IsDistinct-IsPermutation, IsDistinct-push}
+use Rattle.std.specs.List.Sorted.{IsPermutation}
 use Rattle.std.proofs.lemmas.Map.Steps.{length-le_from_distinct_below}
-use Rattle.std.specs.List.{AllByRecursion, IsDistinct, list_any}
+use Rattle.std.specs.List.{AllByRecursion, IsDistinct, list_any, swap_remove}
 use Rattle.std.specs.Option.{option_map}
 use Rattle.ep_base.specs.declared.ids.DescId.{DescId}
 use Rattle.ep_base.specs.declared.ids.EntryId.{EntryId}
@@ -110,6 +112,16 @@ all_apart k (x ∷ xs) h = elim (cases_Bool (nat_eq k x)) [
   | inr f ↦ (f, all_apart k xs (rw f at h))
 ]
 
+none_apart : (k : ℕ) (xs : List ℕ) → AllByRecursion (λ y. nat_eq k y ≡ false) xs → list_any (nat_eq k) xs ≡ false
+none_apart k [] h = refl
+none_apart k (x ∷ xs) h = rw h.0 (none_apart k xs h.1)
+
+eqb_flips : (x y : ℕ) → nat_eq x y ≡ nat_eq y x
+eqb_flips x y = elim (eqb_tells x y) [
+  | inl p ↦ p.0 ∙ sym (test_same y x (sym p.1))
+  | inr p ↦ p.0 ∙ sym (test_apart y x (λ q. p.1 (sym q)))
+]
+
 slot_within : (slots : List (Option Entry)) (k : ℕ) → passes_on (get_or slots k None) ≡ true → k < length slots
 slot_within [] k h = absurd cc
 slot_within (o ∷ slots) zero h = omega arith
@@ -179,6 +191,37 @@ noted_less id (x ∷ ids) k = elim (same_or_not x.0 id.0) [
         | inr p ↦ rw p.0 (ap (λ (b : Bool). eqb k x.0 || b) (noted_less id ids k ∙ rw p.0 refl))
       ])
 ]
+
+-- the same by the last key in its place
+there : (ids : List EntryId) (place : ℕ) (id d : EntryId) → slice_get ids place ≡ Some id → (place < length ids) × (get_or ids place d ≡ id)
+there [] place id d h = absurd cc
+there (x ∷ ids) zero id d h = (omega arith, cc)
+there (x ∷ ids) (suc place) id d h = let t = there ids place id d h in let lt = t.0 in (omega (arith, lt), t.1)
+
+module _ (ids : List EntryId) (place : ℕ) (id key : EntryId) (here : slice_get ids place ≡ Some id) (is : key ≡ get_or ids place key) where
+  within : place < length ids
+  within = (there ids place id key here).0
+
+  moved : IsPermutation (key_numbers ids) (id.0 ∷ key_numbers (swap_remove ids place key))
+  moved = subst (λ (k : EntryId). IsPermutation (key_numbers ids) (k.0 ∷ key_numbers (swap_remove ids place key))) (is ∙ (there ids place id key here).1)
+      (IsPermutation-map (λ (j : EntryId). j.0) ids (key ∷ swap_remove ids place key) (IsPermutation-swap_remove ids place key within is))
+
+  left_once : IsDistinct nat_eq (key_numbers ids) → IsDistinct nat_eq (id.0 ∷ key_numbers (swap_remove ids place key))
+  left_once once = IsDistinct-IsPermutation nat_eq eqb_flips (key_numbers ids) _ moved once
+
+  pub once_moved : IsDistinct nat_eq (key_numbers ids) → IsDistinct nat_eq (key_numbers (swap_remove ids place key))
+  unfolding IsDistinct
+  once_moved once = (left_once once).1
+
+  pub noted_moved : IsDistinct nat_eq (key_numbers ids) → (k : ℕ) → has_id (swap_remove ids place key) k ≡ (if nat_eq id.0 k then false else has_id ids k)
+  unfolding IsDistinct
+  noted_moved once k = elim (eqb_tells id.0 k) [
+    | inl p ↦ rw p.0 (ap (has_id (swap_remove ids place key)) (sym p.1) ∙ none_apart id.0 (key_numbers (swap_remove ids place key)) (left_once once).0)
+    | inr p ↦
+        let off : eqb k id.0 ≡ false = test_apart k id.0 (λ q. p.1 (sym q)) in
+        let same = list_any-IsPermutation (nat_eq k) (key_numbers ids) _ moved in
+        rw p.0 (sym (same ∙ rw off refl))
+  ]
 
 -- a slot that holds nothing, written with nothing
 pub nothing_set : (slots : List (Option Entry)) (k : ℕ) → get_or slots k None ≡ None → slots ≡ set slots k None

@@ -40,7 +40,7 @@ pub record IsIndex {K : Type 0} (key : Entry → K) (slots : List (Option Entry)
   pub live : (q : K) (id : EntryId) → get q ≡ Some id → (x : Entry) × (slice_index_or slots id.0 None ≡ Some x) × (key x ≡ q)
 
 abbrev pub registrations : {A : Type 0} → Inside A → Registrations
-registrations k = record { entries = in_order k.slots.slots k.added; keys = map number_in k.slots.slots; added = k.added }
+registrations k = record { entries = in_order k.slots.slots k.added; keys = map number_in k.slots.slots; added = k.added; next = k.slots.vacant_key }
 
 pub record IsInterest {A : Type 0} (k : Inside A) : Type 0 where
   pub numbered : NumberedBy k.slots.slots k.added

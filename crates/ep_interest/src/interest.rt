@@ -6,11 +6,12 @@ ghost use Rattle.ep_base.specs.declared.ids.EntryId.{EntryId};
 ghost use Rattle.ep_interest.specs.InTurn.{AllHeld, changed_at};
 ghost use Rattle.ep_interest.specs.Listed.{shown};
 ghost use Rattle.std.specs.List.{IsDistinct, find as first_where, list_any};
-ghost use Rattle.ep_interest.specs.Registrations.{GainsKey, IsSound, Touches, is_apart_from, left_number, entry_under, has_key, id_of, ids, is_of, is_on, is_other, lets_in, modified, new_entry, number_under, numbered, freshened_on, raised_on, reported, settled, with_ids};
+ghost use Rattle.ep_interest.specs.Registrations.{GainsKey, IsSound, Touches, is_apart_from, left_number, entry_under, has_key, id_of, ids, is_of, is_on, is_other, lets_in, modified, entry_of, number_under, numbered, freshened_on, raised_on, reported, settled, with_ids};
 ghost use Rattle.ep_interest.specs.Passes.{ArePassing, has_id, key_numbers, passes_on};
 ghost use Rattle.ep_machine.specs.Bits.{ONESHOT, asked, has_bit};
 ghost use Rattle.ep_machine.specs.Counts.{brings};
 
+use crate::addition::Addition;
 use crate::entries::{Entries, Watchers};
 use crate::entry::Entry;
 use crate::passes::Passes;
@@ -105,6 +106,7 @@ fn raise_one<A: Allocator>(
     requires passing { ArePassing slots.old.slots passes.old.keys.items }
     requires room { length slots.old.slots ≤ vec_capacity passes.old.keys }
     ensures slots { slots.new.slots ≡ slice_set slots.old.slots id.0 (option_map (raised_on desc bits event) (slice_index_or slots.old.slots id.0 None)) }
+    ensures next { slots.new.vacant_key ≡ slots.old.vacant_key }
     ensures passing { ArePassing slots.new.slots passes.new.keys.items }
     ensures room { length slots.new.slots ≤ vec_capacity passes.new.keys }
 {
@@ -128,6 +130,7 @@ fn raise_each<A: Allocator>(
     requires passing { ArePassing slots.old.slots passes.old.keys.items }
     requires room { length slots.old.slots ≤ vec_capacity passes.old.keys }
     ensures slots { slots.new.slots ≡ changed_at (raised_on desc bits event) watchers.entry slots.old.slots }
+    ensures next { slots.new.vacant_key ≡ slots.old.vacant_key }
     ensures passing { ArePassing slots.new.slots passes.new.keys.items }
     ensures room { length slots.new.slots ≤ vec_capacity passes.new.keys }
 {
@@ -144,7 +147,8 @@ fn freshen_each<A: Allocator>(
     bits: Mask,
 )
     requires { AllHeld slots.old.slots watchers }
-    ensures { slots.new.slots ≡ changed_at (freshened_on desc bits) watchers.entry slots.old.slots }
+    ensures slots { slots.new.slots ≡ changed_at (freshened_on desc bits) watchers.entry slots.old.slots }
+    ensures next { slots.new.vacant_key ≡ slots.old.vacant_key }
 {
     for id in watchers {
         refresh(&mut slots[id.0], desc, bits);
@@ -167,7 +171,8 @@ fn stays_armed(entry: &Entry) -> bool
 
 /// Forgets it of the registration under a key, where there still is one.
 fn rest_at<A: Allocator>(slots: &mut Slab<Entry, A>, id: EntryId)
-    ensures { slots.new.slots ≡ slice_set slots.old.slots id.0 (option_map settled (slice_index_or slots.old.slots id.0 None)) }
+    ensures slots { slots.new.slots ≡ slice_set slots.old.slots id.0 (option_map settled (slice_index_or slots.old.slots id.0 None)) }
+    ensures next { slots.new.vacant_key ≡ slots.old.vacant_key }
 {
     if let Some(entry) = slots.get_mut(id.0) {
         rest(entry);
@@ -176,7 +181,8 @@ fn rest_at<A: Allocator>(slots: &mut Slab<Entry, A>, id: EntryId)
 
 /// Forgets it of the registrations under these keys.
 fn rest_each<A: Allocator>(slots: &mut Slab<Entry, A>, ids: &[EntryId])
-    ensures { slots.new.slots ≡ changed_at settled ids.now slots.old.slots }
+    ensures slots { slots.new.slots ≡ changed_at settled ids.now slots.old.slots }
+    ensures next { slots.new.vacant_key ≡ slots.old.vacant_key }
 {
     for id in ids {
         rest_at(slots, *id);
@@ -217,6 +223,7 @@ impl<A: Allocator> Interest<A> {
         ensures entries { result.entries ≡ [] }
         ensures keys { result.keys ≡ [] }
         ensures added { result.added ≡ 0 }
+        ensures next { result.next ≡ 0 }
     {
         Interest {
             slots: Slab::new(alloc),
@@ -263,19 +270,13 @@ impl<A: Allocator> Interest<A> {
     /// Adds a registration with the next number, armed and never reported, as ADD of epoll_ctl(2) does, and answers its key.
     /// `AllocError` where there is no memory, or no number is left after 2^64 - 1 additions, and then nothing has changed. No other call of this type takes memory. The cost grows as
     /// the logarithm of the number of registrations, but where a table grows.
-    pub fn add(
-        &mut self,
-        instance: DescId,
-        fd: Fd,
-        desc: DescId,
-        mask: Mask,
-        tag: u64,
-    ) -> Result<EntryId, AllocError>
+    pub fn add(&mut self, addition: Addition) -> Result<EntryId, AllocError>
     where
         A: Clone,
-        requires absent { list_any (has_key instance fd desc) self.old.entries ≡ false }
-        ensures entries { IfOk result (λ _. self.new.entries ≡ self.old.entries ++ new_entry (self.old.added + 1) instance fd desc mask tag ∷ []) }
+        requires absent { list_any (has_key addition.instance addition.fd addition.desc) self.old.entries ≡ false }
+        ensures entries { IfOk result (λ _. self.new.entries ≡ self.old.entries ++ entry_of (self.old.added + 1) addition ∷ []) }
         ensures keys { IfOk result (λ id. GainsKey self.old self.new id (self.old.added + 1)) }
+        ensures next { IfOk result (λ id. id.0 ≡ self.old.next) }
         ensures added { IfOk result (λ _. self.new.added ≡ self.old.added + 1) }
         ensures err { OnErr result (self.new ≡ self.old) }
     {
@@ -287,9 +288,9 @@ impl<A: Allocator> Interest<A> {
         self.passes.reserve(self.slots.capacity())?;
         let id = EntryId(self.slots.vacant_key());
         let number = self.added + 1;
-        let of_instance = Place::new(instance, number);
-        let on_target = Place::new(desc, number);
-        let key = Key::new(instance, fd, desc);
+        let of_instance = Place::new(addition.instance, number);
+        let on_target = Place::new(addition.desc, number);
+        let key = Key::new(addition.instance, addition.fd, addition.desc);
         self.by_instance.insert(of_instance, id)?;
         match self.by_target.insert(on_target, id) {
             Ok(_) => {}
@@ -299,11 +300,19 @@ impl<A: Allocator> Interest<A> {
             }
         }
         self.by_key.insert(key, id).unwrap();
-        let entry = Entry::new(number, instance, fd, desc, mask, tag);
+        let entry = Entry::new(number, addition);
         self.slots.insert_reserved(entry);
         let _room = self.slots.capacity();
         self.added = number;
         Ok(id)
+    }
+
+    /// The key that the next addition gets, under which nothing stands now. The cost doesn't grow with the registrations.
+    pub fn next_key(&self) -> EntryId
+        ensures next { result.0 ≡ self.now.next }
+        ensures vacant { number_under self.now result ≡ None }
+    {
+        EntryId(self.slots.vacant_key())
     }
 
     /// The key of the registration with this instance, descriptor number and description, by a look-up of its hash; `None`
@@ -351,6 +360,7 @@ impl<A: Allocator> Interest<A> {
         ensures entries { self.new.entries ≡ map (reported (unwrap_or (number_under self.old id) 0) event) self.old.entries }
         ensures keys { self.new.keys ≡ self.old.keys }
         ensures added { self.new.added ≡ self.old.added }
+        ensures next { self.new.next ≡ self.old.next }
     {
         let entry = &mut self.slots[id.0];
         *entry = Entry {
@@ -368,6 +378,7 @@ impl<A: Allocator> Interest<A> {
         ensures entries { self.new.entries ≡ map (modified (unwrap_or (number_under self.old id) 0) mask tag) self.old.entries }
         ensures keys { self.new.keys ≡ self.old.keys }
         ensures added { self.new.added ≡ self.old.added }
+        ensures next { self.new.next ≡ self.old.next }
     {
         let changed = &mut self.slots[id.0];
         *changed = Entry {
@@ -395,6 +406,7 @@ impl<A: Allocator> Interest<A> {
         ensures entries { self.new.entries ≡ map (raised_on desc bits event) self.old.entries }
         ensures keys { self.new.keys ≡ self.old.keys }
         ensures added { self.new.added ≡ self.old.added }
+        ensures next { self.new.next ≡ self.old.next }
     {
         let places = places_of(&self.by_target, desc, self.added);
         let watchers = Watchers { places };
@@ -414,6 +426,7 @@ impl<A: Allocator> Interest<A> {
         ensures entries { self.new.entries ≡ map (freshened_on desc bits) self.old.entries }
         ensures keys { self.new.keys ≡ self.old.keys }
         ensures added { self.new.added ≡ self.old.added }
+        ensures next { self.new.next ≡ self.old.next }
     {
         let places = places_of(&self.by_target, desc, self.added);
         let watchers = Watchers { places };
@@ -425,6 +438,7 @@ impl<A: Allocator> Interest<A> {
         ensures entries { self.new.entries ≡ map settled self.old.entries }
         ensures keys { self.new.keys ≡ self.old.keys }
         ensures added { self.new.added ≡ self.old.added }
+        ensures next { self.new.next ≡ self.old.next }
     {
         rest_each(&mut self.slots, &self.passes.keys);
         self.passes.keys.clear();
@@ -439,13 +453,13 @@ impl<A: Allocator> Interest<A> {
     }
 
     /// Takes away the registration under a key, as DEL of epoll_ctl(2) does. The key may be given out again, the number is not.
-    /// The cost grows as the logarithm of the number of registrations and,
-    /// where it passes something on, with those that do.
+    /// The cost grows as the logarithm of the number of registrations.
     pub fn remove(&mut self, id: EntryId)
         requires { IsSome (number_under self.old id) }
         ensures entries { self.new.entries ≡ filter (is_other (unwrap_or (number_under self.old id) 0)) self.old.entries }
         ensures keys { self.new.keys ≡ slice_set self.old.keys id.0 None }
         ensures added { self.new.added ≡ self.old.added }
+        ensures next { self.new.next ≡ id.0 }
     {
         let entry = self.slots.remove(id.0);
         self.passes.follow(id, entry.passes_in > 0, false);

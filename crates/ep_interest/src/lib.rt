@@ -1,12 +1,14 @@
 //! The interest sets of every instance: the registrations of epoll_ctl(2).
 #![tactic(auto)]
 
+mod addition;
 mod entries;
 mod entry;
 mod interest;
 mod passes;
 mod place;
 
+pub use crate::addition::Addition;
 pub use crate::entries::{Entries, Watchers};
 pub use crate::entry::Entry;
 pub use crate::interest::Interest;

@@ -2,7 +2,7 @@
 ghost use Rattle.std.specs.Prelude.{◌+◌, ◌<◌, ◌≤◌, ◌^◌};
 
 use ep_base::{DescId, EntryId, Fd, Mask};
-use ep_interest::Interest;
+use ep_interest::{Addition, Interest};
 use std::alloc::AllocError;
 use std::test::Fail;
 
@@ -17,7 +17,13 @@ fn key(sets: &mut Interest, instance: usize, desc: usize, mask: Mask) -> Result<
 {
     match sets.find(DescId(instance), Fd(5), DescId(desc)) {
         Some(id) => Ok(id),
-        None => sets.add(DescId(instance), Fd(5), DescId(desc), mask, 30),
+        None => sets.add(Addition {
+            instance: DescId(instance),
+            fd: Fd(5),
+            desc: DescId(desc),
+            mask,
+            tag: 30,
+        }),
     }
 }
 

@@ -4,7 +4,7 @@ ghost use Rattle.ep_interest.specs.Registrations.{is_of, number_under};
 
 use self::Op::{Add, Look, Modify, Purge, Remove, Report};
 use ep_base::{DescId, EntryId, Fd, Mask};
-use ep_interest::{Entry, Interest};
+use ep_interest::{Addition, Entry, Interest};
 use linked_list_allocator::LocalHeap;
 use std::alloc::{AllocError, Global};
 use std::process::Abort;
@@ -51,13 +51,26 @@ type Found = Option<(usize, u64, u64)>;
 /// What is done, and then what the key finds and how many registrations there are.
 type Step = (Op, Key, Found, usize);
 
+/// What a key and this data add, for IN.
+fn addition(key: Key, tag: u64) -> Addition
+    ensures { result ≡ record { instance = record { 0 = key.0 }; fd = record { 0 = key.1 }; desc = record { 0 = key.2 }; mask = record { 0 = 1 }; tag = tag } }
+{
+    Addition {
+        instance: DescId(key.0),
+        fd: Fd(key.1),
+        desc: DescId(key.2),
+        mask: Mask(1),
+        tag,
+    }
+}
+
 fn put(sets: &mut Interest, key: Key, tag: u64) -> Result<(), AllocError>
     requires { sets.old.added + 1 < 2 ^ 64 }
     ensures { sets.new.added ≤ sets.old.added + 1 }
 {
-    let (instance, fd, desc) = (DescId(key.0), Fd(key.1), DescId(key.2));
-    if sets.find(instance, fd, desc).is_none() {
-        sets.add(instance, fd, desc, Mask(1), tag)?;
+    let new = addition(key, tag);
+    if sets.find(new.instance, new.fd, new.desc).is_none() {
+        sets.add(new)?;
     }
     Ok(())
 }
@@ -234,7 +247,9 @@ fn the_watchers_of_a_description_stand_in_order(rt: HostRuntime) -> Result<(), F
 fn is_refused(rt: &(impl Abort + AllocGlobal), bytes: usize) -> Result<bool, AllocError> {
     let heap = LocalHeap::new(rt.alloc(), bytes)?;
     let mut sets = Interest::new(&heap);
-    let added = sets.add(DescId(3), Fd(5), DescId(9), Mask(1), 70).ok();
+    let next = sets.next_key();
+    let added = sets.add(addition((3, 5, 9), 70)).ok();
+    assert!(rt; added.is_none() || added == Some(next));
     assert!(rt; sets.count() == usize::from(added.is_some()));
     assert!(rt; sets.find(DescId(3), Fd(5), DescId(9)) == added);
     assert!(rt; sets.entries(DescId(3)).next().is_some() == added.is_some());

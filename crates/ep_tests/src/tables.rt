@@ -513,7 +513,13 @@ fn closes(tables: &mut Tables, held: DescId, fd: i32) -> bool
     tables.has_process(Pid(1)) && answered(tables.close(Pid(1), Fd(fd))) == Done
 }
 
-// A held description lives on without a number until its release.
+// Whether this description is the one whose end is to be taken, or there is none.
+fn is_dying(tables: &Tables, desc: Option<DescId>) -> bool {
+    let mut dying = tables.dying();
+    dying.next() == desc && dying.next().is_none()
+}
+
+// A held description lives on without a number until its release, and then its end is to be taken.
 fn is_held(alloc: Global) -> Result<bool, AllocError> {
     let mut tables = Tables::new(alloc, limits(16, 16, 1))?;
     let Some(held) = tables.lookup(Pid(1), Fd(0)) else {
@@ -523,13 +529,19 @@ fn is_held(alloc: Global) -> Result<bool, AllocError> {
     let is_closed = closes(&mut tables, held, 0)
         && closes(&mut tables, held, 1)
         && closes(&mut tables, held, 2);
-    if !is_closed || tables.take_dead().is_some() {
+    if !is_closed || !is_dying(&tables, None) || tables.take_dead().is_some() {
         return Ok(false);
     }
     let is_plain = tables.object(held).is_plain();
     tables.release(held);
+    let is_left = is_dying(&tables, Some(held));
     let dead = tables.take_dead();
-    Ok(is_plain && matches!(dead, Some(dead) if dead.desc == held) && tables.take_dead().is_none())
+    Ok(
+        is_plain
+            && is_left
+            && matches!(dead, Some(dead) if dead.desc == held)
+            && tables.take_dead().is_none(),
+    )
 }
 
 #[test]

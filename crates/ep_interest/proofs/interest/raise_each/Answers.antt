@@ -1,4 +1,4 @@
-use Rattle.std.proofs.Common.{List, ◌∷◌, subst}
+use Rattle.std.proofs.Common.{List, ◌∙◌, ◌∷◌, refl, subst}
 use Rattle.ep_base.specs.declared.ids.EntryId.{EntryId}
 use Rattle.ep_interest.specs.Registrations.{raised_on}
 use Rattle.ep_interest.proofs.InTurnLemmas.{Goes, goes_begins, goes_after}
@@ -7,7 +7,7 @@ use Rattle.ep_interest.proofs.interest.raise_each.Goals as goal
 use Rattle.ep_interest.proofs.interest.raise_each.Goals.{In-Some}
 
 pub loop-id-init : goal.loop-id-init
-loop-id-init g c = record { goes = goes_begins (raised_on c.args.desc c.args.bits c.args.event) c.args.watchers c.into_iter-id-iterator.result c.args.slots.now.slots c.requires.held c.into_iter-id-iterator.ensures.into_iter_gives; passing = c.requires.passing; room = c.requires.room }
+loop-id-init g c = record { goes = goes_begins (raised_on c.args.desc c.args.bits c.args.event) c.args.watchers c.into_iter-id-iterator.result c.args.slots.now.slots c.requires.held c.into_iter-id-iterator.ensures.into_iter_gives; passing = c.requires.passing; next = refl; room = c.requires.room }
 
 -- what is left begins with this key
 here : (g : Over) (c : In-Some g) → Goes (raised_on c.args.desc c.args.bits c.args.event) c.args.watchers (c.in-Some.id ∷ c.next.new.self) c.args.slots.now.slots c.loop-id.slots.slots
@@ -22,5 +22,6 @@ loop-id-preserved g c =
     record {
       goes = goes_after (raised_on c.args.desc c.args.bits c.args.event) c.args.watchers c.args.slots.now.slots c.in-Some.id c.next.new.self c.loop-id.slots.slots c.raise_one.new.slots.slots h c.raise_one.ensures.slots;
       passing = c.raise_one.ensures.passing;
+      next = c.raise_one.ensures.next ∙ c.loop-id.invariant.next;
       room = c.raise_one.ensures.room;
     }

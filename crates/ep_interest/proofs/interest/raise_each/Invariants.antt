@@ -1,4 +1,4 @@
-use Rattle.std.proofs.Common.{length, vec_capacity, ◌≤◌}
+use Rattle.std.proofs.Common.{length, vec_capacity, ◌≡◌, ◌≤◌}
 use Rattle.ep_interest.specs.Registrations.{raised_on}
 use Rattle.ep_interest.specs.Passes.{ArePassing}
 use Rattle.ep_interest.proofs.InTurnLemmas.{Goes}
@@ -8,5 +8,6 @@ abbrev pub invariant-loop-id : goal.invariant-loop-id
 invariant-loop-id g l = record {
   goes : Goes (raised_on l.desc l.bits l.event) l.fn.watchers l.id-iterator l.fn.slots.slots l.slots.slots;
   passing : ArePassing l.slots.slots l.passes.keys.items;
+  next : l.slots.vacant_key ≡ l.fn.slots.vacant_key;
   room : length l.slots.slots ≤ vec_capacity l.passes.keys;
 }

@@ -14,7 +14,7 @@ invariant_of-result c =
       keys = t.keys;
       holds = t.holds;
       dying = t.dying;
-      interest = λ i. record { entries = r.entries i; keys = r.keys i; added = r.added i };
+      interest = λ i. record { entries = r.entries i; keys = r.keys i; added = r.added i; next = r.next i };
       graph = c.new-3.ensures;
       parked = c.new-4.ensures;
       clock = refl;
@@ -31,7 +31,7 @@ returns c =
       keys = t.keys;
       holds = t.holds;
       dying = t.dying;
-      interest = λ i. record { entries = r.entries i; keys = r.keys i; added = r.added i };
+      interest = λ i. record { entries = r.entries i; keys = r.keys i; added = r.added i; next = r.next i };
       graph = c.new-3.ensures;
       parked = c.new-4.ensures;
       clock = refl;

@@ -7,7 +7,7 @@ use Rattle.std.specs.Ordering.{is_eq}
 use Rattle.slab.specs.Slab.{Slab, Updates}
 use Rattle.ep_interest.specs.ByNumber.{NumberedBy, in_order}
 use Rattle.ep_interest.specs.Passes.{passes_on}
-use Rattle.ep_interest.specs.Registrations.{GainsKey, Registrations, has_key, new_entry}
+use Rattle.ep_interest.specs.Registrations.{GainsKey, Registrations, entry_of, has_key}
 use Rattle.ep_interest.specs.Places.{place_cmp}
 use Rattle.ep_interest.specs.View.{IsIndex, instance_of, target_of, key_of, place_of, registrations, same_key}
 use Rattle.ep_interest.specs.declared.entry.Entry.{Entry}
@@ -20,7 +20,7 @@ use Rattle.ep_interest.proofs.interest.Interest.add.Given.{Over}
 use Rattle.ep_interest.proofs.interest.Interest.add.Goals as goal
 
 abbrev one : (g : Over) (c : goal.After-self-1 g) → Entry
-one g c = new_entry (c.self.inside.added + 1) c.args.instance c.args.fd c.args.desc c.args.mask c.args.tag
+one g c = entry_of (c.self.inside.added + 1) c.args.addition
 
 in_slots : (g : Over) (c : goal.After-self-1 g) → Inserted c.self.inside.slots.slots c.insert_reserved.new.self.slots c.vacant_key.result (one g c)
 in_slots g c = inserted c.self.inside.slots.slots c.reserve.new.self c.insert_reserved.new.self c.insert_reserved.result c.vacant_key.result (one g c) (ap (λ (s : Slab Entry). s.slots) c.reserve.ensures.rest_kept) (c.vacant_key.ensures.value ∙ sym c.insert_reserved.ensures.key) c.insert_reserved.ensures.was_vacant (subst (λ (x : Entry). Updates c.reserve.new.self c.insert_reserved.new.self c.insert_reserved.result (Some x)) c.new-entry.ensures c.insert_reserved.ensures.updates)
@@ -28,8 +28,8 @@ in_slots g c = inserted c.self.inside.slots.slots c.reserve.new.self c.insert_re
 by_key : (g : Over) (c : goal.After-self-1 g) → IsIndex key_of c.insert_reserved.new.self.slots (hash.get same_key c.insert-3.new.self)
 by_key g c =
     let k = c.self.inside in
-    let absent = subst (λ (r : Registrations). list_any (has_key c.args.instance c.args.fd c.args.desc) r.entries ≡ false) (sym c.self.view_is) c.requires.absent in
-    let fresh = find_none k.slots.slots k.added c.self.invariant.numbered (hash.get same_key k.by_key) c.self.invariant.by_key c.args.instance c.args.fd c.args.desc absent in
+    let absent = subst (λ (r : Registrations). list_any (has_key c.args.addition.instance c.args.addition.fd c.args.addition.desc) r.entries ≡ false) (sym c.self.view_is) c.requires.absent in
+    let fresh = find_none k.slots.slots k.added c.self.invariant.numbered (hash.get same_key k.by_key) c.self.invariant.by_key c.args.addition.instance c.args.addition.fd c.args.addition.desc absent in
     let u = on_ok c.insert-3.result (c.insert-3.ensures.succeeds (omega (arith, c.in_ok-reserve-2.ensures.ok))) c.insert-3.ensures.updates in
     key_more k.slots.slots c.insert_reserved.new.self.slots c.vacant_key.result (one g c) (in_slots g c) (hash.get same_key k.by_key) (hash.get same_key c.insert-3.new.self) fresh
     (λ q. u.0 q ∙ (λ i. cond (same_key (c.new-key.ensures i) q) (Some (record { 0 = c.vacant_key.result })) (lookup (same_key q) (c.reserve-2.ensures.entries i))))
@@ -62,12 +62,12 @@ invariant_of-self-2 g c = record {
 }
 
 pub returns-clause-entries : goal.returns-clause-entries
-returns-clause-entries g c = subst (λ (r : Registrations). in_order c.insert_reserved.new.self.slots (c.self.inside.added + 1) ≡ r.entries ++ new_entry (r.added + 1) c.args.instance c.args.fd c.args.desc c.args.mask c.args.tag ∷ []) c.self.view_is
+returns-clause-entries g c = subst (λ (r : Registrations). in_order c.insert_reserved.new.self.slots (c.self.inside.added + 1) ≡ r.entries ++ entry_of (r.added + 1) c.args.addition ∷ []) c.self.view_is
     (entries_more c.self.inside.slots.slots c.insert_reserved.new.self.slots c.vacant_key.result (one g c) (in_slots g c) c.self.inside.added refl c.self.invariant.numbered)
 
 pub returns-clause-keys : goal.returns-clause-keys
 returns-clause-keys g c = subst (λ (r : Registrations). GainsKey r (registrations {A = g.row.A.Denot} (record { slots = c.insert_reserved.new.self; by_key = c.insert-3.new.self; by_instance = c.insert.new.self; by_target = c.insert-2.new.self; passes = c.reserve-3.new.self; added = c.self.inside.added + 1 })) (record { 0 = c.vacant_key.result }) (r.added + 1)) c.self.view_is
-    (keys_more c.self.inside.slots.slots c.insert_reserved.new.self.slots c.vacant_key.result (one g c) (in_slots g c) c.self.inside.added refl c.self.invariant.numbered)
+    (keys_more c.self.inside.slots.slots c.insert_reserved.new.self.slots c.vacant_key.result (one g c) (in_slots g c) c.self.inside.added refl c.self.invariant.numbered c.self.inside.slots.vacant_key c.insert_reserved.new.self.vacant_key)
 
 -- what was put at one place and taken away leaves no trace
 pub invariant_of-self-in-Err : goal.invariant_of-self-in-Err

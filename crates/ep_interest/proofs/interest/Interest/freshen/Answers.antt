@@ -23,7 +23,7 @@ freshen_each-requires g c = let k = c.self.inside in held_on k.slots.slots k.add
 slots_are : (g : Over) (c : goal.After-freshen_each g) → values_of c.places_of-places.result ≡ map (id_in c.self.inside.slots.slots) (filter (is_on c.args.desc) (in_order c.self.inside.slots.slots c.self.inside.added)) → c.freshen_each.new.slots.slots ≡ map (option_map (freshened_on c.args.desc c.args.bits)) c.self.inside.slots.slots
 slots_are g c keys =
     let k = c.self.inside in
-    c.freshen_each.ensures ∙ changed_on (freshened_on c.args.desc c.args.bits) (freshened_again c.args.desc c.args.bits) c.args.desc (freshened_apart c.args.desc c.args.bits) k.slots.slots k.added c.self.invariant.numbered (values_of c.places_of-places.result) keys
+    c.freshen_each.ensures.slots ∙ changed_on (freshened_on c.args.desc c.args.bits) (freshened_again c.args.desc c.args.bits) c.args.desc (freshened_apart c.args.desc c.args.bits) k.slots.slots k.added c.self.invariant.numbered (values_of c.places_of-places.result) keys
 
 pub invariant_of-self : goal.invariant_of-self
 invariant_of-self g c =

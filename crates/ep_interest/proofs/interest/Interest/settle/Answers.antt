@@ -15,7 +15,7 @@ use Rattle.ep_interest.proofs.interest.Interest.settle.Goals as goal
 slots_are : (g : Over) (c : goal.After-clear g) → c.rest_each.new.slots.slots ≡ map (option_map settled) c.self.inside.slots.slots
 slots_are g c =
     let k = c.self.inside in
-    c.rest_each.ensures ∙ (ap (λ (ids : List EntryId). changed_at settled ids k.slots.slots) c.deref.ensures.value ∙ settled_all k.passes.keys.items k.slots.slots c.self.invariant.passing)
+    c.rest_each.ensures.slots ∙ (ap (λ (ids : List EntryId). changed_at settled ids k.slots.slots) c.deref.ensures.value ∙ settled_all k.passes.keys.items k.slots.slots c.self.invariant.passing)
 
 pub invariant_of-self : goal.invariant_of-self
 invariant_of-self g c =
@@ -23,7 +23,7 @@ invariant_of-self g c =
     let are = slots_are g c in
     let passing = passing_settled k.slots.slots c.rest_each.new.slots.slots c.clear.new.self.items are c.clear.ensures.items in
     let room : length c.rest_each.new.slots.slots ≤ vec_capacity c.clear.new.self = rw (are, length-map k.slots.slots (option_map settled), c.clear.ensures.capacity) c.self.invariant.room in
-    interest_changed k settled c.rest_each.new.slots (record { keys = c.clear.new.self }) settled_keeps are passing room c.self.invariant
+    interest_changed k settled c.rest_each.new.slots (record k.passes { keys = c.clear.new.self }) settled_keeps are passing room c.self.invariant
 
 pub returns-clause-entries : goal.returns-clause-entries
 returns-clause-entries g c =

@@ -1,0 +1,38 @@
+//! Arrivals at one description, with others beside it.
+ghost use Rattle.std.specs.Prelude.{◌+◌, ◌<◌, ◌≤◌, ◌^◌};
+
+use crate::registrations::add;
+use ep_base::{DescId, Mask};
+use ep_interest::Interest;
+use std::alloc::{AllocError, Global};
+
+/// How many events are made, whatever stands beside.
+const EVENTS: u32 = 5_000_000;
+
+/// What arrives.
+const IN: Mask = Mask(1);
+
+/// IN arrives at a description in one event. The answer is how many registrations pass it on.
+fn raise(sets: &mut Interest, desc: DescId, event: u64) -> usize {
+    sets.raise(desc, IN, event);
+    sets.freshen(desc, IN);
+    let passing = sets.passing().len();
+    sets.settle();
+    passing
+}
+
+/// With so many registrations, each on a description of its own, lets bits arrive at the first of them, in as many events
+/// whatever stands beside. The answer is how many registrations there are, and how many arrivals none of them passed on.
+pub fn raise_at_one(alloc: Global, count: u32) -> Result<(usize, u32), AllocError> {
+    let mut sets = Interest::new(alloc);
+    for number in 0..count {
+        add(&mut sets, DescId(number as usize))?;
+    }
+    let mut left = 0;
+    for event in 0..EVENTS {
+        if raise(&mut sets, DescId(0), u64::from(event) + 1) == 0 {
+            left += 1;
+        }
+    }
+    Ok((sets.count(), left))
+}
