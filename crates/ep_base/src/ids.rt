@@ -19,7 +19,3 @@ pub struct DescId(pub usize);
 /// The key of a registration, which is used again once the registration is gone.
 #[derive(Clone, Copy, Debug, PartialEq, Eq, Hash)]
 pub struct EntryId(pub usize);
-
-/// The number of a registration, counted from 1 in order of registration, and never used again.
-#[derive(Clone, Copy, Debug, PartialEq, Eq)]
-pub struct EntryNumber(pub u64);

@@ -20,7 +20,7 @@ pub use crate::buffer::Buffer;
 pub use crate::call::{Call, Event};
 pub use crate::counts::Counts;
 pub use crate::errno::Errno;
-pub use crate::ids::{CallerId, DescId, EntryId, EntryNumber, Fd, Pid};
+pub use crate::ids::{CallerId, DescId, EntryId, Fd, Pid};
 pub use crate::limits::Limits;
 pub use crate::mask::Mask;
 pub use crate::object::{End, Raised};

@@ -34,6 +34,7 @@ raised_nowhere (Some k) bits n (x ∷ xs) h = absurd (h k refl)
 pub record Raises (v : Seen) (since now n : ℕ) (old : Registrations) (left : List DescId) (new : Registrations) : Type 0 where
   pub live : All (λ id. IsSome (number_under v id)) left
   pub told : raised_each (due_bits v since now) n left new.entries ≡ raised_each (due_bits v since now) n (live_ids v.keys) old.entries
+  pub keys : new.keys ≡ old.keys
   pub added : new.added ≡ old.added
 
 next_key : (j i : ℕ) → j + 1 + i ≡ j + suc i
@@ -66,15 +67,16 @@ live_all : (keys : List (Option ℕ)) → All (HasNumber keys) (live_ids keys)
 live_all keys = live_after keys 0 keys (λ i. ap (λ (n : ℕ). slice_index_or keys n None) (zero_plus i))
 
 pub raises_begins : (v : Seen) (since now n : ℕ) (old : Registrations) → Raises v since now n old (live_ids v.keys) old
-raises_begins v since now n old = record { live = live_all v.keys; told = refl; added = refl }
+raises_begins v since now n old = record { live = live_all v.keys; told = refl; keys = refl; added = refl }
 
 pub first_live : (v : Seen) (since now n : ℕ) (old new : Registrations) (id : DescId) (left : List DescId) → Raises v since now n old (id ∷ left) new → IsSome (number_under v id)
 first_live v since now n old new id left h = All-head (λ k. IsSome (number_under v k)) id left h.live
 
 pub raises_more : (v : Seen) (since now n : ℕ) (old mid new : Registrations) (id : DescId) (left : List DescId) → Raises v since now n old (id ∷ left) mid
-    → new.entries ≡ map (raised_on id (due_bits v since now id) n) mid.entries → new.added ≡ mid.added → Raises v since now n old left new
-raises_more v since now n old mid new id left h entries added = record {
+    → new.entries ≡ map (raised_on id (due_bits v since now id) n) mid.entries → new.keys ≡ mid.keys → new.added ≡ mid.added → Raises v since now n old left new
+raises_more v since now n old mid new id left h entries keys added = record {
   live = All-tail (λ k. IsSome (number_under v k)) id left h.live;
   told = ap (raised_each (due_bits v since now) n left) entries ∙ h.told;
+  keys = keys ∙ h.keys;
   added = added ∙ h.added;
 }

@@ -101,21 +101,21 @@ module _ (v : Seen) where
       let q = under_key v.keys (record { 0 = b }) k in
       sound.one (record { 0 = a }) (record { 0 = b }) q.number (p.is ∙ ap (λ (n : ℕ). Some n) (sym (ap (λ (o : Option ℕ). unwrap_or o 0) p.is) ∙ (e ∙ ap (λ (o : Option ℕ). unwrap_or o 0) q.is))) q.is
 
-  links_of : (xs : List Entry) → map pair (filter (watches_instance v.files) (map (watch_at v.keys) xs)) ≡ map (λ e. (number e.0, number e.1)) (edges (map link_of (filter (is_nested v) xs)))
-  links_of [] = refl
-  links_of (x ∷ xs) =
-      let rest = links_of xs in
-      elim (is_nested v x) as (λ b. map pair (cond b (watch_at v.keys x ∷ filter (watches_instance v.files) (map (watch_at v.keys) xs)) (filter (watches_instance v.files) (map (watch_at v.keys) xs))) ≡ map (λ e. (number e.0, number e.1)) (edges (map link_of (cond b (x ∷ filter (is_nested v) xs) (filter (is_nested v) xs))))) [
+  links_of : (r : Registrations) (xs : List Entry) → map pair (filter (watches_instance v.files) (map (watch_at v.keys) xs)) ≡ map (λ e. (number e.0, number e.1)) (edges (map (link_of r) (filter (is_nested v) xs)))
+  links_of r [] = refl
+  links_of r (x ∷ xs) =
+      let rest = links_of r xs in
+      elim (is_nested v x) as (λ b. map pair (cond b (watch_at v.keys x ∷ filter (watches_instance v.files) (map (watch_at v.keys) xs)) (filter (watches_instance v.files) (map (watch_at v.keys) xs))) ≡ map (λ e. (number e.0, number e.1)) (edges (map (link_of r) (cond b (x ∷ filter (is_nested v) xs) (filter (is_nested v) xs))))) [
         | true ↦ ap (λ (ls : List (ℕ × ℕ)). pair (watch_at v.keys x) ∷ ls) rest
         | false ↦ rest
       ]
 
-  edges_live : (xs : List Entry) → All (IsLinked v.keys) xs → AllByRecursion (λ e. Lives e.0 × Lives e.1) (edges (map link_of (filter (is_nested v) xs)))
-  edges_live [] h = tt
-  edges_live (x ∷ xs) h =
+  edges_live : (r : Registrations) (xs : List Entry) → All (IsLinked v.keys) xs → AllByRecursion (λ e. Lives e.0 × Lives e.1) (edges (map (link_of r) (filter (is_nested v) xs)))
+  edges_live r [] h = tt
+  edges_live r (x ∷ xs) h =
       let link = All-head (IsLinked v.keys) x xs h in
-      with_one (is_nested v x) link (edges_live xs (All-tail (IsLinked v.keys) x xs h)) where
-        with_one : (b : Bool) → IsLinked v.keys x → AllByRecursion (λ e. Lives e.0 × Lives e.1) (edges (map link_of (filter (is_nested v) xs))) → AllByRecursion (λ e. Lives e.0 × Lives e.1) (edges (map link_of (cond b (x ∷ filter (is_nested v) xs) (filter (is_nested v) xs))))
+      with_one (is_nested v x) link (edges_live r xs (All-tail (IsLinked v.keys) x xs h)) where
+        with_one : (b : Bool) → IsLinked v.keys x → AllByRecursion (λ e. Lives e.0 × Lives e.1) (edges (map (link_of r) (filter (is_nested v) xs))) → AllByRecursion (λ e. Lives e.0 × Lives e.1) (edges (map (link_of r) (cond b (x ∷ filter (is_nested v) xs) (filter (is_nested v) xs))))
         with_one true link rest = ((link.instance, link.desc), rest)
         with_one false link rest = rest
 
@@ -124,60 +124,64 @@ module _ (v : Seen) where
     links_are =
         links_kept s s.watches
         ∙ ((λ i. map pair (filter (watches_instance (stands.files i)) (stands.watches i)))
-        ∙ (links_of r.entries ∙ ap (λ (ls : List Link). map (λ e. (number e.0, number e.1)) (edges ls)) (sym nested)))
+        ∙ (links_of r r.entries ∙ ap (λ (ls : List Link). map (λ e. (number e.0, number e.1)) (edges ls)) (sym nested)))
 
     -- one link more is legal for both or for neither
     pub legal_both : Sound v → (outer inner : DescId) → Lives outer.0 → Lives inner.0 → is_legal ((number outer.0, number inner.0) ∷ links s) ≡ is_legal ((outer.0, inner.0) ∷ edges graph)
     legal_both sound outer inner h k =
         ap (λ (ls : List (ℕ × ℕ)). is_legal ((number outer.0, number inner.0) ∷ ls)) links_are
-        ∙ legal_named number Lives (numbers_apart sound) ((outer.0, inner.0) ∷ edges graph) ((h, k), subst (λ (ls : List Link). AllByRecursion (λ e. Lives e.0 × Lives e.1) (edges ls)) (sym nested) (edges_live r.entries linked))
+        ∙ legal_named number Lives (numbers_apart sound) ((outer.0, inner.0) ∷ edges graph) ((h, k), subst (λ (ls : List Link). AllByRecursion (λ e. Lives e.0 × Lives e.1) (edges ls)) (sym nested) (edges_live r r.entries linked))
 
 -- What is done to registrations is done to their links.
-module _ (p : Entry → Bool) where
+module _ (r : Registrations) (p : Entry → Bool) where
   abbrev linked_by : List Entry → List Link
-  linked_by xs = map link_of (filter p xs)
+  linked_by xs = map (link_of r) (filter p xs)
 
-  pub links_filtered : (q : Link → Bool) (xs : List Entry) → filter q (linked_by xs) ≡ linked_by (filter (λ x. q (link_of x)) xs)
+  pub links_filtered : (q : Link → Bool) (xs : List Entry) → filter q (linked_by xs) ≡ linked_by (filter (λ x. q (link_of r x)) xs)
   links_filtered q [] = refl
-  links_filtered q (x ∷ xs) = both (p x) (q (link_of x)) refl refl (links_filtered q xs) where
-    both : (a b : Bool) → p x ≡ a → q (link_of x) ≡ b → filter q (linked_by xs) ≡ linked_by (filter (λ y. q (link_of y)) xs)
-        → filter q (map link_of (cond a (x ∷ filter p xs) (filter p xs))) ≡ map link_of (filter p (cond b (x ∷ filter (λ y. q (link_of y)) xs) (filter (λ y. q (link_of y)) xs)))
+  links_filtered q (x ∷ xs) = both (p x) (q (link_of r x)) refl refl (links_filtered q xs) where
+    both : (a b : Bool) → p x ≡ a → q (link_of r x) ≡ b → filter q (linked_by xs) ≡ linked_by (filter (λ y. q (link_of r y)) xs)
+        → filter q (map (link_of r) (cond a (x ∷ filter p xs) (filter p xs))) ≡ map (link_of r) (filter p (cond b (x ∷ filter (λ y. q (link_of r y)) xs) (filter (λ y. q (link_of r y)) xs)))
     both true true e h rest =
-        ap (λ (t : Bool). cond t (link_of x ∷ filter q (linked_by xs)) (filter q (linked_by xs))) h
-        ∙ (ap (λ (ls : List Link). link_of x ∷ ls) rest
-        ∙ sym (ap (λ (t : Bool). map link_of (cond t (x ∷ filter p (filter (λ y. q (link_of y)) xs)) (filter p (filter (λ y. q (link_of y)) xs)))) e))
-    both true false e h rest = ap (λ (t : Bool). cond t (link_of x ∷ filter q (linked_by xs)) (filter q (linked_by xs))) h ∙ rest
-    both false true e h rest = rest ∙ sym (ap (λ (t : Bool). map link_of (cond t (x ∷ filter p (filter (λ y. q (link_of y)) xs)) (filter p (filter (λ y. q (link_of y)) xs)))) e)
+        ap (λ (t : Bool). cond t (link_of r x ∷ filter q (linked_by xs)) (filter q (linked_by xs))) h
+        ∙ (ap (λ (ls : List Link). link_of r x ∷ ls) rest
+        ∙ sym (ap (λ (t : Bool). map (link_of r) (cond t (x ∷ filter p (filter (λ y. q (link_of r y)) xs)) (filter p (filter (λ y. q (link_of r y)) xs)))) e))
+    both true false e h rest = ap (λ (t : Bool). cond t (link_of r x ∷ filter q (linked_by xs)) (filter q (linked_by xs))) h ∙ rest
+    both false true e h rest = rest ∙ sym (ap (λ (t : Bool). map (link_of r) (cond t (x ∷ filter p (filter (λ y. q (link_of r y)) xs)) (filter p (filter (λ y. q (link_of r y)) xs)))) e)
     both false false e h rest = rest
 
   -- what keeps its link, and its kind
-  pub links_mapped : (g : Entry → Entry) → ((x : Entry) → link_of (g x) ≡ link_of x) → ((x : Entry) → p (g x) ≡ p x) → (xs : List Entry) → linked_by (map g xs) ≡ linked_by xs
+  pub links_mapped : (g : Entry → Entry) → ((x : Entry) → link_of r (g x) ≡ link_of r x) → ((x : Entry) → p (g x) ≡ p x) → (xs : List Entry) → linked_by (map g xs) ≡ linked_by xs
   links_mapped g link kind [] = refl
   links_mapped g link kind (x ∷ xs) =
       let rest = links_mapped g link kind xs in
-      ap (λ (b : Bool). map link_of (cond b (g x ∷ filter p (map g xs)) (filter p (map g xs)))) (kind x)
-      ∙ elim (p x) as (λ b. map link_of (cond b (g x ∷ filter p (map g xs)) (filter p (map g xs))) ≡ map link_of (cond b (x ∷ filter p xs) (filter p xs))) [
+      ap (λ (b : Bool). map (link_of r) (cond b (g x ∷ filter p (map g xs)) (filter p (map g xs)))) (kind x)
+      ∙ elim (p x) as (λ b. map (link_of r) (cond b (g x ∷ filter p (map g xs)) (filter p (map g xs))) ≡ map (link_of r) (cond b (x ∷ filter p xs) (filter p xs))) [
         | true ↦ (λ i. link x i ∷ rest i)
         | false ↦ rest
       ]
 
-  pub links_pushed : (x : Entry) (xs : List Entry) → linked_by (xs ++ x ∷ []) ≡ linked_by xs ++ cond (p x) (link_of x ∷ []) []
-  links_pushed x [] = elim (p x) as (λ b. map link_of (cond b (x ∷ []) []) ≡ cond b (link_of x ∷ []) []) [ true ↦ refl | false ↦ refl ]
+  pub links_pushed : (x : Entry) (xs : List Entry) → linked_by (xs ++ x ∷ []) ≡ linked_by xs ++ cond (p x) (link_of r x ∷ []) []
+  links_pushed x [] = elim (p x) as (λ b. map (link_of r) (cond b (x ∷ []) []) ≡ cond b (link_of r x ∷ []) []) [ true ↦ refl | false ↦ refl ]
   links_pushed x (y ∷ ys) =
       let rest = links_pushed x ys in
-      elim (p y) as (λ b. map link_of (cond b (y ∷ filter p (ys ++ x ∷ [])) (filter p (ys ++ x ∷ []))) ≡ map link_of (cond b (y ∷ filter p ys) (filter p ys)) ++ cond (p x) (link_of x ∷ []) []) [
-        | true ↦ ap (λ (ls : List Link). link_of y ∷ ls) rest
+      elim (p y) as (λ b. map (link_of r) (cond b (y ∷ filter p (ys ++ x ∷ [])) (filter p (ys ++ x ∷ []))) ≡ map (link_of r) (cond b (y ∷ filter p ys) (filter p ys)) ++ cond (p x) (link_of r x ∷ []) []) [
+        | true ↦ ap (λ (ls : List Link). link_of r y ∷ ls) rest
         | false ↦ rest
       ]
 
 -- where each registration keeps its kind
-pub links_same : (p q : Entry → Bool) (xs : List Entry) → All (λ x. p x ≡ q x) xs → map link_of (filter p xs) ≡ map link_of (filter q xs)
-links_same p q [] h = refl
-links_same p q (x ∷ xs) h =
+pub links_same : (r : Registrations) (p q : Entry → Bool) (xs : List Entry) → All (λ x. p x ≡ q x) xs → map (link_of r) (filter p xs) ≡ map (link_of r) (filter q xs)
+links_same r p q [] h = refl
+links_same r p q (x ∷ xs) h =
     let one : p x ≡ q x = All-head (λ y. p y ≡ q y) x xs h in
-    let rest = links_same p q xs (All-tail (λ y. p y ≡ q y) x xs h) in
-    ap (λ (b : Bool). map link_of (cond b (x ∷ filter p xs) (filter p xs))) one
-    ∙ elim (q x) as (λ b. map link_of (cond b (x ∷ filter p xs) (filter p xs)) ≡ map link_of (cond b (x ∷ filter q xs) (filter q xs))) [
-      | true ↦ ap (λ (ls : List Link). link_of x ∷ ls) rest
+    let rest = links_same r p q xs (All-tail (λ y. p y ≡ q y) x xs h) in
+    ap (λ (b : Bool). map (link_of r) (cond b (x ∷ filter p xs) (filter p xs))) one
+    ∙ elim (q x) as (λ b. map (link_of r) (cond b (x ∷ filter p xs) (filter p xs)) ≡ map (link_of r) (cond b (x ∷ filter q xs) (filter q xs))) [
+      | true ↦ ap (λ (ls : List Link). link_of r x ∷ ls) rest
       | false ↦ rest
     ]
+
+-- where the keys stay, so do the links
+pub links_by_keys : (old new : Registrations) (p : Entry → Bool) (xs : List Entry) → new.keys ≡ old.keys → map (link_of new) (filter p xs) ≡ map (link_of old) (filter p xs)
+links_by_keys old new p xs keys = λ i. map (link_of (record old { keys = keys i })) (filter p xs)

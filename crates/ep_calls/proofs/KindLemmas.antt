@@ -43,7 +43,7 @@ module _ (u v : Seen) where
       (same_kinds xs (All-tail Q x xs numbers) (All-tail P (watch_at v.keys x) (map (watch_at v.keys) xs) kinds))
 
   pub nested_over : (r : Registrations) (graph : List Link) → All (λ x. number_at u.keys x.desc ≡ number_at v.keys x.desc) r.entries → KeepKinds u.files v.files (map (watch_at v.keys) r.entries) → AreNested u r graph → AreNested v r graph
-  nested_over r graph numbers kinds h = h ∙ links_same (is_nested u) (is_nested v) r.entries (same_kinds r.entries numbers kinds)
+  nested_over r graph numbers kinds h = h ∙ links_same r (is_nested u) (is_nested v) r.entries (same_kinds r.entries numbers kinds)
 
 -- over deaths
 pub nested_left : (u v : Seen) (r : Registrations) (graph : List Link) → KeepsKeys v u → AreLinked v r → KeepKinds u.files v.files (map (watch_at v.keys) r.entries) → AreNested u r graph → AreNested v r graph

@@ -15,6 +15,7 @@ pub mod ObjectCallLemmas
 pub mod CollectLemmas
 pub mod ReadinessLemmas
 pub mod GraphLemmas
+pub mod EntryKeyLemmas
 pub mod LinkLemmas
 pub mod PickLemmas
 pub mod ReportLemmas

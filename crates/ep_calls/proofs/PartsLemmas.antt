@@ -96,7 +96,7 @@ module _ (within : Limits) (p : Parts) (h : AreOpening within p) where
     watched =
         let IsShown : Entry → Type 0 = λ x. can_be_watched (object_of p.tables.files (number_at p.tables.keys x.desc)) ≡ true in
         subst (All IsShown) (sym none_there) (All-nil IsShown);
-    nested = h.graph ∙ ap (λ (xs : List Entry). map link_of (filter (is_nested p.tables) xs)) (sym none_there);
+    nested = h.graph ∙ ap (λ (xs : List Entry). map (link_of p.interest) (filter (is_nested p.tables) xs)) (sym none_there);
     placed = subst (All (IsPlaced p.tables.keys)) (sym h.parked) (All-nil (IsPlaced p.tables.keys));
     held = λ d.
         ap (λ (hs : List ℕ). count_at hs d) h.holds

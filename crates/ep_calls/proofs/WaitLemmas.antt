@@ -39,7 +39,7 @@ use Rattle.ep_machine.specs.Lists.{is_among}
 use Rattle.ep_machine.specs.Watches.{is_legal, links, number_in}
 use Rattle.ep_nest.specs.declared.link.Link.{Link}
 use Rattle.ep_calls.specs.Climb.{KeepsLinks, is_nested, link_of}
-use Rattle.ep_calls.proofs.GraphLemmas.{links_mapped}
+use Rattle.ep_calls.proofs.GraphLemmas.{links_by_keys, links_mapped}
 use Rattle.ep_calls.specs.Moves.{Goes, StandFor}
 use Rattle.ep_calls.specs.Parts.{Parts}
 use Rattle.ep_calls.specs.Reports.{Reports}
@@ -59,14 +59,14 @@ past_one true e rest h = refl
 past_one false e rest h = absurd cc
 
 -- a report leaves links as they are
-link_noted : (n : ℕ) (ks : List ℕ) (x : Entry) → link_of (with_report n ks x) ≡ link_of x
-link_noted n ks x = elim (is_among ks x.number) as (λ b. link_of (cond b (record x { armed = x.armed && not (has_bit x.mask.0 ONESHOT); fresh = false; reported_in = n }) x) ≡ link_of x) [ true ↦ refl | false ↦ refl ]
+link_noted : (r : Registrations) (n : ℕ) (ks : List ℕ) (x : Entry) → link_of r (with_report n ks x) ≡ link_of r x
+link_noted r n ks x = elim (is_among ks x.number) as (λ b. link_of r (cond b (record x { armed = x.armed && not (has_bit x.mask.0 ONESHOT); fresh = false; reported_in = n }) x) ≡ link_of r x) [ true ↦ refl | false ↦ refl ]
 
 nested_noted : (v : Seen) (n : ℕ) (ks : List ℕ) (x : Entry) → is_nested v (with_report n ks x) ≡ is_nested v x
 nested_noted v n ks x = elim (is_among ks x.number) as (λ b. is_nested v (cond b (record x { armed = x.armed && not (has_bit x.mask.0 ONESHOT); fresh = false; reported_in = n }) x) ≡ is_nested v x) [ true ↦ refl | false ↦ refl ]
 
-links_noted : (v : Seen) (n : ℕ) (ks : List ℕ) (xs : List Entry) → map link_of (filter (is_nested v) (map (with_report n ks) xs)) ≡ map link_of (filter (is_nested v) xs)
-links_noted v n ks xs = links_mapped (is_nested v) (with_report n ks) (link_noted n ks) (nested_noted v n ks) xs
+links_noted : (r : Registrations) (v : Seen) (n : ℕ) (ks : List ℕ) (xs : List Entry) → map (link_of r) (filter (is_nested v) (map (with_report n ks) xs)) ≡ map (link_of r) (filter (is_nested v) xs)
+links_noted r v n ks xs = links_mapped r (is_nested v) (with_report n ks) (link_noted r n ks) (nested_noted v n ks) xs
 
 -- what is reported leaves the rest of a registration
 module _ (v : Seen) (old new : Registrations) (n : ℕ) (chosen : List Reportable) (answer : Answer) (picked : List ℕ) (is : Reports old new n chosen answer picked) where
@@ -85,7 +85,10 @@ module _ (v : Seen) (old new : Registrations) (n : ℕ) (chosen : List Reportabl
       subst (All IsShown) (sym is.entries) (All-map IsShown (with_report n ks) old.entries (All-weaker IsShown (λ x. IsShown (with_report n ks x)) (noted_shown ks) old.entries watched))
 
   pub still_nested : (graph : List Link) → KeepsLinks old graph new graph
-  still_nested graph = λ tables nested. nested ∙ (sym (links_noted tables n (numbers_of chosen) old.entries) ∙ ap (λ (xs : List Entry). map link_of (filter (is_nested tables) xs)) (sym is.entries))
+  still_nested graph = λ tables nested.
+      nested
+      ∙ (sym (links_noted old tables n (numbers_of chosen) old.entries)
+      ∙ (ap (λ (xs : List Entry). map (link_of old) (filter (is_nested tables) xs)) (sym is.entries) ∙ sym (links_by_keys old new (is_nested tables) new.entries is.keys)))
 
 pub coherent_reported : (p : Parts) (r : Registrations) (n : ℕ) (chosen : List Reportable) (answer : Answer) (picked : List ℕ) → AreCoherent p → Reports p.interest r n chosen answer picked → AreCoherent (record p { interest = r })
 coherent_reported p r n chosen answer picked h is = record {
@@ -105,7 +108,7 @@ coherent_parked p v us h files keys placed held =
     record {
       linked = subst P (sym keys) h.linked;
       watched = λ k d lt. (λ i. can_be_watched (object_of (files i) (number_at (keys i) (get_or p.interest.entries k d).desc))) ∙ h.watched k d lt;
-      nested = h.nested ∙ (λ i. map link_of (filter (λ x. is_instance (unwrap_or (object_of (sym files i) (number_at (sym keys i) x.desc)) plain)) p.interest.entries));
+      nested = h.nested ∙ (λ i. map (link_of p.interest) (filter (λ x. is_instance (unwrap_or (object_of (sym files i) (number_at (sym keys i) x.desc)) plain)) p.interest.entries));
       placed = subst Q (sym keys) placed;
       held = held;
       clock = h.clock;

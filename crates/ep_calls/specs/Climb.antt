@@ -1,7 +1,7 @@
 -- What was raised climbs through instances.
 use Rattle.std.specs.Prelude.{◌≡◌, Bool, List, filter, map, unwrap_or, ℕ}
 use Rattle.ep_base.specs.declared.ids.DescId.{DescId}
-use Rattle.ep_interest.specs.Registrations.{Registrations}
+use Rattle.ep_interest.specs.Registrations.{Registrations, id_of}
 use Rattle.ep_interest.specs.declared.entry.Entry.{Entry}
 use Rattle.ep_machine.specs.Files.{object_of}
 use Rattle.ep_view.specs.KernelView.{climbed_all}
@@ -18,13 +18,13 @@ is_nested_key tables key = is_instance (unwrap_or (object_of tables.files (numbe
 abbrev pub is_nested : Seen → Entry → Bool
 is_nested tables x = is_nested_key tables x.desc
 
--- its link, by the number of the registration
-abbrev pub link_of : Entry → Link
-link_of x = record { outer = x.instance; inner = x.desc; entry = record { 0 = x.number } }
+-- its link, by the key under which it stands
+abbrev pub link_of : Registrations → Entry → Link
+link_of r x = record { outer = x.instance; inner = x.desc; entry = id_of r x.number }
 
 -- the graph has exactly their links, in order of registration
 abbrev pub AreNested : Seen → Registrations → List Link → Type 0
-AreNested tables interest graph = graph ≡ map link_of (filter (is_nested tables) interest.entries)
+AreNested tables interest graph = graph ≡ map (link_of interest) (filter (is_nested tables) interest.entries)
 
 -- links that were those of the registrations are still
 abbrev pub KeepsLinks : Registrations → List Link → Registrations → List Link → Type 0

@@ -75,6 +75,10 @@ addition named args = record { instance = named.instance; fd = args.fd; desc = n
 abbrev pub next_entry : Registrations → Named → Control → Entry
 next_entry r named args = entry_of (r.added + 1) (addition named args)
 
+-- the link of the registration that is added next, where it is on an instance
+abbrev pub next_link : Registrations → Named → Link
+next_link r named = record { outer = named.instance; inner = named.desc; entry = record { 0 = r.next } }
+
 -- its link would make the graph of instances illegal
 abbrev pub is_deep_at : Seen → List Link → Named → Bool
 is_deep_at tables graph named = is_nested_key tables named.desc && not (is_legal ((named.instance.0, named.desc.0) ∷ edges graph))

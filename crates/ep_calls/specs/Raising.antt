@@ -44,6 +44,7 @@ pub record RaisesObject (v : Seen) (desc : DescId) (raised : Raised) (n : ℕ) (
   pub other : Option DescId
   pub is_at : IsAt v.files v.keys (across (place_of v.files (number_of v desc))) other
   pub entries : new.entries ≡ map (raised_there other (bits_of (at_end raised (opposite (side_of v.files (number_of v desc))))) n) (map (raised_on desc (bits_of (at_end raised (side_of v.files (number_of v desc)))) n) old.entries)
+  pub keys : new.keys ≡ old.keys
   pub added : new.added ≡ old.added
 
 -- what is raised at a description by the clock going on
@@ -59,8 +60,10 @@ raised_each bits n (id ∷ ids) xs = raised_each bits n ids (map (raised_on id (
 abbrev pub Stirs : Raising → Seen → ℕ → ℕ → Registrations → Registrations → Type 0
 Stirs Nowhere v now n old new = new ≡ old
 Stirs (Object desc raised) v now n old new = RaisesObject v desc raised n old new
-Stirs (Instance desc) v now n old new = (new.entries ≡ map (raised_on desc (bits_of IN) n) old.entries) × (new.added ≡ old.added)
-Stirs (Clock since) v now n old new = (new.entries ≡ raised_each (due_bits v since now) n (live_ids v.keys) old.entries) × (new.added ≡ old.added)
+Stirs (Instance desc) v now n old new =
+    (new.entries ≡ map (raised_on desc (bits_of IN) n) old.entries) × (new.added ≡ old.added) × (new.keys ≡ old.keys)
+Stirs (Clock since) v now n old new =
+    (new.entries ≡ raised_each (due_bits v since now) n (live_ids v.keys) old.entries) × (new.added ≡ old.added) × (new.keys ≡ old.keys)
 
 -- The bits that are raised at each description.
 abbrev pub object_bits : ℕ → Raised → Option Place → ℕ

@@ -22,7 +22,9 @@ fn end_each(tables: &mut Tables, interest: &mut Interest, graph: &mut Graph, ste
         let Some(dead) = tables.take_dead() else {
             return;
         };
+        interest.known();
         interest.purge(dead.desc);
+        interest.known();
         graph.purge(dead.desc);
         raise_there(
             interest,

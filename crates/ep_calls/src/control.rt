@@ -1,16 +1,15 @@
 //! epoll_ctl.
-ghost use Rattle.std.specs.Prelude.{◌≡◌, ◌==◌, ◌+◌, ◌++◌, ◌∷◌, ◌≤◌, ℕ, [], if◌then◌else◌, IfNone, IfOk, IfSome, IsSome, List, MatchResult, OnErr, Some, false, true, unwrap_or};
+ghost use Rattle.std.specs.Prelude.{All, ◌≡◌, ◌==◌, ◌+◌, ◌++◌, ◌∷◌, ◌≤◌, ℕ, [], if◌then◌else◌, IfNone, IfOk, IfSome, IsSome, List, MatchResult, OnErr, Some, false, true, unwrap_or};
 ghost use Rattle.std.specs.List.{list_any};
 ghost use Rattle.ep_base.specs.Answer.{FitsInline};
 ghost use Rattle.ep_machine.specs.Effect.{first};
 ghost use Rattle.ep_calls.specs.Acts.{is_no_memory};
-ghost use Rattle.ep_machine.specs.Lists.{is_among};
 ghost use Rattle.ep_machine.specs.State.{Waiter};
 ghost use Rattle.ep_machine.specs.Watches.{is_legal};
-ghost use Rattle.ep_nest.specs.Links.{edges, entries};
-ghost use Rattle.ep_calls.specs.Climb.{AreNested, KeepsLinks, link_of};
-ghost use Rattle.ep_calls.specs.Control.{Alters, EntersAt, Names, addition, code_of, control_call, is_deep_at, is_refused_op, raising_of_ctl, naming_refusals, next_entry, raising_after};
-ghost use Rattle.ep_interest.specs.Registrations.{has_key, number_under as number_of_entry};
+ghost use Rattle.ep_nest.specs.Links.{edges};
+ghost use Rattle.ep_calls.specs.Climb.{AreNested, KeepsLinks};
+ghost use Rattle.ep_calls.specs.Control.{Alters, EntersAt, Names, addition, code_of, control_call, is_deep_at, is_refused_op, raising_of_ctl, naming_refusals, next_entry, next_link, raising_after};
+ghost use Rattle.ep_interest.specs.Registrations.{GainsKey, has_key, number_under as number_of_entry};
 ghost use Rattle.ep_machine.specs.Timer.{last_moment};
 ghost use Rattle.ep_calls.specs.Does.{DoesCall};
 ghost use Rattle.ep_calls.specs.Raising.{IsRaising};
@@ -22,7 +21,7 @@ use crate::raising::Raising;
 use crate::readiness::{is_reportable, shown};
 use crate::{Outcome, Parts};
 use bitflags::Flags;
-use ep_base::{Answer, DescId, EntryId, EntryNumber, Errno, Fd, Limits, Mask, Pid};
+use ep_base::{Answer, DescId, EntryId, Errno, Fd, Limits, Mask, Pid};
 use ep_interest::{Addition, Interest};
 use ep_nest::Graph;
 use ep_table::Tables;
@@ -118,9 +117,10 @@ fn alter(
     match operation {
         Operation::Add => Answer::Refused(Errno::Eexist),
         Operation::Delete => {
-            let number = interest.entry(id).number;
-            graph.unlink(EntryNumber(number));
+            interest.known();
+            graph.unlink(id);
             interest.remove(id);
+            interest.known();
             Answer::Done
         }
         Operation::Modify => {
@@ -152,19 +152,19 @@ fn add_linked(
 ) -> Result<(), AllocError>
     requires absent { list_any (has_key named.instance args.fd named.desc) interest.old.entries ≡ false }
     requires legal { is_legal ((named.instance.0, named.desc.0) ∷ edges graph.old) ≡ true }
-    requires fresh { is_among (entries graph.old) (interest.old.added + 1) ≡ false }
+    requires named { All (λ l. IsSome (number_of_entry interest.old l.entry)) graph.old }
     ensures entries { IfOk result (λ _. interest.new.entries ≡ interest.old.entries ++ next_entry interest.old named args ∷ []) }
+    ensures keys { IfOk result (λ _. GainsKey interest.old interest.new (record { 0 = interest.old.next }) (interest.old.added + 1)) }
     ensures added { IfOk result (λ _. interest.new.added ≡ interest.old.added + 1) }
-    ensures linked { IfOk result (λ _. graph.new ≡ graph.old ++ link_of (next_entry interest.old named args) ∷ []) }
+    ensures linked { IfOk result (λ _. graph.new ≡ graph.old ++ next_link interest.old named ∷ []) }
     ensures err { OnErr result ((interest.new ≡ interest.old) × (graph.new ≡ graph.old)) }
 {
-    let number = interest.next_number()?;
-    let link = EntryNumber(number);
-    graph.link(named.instance, named.desc, link)?;
+    let key = interest.next_key();
+    graph.link(named.instance, named.desc, key)?;
     match interest.add(addition_of(named, args)) {
         Ok(_) => Ok(()),
         Err(error) => {
-            graph.unlink(link);
+            graph.unlink(key);
             Err(error)
         }
     }
@@ -180,10 +180,11 @@ fn add(
 ) -> Result<(), AllocError>
     requires absent { list_any (has_key named.instance args.fd named.desc) interest.old.entries ≡ false }
     requires legal { is_nested ≡ true → is_legal ((named.instance.0, named.desc.0) ∷ edges graph.old) ≡ true }
-    requires fresh { is_among (entries graph.old) (interest.old.added + 1) ≡ false }
+    requires named { All (λ l. IsSome (number_of_entry interest.old l.entry)) graph.old }
     ensures entries { IfOk result (λ _. interest.new.entries ≡ interest.old.entries ++ next_entry interest.old named args ∷ []) }
+    ensures keys { IfOk result (λ _. GainsKey interest.old interest.new (record { 0 = interest.old.next }) (interest.old.added + 1)) }
     ensures added { IfOk result (λ _. interest.new.added ≡ interest.old.added + 1) }
-    ensures linked { IfOk result (λ _. graph.new ≡ graph.old ++ (if is_nested then link_of (next_entry interest.old named args) ∷ [] else [])) }
+    ensures linked { IfOk result (λ _. graph.new ≡ graph.old ++ (if is_nested then next_link interest.old named ∷ [] else [])) }
     ensures err { OnErr result ((interest.new ≡ interest.old) × (graph.new ≡ graph.old)) }
 {
     if is_nested {
@@ -225,6 +226,7 @@ fn enter(
         return Ok(Answer::Refused(Errno::Enospc));
     }
     add(interest, graph, named, is_nested, args)?;
+    interest.known();
     Ok(Answer::Done)
 }
 

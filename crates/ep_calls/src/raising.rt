@@ -51,6 +51,7 @@ pub fn other_end(end: End) -> End
 /// Raises bits at a description. Where there are none no registration is looked at.
 pub fn raise_at(interest: &mut Interest, desc: DescId, bits: Mask, step: u64)
     ensures entries { interest.new.entries ≡ map (raised_on desc bits step) interest.old.entries }
+    ensures keys { interest.new.keys ≡ interest.old.keys }
     ensures added { interest.new.added ≡ interest.old.added }
 {
     if !bits.is_empty() {
@@ -61,6 +62,7 @@ pub fn raise_at(interest: &mut Interest, desc: DescId, bits: Mask, step: u64)
 /// Raises bits at a description, where there is one.
 pub fn raise_there(interest: &mut Interest, desc: Option<DescId>, bits: Mask, step: u64)
     ensures entries { interest.new.entries ≡ map (raised_there desc bits step) interest.old.entries }
+    ensures keys { interest.new.keys ≡ interest.old.keys }
     ensures added { interest.new.added ≡ interest.old.added }
 {
     if let Some(desc) = desc {

@@ -3,7 +3,7 @@ use Rattle.ep_machine.specs.Lists.{are_distinct, is_among}
 use Rattle.ep_nest.proofs.ElementLemmas.{Contains-map, among}
 use Rattle.ep_nest.specs.Links.{admitted_by, entries}
 use Rattle.ep_nest.specs.declared.link.Link.{Link}
-use Rattle.ep_base.specs.declared.ids.EntryNumber.{EntryNumber}
+use Rattle.ep_base.specs.declared.ids.EntryId.{EntryId}
 use Rattle.std.proofs.Common.{Bool, List, [], ap, arith, cond, eq-eqb, eqb, false, filter, get_or, length, not, refl, subst, suc, sym, take, true, zero, ℕ, ◌+◌, ◌++◌, ◌<◌, ◌∙◌, ◌∷◌, ◌≡◌}
 use Rattle.std.proofs.lemmas.Bool.{and_parts, ne_eqb, not-true}
 use Rattle.std.proofs.lemmas.List.Elements.{All-cons, All-head, All-more, All-nil, All-tail, Contains-get_or, filter_more}
@@ -40,7 +40,7 @@ also_here entry b admits = rw (eq-eqb entry entry refl) refl
 also_apart : (entry : ℕ) (b : Bool) (admits : ℕ → Bool) (e : ℕ) → (e ≡ entry → ⊥) → also entry b admits e ≡ admits e
 also_apart entry b admits e apart = rw (ne_eqb e entry apart) refl
 
-module _ (P : EntryNumber → Bool → Type 0) (ls : List Link) (distinct : are_distinct (entries ls) ≡ true) where
+module _ (P : EntryId → Bool → Type 0) (ls : List Link) (distinct : are_distinct (entries ls) ≡ true) where
   pub asked_more : (i : ℕ) (d : Link) (b : Bool) (admits : ℕ → Bool) → i < length ls → P (get_or ls i d).entry b → All (λ k. P k.entry (admits k.entry.0)) (take i ls) → All (λ k. P k.entry (also (get_or ls i d).entry.0 b admits k.entry.0)) (take (i + 1) ls)
   asked_more i d b admits lt here before =
       let at = get_or ls i d in

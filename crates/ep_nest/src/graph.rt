@@ -13,7 +13,7 @@ use crate::lengths::{LONGEST, length_at};
 use crate::link::{Link, has_link, watches};
 use crate::scratch::Scratch;
 use crate::walk::{admit, collect_above};
-use ep_base::{DescId, EntryNumber, Errno};
+use ep_base::{DescId, EntryId, Errno};
 use std::alloc::{AllocError, Allocator, Global};
 use std::marker::Model;
 
@@ -67,7 +67,7 @@ impl<A: Allocator> Graph<A> {
     }
 
     /// Whether an entry has a link. Its cost grows as the number of links.
-    pub fn is_linked(&self, entry: EntryNumber) -> bool
+    pub fn is_linked(&self, entry: EntryId) -> bool
         ensures { result ≡ is_among (entries self.now) entry.0 }
     {
         has_link(&self.links, entry)
@@ -98,7 +98,7 @@ impl<A: Allocator> Graph<A> {
         &mut self,
         outer: DescId,
         inner: DescId,
-        entry: EntryNumber,
+        entry: EntryId,
     ) -> Result<(), AllocError>
         requires legal { is_legal ((outer.0, inner.0) ∷ edges self.old) ≡ true }
         requires fresh { is_among (entries self.old) entry.0 ≡ false }
@@ -118,7 +118,7 @@ impl<A: Allocator> Graph<A> {
 
     /// Takes the link of an entry away, where it has one; the others stay. It looks at each link once, and
     /// again only where the entry has one.
-    pub fn unlink(&mut self, entry: EntryNumber)
+    pub fn unlink(&mut self, entry: EntryId)
         ensures { self.new ≡ without entry.0 self.old }
     {
         if !has_link(&self.links, entry) {
@@ -144,7 +144,7 @@ impl<A: Allocator> Graph<A> {
     /// The instances, each once, from which a chain of links that `passes` admits leads down to one.
     /// It asks about every entry once, and takes no memory. Its cost grows as the number of links
     /// and as the greatest key of an instance.
-    pub fn above<F: Fn(EntryNumber) -> bool>(&mut self, inner: DescId, passes: &F) -> &[DescId]
+    pub fn above<F: Fn(EntryId) -> bool>(&mut self, inner: DescId, passes: &F) -> &[DescId]
         requires { F.IsAlwaysCallable passes.now }
         ensures* stays { sem 𝓛 (follows_so (the_row A.row A.Allocator) (the_row A.row A.Allocator) self.entry.ghost_name none (λ _ _. ⊤) (λ v. v ≡ self.old)) }
         ensures exact { (admits : ℕ → Bool) × All (λ l. F.post passes.now l.entry (admits l.entry.0)) self.old × ((x : ℕ) → (is_among (keys result.now) x ≡ true) ↔ IsAbove (edges (admitted_by admits self.old)) x inner.0) }

@@ -3,7 +3,7 @@ ghost use Rattle.std.specs.Prelude.{◌≡◌};
 ghost use Rattle.std.specs.List.{list_any};
 ghost use Rattle.ep_nest.specs.Links.{ends_of, is_between, is_of};
 
-use ep_base::{DescId, EntryNumber};
+use ep_base::{DescId, EntryId};
 
 /// An instance that watches an instance, by one registration.
 #[derive(Clone, Copy, Debug, PartialEq, Eq)]
@@ -12,8 +12,8 @@ pub struct Link {
     pub outer: DescId,
     /// The instance that is watched.
     pub inner: DescId,
-    /// The number of the registration.
-    pub entry: EntryNumber,
+    /// The key of the registration.
+    pub entry: EntryId,
 }
 
 /// The way in which chains of links are followed.
@@ -57,7 +57,7 @@ pub fn watches(links: &[Link], outer: DescId, inner: DescId) -> bool
 }
 
 /// Whether an entry has a link. It looks at each link once.
-pub fn has_link(links: &[Link], entry: EntryNumber) -> bool
+pub fn has_link(links: &[Link], entry: EntryId) -> bool
     ensures { result ≡ list_any (is_of entry.0) links.now }
 {
     links.iter().any(|link| link.entry == entry)

@@ -9,11 +9,11 @@ ghost use Rattle.ep_nest.specs.Marks.{AreAbove, AreAllTo, IsMarked};
 
 use crate::lengths::LONGEST;
 use crate::link::Link;
-use ep_base::{DescId, EntryNumber};
+use ep_base::{DescId, EntryId};
 use std::alloc::Allocator;
 
 /// Takes the links that a filter admits, which it asks about each link once.
-pub fn admit<F: Fn(EntryNumber) -> bool, A: Allocator>(
+pub fn admit<F: Fn(EntryId) -> bool, A: Allocator>(
     links: &[Link],
     passes: &F,
     admitted: &mut Vec<Link, A>,

@@ -118,7 +118,7 @@ linked_settled keys (x ∷ xs) h =
     All-cons (IsLinked keys) (settled x) (map settled xs) (record { instance = link.instance; desc = link.desc; fd = link.fd }) (linked_settled keys xs (All-tail (IsLinked keys) x xs h))
 
 -- The links lead to exactly the instances that are watched.
-module _ (v : Seen) where
+module _ (v : Seen) (r : Registrations) where
   abbrev kind : DescId → Bool
   kind k = is_instance (unwrap_or (object_of v.files (number_at v.keys k)) plain)
 
@@ -126,21 +126,21 @@ module _ (v : Seen) where
   abbrev pub LeadsToLive : Link → Type 0
   LeadsToLive l = IsSome (number_under v l.inner)
 
-  pub links_live : (xs : List Entry) → All (IsLinked v.keys) xs → All LeadsToLive (map link_of (filter (is_nested v) xs))
+  pub links_live : (xs : List Entry) → All (IsLinked v.keys) xs → All LeadsToLive (map (link_of r) (filter (is_nested v) xs))
   links_live [] h = search rules
   links_live (x ∷ xs) h = with_one (is_nested v x) (All-head (IsLinked v.keys) x xs h) (links_live xs (All-tail (IsLinked v.keys) x xs h)) where
-    with_one : (b : Bool) → IsLinked v.keys x → All LeadsToLive (map link_of (filter (is_nested v) xs)) → All LeadsToLive (map link_of (cond b (x ∷ filter (is_nested v) xs) (filter (is_nested v) xs)))
-    with_one true link rest = All-cons LeadsToLive (link_of x) (map link_of (filter (is_nested v) xs)) link.desc rest
+    with_one : (b : Bool) → IsLinked v.keys x → All LeadsToLive (map (link_of r) (filter (is_nested v) xs)) → All LeadsToLive (map (link_of r) (cond b (x ∷ filter (is_nested v) xs) (filter (is_nested v) xs)))
+    with_one true link rest = All-cons LeadsToLive (link_of r x) (map (link_of r) (filter (is_nested v) xs)) link.desc rest
     with_one false link rest = rest
 
   abbrev pub inners : List Entry → List DescId
-  inners xs = inners_of (map link_of (filter (is_nested v) xs))
+  inners xs = inners_of (map (link_of r) (filter (is_nested v) xs))
 
   -- and to an instance
   is_kind : (xs : List Entry) (k : DescId) → among_keys (inners xs) k ≡ true → kind k ≡ true
   is_kind [] k h = cc
   is_kind (x ∷ xs) k h = with_one (is_nested v x) refl (λ i. is_kind xs k i) h where
-    with_one : (b : Bool) → is_nested v x ≡ b → (among_keys (inners xs) k ≡ true → kind k ≡ true) → among_keys (map (λ l. l.inner) (map link_of (cond b (x ∷ filter (is_nested v) xs) (filter (is_nested v) xs)))) k ≡ true → kind k ≡ true
+    with_one : (b : Bool) → is_nested v x ≡ b → (among_keys (inners xs) k ≡ true → kind k ≡ true) → among_keys (map (λ l. l.inner) (map (link_of r) (cond b (x ∷ filter (is_nested v) xs) (filter (is_nested v) xs)))) k ≡ true → kind k ≡ true
     with_one true e rest i = elim (cases_Bool (k.0 == x.desc.0)) [
       | inl same ↦ ap (λ (m : ℕ). kind (record { 0 = m })) (from_test k.0 x.desc.0 same) ∙ e
       | inr other ↦ rest (ap (λ (b : Bool). b || among_keys (inners xs) k) (sym other) ∙ i)
@@ -159,9 +159,9 @@ module _ (v : Seen) where
   has_link x [] m h = absurd m
   has_link x (y ∷ ys) (inl e) h =
       subst (λ (z : Entry). among_keys (inners (z ∷ ys)) x.desc ≡ true) e
-      (ap (λ (b : Bool). among_keys (map (λ l. l.inner) (map link_of (cond b (x ∷ filter (is_nested v) ys) (filter (is_nested v) ys)))) x.desc) h ∙ ap (λ (b : Bool). b || among_keys (inners ys) x.desc) (same_nat x.desc.0))
+      (ap (λ (b : Bool). among_keys (map (λ l. l.inner) (map (link_of r) (cond b (x ∷ filter (is_nested v) ys) (filter (is_nested v) ys)))) x.desc) h ∙ ap (λ (b : Bool). b || among_keys (inners ys) x.desc) (same_nat x.desc.0))
   has_link x (y ∷ ys) (inr m) h = with_one (is_nested v y) (has_link x ys m h) where
-    with_one : (b : Bool) → among_keys (inners ys) x.desc ≡ true → among_keys (map (λ l. l.inner) (map link_of (cond b (y ∷ filter (is_nested v) ys) (filter (is_nested v) ys)))) x.desc ≡ true
+    with_one : (b : Bool) → among_keys (inners ys) x.desc ≡ true → among_keys (map (λ l. l.inner) (map (link_of r) (cond b (y ∷ filter (is_nested v) ys) (filter (is_nested v) ys)))) x.desc ≡ true
     with_one true i = or_right (x.desc.0 == y.desc.0) (among_keys (inners ys) x.desc) i
     with_one false i = i
 

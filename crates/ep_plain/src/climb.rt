@@ -42,6 +42,7 @@ fn climb_to(tables: &Tables, interest: &mut Interest, instance: DescId, step: u6
     requires live { IsSome (number_under tables.now instance) }
     requires linked { AreLinked tables.now interest.old }
     ensures entries { interest.new.entries ≡ map (climbs_to (is_reached_key step tables.now interest.old instance) instance) interest.old.entries }
+    ensures keys { interest.new.keys ≡ interest.old.keys }
     ensures added { interest.new.added ≡ interest.old.added }
 {
     let test = PassesOnIn { event: step };

@@ -4,7 +4,7 @@ ghost use Rattle.ep_machine.specs.Lists.{is_among};
 ghost use Rattle.ep_nest.specs.Chains.{IsAbove};
 ghost use Rattle.ep_nest.specs.Links.{admitted_by, edges, keys};
 
-use ep_base::{DescId, EntryNumber, Errno};
+use ep_base::{DescId, EntryId, Errno};
 use ep_nest::{Graph, Link};
 use linked_list_allocator::LocalHeap;
 use std::alloc::AllocError;
@@ -17,38 +17,38 @@ fn add(
     graph: &mut Graph,
     outer: usize,
     inner: usize,
-    entry: u64,
+    entry: usize,
 ) -> Result<(), Errno> {
     graph.may_add(DescId(outer), DescId(inner))?;
-    assert!(rt; !graph.is_linked(EntryNumber(entry)));
+    assert!(rt; !graph.is_linked(EntryId(entry)));
     graph
-        .link(DescId(outer), DescId(inner), EntryNumber(entry))
+        .link(DescId(outer), DescId(inner), EntryId(entry))
         .expect(rt, "memory for a link");
-    assert!(rt; graph.is_linked(EntryNumber(entry)));
+    assert!(rt; graph.is_linked(EntryId(entry)));
     Ok(())
 }
 
-/// Adds a chain of links, from its outermost instance inward; each entry has the key of its inner instance as its number.
+/// Adds a chain of links, from its outermost instance inward; each entry has the key of its inner instance.
 fn add_chain(rt: &impl Abort, graph: &mut Graph, chain: &[usize]) {
     for pair in chain.windows(2) {
         if let [outer, inner] = pair {
-            assert_eq!(rt; add(rt, graph, *outer, *inner, *inner as u64), Ok(()));
+            assert_eq!(rt; add(rt, graph, *outer, *inner, *inner), Ok(()));
         }
     }
 }
 
 /// A caller whose filter follows a rule: the instances above one through entries past a bound.
-fn above_past<'a>(graph: &'a mut Graph, inner: DescId, bound: u64) -> &'a [DescId]
+fn above_past<'a>(graph: &'a mut Graph, inner: DescId, bound: usize) -> &'a [DescId]
     ensures { (x : ℕ) → (is_among (keys result.now) x ≡ true) ↔ IsAbove (edges (admitted_by (λ e. nat_lt bound e) graph.old)) x inner.0 }
 {
-    graph.above(inner, &|entry: EntryNumber| entry.0 > bound)
+    graph.above(inner, &|entry: EntryId| entry.0 > bound)
 }
 
 /// Whether exactly these instances are above one, each once, through the entries of a list.
-fn is_above(graph: &mut Graph, inner: usize, entries: &[u64], wanted: &[usize]) -> bool {
+fn is_above(graph: &mut Graph, inner: usize, entries: &[usize], wanted: &[usize]) -> bool {
     let found = graph.above(
         DescId(inner),
-        &|entry: EntryNumber| entries.contains(&entry.0),
+        &|entry: EntryId| entries.contains(&entry.0),
     );
     found.len() == wanted.len() && wanted.iter().all(|key| found.contains(&DescId(*key)))
 }
@@ -64,8 +64,8 @@ fn nests_five_deep(rt: HostRuntime) -> Result<(), Fail> {
     assert_eq!(rt; add(&rt, &mut graph, 9, 9, 20), Err(Errno::Eloop));
     assert_eq!(rt; add(&rt, &mut graph, 4, 3, 20), Err(Errno::Eloop));
     // The link of 5 and 6 goes, and both ends have room again.
-    graph.unlink(EntryNumber(6));
-    assert!(rt; !graph.is_linked(EntryNumber(6)));
+    graph.unlink(EntryId(6));
+    assert!(rt; !graph.is_linked(EntryId(6)));
     assert_eq!(rt; add(&rt, &mut graph, 8, 3, 20), Ok(()));
     assert_eq!(rt; add(&rt, &mut graph, 7, 9, 21), Ok(()));
     Ok(())
@@ -101,7 +101,7 @@ fn finds_above(rt: HostRuntime) {
     assert!(rt; is_above(&mut graph, 2, &[1, 2, 3, 4], &[]));
     assert!(rt; is_above(&mut graph, 99, &[1, 2, 3, 4], &[]));
     assert_eq!(rt; above_past(&mut graph, DescId(5), 1).len(), 2);
-    graph.unlink(EntryNumber(2));
+    graph.unlink(EntryId(2));
     assert!(rt; is_above(&mut graph, 5, &[1, 2, 3, 4], &[2, 3]));
 }
 
@@ -116,12 +116,12 @@ fn purges_an_instance(rt: HostRuntime) {
         Link {
             outer: DescId(3),
             inner: DescId(4),
-            entry: EntryNumber(4),
+            entry: EntryId(4),
         },
         Link {
             outer: DescId(6),
             inner: DescId(7),
-            entry: EntryNumber(7),
+            entry: EntryId(7),
         },
     ];
     assert!(rt; graph.links() == left.as_slice());
@@ -132,11 +132,11 @@ fn purges_an_instance(rt: HostRuntime) {
 fn is_refused(rt: &(impl Abort + AllocGlobal), bytes: usize) -> Result<bool, AllocError> {
     let heap = LocalHeap::new(rt.alloc(), bytes)?;
     let mut graph = Graph::new(&heap);
-    let is_refused = graph.link(DescId(1), DescId(2), EntryNumber(3)).is_err();
-    assert!(rt; graph.is_linked(EntryNumber(3)) != is_refused);
+    let is_refused = graph.link(DescId(1), DescId(2), EntryId(3)).is_err();
+    assert!(rt; graph.is_linked(EntryId(3)) != is_refused);
     assert!(rt;
         graph
-            .above(DescId(2), &|_entry: EntryNumber| true)
+            .above(DescId(2), &|_entry: EntryId| true)
             .is_empty()
             == is_refused
     );

@@ -1,15 +1,16 @@
 use Rattle.std.proofs.Common.{◌∙◌, ap}
-use Rattle.ep_base.specs.declared.ids.EntryNumber.{EntryNumber}
-use Rattle.ep_machine.specs.Lists.{is_among}
-use Rattle.ep_nest.specs.Links.{entries, without}
+use Rattle.ep_nest.specs.Links.{without}
 use Rattle.ep_nest.specs.declared.link.Link.{Link}
-use Rattle.ep_calls.proofs.LinkLemmas.{unlinked}
+use Rattle.ep_calls.proofs.LinkLemmas.{fresh_link, unlinked}
 use Rattle.ep_calls.proofs.control.add_linked.Goals as goal
+
+pub link-requires-clause-fresh : goal.link-requires-clause-fresh
+link-requires-clause-fresh c = fresh_link c.args.interest.now c.next_key-key.result c.next_key-key.ensures.vacant c.args.graph.now c.requires.named
 
 pub returns-in-Err-clause-err : goal.returns-in-Err-clause-err
 returns-in-Err-clause-err c =
     let graph = c.args.graph.now in
-    let name : EntryNumber = record { 0 = c.in_ok-number.number } in
-    let l : Link = record { outer = c.args.named.instance; inner = c.args.named.desc; entry = name } in
-    let fresh = ap (λ k. is_among (entries graph) k) c.in_ok-number.ensures.ok ∙ c.requires.fresh in
-    (c.in-Err.ensures.err, c.unlink.ensures ∙ (ap (without name.0) c.in_ok-link.ensures.linked ∙ unlinked graph l fresh))
+    let key = c.next_key-key.result in
+    let l : Link = record { outer = c.args.named.instance; inner = c.args.named.desc; entry = key } in
+    let fresh = fresh_link c.args.interest.now key c.next_key-key.ensures.vacant graph c.requires.named in
+    (c.in-Err.ensures.err, c.unlink.ensures ∙ (ap (without key.0) c.in_ok-link.ensures.linked ∙ unlinked graph l fresh))

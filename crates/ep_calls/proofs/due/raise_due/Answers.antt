@@ -21,7 +21,7 @@ pub loop-desc-preserved : goal.loop-desc-preserved
 loop-desc-preserved c =
     let P : List DescId → Type 0 = λ left. Raises c.args.tables.now c.args.since c.args.now c.args.step c.args.interest.now left c.loop-desc.interest in
     raises_more c.args.tables.now c.args.since c.args.now c.args.step c.args.interest.now c.loop-desc.interest c.raise_at.new.interest c.in-Some.desc c.next.new.self (subst P c.in-Some.ensures.steps c.loop-desc.invariant)
-    (c.raise_at.ensures.entries ∙ ap (λ (r : Raised). map (raised_on c.in-Some.desc r.first c.args.step) c.loop-desc.interest.entries) c.advance.ensures) c.raise_at.ensures.added
+    (c.raise_at.ensures.entries ∙ ap (λ (r : Raised). map (raised_on c.in-Some.desc r.first c.args.step) c.loop-desc.interest.entries) c.advance.ensures) c.raise_at.ensures.keys c.raise_at.ensures.added
 
 pub returns-clause-entries : goal.returns-clause-entries
 returns-clause-entries c =

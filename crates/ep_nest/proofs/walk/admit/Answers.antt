@@ -4,7 +4,7 @@ use Rattle.ep_nest.proofs.AdmitLemmas.{also, asked_more, kept_more}
 use Rattle.ep_nest.proofs.PlaceLemmas.{nowhere}
 use Rattle.ep_nest.proofs.walk.admit.Goals as goal
 use Rattle.ep_nest.proofs.walk.admit.Goals.{then-passes, else-passes}
-use Rattle.ep_base.specs.declared.ids.EntryNumber.{EntryNumber}
+use Rattle.ep_base.specs.declared.ids.EntryId.{EntryId}
 use Rattle.ep_nest.specs.declared.link.Link.{Link}
 
 pub loop-link-init : goal.loop-link-init
@@ -22,7 +22,7 @@ loop-link-preserved g c =
     let at = get_or ls i nowhere in
     let b = c.passes.result in
     let before = c.loop-link.invariant.asked in
-    let P : EntryNumber → Bool → Type 0 = λ e b. g.F.Fn.post c.args.passes.now (e, tt) b in
+    let P : EntryId → Bool → Type 0 = λ e b. g.F.Fn.post c.args.passes.now (e, tt) b in
     let rule = also at.entry.0 b before.0 in
     let asked = asked_more P ls c.requires.distinct i nowhere b before.0 lt c.passes.ensures before.1 in
     let kept = kept_more P ls c.requires.distinct i nowhere b before.0 lt in

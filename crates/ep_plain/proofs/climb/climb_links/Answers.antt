@@ -11,7 +11,7 @@ use Rattle.ep_plain.specs.Climb.{climbs_to}
 use Rattle.ep_calls.specs.Readiness.{watches_of}
 use Rattle.ep_calls.specs.Stands.{IsLinked, number_at, watch_at}
 use Rattle.ep_plain.proofs.ClimbLemmas.{LeadsToLive, climbed_is, climbs_none, climbs_on, inners, inners_of, linked_climbs, linked_settled, links_live, map_climbs_more, reached_fresh, fresh_after}
-use Rattle.ep_calls.proofs.GraphLemmas.{links_mapped}
+use Rattle.ep_calls.proofs.GraphLemmas.{links_by_keys, links_mapped}
 use Rattle.ep_plain.proofs.climb.climb_links.Goals as goal
 
 abbrev nowhere : Link
@@ -22,14 +22,15 @@ loop-link-init c =
     let v = c.args.tables.now in
     record {
       entries = sym (climbs_none (reached_now v.files c.args.step (watches_of v c.args.interest.now)) v.keys c.args.interest.now.entries);
+      keys = refl;
       added = refl;
     }
 
 pub climb_to-requires-clause-live : goal.climb_to-requires-clause-live
 climb_to-requires-clause-live c =
     let v = c.args.tables.now in
-    All-get_or (LeadsToLive v) c.links-link-items.result.now c.loop-link.link-index nowhere c.loop-link-test.true
-    (subst (All (LeadsToLive v)) (sym (c.links-link-items.ensures ∙ c.requires.nested)) (links_live v c.args.interest.now.entries c.requires.linked))
+    All-get_or (LeadsToLive v c.args.interest.now) c.links-link-items.result.now c.loop-link.link-index nowhere c.loop-link-test.true
+    (subst (All (LeadsToLive v c.args.interest.now)) (sym (c.links-link-items.ensures ∙ c.requires.nested)) (links_live v c.args.interest.now c.args.interest.now.entries c.requires.linked))
 
 pub climb_to-requires-clause-linked : goal.climb_to-requires-clause-linked
 climb_to-requires-clause-linked c =
@@ -54,7 +55,7 @@ loop-link-preserved c =
     ∙ (ap (λ (r : ℕ → Bool). map (climbs_to (r (number_at v.keys inner)) inner) (map (climbs_on reached v.keys ds) old.entries)) (reached_fresh v.keys v.files n (fresh_after reached v.keys ds) old.entries)
     ∙ (map_climbs_more reached v.keys ds inner old.entries
     ∙ ap (λ (ks : List DescId). map (climbs_on reached v.keys ks) old.entries) (sym (map_more (λ (l : Link). l.inner) ls i nowhere c.loop-link-test.true))))) in
-    record { entries = entries; added = c.climb_to.ensures.added ∙ c.loop-link.invariant.added }
+    record { entries = entries; keys = c.climb_to.ensures.keys ∙ c.loop-link.invariant.keys; added = c.climb_to.ensures.added ∙ c.loop-link.invariant.added }
 
 pub returns-clause-climbs : goal.returns-clause-climbs
 returns-clause-climbs c =
@@ -64,12 +65,12 @@ returns-clause-climbs c =
     let ls = c.links-link-items.result.now in
     let i = c.loop-link.link-index in
     let reached = reached_now v.files n (watches_of v old) in
-    let all : inners_of (take i ls) ≡ inners v old.entries = ap inners_of (take_all i ls (omega (arith, c.loop-link-test.false)) ∙ (c.links-link-items.ensures ∙ c.requires.nested)) in
-    let entries : c.settle.new.self.entries ≡ map settled (map (climbs_on reached v.keys (inners v old.entries)) old.entries) =
+    let all : inners_of (take i ls) ≡ inners v old old.entries = ap inners_of (take_all i ls (omega (arith, c.loop-link-test.false)) ∙ (c.links-link-items.ensures ∙ c.requires.nested)) in
+    let entries : c.settle.new.self.entries ≡ map settled (map (climbs_on reached v.keys (inners v old old.entries)) old.entries) =
     c.settle.ensures.entries ∙ ap (λ (xs : List Entry). map settled xs) (c.loop-link.invariant.entries ∙ ap (λ (ks : List DescId). map (climbs_on reached v.keys ks) old.entries) all) in
     record {
-      watches = ap (λ (xs : List Entry). map (watch_at v.keys) xs) entries ∙ climbed_is v n old;
-      linked = subst (All (IsLinked v.keys)) (sym entries) (linked_settled v.keys (map (climbs_on reached v.keys (inners v old.entries)) old.entries) (linked_climbs reached v.keys (inners v old.entries) old.entries c.requires.linked));
+      watches = ap (λ (xs : List Entry). map (watch_at v.keys) xs) entries ∙ climbed_is v old n old;
+      linked = subst (All (IsLinked v.keys)) (sym entries) (linked_settled v.keys (map (climbs_on reached v.keys (inners v old old.entries)) old.entries) (linked_climbs reached v.keys (inners v old old.entries) old.entries c.requires.linked));
       added = c.settle.ensures.added ∙ c.loop-link.invariant.added;
     }
 
@@ -78,7 +79,9 @@ returns-clause-nested c =
     let v = c.args.tables.now in
     let old = c.args.interest.now in
     let on = climbs_on (reached_now v.files c.args.step (watches_of v old)) v.keys (inners_of (take c.loop-link.link-index c.links-link-items.result.now)) in
+    let new = c.settle.new.self in
     c.requires.nested
-    ∙ sym (ap (λ (xs : List Entry). map link_of (filter (is_nested v) xs)) (c.settle.ensures.entries ∙ ap (λ (xs : List Entry). map settled xs) c.loop-link.invariant.entries)
-    ∙ (links_mapped (is_nested v) settled (λ x. refl) (λ x. refl) (map on old.entries)
-    ∙ links_mapped (is_nested v) on (λ x. refl) (λ x. refl) old.entries))
+    ∙ sym (links_by_keys old new (is_nested v) new.entries (c.settle.ensures.keys ∙ c.loop-link.invariant.keys)
+    ∙ (ap (λ (xs : List Entry). map (link_of old) (filter (is_nested v) xs)) (c.settle.ensures.entries ∙ ap (λ (xs : List Entry). map settled xs) c.loop-link.invariant.entries)
+    ∙ (links_mapped old (is_nested v) settled (λ x. refl) (λ x. refl) (map on old.entries)
+    ∙ links_mapped old (is_nested v) on (λ x. refl) (λ x. refl) old.entries)))

@@ -7,5 +7,6 @@ use Rattle.ep_plain.proofs.climb.climb_links.Given as goal
 abbrev pub invariant-loop-link : goal.invariant-loop-link
 invariant-loop-link l = record {
   entries : l.interest.entries ≡ map (climbs_on (reached_now l.tables.files l.step (watches_of l.tables l.fn.interest)) l.tables.keys (inners_of (take l.link-index l.link-items))) l.fn.interest.entries;
+  keys : l.interest.keys ≡ l.fn.interest.keys;
   added : l.interest.added ≡ l.fn.interest.added;
 }
