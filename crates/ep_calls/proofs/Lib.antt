@@ -36,3 +36,4 @@ pub mod ControlLemmas
 pub mod KeepsLemmas
 pub mod StepLemmas
 pub mod KeptLemmas
+pub mod IdLemmas

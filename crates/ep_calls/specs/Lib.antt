@@ -19,3 +19,4 @@ pub mod Reports
 pub mod Burial
 pub mod Climb
 pub mod TableCall
+pub mod Ids

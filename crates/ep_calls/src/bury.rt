@@ -2,6 +2,7 @@
 ghost use Rattle.std.specs.Prelude.{◌≡◌, []};
 ghost use Rattle.ep_calls.specs.Burial.{Buries, Burial};
 ghost use Rattle.ep_calls.specs.Climb.{KeepsLinks};
+ghost use Rattle.ep_calls.specs.Ids.{KeepsIds};
 ghost use Rattle.ep_calls.specs.Stands.{AreLinked};
 
 use crate::Parts;
@@ -15,6 +16,7 @@ fn end_each(tables: &mut Tables, interest: &mut Interest, graph: &mut Graph, ste
     requires { AreLinked tables.old interest.old }
     ensures buries { Buries step tables.old interest.old tables.new interest.new }
     ensures none { tables.new.dying ≡ [] }
+    ensures ids { KeepsIds interest.old interest.new }
     ensures nested { KeepsLinks interest.old graph.old interest.new graph.new }
 {
     loop {
@@ -39,6 +41,7 @@ impl Parts {
     /// Ends each description that no descriptor names any more, and takes its registrations and those in it away.
     pub fn bury(&mut self, step: u64)
         ensures burial { Burial step self.old.tables self.old.interest self.new.tables self.new.interest }
+        ensures ids { KeepsIds self.old.interest self.new.interest }
         ensures parked { self.new.parked ≡ self.old.parked }
         ensures clock { self.new.clock ≡ self.old.clock }
     {

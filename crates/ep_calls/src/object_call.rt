@@ -119,6 +119,7 @@ impl Parts {
         kept: bool,
     ) -> Result<Outcome, AllocError>
         requires { fd_of call.now ≡ Some fd }
+        ensures interest { self.new.interest ≡ self.old.interest }
         ensures ok { IfOk result (λ outcome. (n caller : ℕ) → DoesCall n caller pid.0 call.now outcome self.old self.new) }
         ensures kept { IfOk result (λ outcome. IsKept kept outcome) }
         ensures err { OnErr result (self.new ≡ self.old) }

@@ -1,5 +1,5 @@
 //! Parked waits.
-ghost use Rattle.std.specs.Prelude.{◌≡◌, ◌++◌, ◌∷◌, [], IfOk, IsSome, OnErr, OnOk, Some, false, true};
+ghost use Rattle.std.specs.Prelude.{◌≡◌, ◌++◌, ◌∷◌, [], IfOk, IsSome, OnErr, OnOk, Some, false, map, true};
 ghost use Rattle.std.specs.List.{find, list_any};
 ghost use Rattle.ep_base.specs.declared.call.Event.TheVariants.{Resume};
 ghost use Rattle.ep_machine.specs.Lists.{is_among};
@@ -7,7 +7,7 @@ ghost use Rattle.ep_park.specs.Waiters.{is_caller, parked, without};
 ghost use Rattle.ep_calls.specs.Does.{DoesEvent, DoesResume};
 ghost use Rattle.ep_calls.specs.Kept.{IsKept};
 ghost use Rattle.ep_calls.specs.Stands.{AreHeld, ArePlaced};
-ghost use Rattle.ep_calls.specs.Wait.{AreKeyed};
+ghost use Rattle.ep_calls.specs.Wait.{AreKeyed, with_report};
 ghost use Rattle.ep_table.specs.Value.{number_of, number_under};
 
 use crate::raising::Raising;
@@ -81,6 +81,8 @@ impl Parts {
         requires parked { find (is_caller caller.0) self.old.parked ≡ Some (parked caller.0 waiter) }
         requires marked { waiter.marked ≡ true }
         requires keyed { AreKeyed self.old.tables self.old.clock self.old.interest chosen.now }
+        ensures ids { self.new.interest.keys ≡ self.old.interest.keys }
+        ensures entries { IfOk result (λ outcome. self.new.interest.entries ≡ map (with_report step outcome.picked) self.old.interest.entries) }
         ensures ok { IfOk result (λ outcome. DoesResume step caller.0 waiter chosen.now outcome self.old self.new) }
         ensures kept { IfOk result (λ outcome. IsKept kept outcome) }
         ensures err { OnErr result (self.new ≡ self.old) }

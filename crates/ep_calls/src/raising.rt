@@ -89,7 +89,8 @@ fn raise_object(tables: &Tables, interest: &mut Interest, desc: DescId, raised: 
 fn raise_all(tables: &Tables, interest: &mut Interest, raising: Raising, now: u64, step: u64)
     requires raising { IsRaising raising tables.now }
     requires now { now ≤ last_moment }
-    ensures { Stirs raising tables.now now step interest.old interest.new }
+    ensures stirs { Stirs raising tables.now now step interest.old interest.new }
+    ensures keys { interest.new.keys ≡ interest.old.keys }
 {
     match raising {
         Raising::Nowhere => {}
@@ -104,6 +105,7 @@ impl Parts {
     pub fn raise(&mut self, step: u64, raising: Raising)
         requires { IsRaising raising self.old.tables }
         ensures stirs { Stirs raising self.old.tables self.old.clock step self.old.interest self.new.interest }
+        ensures ids { self.new.interest.keys ≡ self.old.interest.keys }
         ensures others { self.new ≡ record self.old { interest = self.new.interest } }
     {
         self.tables.known();

@@ -87,6 +87,7 @@ pub fn report(
     kept: bool,
 ) -> Result<Outcome, AllocError>
     requires keyed { All (λ x. number_of_entry interest.old x.id ≡ Some x.entry.number) chosen.now }
+    ensures keys { interest.new.keys ≡ interest.old.keys }
     ensures ok { IfOk result (λ outcome. Reports interest.old interest.new step chosen.now outcome.answer outcome.picked) }
     ensures kept { IfOk result (λ outcome. IsKept kept outcome) }
     ensures raising { IfOk result (λ outcome. outcome.raising ≡ Nowhere) }

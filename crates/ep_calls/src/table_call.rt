@@ -103,6 +103,7 @@ impl Parts {
     pub fn table_call(&mut self, pid: Pid, call: &Call) -> Result<Outcome, AllocError>
         requires call { IsTableCall call.now }
         requires process { is_some (table_of self.old.tables.files pid.0) ≡ true }
+        ensures interest { self.new.interest ≡ self.old.interest }
         ensures ok { IfOk result (λ outcome. (n caller : ℕ) → DoesCall n caller pid.0 call.now outcome self.old self.new) }
         ensures err { OnErr result (self.new ≡ self.old) }
     {

@@ -1,12 +1,12 @@
 //! epoll_wait.
-ghost use Rattle.std.specs.Prelude.{◌≡◌, ◌≤◌, IfOk, MatchResult, OnErr, Some, false};
+ghost use Rattle.std.specs.Prelude.{◌≡◌, ◌≤◌, IfOk, MatchResult, OnErr, Some, false, map};
 ghost use Rattle.std.specs.List.{list_any};
 ghost use Rattle.ep_machine.specs.Effect.{first};
 ghost use Rattle.ep_machine.specs.Timer.{last_moment};
 ghost use Rattle.ep_park.specs.Waiters.{is_caller};
 ghost use Rattle.ep_calls.specs.Does.{DoesCall, DoesWait};
 ghost use Rattle.ep_calls.specs.Kept.{IsKept};
-ghost use Rattle.ep_calls.specs.Wait.{AreKeyed, Waits, deadline_of, wait_call, wait_tests};
+ghost use Rattle.ep_calls.specs.Wait.{AreKeyed, Waits, deadline_of, wait_call, wait_tests, with_report};
 
 use crate::parking::park;
 use crate::raising::Raising;
@@ -80,6 +80,8 @@ impl Parts {
         requires free { list_any (is_caller caller.0) self.old.parked ≡ false }
         requires waits { Waits self.old.tables args instance }
         requires keyed { AreKeyed self.old.tables self.old.clock self.old.interest chosen.now }
+        ensures ids { self.new.interest.keys ≡ self.old.interest.keys }
+        ensures entries { IfOk result (λ outcome. self.new.interest.entries ≡ map (with_report step outcome.picked) self.old.interest.entries) }
         ensures ok { IfOk result (λ outcome. DoesWait step caller.0 args instance chosen.now outcome self.old self.new) }
         ensures kept { IfOk result (λ outcome. IsKept args.kept outcome) }
         ensures err { OnErr result (self.new ≡ self.old) }

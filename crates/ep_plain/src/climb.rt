@@ -37,6 +37,16 @@ impl EntryTest for PassesOnIn {
     }
 }
 
+/// Whether IN reaches an instance from below in this step. The time grows with the registrations of it and of those below.
+pub fn is_reached(tables: &Tables, interest: &Interest, instance: DescId, step: u64) -> bool
+    requires live { IsSome (number_under tables.now instance) }
+    requires linked { AreLinked tables.now interest.now }
+    ensures { result ≡ is_reached_key step tables.now interest.now instance }
+{
+    let test = PassesOnIn { event: step };
+    any_below(tables, interest, instance, LONGEST_CHAIN, &test)
+}
+
 /// Makes the registrations on an instance fresh where IN reaches it in this step.
 fn climb_to(tables: &Tables, interest: &mut Interest, instance: DescId, step: u64)
     requires live { IsSome (number_under tables.now instance) }
@@ -45,8 +55,7 @@ fn climb_to(tables: &Tables, interest: &mut Interest, instance: DescId, step: u6
     ensures keys { interest.new.keys ≡ interest.old.keys }
     ensures added { interest.new.added ≡ interest.old.added }
 {
-    let test = PassesOnIn { event: step };
-    if any_below(tables, interest, instance, LONGEST_CHAIN, &test) {
+    if is_reached(tables, interest, instance, step) {
         interest.freshen(instance, Mask::IN);
     }
 }
@@ -65,7 +74,7 @@ fn climb_links(tables: &Tables, interest: &mut Interest, graph: &Graph, step: u6
 }
 
 /// Makes fresh what watches an instance that IN reaches, and forgets what was passed on in this step.
-pub fn climb(parts: &mut Parts, step: u64)
+pub fn climb_instances(parts: &mut Parts, step: u64)
     ensures climbs { Climbs step parts.old.tables parts.old.interest parts.new.interest }
     ensures others { parts.new ≡ record parts.old { interest = parts.new.interest } }
 {

@@ -5,8 +5,8 @@ ghost use Rattle.ep_calls.specs.Book.{state_of};
 ghost use Rattle.ep_calls.specs.KeptRecords.{Gains, HasRecord};
 
 use crate::act::act;
-use crate::climb::climb;
-use crate::mark::mark;
+use crate::climb::climb_instances;
+use crate::mark::mark_waiters;
 use ep_base::{Answer, CallerId, Errno, Event, Limits, Record};
 use ep_calls::{Kernel, Outcome, Parts, Spare};
 use std::alloc::{AllocError, Global};
@@ -73,8 +73,8 @@ impl PlainKernel {
         self.parts.raise(step, raising);
         self.parts.bury(step);
         self.parts.known();
-        climb(&mut self.parts, step);
-        mark(&mut self.parts);
+        climb_instances(&mut self.parts, step);
+        mark_waiters(&mut self.parts);
         self.history.push_reserved(Record {
             caller,
             event,

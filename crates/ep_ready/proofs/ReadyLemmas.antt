@@ -1,7 +1,7 @@
 -- What rings, the places of registrations and the walk mean for the lists that contracts see.
 use Rattle.std.proofs.Common.{◌≡◌, ◌≢◌, ℕ, zero, suc, ◌+◌, ◌<◌, ◌≤◌, Bool, true, false, not, eqb, List, [], ◌∷◌, ◌++◌, length, get_or, set, filter, Option, Some, None, IsSome, is_some, refl, sym, ap, ◌∙◌, subst, inl, inr, arith, map, if◌then◌else◌}
 use Rattle.std.proofs.lemmas.Bool.{cases_eq, cases_lt, cases_Bool}
-use Rattle.std.proofs.lemmas.List.{get_or_past, get_or_read, get_or-set_same, get_or-set_other, map-set, map-append, length-set}
+use Rattle.std.proofs.lemmas.List.{get_or_past, get_or_read, get_or-set_same, get_or-set_other, map-set, length-map, map-append, length-set}
 use Rattle.std.specs.Map.Iter.{TakesFirst}
 use Rattle.ep_rings.specs.declared.rings.PlaceId.{PlaceId}
 use Rattle.ep_base.specs.declared.ids.EntryId.{EntryId}
@@ -68,6 +68,10 @@ module _ (rs : List ℕ) (v : Rings) (ps : List (Option PlaceId)) where
             let u : eqb (key x) e ≡ false = grind (arith) in u ∙ sym t
       ]
 
+      owned_by : (o : Option PlaceId) (i : ℕ) → instance_of v.places o ≡ Some i → (k : ℕ) × (owner_of (place_at v k) ≡ Some i)
+      owned_by None i h = absurd (cc)
+      owned_by (Some p) i h = (p.0, h)
+
       pub known_ready : are_distinct rs ≡ true → IsSound (value_of rs v ps)
       known_ready walk = record {
         once = λ i. rw (list_read i) (distinct_map key (list_at v i) (λ x y a b. same_key (key x) x i y (at_place i x a) b) (st.once i));
@@ -75,6 +79,9 @@ module _ (rs : List ℕ) (v : Rings) (ps : List (Option PlaceId)) where
             let w = mapped_where key (list_at v i) id.0 (rw (list_read i) at h) in
             let p : id_at_key ps id.0 ≡ Some (record { 0 = w.0 }) = ap (id_at_key ps) (sym w.2) ∙ at_place i w.0 w.1 in
             inst_read id.0 ∙ (ap (instance_of v.places) p ∙ st.own i w.0 w.1);
+        within = λ id i h.
+            let o = owned_by (id_at_key ps id.0) i (sym (inst_read id.0) ∙ h) in
+            omega (arith, st.within o.0 i o.1, length-map v.lists (map key));
         walk = walk;
       }
 

@@ -1,5 +1,5 @@
 -- What contracts see of the ready lists.
-use Rattle.std.specs.Prelude.{◌≡◌, ◌≢◌, ℕ, Bool, true, false, not, ◌==◌, List, [], ◌∷◌, ◌++◌, Option, Some, None, slice_index_or, slice_set, filter, if◌then◌else◌, map}
+use Rattle.std.specs.Prelude.{◌≡◌, ◌≢◌, ◌<◌, ℕ, Bool, true, false, not, ◌==◌, List, [], ◌∷◌, ◌++◌, Option, Some, None, slice_index_or, slice_set, filter, if◌then◌else◌, length, map}
 use Rattle.ep_base.specs.declared.ids.EntryId.{EntryId}
 use Rattle.ep_machine.specs.Lists.{are_distinct, is_among}
 use Rattle.ep_rings.specs.Rings.{rotation_of}
@@ -89,10 +89,12 @@ pub record LosesPlace (old new : Lists) (entry : EntryId) : Type 0 where
   pub lists : (i : ℕ) → list_at new i ≡ filter (λ x. not (x == entry.0)) (list_at old i)
   pub reached : new.reached ≡ old.reached
 
--- no list has a registration twice, what stands on a list has a place of its instance, and no instance is reached twice
+-- no list has a registration twice, what stands on a list has a place of its instance, the instance of a place has a list, and
+-- no instance is reached twice
 pub record IsSound (l : Lists) : Type 0 where
   pub once : (i : ℕ) → are_distinct (list_at l i) ≡ true
   pub own : (i : ℕ) (id : EntryId) → is_among (list_at l i) id.0 ≡ true → instance_at l id ≡ Some i
+  pub within : (id : EntryId) (i : ℕ) → instance_at l id ≡ Some i → i < length l.lists
   pub walk : are_distinct l.reached ≡ true
 
 -- some registration has a place of the instance

@@ -61,8 +61,8 @@ impl<A: Allocator> ReadyLists<A> {
         }
     }
 
-    /// What holds of all ready lists: none has a registration twice, what stands on one has a place of its instance, and no instance
-    /// is reached twice.
+    /// What holds of all ready lists: none has a registration twice, what stands on one has a place of its instance, the
+    /// instance of a place has a list, and no instance is reached twice.
     pub fn known(&self)
         ensures { IsSound self.now }
     {

@@ -1,5 +1,5 @@
 -- What stands on a list stands there once, and is a place of its owner.
-use Rattle.std.proofs.Common.{◌≡◌, ◌≢◌, ℕ, suc, ◌<◌, true, false, List, [], ◌∷◌, length, get_or, Option, Some, None, refl, sym, ap, ◌∙◌, inl, inr, arith}
+use Rattle.std.proofs.Common.{◌≡◌, ◌≢◌, ℕ, suc, ◌<◌, Bool, true, false, List, [], ◌∷◌, length, get_or, Option, Some, None, refl, sym, ap, ◌∙◌, inl, inr, arith}
 use Rattle.std.proofs.lemmas.Bool.{cases_eq, cases_lt}
 use Rattle.std.proofs.lemmas.List.{get_or_past}
 use Rattle.ep_rings.specs.declared.node.Role.{Role}
@@ -33,6 +33,11 @@ owner_of_listed (Some (Head j)) i h = absurd (cc)
 owner_of_listed (Some (Member j e false)) i h = absurd (cc)
 owner_of_listed (Some (Member j e true)) i h = h
 
+member_of : (o : Option Role) (i : ℕ) → owner_of (place_in o) ≡ Some i → (e : ℕ) × (on : Bool) × (o ≡ Some (Member i e on))
+member_of None i h = absurd (cc)
+member_of (Some (Head j)) i h = absurd (cc)
+member_of (Some (Member j e on)) i h = let is : j ≡ i = cc in (e, on, ap (λ (k : ℕ). Some (Member k e on)) is)
+
 pub standing_known : (s0 : List (Option Node)) (rings : List Ring) (xss : List (List ℕ)) → RepresentsLists s0 rings xss → IsSound (value_from (roles_of s0) xss)
 standing_known s0 rings xss s = record {
   once = λ i. elim (cases_lt i (length rings)) [
@@ -45,4 +50,7 @@ standing_known s0 rings xss s = record {
         ap owner_of (place_read (roles_of s0) k) ∙ owner_of_listed _ i (ap (λ z. listed_on (role_at (roles_of s0) z)) (sym w.2) ∙ s.members i w.0 lt w.1)
     | inr g ↦ absurd (let none : false ≡ true = rw (get_or_past xss i [] (omega (arith, s.same))) at h in cc)
   ];
+  within = λ k i h.
+      let m = member_of (role_at (roles_of s0) k) i (sym (ap owner_of (place_read (roles_of s0) k)) ∙ h) in
+      omega (arith, s.same, s.owned k i m.0 m.1 m.2);
 }

@@ -1,5 +1,5 @@
 -- What contracts see of the rings: one list of places for each owner.
-use Rattle.std.specs.Prelude.{◌≡◌, ◌≢◌, ℕ, Bool, true, false, not, ◌==◌, List, [], ◌∷◌, ◌++◌, Option, Some, None, map, slice_index_or, slice_set, filter, if◌then◌else◌}
+use Rattle.std.specs.Prelude.{◌≡◌, ◌≢◌, ◌<◌, ℕ, Bool, true, false, not, ◌==◌, List, [], ◌∷◌, ◌++◌, Option, Some, None, length, map, slice_index_or, slice_set, filter, if◌then◌else◌}
 use Rattle.ep_base.specs.declared.ids.EntryId.{EntryId}
 use Rattle.ep_machine.specs.Lists.{are_distinct, is_among}
 use Rattle.ep_rings.specs.declared.rings.PlaceId.{PlaceId}
@@ -107,7 +107,8 @@ pub record GainsPlace (old new : Rings) (key owner entry : ℕ) : Type 0 where
   pub others : (k : ℕ) → k ≢ key → place_at new k ≡ place_at old k
   pub lists : (i : ℕ) → list_at new i ≡ list_at old i
 
--- no list has a place twice, and what stands on a list is a place of its owner
+-- no list has a place twice, what stands on a list is a place of its owner, and the owner of a place has a list
 pub record IsSound (v : Rings) : Type 0 where
   pub once : (i : ℕ) → are_distinct (list_at v i) ≡ true
   pub own : (i k : ℕ) → is_among (list_at v i) k ≡ true → owner_of (place_at v k) ≡ Some i
+  pub within : (k i : ℕ) → owner_of (place_at v k) ≡ Some i → i < length v.lists

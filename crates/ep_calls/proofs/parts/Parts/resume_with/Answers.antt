@@ -1,4 +1,4 @@
-use Rattle.std.proofs.Common.{◌≡◌, ◌∙◌, ◌==◌, ◌⊎◌, Some, false, true, All, List, ap, inl, inr, length, map, not, refl, subst, sym}
+use Rattle.std.proofs.Common.{◌≡◌, ◌∙◌, ◌==◌, ◌⊎◌, Some, false, true, All, List, ap, inl, inr, length, map, not, refl, subst, sym, ℕ}
 use Rattle.std.specs.List.{find}
 use Rattle.std.proofs.lemmas.List.Elements.{All-filter}
 use Rattle.ep_base.specs.declared.answer.Answer.TheVariants.{Still}
@@ -11,12 +11,13 @@ use Rattle.ep_view.proofs.WaiterLemmas.{unmarked_part}
 use Rattle.ep_park.specs.Waiters.{is_caller, parked}
 use Rattle.ep_calls.specs.Parts.{Parts}
 use Rattle.ep_calls.specs.Stands.{IsPlaced}
-use Rattle.ep_calls.specs.Wait.{AreKeyed, IsPick}
+use Rattle.ep_calls.specs.Wait.{AreKeyed, IsPick, with_report}
 use Rattle.ep_calls.proofs.OutcomeLemmas.{goes_told}
 use Rattle.ep_calls.proofs.HoldLemmas.{held_same, place, placed_same}
 use Rattle.ep_calls.proofs.ParkLemmas.{found_all}
 use Rattle.ep_calls.proofs.ResumeLemmas.{goes_left, goes_unmarked}
 use Rattle.ep_calls.proofs.WaitLemmas.{coherent_parked, coherent_reported, resume_does}
+use Rattle.ep_calls.proofs.PickLemmas.{noted_none}
 use Rattle.ep_calls.proofs.parts.Parts.resume_with.Goals as goal
 use Rattle.ep_calls.proofs.parts.Parts.resume_with.Goals.{else-is_empty-via-then-is_empty+else-not-is_due, else-is_empty-via-else-is_empty}
 
@@ -82,3 +83,8 @@ returns-clause-ok c =
     ] in
     rw (← c.self.view_is) (resume_does (IsPick p.tables w.instance (number_in w.max) chosen) c.args.step caller o p new c.in_ok-outcome.ensures.raising e.files e.keys e.limits (λ s at sound quiet legal stands pick.
     goes_left p.graph p.tables p.interest p.parked p.clock caller p.tables.limits s stands w is c.args.step chosen at legal placed keyed pick c.requires.marked new.interest o.answer o.picked new.tables new.parked told why e.files e.keys e.left))
+
+pub returns-then-not-is_due-clause-entries : goal.returns-then-not-is_due-clause-entries
+returns-then-not-is_due-clause-entries c =
+    let xs = c.self.inside.interest.entries in
+    rw (← c.self.view_is) (sym (noted_none c.args.step xs) ∙ ap (λ (ks : List ℕ). map (with_report c.args.step ks) xs) (sym c.settled.ensures.picked))

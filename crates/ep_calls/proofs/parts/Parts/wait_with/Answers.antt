@@ -1,4 +1,4 @@
-use Rattle.std.proofs.Common.{◌≡◌, ◌∙◌, ◌==◌, ◌⊎◌, false, true, SFits, ap, inl, inr, length, of_z, pos, refl, rules, subst, sym, to_z, w32, w64}
+use Rattle.std.proofs.Common.{◌≡◌, ◌∙◌, ◌==◌, ◌⊎◌, false, true, SFits, List, ap, inl, inr, length, map, of_z, pos, refl, rules, subst, sym, to_z, w32, w64, ℕ}
 use Rattle.std.proofs.lemmas.Int.{to_z-of_z}
 use Rattle.ep_base.specs.declared.answer.Answer.TheVariants.{Parked}
 use Rattle.ep_machine.specs.Files.{named_by}
@@ -6,9 +6,10 @@ use Rattle.ep_machine.specs.Refusal.{wait_refusals}
 use Rattle.ep_machine.specs.Waits.{wait}
 use Rattle.ep_machine.specs.Watches.{number_in}
 use Rattle.ep_calls.specs.Parts.{Parts}
-use Rattle.ep_calls.specs.Wait.{AreKeyed, IsPick, Waits}
+use Rattle.ep_calls.specs.Wait.{AreKeyed, IsPick, Waits, with_report}
 use Rattle.ep_calls.proofs.OutcomeLemmas.{goes_told}
 use Rattle.ep_calls.proofs.WaitLemmas.{coherent_parked, coherent_reported, goes_parked, goes_reported, not_dying, parked_waiting, placed_waiting, wait_does}
+use Rattle.ep_calls.proofs.PickLemmas.{noted_none}
 use Rattle.ep_calls.proofs.parts.Parts.wait_with.Goals as goal
 
 pub invariant_of-self-then-not-is_empty : goal.invariant_of-self-then-not-is_empty
@@ -74,3 +75,8 @@ returns-clause-ok c =
     rw (← c.self.view_is) (wait_does (IsPick p.tables c.args.instance (number_in x.max) chosen) c.args.step caller c.settled.result p new o.raising e.files e.keys e.limits x (λ s at sound quiet legal stands pick.
     goes_told (wait_refusals s x.pid.0 x.epfd.0 x.max) (λ ks. wait s caller x.pid.0 (named_by s.files x.pid.0 x.epfd.0) (number_in x.max) x.timeout ks) s c.settled.result.answer Parked c.settled.result.picked new o.answer o.picked
     (goes_parked p.tables x c.args.instance of p.graph p.clock p.interest c.args.step chosen keyed caller s at legal stands pick new.tables new.parked none (λ z. c.if-args-eq0.false (ap (of_z w64) z)) e.files e.keys more)))
+
+pub returns-clause-entries : goal.returns-clause-entries
+returns-clause-entries c =
+    let xs = c.self.inside.interest.entries in
+    rw (← c.self.view_is) (sym (noted_none c.args.step xs) ∙ ap (λ (ks : List ℕ). map (with_report c.args.step ks) xs) (sym c.settled.ensures.picked))

@@ -25,7 +25,7 @@ of-spare-requires-clause-inline c asked none =
     let does = does_at k.history.items k.parts c.act.new.parts c.self.invariant (c.len.result + 1) c.args.caller.0 c.args.event o n c.in_ok-answer.ensures.ok in
     inline_event k.parts.tables.limits (next_event c.self.invariant.state) c.args.caller.0 o c.args.kept asked none c.args.event c.act.new.parts does.goes c.in_ok-answer.ensures.kept
 
-settles : (c : goal.After-push_reserved) → Settles (c.len.result + 1) c.in_ok-answer.field-0.raising c.act.new.parts c.raise.new.self c.bury.new.self c.climb.new.parts c.mark.new.parts
+settles : (c : goal.After-push_reserved) → Settles (c.len.result + 1) c.in_ok-answer.field-0.raising c.act.new.parts c.raise.new.self c.bury.new.self c.climb_instances.new.parts c.mark_waiters.new.parts
 settles c = record {
   coherent = c.known.ensures.coherent;
   sound = c.known.ensures.sound;
@@ -36,10 +36,10 @@ settles c = record {
   clock = c.bury.ensures.clock;
   coherent_buried = c.known-2.ensures.coherent;
   sound_buried = c.known-2.ensures.sound;
-  climbs = c.climb.ensures.climbs;
-  climbed_others = c.climb.ensures.others;
-  marks = c.mark.ensures.marks;
-  marked_others = c.mark.ensures.others;
+  climbs = c.climb_instances.ensures.climbs;
+  climbed_others = c.climb_instances.ensures.others;
+  marks = c.mark_waiters.ensures.marks;
+  marked_others = c.mark_waiters.ensures.others;
 }
 
 -- the history has its record
@@ -52,14 +52,14 @@ records c =
 pub invariant_of-self-2 : goal.invariant_of-self-2
 invariant_of-self-2 c =
     let k = c.self.inside in
-    subst (λ (rs : List Record). Keeps rs c.mark.new.parts) (sym (records c))
-    (keeps_next k.history.items k.parts c.act.new.parts c.raise.new.self c.bury.new.self c.climb.new.parts c.mark.new.parts c.self.invariant c.args.caller c.args.event c.in_ok-answer.field-0 (c.len.result + 1) (number c) (does c) (settles c))
+    subst (λ (rs : List Record). Keeps rs c.mark_waiters.new.parts) (sym (records c))
+    (keeps_next k.history.items k.parts c.act.new.parts c.raise.new.self c.bury.new.self c.climb_instances.new.parts c.mark_waiters.new.parts c.self.invariant c.args.caller c.args.event c.in_ok-answer.field-0 (c.len.result + 1) (number c) (does c) (settles c))
 
 pub returns-clause-ok : goal.returns-clause-ok
 returns-clause-ok c =
     let k = c.self.inside in
     let outcome = c.in_ok-answer.field-0 in
-    let new : Book = record { limits = c.mark.new.parts.tables.limits; past = c.push_reserved.new.self.items; capacity = vec_capacity c.push_reserved.new.self } in
-    let adds = adds_next k.history.items k.parts c.act.new.parts c.raise.new.self c.bury.new.self c.climb.new.parts c.mark.new.parts c.self.invariant c.args.caller c.args.event outcome (c.len.result + 1) (number c) (does c) (settles c) in
+    let new : Book = record { limits = c.mark_waiters.new.parts.tables.limits; past = c.push_reserved.new.self.items; capacity = vec_capacity c.push_reserved.new.self } in
+    let adds = adds_next k.history.items k.parts c.act.new.parts c.raise.new.self c.bury.new.self c.climb_instances.new.parts c.mark_waiters.new.parts c.self.invariant c.args.caller c.args.event outcome (c.len.result + 1) (number c) (does c) (settles c) in
     subst (λ (b : Book). Adds b.limits c.args.caller c.args.event outcome.answer (state_of b) (state_of new) b.past new.past) c.self.view_is
     (subst (λ (rs : List Record). Adds k.parts.tables.limits c.args.caller c.args.event outcome.answer (state_of (book_of k)) (state_of (record new { past = rs })) k.history.items rs) (sym (records c)) adds)

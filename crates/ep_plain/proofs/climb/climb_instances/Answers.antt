@@ -2,7 +2,7 @@ use Rattle.std.proofs.Common.{map, refl}
 use Rattle.ep_view.specs.KernelView.{climbed, reached_now}
 use Rattle.ep_calls.specs.Stands.{watch_at}
 use Rattle.ep_calls.proofs.PartsLemmas.{watched_by}
-use Rattle.ep_plain.proofs.climb.climb.Goals as goal
+use Rattle.ep_plain.proofs.climb.climb_instances.Goals as goal
 
 pub invariant_of-parts : goal.invariant_of-parts
 invariant_of-parts c =

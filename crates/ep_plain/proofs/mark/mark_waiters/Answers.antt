@@ -4,7 +4,7 @@ use Rattle.ep_calls.specs.Stands.{AreHeld}
 use Rattle.ep_calls.specs.Parking.{ready_key}
 use Rattle.ep_calls.specs.Stands.{ArePlaced}
 use Rattle.ep_calls.proofs.HoldLemmas.{held_marked, placed_marked}
-use Rattle.ep_plain.proofs.mark.mark.Goals as goal
+use Rattle.ep_plain.proofs.mark.mark_waiters.Goals as goal
 
 pub invariant_of-parts : goal.invariant_of-parts
 invariant_of-parts c =
