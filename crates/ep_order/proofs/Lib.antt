@@ -1,5 +1,7 @@
 pub mod OrderLemmas
 pub mod PickLemmas
+pub mod OriginLemmas
 pub mod StepLemmas
 pub mod ReachLemmas
 pub mod MarkLemmas
+pub mod EventLemmas

@@ -133,7 +133,7 @@ le_test : (a b : ℕ) → a ≤ b → nat_le a b ≡ true
 le_test a b h = grind (arith, nat_tests, h)
 
 -- by the number of a registration that is there
-by_number : (s : State) (f : Watch → ℕ) (x : Watch) → Sound s → Member x s.watches → of_number s f x.number ≡ f x
+pub by_number : (s : State) (f : Watch → ℕ) (x : Watch) → Sound s → Member x s.watches → of_number s f x.number ≡ f x
 by_number s f x sound m =
     let got = some_found (find_watch s.watches x.number) (found_one s.watches x m) in
     let is = find_member s.watches x.number got.0 got.1 in

@@ -3,3 +3,4 @@ pub mod Pick
 pub mod Step
 pub mod Reach
 pub mod Mark
+pub mod Event

@@ -1,4 +1,5 @@
 //! The laws. Each is the contract of a function that does nothing.
+ghost use Rattle.ep_order.specs.Event.{BeginningKeepsTurns, DeadListsAreEmpty, ListsGoOn};
 ghost use Rattle.ep_order.specs.Mark.{UnmarkedAreReached};
 ghost use Rattle.ep_order.specs.Order.{FirstAreFair, StaysComplete, StaysFair};
 ghost use Rattle.ep_order.specs.Pick.{FirstArePick};
@@ -44,3 +45,22 @@ pub fn unmarked_are_reached()
 {
     ep_object::arrivals_are_raised();
 }
+
+/// That an event begins changes no turn, and a refused event does nothing else. Does nothing.
+pub fn beginning_keeps_turns()
+    ensures law { BeginningKeepsTurns }
+{}
+
+/// A complete list in a fair order is one after each event that is not refused, where it goes on as `Relists` says. Does
+/// nothing.
+pub fn lists_go_on()
+    ensures law { ListsGoOn }
+{
+    ep_object::arrivals_are_raised();
+}
+
+/// Nothing is reportable at an instance that does not live. So an empty list is complete where an event makes the instance.
+/// Does nothing.
+pub fn dead_lists_are_empty()
+    ensures law { DeadListsAreEmpty }
+{}
