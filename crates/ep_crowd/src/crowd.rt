@@ -1,9 +1,9 @@
 //! Who does what.
-ghost use Rattle.std.specs.Prelude.{◌≡◌};
+ghost use Rattle.std.specs.Prelude.{◌≡◌, ◌<◌};
 
 use ep_base::{Answer, Buffer, Call, CallerId, Fd, Limits, Mask, Pid, Record};
 use ep_plain::PlainKernel;
-use ep_pool::{Gate, Job, Step, run_sessions};
+use ep_pool::{Gate, Job, PoolReport, Step, run_sessions};
 use ep_shared::{Session, Shared};
 use std::alloc::{AllocError, Global};
 use std::sync::Wait;
@@ -167,6 +167,38 @@ fn tally_of(records: &[Record]) -> Tally {
     }
 }
 
+/// Sessions that share a kernel with default limits.
+pub fn share<L: Ledger>(
+    alloc: Global,
+    blank: Blank,
+    sessions: u32,
+) -> Option<(Shared<PlainKernel, L>, Vec<Session<L>>)>
+    requires name { blank.name ≡ L.name }
+    requires parts { blank.parts ≡ L.parts }
+    requires each { blank.parts ≡ sessions }
+    requires some { 0 < sessions }
+{
+    let kernel = PlainKernel::new(alloc, Limits::default()).ok()?;
+    Shared::<PlainKernel, L>::start(alloc, blank, kernel, sessions).ok()
+}
+
+/// Runs all jobs, and gives their sessions back where none stopped.
+fn run_all<L: Ledger + Send + Sync, R: Threads + Wait + Sync>(
+    rt: &R,
+    alloc: Global,
+    shared: &Shared<PlainKernel, L>,
+    sessions: Vec<Session<L>>,
+) -> Option<Vec<Session<L>>> {
+    let jobs = jobs_of(alloc, sessions).ok()?;
+    let gate = InTurn {
+        first: AtomicU64::new(0),
+        second: AtomicU64::new(0),
+    };
+    let report = run_sessions(rt, alloc, shared, jobs, &gate, 100_000_000).ok()?;
+    let PoolReport { sessions, stopped } = report;
+    stopped.is_empty().then_some(sessions)
+}
+
 /// Runs the four, and tells what came of it where all came to their end.
 pub fn crowd<L: Ledger + Send + Sync, R: Threads + Wait + Sync>(
     rt: &R,
@@ -177,18 +209,9 @@ pub fn crowd<L: Ledger + Send + Sync, R: Threads + Wait + Sync>(
     requires parts { blank.parts ≡ L.parts }
     requires four { blank.parts ≡ 4 }
 {
-    let kernel = PlainKernel::new(alloc, Limits::default()).ok()?;
-    let (shared, mut sessions) = Shared::<PlainKernel, L>::start(alloc, blank, kernel, 4).ok()?;
+    let (shared, mut sessions) = share::<L>(alloc, blank, 4)?;
     opens(rt, &shared, sessions.first_mut()?);
-    let jobs = jobs_of(alloc, sessions).ok()?;
-    let gate = InTurn {
-        first: AtomicU64::new(0),
-        second: AtomicU64::new(0),
-    };
-    let report = run_sessions(rt, alloc, &shared, jobs, &gate, 100_000_000).ok()?;
-    let history = shared.finish(report.sessions).ok()?;
-    report
-        .stopped
-        .is_empty()
-        .then(|| tally_of(&history.records))
+    let back = run_all(rt, alloc, &shared, sessions)?;
+    let history = shared.finish(back).ok()?;
+    Some(tally_of(&history.records))
 }

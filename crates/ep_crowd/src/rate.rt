@@ -1,6 +1,7 @@
 //! Many calls, for timing.
 ghost use Rattle.std.specs.Prelude.{◌≡◌, ◌<◌};
 
+use crate::crowd::share;
 use ep_base::{Call, CallerId, Event, Fd, Limits, Pid};
 use ep_calls::Kernel;
 use ep_plain::PlainKernel;
@@ -17,8 +18,7 @@ fn question() -> Call {
 }
 
 /// The calls on the kernel alone.
-fn calls_alone(alloc: Global, calls: u32) -> Option<usize> {
-    let mut kernel = PlainKernel::new(alloc, Limits::default()).ok()?;
+fn call_often(kernel: &mut PlainKernel, calls: u32) {
     for _ in 0..calls {
         let _ = kernel.step(
             CallerId(1),
@@ -28,6 +28,12 @@ fn calls_alone(alloc: Global, calls: u32) -> Option<usize> {
             },
         );
     }
+}
+
+/// The calls on a kernel of their own.
+fn calls_alone(alloc: Global, calls: u32) -> Option<usize> {
+    let mut kernel = PlainKernel::new(alloc, Limits::default()).ok()?;
+    call_often(&mut kernel, calls);
     Some(kernel.history().len())
 }
 
@@ -58,8 +64,7 @@ fn calls_shared<L: Ledger + Send + Sync, R: Threads + Wait + Sync>(
     requires each { blank.parts ≡ threads }
     requires some { 0 < threads }
 {
-    let kernel = PlainKernel::new(alloc, Limits::default()).ok()?;
-    let (shared, sessions) = Shared::<PlainKernel, L>::start(alloc, blank, kernel, threads).ok()?;
+    let (shared, sessions) = share::<L>(alloc, blank, threads)?;
     let work = |session: Session<L>| calls_of(rt, &shared, session, calls / threads);
     let back = thread::map_vec(rt, sessions, &work).ok()?;
     let history = shared.finish(back).ok()?;

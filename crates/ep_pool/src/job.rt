@@ -7,7 +7,7 @@ ghost use Rattle.ep_shared.specs.Sessions.{caller_of, records_of};
 
 use ep_base::{Answer, Call, CallerId, Errno, Fd, Pid};
 use ep_calls::Kernel;
-use ep_shared::{Session, Shared};
+use ep_shared::{Session, Shared, WaitCall};
 use std::sync::Wait;
 use std::sync::ledger::Ledger;
 use std::thread;
@@ -100,7 +100,15 @@ fn make_step<K: Kernel + Drop, L: Ledger, R: Wait>(
             epfd,
             max,
             timeout,
-        } => shared.wait(rt, session, pid, epfd, max, timeout),
+        } => {
+            let asked = WaitCall {
+                pid,
+                epfd,
+                max,
+                timeout,
+            };
+            shared.wait(rt, session, asked)
+        }
         Step::Tick { n } => shared.tick(rt, session, n),
     };
     !is_no_memory(&answer)

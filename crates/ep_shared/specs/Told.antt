@@ -1,12 +1,15 @@
 -- What a call under the lock adds to the records of its session.
-use Rattle.std.specs.Prelude.{◌≡◌, ◌++◌, ◌∷◌, ◌⊎◌, [], All, Bool, List, MatchBool, false, true, ℕ}
+use Rattle.std.specs.Prelude.{◌≡◌, ◌++◌, ◌∷◌, ◌&&◌, ◌⊎◌, [], All, Bool, List, MatchBool, false, not, true, ℕ}
 use Rattle.ep_base.specs.declared.answer.Answer.{Answer}
 use Rattle.ep_base.specs.declared.answer.Answer.TheVariants.{Parked, Still}
 use Rattle.ep_base.specs.declared.call.Call.TheVariants.{EpollWait}
 use Rattle.ep_base.specs.declared.call.Event.{Event}
 use Rattle.ep_base.specs.declared.call.Event.TheVariants.{Call as CallOf, Resume, Tick}
 use Rattle.ep_base.specs.declared.record.Record.{Record}
+use Rattle.ep_machine.specs.State.{State}
+use Rattle.ep_machine.specs.Waits.{is_marked, is_parked}
 use Rattle.ep_calls.specs.Acts.{is_no_memory}
+use Rattle.ep_shared.specs.declared.shared.WaitCall.{WaitCall}
 
 -- a record of a caller, with this event and this answer
 pub record IsTold (caller : ℕ) (event : Event) (answer : Answer) (r : Record) : Type 0 where
@@ -42,6 +45,10 @@ pub record ParkAdds (caller : ℕ) (event : Event) (answer : Answer) (old new : 
   pub parks : Gains caller event Parked old mid
   pub resumes : ResumeAdds caller answer mid new
 
+-- the event that a wait begins with
+abbrev pub wait_event : WaitCall → Event
+wait_event w = CallOf w.pid (EpollWait w.epfd w.max w.timeout)
+
 -- what a wait adds: its record alone, or that it parked, and then what its resumption adds
 abbrev pub WaitAdds : ℕ → Event → Answer → List Record → List Record → Type 0
 WaitAdds caller event answer old new = Adds caller event answer old new ⊎ ParkAdds caller event answer old new
@@ -59,3 +66,7 @@ may_answer (CallOf pid call) answer = true
 may_answer Resume Parked = false
 may_answer Resume answer = true
 may_answer (Tick k) answer = true
+
+-- a caller whose next resumption would be in vain
+abbrev pub must_wait : State → ℕ → Bool
+must_wait s c = is_parked s c && not (is_marked s c)

@@ -7,7 +7,7 @@ ghost use Rattle.ep_machine.specs.Waits.{is_marked, is_parked};
 ghost use Rattle.ep_calls.specs.Acts.{Acts, is_no_memory as wants_memory};
 ghost use Rattle.ep_calls.specs.KeptRecords.{KeepsRecord};
 ghost use Rattle.ep_shared.specs.Parts.{IsBetween};
-ghost use Rattle.ep_shared.specs.Told.{Adds, may_answer};
+ghost use Rattle.ep_shared.specs.Told.{Adds, may_answer, must_wait};
 
 mod close;
 mod handed;
@@ -23,7 +23,7 @@ use std::sync::ledger::{Blank, Ledger, Share};
 
 /// How many sessions there are, which is how many parts the ledger has.
 #[derive(Drop)]
-pub struct Count<L: Ledger> {
+pub(crate) struct Count<L: Ledger> {
     number: u32,
     of: PhantomData<L>,
     ghost all: { number ≡ L.parts },
@@ -32,7 +32,7 @@ pub struct Count<L: Ledger> {
 
 impl<L: Ledger> Count<L> {
     /// The number of all parts.
-    pub fn new(number: u32) -> Count<L>
+    pub(crate) fn new(number: u32) -> Count<L>
         requires all { number ≡ L.parts }
         requires some { 0 < number }
         ensures { result.number ≡ number }
@@ -44,7 +44,7 @@ impl<L: Ledger> Count<L> {
     }
 
     /// The number.
-    pub fn number(&self) -> u32
+    pub(crate) fn number(&self) -> u32
         ensures value { result ≡ self.now.number }
         ensures all { result ≡ L.parts }
     {
@@ -215,8 +215,10 @@ impl<K: Kernel + Drop, L: Ledger> Book<K, L> {
     }
 
     /// Whether a caller is parked and not marked: its next resumption would be in vain.
-    pub fn must_wait(&self, caller: CallerId) -> bool {
-        self.kernel.is_parked(caller) && !self.kernel.is_marked(caller)
+    pub(crate) fn must_wait(&self, caller: CallerId) -> bool
+        ensures { result ≡ must_wait (K.state self.now.kernel) caller.0 }
+    {
+        self.is_parked(caller) && !self.is_marked(caller)
     }
 
     /// The parked callers from 1 to `sessions`, in rising order. An `Err` is want of memory.
@@ -226,7 +228,7 @@ impl<K: Kernel + Drop, L: Ledger> Book<K, L> {
         let mut parked = Vec::new(self.alloc);
         for before in 0..sessions {
             let caller = CallerId(before + 1);
-            if self.kernel.is_parked(caller) {
+            if self.is_parked(caller) {
                 parked.push(caller)?;
             }
         }

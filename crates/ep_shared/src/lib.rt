@@ -6,4 +6,4 @@ mod same;
 mod shared;
 
 pub use crate::book::{Book, FinishFault, History, Session, laws};
-pub use crate::shared::Shared;
+pub use crate::shared::{Shared, WaitCall};

@@ -1,7 +1,6 @@
 //! One lock round one book.
 ghost use Rattle.std.specs.Prelude.{◌≡◌, ℕ, ◌+◌, ◌<◌, [], All, IfOk, MatchResult, Some, filter, map, slice_index_or, sum_by, true, vec_len};
 ghost use Rattle.std.specs.List.{range_with_len};
-ghost use Rattle.ep_base.specs.declared.call.Call.TheVariants.{EpollWait};
 ghost use Rattle.ep_base.specs.declared.call.Event.TheVariants.{Call as CallOf, Resume, Tick};
 ghost use Rattle.ep_machine.specs.Run.{run};
 ghost use Rattle.ep_machine.specs.State.{State, opening};
@@ -9,7 +8,7 @@ ghost use Rattle.ep_machine.specs.Waits.{is_parked};
 ghost use Rattle.ep_shared.specs.Closes.{Finishes};
 ghost use Rattle.ep_shared.specs.Parts.{IsBetween};
 ghost use Rattle.ep_shared.specs.Sessions.{caller_of, records_of};
-ghost use Rattle.ep_shared.specs.Told.{Adds, ResumeAdds, WaitAdds, ends_wait, may_answer};
+ghost use Rattle.ep_shared.specs.Told.{Adds, ResumeAdds, WaitAdds, ends_wait, may_answer, wait_event};
 
 use crate::book::{Book, Count, FinishFault, History, Session};
 use ep_base::{Answer, Call, CallerId, Event, Fd, Limits, Pid};
@@ -17,6 +16,15 @@ use ep_calls::Kernel;
 use std::alloc::{AllocError, Global};
 use std::sync::ledger::{Blank, Ledger};
 use std::sync::{Condvar, Mutex, Wait};
+
+/// What a process asks of epoll_wait(2), whose fields are those of `Call::EpollWait`.
+#[derive(Clone, Copy)]
+pub struct WaitCall {
+    pub pid: Pid,
+    pub epfd: Fd,
+    pub max: i32,
+    pub timeout: i64,
+}
 
 /// A kernel that sessions call from threads: one lock round one book. Every call of it takes the lock and may wait.
 #[derive(Drop)]
@@ -88,19 +96,17 @@ impl<K: Kernel + Drop, L: Ledger> Shared<K, L> {
 
     /// epoll_wait(2) that waits: where it parks, the lock is given up until the caller is marked, and then it resumes.
     /// It is answered neither `Parked` nor `Still`. After ENOMEM the caller may be parked: `resume_wait` goes on.
-    pub fn wait(
-        &self,
-        rt: &impl Wait,
-        session: &mut Session<L>,
-        pid: Pid,
-        epfd: Fd,
-        max: i32,
-        timeout: i64,
-    ) -> Answer
-        ensures adds { WaitAdds (caller_of session.old) (CallOf pid (EpollWait epfd max timeout)) result (records_of session.old) (records_of session.new) }
+    pub fn wait(&self, rt: &impl Wait, session: &mut Session<L>, asked: WaitCall) -> Answer
+        ensures adds { WaitAdds (caller_of session.old) (wait_event asked) result (records_of session.old) (records_of session.new) }
         ensures caller { caller_of session.new ≡ caller_of session.old }
         ensures ends { ends_wait result ≡ true }
     {
+        let WaitCall {
+            pid,
+            epfd,
+            max,
+            timeout,
+        } = asked;
         let call = Call::EpollWait { epfd, max, timeout };
         let answer = self.act(rt, session, Event::Call { pid, call });
         match answer {

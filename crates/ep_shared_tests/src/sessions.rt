@@ -4,8 +4,8 @@ ghost use Rattle.std.specs.Prelude.{◌≡◌};
 use ep_base::{Answer, Buffer, Call, CallerId, Errno, Fd, Limits, Mask, Pid, Record};
 use ep_plain::PlainKernel;
 use ep_shared::laws::same_parts;
-use ep_shared::{Book, FinishFault, Session, Shared};
-use std::alloc::Global;
+use ep_shared::{Book, FinishFault, History, Session, Shared};
+use std::alloc::{AllocError, Global};
 use std::marker::Brand;
 use std::sync::Wait;
 use std::sync::ledger::{Blank, Ledger};
@@ -17,44 +17,31 @@ fn check(holds: bool) -> Result<(), Fail> {
     if holds { Ok(()) } else { Err(Fail::new("no")) }
 }
 
-/// A call of process 1.
-fn asks<L: Ledger>(
-    rt: &impl Wait,
-    shared: &Shared<PlainKernel, L>,
-    session: &mut Session<L>,
-    call: Call,
-) -> Answer {
-    shared.call(rt, session, PROCESS, call)
-}
-
 /// An eventfd 3 that instance 4 watches, at which the caller parks.
-fn parks<L: Ledger>(
-    rt: &impl Wait,
-    shared: &Shared<PlainKernel, L>,
-    one: &mut Session<L>,
-) -> Result<(), Fail> {
-    let counter = Call::EventFd {
-        init: 0,
-        semaphore: false,
-        cloexec: false,
-    };
-    check(matches!(asks(rt, shared, one, counter), Answer::Num(3)))?;
-    let instance = Call::EpollCreate { cloexec: false };
-    check(matches!(asks(rt, shared, one, instance), Answer::Num(4)))?;
-    let add = Call::EpollCtl {
-        epfd: Fd(4),
-        op: 1,
-        fd: Fd(3),
-        mask: Mask::IN,
-        tag: 3,
-    };
-    check(matches!(asks(rt, shared, one, add), Answer::Done))?;
-    let wait = Call::EpollWait {
-        epfd: Fd(4),
-        max: 1,
-        timeout: -1,
-    };
-    check(matches!(asks(rt, shared, one, wait), Answer::Parked))
+fn parks<L: Ledger>(rt: &impl Wait, shared: &Shared<PlainKernel, L>, one: &mut Session<L>) {
+    let calls = [
+        Call::EventFd {
+            init: 0,
+            semaphore: false,
+            cloexec: false,
+        },
+        Call::EpollCreate { cloexec: false },
+        Call::EpollCtl {
+            epfd: Fd(4),
+            op: 1,
+            fd: Fd(3),
+            mask: Mask::IN,
+            tag: 3,
+        },
+        Call::EpollWait {
+            epfd: Fd(4),
+            max: 1,
+            timeout: -1,
+        },
+    ];
+    for call in calls {
+        let _ = shared.call(rt, one, PROCESS, call);
+    }
 }
 
 /// A write of 1 to the eventfd 3.
@@ -63,55 +50,78 @@ fn writes<L: Ledger>(
     alloc: Global,
     shared: &Shared<PlainKernel, L>,
     two: &mut Session<L>,
-) -> Result<(), Fail> {
+) -> Result<(), AllocError> {
     let bytes = Buffer::new(vec![in alloc; 1, 0, 0, 0, 0, 0, 0, 0]?);
     let write = Call::Write { fd: Fd(3), bytes };
-    check(matches!(asks(rt, shared, two, write), Answer::Num(8)))
+    let _ = shared.call(rt, two, PROCESS, write);
+    Ok(())
 }
 
-/// Who is parked.
+/// Whether these callers are parked.
 fn parked_are<L: Ledger>(
     rt: &impl Wait,
     shared: &Shared<PlainKernel, L>,
     wanted: &[CallerId],
-) -> Result<(), Fail> {
-    let parked = shared.parked(rt)?;
-    check(parked.as_slice() == wanted)
+) -> bool {
+    match shared.parked(rt) {
+        Ok(parked) => parked.as_slice() == wanted,
+        Err(_) => false,
+    }
 }
 
-/// The caller that parked goes on with one report, and then has nothing to go on with.
-fn goes_on<L: Ledger>(
-    rt: &impl Wait,
-    shared: &Shared<PlainKernel, L>,
-    one: &mut Session<L>,
-) -> Result<(), Fail> {
-    let Answer::Events(reports) = shared.resume_wait(rt, one) else {
-        return Err(Fail::new("no report"));
-    };
-    let reports = reports.as_slice();
-    check(reports.len() == 1 && reports[0].bits == Mask::IN && reports[0].tag == 3)?;
-    let again = shared.resume_wait(rt, one);
-    check(matches!(again, Answer::Refused(Errno::Einval)))
-}
-
-/// All that both sessions are asked.
+/// All that both sessions are asked, and whether those were parked that should be.
 fn both_ask<L: Ledger>(
     rt: &impl Wait,
     alloc: Global,
     shared: &Shared<PlainKernel, L>,
     one: &mut Session<L>,
     two: &mut Session<L>,
-) -> Result<(), Fail> {
-    parks(rt, shared, one)?;
-    parked_are(rt, shared, &[CallerId(1)])?;
+) -> Result<bool, AllocError> {
+    parks(rt, shared, one);
+    let parked = parked_are(rt, shared, &[CallerId(1)]);
     writes(rt, alloc, shared, two)?;
-    goes_on(rt, shared, one)?;
-    check(matches!(shared.tick(rt, two, 5), Answer::Done))?;
-    parked_are(rt, shared, &[])
+    let _ = shared.resume_wait(rt, one);
+    let _ = shared.resume_wait(rt, one);
+    let _ = shared.tick(rt, two, 5);
+    Ok(parked && parked_are(rt, shared, &[]))
+}
+
+/// One report of eventfd 3.
+fn is_woken(answer: &Answer) -> bool {
+    let Answer::Events(reports) = answer else {
+        return false;
+    };
+    let reports = reports.as_slice();
+    reports.len() == 1 && reports[0].bits == Mask::IN && reports[0].tag == 3
+}
+
+/// The answers of the caller that parked: it goes on with one report, and then has nothing to go on with.
+fn is_told_first(records: &[Record]) -> bool {
+    records.len() == 6
+        && matches!(records[0].answer, Answer::Num(3))
+        && matches!(records[1].answer, Answer::Num(4))
+        && matches!(records[2].answer, Answer::Done)
+        && matches!(records[3].answer, Answer::Parked)
+        && is_woken(&records[4].answer)
+        && matches!(records[5].answer, Answer::Refused(Errno::Einval))
+}
+
+/// The answers of the caller that wrote.
+fn is_told_second(records: &[Record]) -> bool {
+    records.len() == 2
+        && matches!(records[0].answer, Answer::Num(8))
+        && matches!(records[1].answer, Answer::Done)
+}
+
+/// The answers of both sessions.
+fn are_told<L: Ledger>(sessions: &[Session<L>]) -> bool {
+    sessions.len() == 2
+        && is_told_first(sessions[0].records())
+        && is_told_second(sessions[1].records())
 }
 
 /// Puts the same records at the end of a list.
-fn copy_to(records: &[Record], list: &mut Vec<Record>) -> Result<(), Fail> {
+fn copy_to(records: &[Record], list: &mut Vec<Record>) -> Result<(), AllocError> {
     for one in records {
         list.push(Record {
             caller: one.caller,
@@ -123,19 +133,44 @@ fn copy_to(records: &[Record], list: &mut Vec<Record>) -> Result<(), Fail> {
     Ok(())
 }
 
-/// Without the last record of caller 2 its part differs.
-fn differs_without_the_last<L: Ledger>(alloc: Global, sessions: &[Session<L>]) -> Result<(), Fail> {
+/// The records of all sessions.
+fn all_records<L: Ledger>(
+    alloc: Global,
+    sessions: &[Session<L>],
+) -> Result<Vec<Record>, AllocError> {
     let mut records = Vec::new(alloc);
     for session in sessions {
         copy_to(session.records(), &mut records)?;
     }
-    check(same_parts(&records, sessions).is_ok())?;
+    Ok(records)
+}
+
+/// Without the last record of caller 2 its part differs.
+fn differs_without_the_last<L: Ledger>(alloc: Global, sessions: &[Session<L>]) -> bool {
+    let Ok(mut records) = all_records(alloc, sessions) else {
+        return false;
+    };
+    let are_same = same_parts(&records, sessions).is_ok();
     let _ = records.pop();
-    check(matches!(same_parts(&records, sessions), Err(CallerId(2))))
+    are_same && matches!(same_parts(&records, sessions), Err(CallerId(2)))
 }
 
 /// A kernel with default limits that two sessions share.
 fn two_sessions<L: Ledger>(
+    alloc: Global,
+    blank: Blank,
+) -> Result<(Shared<PlainKernel, L>, Vec<Session<L>>), AllocError>
+    requires name { blank.name ≡ L.name }
+    requires parts { blank.parts ≡ L.parts }
+    requires two { blank.parts ≡ 2 }
+{
+    let kernel = PlainKernel::new(alloc, Limits::default())?;
+    Shared::<PlainKernel, L>::start(alloc, blank, kernel, 2)
+}
+
+/// Two sessions that were asked all that.
+fn sessions_that_asked<L: Ledger, R: Wait>(
+    rt: &R,
     alloc: Global,
     blank: Blank,
 ) -> Result<(Shared<PlainKernel, L>, Vec<Session<L>>), Fail>
@@ -143,8 +178,12 @@ fn two_sessions<L: Ledger>(
     requires parts { blank.parts ≡ L.parts }
     requires two { blank.parts ≡ 2 }
 {
-    let kernel = PlainKernel::new(alloc, Limits::default())?;
-    Ok(Shared::<PlainKernel, L>::start(alloc, blank, kernel, 2)?)
+    let (shared, mut sessions) = two_sessions::<L>(alloc, blank)?;
+    let [one, two] = sessions.as_mut_slice() else {
+        return Err(Fail::new("missing"));
+    };
+    check(both_ask(rt, alloc, &shared, one, two)?)?;
+    Ok((shared, sessions))
 }
 
 /// How many records of a caller there are.
@@ -152,28 +191,27 @@ fn count_of(records: &[Record], caller: CallerId) -> usize {
     records.iter().filter(|r| r.caller == caller).count()
 }
 
+/// A history of eight records.
+fn is_whole(finished: &Result<History, FinishFault>) -> bool {
+    match finished {
+        Ok(history) => {
+            let records = history.records.as_slice();
+            records.len() == 8
+                && count_of(records, CallerId(1)) == 6
+                && count_of(records, CallerId(2)) == 2
+        }
+        Err(_) => false,
+    }
+}
+
 fn all_come_back<L: Ledger, R: Wait>(rt: &R, alloc: Global, blank: Blank) -> Result<(), Fail>
     requires name { blank.name ≡ L.name }
     requires parts { blank.parts ≡ L.parts }
     requires two { blank.parts ≡ 2 }
 {
-    let (shared, mut sessions) = two_sessions::<L>(alloc, blank)?;
-    let mut two = sessions.pop().ok_or("missing")?;
-    let mut one = sessions.pop().ok_or("missing")?;
-    both_ask(rt, alloc, &shared, &mut one, &mut two)?;
-    let back = vec![in alloc; one, two]?;
-    differs_without_the_last(alloc, &back)?;
-    match shared.finish(back) {
-        Ok(history) => {
-            let records = &history.records;
-            check(
-                records.len() == 8
-                    && count_of(records, CallerId(1)) == 6
-                    && count_of(records, CallerId(2)) == 2,
-            )
-        }
-        Err(_) => Err(Fail::new("not finished")),
-    }
+    let (shared, sessions) = sessions_that_asked::<L, R>(rt, alloc, blank)?;
+    let are_right = are_told(&sessions) && differs_without_the_last(alloc, &sessions);
+    check(is_whole(&shared.finish(sessions)) && are_right)
 }
 
 fn one_is_missing<L: Ledger, R: Wait>(rt: &R, alloc: Global, blank: Blank) -> Result<(), Fail>
@@ -181,13 +219,42 @@ fn one_is_missing<L: Ledger, R: Wait>(rt: &R, alloc: Global, blank: Blank) -> Re
     requires parts { blank.parts ≡ L.parts }
     requires two { blank.parts ≡ 2 }
 {
-    let (shared, mut sessions) = two_sessions::<L>(alloc, blank)?;
-    let mut two = sessions.pop().ok_or("missing")?;
-    let mut one = sessions.pop().ok_or("missing")?;
-    both_ask(rt, alloc, &shared, &mut one, &mut two)?;
-    let back = vec![in alloc; one]?;
-    let fault = shared.finish(back);
+    let (shared, mut sessions) = sessions_that_asked::<L, R>(rt, alloc, blank)?;
+    let _ = sessions.pop();
+    let fault = shared.finish(sessions);
     check(matches!(fault, Err(FinishFault::Missing(CallerId(2)))))
+}
+
+/// A book of a kernel with default limits, and two sessions.
+fn two_of_a_book<L: Ledger>(
+    alloc: Global,
+    blank: Blank,
+) -> Result<(Book<PlainKernel, L>, Vec<Session<L>>), AllocError>
+    requires name { blank.name ≡ L.name }
+    requires parts { blank.parts ≡ L.parts }
+    requires two { blank.parts ≡ 2 }
+{
+    let kernel = PlainKernel::new(alloc, Limits::default())?;
+    Book::<PlainKernel, L>::open(alloc, blank, kernel, 2)
+}
+
+/// Whether no caller is parked.
+fn nobody_is_parked<L: Ledger>(book: &Book<PlainKernel, L>) -> bool {
+    match book.parked(2) {
+        Ok(parked) => parked.is_empty(),
+        Err(_) => false,
+    }
+}
+
+/// Whether it is not closed for the limits.
+fn is_refused<L: Ledger>(
+    book: Book<PlainKernel, L>,
+    limits: &Limits,
+    sessions: Vec<Session<L>>,
+) -> bool
+    requires { 2 ≡ L.parts }
+{
+    matches!(book.close(limits, 2, sessions), Err(FinishFault::Limits))
 }
 
 fn limits_differ<L: Ledger>(alloc: Global, blank: Blank) -> Result<(), Fail>
@@ -195,12 +262,10 @@ fn limits_differ<L: Ledger>(alloc: Global, blank: Blank) -> Result<(), Fail>
     requires parts { blank.parts ≡ L.parts }
     requires two { blank.parts ≡ 2 }
 {
-    let kernel = PlainKernel::new(alloc, Limits::default())?;
-    let (book, sessions) = Book::<PlainKernel, L>::open(alloc, blank, kernel, 2)?;
-    check(book.parked(2)?.is_empty())?;
     let limits = Limits::new(6, 5, 2, 8, 4096, 1).ok_or("out of range")?;
-    let fault = book.close(&limits, 2, sessions);
-    check(matches!(fault, Err(FinishFault::Limits)))
+    let (book, sessions) = two_of_a_book::<L>(alloc, blank)?;
+    let is_free = nobody_is_parked(&book);
+    check(is_refused(book, &limits, sessions) && is_free)
 }
 
 #[test]

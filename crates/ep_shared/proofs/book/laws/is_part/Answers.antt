@@ -1,4 +1,4 @@
-use Rattle.std.proofs.Common.{rules, ◌≡◌, ◌<◌, ◌+◌, length, drop, get_or, arith, drop-cons, add-one, ap, sym, ◌∙◌, ◌∷◌, [], length-drop}
+use Rattle.std.proofs.Common.{◌≡◌, ◌<◌, ◌+◌, length, drop, get_or, arith, drop-cons, add-one, ap, sym, ◌∙◌, ◌∷◌, [], length-drop}
 use Rattle.std.proofs.lemmas.List.{drop_all, at_drop_all}
 use Rattle.std.proofs.lemmas.Bool.{eqb-true, eq-eqb}
 use Rattle.ep_base.specs.declared.record.Record.{Record}
