@@ -1,7 +1,12 @@
--- Answers that take no memory beside themselves.
-use Rattle.std.specs.Prelude.{length, ◌≤◌}
+-- Which answer is want of memory, and which take no memory beside themselves.
+use Rattle.std.specs.Prelude.{Bool, false, length, true, ◌≤◌}
 use Rattle.ep_base.specs.declared.answer.Answer.{Answer}
-use Rattle.ep_base.specs.declared.answer.Answer.TheVariants.{Bytes, Events}
+use Rattle.ep_base.specs.declared.answer.Answer.TheVariants.{Bytes, Events, Refused}
+use Rattle.ep_base.specs.declared.errno.Errno.TheVariants.{Enomem}
+
+abbrev pub is_no_memory : Answer → Bool
+is_no_memory (Refused Enomem) = true
+is_no_memory answer = false
 
 -- its list has at most as many elements as are kept in the answer itself
 abbrev pub FitsInline : Answer → Type 0

@@ -1,7 +1,9 @@
 -- The numbers and names of errors.
 use Rattle.std.specs.Prelude.{List, codes, ℕ}
 use Rattle.ep_base.specs.declared.errno.Errno.{Errno}
-use Rattle.ep_base.specs.declared.errno.Errno.TheVariants.{Eagain, Ebadf, Ebusy, Eexist, Einval, Eloop, Emfile, Enfile, Enoent, Enomem, Enospc, Enotsock, Eperm, Epipe, Esrch}
+use Rattle.ep_base.specs.declared.errno.Errno.TheVariants.{Eagain, Ebadf, Ebusy, Eexist, Einval}
+use Rattle.ep_base.specs.declared.errno.Errno.TheVariants.{Eloop, Emfile, Enfile, Enoent, Enomem}
+use Rattle.ep_base.specs.declared.errno.Errno.TheVariants.{Enospc, Enotsock, Eperm, Epipe, Esrch}
 
 abbrev pub errno_number : Errno → ℕ
 errno_number Eperm = 1

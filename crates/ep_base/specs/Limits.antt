@@ -22,4 +22,11 @@ pub record AreInRange (limits : Limits) : Type 0 where
 
 -- those of a kernel of which nothing else is said
 abbrev pub default_limits : Limits
-default_limits = record { descriptors = 1024; files = 4096; processes = 64; watches = 4096; pipe_bytes = 65536; sock_bytes = 65536 }
+default_limits = record {
+  descriptors = 1024;
+  files = 4096;
+  processes = 64;
+  watches = 4096;
+  pipe_bytes = 65536;
+  sock_bytes = 65536;
+}

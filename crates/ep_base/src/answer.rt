@@ -1,6 +1,6 @@
 //! Answers.
-ghost use Rattle.std.specs.Prelude.{◌≡◌, IfOk, IsOk};
-ghost use Rattle.ep_base.specs.Answer.{FitsInline};
+ghost use Rattle.std.specs.Prelude.{◌≡◌, ◌↔◌, IfOk, IsOk, IsTrue};
+ghost use Rattle.ep_base.specs.Answer.{FitsInline, is_no_memory};
 
 use crate::errno::Errno;
 use crate::ids::Fd;
@@ -18,7 +18,7 @@ pub struct Report {
 }
 
 /// What a call is answered.
-#[derive(Drop)]
+#[derive(Drop, PartialEq, Eq)]
 pub enum Answer {
     /// The call is done.
     Done,
@@ -42,6 +42,20 @@ pub enum Answer {
 }
 
 impl Answer {
+    /// Whether the answer is ENOMEM, by which alone an event leaves no record.
+    pub fn is_no_memory(&self) -> bool
+        ensures { result ≡ is_no_memory self.now }
+    {
+        matches!(self, Answer::Refused(Errno::Enomem))
+    }
+
+    /// Whether two answers are one value, as `==` says.
+    pub fn is_same(&self, other: &Answer) -> bool
+        ensures { IsTrue result ↔ self.now ≡ other.now }
+    {
+        *self == *other
+    }
+
     /// The same answer once more; it can fail above 16 bytes or 4 reports alone.
     pub fn copy(&self) -> Result<Answer, AllocError>
         ensures ok { IfOk result (λ copy. copy ≡ self.now) }

@@ -1,6 +1,6 @@
 //! Calls and events.
 ghost use Rattle.std.specs.Prelude.{◌≡◌, IfOk, IsOk};
-ghost use Rattle.ep_base.specs.Call.{EventHasNoBytes, HasNoBytes};
+ghost use Rattle.ep_base.specs.Call.{EventHasNoBytes, HasNoBytes, IsOnObject, MakesFiles};
 
 use crate::buffer::Buffer;
 use crate::ids::{Fd, Pid};
@@ -13,7 +13,7 @@ use std::alloc::AllocError;
 /// the refusals below, of which the first that holds is answered. A refusal leaves one record and changes nothing else.
 /// ENOMEM comes last, leaves no record and changes nothing. A descriptor below 0 names nothing.
 /// `docs/calls.md` has all of it in tables.
-#[derive(Drop)]
+#[derive(Drop, PartialEq, Eq)]
 pub enum Call {
     /// pipe2(2): a pipe at the two lowest free numbers, its read end at the lower one. Answered by `Answer::Two`.
     /// EMFILE where fewer than two numbers are free, ENFILE where fewer than two descriptions are left.
@@ -137,7 +137,38 @@ impl Call {
         ensures ok { IfOk result (λ copy. copy ≡ self.now) }
         ensures no_bytes { HasNoBytes self.now → IsOk result }
     {
-        Ok(match *self {
+        Ok(match self {
+            Call::Write { fd, bytes } => Call::Write {
+                fd: *fd,
+                bytes: bytes.copy()?,
+            },
+            Call::Pipe { .. }
+            | Call::EventFd { .. }
+            | Call::TimerFd { .. }
+            | Call::SocketPair { .. }
+            | Call::Plain { .. }
+            | Call::EpollCreate { .. } => self.copy_of_maker(),
+            Call::EpollCtl { .. }
+            | Call::EpollWait { .. }
+            | Call::Read { .. }
+            | Call::Shutdown { .. }
+            | Call::SetTime { .. }
+            | Call::GetTime { .. } => self.copy_on_object(),
+            Call::Dup { fd } => Call::Dup { fd: *fd },
+            Call::Dup2 { fd, to } => Call::Dup2 { fd: *fd, to: *to },
+            Call::Close { fd } => Call::Close { fd: *fd },
+            Call::Fork => Call::Fork,
+            Call::Exec => Call::Exec,
+            Call::Exit => Call::Exit,
+        })
+    }
+
+    /// The same call once more, of one that makes files.
+    fn copy_of_maker(&self) -> Call
+        requires { MakesFiles self.now }
+        ensures { result ≡ self.now }
+    {
+        match *self {
             Call::Pipe { cloexec } => Call::Pipe { cloexec },
             Call::EventFd {
                 init,
@@ -152,6 +183,16 @@ impl Call {
             Call::SocketPair { cloexec } => Call::SocketPair { cloexec },
             Call::Plain { cloexec } => Call::Plain { cloexec },
             Call::EpollCreate { cloexec } => Call::EpollCreate { cloexec },
+            _ => unreachable!(),
+        }
+    }
+
+    /// The same call once more, of one that acts on an object and writes no bytes.
+    fn copy_on_object(&self) -> Call
+        requires { IsOnObject self.now }
+        ensures { result ≡ self.now }
+    {
+        match *self {
             Call::EpollCtl {
                 epfd,
                 op,
@@ -167,10 +208,6 @@ impl Call {
             },
             Call::EpollWait { epfd, max, timeout } => Call::EpollWait { epfd, max, timeout },
             Call::Read { fd, n } => Call::Read { fd, n },
-            Call::Write { fd, ref bytes } => Call::Write {
-                fd,
-                bytes: bytes.copy()?,
-            },
             Call::Shutdown { fd } => Call::Shutdown { fd },
             Call::SetTime {
                 fd,
@@ -184,18 +221,13 @@ impl Call {
                 interval,
             },
             Call::GetTime { fd } => Call::GetTime { fd },
-            Call::Dup { fd } => Call::Dup { fd },
-            Call::Dup2 { fd, to } => Call::Dup2 { fd, to },
-            Call::Close { fd } => Call::Close { fd },
-            Call::Fork => Call::Fork,
-            Call::Exec => Call::Exec,
-            Call::Exit => Call::Exit,
-        })
+            _ => unreachable!(),
+        }
     }
 }
 
 /// What is handed to the kernel: one event is one step and leaves one record.
-#[derive(Drop)]
+#[derive(Drop, PartialEq, Eq)]
 pub enum Event {
     /// A call of a process.
     Call { pid: Pid, call: Call },

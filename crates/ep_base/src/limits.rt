@@ -20,13 +20,34 @@ impl Model for Limits {
 
     ghost Value = { Numbers };
 
-    ghost view = { λ l. record { descriptors = l.descriptors; files = l.files; processes = l.processes; watches = l.watches; pipe_bytes = l.pipe_bytes; sock_bytes = l.sock_bytes } };
+    ghost view = { λ l. record {
+      descriptors = l.descriptors;
+      files = l.files;
+      processes = l.processes;
+      watches = l.watches;
+      pipe_bytes = l.pipe_bytes;
+      sock_bytes = l.sock_bytes;
+    } };
 
-    ghost inverse = { λ v. record { descriptors = v.descriptors; files = v.files; processes = v.processes; watches = v.watches; pipe_bytes = v.pipe_bytes; sock_bytes = v.sock_bytes } };
+    ghost inverse = { λ v. record {
+      descriptors = v.descriptors;
+      files = v.files;
+      processes = v.processes;
+      watches = v.watches;
+      pipe_bytes = v.pipe_bytes;
+      sock_bytes = v.sock_bytes;
+    } };
 
     ghost use Rattle.ep_base.specs.Limits.{AreInRange};
 
-    ghost invariant = { λ l. AreInRange (record { descriptors = l.descriptors; files = l.files; processes = l.processes; watches = l.watches; pipe_bytes = l.pipe_bytes; sock_bytes = l.sock_bytes }) };
+    ghost invariant = { λ l. AreInRange (record {
+      descriptors = l.descriptors;
+      files = l.files;
+      processes = l.processes;
+      watches = l.watches;
+      pipe_bytes = l.pipe_bytes;
+      sock_bytes = l.sock_bytes;
+    }) };
 }
 
 impl Limits {
@@ -41,8 +62,22 @@ impl Limits {
         pipe_bytes: u32,
         sock_bytes: u32,
     ) -> Option<Limits>
-        ensures in_range { IsSome result ↔ AreInRange (record { descriptors = descriptors; files = files; processes = processes; watches = watches; pipe_bytes = pipe_bytes; sock_bytes = sock_bytes }) }
-        ensures value { IfSome result (λ limits. limits ≡ record { descriptors = descriptors; files = files; processes = processes; watches = watches; pipe_bytes = pipe_bytes; sock_bytes = sock_bytes }) }
+        ensures in_range { IsSome result ↔ AreInRange (record {
+          descriptors = descriptors;
+          files = files;
+          processes = processes;
+          watches = watches;
+          pipe_bytes = pipe_bytes;
+          sock_bytes = sock_bytes;
+        }) }
+        ensures value { IfSome result (λ limits. limits ≡ record {
+          descriptors = descriptors;
+          files = files;
+          processes = processes;
+          watches = watches;
+          pipe_bytes = pipe_bytes;
+          sock_bytes = sock_bytes;
+        }) }
     {
         let in_range = descriptors >= 3
             && descriptors <= 65_536

@@ -27,7 +27,9 @@ impl Flags for Mask {
 
     ghost exact = { ⊤ };
 
-    ghost table = { (codes "IN", 1) ∷ (codes "PRI", 2) ∷ (codes "OUT", 4) ∷ (codes "ERR", 8) ∷ (codes "HUP", 16) ∷ (codes "RDHUP", 8192) ∷ (codes "EXCLUSIVE", 268435456) ∷ (codes "WAKEUP", 536870912) ∷ (codes "ONESHOT", 1073741824) ∷ (codes "ET", 2147483648) ∷ [] };
+    ghost table = { (codes "IN", 1) ∷ (codes "PRI", 2) ∷ (codes "OUT", 4) ∷ (codes "ERR", 8) ∷
+        (codes "HUP", 16) ∷ (codes "RDHUP", 8192) ∷ (codes "EXCLUSIVE", 268435456) ∷
+        (codes "WAKEUP", 536870912) ∷ (codes "ONESHOT", 1073741824) ∷ (codes "ET", 2147483648) ∷ [] };
 
     ghost set_of = { λ mask. mask.0 };
 

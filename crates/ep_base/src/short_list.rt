@@ -29,6 +29,24 @@ impl<T, const N: usize> Model for ShortList<T, N> {
     ghost view = { λ list. list.values.items };
 }
 
+impl<T: PartialEq, const N: usize> PartialEq for ShortList<T, N> {
+    ghost use Rattle.std.specs.Cmp.Lexicographic.{pointwise, lists_per};
+
+    ghost eq = { pointwise T.eq };
+
+    ghost laws = { lists_per T.laws };
+
+    fn eq(&self, other: &ShortList<T, N>) -> bool {
+        self.values == other.values
+    }
+}
+
+impl<T: Eq, const N: usize> Eq for ShortList<T, N> {
+    ghost use Rattle.std.specs.Cmp.Lexicographic.{lists_equiv};
+
+    ghost laws = { lists_equiv T.Eq.laws };
+}
+
 impl<T: Copy + Default, const N: usize> ShortList<T, N> {
     /// The values of a small vector.
     pub fn new(values: SmallVec<T, N>) -> ShortList<T, N>

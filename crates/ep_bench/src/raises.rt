@@ -1,5 +1,4 @@
 //! Arrivals at one description, with others beside it.
-ghost use Rattle.std.specs.Prelude.{◌+◌, ◌<◌, ◌≤◌, ◌^◌};
 
 use crate::registrations::add;
 use ep_base::{DescId, Mask};

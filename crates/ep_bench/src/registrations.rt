@@ -1,5 +1,4 @@
 //! Registrations come and go.
-ghost use Rattle.std.specs.Prelude.{◌+◌, ◌<◌, ◌≤◌, ◌^◌};
 
 use ep_base::{DescId, Fd, Mask};
 use ep_interest::{Addition, Interest};
@@ -9,10 +8,7 @@ use std::alloc::{AllocError, Global};
 const INSTANCE: DescId = DescId(usize::MAX);
 
 /// Adds a registration on a description that has none.
-pub fn add(sets: &mut Interest, desc: DescId) -> Result<(), AllocError>
-    requires { sets.old.added + 1 < 2 ^ 64 }
-    ensures { sets.new.added ≤ sets.old.added + 1 }
-{
+pub fn add(sets: &mut Interest, desc: DescId) -> Result<(), AllocError> {
     if sets.find(INSTANCE, Fd(3), desc).is_none() {
         sets.add(Addition {
             instance: INSTANCE,

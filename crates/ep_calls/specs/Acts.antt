@@ -1,18 +1,13 @@
 -- What a kernel promises of a step, and of a list of events.
-use Rattle.std.specs.Prelude.{◌≡◌, ℕ, Bool, true, false, List, [], ◌∷◌, ◌++◌, Some, MatchBool}
+use Rattle.std.specs.Prelude.{◌≡◌, ℕ, List, [], ◌∷◌, ◌++◌, Some, MatchBool}
+pub use Rattle.ep_base.specs.Answer.{is_no_memory}
 use Rattle.ep_base.specs.Limits.{Limits}
 use Rattle.ep_base.specs.declared.answer.Answer.{Answer}
-use Rattle.ep_base.specs.declared.answer.Answer.TheVariants.{Refused}
 use Rattle.ep_base.specs.declared.call.Event.{Event}
-use Rattle.ep_base.specs.declared.errno.Errno.TheVariants.{Enomem}
 use Rattle.ep_base.specs.declared.ids.CallerId.{CallerId}
 use Rattle.ep_base.specs.declared.record.Record.{Record}
 use Rattle.ep_machine.specs.State.{State}
 use Rattle.ep_machine.specs.Step.{step}
-
-abbrev pub is_no_memory : Answer → Bool
-is_no_memory (Refused Enomem) = true
-is_no_memory a = false
 
 -- one record was added, by a step of the machine with this caller, event and answer
 pub record Adds (limits : Limits) (caller : CallerId) (event : Event) (answer : Answer) (s t : State) (past now : List Record) : Type 0 where

@@ -19,7 +19,8 @@ IsBelow below has_one tables x = below ≡ (watches_instance tables.files (watch
 
 -- what a registration answers, once that is known
 abbrev pub IsAnswer : Question → Seen → Entry → Bool → Bool → Type 0
-IsAnswer asks tables x below answer = (has_one : ℕ → Bool) → IsBelow below has_one tables x → answer ≡ asks has_one tables.files (watch_at tables.keys x)
+IsAnswer asks tables x below answer = (has_one : ℕ → Bool) → IsBelow below has_one tables x
+    → answer ≡ asks has_one tables.files (watch_at tables.keys x)
 
 -- an instance has a registration that passes, looking down through so many instances
 abbrev pub has_passing : Question → ℕ → Seen → Registrations → DescId → Bool

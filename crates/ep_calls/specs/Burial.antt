@@ -22,7 +22,10 @@ pub record Buries (n : ℕ) (old_tables : Seen) (old_interest : Registrations) (
   pub limits : tables.limits ≡ old_tables.limits
   pub holds : tables.holds ≡ old_tables.holds
   pub keys : KeepsKeys tables old_tables  -- what is left has kept its key
-  pub watches : map (watch_at tables.keys) interest.entries ≡ map (freshened n (die_all (old_tables.files, []) dead).1) (filter (is_untouched (map (λ x. x.0) dead)) (map (watch_at old_tables.keys) old_interest.entries))
+  pub watches : map (watch_at tables.keys) interest.entries
+      ≡ map (freshened n (die_all (old_tables.files, []) dead).1)
+      (filter (is_untouched (map (λ x. x.0) dead))
+      (map (watch_at old_tables.keys) old_interest.entries))
   pub linked : AreLinked tables interest
   pub added : interest.added ≡ old_interest.added
 

@@ -10,7 +10,8 @@ use Rattle.ep_calls.specs.declared.raising.Raising.TheVariants.{Clock, Nowhere}
 
 -- it goes on by so many milliseconds, or is refused to and stays
 abbrev pub Ticks : ℕ → ℕ → ℕ → Answer → Type 0
-Ticks now k then answer = MatchOption (first ((nat_lt last_moment (now + k), Einval) ∷ [])) ((answer ≡ Done) × (then ≡ now + k)) (λ e. (answer ≡ Refused e) × (then ≡ now))
+Ticks now k then answer = MatchOption (first ((nat_lt last_moment (now + k), Einval) ∷ []))
+    ((answer ≡ Done) × (then ≡ now + k)) (λ e. (answer ≡ Refused e) × (then ≡ now))
 
 -- what that raises is raised since the moment before
 abbrev pub Sets : ℕ → ℕ → Raising → Type 0

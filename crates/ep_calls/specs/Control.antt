@@ -1,6 +1,7 @@
 -- The refusals of epoll_ctl in three parts: what its arguments name, the operation, and the interest set.
 use Rattle.std.specs.List.{list_any}
-use Rattle.std.specs.Prelude.{◌≡◌, Bool, false, true, if◌then◌else◌, IsSome, List, MatchBool, None, [], filter, length, map, nat_le, not, pos, ℕ, ℤ, ◌&&◌, ◌++◌, ◌+◌, ◌==◌, ◌||◌, ◌∷◌}
+use Rattle.std.specs.Prelude.{◌≡◌, Bool, false, true, if◌then◌else◌, IsSome, List, MatchBool, None, []}
+use Rattle.std.specs.Prelude.{filter, length, map, nat_le, not, pos, ℕ, ℤ, ◌&&◌, ◌++◌, ◌+◌, ◌==◌, ◌||◌, ◌∷◌}
 use Rattle.ep_base.specs.declared.answer.Answer.{Answer}
 use Rattle.ep_base.specs.declared.answer.Answer.TheVariants.{Done, Refused}
 use Rattle.ep_base.specs.declared.call.Call.{Call}
@@ -46,7 +47,9 @@ is_refused_op op mask = not (is_add op || is_del op || is_mod op) || not (is_del
 
 -- where the operation and the mask are accepted; `deep` says that the graph of instances would not be legal
 abbrev pub room_refusals : Bool → Bool → Bool → ℕ → ℕ → List (Bool × Errno)
-room_refusals adds there deep watches count = (not adds && not there, Enoent) ∷ (adds && there, Eexist) ∷ (adds && deep, Eloop) ∷ (adds && nat_le watches count, Enospc) ∷ []
+room_refusals adds there deep watches count =
+    (not adds && not there, Enoent) ∷ (adds && there, Eexist) ∷ (adds && deep, Eloop)
+    ∷ (adds && nat_le watches count, Enospc) ∷ []
 
 abbrev pub code_of : Operation → ℤ
 code_of Add = pos 1
@@ -63,7 +66,8 @@ Alters Modify k mask tag old new answer = (answer ≡ Done) × (new.entries ≡ 
 abbrev pub Enters : Operation → Bool → ℕ → Entry → Registrations → Registrations → Answer → Type 0
 Enters Add deep watches x old new answer =
     MatchBool deep ((answer ≡ Refused Eloop) × (new ≡ old))
-    (MatchBool (nat_le watches (length old.entries)) ((answer ≡ Refused Enospc) × (new ≡ old)) ((answer ≡ Done) × (new.entries ≡ old.entries ++ x ∷ []) × (new.added ≡ old.added + 1)))
+    (MatchBool (nat_le watches (length old.entries)) ((answer ≡ Refused Enospc) × (new ≡ old))
+    ((answer ≡ Done) × (new.entries ≡ old.entries ++ x ∷ []) × (new.added ≡ old.added + 1)))
 Enters Delete deep watches x old new answer = (answer ≡ Refused Enoent) × (new ≡ old)
 Enters Modify deep watches x old new answer = (answer ≡ Refused Enoent) × (new ≡ old)
 
@@ -85,7 +89,10 @@ is_deep_at tables graph named = is_nested_key tables named.desc && not (is_legal
 
 -- IN at the instance, where the registration with this key is reportable
 abbrev pub raising_of_ctl : Seen → ℕ → Registrations → Named → Fd → Raising
-raising_of_ctl tables now r named fd = if list_any (entry_shows (readiness tables now r) tables now) (filter (has_key named.instance fd named.desc) r.entries) then Instance named.instance else Nowhere
+raising_of_ctl tables now r named fd =
+    if list_any (entry_shows (readiness tables now r) tables now)
+    (filter (has_key named.instance fd named.desc) r.entries)
+    then Instance named.instance else Nowhere
 
 abbrev pub is_done : Answer → Bool
 is_done Done = true

@@ -20,7 +20,8 @@ use Rattle.ep_calls.specs.declared.wait.Reportable.{Reportable}
 use Rattle.ep_calls.specs.declared.wait.Wait.{Wait}
 
 -- from these states of the machine a refusal of these or this change, with what it raises
-pub record Does (From : (State → Type 0) → Type 0) (tests : State → List (Bool × Errno)) (changed : State → List ℕ → Option Change) (outcome : Outcome) (old new : Parts) : Type 0 where
+pub record Does (From : (State → Type 0) → Type 0) (tests : State → List (Bool × Errno))
+    (changed : State → List ℕ → Option Change) (outcome : Outcome) (old new : Parts) : Type 0 where
   pub moves : From (λ s. Goes (tests s) (changed s outcome.picked) s outcome.answer outcome.picked new)
   pub raises : From (λ s. Raises (tests s) (changed s outcome.picked) outcome.raising new.tables new.clock)
   pub raising : IsRaising outcome.raising new.tables
@@ -40,7 +41,8 @@ DoesEvent n caller event outcome old new =
 -- the same from states of which this holds
 abbrev pub DoesCallIf : (State → Type 0) → ℕ → ℕ → ℕ → Call → Outcome → Parts → Parts → Type 0
 DoesCallIf Also n caller p call outcome old new =
-    Does (MovesIf Also n old) (λ s. call_refusals old.tables.limits s p call) (λ s picked. call_change old.tables.limits s caller p call picked) outcome old new
+    Does (MovesIf Also n old) (λ s. call_refusals old.tables.limits s p call)
+    (λ s picked. call_change old.tables.limits s caller p call picked) outcome old new
 
 abbrev pub DoesEventIf : (State → Type 0) → ℕ → ℕ → Event → Outcome → Parts → Parts → Type 0
 DoesEventIf Also n caller event outcome old new =

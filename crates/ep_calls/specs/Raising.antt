@@ -1,5 +1,6 @@
 -- What an event raises before any description dies, and what that does to registrations.
-use Rattle.std.specs.Prelude.{◌≡◌, ◌≤◌, Bool, IsSome, List, MatchOption, None, Option, Some, [], map, unwrap_or, true, ℕ, ℤ, ◌==◌, ◌∷◌}
+use Rattle.std.specs.Prelude.{◌≡◌, ◌≤◌, Bool, IsSome, List, MatchOption, None, Option, Some, [], map}
+use Rattle.std.specs.Prelude.{unwrap_or, true, ℕ, ℤ, ◌==◌, ◌∷◌}
 use Rattle.ep_base.specs.declared.call.Call.{Call}
 use Rattle.ep_base.specs.declared.errno.Errno.{Errno}
 use Rattle.ep_base.specs.declared.errno.Errno.TheVariants.{Ebadf}
@@ -43,7 +44,9 @@ bits_of bits = record { 0 = bits }
 pub record RaisesObject (v : Seen) (desc : DescId) (raised : Raised) (n : ℕ) (old new : Registrations) : Type 0 where
   pub other : Option DescId
   pub is_at : IsAt v.files v.keys (across (place_of v.files (number_of v desc))) other
-  pub entries : new.entries ≡ map (raised_there other (bits_of (at_end raised (opposite (side_of v.files (number_of v desc))))) n) (map (raised_on desc (bits_of (at_end raised (side_of v.files (number_of v desc)))) n) old.entries)
+  pub entries : new.entries
+      ≡ map (raised_there other (bits_of (at_end raised (opposite (side_of v.files (number_of v desc))))) n)
+      (map (raised_on desc (bits_of (at_end raised (side_of v.files (number_of v desc)))) n) old.entries)
   pub keys : new.keys ≡ old.keys
   pub added : new.added ≡ old.added
 
@@ -97,4 +100,6 @@ RaisesByCall old new p fd now call raising =
 
 -- where a call has these refusals, and the machine this change
 abbrev pub Raises : List (Bool × Errno) → Option Change → Raising → Seen → ℕ → Type 0
-Raises refusals o raising v now = MatchOption (first refusals) ((made : Change) → o ≡ Some made → AsRaisedIn made.1.files raising v now made.2) (λ e. AsRaised raising v now [])
+Raises refusals o raising v now = MatchOption (first refusals)
+    ((made : Change) → o ≡ Some made → AsRaisedIn made.1.files raising v now made.2)
+    (λ e. AsRaised raising v now [])

@@ -1,5 +1,6 @@
 -- epoll_wait over the parts of a kernel.
-use Rattle.std.specs.Prelude.{◌≡◌, false, true, All, Bool, IsSome, List, None, Option, Some, [], if◌then◌else◌, map, negsuc, not, pos, ℕ, ℤ, ◌&&◌, ◌+◌, ◌∷◌}
+use Rattle.std.specs.Prelude.{◌≡◌, false, true, All, Bool, IsSome, List, None, Option, Some, []}
+use Rattle.std.specs.Prelude.{if◌then◌else◌, map, negsuc, not, pos, ℕ, ℤ, ◌&&◌, ◌+◌, ◌∷◌}
 use Rattle.ep_base.specs.declared.answer.Report.{Report}
 use Rattle.ep_base.specs.declared.call.Call.{Call}
 use Rattle.ep_base.specs.declared.call.Call.TheVariants.{EpollWait}

@@ -13,16 +13,24 @@ abbrev pub RaisesArrivals : ℕ → ℕ → Raised → Type 0
 RaisesArrivals before after raised = IsCovered before after (at_end raised First)
 
 abbrev pub CounterReadLaw : Type 0
-CounterReadLaw = (c : Counter) (n : ℕ) → let effect = attempt (counter_read_refusals c n) c (counter_read c) in RaisesArrivals (counter_present c) (counter_present effect.1) effect.2
+CounterReadLaw = (c : Counter) (n : ℕ)
+    → let effect = attempt (counter_read_refusals c n) c (counter_read c) in
+    RaisesArrivals (counter_present c) (counter_present effect.1) effect.2
 
 abbrev pub CounterWriteLaw : Type 0
-CounterWriteLaw = (c : Counter) (bytes : List ℕ) → let effect = attempt (counter_write_refusals c bytes) c (counter_write c bytes) in RaisesArrivals (counter_present c) (counter_present effect.1) effect.2
+CounterWriteLaw = (c : Counter) (bytes : List ℕ)
+    → let effect = attempt (counter_write_refusals c bytes) c (counter_write c bytes) in
+    RaisesArrivals (counter_present c) (counter_present effect.1) effect.2
 
 abbrev pub TimerReadLaw : Type 0
-TimerReadLaw = (t : Timer) (now n : ℕ) → let effect = attempt (timer_read_refusals t n now) t (timer_read t now) in RaisesArrivals (timer_present t now) (timer_present effect.1 now) effect.2
+TimerReadLaw = (t : Timer) (now n : ℕ)
+    → let effect = attempt (timer_read_refusals t n now) t (timer_read t now) in
+    RaisesArrivals (timer_present t now) (timer_present effect.1 now) effect.2
 
 abbrev pub TimerSettimeLaw : Type 0
-TimerSettimeLaw = (t : Timer) (absolute : Bool) (value interval now : ℕ) → let effect = attempt (timer_set_refusals value interval) t (timer_settime t absolute value interval now) in RaisesArrivals (timer_present t now) (timer_present effect.1 now) effect.2
+TimerSettimeLaw = (t : Timer) (absolute : Bool) (value interval now : ℕ)
+    → let effect = attempt (timer_set_refusals value interval) t (timer_settime t absolute value interval now) in
+    RaisesArrivals (timer_present t now) (timer_present effect.1 now) effect.2
 
 -- as the clock goes on
 abbrev pub TimerAdvanceLaw : Type 0
@@ -40,7 +48,8 @@ abbrev pub NextTellsAdvance : Type 0
 NextTellsAdvance = (t : Timer) (old new : ℕ) (next : Option ℕ) → IsNextArrival t old next → timer_advance t old new ≡ when (is_by next new) IN
 
 abbrev pub NextStays : Type 0
-NextStays = (t : Timer) (old new : ℕ) (next : Option ℕ) → old ≤ new → IsNextArrival t old next → is_by next new ≡ false → IsNextArrival t new next
+NextStays = (t : Timer) (old new : ℕ) (next : Option ℕ) → old ≤ new → IsNextArrival t old next
+    → is_by next new ≡ false → IsNextArrival t new next
 
 abbrev pub NextIsOver : Type 0
 NextIsOver = (t : Timer) (old new : ℕ) (next : Option ℕ) → IsNextArrival t old next → is_by next new ≡ true → IsNextArrival t new None

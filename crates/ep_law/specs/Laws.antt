@@ -1,6 +1,7 @@
 -- What holds of the definitions, over all runs.
 use Rattle.std.specs.List.{AllByRecursion, list_any}
-use Rattle.std.specs.Prelude.{Bool, List, None, Option, Some, [], bit_or, false, filter, is_some, map, nat_lt, not, true, ℕ, ◌&&◌, ◌++◌, ◌==◌, ◌≡◌, ◌⊎◌, ◌∷◌}
+use Rattle.std.specs.Prelude.{Bool, List, None, Option, Some, [], bit_or, false, filter, is_some, map, nat_lt}
+use Rattle.std.specs.Prelude.{not, true, ℕ, ◌&&◌, ◌++◌, ◌==◌, ◌≡◌, ◌⊎◌, ◌∷◌}
 use Rattle.ep_base.specs.Limits.{Limits}
 use Rattle.ep_base.specs.declared.answer.Answer.TheVariants.{Refused}
 use Rattle.ep_base.specs.declared.call.Event.{Event}
@@ -32,22 +33,27 @@ ReadyEquation = (s : State) (e : ℕ) → is_legal (links s) ≡ true → is_rea
 
 -- the spread is closed
 abbrev pub SpreadEquation : Type 0
-SpreadEquation = (s : State) (raised : List (ℕ × ℕ)) (e : ℕ) → is_legal (links s) ≡ true → is_reached s raised e ≡ list_any (λ x. x.instance == e && passes_on s raised x) s.watches
+SpreadEquation = (s : State) (raised : List (ℕ × ℕ)) (e : ℕ) → is_legal (links s) ≡ true
+    → is_reached s raised e ≡ list_any (λ x. x.instance == e && passes_on s raised x) s.watches
 
 -- a test of bits at a description that what is raised passes, and what registrations pass on
 pub record IsClosed (test : ℕ → ℕ → Bool) (xs : List Watch) (raised : List (ℕ × ℕ)) : Type 0 where
   pub starts : (r : ℕ × ℕ) → Member r raised → test r.0 r.1 ≡ true
   pub none : (d : ℕ) → test d 0 ≡ true
   pub both : (d a b : ℕ) → test d a ≡ true → test d b ≡ true → test d (bit_or a b) ≡ true
-  pub above : (x : Watch) (bits : ℕ) → Member x xs → x.armed ≡ true → nat_lt 0 (asked x.mask bits) ≡ true → test x.target bits ≡ true → test x.instance IN ≡ true
+  pub above : (x : Watch) (bits : ℕ) → Member x xs → x.armed ≡ true
+      → nat_lt 0 (asked x.mask bits) ≡ true → test x.target bits ≡ true → test x.instance IN ≡ true
 
 -- and the least
 abbrev pub SpreadLeast : Type 0
-SpreadLeast = (test : ℕ → ℕ → Bool) (s : State) (raised : List (ℕ × ℕ)) (d : ℕ) → IsClosed test s.watches raised → test d (spread s raised d) ≡ true
+SpreadLeast = (test : ℕ → ℕ → Bool) (s : State) (raised : List (ℕ × ℕ)) (d : ℕ)
+    → IsClosed test s.watches raised → test d (spread s raised d) ≡ true
 
 -- a refusal changes n alone
 abbrev pub RefusalChangesNothing : Type 0
-RefusalChangesNothing = (limits : Limits) (s : State) (caller : ℕ) (event : Event) (e : Errno) → first (refusals limits (next_event s) caller event) ≡ Some e → step limits s caller event [] ≡ Some (Refused e, next_event s)
+RefusalChangesNothing = (limits : Limits) (s : State) (caller : ℕ) (event : Event) (e : Errno)
+    → first (refusals limits (next_event s) caller event) ≡ Some e
+    → step limits s caller event [] ≡ Some (Refused e, next_event s)
 
 -- a run leads to one state
 abbrev pub Determined : Type 0
@@ -59,7 +65,9 @@ EachSound = (limits : Limits) (past : List Record) (s : State) → run limits op
 
 -- in each state of a run a ready instance with waiters has a marked one
 abbrev pub ReadyMarked : Type 0
-ReadyMarked = (limits : Limits) (past : List Record) (s : State) (e : ℕ) → run limits opening past ≡ Some s → waits_at s.waiters e ≡ true → is_ready s e ≡ true → is_marked_at s.waiters e ≡ true
+ReadyMarked = (limits : Limits) (past : List Record) (s : State) (e : ℕ)
+    → run limits opening past ≡ Some s → waits_at s.waiters e ≡ true → is_ready s e ≡ true
+    → is_marked_at s.waiters e ≡ true
 
 -- in each state of a run no chain has more than five instances, and none is a loop
 abbrev pub GraphStaysLegal : Type 0
@@ -67,11 +75,16 @@ GraphStaysLegal = (limits : Limits) (past : List Record) (s : State) → run lim
 
 -- at the end of an event a description lives exactly where a table or a waiter names it
 abbrev pub NamedLives : Type 0
-NamedLives = (s : State) (raised : List (ℕ × ℕ)) → ((d : ℕ) → is_among (named s) d ≡ true → is_live s.files d ≡ true) → (d : ℕ) → is_live (buried s raised).0.files d ≡ is_among (named s) d
+NamedLives = (s : State) (raised : List (ℕ × ℕ))
+    → ((d : ℕ) → is_among (named s) d ≡ true → is_live s.files d ≡ true) → (d : ℕ)
+    → is_live (buried s raised).0.files d ≡ is_among (named s) d
 
 -- which description dies first plays no part in the files that are left
 abbrev pub DeathsInAnyOrder : Type 0
-DeathsInAnyOrder = (files : Files) (xs ys : List (ℕ × Place)) → are_distinct (map (λ x. x.0) xs) ≡ true → are_distinct (map (λ y. y.0) ys) ≡ true → AllByRecursion (λ x. place_of files x.0 ≡ Some x.1) xs → AllByRecursion (λ y. place_of files y.0 ≡ Some y.1) ys
+DeathsInAnyOrder = (files : Files) (xs ys : List (ℕ × Place))
+    → are_distinct (map (λ x. x.0) xs) ≡ true → are_distinct (map (λ y. y.0) ys) ≡ true
+    → AllByRecursion (λ x. place_of files x.0 ≡ Some x.1) xs
+    → AllByRecursion (λ y. place_of files y.0 ≡ Some y.1) ys
     → ((d : ℕ) → is_among (map (λ x. x.0) xs) d ≡ is_among (map (λ y. y.0) ys) d) → (die_all (files, []) xs).0 ≡ (die_all (files, []) ys).0
 
 -- a registration of this number is there, in this instance
@@ -96,7 +109,9 @@ told_of limits e (Some s) (r ∷ rs) = filter (is_in s e) r.picked ++ told_of li
 
 -- while a registration stays reportable and unreported, none of its instance is reported twice
 abbrev pub FairRounds : Type 0
-FairRounds = (limits : Limits) (past later : List Record) (s : State) (e k : ℕ) → run limits opening past ≡ Some s → is_left_out limits e k (Some s) later ≡ true → are_distinct (told_of limits e (Some s) later) ≡ true
+FairRounds = (limits : Limits) (past later : List Record) (s : State) (e k : ℕ)
+    → run limits opening past ≡ Some s → is_left_out limits e k (Some s) later ≡ true
+    → are_distinct (told_of limits e (Some s) later) ≡ true
 
 -- the spread of an event's change at a description
 abbrev pub spread_of : Change → ℕ → ℕ
@@ -104,8 +119,13 @@ spread_of c d = let left = buried c.1 c.2 in spread left.0 (raised_alive left.0 
 
 -- a bit that begins to hold at a description that lives before and after an event is in the event's spread
 abbrev pub BeginningsAreSpread : Type 0
-BeginningsAreSpread = (limits : Limits) (past : List Record) (s : State) (caller : ℕ) (event : Event) (picked : List ℕ) (c : Change) (d : ℕ) → run limits opening past ≡ Some s → first (refusals limits (next_event s) caller event) ≡ None → change limits (next_event s) caller event picked ≡ Some c
-    → is_live s.files d ≡ true → is_live (settle (next_event s) c.1 c.2).files d ≡ true → IsCovered (present s d) (present (settle (next_event s) c.1 c.2) d) (spread_of c d)
+BeginningsAreSpread = (limits : Limits) (past : List Record) (s : State) (caller : ℕ)
+    (event : Event) (picked : List ℕ) (c : Change) (d : ℕ)
+    → run limits opening past ≡ Some s
+    → first (refusals limits (next_event s) caller event) ≡ None
+    → change limits (next_event s) caller event picked ≡ Some c
+    → is_live s.files d ≡ true → is_live (settle (next_event s) c.1 c.2).files d ≡ true
+    → IsCovered (present s d) (present (settle (next_event s) c.1 c.2) d) (spread_of c d)
 
 -- a registration of the later state, but for the event since which it is reportable
 abbrev pub IsNoted : Watch → Watch → Type 0

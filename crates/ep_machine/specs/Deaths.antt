@@ -1,6 +1,7 @@
 -- Descriptions that nothing names any more, and what goes with them.
 use Rattle.std.specs.List.{filter_map, list_any}
-use Rattle.std.specs.Prelude.{Bool, List, None, Option, Some, [], filter, if◌then◌else◌, map, not, slice_index_or, slice_set, unwrap_or, ℕ, ◌&&◌, ◌++◌, ◌==◌, ◌∷◌}
+use Rattle.std.specs.Prelude.{Bool, List, None, Option, Some, [], filter, if◌then◌else◌, map, not}
+use Rattle.std.specs.Prelude.{slice_index_or, slice_set, unwrap_or, ℕ, ◌&&◌, ◌++◌, ◌==◌, ◌∷◌}
 use Rattle.ep_machine.specs.Objects.{Object, close_end, plain}
 use Rattle.ep_machine.specs.Files.{Files, Place, Table, description_in, is_live, live, raised_at}
 use Rattle.ep_machine.specs.State.{State, Watch}

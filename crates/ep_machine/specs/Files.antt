@@ -1,5 +1,6 @@
 -- Descriptor tables, open file descriptions and objects.
-use Rattle.std.specs.Prelude.{Bool, List, None, Option, Some, [], false, filter, is_none, is_some, map, negsuc, pos, slice_index_or, slice_set, unwrap_or, ℕ, ℤ, ◌==◌, ◌∷◌}
+use Rattle.std.specs.Prelude.{Bool, List, None, Option, Some, [], false, filter, is_none, is_some, map}
+use Rattle.std.specs.Prelude.{negsuc, pos, slice_index_or, slice_set, unwrap_or, ℕ, ℤ, ◌==◌, ◌∷◌}
 use Rattle.ep_base.specs.declared.object.End.{End}
 use Rattle.ep_base.specs.declared.object.End.TheVariants.{First}
 use Rattle.ep_base.specs.declared.object.Raised.{Raised}

@@ -12,7 +12,8 @@ use Rattle.ep_machine.specs.Lists.{numbered}
 use Rattle.ep_machine.specs.Objects.{Object, counter, instance, pair, pipe, plain, timer}
 use Rattle.ep_machine.specs.Pipe.{new_pipe}
 use Rattle.ep_machine.specs.Sockets.{new_pair}
-use Rattle.ep_machine.specs.Tables.{answer_one, answer_two, close, create_one, create_two, dup, dup2, exec, exit, fork, is_in_range, one_free, one_refusals, two_refusals}
+use Rattle.ep_machine.specs.Tables.{answer_one, answer_two, close, create_one, create_two, dup, dup2, exec}
+use Rattle.ep_machine.specs.Tables.{exit, fork, is_in_range, one_free, one_refusals, two_refusals}
 use Rattle.ep_machine.specs.Timer.{new_timer}
 use Rattle.ep_machine.specs.Watches.{is_op, number_in}
 

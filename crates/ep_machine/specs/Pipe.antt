@@ -1,5 +1,6 @@
 -- Pipes. The first end is read, the second written.
-use Rattle.std.specs.Prelude.{Bool, List, [], bit_and, drop, false, if◌then◌else◌, length, min, nat_le, nat_lt, not, take, true, ℕ, ◌&&◌, ◌++◌, ◌-◌, ◌∷◌}
+use Rattle.std.specs.Prelude.{Bool, List, [], bit_and, drop, false, if◌then◌else◌, length, min, nat_le}
+use Rattle.std.specs.Prelude.{nat_lt, not, take, true, ℕ, ◌&&◌, ◌++◌, ◌-◌, ◌∷◌}
 use Rattle.ep_base.specs.declared.answer.Answer.TheVariants.{Bytes, Num}
 use Rattle.ep_base.specs.declared.object.End.{End}
 use Rattle.ep_base.specs.declared.object.End.TheVariants.{First, Second}
@@ -46,7 +47,11 @@ pipe_write_refusals p Second [] = []
 pipe_write_refusals p Second (b ∷ bs) = (not p.has_reader, Epipe) ∷ (pipe_is_full_for p (length (b ∷ bs)), Eagain) ∷ []
 
 abbrev pub pipe_write : Pipe → List ℕ → Effect Pipe
-pipe_write p bytes = (Num (min (length bytes) (pipe_room p)), record p { bytes = p.bytes ++ take (pipe_room p) bytes }, raises (when (not (is_empty bytes)) IN) 0)
+pipe_write p bytes = (
+  Num (min (length bytes) (pipe_room p)),
+  record p { bytes = p.bytes ++ take (pipe_room p) bytes },
+  raises (when (not (is_empty bytes)) IN) 0,
+)
 
 abbrev pub pipe_close : Pipe → End → Pipe × Raised
 pipe_close p First = (record p { has_reader = false }, raises 0 ERR)

@@ -1,6 +1,7 @@
 -- Reports and their fairness.
 use Rattle.std.specs.List.{filter_map, find, list_all}
-use Rattle.std.specs.Prelude.{Bool, List, None, Option, Some, [], if◌then◌else◌, length, map, min, nat_le, not, ℕ, ◌&&◌, ◌==◌, ◌||◌, ◌∷◌}
+use Rattle.std.specs.Prelude.{Bool, List, None, Option, Some, [], if◌then◌else◌, length, map, min, nat_le}
+use Rattle.std.specs.Prelude.{not, ℕ, ◌&&◌, ◌==◌, ◌||◌, ◌∷◌}
 use Rattle.ep_base.specs.declared.answer.Answer.TheVariants.{Events}
 use Rattle.ep_base.specs.declared.answer.Report.{Report}
 use Rattle.ep_machine.specs.Bits.{ONESHOT, has_bit}
@@ -30,7 +31,10 @@ report_of s x = record { bits = record { 0 = shown s x }; tag = x.tag }
 
 -- a one-shot is disarmed
 abbrev pub reported : State → List ℕ → Watch → Watch
-reported s ks x = if is_among ks x.number then record x { seen = Some (counts_of s x.target); rep = s.n; from = s.n; armed = x.armed && not (has_bit x.mask ONESHOT) } else x
+reported s ks x =
+    if is_among ks x.number then
+    record x { seen = Some (counts_of s x.target); rep = s.n; from = s.n; armed = x.armed && not (has_bit x.mask ONESHOT) }
+    else x
 
 abbrev pub report : State → ℕ → ℕ → List ℕ → Option Change
 report s e most ks =

@@ -1,5 +1,6 @@
 -- Socket pairs: two ends, each with a queue of what it may read.
-use Rattle.std.specs.Prelude.{Bool, List, [], bit_and, drop, false, if◌then◌else◌, length, min, nat_lt, not, take, true, ℕ, ◌&&◌, ◌++◌, ◌-◌, ◌==◌, ◌||◌, ◌∷◌}
+use Rattle.std.specs.Prelude.{Bool, List, [], bit_and, drop, false, if◌then◌else◌, length, min, nat_lt, not}
+use Rattle.std.specs.Prelude.{take, true, ℕ, ◌&&◌, ◌++◌, ◌-◌, ◌==◌, ◌||◌, ◌∷◌}
 use Rattle.ep_base.specs.declared.answer.Answer.TheVariants.{Bytes, Done, Num}
 use Rattle.ep_base.specs.declared.object.End.{End}
 use Rattle.ep_base.specs.declared.object.End.TheVariants.{First, Second}
@@ -85,8 +86,11 @@ pair_write_refusals p e (b ∷ bs) = ((own p e).is_shut || (peer p e).is_closed,
 
 abbrev pub pair_write : SocketPair → End → List ℕ → Effect SocketPair
 pair_write p e bytes =
-    let other = peer p e in
-    (Num (min (length bytes) (pair_room p e)), with_ends p e (own p e) (record other { queue = other.queue ++ take (pair_room p e) bytes }), raised_ends e 0 (when (not (is_empty bytes)) IN))
+    let other = peer p e in (
+      Num (min (length bytes) (pair_room p e)),
+      with_ends p e (own p e) (record other { queue = other.queue ++ take (pair_room p e) bytes }),
+      raised_ends e 0 (when (not (is_empty bytes)) IN),
+    )
 
 abbrev pub pair_shut : SocketPair → End → SocketPair
 pair_shut p e = let mine = own p e in with_ends p e (record mine { is_shut = true }) (peer p e)
@@ -94,8 +98,13 @@ pair_shut p e = let mine = own p e in with_ends p e (record mine { is_shut = tru
 -- a second SHUT_WR of one end raises nothing
 abbrev pub pair_shutdown : SocketPair → End → Effect SocketPair
 pair_shutdown p e =
-    let q = pair_shut p e in
-    (Done, q, if (own p e).is_shut then nothing else raised_ends e (bit_and HUP (own_beginning p q e)) (union (IN ∷ RDHUP ∷ bit_and HUP (peer_beginning p q e) ∷ [])))
+    let q = pair_shut p e in (
+      Done,
+      q,
+      if (own p e).is_shut then nothing
+          else raised_ends e (bit_and HUP (own_beginning p q e))
+          (union (IN ∷ RDHUP ∷ bit_and HUP (peer_beginning p q e) ∷ [])),
+    )
 
 abbrev pub pair_closed : SocketPair → End → SocketPair
 pair_closed p e = let mine = own p e in with_ends p e (record mine { is_closed = true }) (peer p e)

@@ -1,5 +1,6 @@
 -- What calls do to descriptor tables and to what they name.
-use Rattle.std.specs.Prelude.{Bool, List, None, Option, Some, [], false, if◌then◌else◌, length, map, nat_le, nat_lt, negsuc, pos, slice_set, ℕ, ℤ, ◌++◌, ◌+◌, ◌==◌, ◌∷◌}
+use Rattle.std.specs.Prelude.{Bool, List, None, Option, Some, [], false, if◌then◌else◌, length, map, nat_le}
+use Rattle.std.specs.Prelude.{nat_lt, negsuc, pos, slice_set, ℕ, ℤ, ◌++◌, ◌+◌, ◌==◌, ◌∷◌}
 use Rattle.ep_base.specs.Limits.{Limits}
 use Rattle.ep_base.specs.declared.answer.Answer.{Answer}
 use Rattle.ep_base.specs.declared.answer.Answer.TheVariants.{Num, Two}

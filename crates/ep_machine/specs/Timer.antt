@@ -1,5 +1,6 @@
 -- Timers over the simulated clock.
-use Rattle.std.specs.Prelude.{Bool, List, None, Option, Some, [], if◌then◌else◌, nat_lt, ℕ, ◌&&◌, ◌*◌, ◌+◌, ◌-◌, ◌/◌, ◌==◌, ◌||◌, ◌∷◌}
+use Rattle.std.specs.Prelude.{Bool, List, None, Option, Some, [], if◌then◌else◌, nat_lt, ℕ, ◌&&◌, ◌*◌, ◌+◌}
+use Rattle.std.specs.Prelude.{◌-◌, ◌/◌, ◌==◌, ◌||◌, ◌∷◌}
 use Rattle.ep_base.specs.declared.answer.Answer.{Answer}
 use Rattle.ep_base.specs.declared.answer.Answer.TheVariants.{Bytes, Time}
 use Rattle.ep_base.specs.declared.errno.Errno.{Errno}

@@ -1,6 +1,8 @@
 -- Waiting and resuming.
 use Rattle.std.specs.List.{find, list_any}
-use Rattle.std.specs.Prelude.{Bool, List, None, Option, Some, [], false, filter, if◌then◌else◌, map, nat_le, nat_lt, negsuc, not, pos, suc, unwrap_or, zero, ℕ, ℤ, ◌&&◌, ◌++◌, ◌+◌, ◌==◌, ◌||◌, ◌∷◌}
+use Rattle.std.specs.Prelude.{Bool, List, None, Option, Some, [], false, filter, if◌then◌else◌, map, nat_le}
+use Rattle.std.specs.Prelude.{nat_lt, negsuc, not, pos, suc, unwrap_or, zero, ℕ, ℤ, ◌&&◌, ◌++◌, ◌+◌, ◌==◌}
+use Rattle.std.specs.Prelude.{◌||◌, ◌∷◌}
 use Rattle.ep_base.specs.declared.answer.Answer.TheVariants.{Done, Events, Parked, Still}
 use Rattle.ep_machine.specs.Objects.{advance, plain}
 use Rattle.ep_machine.specs.Readiness.{is_ready}
@@ -22,8 +24,20 @@ abbrev pub has_parked : State → ℕ → Bool
 has_parked s p = list_any (λ w. w.process == p) s.waiters
 
 abbrev pub parked : State → ℕ → ℕ → ℕ → ℕ → Option ℕ → Change
-parked s caller p e most deadline =
-    (Parked, record s { waiters = s.waiters ++ record { caller = caller; process = p; instance = e; most = most; deadline = deadline; marked = false } ∷ [] }, [])
+parked s caller p e most deadline = (
+  Parked,
+  record s {
+    waiters = s.waiters ++ record {
+      caller = caller;
+      process = p;
+      instance = e;
+      most = most;
+      deadline = deadline;
+      marked = false;
+    } ∷ [];
+  },
+  [],
+)
 
 -- a negative timeout has no deadline
 abbrev pub wait_for : State → ℕ → ℕ → ℕ → ℕ → ℤ → Change

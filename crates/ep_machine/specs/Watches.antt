@@ -1,6 +1,7 @@
 -- Registrations: epoll_ctl.
 use Rattle.std.specs.List.{list_any}
-use Rattle.std.specs.Prelude.{Bool, List, None, [], false, filter, if◌then◌else◌, map, negsuc, not, pos, suc, true, unwrap_or, zero, ℕ, ℤ, ◌&&◌, ◌++◌, ◌+◌, ◌==◌, ◌∷◌}
+use Rattle.std.specs.Prelude.{Bool, List, None, [], false, filter, if◌then◌else◌, map, negsuc, not, pos, suc}
+use Rattle.std.specs.Prelude.{true, unwrap_or, zero, ℕ, ℤ, ◌&&◌, ◌++◌, ◌+◌, ◌==◌, ◌∷◌}
 use Rattle.ep_base.specs.declared.answer.Answer.TheVariants.{Done}
 use Rattle.ep_machine.specs.Bits.{IN, when}
 use Rattle.ep_machine.specs.Objects.{is_instance, plain}
@@ -47,7 +48,18 @@ abbrev pub is_legal : List (ℕ × ℕ) → Bool
 is_legal ls = is_empty (ends_of_chains 5 ls)
 
 abbrev pub new_watch : State → ℕ → ℕ → ℕ → ℕ → ℕ → Watch
-new_watch s e fd d mask tag = record { number = s.added + 1; instance = e; fd = fd; target = d; mask = mask; tag = tag; armed = true; seen = None; rep = 0; from = 0 }
+new_watch s e fd d mask tag = record {
+  number = s.added + 1;
+  instance = e;
+  fd = fd;
+  target = d;
+  mask = mask;
+  tag = tag;
+  armed = true;
+  seen = None;
+  rep = 0;
+  from = 0;
+}
 
 abbrev pub with_watch : State → Watch → State
 with_watch s x = record s { watches = s.watches ++ x ∷ []; added = s.added + 1 }

@@ -23,11 +23,15 @@ abbrev pub present_at : ℕ → Object → End → ℕ
 present_at now x e = object_present x e now
 
 abbrev pub ApplyLaw : Type 0
-ApplyLaw = (x : Object) (e : End) (now : ℕ) (call : Call) → let effect = attempt (object_refusals x e now call) x (object_effect x e now call) in RaisesArrivals object_has (present_at now) x effect.1 effect.2
+ApplyLaw = (x : Object) (e : End) (now : ℕ) (call : Call)
+    → let effect = attempt (object_refusals x e now call) x (object_effect x e now call) in
+    RaisesArrivals object_has (present_at now) x effect.1 effect.2
 
 abbrev pub CloseLaw : Type 0
 CloseLaw = (x : Object) (e : End) (now : ℕ) → let closed = close_end x e in RaisesArrivals object_has (present_at now) x closed.0 closed.1
 
 -- as the clock goes on
 abbrev pub AdvanceLaw : Type 0
-AdvanceLaw = (x : Object) (old new : ℕ) (e : End) → IsTrue (object_has x e) → IsCovered (object_present x e old) (object_present x e new) (at_end (raises (advance x old new) 0) e)
+AdvanceLaw = (x : Object) (old new : ℕ) (e : End) → IsTrue (object_has x e)
+    → IsCovered (object_present x e old) (object_present x e new)
+    (at_end (raises (advance x old new) 0) e)

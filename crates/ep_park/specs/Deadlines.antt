@@ -1,7 +1,8 @@
 -- The moments that callers wait for.
 use Rattle.std.specs.Map.{lookup}
 use Rattle.std.specs.Option.{option_map}
-use Rattle.std.specs.Prelude.{Bool, IsSome, List, None, Option, Some, if◌then◌else◌, nat_eq, not, slice_get, true, ℕ, ◌&&◌, ◌<◌, ◌≡◌, ◌≤◌}
+use Rattle.std.specs.Prelude.{Bool, IsSome, List, None, Option, Some, if◌then◌else◌, nat_eq, not, slice_get}
+use Rattle.std.specs.Prelude.{true, ℕ, ◌&&◌, ◌<◌, ◌≡◌, ◌≤◌}
 use Rattle.ep_base.specs.declared.ids.CallerId.{CallerId}
 use Rattle.ep_due.specs.declared.due.DuePlace.{DuePlace}
 use Rattle.ep_due.specs.DueQueue.{moment_at}

@@ -1,11 +1,10 @@
 //! What one thread does.
 ghost use Rattle.std.specs.Prelude.{◌≡◌, false, true};
-ghost use Rattle.ep_calls.specs.Acts.{is_no_memory as wants_memory};
 ghost use Rattle.ep_pool.specs.Jobs.{HasRun};
 ghost use Rattle.ep_pool.specs.Steps.{StepAdds, StopAdds};
 ghost use Rattle.ep_shared.specs.Sessions.{caller_of, records_of};
 
-use ep_base::{Answer, Call, CallerId, Errno, Fd, Pid};
+use ep_base::{Call, CallerId, Fd, Pid};
 use ep_calls::Kernel;
 use ep_shared::{Session, Shared, WaitCall};
 use std::sync::Wait;
@@ -75,13 +74,6 @@ fn asked<K: Kernel + Drop, L: Ledger, G: Gate, R: Wait>(
     false
 }
 
-/// Whether an answer is ENOMEM.
-fn is_no_memory(answer: &Answer) -> bool
-    ensures { result ≡ wants_memory answer.now }
-{
-    matches!(answer, Answer::Refused(Errno::Enomem))
-}
-
 /// Makes a step, and says whether it was answered otherwise than by ENOMEM.
 fn make_step<K: Kernel + Drop, L: Ledger, R: Wait>(
     rt: &R,
@@ -111,7 +103,7 @@ fn make_step<K: Kernel + Drop, L: Ledger, R: Wait>(
         }
         Step::Tick { n } => shared.tick(rt, session, n),
     };
-    !is_no_memory(&answer)
+    !answer.is_no_memory()
 }
 
 /// Makes the steps of a job, each once the gate lets it go: all of them, or those before it stopped.

@@ -1,5 +1,6 @@
 -- A walk over instances: which it has reached.
-use Rattle.std.specs.Prelude.{◌≡◌, ℕ, ◌≤◌, Bool, true, false, List, ◌∷◌, [], ◌++◌, length, slice_index_or, count_by, if◌then◌else◌}
+use Rattle.std.specs.Prelude.{◌≡◌, ℕ, ◌≤◌, Bool, true, false, List, ◌∷◌, [], ◌++◌, length, slice_index_or}
+use Rattle.std.specs.Prelude.{count_by, if◌then◌else◌}
 use Rattle.ep_machine.specs.Lists.{are_distinct, is_among}
 
 -- the keys of the instances reached, in order, and below which key an instance can be reached

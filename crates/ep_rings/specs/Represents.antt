@@ -1,5 +1,6 @@
 -- How nodes and rings represent the lists.
-use Rattle.std.specs.Prelude.{◌≡◌, ℕ, Bool, true, false, ◌==◌, ◌<◌, List, [], length, Option, Some, None, slice_index_or, map, count_by, Contains}
+use Rattle.std.specs.Prelude.{◌≡◌, ℕ, Bool, true, false, ◌==◌, ◌<◌, List, [], length, Option, Some, None}
+use Rattle.std.specs.Prelude.{slice_index_or, map, count_by, Contains}
 use Rattle.ep_rings.specs.declared.node.Node.{Node}
 use Rattle.ep_rings.specs.declared.node.Ring.{Ring}
 use Rattle.ep_rings.specs.declared.node.Role.{Role}
@@ -46,7 +47,8 @@ pub record Represents (next prev : ℕ → ℕ) (roles : List (Option Role)) (ri
   pub lens : (i : ℕ) → i < length rings → (ring_at rings i).len ≡ length (row xss i)
   pub links : (i : ℕ) → i < length rings → IsRing next prev (ring_at rings i).head (row xss i)
   pub heads : (i : ℕ) → i < length rings → role_at roles (ring_at rings i).head ≡ Some (Head i)
-  pub members : (i j : ℕ) → i < length rings → j < length (row xss i) → listed_on (role_at roles (slice_index_or (row xss i) j (ring_at rings i).head)) ≡ Some i
+  pub members : (i j : ℕ) → i < length rings → j < length (row xss i)
+      → listed_on (role_at roles (slice_index_or (row xss i) j (ring_at rings i).head)) ≡ Some i
   pub listed : (k i e : ℕ) → role_at roles k ≡ Some (Member i e true) → Contains (row xss i) k
   pub owned : (k i e : ℕ) (on : Bool) → role_at roles k ≡ Some (Member i e on) → i < length rings
   pub counted : (i : ℕ) → i < length rings → length (row xss i) ≡ count_by (is_on i) roles

@@ -1,5 +1,6 @@
 -- What contracts see of the rings: one list of places for each owner.
-use Rattle.std.specs.Prelude.{◌≡◌, ◌≢◌, ◌<◌, ℕ, Bool, true, false, not, ◌==◌, List, [], ◌∷◌, ◌++◌, Option, Some, None, length, map, slice_index_or, slice_set, filter, if◌then◌else◌}
+use Rattle.std.specs.Prelude.{◌≡◌, ◌≢◌, ◌<◌, ℕ, Bool, true, false, not, ◌==◌, List, [], ◌∷◌, ◌++◌, Option, Some}
+use Rattle.std.specs.Prelude.{None, length, map, slice_index_or, slice_set, filter, if◌then◌else◌}
 use Rattle.ep_base.specs.declared.ids.EntryId.{EntryId}
 use Rattle.ep_machine.specs.Lists.{are_distinct, is_among}
 use Rattle.ep_rings.specs.declared.rings.PlaceId.{PlaceId}

@@ -5,7 +5,9 @@ use Rattle.ep_base.specs.declared.call.Call.TheVariants.{Exec, Exit, Fork, Pipe 
 use Rattle.ep_base.specs.declared.errno.Errno.{Errno}
 use Rattle.ep_base.specs.declared.errno.Errno.TheVariants.{Ebadf, Emfile, Enfile, Epipe, Esrch}
 use Rattle.ep_base.specs.declared.record.Record.{Record}
-use Rattle.ep_runs.specs.Records.{add_call, answered, by_process, close_call, counter_call, create_call, del_call, dup2_call, dup_call, pair_call, pipe_call, read_call, refused, report, reporting, two, wait_call, write_call}
+use Rattle.ep_runs.specs.Records.{add_call, answered, by_process, close_call, counter_call, create_call}
+use Rattle.ep_runs.specs.Records.{del_call, dup2_call, dup_call, pair_call, pipe_call, read_call, refused}
+use Rattle.ep_runs.specs.Records.{report, reporting, two, wait_call, write_call}
 
 -- the read end of a pipe is closed
 abbrev pub closed_reader_run : ℕ → List Record

@@ -4,7 +4,9 @@ use Rattle.ep_base.specs.declared.answer.Answer.TheVariants.{Bytes, Done, Num, T
 use Rattle.ep_base.specs.declared.answer.Report.{Report}
 use Rattle.ep_base.specs.declared.record.Record.{Record}
 use Rattle.ep_machine.specs.Effect.{to_bytes}
-use Rattle.ep_runs.specs.Records.{add_call, answered, counter_call, create_call, mod_call, pair_call, pipe_call, read_call, report, reporting, settime_call, shutdown_call, ticked, timer_call, two, wait_call, write_call}
+use Rattle.ep_runs.specs.Records.{add_call, answered, counter_call, create_call, mod_call, pair_call}
+use Rattle.ep_runs.specs.Records.{pipe_call, read_call, report, reporting, settime_call, shutdown_call}
+use Rattle.ep_runs.specs.Records.{ticked, timer_call, two, wait_call, write_call}
 
 -- a byte that waits is reported once for each write
 abbrev pub edge_run : List Report → List ℕ → List Record

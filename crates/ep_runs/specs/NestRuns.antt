@@ -10,7 +10,9 @@ use Rattle.ep_runs.specs.Records.{add_call, answered, counter_call, create_call,
 
 -- so many instances, at the numbers from one on
 abbrev instances_4_to_8 : List Record
-instances_4_to_8 = answered create_call (Num 4) ∷ answered create_call (Num 5) ∷ answered create_call (Num 6) ∷ answered create_call (Num 7) ∷ answered create_call (Num 8) ∷ []
+instances_4_to_8 = answered create_call (Num 4) ∷ answered create_call (Num 5)
+    ∷ answered create_call (Num 6) ∷ answered create_call (Num 7) ∷ answered create_call (Num 8)
+    ∷ []
 
 -- one more is written to counter 3
 abbrev counted_up : Record

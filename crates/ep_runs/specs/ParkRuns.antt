@@ -8,7 +8,9 @@ use Rattle.ep_base.specs.declared.errno.Errno.{Errno}
 use Rattle.ep_base.specs.declared.errno.Errno.TheVariants.{Ebusy, Einval, Enospc}
 use Rattle.ep_base.specs.declared.record.Record.{Record}
 use Rattle.ep_machine.specs.Effect.{to_bytes}
-use Rattle.ep_runs.specs.Records.{add_call, answered, by_caller, close_call, counter_call, create_call, gettime_call, read_call, refused, report, reporting, resumed, settime_call, ticked, timer_call, wait_call, wait_call_for, write_call}
+use Rattle.ep_runs.specs.Records.{add_call, answered, by_caller, close_call, counter_call, create_call}
+use Rattle.ep_runs.specs.Records.{gettime_call, read_call, refused, report, reporting, resumed, settime_call}
+use Rattle.ep_runs.specs.Records.{ticked, timer_call, wait_call, wait_call_for, write_call}
 
 -- a caller waits at a descriptor for at most so many reports and so long, and is parked
 abbrev pub parks : ℕ → ℕ → ℕ → ℤ → Record

@@ -5,7 +5,9 @@ use Rattle.ep_base.specs.declared.answer.Answer.{Answer}
 use Rattle.ep_base.specs.declared.answer.Answer.TheVariants.{Done, Events, Refused, Two}
 use Rattle.ep_base.specs.declared.answer.Report.{Report}
 use Rattle.ep_base.specs.declared.call.Call.{Call}
-use Rattle.ep_base.specs.declared.call.Call.TheVariants.{Close, Dup, Dup2, EpollCreate, EpollCtl, EpollWait, EventFd, GetTime, Pipe as PipeCall, Plain, Read, SetTime, Shutdown, SocketPair, TimerFd, Write}
+use Rattle.ep_base.specs.declared.call.Call.TheVariants.{Close, Dup, Dup2, EpollCreate, EpollCtl, EpollWait}
+use Rattle.ep_base.specs.declared.call.Call.TheVariants.{EventFd, GetTime, Pipe as PipeCall, Plain, Read}
+use Rattle.ep_base.specs.declared.call.Call.TheVariants.{SetTime, Shutdown, SocketPair, TimerFd, Write}
 use Rattle.ep_base.specs.declared.call.Event.{Event}
 use Rattle.ep_base.specs.declared.call.Event.TheVariants.{Call as CallOf, Resume, Tick}
 use Rattle.ep_base.specs.declared.errno.Errno.{Errno}
@@ -14,7 +16,15 @@ use Rattle.ep_base.specs.declared.record.Record.{Record}
 
 -- limits on descriptors, files and registrations; the others don't matter here
 abbrev pub small_limits : ℕ → ℕ → ℕ → Limits
-small_limits descriptors files watches = record { descriptors = descriptors; files = files; processes = 2; watches = watches; pipe_bytes = 4096; sock_bytes = 4096 }
+small_limits descriptors files watches =
+    record {
+      descriptors = descriptors;
+      files = files;
+      processes = 2;
+      watches = watches;
+      pipe_bytes = 4096;
+      sock_bytes = 4096;
+    }
 
 -- 6 descriptors, 5 files and 2 processes
 abbrev pub tight_limits : Limits

@@ -5,7 +5,9 @@ use Rattle.ep_base.specs.declared.answer.Answer.TheVariants.{Bytes, Done, Num, R
 use Rattle.ep_base.specs.declared.errno.Errno.{Errno}
 use Rattle.ep_base.specs.declared.errno.Errno.TheVariants.{Eagain, Ebadf, Eexist, Einval, Emfile, Enoent, Enfile, Eperm, Esrch}
 use Rattle.ep_base.specs.declared.record.Record.{Record}
-use Rattle.ep_runs.specs.Records.{add_call, answered, by_process, create_call, ctl_call, del_call, mod_call, pipe_call, read_call, refused, reporting, two, wait_call, wait_call_for, write_call}
+use Rattle.ep_runs.specs.Records.{add_call, answered, by_process, create_call, ctl_call, del_call, mod_call}
+use Rattle.ep_runs.specs.Records.{pipe_call, read_call, refused, reporting, two, wait_call, wait_call_for}
+use Rattle.ep_runs.specs.Records.{write_call}
 
 -- where one descriptor number is free: a pipe wants two
 abbrev pub descriptors_run : Answer → List Record

@@ -5,7 +5,8 @@ use Rattle.ep_base.specs.declared.answer.Report.{Report}
 use Rattle.ep_base.specs.declared.errno.Errno.{Errno}
 use Rattle.ep_base.specs.declared.errno.Errno.TheVariants.{Eexist}
 use Rattle.ep_base.specs.declared.record.Record.{Record}
-use Rattle.ep_runs.specs.Records.{add_call, answered, close_call, create_call, del_call, dup2_call, mod_call, pipe_call, refused, report, reporting, two, wait_call, write_call}
+use Rattle.ep_runs.specs.Records.{add_call, answered, close_call, create_call, del_call, dup2_call, mod_call}
+use Rattle.ep_runs.specs.Records.{pipe_call, refused, report, reporting, two, wait_call, write_call}
 
 -- a one-shot is reported once, until MOD arms it again
 abbrev pub one_shot_run : List Report → List ℕ → List Record

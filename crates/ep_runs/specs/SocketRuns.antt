@@ -4,7 +4,9 @@ use Rattle.ep_base.specs.declared.answer.Answer.TheVariants.{Bytes, Done, Num}
 use Rattle.ep_base.specs.declared.errno.Errno.{Errno}
 use Rattle.ep_base.specs.declared.errno.Errno.TheVariants.{Eagain, Ebadf, Emfile, Enfile, Eperm}
 use Rattle.ep_base.specs.declared.record.Record.{Record}
-use Rattle.ep_runs.specs.Records.{add_call, answered, counter_call, create_call, pair_call, plain_call, read_call, refused, report, reporting, shutdown_call, two, wait_call, write_call}
+use Rattle.ep_runs.specs.Records.{add_call, answered, counter_call, create_call, pair_call, plain_call}
+use Rattle.ep_runs.specs.Records.{read_call, refused, report, reporting, shutdown_call, two, wait_call}
+use Rattle.ep_runs.specs.Records.{write_call}
 
 -- what waits is still read after the other end shut its writing
 abbrev pub shut_run : Errno → List Record

@@ -5,7 +5,9 @@ use Rattle.ep_base.specs.declared.errno.Errno.{Errno}
 use Rattle.ep_base.specs.declared.errno.Errno.TheVariants.{Eagain, Ebadf, Einval, Emfile}
 use Rattle.ep_base.specs.declared.record.Record.{Record}
 use Rattle.ep_machine.specs.Effect.{to_bytes}
-use Rattle.ep_runs.specs.Records.{add_call, answered, create_call, gettime_call, pipe_call, read_call, refused, report, reporting, settime_call, tick_refused, ticked, timer_call, two, wait_call, write_call}
+use Rattle.ep_runs.specs.Records.{add_call, answered, create_call, gettime_call, pipe_call, read_call}
+use Rattle.ep_runs.specs.Records.{refused, report, reporting, settime_call, tick_refused, ticked, timer_call}
+use Rattle.ep_runs.specs.Records.{two, wait_call, write_call}
 
 -- an absolute moment that has passed expires at once
 abbrev pub passed_run : ℕ → List Record

@@ -1,4 +1,3 @@
-mod ReportLemmas
 mod Pigeon
 mod SameParts
 mod PartLemmas

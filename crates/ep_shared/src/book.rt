@@ -4,7 +4,7 @@ ghost use Rattle.std.specs.List.{range_with_len};
 ghost use Rattle.ep_machine.specs.Run.{run};
 ghost use Rattle.ep_machine.specs.State.{opening};
 ghost use Rattle.ep_machine.specs.Waits.{is_marked, is_parked};
-ghost use Rattle.ep_calls.specs.Acts.{Acts, is_no_memory as wants_memory};
+ghost use Rattle.ep_calls.specs.Acts.{Acts};
 ghost use Rattle.ep_calls.specs.KeptRecords.{KeepsRecord};
 ghost use Rattle.ep_shared.specs.Parts.{IsBetween};
 ghost use Rattle.ep_shared.specs.Told.{Adds, may_answer, must_wait};
@@ -14,7 +14,7 @@ mod handed;
 pub mod laws;
 
 pub use crate::book::close::{FinishFault, History};
-use ep_base::{Answer, CallerId, Errno, Event, Record};
+use ep_base::{Answer, CallerId, Event, Record};
 use ep_calls::Kernel;
 use std::alloc::{AllocError, Global};
 use std::marker::PhantomData;
@@ -126,13 +126,6 @@ impl<L: Ledger> Session<L> {
     }
 }
 
-/// Whether an answer is ENOMEM.
-fn is_no_memory(answer: &Answer) -> bool
-    ensures { result ≡ wants_memory answer.now }
-{
-    matches!(answer, Answer::Refused(Errno::Enomem))
-}
-
 impl<K: Kernel + Drop, L: Ledger> Book<K, L> {
     /// A book of this kernel, whose history is empty, and a session without records for each caller from 1 to `sessions`.
     /// An `Err` is want of memory.
@@ -194,7 +187,7 @@ impl<K: Kernel + Drop, L: Ledger> Book<K, L> {
         } = session;
         let answer = kernel.step_kept(CallerId(name.number), event, records);
         let _past = kernel.history();
-        if !is_no_memory(&answer) {
+        if !answer.is_no_memory() {
             made.add(share, 1);
         }
         answer

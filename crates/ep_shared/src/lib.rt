@@ -2,7 +2,6 @@
 #![tactic(auto)]
 
 pub mod book;
-mod same;
 mod shared;
 
 pub use crate::book::{Book, FinishFault, History, Session, laws};

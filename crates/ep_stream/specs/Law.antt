@@ -17,10 +17,14 @@ pipe_has p First = p.has_reader
 pipe_has p Second = p.has_writer
 
 abbrev pub PipeReadLaw : Type 0
-PipeReadLaw = (p : Pipe) (e : End) (n : ℕ) → let effect = attempt (pipe_read_refusals p e n) p (pipe_read p n) in RaisesArrivals pipe_has pipe_present p effect.1 effect.2
+PipeReadLaw = (p : Pipe) (e : End) (n : ℕ)
+    → let effect = attempt (pipe_read_refusals p e n) p (pipe_read p n) in
+    RaisesArrivals pipe_has pipe_present p effect.1 effect.2
 
 abbrev pub PipeWriteLaw : Type 0
-PipeWriteLaw = (p : Pipe) (e : End) (bytes : List ℕ) → let effect = attempt (pipe_write_refusals p e bytes) p (pipe_write p bytes) in RaisesArrivals pipe_has pipe_present p effect.1 effect.2
+PipeWriteLaw = (p : Pipe) (e : End) (bytes : List ℕ)
+    → let effect = attempt (pipe_write_refusals p e bytes) p (pipe_write p bytes) in
+    RaisesArrivals pipe_has pipe_present p effect.1 effect.2
 
 abbrev pub PipeCloseLaw : Type 0
 PipeCloseLaw = (p : Pipe) (e : End) → let closed = pipe_close p e in RaisesArrivals pipe_has pipe_present p closed.0 closed.1
@@ -29,10 +33,14 @@ abbrev pub pair_has : SocketPair → End → Bool
 pair_has p e = not (own p e).is_closed
 
 abbrev pub PairReadLaw : Type 0
-PairReadLaw = (p : SocketPair) (e : End) (n : ℕ) → let effect = attempt (pair_read_refusals p e n) p (pair_read p e n) in RaisesArrivals pair_has pair_present p effect.1 effect.2
+PairReadLaw = (p : SocketPair) (e : End) (n : ℕ)
+    → let effect = attempt (pair_read_refusals p e n) p (pair_read p e n) in
+    RaisesArrivals pair_has pair_present p effect.1 effect.2
 
 abbrev pub PairWriteLaw : Type 0
-PairWriteLaw = (p : SocketPair) (e : End) (bytes : List ℕ) → let effect = attempt (pair_write_refusals p e bytes) p (pair_write p e bytes) in RaisesArrivals pair_has pair_present p effect.1 effect.2
+PairWriteLaw = (p : SocketPair) (e : End) (bytes : List ℕ)
+    → let effect = attempt (pair_write_refusals p e bytes) p (pair_write p e bytes) in
+    RaisesArrivals pair_has pair_present p effect.1 effect.2
 
 abbrev pub PairShutdownLaw : Type 0
 PairShutdownLaw = (p : SocketPair) (e : End) → let effect = pair_shutdown p e in RaisesArrivals pair_has pair_present p effect.1 effect.2

@@ -1,5 +1,6 @@
 -- How descriptions and objects are kept, and what always holds of them.
-use Rattle.std.specs.Prelude.{[], unwrap_or, ◌++◌, ◌∷◌, List, None, Option, Some, length, map, slice_index_or, vec_capacity, ℕ, ◌+◌, ◌≡◌, ◌≤◌}
+use Rattle.std.specs.Prelude.{[], unwrap_or, ◌++◌, ◌∷◌, List, None, Option, Some, length, map, slice_index_or}
+use Rattle.std.specs.Prelude.{vec_capacity, ℕ, ◌+◌, ◌≡◌, ◌≤◌}
 use Rattle.slab.specs.Slab.{slab_len}
 use Rattle.ep_base.specs.declared.ids.DescId.{DescId}
 use Rattle.ep_base.specs.declared.object.End.{End}
@@ -106,6 +107,8 @@ pub record IsStore {A : Type 0} (k : Inside A) : Type 0 where
   pub owned : AllOwned k.descriptions.slots k.objects.slots
   pub counted : slab_len k.descriptions ≡ length (numbered 0 (places k.descriptions.slots k.described))
   pub room : slab_len k.descriptions ≤ vec_capacity k.dying
-  pub queue : Queue (places k.descriptions.slots k.described) (counts names_in k.descriptions.slots k.described) (counts holds_in k.descriptions.slots k.described) (queued k.dying.items)
+  pub queue : Queue (places k.descriptions.slots k.described)
+      (counts names_in k.descriptions.slots k.described)
+      (counts holds_in k.descriptions.slots k.described) (queued k.dying.items)
   pub keyed : AllKeyed (map key_number k.descriptions.slots) k.dying.items
   pub fewer : AllFewer k.descriptions.slots k.named

@@ -1,6 +1,8 @@
 -- What contracts see of the tables.
 use Rattle.ep_base.specs.declared.object.End.TheVariants.{First, Second}
-use Rattle.std.specs.Prelude.{if◌then◌else◌, true, false, not, slice_set, ◌-◌, ◌&&◌, ◌==◌, Bool, IsSome, List, MatchOption, None, Option, Some, is_some, negsuc, pos, slice_index_or, unwrap_or, ℕ, ℤ, ◌+◌, ◌≡◌, ◌≢◌, ◌∷◌, [], length, ◌++◌}
+use Rattle.std.specs.Prelude.{if◌then◌else◌, true, false, not, slice_set, ◌-◌, ◌&&◌, ◌==◌, Bool, IsSome, List}
+use Rattle.std.specs.Prelude.{MatchOption, None, Option, Some, is_some, negsuc, pos, slice_index_or}
+use Rattle.std.specs.Prelude.{unwrap_or, ℕ, ℤ, ◌+◌, ◌≡◌, ◌≢◌, ◌∷◌, [], length, ◌++◌}
 use Rattle.ep_base.specs.Limits.{Limits}
 use Rattle.ep_base.specs.declared.answer.Answer.{Answer}
 use Rattle.ep_base.specs.declared.answer.Answer.TheVariants.{Refused}
@@ -158,7 +160,9 @@ pub record Sound (v : Seen) : Type 0 where
   pub object : (k : DescId) (d : ℕ) → number_under v k ≡ Some d → IsSome (object_of v.files d)
   pub named : (p d : ℕ) (fd : ℤ) → under v.files p fd ≡ Some d → (key : DescId) × (number_under v key ≡ Some d)
   pub keyed : (d : ℕ) → is_live v.files d ≡ true → (key : DescId) × (number_under v key ≡ Some d)
-  pub apart : (d e : ℕ) (p : Place) → place_of v.files d ≡ Some p → place_of v.files e ≡ Some p → d ≡ e  -- an end of an object has one description
+  -- an end of an object has one description
+  pub apart : (d e : ℕ) (p : Place) → place_of v.files d ≡ Some p → place_of v.files e ≡ Some p
+      → d ≡ e
   pub held : (d : ℕ) → is_live v.files d ≡ false → holds_of v d ≡ 0
   pub holds_length : length v.holds ≡ length v.files.descriptions
   pub distinct : are_distinct v.dying ≡ true
@@ -223,7 +227,9 @@ pub record InsertsOne (old new : Things) (key : DescId) (x : Object) : Type 0 wh
 
 -- an object with two, under these
 pub record InsertsTwo (old new : Things) (first second : DescId) (x : Object) : Type 0 where
-  pub descriptions : new.descriptions ≡ (old.descriptions ++ Some (record { object = length old.objects; side = First }) ∷ []) ++ Some (record { object = length old.objects; side = Second }) ∷ []
+  pub descriptions : new.descriptions
+      ≡ (old.descriptions ++ Some (record { object = length old.objects; side = First }) ∷ [])
+      ++ Some (record { object = length old.objects; side = Second }) ∷ []
   pub objects : new.objects ≡ old.objects ++ Some x ∷ []
   pub middle : List (Option ℕ)
   pub first_key : AddsKey old.keys middle first (length old.descriptions)

@@ -1,5 +1,4 @@
 //! What passes something on in an event, until it is removed or the event ends.
-ghost use Rattle.std.specs.Prelude.{◌+◌, ◌<◌, ◌≤◌, ◌^◌};
 
 use ep_base::{DescId, EntryId, Fd, Mask};
 use ep_interest::{Addition, Interest};
@@ -11,10 +10,12 @@ const IN: Mask = Mask(1);
 const OUT: Mask = Mask(4);
 
 /// The key of the registration of an instance on a description, which is added where it isn't there.
-fn key(sets: &mut Interest, instance: usize, desc: usize, mask: Mask) -> Result<EntryId, AllocError>
-    requires { sets.old.added + 1 < 2 ^ 64 }
-    ensures { sets.new.added ≤ sets.old.added + 1 }
-{
+fn key(
+    sets: &mut Interest,
+    instance: usize,
+    desc: usize,
+    mask: Mask,
+) -> Result<EntryId, AllocError> {
     match sets.find(DescId(instance), Fd(5), DescId(desc)) {
         Some(id) => Ok(id),
         None => sets.add(Addition {

@@ -1,5 +1,5 @@
 //! The registrations: found, in order, used again, removed with what they touch, and refused memory.
-ghost use Rattle.std.specs.Prelude.{◌≡◌, ◌+◌, ◌<◌, ◌≤◌, ◌^◌, IfOk, IsSome, OnErr, OnOk, filter};
+ghost use Rattle.std.specs.Prelude.{◌≡◌, IfOk, IsSome, filter};
 ghost use Rattle.ep_interest.specs.Registrations.{is_of, number_under};
 
 use self::Op::{Add, Look, Modify, Purge, Remove, Report};
@@ -64,10 +64,7 @@ fn addition(key: Key, tag: u64) -> Addition
     }
 }
 
-fn put(sets: &mut Interest, key: Key, tag: u64) -> Result<(), AllocError>
-    requires { sets.old.added + 1 < 2 ^ 64 }
-    ensures { sets.new.added ≤ sets.old.added + 1 }
-{
+fn put(sets: &mut Interest, key: Key, tag: u64) -> Result<(), AllocError> {
     let new = addition(key, tag);
     if sets.find(new.instance, new.fd, new.desc).is_none() {
         sets.add(new)?;
@@ -77,7 +74,6 @@ fn put(sets: &mut Interest, key: Key, tag: u64) -> Result<(), AllocError>
 
 fn change(sets: &mut Interest, op: Op, id: EntryId)
     requires { IsSome (number_under sets.old id) }
-    ensures { sets.new.added ≡ sets.old.added }
 {
     match op {
         Report(event) => sets.report(id, event),
@@ -87,10 +83,7 @@ fn change(sets: &mut Interest, op: Op, id: EntryId)
     }
 }
 
-fn make(sets: &mut Interest, op: Op, key: Key) -> Result<(), AllocError>
-    requires { sets.old.added + 1 < 2 ^ 64 }
-    ensures { sets.new.added ≤ sets.old.added + 1 }
-{
+fn make(sets: &mut Interest, op: Op, key: Key) -> Result<(), AllocError> {
     match op {
         Add(tag) => put(sets, key, tag)?,
         Purge => sets.purge(DescId(key.2)),
@@ -117,9 +110,7 @@ fn last_report(sets: &Interest, key: Key) -> Option<(bool, bool, u64)> {
 }
 
 /// Instance 3 watches 9 twice and 8 once, in this order, and instance 4 watches 9.
-fn four(alloc: Global) -> Result<Interest, AllocError>
-    ensures { IfOk result (λ sets. sets.added < 5) }
-{
+fn four(alloc: Global) -> Result<Interest, AllocError> {
     let mut sets = Interest::new(alloc);
     put(&mut sets, (3, 5, 9), 70)?;
     put(&mut sets, (4, 5, 9), 71)?;
@@ -129,9 +120,7 @@ fn four(alloc: Global) -> Result<Interest, AllocError>
 }
 
 /// The first of at most 16 steps that goes otherwise.
-fn first_wrong(sets: &mut Interest, steps: &[Step]) -> Result<Option<u8>, AllocError>
-    requires { sets.old.added < 5 }
-{
+fn first_wrong(sets: &mut Interest, steps: &[Step]) -> Result<Option<u8>, AllocError> {
     for turn in 0..16_u8 {
         let Some((op, key, wanted, count)) = steps.get(usize::from(turn)).copied() else {
             return Ok(None);

@@ -2,7 +2,9 @@
 use Rattle.std.specs.Prelude.{Bool, Ok, Result}
 use Rattle.serde_json.specs.Data.{Data}
 use Rattle.ep_base.specs.declared.call.Call.{Call}
-use Rattle.ep_base.specs.declared.call.Call.TheVariants.{Close, Dup, Dup2, EpollCreate, EpollCtl, EpollWait, EventFd, Exec, Exit, Fork, GetTime, Pipe, Plain, Read, SetTime, Shutdown, SocketPair, TimerFd, Write}
+use Rattle.ep_base.specs.declared.call.Call.TheVariants.{Close, Dup, Dup2, EpollCreate, EpollCtl, EpollWait}
+use Rattle.ep_base.specs.declared.call.Call.TheVariants.{EventFd, Exec, Exit, Fork, GetTime, Pipe, Plain}
+use Rattle.ep_base.specs.declared.call.Call.TheVariants.{Read, SetTime, Shutdown, SocketPair, TimerFd, Write}
 use Rattle.ep_base.specs.declared.ids.Fd.{Fd}
 use Rattle.ep_text.specs.declared.key.Key.TheVariants as key
 use Rattle.ep_text.specs.declared.reason.Reason.{Reason}

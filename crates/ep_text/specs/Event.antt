@@ -13,7 +13,10 @@ use Rattle.ep_text.specs.declared.key.Key.{Key}
 use Rattle.ep_text.specs.declared.key.Key.TheVariants as key
 use Rattle.ep_text.specs.declared.reason.Reason.{Reason}
 use Rattle.ep_text.specs.declared.reason.Reason.TheVariants.{NoObject, UnknownOp}
-use Rattle.ep_text.specs.Calls.{close_call, ctl_call, dup2_call, dup_call, epoll_call, eventfd_call, exec_call, exit_call, fork_call, gettime_call, pipe_call, plain_call, read_call, settime_call, shutdown_call, socketpair_call, timerfd_call, wait_call, write_call}
+use Rattle.ep_text.specs.Calls.{close_call, ctl_call, dup2_call, dup_call, epoll_call, eventfd_call}
+use Rattle.ep_text.specs.Calls.{exec_call, exit_call, fork_call, gettime_call, pipe_call, plain_call}
+use Rattle.ep_text.specs.Calls.{read_call, settime_call, shutdown_call, socketpair_call, timerfd_call}
+use Rattle.ep_text.specs.Calls.{wait_call, write_call}
 use Rattle.ep_text.specs.Keys.{has_only, optional, required, text, unsigned32, unsigned64, ◌>>=◌}
 use Rattle.ep_text.specs.Reason.{unread}
 

@@ -1,5 +1,6 @@
 -- The keys of an object: those that must be there, those that may be left out, and no other.
-use Rattle.std.specs.Prelude.{Bool, Err, List, None, Ok, Option, Result, Some, [], bytes_eq, false, if◌then◌else◌, ok_or, ℕ, ℤ, ⊤, ◌||◌, ◌∷◌}
+use Rattle.std.specs.Prelude.{Bool, Err, List, None, Ok, Option, Result, Some, [], bytes_eq, false}
+use Rattle.std.specs.Prelude.{if◌then◌else◌, ok_or, ℕ, ℤ, ⊤, ◌||◌, ◌∷◌}
 use Rattle.serde_json.specs.Data.{Data, Members, member, no_members}
 use Rattle.serde_json.specs.Find.{as_bool, as_str, get}
 use Rattle.ep_text.specs.declared.key.Key.{Key}

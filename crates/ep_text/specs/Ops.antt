@@ -9,7 +9,10 @@ use Rattle.ep_text.specs.declared.op.CallOp.TheVariants as op
 use Rattle.ep_text.specs.declared.op.Op.{Op}
 use Rattle.ep_text.specs.declared.op.Op.TheVariants as any
 use Rattle.ep_text.specs.declared.reason.Reason.{Reason}
-use Rattle.ep_text.specs.Calls.{close_call, ctl_call, dup2_call, dup_call, epoll_call, eventfd_call, exec_call, exit_call, fork_call, gettime_call, pipe_call, plain_call, read_call, settime_call, shutdown_call, socketpair_call, timerfd_call, wait_call, write_call}
+use Rattle.ep_text.specs.Calls.{close_call, ctl_call, dup2_call, dup_call, epoll_call, eventfd_call}
+use Rattle.ep_text.specs.Calls.{exec_call, exit_call, fork_call, gettime_call, pipe_call, plain_call}
+use Rattle.ep_text.specs.Calls.{read_call, settime_call, shutdown_call, socketpair_call, timerfd_call}
+use Rattle.ep_text.specs.Calls.{wait_call, write_call}
 use Rattle.ep_text.specs.Event.{Operation, call_operation, resume_operation, tick_operation}
 
 abbrev pub name_of : CallOp → List ℕ

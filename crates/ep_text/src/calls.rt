@@ -1,7 +1,9 @@
 //! The calls, each with the values of its keys.
 ghost use Rattle.std.specs.Prelude.{◌≡◌, IfOk};
 ghost use Rattle.serde_json.specs.View.{view};
-ghost use Rattle.ep_text.specs.Calls.{close_call, ctl_call, dup2_call, dup_call, epoll_call, eventfd_call, gettime_call, pipe_call, plain_call, read_call, settime_call, shutdown_call, socketpair_call, timerfd_call, wait_call, write_call};
+ghost use Rattle.ep_text.specs.Calls.{close_call, ctl_call, dup2_call, dup_call, epoll_call, eventfd_call};
+ghost use Rattle.ep_text.specs.Calls.{gettime_call, pipe_call, plain_call, read_call, settime_call};
+ghost use Rattle.ep_text.specs.Calls.{shutdown_call, socketpair_call, timerfd_call, wait_call, write_call};
 ghost use Rattle.ep_text.specs.Ops.{call_of};
 
 use crate::bytes::bytes_in;

@@ -21,7 +21,9 @@ fn number(run: &str) -> Option<u32>
 /// The number of the digits before the first comma, and what stands behind that comma.
 fn number_and_rest(text: &str) -> Option<(u32, &str)>
     ensures read { IfSome result (λ p. (run : List ℕ) × (text.now ≡ run ++ 44 ∷ p.1.now) × IsNumeral 10 run × (digits_value 10 run ≡ p.0)) }
-    ensures found { (run rest : List ℕ) → text.now ≡ run ++ 44 ∷ rest → IsNumeral 10 run → digits_value 10 run < 2 ^ 32 → IsSomeAnd result (λ p. (p.0 ≡ digits_value 10 run) × (p.1.now ≡ rest)) }
+    ensures found { (run rest : List ℕ) → text.now ≡ run ++ 44 ∷ rest → IsNumeral 10 run
+        → digits_value 10 run < 2 ^ 32
+        → IsSomeAnd result (λ p. (p.0 ≡ digits_value 10 run) × (p.1.now ≡ rest)) }
 {
     let (run, rest) = text.split_once(',')?;
     let number = number(run)?;

@@ -35,14 +35,16 @@ fn push_events(text: &mut String, reports: &[Report]) -> Result<(), AllocError>
 }
 
 fn push_two(text: &mut String, first: i32, second: i32) -> Result<(), AllocError>
-    ensures { OnOk result (string_bytes text.new ≡ string_bytes text.old ++ (codes "{\"two\":[" ++ signed_decimal first ++ codes "," ++ signed_decimal second ++ codes "]}\n")) }
+    ensures { OnOk result (string_bytes text.new
+        ≡ string_bytes text.old ++ (codes "{\"two\":[" ++ signed_decimal first ++ codes "," ++ signed_decimal second ++ codes "]}\n")) }
 {
     write!(text, "{{\"two\":[{first},{second}]}}\n")?;
     Ok(())
 }
 
 fn push_time(text: &mut String, value: u64, interval: u64) -> Result<(), AllocError>
-    ensures { OnOk result (string_bytes text.new ≡ string_bytes text.old ++ (codes "{\"time\":[" ++ decimal value ++ codes "," ++ decimal interval ++ codes "]}\n")) }
+    ensures { OnOk result (string_bytes text.new
+        ≡ string_bytes text.old ++ (codes "{\"time\":[" ++ decimal value ++ codes "," ++ decimal interval ++ codes "]}\n")) }
 {
     write!(text, "{{\"time\":[{value},{interval}]}}\n")?;
     Ok(())
@@ -57,7 +59,8 @@ fn push_bytes(alloc: Global, text: &mut String, bytes: &[u8]) -> Result<(), Allo
 }
 
 fn push_errno(text: &mut String, errno: Errno) -> Result<(), AllocError>
-    ensures { OnOk result (string_bytes text.new ≡ string_bytes text.old ++ (codes "{\"err\":[" ++ decimal (errno_number errno) ++ codes ",\"" ++ errno_name errno ++ codes "\"]}\n")) }
+    ensures { OnOk result (string_bytes text.new
+        ≡ string_bytes text.old ++ (codes "{\"err\":[" ++ decimal (errno_number errno) ++ codes ",\"" ++ errno_name errno ++ codes "\"]}\n")) }
 {
     let number = errno.number();
     let name = errno.name();

@@ -9,5 +9,3 @@ mod limits;
 mod lines;
 #[cfg(test)]
 mod reasons;
-#[cfg(test)]
-mod same;

@@ -1,6 +1,5 @@
 //! Lines of scripts, and lines of answers.
 
-use crate::same::are_same;
 use ep_base::{
     Answer, Buffer, Bytes, Call, CallerId, Errno, Event, Fd, Mask, Pid, Report, Reports,
 };
@@ -33,10 +32,7 @@ fn expect_event(
     let Some((by, found)) = read_line(rt.alloc(), line.as_bytes())? else {
         return Err(Fail::from("no command"));
     };
-    assert!(rt;
-        by == CallerId(caller) && are_same(&found, &event),
-        "at {line}"
-    );
+    assert!(rt; by == CallerId(caller) && found == event, "at {line}");
     Ok(())
 }
 
@@ -78,9 +74,9 @@ fn reads_each_operation(rt: HostRuntime) -> Result<(), Fail> {
     expect_command(&rt, line, 0, 1, call)
 }
 
-// The further calls, with the values of each key, and what is left out.
+// The further calls that make an object, with the values of each key, and what is left out.
 #[test]
-fn reads_each_further_operation(rt: HostRuntime) -> Result<(), Fail> {
+fn reads_each_further_creation(rt: HostRuntime) -> Result<(), Fail> {
     for (line, call) in [
         (
             "{\"op\":\"socketpair\"}",
@@ -113,6 +109,16 @@ fn reads_each_further_operation(rt: HostRuntime) -> Result<(), Fail> {
                 cloexec: true,
             },
         ),
+    ] {
+        expect_command(&rt, line, 0, 1, call)?;
+    }
+    Ok(())
+}
+
+// The further calls on an object.
+#[test]
+fn reads_each_further_object_call(rt: HostRuntime) -> Result<(), Fail> {
+    for (line, call) in [
         (
             "{\"op\":\"shutdown\",\"fd\":-2147483648}",
             Call::Shutdown {
@@ -120,18 +126,6 @@ fn reads_each_further_operation(rt: HostRuntime) -> Result<(), Fail> {
             },
         ),
         ("{\"op\":\"gettime\",\"fd\":4}", Call::GetTime { fd: Fd(4) }),
-        ("{\"op\":\"dup\",\"fd\":-1}", Call::Dup { fd: Fd(-1) }),
-        (
-            "{\"op\":\"dup2\",\"to\":7,\"fd\":3}",
-            Call::Dup2 {
-                fd: Fd(3),
-                to: Fd(7),
-            },
-        ),
-        ("{\"op\":\"close\",\"fd\":3}", Call::Close { fd: Fd(3) }),
-        ("{\"op\":\"fork\"}", Call::Fork),
-        ("{\"op\":\"exec\"}", Call::Exec),
-        ("{\"op\":\"exit\"}", Call::Exit),
         (
             "{\"op\":\"settime\",\"fd\":4,\"value\":3}",
             Call::SetTime {
@@ -150,6 +144,28 @@ fn reads_each_further_operation(rt: HostRuntime) -> Result<(), Fail> {
                 interval: 18_446_744_073_709_551_615,
             },
         ),
+    ] {
+        expect_command(&rt, line, 0, 1, call)?;
+    }
+    Ok(())
+}
+
+// The calls on tables and processes.
+#[test]
+fn reads_each_table_call(rt: HostRuntime) -> Result<(), Fail> {
+    for (line, call) in [
+        ("{\"op\":\"dup\",\"fd\":-1}", Call::Dup { fd: Fd(-1) }),
+        (
+            "{\"op\":\"dup2\",\"to\":7,\"fd\":3}",
+            Call::Dup2 {
+                fd: Fd(3),
+                to: Fd(7),
+            },
+        ),
+        ("{\"op\":\"close\",\"fd\":3}", Call::Close { fd: Fd(3) }),
+        ("{\"op\":\"fork\"}", Call::Fork),
+        ("{\"op\":\"exec\"}", Call::Exec),
+        ("{\"op\":\"exit\"}", Call::Exit),
     ] {
         expect_command(&rt, line, 0, 1, call)?;
     }
@@ -232,48 +248,50 @@ fn reads_masks_and_acts(rt: HostRuntime) -> Result<(), Fail> {
     expect_ctl(&rt, keys, 2, 1_610_612_766, 0)
 }
 
+/// Lines that are no command.
+const NO_COMMANDS: [&[u8]; 37] = [
+    b"",
+    b" ",
+    b"{\"op\":\"pi",
+    b"[]",
+    b"\"pipe\"",
+    b"{}",
+    b"{\"op\":\"\"}",
+    b"{\"op\":\"PIPE\"}",
+    b"{\"op\":1}",
+    b"{\"op\":\"pipe\"} x",
+    b"{\"op\":\"pipe\",\"x\":1}",
+    b"{\"op\":\"pipe\",\"fd\":1}",
+    b"{\"op\":\"pipe\",\"cloexec\":1}",
+    b"{\"op\":\"pipe\",\"by\":4294967296}",
+    b"{\"op\":\"pipe\",\"by\":-1}",
+    b"{\"op\":\"pipe\",\"pid\":18446744073709551616}",
+    b"{\"op\":\"pipe\",\"pid\":\"1\"}",
+    b"{\"op\":\"pipe\",\"\xff\":1}",
+    b"{\"op\":\"write\",\"fd\":1,\"hex\":\"6\"}",
+    b"{\"op\":\"write\",\"fd\":1,\"hex\":\"6g\"}",
+    b"{\"op\":\"write\",\"fd\":1,\"hex\":\"\",\"fill\":[0,0]}",
+    b"{\"op\":\"write\",\"fd\":1}",
+    b"{\"op\":\"write\",\"fd\":1,\"fill\":[256,1]}",
+    b"{\"op\":\"write\",\"fd\":1,\"fill\":[1,1048577]}",
+    b"{\"op\":\"write\",\"fd\":1,\"fill\":[1,1,1]}",
+    b"{\"op\":\"read\",\"fd\":2147483648,\"n\":1}",
+    b"{\"op\":\"read\",\"fd\":-0,\"n\":1}",
+    b"{\"op\":\"read\",\"fd\":0,\"n\":4294967296}",
+    b"{\"op\":\"read\",\"fd\":0}",
+    b"{\"op\":\"wait\",\"ep\":0,\"max\":1.0,\"timeout\":0}",
+    b"{\"op\":\"wait\",\"ep\":0,\"max\":1,\"timeout\":9223372036854775808}",
+    b"{\"op\":\"wait\",\"ep\":0,\"max\":1,\"timeout\":-9223372036854775809}",
+    b"{\"op\":\"wait\",\"ep\":0,\"max\":1}",
+    b"{\"op\":\"ctl\",\"ep\":5,\"fd\":3,\"act\":\"ADD\"}",
+    b"{\"op\":\"ctl\",\"ep\":5,\"fd\":3,\"act\":1,\"mask\":\"in\"}",
+    b"{\"op\":\"ctl\",\"ep\":5,\"fd\":3,\"act\":1,\"mask\":4294967296}",
+    b"{\"op\":\"ctl\",\"ep\":5,\"fd\":3,\"act\":1,\"data\":1e0}",
+];
+
 #[test]
 fn refuses_what_is_no_command(rt: HostRuntime) -> Result<(), Fail> {
-    let lines: [&[u8]; 37] = [
-        b"",
-        b" ",
-        b"{\"op\":\"pi",
-        b"[]",
-        b"\"pipe\"",
-        b"{}",
-        b"{\"op\":\"\"}",
-        b"{\"op\":\"PIPE\"}",
-        b"{\"op\":1}",
-        b"{\"op\":\"pipe\"} x",
-        b"{\"op\":\"pipe\",\"x\":1}",
-        b"{\"op\":\"pipe\",\"fd\":1}",
-        b"{\"op\":\"pipe\",\"cloexec\":1}",
-        b"{\"op\":\"pipe\",\"by\":4294967296}",
-        b"{\"op\":\"pipe\",\"by\":-1}",
-        b"{\"op\":\"pipe\",\"pid\":18446744073709551616}",
-        b"{\"op\":\"pipe\",\"pid\":\"1\"}",
-        b"{\"op\":\"pipe\",\"\xff\":1}",
-        b"{\"op\":\"write\",\"fd\":1,\"hex\":\"6\"}",
-        b"{\"op\":\"write\",\"fd\":1,\"hex\":\"6g\"}",
-        b"{\"op\":\"write\",\"fd\":1,\"hex\":\"\",\"fill\":[0,0]}",
-        b"{\"op\":\"write\",\"fd\":1}",
-        b"{\"op\":\"write\",\"fd\":1,\"fill\":[256,1]}",
-        b"{\"op\":\"write\",\"fd\":1,\"fill\":[1,1048577]}",
-        b"{\"op\":\"write\",\"fd\":1,\"fill\":[1,1,1]}",
-        b"{\"op\":\"read\",\"fd\":2147483648,\"n\":1}",
-        b"{\"op\":\"read\",\"fd\":-0,\"n\":1}",
-        b"{\"op\":\"read\",\"fd\":0,\"n\":4294967296}",
-        b"{\"op\":\"read\",\"fd\":0}",
-        b"{\"op\":\"wait\",\"ep\":0,\"max\":1.0,\"timeout\":0}",
-        b"{\"op\":\"wait\",\"ep\":0,\"max\":1,\"timeout\":9223372036854775808}",
-        b"{\"op\":\"wait\",\"ep\":0,\"max\":1,\"timeout\":-9223372036854775809}",
-        b"{\"op\":\"wait\",\"ep\":0,\"max\":1}",
-        b"{\"op\":\"ctl\",\"ep\":5,\"fd\":3,\"act\":\"ADD\"}",
-        b"{\"op\":\"ctl\",\"ep\":5,\"fd\":3,\"act\":1,\"mask\":\"in\"}",
-        b"{\"op\":\"ctl\",\"ep\":5,\"fd\":3,\"act\":1,\"mask\":4294967296}",
-        b"{\"op\":\"ctl\",\"ep\":5,\"fd\":3,\"act\":1,\"data\":1e0}",
-    ];
-    for line in lines {
+    for line in NO_COMMANDS {
         let found = read_line(rt.alloc(), line)?;
         assert!(rt; found.is_none(), "at {line:?}");
     }

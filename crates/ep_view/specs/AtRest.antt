@@ -76,7 +76,10 @@ pub record Settles (after : State) (raised : List (ℕ × ℕ)) (t : State) : Ty
   pub n : t.n ≡ after.n
   pub now : t.now ≡ after.now
   pub files : t.files ≡ (die_all (after.files, []) (dying after)).0
-  pub watches : kernel_watches t t.watches ≡ settled_watches after.n t.files (freshened after.n (die_all (after.files, raised) (dying after)).1) (filter (stays_in t.files) (kernel_watches after after.watches))
+  pub watches : kernel_watches t t.watches
+      ≡ settled_watches after.n t.files (freshened after.n
+      (die_all (after.files, raised) (dying after)).1)
+      (filter (stays_in t.files) (kernel_watches after after.watches))
   pub added : t.added ≡ after.added
   pub waiters : t.waiters ≡ marks_of t after.waiters
   pub seen : All (λ x. HasSeen x.seen (counts_of t x.target)) t.watches

@@ -5,7 +5,6 @@ ghost use Rattle.ep_shared.specs.Sessions.{IsBelow, IsSame, has_session};
 
 use crate::book::Session;
 use crate::book::handed::has;
-use crate::same::is_same_record;
 use ep_base::{CallerId, Record};
 use std::sync::ledger::Ledger;
 
@@ -89,7 +88,7 @@ fn is_part(history: &[Record], caller: u32, records: &[Record]) -> bool
     let mut k = 0;
     for r in history {
         if r.caller.0 == caller {
-            if k == records.len() || !is_same_record(&records[k], r) {
+            if k == records.len() || !records[k].is_same(r) {
                 return false;
             }
             k += 1;
