@@ -135,12 +135,18 @@ module _ (past : List Record) (old mid noted buried climbed new : Parts) (keeps 
   pub keeps_next : Keeps after new
   keeps_next = subst (λ (p : Parts). Keeps after p) (sym settled_is) settled_keeps
 
-  pub adds_next : Adds old.tables.limits caller event outcome.answer (unwrap_or (run old.tables.limits opening past) opening) (unwrap_or (run new.tables.limits opening after) opening) past after
-  adds_next =
+  -- the state to which the history leads then
+  state_now : unwrap_or (run new.tables.limits opening after) opening ≡ next.to
+  state_now =
       let limits : new.tables.limits ≡ old.tables.limits = ap (λ (p : Parts). p.tables.limits) settled_is ∙ limits_left in
-      let now : unwrap_or (run new.tables.limits opening after) opening ≡ next.to = ap (λ (o : Option State). unwrap_or o opening) (ap (λ (l : Limits). run l opening after) limits ∙ leads_on) in
-      record {
-        picked = outcome.picked;
-        goes = ap (λ (s : State). step old.tables.limits s caller.0 event outcome.picked) (state_is past old keeps) ∙ (next.goes ∙ ap (λ (s : State). Some (outcome.answer, s)) (sym now));
-        added = refl;
-      }
+      ap (λ (o : Option State). unwrap_or o opening) (ap (λ (l : Limits). run l opening after) limits ∙ leads_on)
+
+  pub step_next : step old.tables.limits keeps.state caller.0 event outcome.picked ≡ Some (outcome.answer, unwrap_or (run new.tables.limits opening after) opening)
+  step_next = next.goes ∙ ap (λ (s : State). Some (outcome.answer, s)) (sym state_now)
+
+  pub adds_next : Adds old.tables.limits caller event outcome.answer (unwrap_or (run old.tables.limits opening past) opening) (unwrap_or (run new.tables.limits opening after) opening) past after
+  adds_next = record {
+    picked = outcome.picked;
+    goes = ap (λ (s : State). step old.tables.limits s caller.0 event outcome.picked) (state_is past old keeps) ∙ step_next;
+    added = refl;
+  }

@@ -126,7 +126,7 @@ each_map f n [] xs = sym (map_same xs) where
   map_same (y ∷ ys) = ap (λ (zs : List Entry). y ∷ zs) (map_same ys)
 each_map f n (id ∷ ids) xs = each_map f n ids (map (raised_on id (f id) n) xs) ∙ map_twice (raised_on id (f id) n) (arrive_each f n ids) xs
 
-abbrev among_ids : List DescId → ℕ → Bool
+abbrev pub among_ids : List DescId → ℕ → Bool
 among_ids ids k = list_any (λ id. k == id.0) ids
 
 -- noted twice is noted once
@@ -168,7 +168,7 @@ arrive_is f n (id ∷ ids) x =
 next_key : (j i : ℕ) → j + 1 + i ≡ j + suc i
 next_key j i = omega arith
 
-in_live : (j i : ℕ) (keys : List (Option ℕ)) (n : ℕ) → get_or keys i None ≡ Some n → among_ids (live_from j keys) (j + i) ≡ true
+pub in_live : (j i : ℕ) (keys : List (Option ℕ)) (n : ℕ) → get_or keys i None ≡ Some n → among_ids (live_from j keys) (j + i) ≡ true
 in_live j i [] n h = absurd (none-some n h)
 in_live j zero (None ∷ keys) n h = absurd (none-some n h)
 in_live j (suc i) (None ∷ keys) n h = ap (among_ids (live_from (j + 1) keys)) (sym (next_key j i)) ∙ in_live (j + 1) i keys n h

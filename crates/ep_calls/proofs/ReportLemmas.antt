@@ -60,13 +60,13 @@ no_numbers [] h = refl
 no_numbers (x ∷ xs) h = absurd (false≢true (sym (not_zero (length xs)) ∙ h))
 
 -- Of a registration that is there the machine finds its own.
-find_kept : (s : State) (xs : List Watch) (k : ℕ) → view_of (kernel_watches s xs) k ≡ option_map (kernel_watch s) (find_watch xs k)
+pub find_kept : (s : State) (xs : List Watch) (k : ℕ) → view_of (kernel_watches s xs) k ≡ option_map (kernel_watch s) (find_watch xs k)
 find_kept s [] k = refl
 find_kept s (x ∷ xs) k =
     let rest = find_kept s xs k in
     elim (x.number == k) as (λ b. cond b (Some (kernel_watch s x)) (view_of (kernel_watches s xs) k) ≡ option_map (kernel_watch s) (cond b (Some x) (find_watch xs k))) [ true ↦ refl | false ↦ rest ]
 
-find_at : (keys : List (Option ℕ)) (xs : List Entry) (k : ℕ) → view_of (map (watch_at keys) xs) k ≡ option_map (watch_at keys) (numbered xs k)
+pub find_at : (keys : List (Option ℕ)) (xs : List Entry) (k : ℕ) → view_of (map (watch_at keys) xs) k ≡ option_map (watch_at keys) (numbered xs k)
 find_at keys [] k = refl
 find_at keys (x ∷ xs) k =
     let rest = find_at keys xs k in
@@ -109,7 +109,7 @@ none_told : (s : State) (xs : List Reportable) → (length xs == 0) ≡ true →
 none_told s [] h = ap (λ (ws : List Watch). let c : Change = (Events [], record s { watches = ws }, []) in c) (sym (reported_none s s.watches))
 none_told s (x ∷ xs) h = absurd (false≢true (sym (not_zero (length xs)) ∙ h))
 
-any_found : (p : Watch → Bool) (xs : List Watch) → list_any p xs ≡ not (length (filter p xs) == 0)
+pub any_found : (p : Watch → Bool) (xs : List Watch) → list_any p xs ≡ not (length (filter p xs) == 0)
 any_found p [] = ap not (sym (same_nat 0))
 any_found p (x ∷ xs) =
     let rest = any_found p xs in

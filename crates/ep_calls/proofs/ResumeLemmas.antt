@@ -43,7 +43,7 @@ module _ (g : List Link) (v : Seen) (r : Registrations) (ws : List Waiter) (now 
   same = record { tables = v; interest = r; graph = g; parked = ws; clock = now }
 
   -- who is parked
-  found : waiter_of s caller ≡ option_map (at_number number) (find (is_caller caller) ws)
+  pub found : waiter_of s caller ≡ option_map (at_number number) (find (is_caller caller) ws)
   found = ap (find (is_caller caller)) stands.waiters ∙ find_at number caller ws
 
   pub goes_unparked : find (is_caller caller) ws ≡ None → Goes (refusals limits s caller Resume) (resume s caller []) s (Refused Einval) [] same
@@ -55,7 +55,7 @@ module _ (g : List Link) (v : Seen) (r : Registrations) (ws : List Waiter) (now 
     abbrev own : Waiter
     own = at_number number (parked caller w)
 
-    there : waiter_of s caller ≡ Some own
+    pub there : waiter_of s caller ≡ Some own
     there = found ∙ ap (option_map (at_number number)) is
 
     goes : (c : Change) (answer : Answer) (picked : List ℕ) (new : Parts) → resume s caller picked ≡ Some c → c.0 ≡ answer → StandFor new c.1 → Goes (refusals limits s caller Resume) (resume s caller picked) s answer picked new

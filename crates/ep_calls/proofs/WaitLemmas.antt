@@ -202,7 +202,7 @@ module _ (v : Seen) (args : Wait) (instance : DescId) (of : Waits v args instanc
 
   module _ {ws : List Waiter} (g : List Link) (now : ℕ) (old : Registrations) (n : ℕ) (chosen : List Reportable) (keyed : AreKeyed v now old chosen) (caller : ℕ) (s : State)
       (at : s.n ≡ n) (legal : is_legal (links s) ≡ true) (stands : Stands v old ws now s) (pick : IsPick v instance (number_in args.max) chosen s) where
-    named : named_by s.files p args.epfd.0 ≡ e
+    pub named : named_by s.files p args.epfd.0 ≡ e
     named = ap (λ (f : Files). named_by f p args.epfd.0) stands.files ∙ ap (λ (o : Option ℕ). unwrap_or o 0) (sym of.named)
 
     goes : (c : Change) (answer : Answer) (picked : List ℕ) (new : Parts) → wait s caller p e most args.timeout picked ≡ Some c → c.0 ≡ answer → StandFor new c.1

@@ -7,7 +7,7 @@ ghost use Rattle.ep_park.specs.Waiters.{is_caller, parked, without};
 ghost use Rattle.ep_calls.specs.Does.{DoesEvent, DoesResume};
 ghost use Rattle.ep_calls.specs.Kept.{IsKept};
 ghost use Rattle.ep_calls.specs.Stands.{AreHeld, ArePlaced};
-ghost use Rattle.ep_calls.specs.Wait.{AreKeyed, with_report};
+ghost use Rattle.ep_calls.specs.Wait.{AreKeyed, numbers_of, with_report};
 ghost use Rattle.ep_table.specs.Value.{number_of, number_under};
 
 use crate::raising::Raising;
@@ -84,6 +84,7 @@ impl Parts {
         ensures ids { self.new.interest.keys ≡ self.old.interest.keys }
         ensures entries { IfOk result (λ outcome. self.new.interest.entries ≡ map (with_report step outcome.picked) self.old.interest.entries) }
         ensures ok { IfOk result (λ outcome. DoesResume step caller.0 waiter chosen.now outcome self.old self.new) }
+        ensures picked { IfOk result (λ outcome. outcome.picked ≡ numbers_of chosen.now) }
         ensures kept { IfOk result (λ outcome. IsKept kept outcome) }
         ensures err { OnErr result (self.new ≡ self.old) }
     {

@@ -6,7 +6,7 @@ ghost use Rattle.ep_machine.specs.Timer.{last_moment};
 ghost use Rattle.ep_park.specs.Waiters.{is_caller};
 ghost use Rattle.ep_calls.specs.Does.{DoesCall, DoesWait};
 ghost use Rattle.ep_calls.specs.Kept.{IsKept};
-ghost use Rattle.ep_calls.specs.Wait.{AreKeyed, Waits, deadline_of, wait_call, wait_tests, with_report};
+ghost use Rattle.ep_calls.specs.Wait.{AreKeyed, Waits, deadline_of, numbers_of, wait_call, wait_tests, with_report};
 
 use crate::parking::park;
 use crate::raising::Raising;
@@ -83,6 +83,7 @@ impl Parts {
         ensures ids { self.new.interest.keys ≡ self.old.interest.keys }
         ensures entries { IfOk result (λ outcome. self.new.interest.entries ≡ map (with_report step outcome.picked) self.old.interest.entries) }
         ensures ok { IfOk result (λ outcome. DoesWait step caller.0 args instance chosen.now outcome self.old self.new) }
+        ensures picked { IfOk result (λ outcome. outcome.picked ≡ numbers_of chosen.now) }
         ensures kept { IfOk result (λ outcome. IsKept args.kept outcome) }
         ensures err { OnErr result (self.new ≡ self.old) }
     {

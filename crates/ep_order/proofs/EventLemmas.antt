@@ -28,7 +28,7 @@ use Rattle.ep_order.specs.Pick.{of_number, turns_of}
 use Rattle.ep_order.proofs.OrderLemmas.{stays_fair}
 use Rattle.ep_order.proofs.OriginLemmas.{Origin, Untold, origins}
 use Rattle.ep_order.proofs.PickLemmas.{by_number}
-use Rattle.ep_order.proofs.StepLemmas.{stood, was_left}
+use Rattle.ep_order.proofs.StepLemmas.{since_when, stood, was_left}
 
 same_reportable : (s : State) (x : Watch) → is_reportable (next_event s) x ≡ is_reportable s x
 same_reportable s x = λ i. is_reportable_by (λ e. ready_same s (s.n + 1) s.waiters e i) s x
@@ -124,7 +124,7 @@ module _ (b : State) (event : Event) (picked : List ℕ) (c : Change) (e : ℕ) 
   since : (y : Watch) → Member y t.watches → y.instance ≡ e → is_reportable t y ≡ true → (y.from ≡ b.n) ⊎ Since y
   since y m here shown =
       let h = stood b c.1 c.2 y m in
-      elim (h.from shown) [
+      elim (since_when b c.1 c.2 y h shown) [
         | inl now ↦ inl (now ∙ at)
         | inr was ↦ elim (origin h.x h.there) [
           | inl told ↦ inl (was.0 ∙ told.from)
@@ -242,13 +242,13 @@ lists_go_on apply close clock limits past s caller event picked c is allowed mad
     let complete_b : IsComplete (turns_of b e) old = subst (λ (u : Turns). IsComplete u old) (sym turns) complete in
     let leaves : (k : ℕ) → is_among old k ≡ true → h.keeps k ≡ false → is_reportable_in b e k ≡ true → is_reportable_in t e k ≡ true → is_among picked k ≡ true =
     λ k there goes was r. h.leaves k there goes (ap (λ (u : Turns). u.ready k) (sym turns) ∙ was) r in
-    let order = reorders b event picked c e sound from.0 from.1 sound_end old new complete_b h.keeps h.more h.unpicked leaves h.comes in (
+    let order = reorders b event picked c e sound from.0 from.2 sound_end old new complete_b h.keeps h.more h.unpicked leaves h.comes in (
       subst (λ (ks : List ℕ). IsFairOrder (turns_of t e) ks) (sym h.is) (stays_fair b.n (turns_of b e) (turns_of t e) h.keeps old h.more fair_b order),
       λ k r.
           let y = shows_of t e k r in
           let cause = reportables_are_spread apply close clock limits past s caller event picked c y.y is allowed made y.there y.ready in
           ap (λ (ks : List ℕ). is_among ks k) h.is ∙ (ap (is_among (filter h.keeps old ++ h.more)) (sym y.number)
-          ∙ stands b event picked c e sound from.0 from.1 sound_end old new complete_b h.keeps h.more h.unpicked leaves h.comes
+          ∙ stands b event picked c e sound from.0 from.2 sound_end old new complete_b h.keeps h.more h.unpicked leaves h.comes
           (λ x there left at ends on. ap (λ (ks : List ℕ). is_among ks x.number) (sym h.is) ∙ h.passes x (record { there = there; left = left; instance = at; ready = ends }) on)
           (λ x there left at ends ready why.
           let end : EndsReportable s c e x = record { there = there; left = left; instance = at; ready = ends } in

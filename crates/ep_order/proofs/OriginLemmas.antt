@@ -1,5 +1,5 @@
 -- Where each registration after a change comes from.
-use Rattle.std.proofs.Common.{◌≡◌, ℕ, zero, suc, ◌+◌, ◌&&◌, ◌==◌, ◌++◌, ◌⊎◌, ◌∙◌, Bool, List, [], ◌∷◌, MatchOption, None, Option, Some, ℤ, pos, negsuc, true, false, not, ap, cond, filter, inl, inr, map, refl, subst, sym}
+use Rattle.std.proofs.Common.{◌≡◌, ◌≤◌, ℕ, zero, suc, ◌+◌, arith, ◌&&◌, ◌==◌, ◌++◌, ◌⊎◌, ◌∙◌, Bool, List, [], ◌∷◌, MatchOption, None, Option, Some, ℤ, pos, negsuc, true, false, not, ap, cond, filter, inl, inr, map, refl, subst, sym}
 use Rattle.std.proofs.lemmas.Bool.{cases_Bool, false≢true}
 use Rattle.ep_base.specs.Limits.{Limits}
 use Rattle.ep_base.specs.declared.answer.Answer.TheVariants.{Events}
@@ -77,15 +77,22 @@ all_three a b c f g h = λ i. f i && g i && h i
 
 -- One event.
 module _ (b : State) (event : Event) where
+  -- one registration is added, or none
+  abbrev pub Adds : State → Type 0
+  Adds u = (b.added ≤ u.added) × (u.added ≤ b.added + 1)
+
+  pub adds_none : (u : State) → u.added ≡ b.added → Adds u
+  adds_none u a = (omega (arith, a), omega (arith, a))
+
   Good : List ℕ → State → Type 0
-  Good ks u = (u.n ≡ b.n) × ((x : Watch) → Member x u.watches → Origin b event ks x)
+  Good ks u = (u.n ≡ b.n) × Adds u × ((x : Watch) → Member x u.watches → Origin b event ks x)
 
   Fine : List ℕ → Option Change → Type 0
   Fine ks c = MatchOption c (Unit {0}) (λ o. Good ks o.1)
 
   still : Good [] b
   unfolding Good
-  still = (refl, λ x m. inr (refl, inl m))
+  still = (refl, adds_none b refl, λ x m. inr (refl, inl m))
 
   fine_plainly : (ks : List ℕ) (c : Change) → Good [] c.1 → Fine ks (plainly ks c)
   unfolding Fine
@@ -112,19 +119,19 @@ module _ (b : State) (event : Event) where
   unfolding Fine Good
   fine_report e most ks =
       let c : Change = (Events (map (report_of b) (watches_at b.watches ks)), record b { watches = map (reported b ks) b.watches }, []) in
-      elim (is_pick b e most ks) as (λ d. Fine ks (cond d (Some c) None)) [ true ↦ (refl, told_origin ks) | false ↦ tt ]
+      elim (is_pick b e most ks) as (λ d. Fine ks (cond d (Some c) None)) [ true ↦ (refl, adds_none (record b { watches = map (reported b ks) b.watches }) refl, told_origin ks) | false ↦ tt ]
 
-  good_moved : (u : State) → u.n ≡ b.n → u.watches ≡ b.watches → Good [] u
+  good_moved : (u : State) → u.n ≡ b.n → u.added ≡ b.added → u.watches ≡ b.watches → Good [] u
   unfolding Good
-  good_moved u n w = (n, λ x m. inr (refl, inl (subst (λ (xs : List Watch). Member x xs) w m)))
+  good_moved u n a w = (n, adds_none u a, λ x m. inr (refl, inl (subst (λ (xs : List Watch). Member x xs) w m)))
 
   good_wait_for : (caller p e most : ℕ) (timeout : ℤ) → Good [] (wait_for b caller p e most timeout).1
-  good_wait_for caller p e most (pos zero) = good_moved _ refl refl
-  good_wait_for caller p e most (pos (suc i)) = good_moved _ refl refl
-  good_wait_for caller p e most (negsuc i) = good_moved _ refl refl
+  good_wait_for caller p e most (pos zero) = good_moved _ refl refl refl
+  good_wait_for caller p e most (pos (suc i)) = good_moved _ refl refl refl
+  good_wait_for caller p e most (negsuc i) = good_moved _ refl refl refl
 
-  fine_moved : (ks : List ℕ) (c : Change) → c.1.n ≡ b.n → c.1.watches ≡ b.watches → Fine ks (plainly ks c)
-  fine_moved ks c n w = fine_plainly ks c (good_moved c.1 n w)
+  fine_moved : (ks : List ℕ) (c : Change) → c.1.n ≡ b.n → c.1.added ≡ b.added → c.1.watches ≡ b.watches → Fine ks (plainly ks c)
+  fine_moved ks c n a w = fine_plainly ks c (good_moved c.1 n a w)
 
   module _ (e fd d mask tag : ℕ) (alters : (x : Watch) → has_key e fd d x ≡ true → IsAltered b event x) where
     good_add : Good [] (with_watch b (new_watch b e fd d mask tag))
@@ -132,6 +139,7 @@ module _ (b : State) (event : Event) where
     good_add =
         let w = new_watch b e fd d mask tag in (
           refl,
+          (omega arith, omega arith),
           λ x m. elim (member_push x w b.watches m) [
             | inl old ↦ inr (refl, inl old)
             | inr new ↦
@@ -144,6 +152,7 @@ module _ (b : State) (event : Event) where
     unfolding Good
     good_modify = (
       refl,
+      adds_none (record b { watches = map (modified e fd d mask tag) b.watches }) refl,
       λ x m.
           let w = member_of_map (modified e fd d mask tag) b.watches x m in
           let made : Watch = record (w.0) { mask = mask; tag = tag; armed = true; seen = None } in
@@ -155,7 +164,7 @@ module _ (b : State) (event : Event) where
 
   good_delete : (p : Watch → Bool) → Good [] (record b { watches = filter p b.watches })
   unfolding Good
-  good_delete p = (refl, λ x m. inr (refl, inl (filtered_member p b.watches x m)))
+  good_delete p = (refl, adds_none (record b { watches = filter p b.watches }) refl, λ x m. inr (refl, inl (filtered_member p b.watches x m)))
 
   -- by its cases
   good_by : (op : ℤ) (add delete modify : Change) → (is_del op ≡ false → Good [] add.1) → Good [] delete.1 → (is_del op ≡ false → Good [] modify.1)
@@ -175,7 +184,7 @@ module _ (b : State) (event : Event) where
 
   fine_resume : (caller : ℕ) (ks : List ℕ) → Fine ks (resume b caller ks)
   fine_resume caller ks =
-      resumes (Fine ks) b caller ks (fine_plainly ks _ still) (λ w. fine_left w.caller ks _ (fine_report w.instance w.most ks)) (λ w. fine_moved ks _ refl refl) (λ w. fine_moved ks _ refl refl)
+      resumes (Fine ks) b caller ks (fine_plainly ks _ still) (λ w. fine_left w.caller ks _ (fine_report w.instance w.most ks)) (λ w. fine_moved ks _ refl refl refl) (λ w. fine_moved ks _ refl refl refl)
 
 -- The events.
 module _ (limits : Limits) (b : State) where
@@ -191,32 +200,32 @@ module _ (limits : Limits) (b : State) where
       (λ keeps. good_modify b event e k d mask.0 tag (λ x has. (keeps, has)))
 
   fine_call : (caller : ℕ) (p : Pid) (call : Call) (ks : List ℕ) → Fine b (CallOf p call) ks (call_change limits b caller p.0 call ks)
-  fine_call caller p (PipeCall cloexec) ks = fine_moved b _ ks _ refl refl
-  fine_call caller p (EventFd init semaphore cloexec) ks = fine_moved b _ ks _ refl refl
-  fine_call caller p (TimerFd clock cloexec) ks = fine_moved b _ ks _ refl refl
-  fine_call caller p (SocketPair cloexec) ks = fine_moved b _ ks _ refl refl
-  fine_call caller p (Plain cloexec) ks = fine_moved b _ ks _ refl refl
-  fine_call caller p (EpollCreate cloexec) ks = fine_moved b _ ks _ refl refl
+  fine_call caller p (PipeCall cloexec) ks = fine_moved b _ ks _ refl refl refl
+  fine_call caller p (EventFd init semaphore cloexec) ks = fine_moved b _ ks _ refl refl refl
+  fine_call caller p (TimerFd clock cloexec) ks = fine_moved b _ ks _ refl refl refl
+  fine_call caller p (SocketPair cloexec) ks = fine_moved b _ ks _ refl refl refl
+  fine_call caller p (Plain cloexec) ks = fine_moved b _ ks _ refl refl refl
+  fine_call caller p (EpollCreate cloexec) ks = fine_moved b _ ks _ refl refl refl
   fine_call caller p (EpollCtl epfd op fd mask tag) ks = fine_plainly b _ ks _ (good_ctl p epfd op fd mask tag)
   fine_call caller p (EpollWait epfd most timeout) ks = fine_wait b _ caller p.0 (named_by b.files p.0 epfd.0) (number_in most) timeout ks
-  fine_call caller p (Read fd n) ks = fine_moved b _ ks _ refl refl
-  fine_call caller p (Write fd bytes) ks = fine_moved b _ ks _ refl refl
-  fine_call caller p (Shutdown fd) ks = fine_moved b _ ks _ refl refl
-  fine_call caller p (SetTime fd absolute value interval) ks = fine_moved b _ ks _ refl refl
-  fine_call caller p (GetTime fd) ks = fine_moved b _ ks _ refl refl
-  fine_call caller p (Dup fd) ks = fine_moved b _ ks _ refl refl
-  fine_call caller p (Dup2 fd to) ks = fine_moved b _ ks _ refl refl
-  fine_call caller p (Close fd) ks = fine_moved b _ ks _ refl refl
-  fine_call caller p Fork ks = fine_moved b _ ks _ refl refl
-  fine_call caller p Exec ks = fine_moved b _ ks _ refl refl
-  fine_call caller p Exit ks = fine_moved b _ ks _ refl refl
+  fine_call caller p (Read fd n) ks = fine_moved b _ ks _ refl refl refl
+  fine_call caller p (Write fd bytes) ks = fine_moved b _ ks _ refl refl refl
+  fine_call caller p (Shutdown fd) ks = fine_moved b _ ks _ refl refl refl
+  fine_call caller p (SetTime fd absolute value interval) ks = fine_moved b _ ks _ refl refl refl
+  fine_call caller p (GetTime fd) ks = fine_moved b _ ks _ refl refl refl
+  fine_call caller p (Dup fd) ks = fine_moved b _ ks _ refl refl refl
+  fine_call caller p (Dup2 fd to) ks = fine_moved b _ ks _ refl refl refl
+  fine_call caller p (Close fd) ks = fine_moved b _ ks _ refl refl refl
+  fine_call caller p Fork ks = fine_moved b _ ks _ refl refl refl
+  fine_call caller p Exec ks = fine_moved b _ ks _ refl refl refl
+  fine_call caller p Exit ks = fine_moved b _ ks _ refl refl refl
 
   fine_change : (caller : ℕ) (event : Event) (ks : List ℕ) → Fine b event ks (change limits b caller event ks)
   fine_change caller (CallOf p call) ks = fine_call caller p call ks
   fine_change caller Resume ks = fine_resume b Resume caller ks
-  fine_change caller (Tick n) ks = fine_moved b _ ks (tick b n) refl refl
+  fine_change caller (Tick n) ks = fine_moved b _ ks (tick b n) refl refl refl
 
-  -- each registration after a change, and the number of events
-  pub origins : (caller : ℕ) (event : Event) (ks : List ℕ) (c : Change) → change limits b caller event ks ≡ Some c → (c.1.n ≡ b.n) × ((x : Watch) → Member x c.1.watches → Origin b event ks x)
+  -- each registration after a change, and how many events and registrations there were
+  pub origins : (caller : ℕ) (event : Event) (ks : List ℕ) (c : Change) → change limits b caller event ks ≡ Some c → (c.1.n ≡ b.n) × Adds b event c.1 × ((x : Watch) → Member x c.1.watches → Origin b event ks x)
   unfolding Fine Good
   origins caller event ks c is = subst (Fine b event ks) is (fine_change caller event ks)

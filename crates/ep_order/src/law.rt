@@ -4,7 +4,7 @@ ghost use Rattle.ep_order.specs.Mark.{UnmarkedAreReached};
 ghost use Rattle.ep_order.specs.Order.{FirstAreFair, StaysComplete, StaysFair};
 ghost use Rattle.ep_order.specs.Pick.{FirstArePick};
 ghost use Rattle.ep_order.specs.Reach.{ReachedIsAbove};
-ghost use Rattle.ep_order.specs.Step.{StepKeepsTurns};
+ghost use Rattle.ep_order.specs.Step.{StepAddsOne, StepKeepsTurns};
 
 /// A list stays in a fair order over an event, where what stays keeps its order and what comes, comes behind. Does nothing.
 pub fn stays_fair()
@@ -31,6 +31,11 @@ pub fn first_are_pick()
 /// What a step leaves of the events by which registrations are reported in turn. Does nothing.
 pub fn step_keeps_turns()
     ensures law { StepKeepsTurns }
+{}
+
+/// A step adds one registration, or none. Does nothing.
+pub fn step_adds_one()
+    ensures law { StepAddsOne }
 {}
 
 /// What an event reaches are the instances at which something is passed on, and those above them. Does nothing.

@@ -47,6 +47,15 @@ module _ (ready : ℕ → Bool) (v : Seen) (now : ℕ) (instance : DescId) (soun
       ap (λ (b : Bool). cond (b && entry_shows ready v now x) (watch_at v.keys x ∷ filter (shows_in ready v.files now (number_at v.keys instance)) (map (watch_at v.keys) xs)) (filter (shows_in ready v.files now (number_at v.keys instance)) (map (watch_at v.keys) xs))) same
       ∙ filter_twice (is_of instance x) (entry_shows ready v now x) x (filter (is_of instance) xs) _ (sym rest) refl
 
+-- the registrations that the machine reports at an instance
+pub scans : {ws : List Waiter} (v : Seen) (now : ℕ) (r : Registrations) (s : State) (instance : DescId) → Stands v r ws now s → AreLinked v r → SoundTables v → IsSome (number_under v instance)
+    → kernel_watches s (reportables s (number_at v.keys instance)) ≡ map (watch_at v.keys) (filter (entry_shows (readiness v now r) v now) (filter (is_of instance) r.entries))
+scans v now r s instance stands linked sound lives =
+    let e = number_at v.keys instance in
+    let same_ready : machine_readiness s ≡ readiness v now r = λ i. ready_now (stands.files i) (stands.now i) (stands.watches i) in
+    reportables_kept s e
+    ∙ ((λ i. filter (shows_in (same_ready i) (stands.files i) (stands.now i) e) (stands.watches i)) ∙ scanned (readiness v now r) v now instance sound lives r.entries linked)
+
 sorted_watches : (keys : List (Option ℕ)) (xs : List Entry) → IsNonDecreasingBy (λ (x : Entry). x.reported_in) xs → IsNonDecreasingBy (λ (x : KernelWatch). x.reported_in) (map (watch_at keys) xs)
 sorted_watches keys xs h = λ i j d le lt.
     let none : Entry = record { number = 0; instance = record { 0 = 0 }; fd = record { 0 = pos 0 }; desc = record { 0 = 0 }; mask = record { 0 = 0 }; tag = 0; armed = false; fresh = false; reported_in = 0; passes_in = 0 } in

@@ -1,3 +1,11 @@
+pub mod ActWithLemmas
+pub mod AllowLemmas
 pub mod ChooseLemmas
 pub mod ClimbLemmas
+pub mod DateLemmas
 pub mod MarkLemmas
+pub mod SinceLemmas
+pub mod StandingLemmas
+pub mod TakeLemmas
+pub mod TurnLemmas
+pub mod WaitingLemmas

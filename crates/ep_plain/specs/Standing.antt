@@ -1,12 +1,19 @@
 -- What contracts see of the kernel, and what holds of it.
-use Rattle.std.specs.Prelude.{vec_capacity}
+use Rattle.std.specs.Prelude.{List, vec_capacity, ℕ}
+use Rattle.ep_base.specs.declared.record.Record.{Record}
 use Rattle.ep_calls.specs.Book.{Book}
 use Rattle.ep_calls.specs.Keeps.{Keeps}
+use Rattle.ep_calls.specs.Parts.{Parts}
+use Rattle.ep_plain.specs.Since.{IsDated}
 use Rattle.ep_plain.specs.declared.plain.PlainKernel.TheInside.{Inside}
 
 abbrev pub book_of : Inside → Book
 book_of k = record { limits = k.parts.tables.limits; past = k.history.items; capacity = vec_capacity k.history }
 
--- the history leads to a state for which the parts stand
+-- the history leads to a state for which the parts stand, and for which registrations are dated
+pub record Standing (past : List Record) (p : Parts) (since : List ℕ) : Type 0 where
+  pub keeps : Keeps past p
+  pub dated : IsDated keeps.state since
+
 abbrev pub IsStanding : Inside → Type 0
-IsStanding k = Keeps k.history.items k.parts
+IsStanding k = Standing k.history.items k.parts k.since.items

@@ -14,7 +14,7 @@ use ep_table::Tables;
 use std::alloc::{AllocError, Global};
 
 /// The registrations of an instance that are reportable, in order of registration.
-fn reportables(
+pub fn reportables(
     alloc: Global,
     tables: &Tables,
     now: u64,
@@ -42,7 +42,7 @@ fn reportables(
 }
 
 /// How many reports are asked for.
-fn most(max: i32) -> usize
+pub fn most(max: i32) -> usize
     requires { is_positive max ≡ true }
     ensures { result ≡ number_in max }
 {

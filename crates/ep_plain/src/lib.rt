@@ -5,8 +5,12 @@ mod act;
 mod choose;
 mod climb;
 mod mark;
+mod pick;
 mod plain;
+mod since;
+mod these;
 mod wait;
+mod waiting;
 
 pub use crate::climb::{climb_instances, is_reached};
 pub use crate::mark::mark_waiters;

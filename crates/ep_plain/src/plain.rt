@@ -1,12 +1,16 @@
 //! The kernel that scans.
-ghost use Rattle.std.specs.Prelude.{◌≡◌, ◌≤◌, [], IfOk, OnErr, false, true};
+ghost use Rattle.std.specs.Prelude.{◌≡◌, ◌≤◌, [], IfOk, OnErr, false, is_some, true};
 ghost use Rattle.ep_calls.specs.Acts.{Adds, is_no_memory};
 ghost use Rattle.ep_calls.specs.Book.{state_of};
 ghost use Rattle.ep_calls.specs.KeptRecords.{Gains, HasRecord};
+ghost use Rattle.ep_machine.specs.Step.{step as step_of};
+ghost use Rattle.ep_plain.specs.StepWith.{AddsWith, StepsWith};
 
 use crate::act::act;
 use crate::climb::climb_instances;
 use crate::mark::mark_waiters;
+use crate::since::date;
+use crate::these::{act_with, allows};
 use ep_base::{Answer, CallerId, Errno, Event, Limits, Record};
 use ep_calls::{Kernel, Outcome, Parts, Spare};
 use std::alloc::{AllocError, Global};
@@ -18,6 +22,8 @@ use std::marker::Model;
 pub struct PlainKernel {
     parts: Parts,
     history: Vec<Record>,
+    /// By the number of each registration the event since which it is reportable without a report; 0 where it is not.
+    since: Vec<u64>,
 }
 
 impl Model for PlainKernel {
@@ -38,9 +44,12 @@ impl PlainKernel {
     pub fn new(alloc: Global, limits: Limits) -> Result<PlainKernel, AllocError>
         ensures { IfOk result (λ kernel. kernel ≡ record { limits = limits; past = []; capacity = 0 }) }
     {
+        let mut since = Vec::new(alloc);
+        since.push(0)?;
         Ok(PlainKernel {
             parts: Parts::new(alloc, limits)?,
             history: Vec::new(alloc),
+            since,
         })
     }
 
@@ -60,6 +69,7 @@ impl PlainKernel {
         ensures err { OnErr result (self.new ≡ record self.old { capacity = self.new.capacity }) }
     {
         self.history.reserve(1)?;
+        self.since.reserve(1)?;
         let step = self.history.len() as u64 + 1;
         let Outcome {
             answer,
@@ -75,6 +85,8 @@ impl PlainKernel {
         self.parts.known();
         climb_instances(&mut self.parts, step);
         mark_waiters(&mut self.parts);
+        self.since.push_reserved(0);
+        date(&self.parts, step, &mut self.since);
         self.history.push_reserved(Record {
             caller,
             event,
@@ -82,6 +94,73 @@ impl PlainKernel {
             picked,
         });
         Ok((answer, spare))
+    }
+
+    /// Whether the machine has a step whose report is of these registrations, in this order. It takes no memory.
+    fn has_step(&self, caller: CallerId, event: &Event, picks: &[u64]) -> bool
+        ensures { result ≡ is_some (step_of self.now.limits (state_of self.now) caller.0 event.now picks.now) }
+    {
+        allows(&self.parts, &self.since, caller, event, picks)
+    }
+
+    /// One event whose report is of these registrations, in this order.
+    /// An `AllocError` has changed nothing, but that there may be more room for records.
+    fn try_step_with(
+        &mut self,
+        caller: CallerId,
+        event: Event,
+        picks: &[u64],
+    ) -> Result<Answer, AllocError>
+        requires { is_some (step_of self.old.limits (state_of self.old) caller.0 event picks.now) ≡ true }
+        ensures limits { self.new.limits ≡ self.old.limits }
+        ensures capacity { self.old.capacity ≤ self.new.capacity }
+        ensures ok { IfOk result (λ answer. AddsWith self.old.limits caller event picks.now answer (state_of self.old) (state_of self.new) self.old.past self.new.past) }
+        ensures real { IfOk result (λ answer. is_no_memory answer ≡ false) }
+        ensures err { OnErr result (self.new ≡ record self.old { capacity = self.new.capacity }) }
+    {
+        self.history.reserve(1)?;
+        self.since.reserve(1)?;
+        let step = self.history.len() as u64 + 1;
+        let Outcome {
+            answer,
+            recorded,
+            picked,
+            spare: _,
+            raising,
+        } = act_with(&mut self.parts, step, caller, &event, picks)?;
+        self.parts.known();
+        self.parts.raise(step, raising);
+        self.parts.bury(step);
+        self.parts.known();
+        climb_instances(&mut self.parts, step);
+        mark_waiters(&mut self.parts);
+        self.since.push_reserved(0);
+        date(&self.parts, step, &mut self.since);
+        self.history.push_reserved(Record {
+            caller,
+            event,
+            answer: recorded,
+            picked,
+        });
+        Ok(answer)
+    }
+
+    /// The step of an event whose report is of the registrations of these numbers, in this order; of none for an event
+    /// that makes no report. `None` exactly where the machine has no such step, and then nothing changes.
+    /// ENOMEM is want of memory: nothing changes, and there is such a step. In both cases there may be more room for
+    /// records. The time grows as the product of how many are given and how many registrations the instance has.
+    pub fn step_with(&mut self, caller: CallerId, event: Event, picks: &[u64]) -> Option<Answer>
+        ensures limits { self.new.limits ≡ self.old.limits }
+        ensures capacity { self.old.capacity ≤ self.new.capacity }
+        ensures steps { StepsWith self.old.limits caller event picks.now result (state_of self.old) (state_of self.new) self.old.past self.new.past }
+    {
+        if !self.has_step(caller, &event, picks) {
+            return None;
+        }
+        match self.try_step_with(caller, event, picks) {
+            Ok(answer) => Some(answer),
+            Err(_) => Some(Answer::Refused(Errno::Enomem)),
+        }
     }
 
     /// One event whose record is put at the end of a list of the caller's too.

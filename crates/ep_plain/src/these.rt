@@ -1,0 +1,177 @@
+//! Waits that report given registrations.
+ghost use Rattle.std.specs.List.{filter_map, find, list_any};
+ghost use Rattle.std.specs.Prelude.{◌≡◌, ◌==◌, ◌≤◌, IfOk, OnErr, Some, false, map, true};
+ghost use Rattle.ep_base.specs.declared.call.Event.TheVariants.{Resume};
+ghost use Rattle.ep_interest.specs.Registrations.{numbered};
+ghost use Rattle.ep_law.specs.Sound.{Sound};
+ghost use Rattle.ep_machine.specs.Timer.{last_moment};
+ghost use Rattle.ep_machine.specs.Watches.{number_in};
+ghost use Rattle.ep_park.specs.Waiters.{is_caller, parked};
+ghost use Rattle.ep_calls.specs.Does.{DoesCallIf, DoesEventIf};
+ghost use Rattle.ep_calls.specs.Stands.{AreLinked};
+ghost use Rattle.ep_calls.specs.Wait.{AreKeyed, Waits, wait_call};
+ghost use Rattle.ep_plain.specs.Choose.{reportables_at};
+ghost use Rattle.ep_plain.specs.Since.{IsDated};
+ghost use Rattle.ep_plain.specs.These.{ForEach, MayGo, MayPick, PicksThese, WherePicked, goes_with};
+
+use crate::act::act;
+use crate::choose::{most, reportables};
+use crate::pick::is_pick;
+use crate::waiting::{Waiting, find_waiting};
+use ep_base::{CallerId, DescId, Event};
+use ep_calls::{Outcome, Parts, Reportable, Wait};
+use ep_interest::Interest;
+use ep_park::Waiter;
+use ep_table::Tables;
+use std::alloc::{AllocError, Global};
+
+/// The one with a number, of these registrations.
+fn find_in(found: &[Reportable], number: u64) -> Option<Reportable>
+    ensures { result ≡ find (λ x. x.entry.number == number) found.now }
+{
+    let mut rest = found;
+    while let Some((x, tail)) = rest.split_first() {
+        if x.entry.number == number {
+            return Some(*x);
+        }
+        rest = tail;
+    }
+    None
+}
+
+/// Those with these numbers, in the order of the numbers.
+fn take_of(
+    alloc: Global,
+    found: &[Reportable],
+    picks: &[u64],
+) -> Result<Vec<Reportable>, AllocError>
+    ensures { IfOk result (λ chosen. chosen.items ≡ filter_map (λ k. find (λ x. x.entry.number == k) found.now) picks.now) }
+{
+    let mut chosen = Vec::new(alloc);
+    let mut rest = picks;
+    while let Some((pick, tail)) = rest.split_first() {
+        if let Some(x) = find_in(found, *pick) {
+            chosen.push(x)?;
+        }
+        rest = tail;
+    }
+    Ok(chosen)
+}
+
+/// The registrations of an instance that are reportable and have these numbers, in the order of the numbers.
+fn take(
+    alloc: Global,
+    tables: &Tables,
+    now: u64,
+    interest: &Interest,
+    instance: DescId,
+    picks: &[u64],
+) -> Result<Vec<Reportable>, AllocError>
+    requires linked { AreLinked tables.now interest.now }
+    requires clock { now ≤ last_moment }
+    ensures entries { IfOk result (λ chosen. map (λ x. x.entry) chosen.items ≡ filter_map (numbered (reportables_at tables.now now interest.now instance)) picks.now) }
+    ensures keyed { IfOk result (λ chosen. AreKeyed tables.now now interest.now chosen.items) }
+{
+    let found = reportables(alloc, tables, now, interest, instance)?;
+    let chosen = take_of(alloc, &found, picks)?;
+    Ok(chosen)
+}
+
+/// A call that waits, not refused, and reports what it is given. An `Err` is want of memory and leaves the parts.
+fn wait_these(
+    parts: &mut Parts,
+    step: u64,
+    caller: CallerId,
+    args: Wait,
+    instance: DescId,
+    picks: &[u64],
+) -> Result<Outcome, AllocError>
+    requires free { list_any (is_caller caller.0) parts.old.parked ≡ false }
+    requires waits { Waits parts.old.tables args instance }
+    ensures ok { IfOk result (λ outcome. DoesCallIf (MayPick parts.old instance (number_in args.max) picks.now) step caller.0 args.pid.0 (wait_call args) outcome parts.old parts.new) }
+    ensures picked { IfOk result (λ outcome. WherePicked parts.old instance (number_in args.max) picks.now (outcome.picked ≡ picks.now)) }
+    ensures err { OnErr result (parts.new ≡ parts.old) }
+{
+    parts.tables.known();
+    let chosen = take(
+        parts.alloc,
+        &parts.tables,
+        parts.clock,
+        &parts.interest,
+        instance,
+        picks,
+    )?;
+    let outcome = parts.wait_with(step, caller, args, instance, &chosen)?;
+    Ok(outcome)
+}
+
+/// The resumption of a marked caller that reports what it is given. An `Err` is want of memory and leaves the parts.
+fn resume_these(
+    parts: &mut Parts,
+    step: u64,
+    caller: CallerId,
+    waiter: Waiter,
+    picks: &[u64],
+) -> Result<Outcome, AllocError>
+    requires parked { find (is_caller caller.0) parts.old.parked ≡ Some (parked caller.0 waiter) }
+    requires marked { waiter.marked ≡ true }
+    ensures ok { IfOk result (λ outcome. DoesEventIf (MayPick parts.old waiter.instance (number_in waiter.max) picks.now) step caller.0 Resume outcome parts.old parts.new) }
+    ensures picked { IfOk result (λ outcome. WherePicked parts.old waiter.instance (number_in waiter.max) picks.now (outcome.picked ≡ picks.now)) }
+    ensures err { OnErr result (parts.new ≡ parts.old) }
+{
+    parts.tables.known();
+    let chosen = take(
+        parts.alloc,
+        &parts.tables,
+        parts.clock,
+        &parts.interest,
+        waiter.instance,
+        picks,
+    )?;
+    let outcome = parts.resume_with(step, caller, waiter, &chosen, false)?;
+    Ok(outcome)
+}
+
+/// One event whose report is of these registrations, in this order. An `Err` is want of memory and leaves the parts.
+pub fn act_with(
+    parts: &mut Parts,
+    step: u64,
+    caller: CallerId,
+    event: &Event,
+    picks: &[u64],
+) -> Result<Outcome, AllocError>
+    ensures ok { IfOk result (λ outcome. DoesEventIf (MayGo parts.old caller.0 event.now picks.now) step caller.0 event.now outcome parts.old parts.new) }
+    ensures picked { IfOk result (λ outcome. PicksThese step parts.old caller.0 event.now picks.now outcome.picked) }
+    ensures err { OnErr result (parts.new ≡ parts.old) }
+{
+    match find_waiting(parts, caller, event) {
+        Some(Waiting::Call { args, instance }) => {
+            wait_these(parts, step, caller, args, instance, picks)
+        }
+        Some(Waiting::Parked { waiter }) => resume_these(parts, step, caller, waiter, picks),
+        None => act(parts, step, caller, event, false),
+    }
+}
+
+/// Whether the machine has a step that reports these registrations in this order, by what is kept of those that are
+/// reportable. It takes no memory.
+pub fn allows(parts: &Parts, since: &[u64], caller: CallerId, event: &Event, picks: &[u64]) -> bool
+    ensures { ForEach parts.now (λ s. IsDated s since.now → result ≡ goes_with parts.now.tables.limits caller.0 event.now picks.now s) }
+{
+    parts.tables.known();
+    match find_waiting(parts, caller, event) {
+        Some(Waiting::Call { args, instance }) => {
+            is_pick(&parts.interest, since, instance, most(args.max), picks)
+        }
+        Some(Waiting::Parked { waiter }) => {
+            is_pick(
+                &parts.interest,
+                since,
+                waiter.instance,
+                most(waiter.max),
+                picks,
+            )
+        }
+        None => picks.is_empty(),
+    }
+}
