@@ -2,7 +2,7 @@
 
 use crate::cuts::is_answered_when_cut;
 use crate::files::{has, limits_of, text_of};
-use crate::script::is_answered;
+use crate::script::{are_forgeries, is_answered};
 use crate::waiters::are_waiters;
 use ep_base::Limits;
 use std::alloc::{AllocError, Global};
@@ -12,7 +12,8 @@ use std::rt::Files;
 /// The script that is run cut after each of its bytes, too.
 const CUT: &str = "level";
 
-/// Whether the answers, or who is parked and marked after the lines, are not what the files say.
+/// Whether the answers, who is parked and marked after the lines, or what the audit says of forgeries of the history,
+/// are not what the files say, or the history is no run of the machine.
 pub(crate) fn differs(rt: &(impl Files + AllocGlobal), name: &str) -> io::Result<bool> {
     if has(rt, name, ".lines")? {
         return lines_differ(rt, name);
@@ -22,6 +23,9 @@ pub(crate) fn differs(rt: &(impl Files + AllocGlobal), name: &str) -> io::Result
     };
     let script = text_of(rt, name, ".jsonl")?;
     if has(rt, name, ".waiters")? && waiters_differ(rt, name, limits, script.as_str())? {
+        return Ok(true);
+    }
+    if has(rt, name, ".forged")? && forgeries_differ(rt, name, limits, script.as_str())? {
         return Ok(true);
     }
     answers_differ(rt, name, limits, script.as_str())
@@ -50,6 +54,17 @@ fn waiters_differ(
 ) -> io::Result<bool> {
     let wanted = text_of(rt, name, ".waiters")?;
     Ok(!are_waiters(rt.alloc(), limits, script, wanted.as_str())?)
+}
+
+/// Whether the audit says of a forgery of the script's history anything but what NAME.forged says.
+fn forgeries_differ(
+    rt: &(impl Files + AllocGlobal),
+    name: &str,
+    limits: Limits,
+    script: &str,
+) -> io::Result<bool> {
+    let wanted = text_of(rt, name, ".forged")?;
+    Ok(!are_forgeries(rt.alloc(), limits, script, wanted.as_str())?)
 }
 
 /// Whether each line is answered so where it is the only one of its script.

@@ -1,5 +1,7 @@
 //! Runs a script over a new kernel.
 
+use crate::forged::are_verdicts;
+use ep_audit::audit;
 use ep_base::Limits;
 use ep_plain::{Kernel, PlainKernel};
 use ep_script::{ScriptFault, Summary, Watched, run_script};
@@ -35,14 +37,19 @@ fn summary_of(answers: &str) -> Summary {
     }
 }
 
+/// Whether the audit finds the kernel's history to be a run under its limits.
+pub(crate) fn is_legal(alloc: Global, kernel: &PlainKernel) -> bool {
+    audit(alloc, kernel.limits(), kernel.history()).is_ok()
+}
+
 /// Whether the script is run to its end, writes these answers and nothing else, counts them, and
-/// leaves the new kernel a record for each line that is a command.
+/// leaves the new kernel a record for each line that is a command, and a legal history.
 fn is_answered_by(alloc: Global, kernel: &mut PlainKernel, script: &str, answers: &str) -> bool {
     let (outcome, written) = run(alloc, kernel, script);
     let wanted = summary_of(answers);
     let records = kernel.history().len() as u64;
     let is_written = written.as_slice() == answers.as_bytes();
-    outcome == Ok(wanted) && records == wanted.records && is_written
+    outcome == Ok(wanted) && records == wanted.records && is_written && is_legal(alloc, kernel)
 }
 
 /// The same of a new kernel of these limits.
@@ -54,4 +61,26 @@ pub(crate) fn is_answered(
 ) -> Result<bool, AllocError> {
     let mut kernel = PlainKernel::new(alloc, limits)?;
     Ok(is_answered_by(alloc, &mut kernel, script, answers))
+}
+
+/// Whether the audit says of the forgeries of what the kernel does in the script what the text says.
+fn are_verdicts_on(
+    alloc: Global,
+    kernel: &mut PlainKernel,
+    script: &str,
+    wanted: &str,
+) -> Result<bool, AllocError> {
+    let _ = run(alloc, kernel, script);
+    are_verdicts(alloc, *kernel.limits(), kernel.history(), wanted)
+}
+
+/// The same of a new kernel of these limits.
+pub(crate) fn are_forgeries(
+    alloc: Global,
+    limits: Limits,
+    script: &str,
+    wanted: &str,
+) -> Result<bool, AllocError> {
+    let mut kernel = PlainKernel::new(alloc, limits)?;
+    are_verdicts_on(alloc, &mut kernel, script, wanted)
 }

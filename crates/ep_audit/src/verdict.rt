@@ -1,0 +1,95 @@
+//! Whether a list of records is a run of the machine.
+ghost use Rattle.std.specs.Prelude.{◌≡◌, ◌↔◌, ℕ, IfOk, IsErrOf, IsOk, IsTrue, Some, false};
+ghost use Rattle.ep_base.specs.Answer.{is_no_memory};
+ghost use Rattle.ep_machine.specs.Run.{is_run};
+ghost use Rattle.ep_machine.specs.State.{opening};
+ghost use Rattle.ep_calls.specs.Book.{state_of};
+ghost use Rattle.ep_audit.specs.Audit.{Finds, Follows, IfJudged, IsFirstIllegal};
+ghost use Rattle.ep_audit.specs.declared.verdict.AuditFault.TheVariants.{Illegal, Memory};
+
+use ep_base::{Answer, Limits, Record};
+use ep_plain::PlainKernel;
+use std::alloc::{AllocError, Global};
+
+/// Why an audit is not Ok.
+#[derive(Clone, Copy, Debug, PartialEq, Eq)]
+pub enum AuditFault {
+    /// The list is no run. The records before this place, counted from 0, are one; with the record there they are none.
+    Illegal(usize),
+    /// There was no memory for a verdict.
+    Memory,
+}
+
+impl From<AllocError> for AuditFault {
+    ghost from_gives = { λ _ fault. fault ≡ Memory };
+
+    fn from(_: AllocError) -> AuditFault {
+        AuditFault::Memory
+    }
+}
+
+/// Whether a step was answered as a record says. An `Err`: it found no memory.
+fn is_answered(answer: &Answer, next: &Record) -> Result<bool, AllocError>
+    ensures real { IfOk result (λ _. is_no_memory answer.now ≡ false) }
+    ensures same { IfOk result (λ same. IsTrue same ↔ answer.now ≡ next.now.answer) }
+{
+    if answer.is_no_memory() {
+        return Err(AllocError);
+    }
+    Ok(answer.is_same(&next.answer))
+}
+
+/// Makes the step that a record tells of: whether the machine has it here, with the record's answer.
+/// After false and after an `Err`, which is want of memory, the kernel is in any state.
+fn follow(kernel: &mut PlainKernel, next: &Record) -> Result<bool, AllocError>
+    ensures limits { kernel.new.limits ≡ kernel.old.limits }
+    ensures goes { IfOk result
+        (Follows kernel.old.limits (state_of kernel.old) (state_of kernel.new) next.now) }
+{
+    let event = next.event.copy()?;
+    let step = kernel.step_with(next.caller, event, next.picked.as_slice());
+    match step {
+        None => Ok(false),
+        Some(answer) => is_answered(&answer, next),
+    }
+}
+
+/// The place of the first record that the machine does not allow, if there is one.
+fn first_illegal(kernel: &mut PlainKernel, records: &[Record]) -> Result<Option<usize>, AllocError>
+    requires { state_of kernel.old ≡ opening }
+    ensures { IfOk result (Finds kernel.old.limits records.now) }
+{
+    for (place, next) in records.iter().enumerate() {
+        if !follow(kernel, next)? {
+            return Ok(Some(place));
+        }
+    }
+    Ok(None)
+}
+
+/// The same of the records on a new kernel of these limits.
+fn first_illegal_from_new(
+    alloc: Global,
+    limits: &Limits,
+    records: &[Record],
+) -> Result<Option<usize>, AllocError>
+    ensures { IfOk result (Finds limits.now records.now) }
+{
+    let mut kernel = PlainKernel::new(alloc, *limits)?;
+    first_illegal(&mut kernel, records)
+}
+
+/// Whether a list of records, asked and answered from the opening state on, is a run of the machine under these limits.
+/// `Illegal` names the first place where it is none any more, from 0; `Memory` says nothing of the list, and comes only
+/// where a growth was refused. A record answered ENOMEM is illegal, since want of memory leaves none.
+/// The list is gone through once, each record made again on a kernel of its own.
+pub fn audit(alloc: Global, limits: &Limits, records: &[Record]) -> Result<(), AuditFault>
+    ensures ok { IfJudged result (IsOk result ↔ IsTrue (is_run limits.now records.now)) }
+    ensures illegal { IfJudged result ((place : ℕ) →
+        IsErrOf result (Illegal place) ↔ IsFirstIllegal limits.now records.now place) }
+{
+    match first_illegal_from_new(alloc, limits, records)? {
+        None => Ok(()),
+        Some(place) => Err(AuditFault::Illegal(place)),
+    }
+}
