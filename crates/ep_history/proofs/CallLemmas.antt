@@ -1,13 +1,21 @@
--- Calls and records that read back as what they were printed from, where their numbers do.
-use Rattle.std.proofs.Common.{SFits, Some, arith, map, negsuc, pos, refl, w32, w64, ℕ, ℤ, ◌<◌, ◌^◌, ◌≡◌, ◌∙◌}
+-- Calls, answers and records that read back as what they were printed from, where their numbers do.
+use Rattle.std.proofs.Common.{Bool, Err, IfOk, List, Ok, Result, SFits, Some, ap, arith, map, negsuc, pos, refl, sym, w32, w64, ℕ, ℤ, ◌<◌, ◌^◌, ◌≡◌, ◌∙◌}
+use Rattle.std.specs.declared.alloc.AllocError.{AllocError}
 use Rattle.std.proofs.lemmas.Bool.{lt-ltb}
 use Rattle.std.proofs.lemmas.Grind.{common_steps}
-use Rattle.serde_json.specs.Data.{Data}
-use Rattle.ep_base.specs.declared.call.Call.TheVariants.{EpollCtl, EpollWait}
+use Rattle.hex.specs.Hex.{encode_lower}
+use Rattle.serde_json.specs.Data.{Data, string}
+use Rattle.serde_json.specs.View.{view}
+use Rattle.serde_json.specs.declared.value.Value.{Value}
+use Rattle.ep_base.specs.declared.answer.Answer.{Answer}
+use Rattle.ep_base.specs.declared.answer.Answer.TheVariants.{Two}
+use Rattle.ep_base.specs.declared.call.Call.{Call}
+use Rattle.ep_base.specs.declared.call.Call.TheVariants.{Close, Dup, Dup2, EpollCtl, EpollWait, GetTime, Read, SetTime, Shutdown, Write}
 use Rattle.ep_base.specs.declared.ids.Fd.{Fd}
 use Rattle.ep_base.specs.declared.mask.Mask.{Mask}
 use Rattle.ep_base.specs.declared.record.Record.{Record}
 use Rattle.ep_history.specs.Answers.{answer_data, answer_of}
+use Rattle.ep_history.specs.Bytes.{hex_value}
 use Rattle.ep_history.specs.Calls.{call_data, call_of}
 use Rattle.ep_history.specs.Fields.{array_of, i32_value, i64_value, integer, natural, u32_value}
 use Rattle.ep_history.specs.Records.{event_data, event_of, record_data, record_object, record_of}
@@ -24,13 +32,64 @@ pub again_i64 : (z : ℤ) → SFits w64 z → i64_value (integer z) ≡ Some z
 again_i64 (pos n) h = grind (arith, common_steps)
 again_i64 (negsuc n) h = grind (arith, common_steps)
 
-pub ctl_again : (epfd : Fd) (op : ℤ) (fd : Fd) (mask : Mask) (tag : ℕ) → SFits w32 epfd.0 → SFits w32 op → SFits w32 fd.0 → mask.0 < 2 ^ 32
+pub ctl_again : (epfd : Fd) (op : ℤ) (fd : Fd) (mask : Mask) (tag : ℕ) → i32_value (integer epfd.0) ≡ Some epfd.0 → SFits w32 op
+    → i32_value (integer fd.0) ≡ Some fd.0 → u32_value (natural mask.0) ≡ Some mask.0
     → call_of (call_data (EpollCtl epfd op fd mask tag)) ≡ Some (EpollCtl epfd op fd mask tag)
-ctl_again epfd op fd mask tag e o f m = rw (again_i32 epfd.0 e, again_i32 op o, again_i32 fd.0 f, again_u32 mask.0 m) refl
+ctl_again epfd op fd mask tag e o f m = rw (e, again_i32 op o, f, m) refl
 
-pub wait_again : (epfd : Fd) (max timeout : ℤ) → SFits w32 epfd.0 → SFits w32 max → SFits w64 timeout
+pub wait_again : (epfd : Fd) (max timeout : ℤ) → i32_value (integer epfd.0) ≡ Some epfd.0 → SFits w32 max → SFits w64 timeout
     → call_of (call_data (EpollWait epfd max timeout)) ≡ Some (EpollWait epfd max timeout)
-wait_again epfd max timeout e m t = rw (again_i32 epfd.0 e, again_i32 max m, again_i64 timeout t) refl
+wait_again epfd max timeout e m t = rw (e, again_i32 max m, again_i64 timeout t) refl
+
+pub read_again : (fd : Fd) (n : ℕ) → i32_value (integer fd.0) ≡ Some fd.0 → n < 2 ^ 32 → call_of (call_data (Read fd n)) ≡ Some (Read fd n)
+read_again fd n f m = rw (f, again_u32 n m) refl
+
+write_again : (fd : Fd) (bytes : List ℕ) → i32_value (integer fd.0) ≡ Some fd.0 → hex_value (string (encode_lower bytes)) ≡ Some bytes
+    → call_of (call_data (Write fd bytes)) ≡ Some (Write fd bytes)
+write_again fd bytes f h = rw (f, h) refl
+
+pub settime_again : (fd : Fd) (absolute : Bool) (value interval : ℕ) → i32_value (integer fd.0) ≡ Some fd.0
+    → call_of (call_data (SetTime fd absolute value interval)) ≡ Some (SetTime fd absolute value interval)
+settime_again fd absolute value interval f = rw f refl
+
+pub dup2_again : (fd to : Fd) → i32_value (integer fd.0) ≡ Some fd.0 → i32_value (integer to.0) ≡ Some to.0
+    → call_of (call_data (Dup2 fd to)) ≡ Some (Dup2 fd to)
+dup2_again fd to f t = rw (f, t) refl
+
+pub shutdown_again : (fd : Fd) → i32_value (integer fd.0) ≡ Some fd.0 → call_of (call_data (Shutdown fd)) ≡ Some (Shutdown fd)
+shutdown_again fd f = rw f refl
+
+pub gettime_again : (fd : Fd) → i32_value (integer fd.0) ≡ Some fd.0 → call_of (call_data (GetTime fd)) ≡ Some (GetTime fd)
+gettime_again fd f = rw f refl
+
+pub dup_again : (fd : Fd) → i32_value (integer fd.0) ≡ Some fd.0 → call_of (call_data (Dup fd)) ≡ Some (Dup fd)
+dup_again fd f = rw f refl
+
+pub close_again : (fd : Fd) → i32_value (integer fd.0) ≡ Some fd.0 → call_of (call_data (Close fd)) ≡ Some (Close fd)
+close_again fd f = rw f refl
+
+-- ---- the call that a printed value reads as
+
+pub reads_as : (x call : Call) (r : Result Value AllocError) → IfOk r (λ v. view v ≡ call_data x) → call_of (call_data x) ≡ Some x → call ≡ x
+    → IfOk r (λ v. call_of (view v) ≡ Some call)
+reads_as x call (Ok v) seen again is = ap call_of seen ∙ again ∙ ap Some (sym is)
+reads_as x call (Err e) seen again is = tt
+
+pub reads_as_write : (fd : Fd) (bytes : List ℕ) (call : Call) (r : Result Value AllocError) → IfOk r (λ v. view v ≡ call_data (Write fd bytes))
+    → IfOk r (λ v. hex_value (string (encode_lower bytes)) ≡ Some bytes) → i32_value (integer fd.0) ≡ Some fd.0 → call ≡ Write fd bytes
+    → IfOk r (λ v. call_of (view v) ≡ Some call)
+reads_as_write fd bytes call (Ok v) seen hex fits is = ap call_of seen ∙ write_again fd bytes fits hex ∙ ap Some (sym is)
+reads_as_write fd bytes call (Err e) seen hex fits is = tt
+
+-- ---- answers
+
+pub two_again : (first second : Fd) (answer : Answer) (r : Result Value AllocError) → IfOk r (λ v. view v ≡ answer_data (Two first second))
+    → i32_value (integer first.0) ≡ Some first.0 → i32_value (integer second.0) ≡ Some second.0 → answer ≡ Two first second
+    → IfOk r (λ v. answer_of (view v) ≡ Some answer)
+two_again first second answer (Ok v) seen a b is = ap answer_of seen ∙ rw (a, b) (ap Some (sym is))
+two_again first second answer (Err e) seen a b is = tt
+
+-- ---- records
 
 pub record_again : (r : Record) → r.caller.0 < 2 ^ 32 → event_of (event_data r.event) ≡ Some r.event
     → answer_of (answer_data r.answer) ≡ Some r.answer → record_of (record_data r) ≡ Some r

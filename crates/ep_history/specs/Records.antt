@@ -4,6 +4,7 @@ use Rattle.std.specs.Str.{is_utf8}
 use Rattle.serde_json.specs.Data.{Data, boolean}
 use Rattle.serde_json.specs.Read.{read as json}
 use Rattle.serde_json.specs.Written.{compact_text}
+use Rattle.ep_base.specs.declared.answer.Answer.{Answer}
 use Rattle.ep_base.specs.declared.call.Event.{Event}
 use Rattle.ep_base.specs.declared.call.Event.TheVariants.{Call as CallOf, Resume, Tick}
 use Rattle.ep_base.specs.declared.record.Record.{Record}
@@ -52,13 +53,18 @@ event_or d None = call_event d
 abbrev pub event_of : Data → Option Event
 event_of d = event_or d (single d)
 
+abbrev pub result_of : Data → Option (Answer × List ℕ)
+result_of d = do
+  answer ← required (codes "answer") answer_of d
+  picked ← required (codes "picked") (each_of u64_value) d
+  if size d == 4 then Some (answer, picked) else None
+
 unfoldable pub record_of : Data → Option Record
 record_of d = do
   caller ← required (codes "caller") u32_value d
   event ← required (codes "event") event_of d
-  answer ← required (codes "answer") answer_of d
-  picked ← required (codes "picked") (each_of u64_value) d
-  if size d == 4 then Some (record { caller = record { 0 = caller }; event = event; answer = answer; picked = picked }) else None
+  result ← result_of d
+  Some (record { caller = record { 0 = caller }; event = event; answer = result.0; picked = result.1 })
 
 -- the value that a line is
 abbrev pub line_data : List ℕ → Option Data

@@ -4,7 +4,7 @@ ghost use Rattle.serde_json.specs.Data.{boolean};
 ghost use Rattle.serde_json.specs.View.{view};
 ghost use Rattle.ep_base.specs.declared.answer.Answer.TheVariants.{Bytes, Events, Num, Refused, Time, Two};
 ghost use Rattle.ep_history.specs.Answers.{answer_data, answer_of, report_data, report_of};
-ghost use Rattle.ep_history.specs.Fields.{array_of, each_of, tagged};
+ghost use Rattle.ep_history.specs.Fields.{array_of, each_of, i32_value, integer, tagged};
 
 use crate::bytes::hex_value;
 use ep_base::{Answer, Errno, Fd, Report};
@@ -26,7 +26,8 @@ fn num_value(alloc: Global, number: u64) -> Result<Value, AllocError>
 
 fn two_value(alloc: Global, first: Fd, second: Fd) -> Result<Value, AllocError>
     ensures data { IfOk result (λ v. view v ≡ answer_data (Two first second)) }
-    ensures law { IfOk result (λ v. answer_of (view v) ≡ Some (Two first second)) }
+    ensures first { i32_value (integer first.0) ≡ Some first.0 }
+    ensures second { i32_value (integer second.0) ≡ Some second.0 }
 {
     json!(in alloc; {"two": [first.0, second.0]})
 }

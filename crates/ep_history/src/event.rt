@@ -10,7 +10,7 @@ use crate::call_value::call_value;
 use crate::fields::{required_u64, single, size};
 use crate::read_call::call_of;
 use ep_base::{Call, Event, Pid};
-use serde_json::{Value, json};
+use serde_json::{Map, Value, json, put};
 use std::alloc::{AllocError, Global};
 
 fn call_event_value(alloc: Global, pid: Pid, call: &Call) -> Result<Value, AllocError>
@@ -18,7 +18,10 @@ fn call_event_value(alloc: Global, pid: Pid, call: &Call) -> Result<Value, Alloc
     ensures law { IfOk result (λ v. event_of (view v) ≡ Some (CallOf pid call.now)) }
 {
     let call = call_value(alloc, call)?;
-    json!(in alloc; {"pid": pid.0, "call": call})
+    let mut members = Map::new(alloc);
+    put(&mut members, alloc, "pid", Value::from(pid.0))?;
+    put(&mut members, alloc, "call", call)?;
+    Ok(Value::Object(members))
 }
 
 fn tick_value(alloc: Global, n: u64) -> Result<Value, AllocError>

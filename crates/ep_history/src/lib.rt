@@ -6,6 +6,7 @@ mod bytes;
 mod call_value;
 mod event;
 mod fields;
+mod object;
 mod picks;
 mod read_answer;
 mod read_call;

@@ -2,15 +2,15 @@
 ghost use Rattle.std.specs.Prelude.{◌≡◌, ◌≤◌, IfOk, Some};
 ghost use Rattle.std.specs.List.{All};
 ghost use Rattle.serde_json.specs.View.{view};
-ghost use Rattle.ep_history.specs.Records.{line_data, line_record, record_data, record_line, record_object, record_of};
+ghost use Rattle.ep_history.specs.Records.{line_data, line_record, record_data, record_line, record_object, record_of, result_of};
 
 use crate::answer_value::answer_value;
 use crate::event::{event_of, event_value};
 use crate::fields::{required_u32, size};
 use crate::picks::{picks_of, picks_value};
 use crate::read_answer::answer_of;
-use ep_base::{CallerId, Record};
-use serde_json::{Value, json};
+use ep_base::{Answer, CallerId, Picked, Record};
+use serde_json::{Map, Value, put};
 use std::alloc::{AllocError, Global};
 
 fn record_value(
@@ -22,7 +22,12 @@ fn record_value(
 ) -> Result<Value, AllocError>
     ensures { IfOk result (λ v. view v ≡ record_object caller (view event) (view answer) (view picked)) }
 {
-    json!(in alloc; {"caller": caller, "event": event, "answer": answer, "picked": picked})
+    let mut members = Map::new(alloc);
+    put(&mut members, alloc, "caller", Value::from(caller))?;
+    put(&mut members, alloc, "event", event)?;
+    put(&mut members, alloc, "answer", answer)?;
+    put(&mut members, alloc, "picked", picked)?;
+    Ok(Value::Object(members))
 }
 
 /// The line of a record, compact JSON without the byte 10 that ends it: `read_record` reads it as the same record.
@@ -40,19 +45,10 @@ pub fn print_record(alloc: Global, entry: &Record) -> Result<Vec<u8>, AllocError
     value.to_vec(alloc)
 }
 
-#[tactic(auto, unfolding(crate::specs::Records::record_of))]
-fn record_of(alloc: Global, value: &Value) -> Result<Option<Record>, AllocError>
-    ensures { IfOk result (λ r. r ≡ record_of (view value.now)) }
+/// The answer and the picked registrations, where the object has four members.
+fn result_of(alloc: Global, value: &Value) -> Result<Option<(Answer, Picked)>, AllocError>
+    ensures { IfOk result (λ r. r ≡ result_of (view value.now)) }
 {
-    let Some(caller) = required_u32(value, "caller") else {
-        return Ok(None);
-    };
-    let Some(event) = value.get("event") else {
-        return Ok(None);
-    };
-    let Some(event) = event_of(alloc, event)? else {
-        return Ok(None);
-    };
     let Some(answer) = value.get("answer") else {
         return Ok(None);
     };
@@ -68,6 +64,25 @@ fn record_of(alloc: Global, value: &Value) -> Result<Option<Record>, AllocError>
     if size(value) != 4 {
         return Ok(None);
     }
+    Ok(Some((answer, picked)))
+}
+
+#[tactic(auto, unfolding(crate::specs::Records::record_of))]
+fn record_of(alloc: Global, value: &Value) -> Result<Option<Record>, AllocError>
+    ensures { IfOk result (λ r. r ≡ record_of (view value.now)) }
+{
+    let Some(caller) = required_u32(value, "caller") else {
+        return Ok(None);
+    };
+    let Some(event) = value.get("event") else {
+        return Ok(None);
+    };
+    let Some(event) = event_of(alloc, event)? else {
+        return Ok(None);
+    };
+    let Some((answer, picked)) = result_of(alloc, value)? else {
+        return Ok(None);
+    };
     Ok(Some(Record {
         caller: CallerId(caller),
         event,

@@ -21,6 +21,10 @@ plain_rule = record (new_rule (codes "plain")) { long = Some (codes "plain"); ac
 abbrev pub explain_rule : Rule
 explain_rule = record (new_rule (codes "explain")) { long = Some (codes "explain"); action = Some SetTrue }
 
+-- `--history FILE`
+abbrev pub history_rule : Rule
+history_rule = record (new_rule (codes "history")) { long = Some (codes "history"); value_names = 1 }
+
 abbrev pub with_version : Shape → Shape
 with_version s = record s { has_version = true }
 
@@ -29,7 +33,7 @@ abbrev pub versioned : App
 versioned = on_top with_version (new_app (codes "epsim"))
 
 abbrev pub program : App
-program = with_rule (with_rule (with_rule versioned limits_rule) plain_rule) explain_rule
+program = with_rule (with_rule (with_rule (with_rule versioned limits_rule) plain_rule) explain_rule) history_rule
 
 -- what `clap` finds in words that it takes
 unfoldable pub rows_in : List Text → List Row

@@ -1,7 +1,7 @@
 //! The words of the command line.
 ghost use Rattle.std.specs.Prelude.{◌≡◌, ◌↔◌, IfOk, IsTrue, codes, false, map, option_map, string_bytes};
 ghost use Rattle.clap.specs.Words.{FailsBy, app_of, fault_of, first_of, rule_of};
-ghost use Rattle.ep_program.specs.Options.{IsGiven, explain_rule, limits_rule, plain_rule, program, rows_in};
+ghost use Rattle.ep_program.specs.Options.{IsGiven, explain_rule, history_rule, limits_rule, plain_rule, program, rows_in};
 
 use clap::parser::ValueSource;
 use clap::{Arg, ArgAction, Command, Error};
@@ -38,6 +38,8 @@ pub struct Settings<'a> {
     pub plain: bool,
     /// Whether `--explain` is there.
     pub explain: bool,
+    /// The file of `--history`, where that is there.
+    pub history: Option<&'a str>,
 }
 
 fn limits_argument<'a>(alloc: Global) -> Arg<'a>
@@ -70,6 +72,16 @@ fn explain_argument<'a>(alloc: Global) -> Arg<'a>
         .help("Says on standard error why a line is no command, or what is wrong with the limits")
 }
 
+fn history_argument<'a>(alloc: Global) -> Arg<'a>
+    ensures rule { rule_of result ≡ history_rule }
+    ensures local { result.global ≡ false }
+{
+    Arg::new(alloc, "history")
+        .long("history")
+        .value_name("FILE")
+        .help("Writes the history of the run to this file, a record a line, which epaudit reads")
+}
+
 fn command<'a>(alloc: Global) -> Result<Command<'a>, AllocError>
     ensures { IfOk result (λ c. app_of c ≡ program) }
 {
@@ -80,16 +92,18 @@ fn command<'a>(alloc: Global) -> Result<Command<'a>, AllocError>
         .after_help(EXAMPLE)
         .arg(limits_argument(alloc))?
         .arg(plain_argument(alloc))?
-        .arg(explain_argument(alloc))
+        .arg(explain_argument(alloc))?
+        .arg(history_argument(alloc))
 }
 
-/// Reads the words of the command line, the program's name first: `--limits TEXT`, `--plain` and
-/// `--explain`, each at most once and all at will. What `--help` and `--version` print is an `Err`,
+/// Reads the words of the command line, the program's name first: `--limits TEXT`, `--plain`,
+/// `--explain` and `--history FILE`, each at most once and all at will. What `--help` and `--version` print is an `Err`,
 /// too, each with a kind of its own.
 pub fn options<'a>(alloc: Global, words: &'a [String]) -> Result<Settings<'a>, Error>
     ensures limits { IfOk result (λ s. option_map (λ t. t.now) s.limits ≡ first_of (codes "limits") (rows_in (map string_bytes words.entry.now))) }
     ensures plain { IfOk result (λ s. IsTrue s.plain ↔ IsGiven (codes "plain") (map string_bytes words.entry.now)) }
     ensures explain { IfOk result (λ s. IsTrue s.explain ↔ IsGiven (codes "explain") (map string_bytes words.entry.now)) }
+    ensures history { IfOk result (λ s. option_map (λ t. t.now) s.history ≡ first_of (codes "history") (rows_in (map string_bytes words.entry.now))) }
     ensures fault { FailsBy (fault_of program (map string_bytes words.entry.now)) result }
 {
     let matches = command(alloc)?.try_get_matches_from(words)?;
@@ -97,5 +111,6 @@ pub fn options<'a>(alloc: Global, words: &'a [String]) -> Result<Settings<'a>, E
         limits: matches.get_str("limits"),
         plain: matches.value_source("plain") == Some(ValueSource::CommandLine),
         explain: matches.value_source("explain") == Some(ValueSource::CommandLine),
+        history: matches.get_str("history"),
     })
 }

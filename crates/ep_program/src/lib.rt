@@ -4,7 +4,9 @@
 mod bad_limits;
 mod command_line;
 mod explainer;
+mod files;
 mod program;
 
 pub use crate::command_line::{Settings, options};
-pub use crate::program::{no_words, run_with};
+pub use crate::files::Create;
+pub use crate::program::{no_words, run_with, run_with_files};

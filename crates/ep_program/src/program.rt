@@ -1,5 +1,5 @@
 //! The program, over any reader and writers.
-ghost use Rattle.std.specs.Prelude.{◌≡◌, ◌≢◌, ◌≤◌, IfSome, IsNone, Some, true};
+ghost use Rattle.std.specs.Prelude.{◌≡◌, ◌≢◌, ◌≤◌, IfSome, IsNone, Some, false, true};
 ghost use Rattle.std.specs.IoError.{error_kind};
 ghost use Rattle.clap.specs.Words.{kind_of};
 ghost use Rattle.ep_base.specs.Limits.{Limits as Numbers, default_limits};
@@ -9,10 +9,13 @@ ghost use Rattle.ep_text.specs.Limits.{IsLimitsText};
 use crate::bad_limits::explain_limits;
 use crate::command_line::{Settings, options};
 use crate::explainer::Explainer;
+use crate::files::{Create, NoFiles};
 use clap::error::ErrorKind;
 use ep_base::Limits;
 use ep_plain::{Kernel, PlainKernel};
-use ep_script::{ScriptFault, Summary, Watched, parse_limits, run_script};
+use ep_script::{
+    RecordedFault, ScriptFault, Summary, Watched, parse_limits, run_recorded, run_script,
+};
 use std::alloc::Global;
 use std::io::{self, ErrorKind as IoKind, Read, Write};
 
@@ -29,7 +32,7 @@ const BAD_WORDS: u8 = 2;
 const BAD_LIMITS: u8 = 2;
 
 /// Tells a fault in one line. A write that fails changes nothing.
-fn fail<E: Write>(fault: &ScriptFault, errors: &mut E) -> u8
+fn fail<E: Write>(fault: &RecordedFault, errors: &mut E) -> u8
     ensures { result ≡ 1 }
 {
     let _ = write!(errors, "epsim: {fault}\n");
@@ -43,7 +46,7 @@ pub fn no_words<E: Write>(error: &io::Error, errors: &mut E) -> u8
     ensures no_text { error_kind error.now ≢ IoKind.OutOfMemory → result ≡ 2 }
 {
     if error.kind() == IoKind::OutOfMemory {
-        return fail(&ScriptFault::Memory, errors);
+        return fail(&RecordedFault::Memory, errors);
     }
     let _ = write!(
         errors,
@@ -76,10 +79,10 @@ fn tell<W: Write, E: Write>(found: &clap::Error, output: &mut W, errors: &mut E)
     ensures mistake { is_mistake (kind_of found.now) ≡ true → result ≡ 2 }
 {
     match found.kind() {
-        ErrorKind::OutOfMemory => fail(&ScriptFault::Memory, errors),
+        ErrorKind::OutOfMemory => fail(&RecordedFault::Memory, errors),
         ErrorKind::DisplayHelp | ErrorKind::DisplayVersion => match write_text(found, output) {
             Ok(()) => DONE,
-            Err(_) => fail(&ScriptFault::Write, errors),
+            Err(_) => fail(&RecordedFault::Script(ScriptFault::Write), errors),
         },
         _ => {
             let _ = write_text(found, errors);
@@ -101,60 +104,135 @@ fn limits_of(text: Option<&str>) -> Option<Limits>
     }
 }
 
-fn run_plainly<K: Kernel, R: Read + Drop, W: Write + Drop>(
+/// Runs the script, and writes the history where there is a writer for it.
+fn run_on<K: Kernel, R: Read, W: Write + Drop, H: Write + Drop>(
     alloc: Global,
     kernel: &mut K,
-    reader: R,
+    reader: &mut Watched<R>,
     output: W,
-) -> Result<Summary, ScriptFault> {
-    let mut reader = Watched::new(reader);
+    history: Option<H>,
+) -> Result<Summary, RecordedFault>
+    requires { reader.old.failed ≡ false }
+{
     let mut writer = Watched::new(output);
-    run_script(alloc, kernel, &mut reader, &mut writer)
+    let Some(file) = history else {
+        return run_script(alloc, kernel, reader, &mut writer).map_err(RecordedFault::Script);
+    };
+    let mut history = Watched::new(file);
+    run_recorded(alloc, kernel, reader, &mut writer, &mut history)
 }
 
-fn run_explained<K: Kernel, R: Read + Drop, W: Write + Drop, E: Write + Drop>(
+/// Runs the script, and says on `errors` why its lines are no commands.
+fn run_explained<K: Kernel, R: Read + Drop, W: Write + Drop, E: Write + Drop, H: Write + Drop>(
     alloc: Global,
     kernel: &mut K,
     reader: R,
     output: W,
     errors: E,
-) -> Result<Summary, ScriptFault> {
+    history: Option<H>,
+) -> Result<Summary, RecordedFault> {
     let Ok(explainer) = Explainer::new(alloc, reader, errors) else {
-        return Err(ScriptFault::Memory);
+        return Err(RecordedFault::Memory);
     };
     let mut reader = Watched::new(explainer);
-    let mut writer = Watched::new(output);
-    let result = run_script(alloc, kernel, &mut reader, &mut writer);
+    let result = run_on(alloc, kernel, &mut reader, output, history);
     let mut explainer = reader.into_inner();
     explainer.finish(result.is_ok());
     result
 }
 
-fn run<R: Read + Drop, W: Write + Drop, E: Write + Drop>(
+/// Runs the script on a new kernel, and explains it where there is a writer for that.
+fn run<R: Read + Drop, W: Write + Drop, E: Write + Drop, H: Write + Drop>(
     alloc: Global,
     limits: Limits,
-    explain: bool,
     reader: R,
     output: W,
-    errors: E,
-) -> Result<Summary, ScriptFault> {
+    explain_to: Option<E>,
+    history: Option<H>,
+) -> Result<Summary, RecordedFault> {
     let Ok(mut kernel) = PlainKernel::new(alloc, limits) else {
-        return Err(ScriptFault::Memory);
+        return Err(RecordedFault::Memory);
     };
-    if explain {
-        run_explained(alloc, &mut kernel, reader, output, errors)
+    match explain_to {
+        Some(errors) => run_explained(alloc, &mut kernel, reader, output, errors, history),
+        None => run_on(
+            alloc,
+            &mut kernel,
+            &mut Watched::new(reader),
+            output,
+            history,
+        ),
+    }
+}
+
+/// The writer of the history, where one is asked for. The error is that it can't be made.
+fn history_file<C: Create>(
+    settings: &Settings<'_>,
+    files: C,
+) -> Result<Option<C::File>, RecordedFault> {
+    let Some(path) = settings.history else {
+        return Ok(None);
+    };
+    match files.create(path) {
+        Ok(file) => Ok(Some(file)),
+        Err(_) => Err(RecordedFault::History),
+    }
+}
+
+/// Runs what the words asked for, and tells how it failed.
+fn run_settings<R: Read + Drop, W: Write, E: Write, C: Create>(
+    alloc: Global,
+    settings: &Settings<'_>,
+    reader: R,
+    output: &mut W,
+    errors: &mut E,
+    files: C,
+) -> u8
+    ensures { result ≤ 2 }
+{
+    let Some(limits) = limits_of(settings.limits) else {
+        return refuse_limits(settings, errors);
+    };
+    let history = match history_file(settings, files) {
+        Ok(history) => history,
+        Err(fault) => return fail(&fault, errors),
+    };
+    let explain_to = if settings.explain {
+        Some(&mut *errors)
     } else {
-        run_plainly(alloc, &mut kernel, reader, output)
+        None
+    };
+    match run(alloc, limits, reader, output, explain_to, history) {
+        Ok(_) => DONE,
+        Err(fault) => fail(&fault, errors),
     }
 }
 
 /// Does what the words of the command line, the program's name first, ask for, and gives the
 /// status: 0 at the end of the script or for `--help` and `--version`, 1 where the script was not
 /// run to its end or such a text could not be written, 2 for a bad command line or limits that are
-/// none. The words are looked at first, then the limits, and the script is read last. `--plain`
-/// changes nothing while the scanning kernel is the only one. `--explain` changes what stands on
-/// `errors` alone. What went wrong is one line there, or the text of `clap`; a write there that
-/// fails changes no status.
+/// none. The words are looked at first, then the limits, then the file of `--history` is made by
+/// `files`, and the script is read last. `--plain` changes nothing while the scanning kernel is the
+/// only one. `--explain` changes what stands on `errors` alone, and `--history` only ends the run
+/// where its file can't be written. What went wrong is one line on `errors`, or the text of `clap`;
+/// a write there that fails changes no status.
+pub fn run_with_files<R: Read + Drop, W: Write, E: Write, C: Create>(
+    alloc: Global,
+    words: Vec<String>,
+    reader: R,
+    output: &mut W,
+    errors: &mut E,
+    files: C,
+) -> u8
+    ensures { result ≤ 2 }
+{
+    match options(alloc, words.as_slice()) {
+        Ok(settings) => run_settings(alloc, &settings, reader, output, errors, files),
+        Err(found) => tell(&found, output, errors),
+    }
+}
+
+/// As `run_with_files`, where no file can be made: `--history` ends the run before it begins.
 pub fn run_with<R: Read + Drop, W: Write, E: Write>(
     alloc: Global,
     words: Vec<String>,
@@ -164,22 +242,5 @@ pub fn run_with<R: Read + Drop, W: Write, E: Write>(
 ) -> u8
     ensures { result ≤ 2 }
 {
-    let settings = match options(alloc, words.as_slice()) {
-        Ok(settings) => settings,
-        Err(found) => return tell(&found, output, errors),
-    };
-    let Some(limits) = limits_of(settings.limits) else {
-        return refuse_limits(&settings, errors);
-    };
-    match run(
-        alloc,
-        limits,
-        settings.explain,
-        reader,
-        output,
-        &mut *errors,
-    ) {
-        Ok(_) => DONE,
-        Err(fault) => fail(&fault, errors),
-    }
+    run_with_files(alloc, words, reader, output, errors, NoFiles)
 }

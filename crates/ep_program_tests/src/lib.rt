@@ -2,4 +2,6 @@
 #![tactic(auto)]
 
 #[cfg(test)]
+mod history;
+#[cfg(test)]
 mod program;

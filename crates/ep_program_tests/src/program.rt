@@ -9,7 +9,7 @@ use std::test::Fail;
 const LEVEL: &[u8] = b"{\"op\":\"pipe\"}\n{\"op\":\"epoll\"}\n";
 
 #[derive(Drop)]
-struct Failing;
+pub(crate) struct Failing;
 
 impl Read for Failing {
     fn read(&mut self, _buf: &mut [u8]) -> io::Result<usize> {
@@ -27,7 +27,7 @@ impl Write for Failing {
     }
 }
 
-fn words(alloc: Global, given: &[&str]) -> Result<Vec<String>, Fail> {
+pub(crate) fn words(alloc: Global, given: &[&str]) -> Result<Vec<String>, Fail> {
     let mut words = Vec::new(alloc);
     words.push(String::from_str(alloc, "epsim")?)?;
     for word in given {

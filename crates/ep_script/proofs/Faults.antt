@@ -87,7 +87,7 @@ gains_none h = ([], sym (append-nil h), omega arith)
 pub memory_at_once : (k w : Option (List ℕ)) (h : List Record) → IfSome k (λ i. Faulted fault.Memory i w w h h)
 memory_at_once k w h = memory_fault k (prepend_known [] k) w w w h h h (record { lines = 0; records = 0; bad = 0 }) (ran_nothing k w [] h refl) (keeps_itself w) (gains_none h)
 
-read_fault : (k l w v : Option (List ℕ)) (h0 h : List Record) (s : Summary) → Ran k l w v h0 h s → IfSome k (λ i. Faulted fault.Read i w v h0 h)
+pub read_fault : (k l w v : Option (List ℕ)) (h0 h : List Record) (s : Summary) → Ran k l w v h0 h s → IfSome k (λ i. Faulted fault.Read i w v h0 h)
 read_fault None l w v h0 h s p = tt
 read_fault (Some i) None w v h0 h s p = absurd p
 read_fault (Some i) (Some r) w v h0 h s p = (lines_of r, still i r w v h0 h s p)

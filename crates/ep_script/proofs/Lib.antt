@@ -5,3 +5,5 @@ pub mod RecordLemmas
 pub mod TallyLemmas
 pub mod RunLemmas
 pub mod Faults
+pub mod HistoryLemmas
+pub mod PastLemmas

@@ -5,5 +5,7 @@ pub mod Transcript
 pub mod Known
 pub mod Outcome
 pub mod Unread
+pub mod Recorded
+pub mod ReadHistory
 pub mod Steps
 pub mod Tally

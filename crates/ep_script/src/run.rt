@@ -16,7 +16,7 @@ use std::alloc::Global;
 use std::io::{Read, Write};
 
 /// The most lines of a script.
-const MOST_LINES: u64 = 100_000;
+pub(crate) const MOST_LINES: u64 = 100_000;
 
 /// Runs a script on a kernel: answers each line before it asks for the next, with the line that
 /// tells the kernel's answer, or says that the line is no command.

@@ -2,7 +2,7 @@ use Rattle.std.proofs.Common.{ap, ap₂, ◌∙◌, ◌≡◌}
 use Rattle.std.proofs.lemmas.Result.{IfOk-weaker}
 use Rattle.clap.specs.Words.{app_of, with_rule}
 use Rattle.clap.specs.Simple.{app_of_fields, on_top}
-use Rattle.ep_program.specs.Options.{limits_rule, plain_rule, versioned, with_version}
+use Rattle.ep_program.specs.Options.{explain_rule, limits_rule, plain_rule, versioned, with_version}
 use Rattle.ep_program.proofs.command_line.command.Goals as goal
 
 pub returns : goal.returns
@@ -13,4 +13,6 @@ returns c =
     c.in_ok-arg.ensures.shape c.limits_argument.ensures.local ∙ ap₂ with_rule top c.limits_argument.ensures.rule in
     let two : app_of c.in_ok-arg-2.field-0 ≡ with_rule (with_rule versioned limits_rule) plain_rule =
     c.in_ok-arg-2.ensures.shape c.plain_argument.ensures.local ∙ ap₂ with_rule one c.plain_argument.ensures.rule in
-    IfOk-weaker c.arg-3.result _ _ (λ r h. h.shape c.explain_argument.ensures.local ∙ ap₂ with_rule two c.explain_argument.ensures.rule) c.arg-3.ensures
+    let three : app_of c.in_ok-arg-3.field-0 ≡ with_rule (with_rule (with_rule versioned limits_rule) plain_rule) explain_rule =
+    c.in_ok-arg-3.ensures.shape c.explain_argument.ensures.local ∙ ap₂ with_rule two c.explain_argument.ensures.rule in
+    IfOk-weaker c.arg-4.result _ _ (λ r h. h.shape c.history_argument.ensures.local ∙ ap₂ with_rule three c.history_argument.ensures.rule) c.arg-4.ensures

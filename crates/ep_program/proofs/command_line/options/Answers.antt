@@ -25,6 +25,11 @@ returns-clause-explain c =
     sym (c.value_source-2.ensures ∙ source-rows (found_of c.in_ok-matches.matches) (codes "explain") ∙ ap (source_of (codes "explain")) rows) in
     rw source (search rules)
 
+pub returns-clause-history : goal.returns-clause-history
+returns-clause-history c =
+    let rows = rows_found _ (map string_bytes c.args.words.now) c.in_ok-matches.matches c.in_ok-command.ensures c.in_ok-matches.ensures.matches in
+    c.get_str-2.ensures ∙ first_value-rows (found_of c.in_ok-matches.matches) (codes "history") ∙ ap (first_of (codes "history")) rows
+
 pub returns-clause-fault : goal.returns-clause-fault
 returns-clause-fault c =
     ap (λ (a : App). fault_of a (map string_bytes c.args.words.now)) (sym c.in_ok-command.ensures) ∙ c.in_ok-matches.ensures.kinds (ap is_simple_and_free c.in_ok-command.ensures ∙ program_is_free)

@@ -1,0 +1,169 @@
+//! The program, over any reader and writers.
+ghost use Rattle.std.specs.Prelude.{◌≡◌, ◌≢◌, ◌≤◌};
+ghost use Rattle.std.specs.IoError.{error_kind};
+
+use crate::command_line::limits_word;
+use clap::error::ErrorKind;
+use ep_audit::{AuditFault, audit};
+use ep_base::{Limits, Record};
+use ep_history::print_record;
+use ep_script::{Watched, parse_limits, read_history};
+use std::alloc::Global;
+use std::io::{self, ErrorKind as IoKind, Read, Write};
+
+/// The history is a run, or help or the version was asked for.
+const LEGAL: u8 = 0;
+
+/// The history is none.
+const ILLEGAL: u8 = 1;
+
+/// There is no verdict.
+const NO_VERDICT: u8 = 2;
+
+/// Tells why there is no verdict. A write that fails changes nothing.
+fn fail<E: Write>(reason: &str, errors: &mut E) -> u8
+    ensures { result ≡ 2 }
+{
+    let _ = write!(errors, "epaudit: {reason}\n");
+    NO_VERDICT
+}
+
+/// What the program answers where the words of the command line are not to be had.
+pub fn no_words<E: Write>(error: &io::Error, errors: &mut E) -> u8
+    ensures { result ≡ 2 }
+{
+    if error.kind() == IoKind::OutOfMemory {
+        return fail("out of memory", errors);
+    }
+    fail("a word of the command line is no UTF-8 text", errors)
+}
+
+fn write_text<W: Write>(text: &clap::Error, writer: &mut W) -> io::Result<()> {
+    write!(writer, "{text}")?;
+    writer.flush()
+}
+
+/// Tells what `clap` found: help or the version on the output, a mistake in the words on `errors`.
+fn tell<W: Write, E: Write>(found: &clap::Error, output: &mut W, errors: &mut E) -> u8
+    ensures { result ≤ 2 }
+{
+    match found.kind() {
+        ErrorKind::OutOfMemory => fail("out of memory", errors),
+        ErrorKind::DisplayHelp | ErrorKind::DisplayVersion => match write_text(found, output) {
+            Ok(()) => LEGAL,
+            Err(_) => fail("cannot write the verdict", errors),
+        },
+        _ => {
+            let _ = write_text(found, errors);
+            NO_VERDICT
+        }
+    }
+}
+
+fn write_legal<W: Write>(count: usize, output: &mut W) -> io::Result<()> {
+    write!(output, "ok {count} records\n")?;
+    output.flush()
+}
+
+fn write_illegal<W: Write>(place: usize, line: &[u8], output: &mut W) -> io::Result<()> {
+    write!(
+        output,
+        "illegal at record {place}: the machine does not allow this answer here\n"
+    )?;
+    output.write_all(line)?;
+    output.write_all(b"\n")?;
+    output.flush()
+}
+
+/// Tells the first record that is not allowed, with its line.
+fn tell_illegal<W: Write, E: Write>(
+    alloc: Global,
+    records: &[Record],
+    place: usize,
+    output: &mut W,
+    errors: &mut E,
+) -> u8
+    ensures { result ≤ 2 }
+{
+    let Some(entry) = records.get(place) else {
+        return fail("no such record", errors);
+    };
+    let Ok(line) = print_record(alloc, entry) else {
+        return fail("out of memory", errors);
+    };
+    match write_illegal(place, line.as_slice(), output) {
+        Ok(()) => ILLEGAL,
+        Err(_) => fail("cannot write the verdict", errors),
+    }
+}
+
+/// Judges the records.
+fn judge<W: Write, E: Write>(
+    alloc: Global,
+    limits: &Limits,
+    records: &[Record],
+    output: &mut W,
+    errors: &mut E,
+) -> u8
+    ensures { result ≤ 2 }
+{
+    match audit(alloc, limits, records) {
+        Ok(()) => match write_legal(records.len(), output) {
+            Ok(()) => LEGAL,
+            Err(_) => fail("cannot write the verdict", errors),
+        },
+        Err(AuditFault::Illegal(place)) => tell_illegal(alloc, records, place, output, errors),
+        Err(AuditFault::Memory) => fail("out of memory", errors),
+    }
+}
+
+/// Reads the history and judges it.
+fn read_and_judge<R: Read, W: Write, E: Write>(
+    alloc: Global,
+    limits: &Limits,
+    reader: R,
+    output: &mut W,
+    errors: &mut E,
+) -> u8
+where
+    R: Drop,
+    ensures { result ≤ 2 }
+{
+    let mut reader = Watched::new(reader);
+    match read_history(alloc, &mut reader) {
+        Ok(records) => judge(alloc, limits, records.as_slice(), output, errors),
+        Err(fault) => {
+            let _ = write!(errors, "epaudit: {fault}\n");
+            NO_VERDICT
+        }
+    }
+}
+
+/// Does what the words of the command line, the program's name first, ask for, and gives the
+/// status: 0 where the history on `reader` is a run of the machine under the limits, or for `--help`
+/// and `--version`, 1 where it is none, 2 where there is no verdict: bad words or limits, a line
+/// that is no record, a reader or an output that fails, or want of memory. The words are looked at
+/// first, then the limits, and the history is read last. The verdict is written to `output`, and
+/// why there is none to `errors`, in one line; a write there that fails changes no status.
+pub fn run_with<R: Read + Drop, W: Write, E: Write>(
+    alloc: Global,
+    words: Vec<String>,
+    reader: R,
+    output: &mut W,
+    errors: &mut E,
+) -> u8
+    ensures { result ≤ 2 }
+{
+    let text = match limits_word(alloc, words.as_slice()) {
+        Ok(text) => text,
+        Err(found) => return tell(&found, output, errors),
+    };
+    let limits = match text {
+        None => Some(Limits::default()),
+        Some(text) => parse_limits(text),
+    };
+    match limits {
+        Some(limits) => read_and_judge(alloc, &limits, reader, output, errors),
+        None => fail("bad limits", errors),
+    }
+}

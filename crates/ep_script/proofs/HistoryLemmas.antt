@@ -1,0 +1,94 @@
+-- What stands in the history's writer, record by record.
+use Rattle.std.proofs.Common.{Bool, List, None, Option, Some, IfSome, Err, Result, [], ap, append-nil, append_assoc, arith, false, if◌then◌else◌, inl, inr, length, length-append, map, refl, sym, take, true, ℕ, ◌+◌, ◌++◌, ◌≡◌, ◌≤◌, ◌∙◌, ◌∷◌, ◌⊎◌}
+use Rattle.std.specs.Io.KnownBytes.{Appends}
+use Rattle.std.proofs.Math.Seq.{take-append-add}
+use Rattle.std.proofs.lemmas.List.{length-map}
+use Rattle.ep_base.specs.declared.record.Record.{Record}
+use Rattle.ep_calls.specs.Acts.{is_no_memory}
+use Rattle.ep_history.specs.Records.{record_line}
+use Rattle.ep_text.specs.Event.{Command}
+use Rattle.ep_script.specs.declared.fault.RecordedFault.{RecordedFault}
+use Rattle.ep_script.specs.declared.fault.RecordedFault.TheVariants.{History, Memory, Script}
+use Rattle.ep_script.specs.declared.fault.ScriptFault.{ScriptFault}
+use Rattle.ep_script.specs.declared.fault.ScriptFault.TheVariants as fault
+use Rattle.ep_script.specs.declared.summary.Summary.{Summary}
+use Rattle.ep_script.specs.Recorded.{EndsBy, Writes, WritesPart, history_text, line_at}
+use Rattle.ep_script.specs.Steps.{AnswerFault}
+use Rattle.ep_script.specs.Transcript.{Exchange, Grows, Outcome, recorded, told}
+use Rattle.ep_script.proofs.Faults.{read_fault}
+use Rattle.ep_script.proofs.RunLemmas.{Ran}
+use Rattle.ep_script.proofs.WriterLemmas.{appends_more, appends_nothing}
+
+history_text_more : (xs ys : List Record) → history_text (xs ++ ys) ≡ history_text xs ++ history_text ys
+history_text_more [] ys = refl
+history_text_more (x ∷ xs) ys =
+    ap (λ t. record_line x ++ 10 ∷ t) (history_text_more xs ys) ∙ sym (append_assoc (record_line x) (10 ∷ history_text xs) (history_text ys))
+
+-- the line of the only record that came
+line_here : (h g : List Record) → length g ≤ 1 → line_at (length h) (h ++ g) ≡ history_text g
+line_here [] [] few = refl
+line_here [] (r ∷ []) few = refl
+line_here [] (r ∷ q ∷ g) few = absurd (omega (arith, few))
+line_here (x ∷ h) g few = line_here h g few
+
+one_at_most : (b : Bool) (x : Exchange) → length (if b then [] else x ∷ []) ≤ 1
+one_at_most true x = omega arith
+one_at_most false x = omega arith
+
+recorded_few : (o : Outcome) → length (recorded o) ≤ 1
+recorded_few None = omega arith
+recorded_few (Some x) = one_at_most (is_no_memory x.answer) x
+
+grown_few : (h h' : List Record) (o : Outcome) (g : Grows h h' (o ∷ [])) → length g.0 ≤ 1
+grown_few h h' o g = omega (arith, length-map g.0 told, ap length g.2, ap length (append-nil (recorded o)), recorded_few o)
+
+line_grown : (h h' : List Record) (o : Outcome) (g : Grows h h' (o ∷ [])) (place : ℕ) → place ≡ length h → line_at place h' ≡ history_text g.0
+line_grown h h' o g place e = rw (e, g.1) (line_here h g.0 (grown_few h h' o g))
+
+pub writes_nothing : (v : Option (List ℕ)) (h : List Record) → Writes v v h h
+writes_nothing v h = ([], sym (append-nil h), appends_nothing v)
+
+pub writes_more : (w v v' : Option (List ℕ)) (h0 h h' : List Record) (o : Outcome) (place : ℕ) → Writes w v h0 h → Grows h h' (o ∷ []) → place ≡ length h
+    → Appends v v' (line_at place h') → Writes w v' h0 h'
+writes_more w v v' h0 h h' o place p g e wrote = (
+  p.0 ++ g.0,
+  g.1 ∙ ap (λ x. x ++ g.0) p.1 ∙ append_assoc h0 p.0 g.0,
+  rw (history_text_more p.0 g.0) (appends_more w v v' (history_text p.0) (history_text g.0) p.2 (rw (line_grown h h' o g place e) at wrote)),
+)
+
+pub writes_part : (w v v' : Option (List ℕ)) (h0 h h' g : List Record) (n : ℕ) → Writes w v h0 h → h' ≡ h ++ g → Appends v v' (take n (history_text g)) → WritesPart w v' h0 h'
+writes_part w v v' h0 h h' g n p e wrote = (
+  p.0 ++ g,
+  e ∙ ap (λ x. x ++ g) p.1 ∙ append_assoc h0 p.0 g,
+  (length (history_text p.0) + n, rw (history_text_more p.0 g, take-append-add (history_text p.0) (history_text g) n) (appends_more w v v' (history_text p.0) (take n (history_text g)) p.2 wrote)),
+)
+
+pub part_of_all : (w v : Option (List ℕ)) (h0 h : List Record) → Writes w v h0 h → WritesPart w v h0 h
+part_of_all w v h0 h p = writes_part w v v h0 h h [] 0 p (sym (append-nil h)) (appends_nothing v)
+
+pub part_of_line : (w v v' : Option (List ℕ)) (h0 h h' : List Record) (o : Outcome) (place n : ℕ) → Writes w v h0 h → Grows h h' (o ∷ []) → place ≡ length h
+    → Appends v v' (take n (line_at place h')) → WritesPart w v' h0 h'
+part_of_line w v v' h0 h h' o place n p g e wrote = writes_part w v v' h0 h h' g.0 n p g.1 (rw (line_grown h h' o g place e) at wrote)
+
+-- the record of a line that was not answered whole stands in no line
+pub part_unanswered : (w v old new : Option (List ℕ)) (h0 h h' : List Record) (c : Option Command) (number : ℕ) (e : ScriptFault) → Writes w v h0 h → AnswerFault e c number old new h h'
+    → WritesPart w v h0 h'
+part_unanswered w v old new h0 h h' c number fault.Memory p a = writes_part w v v h0 h h' a.1.0 0 p a.1.1 (appends_nothing v)
+part_unanswered w v old new h0 h h' c number fault.Write p a = writes_part w v v h0 h h' a.2.grows.0 0 p a.2.grows.1 (appends_nothing v)
+part_unanswered w v old new h0 h h' c number fault.Read p a = absurd a
+part_unanswered w v old new h0 h h' c number fault.Lines p a = absurd a
+part_unanswered w v old new h0 h h' c number (fault.Line x) p a = absurd a
+
+-- ---- faults
+
+pub history_fault : (k l w v : Option (List ℕ)) (h0 h : List Record) (s : Summary) (e : RecordedFault) → Ran k l w v h0 h s → (e ≡ History) ⊎ (e ≡ Memory)
+    → IfSome k (λ i. EndsBy e i w v h0 h)
+history_fault k l w v h0 h s e p (inl f) = rw f (read_fault k l w v h0 h s p)
+history_fault k l w v h0 h s e p (inr f) = rw f (read_fault k l w v h0 h s p)
+
+pub never_script : (X : Type 0) {T : Type 0} (e : RecordedFault) (f : ScriptFault) → (e ≡ History) ⊎ (e ≡ Memory) → ◌≡◌ {A = Result T RecordedFault} (Err e) (Err (Script f)) → X
+never_script X e f (inl g) q = absurd (cc)
+never_script X e f (inr g) q = absurd (cc)
+
+pub script_same : {T : Type 0} (a b : ScriptFault) → ◌≡◌ {A = Result T RecordedFault} (Err (Script a)) (Err (Script b)) → a ≡ b
+script_same a b q = cc

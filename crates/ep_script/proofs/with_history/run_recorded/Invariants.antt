@@ -1,0 +1,22 @@
+use Rattle.std.proofs.Common.{false, ◌≡◌, ◌≤◌}
+use Rattle.std.specs.Io.KnownBytes.{prepend_known}
+use Rattle.ep_script.specs.Outcome.{Gains}
+use Rattle.ep_script.specs.Recorded.{Writes}
+use Rattle.ep_script.specs.Unread.{unread}
+use Rattle.ep_script.proofs.RunLemmas.{Ran}
+use Rattle.ep_script.proofs.with_history.run_recorded.Given as goal
+
+abbrev pub invariant-loop-done : goal.invariant-loop-done
+invariant-loop-done g l = record {
+  ran : Ran (g.R.Read.remaining l.fn.reader.inner) (prepend_known (unread l.input) (g.R.Read.remaining l.reader.inner)) (g.W.Write.contents l.fn.writer.inner) (g.W.Write.contents l.writer.inner)
+      (g.K.Kernel.past l.fn.kernel) (g.K.Kernel.past l.kernel) l.summary;
+  gains : Gains (g.K.Kernel.past l.fn.kernel) (g.K.Kernel.past l.kernel) l.summary.records;
+  lines : l.summary.lines ≡ l.done;
+  records : l.summary.records ≤ l.done;
+  bad : l.summary.bad ≤ l.done;
+  reader_flag : l.reader.failed ≡ false;
+  writer_flag : l.writer.failed ≡ false;
+  history_flag : l.history.failed ≡ false;
+  writes : Writes (g.H.Write.contents l.fn.history.inner) (g.H.Write.contents l.history.inner) (g.K.Kernel.past l.fn.kernel) (g.K.Kernel.past l.kernel);
+  limits : g.K.Kernel.bounds l.kernel ≡ g.K.Kernel.bounds l.fn.kernel;
+}
