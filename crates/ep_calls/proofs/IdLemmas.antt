@@ -19,7 +19,7 @@ ids_purged old mid purged new left keys kept id =
     elim (left_or_none purged.entries (number_under mid id)) [
       | inl none ↦ inl (same ∙ none)
       | inr is ↦ elim (kept id) [
-          | inl none ↦ inl (same ∙ (is ∙ none))
-          | inr was ↦ inr (same ∙ (is ∙ was))
-        ]
+        | inl none ↦ inl (same ∙ (is ∙ none))
+        | inr was ↦ inr (same ∙ (is ∙ was))
+      ]
     ]

@@ -39,14 +39,16 @@ module _ (p : Parts) (keys : List ℕ) (most : ℕ) where
 
   walk : (walked : ℕ) (id : EntryId) (rest : List EntryId) → (at : IsAt keys walked (id ∷ rest)) → (next : IsAt keys (walked + 1) rest) × (next.before ≡ at.before ++ id.0 ∷ [])
   walk walked id rest at =
-      let n = next_left at.after id rest at.left in
-      (record {
-        before = at.before ++ id.0 ∷ [];
-        after = n.0;
-        split = at.split ∙ (ap (λ (xs : List ℕ). at.before ++ xs) n.1 ∙ sym (append_assoc at.before (id.0 ∷ []) n.0));
-        left = n.2;
-        len = length-append at.before (id.0 ∷ []) ∙ ap (λ (n : ℕ). n + 1) at.len;
-      }, refl)
+      let n = next_left at.after id rest at.left in (
+        record {
+          before = at.before ++ id.0 ∷ [];
+          after = n.0;
+          split = at.split ∙ (ap (λ (xs : List ℕ). at.before ++ xs) n.1 ∙ sym (append_assoc at.before (id.0 ∷ []) n.0));
+          left = n.2;
+          len = length-append at.before (id.0 ∷ []) ∙ ap (λ (n : ℕ). n + 1) at.len;
+        },
+        refl,
+      )
 
   shown_more : (b : Bool) (k : ℕ) (xs : List ℕ) → key_shows p k ≡ b → filter (key_shows p) (xs ++ k ∷ []) ≡ filter (key_shows p) xs ++ cond b (k ∷ []) []
   shown_more b k xs h = filter-append (key_shows p) xs (k ∷ []) ∙ ap (λ (c : Bool). filter (key_shows p) xs ++ cond c (k ∷ []) []) h
@@ -99,6 +101,6 @@ module _ (p : Parts) (keys : List ℕ) (most : ℕ) where
       let none : f.at.after ≡ [] = empty f.at.after f.at.left in
       let n : length f.at.after ≡ 0 = ap length none in
       omega (arith, f.at.len, ap length f.at.split, length-append f.at.before f.at.after, n) where
-    empty : (after : List ℕ) → [] ≡ ids after → after ≡ []
-    empty [] h = refl
-    empty (k ∷ more) h = absurd (cc)
+        empty : (after : List ℕ) → [] ≡ ids after → after ≡ []
+        empty [] h = refl
+        empty (k ∷ more) h = absurd (cc)

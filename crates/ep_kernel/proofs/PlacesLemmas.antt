@@ -77,6 +77,7 @@ loses_nothing l id sound none = record {
 } where
   no_home : (i : ℕ) → None ≡ Some i → ⊥
   no_home i h = absurd cc
+
   not_there : (i : ℕ) → is_among (list_at l i) id.0 ≡ false
   not_there i = elim (cases_Bool (is_among (list_at l i) id.0)) [
     | inl there ↦ absurd (no_home i (sym none ∙ sound.own i id there))

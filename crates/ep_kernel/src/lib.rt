@@ -1,4 +1,5 @@
-//! The kernel with ready lists.
+//! Parts of a kernel with ready lists: what a wait finds on a list and leaves of it, what an event puts on lists, and the
+//! places that go with what dies. No kernel is made of them yet.
 #![tactic(auto)]
 
 mod choose;

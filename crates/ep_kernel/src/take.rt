@@ -37,13 +37,7 @@ fn take_front(interest: &Interest, lists: &mut ReadyLists, instance: DescId, ste
 }
 
 /// Takes so many registrations off the front of the list of an instance; those that stay come to the end, in order.
-pub fn take(
-    interest: &Interest,
-    lists: &mut ReadyLists,
-    instance: DescId,
-    walked: usize,
-    step: u64,
-)
+pub fn take(interest: &Interest, lists: &mut ReadyLists, instance: DescId, walked: usize, step: u64)
     requires { walked ≤ length (list_at lists.old instance.0) }
     ensures { SetsList lists.old lists.new instance.0 (taken (key_stays step interest.now) walked (list_at lists.old instance.0)) }
 {

@@ -94,12 +94,7 @@ impl<A: Allocator> Graph<A> {
     /// Adds the link of an entry that has none, between instances that `may_add` allows.
     /// It takes all room that `above` needs, and is the only growth. An error leaves the graph as it was.
     /// Its cost grows as the number of links and, where a key is new, as the key.
-    pub fn link(
-        &mut self,
-        outer: DescId,
-        inner: DescId,
-        entry: EntryId,
-    ) -> Result<(), AllocError>
+    pub fn link(&mut self, outer: DescId, inner: DescId, entry: EntryId) -> Result<(), AllocError>
         requires legal { is_legal ((outer.0, inner.0) ∷ edges self.old) ≡ true }
         requires fresh { is_among (entries self.old) entry.0 ≡ false }
         ensures linked { OnOk result (self.new ≡ self.old ++ record { outer = outer; inner = inner; entry = entry } ∷ []) }

@@ -46,10 +46,7 @@ fn above_past<'a>(graph: &'a mut Graph, inner: DescId, bound: usize) -> &'a [Des
 
 /// Whether exactly these instances are above one, each once, through the entries of a list.
 fn is_above(graph: &mut Graph, inner: usize, entries: &[usize], wanted: &[usize]) -> bool {
-    let found = graph.above(
-        DescId(inner),
-        &|entry: EntryId| entries.contains(&entry.0),
-    );
+    let found = graph.above(DescId(inner), &|entry: EntryId| entries.contains(&entry.0));
     found.len() == wanted.len() && wanted.iter().all(|key| found.contains(&DescId(*key)))
 }
 
@@ -134,12 +131,7 @@ fn is_refused(rt: &(impl Abort + AllocGlobal), bytes: usize) -> Result<bool, All
     let mut graph = Graph::new(&heap);
     let is_refused = graph.link(DescId(1), DescId(2), EntryId(3)).is_err();
     assert!(rt; graph.is_linked(EntryId(3)) != is_refused);
-    assert!(rt;
-        graph
-            .above(DescId(2), &|_entry: EntryId| true)
-            .is_empty()
-            == is_refused
-    );
+    assert!(rt; graph.above(DescId(2), &|_entry: EntryId| true).is_empty() == is_refused);
     Ok(is_refused)
 }
 

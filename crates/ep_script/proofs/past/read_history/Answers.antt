@@ -25,5 +25,5 @@ pub returns-in-Err-add_record-clause-bad : goal.returns-in-Err-add_record-clause
 returns-in-Err-add_record-clause-bad g c = λ number q.
     bad_of (λ n. IfSome (g.R.Read.remaining c.args.reader.now.inner) (λ i. IsFirstBad n (lines_of i))) c.in-Err-add_record.fault (c.loop-done.done + 1) number c.in-Err-add_record.ensures.err
     (λ e. read_bad (g.R.Read.remaining c.args.reader.now.inner) (prepend_known (unread c.loop-done.input) (g.R.Read.remaining c.loop-done.reader.inner)) (prepend_known (unread c.next_line.new.input) (g.R.Read.remaining c.next_line.new.reader.inner))
-        c.next_line.new.line.items c.loop-done.records.items c.loop-done.done c.loop-done.invariant (c.in-Ok-true.ensures.line c.in-Ok-true.field-0-test) (rw c.as_slice.ensures.value at (c.in-Err-add_record.ensures.none e)))
+    c.next_line.new.line.items c.loop-done.records.items c.loop-done.done c.loop-done.invariant (c.in-Ok-true.ensures.line c.in-Ok-true.field-0-test) (rw c.as_slice.ensures.value at (c.in-Err-add_record.ensures.none e)))
     q
