@@ -19,7 +19,7 @@ use Rattle.ep_machine.specs.Report.{plainly}
 use Rattle.ep_machine.specs.Timer.{last_moment}
 use Rattle.ep_calls.proofs.TickLemmas.{tick_raises}
 use Rattle.ep_park.specs.Waiters.{is_caller}
-use Rattle.ep_calls.specs.Does.{Does, DoesCall, DoesEvent}
+use Rattle.ep_calls.specs.Does.{Does, DoesCall, DoesCallIf, DoesEvent, DoesEventIf}
 use Rattle.ep_calls.specs.Parts.{Parts}
 use Rattle.ep_calls.specs.declared.outcome.Outcome.{Outcome}
 use Rattle.ep_calls.specs.Clock.{Sets, Ticks}
@@ -69,6 +69,21 @@ module _ (p : Parts) (caller : ℕ) (pid : Pid) (call : Call) (there : is_some (
       second_holds (is_none (table_of s.files pid.0)) (is_parked s caller) Esrch Ebusy (call_refusals p.tables.limits s pid.0 call) (lives s stands) (caller_waits p.tables p.interest p.parked p.clock s caller stands ∙ parked)
 
   -- past the two tests of the caller it is the call
+  pub past_does_if : (Also : State → Type 0) (n : ℕ) (new : Parts) (outcome : Outcome) → list_any (is_caller caller) p.parked ≡ false → DoesCallIf Also n caller pid.0 call outcome p new → DoesEventIf Also n caller (CallOf pid call) outcome p new
+  past_does_if Also n new outcome free does =
+      let limits = p.tables.limits in
+      record {
+        moves = λ s at sound quiet legal stands also.
+            goes_past (is_none (table_of s.files pid.0)) (is_parked s caller) Esrch Ebusy (call_refusals limits s pid.0 call) (change limits s caller (CallOf pid call) outcome.picked) s outcome.answer outcome.picked new
+            (lives s stands) (caller_waits p.tables p.interest p.parked p.clock s caller stands ∙ free) (does.moves s at sound quiet legal stands also);
+        raises = λ s at sound quiet legal stands also.
+            raises_past (is_none (table_of s.files pid.0)) (is_parked s caller) Esrch Ebusy (call_refusals limits s pid.0 call) (change limits s caller (CallOf pid call) outcome.picked) new.tables new.clock outcome.raising
+            (lives s stands) (caller_waits p.tables p.interest p.parked p.clock s caller stands ∙ free) (does.raises s at sound quiet legal stands also);
+        raising = does.raising;
+        limits = does.limits;
+        keys = does.keys;
+      }
+
   pub past_does : (n : ℕ) (new : Parts) (outcome : Outcome) → list_any (is_caller caller) p.parked ≡ false → DoesCall n caller pid.0 call outcome p new → DoesEvent n caller (CallOf pid call) outcome p new
   past_does n new outcome free does =
       let limits = p.tables.limits in

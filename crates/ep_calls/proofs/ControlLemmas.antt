@@ -1,5 +1,5 @@
 -- epoll_ctl over the parts.
-use Rattle.std.proofs.Common.{◌≡◌, ◌∙◌, ◌+◌, ◌++◌, ◌≤◌, ◌==◌, ℕ, All, Bool, List, [], ◌∷◌, None, Option, Some, true, false, ap, cond, length, nat_le, refl, subst, sym, unwrap_or}
+use Rattle.std.proofs.Common.{◌≡◌, ◌∙◌, ◌+◌, ◌++◌, ◌==◌, ℕ, All, Bool, List, [], ◌∷◌, None, Option, Some, true, false, ap, cond, length, nat_le, refl, subst, sym, unwrap_or}
 use Rattle.std.specs.Prelude.{MatchBool}
 use Rattle.std.proofs.lemmas.List.Elements.{All-append, All-cons, All-filter, All-map, All-nil, All-weaker}
 use Rattle.ep_base.specs.declared.answer.Answer.{Answer}
@@ -18,13 +18,16 @@ use Rattle.ep_calls.specs.Does.{DoesCall}
 use Rattle.ep_calls.specs.Parts.{AreWatched, Parts}
 use Rattle.ep_calls.specs.declared.outcome.Outcome.{Outcome}
 use Rattle.ep_nest.specs.declared.link.Link.{Link}
-use Rattle.ep_calls.specs.Control.{Alters, Enters, Names, control_call, naming_refusals}
+use Rattle.ep_calls.specs.Control.{Alters, ChangesIf, Controls, Enters, IsFound, Names, raising_after, control_call, naming_refusals}
 use Rattle.ep_calls.specs.Moves.{Goes, MovesBy}
 use Rattle.ep_calls.specs.Raising.{IsRaising, Raises}
 use Rattle.ep_calls.specs.Stands.{number_at}
 use Rattle.ep_calls.specs.declared.control.Control.{Control}
 use Rattle.ep_calls.specs.declared.control.Named.{Named}
 use Rattle.ep_calls.specs.declared.control.Operation.{Operation}
+use Rattle.ep_calls.specs.declared.control.Plan.{Plan}
+use Rattle.ep_base.specs.declared.ids.EntryId.{EntryId}
+use Rattle.ep_base.specs.declared.ids.Fd.{Fd}
 use Rattle.ep_calls.specs.declared.control.Operation.TheVariants.{Add, Delete, Modify}
 use Rattle.ep_calls.proofs.OutcomeLemmas.{goes_told, raises_told}
 use Rattle.ep_table.specs.Value.{Seen}
@@ -88,3 +91,21 @@ ctl_does p interest graph pid args answer outcome told none is n caller both =
       limits = refl;
       keys = λ key d h. h;
     }
+
+-- what is known of the registration that is named, where it is this
+pub found_as : (r : Registrations) (named : Named) (fd : Fd) (found is : Option EntryId) → IsFound r named fd found → found ≡ is → IsFound r named fd is
+found_as r named fd found is h e = subst (IsFound r named fd) e h
+
+-- with this answer, nothing picked and this raised, the registrations change as the plan says
+pub controls_told : (plan : Plan) (args : Control) (outcome : Outcome) (answer : Answer) (p : Parts) (interest : Registrations) (graph : List Link) → outcome.answer ≡ answer → outcome.picked ≡ []
+    → outcome.raising ≡ raising_after answer p.tables p.clock interest plan.named args.fd
+    → (found : Option EntryId) → plan.found ≡ found → ChangesIf answer plan.operation found plan.named args p.interest interest
+    → Controls plan args outcome p (record p { interest = interest; graph = graph })
+controls_told plan args outcome answer p interest graph told none raising found is changes = record {
+  tables = refl;
+  clock = refl;
+  picked = none;
+  raising = raising ∙ ap (λ (a : Answer). raising_after a p.tables p.clock interest plan.named args.fd) (sym told);
+  interest = subst (λ (a : Answer). ChangesIf a plan.operation plan.found plan.named args p.interest interest) (sym told)
+      (subst (λ (o : Option EntryId). ChangesIf answer plan.operation o plan.named args p.interest interest) (sym is) changes);
+}

@@ -260,7 +260,7 @@ module _ (n : ℕ) (mid new : Parts) (coherent : AreCoherent mid) (burial : Buri
       with_one false e rest = rest
 
     -- what was raised, by the event and by deaths, is noted
-    all_noted : map (freshened n (die_all (after.files, raised) (dying after)).1) (filter (stays_in t.files) (kernel_watches after after.watches)) ≡ map (watch_at new.tables.keys) new.interest.entries
+    pub all_noted : map (freshened n (die_all (after.files, raised) (dying after)).1) (filter (stays_in t.files) (kernel_watches after after.watches)) ≡ map (watch_at new.tables.keys) new.interest.entries
     all_noted =
         let kept = kernel_watches after after.watches in
         let ws = map (watch_at mid.tables.keys) mid.interest.entries in

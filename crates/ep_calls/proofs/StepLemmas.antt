@@ -66,7 +66,7 @@ module _ (n : ℕ) (mid : Parts) (noted : Registrations) (raising : Raising) (co
         let one = ap (λ (b : ℕ). raised_in n (brings w.mask b) (w.armed && nat_lt 0 (asked w.mask b)) (kernel_watch made w)) (as_raised w.target (All-head (λ w. IsSteady made.files w.instance w.target) w ws h).target_shows) in
         let rest = freshened_same ws (All-tail (λ w. IsSteady made.files w.instance w.target) w ws h) in λ i. one i ∷ rest i
 
-    raised_stands : StandFor mid made → All (λ w. IsSteady made.files w.instance w.target) made.watches → StandsRaised n (record mid { interest = noted }) raised made
+    pub raised_stands : StandFor mid made → All (λ w. IsSteady made.files w.instance w.target) made.watches → StandsRaised n (record mid { interest = noted }) raised made
     raised_stands stands steady = record {
       now = stands.now;
       files = stands.files;

@@ -1,7 +1,7 @@
--- The refusals of epoll_ctl in three parts: what its arguments name, the operation, and the interest set.
-use Rattle.std.specs.List.{list_any}
-use Rattle.std.specs.Prelude.{◌≡◌, Bool, false, true, if◌then◌else◌, IsSome, List, MatchBool, None, []}
-use Rattle.std.specs.Prelude.{filter, length, map, nat_le, not, pos, ℕ, ℤ, ◌&&◌, ◌++◌, ◌+◌, ◌==◌, ◌||◌, ◌∷◌}
+-- The refusals of epoll_ctl in three parts: what its arguments name, the operation, and the interest set; and what it does to registrations.
+use Rattle.std.specs.List.{find as first_where, list_any}
+use Rattle.std.specs.Prelude.{◌≡◌, Bool, false, true, if◌then◌else◌, IfSome, IsSome, List, MatchBool, None, Option, Some, []}
+use Rattle.std.specs.Prelude.{filter, is_some, length, map, nat_le, not, pos, slice_set, unwrap_or, ℕ, ℤ, ◌&&◌, ◌++◌, ◌+◌, ◌==◌, ◌||◌, ◌∷◌}
 use Rattle.ep_base.specs.declared.answer.Answer.{Answer}
 use Rattle.ep_base.specs.declared.answer.Answer.TheVariants.{Done, Refused}
 use Rattle.ep_base.specs.declared.call.Call.{Call}
@@ -9,8 +9,9 @@ use Rattle.ep_base.specs.declared.call.Call.TheVariants.{EpollCtl}
 use Rattle.ep_base.specs.declared.errno.Errno.{Errno}
 use Rattle.ep_base.specs.declared.errno.Errno.TheVariants.{Ebadf, Eexist, Einval, Eloop, Enoent, Enospc, Eperm}
 use Rattle.ep_base.specs.declared.mask.Mask.{Mask}
+use Rattle.ep_base.specs.declared.ids.EntryId.{EntryId}
 use Rattle.ep_base.specs.declared.ids.Fd.{Fd}
-use Rattle.ep_interest.specs.Registrations.{Registrations, entry_of, has_key, is_other, modified}
+use Rattle.ep_interest.specs.Registrations.{GainsKey, Registrations, entry_of, has_key, is_other, modified, numbered, number_under as number_of_entry}
 use Rattle.ep_interest.specs.declared.addition.Addition.{Addition}
 use Rattle.ep_interest.specs.declared.entry.Entry.{Entry}
 use Rattle.ep_machine.specs.Bits.{EXCLUSIVE, has_bit}
@@ -21,6 +22,7 @@ use Rattle.ep_machine.specs.Watches.{is_add, is_del, is_legal, is_mod}
 use Rattle.ep_nest.specs.Links.{edges}
 use Rattle.ep_nest.specs.declared.link.Link.{Link}
 use Rattle.ep_calls.specs.Climb.{is_nested_key}
+use Rattle.ep_calls.specs.Parts.{Parts}
 use Rattle.ep_calls.specs.Readiness.{entry_shows, readiness}
 use Rattle.ep_calls.specs.declared.raising.Raising.{Raising}
 use Rattle.ep_calls.specs.declared.raising.Raising.TheVariants.{Instance, Nowhere}
@@ -28,6 +30,8 @@ use Rattle.ep_table.specs.Value.{Seen, number_under}
 use Rattle.ep_calls.specs.declared.control.Control.{Control}
 use Rattle.ep_calls.specs.declared.control.Named.{Named}
 use Rattle.ep_calls.specs.declared.control.Operation.{Operation}
+use Rattle.ep_calls.specs.declared.control.Plan.{Plan}
+use Rattle.ep_calls.specs.declared.outcome.Outcome.{Outcome}
 use Rattle.ep_calls.specs.declared.control.Operation.TheVariants.{Add, Delete, Modify}
 
 -- the call with these arguments
@@ -114,3 +118,38 @@ raising_after answer tables now r named fd = if is_done answer then raising_of_c
 abbrev pub EntersAt : Operation → Seen → List Link → Named → Control → Registrations → Registrations → Answer → Type 0
 EntersAt operation tables graph named args old new answer =
     Enters operation (is_deep_at tables graph named) tables.limits.watches (next_entry old named args) old new answer
+
+-- the key of the registration that is named, where there is one
+pub record IsFound (r : Registrations) (named : Named) (fd : Fd) (found : Option EntryId) : Type 0 where
+  pub there : is_some found ≡ list_any (has_key named.instance fd named.desc) r.entries
+  pub key : IfSome found (λ id. IsSome (number_of_entry r id))
+  pub entry : IfSome found (λ id. numbered r.entries (unwrap_or (number_of_entry r id) 0) ≡ first_where (has_key named.instance fd named.desc) r.entries)
+
+-- what a call is about that is not refused by its arguments alone
+pub record IsPlan (p : Parts) (pid : ℕ) (args : Control) (plan : Plan) : Type 0 where
+  pub names : Names p.tables pid args.epfd.0 args.fd.0 plan.named
+  pub code : args.op ≡ code_of plan.operation
+  pub accepted : is_refused_op args.op args.mask.0 ≡ false
+  pub found : IsFound p.interest plan.named args.fd plan.found
+
+-- what is done to the registration that is there, and to its key; or what is added under the next key
+abbrev pub Changes : Operation → Option EntryId → Named → Control → Registrations → Registrations → Type 0
+Changes Add None named args old new =
+    (new.entries ≡ old.entries ++ next_entry old named args ∷ []) × GainsKey old new (record { 0 = old.next }) (old.added + 1)
+Changes Delete (Some id) named args old new =
+    (new.entries ≡ filter (is_other (unwrap_or (number_of_entry old id) 0)) old.entries) × (new.keys ≡ slice_set old.keys id.0 None)
+Changes Modify (Some id) named args old new =
+    (new.entries ≡ map (modified (unwrap_or (number_of_entry old id) 0) args.mask args.tag) old.entries) × (new.keys ≡ old.keys)
+Changes operation found named args old new = ⊥
+
+-- the registrations change where the call is done, and stay where it is refused
+abbrev pub ChangesIf : Answer → Operation → Option EntryId → Named → Control → Registrations → Registrations → Type 0
+ChangesIf answer operation found named args old new = MatchBool (is_done answer) (Changes operation found named args old new) (new ≡ old)
+
+-- what a call of this plan does to the parts
+pub record Controls (plan : Plan) (args : Control) (outcome : Outcome) (old new : Parts) : Type 0 where
+  pub tables : new.tables ≡ old.tables
+  pub clock : new.clock ≡ old.clock
+  pub picked : outcome.picked ≡ []
+  pub raising : outcome.raising ≡ raising_after outcome.answer new.tables new.clock new.interest plan.named args.fd
+  pub interest : ChangesIf outcome.answer plan.operation plan.found plan.named args old.interest new.interest

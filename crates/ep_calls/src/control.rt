@@ -1,5 +1,5 @@
 //! epoll_ctl.
-ghost use Rattle.std.specs.Prelude.{All, ◌≡◌, ◌==◌, ◌+◌, ◌++◌, ◌∷◌, ◌≤◌, ℕ, [], if◌then◌else◌, IfNone, IfOk, IfSome, IsSome, List, MatchResult, OnErr, Some, false, true, unwrap_or};
+ghost use Rattle.std.specs.Prelude.{All, ◌≡◌, ◌==◌, ◌+◌, ◌++◌, ◌∷◌, ◌≤◌, ℕ, [], if◌then◌else◌, IfErr, IfNone, IfOk, IfSome, IsSome, List, MatchResult, None, OnErr, Some, false, true, unwrap_or};
 ghost use Rattle.std.specs.List.{list_any};
 ghost use Rattle.ep_base.specs.Answer.{FitsInline};
 ghost use Rattle.ep_machine.specs.Effect.{first};
@@ -8,12 +8,13 @@ ghost use Rattle.ep_machine.specs.State.{Waiter};
 ghost use Rattle.ep_machine.specs.Watches.{is_legal};
 ghost use Rattle.ep_nest.specs.Links.{edges};
 ghost use Rattle.ep_calls.specs.Climb.{AreNested, KeepsLinks};
-ghost use Rattle.ep_calls.specs.Control.{Alters, EntersAt, Names, addition, code_of, control_call, is_deep_at, is_refused_op, raising_of_ctl, naming_refusals, next_entry, next_link, raising_after};
+ghost use Rattle.ep_calls.specs.Control.{Alters, ChangesIf, Controls, EntersAt, IsPlan, Names, addition, code_of, control_call, is_deep_at, is_refused_op, raising_of_ctl, naming_refusals, next_entry, next_link, raising_after};
 ghost use Rattle.ep_interest.specs.Registrations.{GainsKey, has_key, number_under as number_of_entry};
 ghost use Rattle.ep_machine.specs.Timer.{last_moment};
 ghost use Rattle.ep_calls.specs.Does.{DoesCall};
 ghost use Rattle.ep_calls.specs.Raising.{IsRaising};
 ghost use Rattle.ep_calls.specs.Stands.{AreLinked};
+ghost use Rattle.ep_calls.specs.declared.control.Named.{Named};
 ghost use Rattle.ep_calls.specs.declared.raising.Raising.TheVariants.{Nowhere};
 ghost use Rattle.ep_table.specs.Value.{number_under};
 
@@ -50,6 +51,14 @@ pub enum Operation {
     Add,
     Delete,
     Modify,
+}
+
+/// What it is about: what its descriptors name, what it is asked to do, and the registration that is there.
+#[derive(Clone, Copy)]
+pub struct Plan {
+    pub named: Named,
+    pub operation: Operation,
+    pub found: Option<EntryId>,
 }
 
 /// The instance and the description that are named, or the refusal that comes first.
@@ -113,6 +122,7 @@ fn alter(
     ensures inline { FitsInline result }
     ensures real { is_no_memory result ≡ false }
     ensures added { interest.new.added ≡ interest.old.added }
+    ensures changes { (named : Named) → ChangesIf result operation (Some id) named args interest.old interest.new }
 {
     match operation {
         Operation::Add => Answer::Refused(Errno::Eexist),
@@ -209,6 +219,7 @@ fn enter(
     requires absent { list_any (has_key named.instance args.fd named.desc) interest.old.entries ≡ false }
     requires nested { AreNested tables.now interest.old graph.old }
     ensures ok { IfOk result (λ answer. EntersAt operation tables.now graph.old named args interest.old interest.new answer) }
+    ensures changes { IfOk result (λ answer. ChangesIf answer operation None named args interest.old interest.new) }
     ensures nested { AreNested tables.now interest.new graph.new }
     ensures inline { IfOk result FitsInline }
     ensures real { IfOk result (λ answer. is_no_memory answer ≡ false) }
@@ -265,38 +276,79 @@ impl Parts {
         Outcome::settled(self.alloc, answer, raising)
     }
 
-    /// epoll_ctl(2): adds, modifies or deletes a registration, or answers the refusal that comes first, in this order:
+    /// What an epoll_ctl with these arguments is about. Where they alone refuse it, its outcome, by the refusal that comes first:
     /// EBADF where a descriptor names nothing, EPERM for a target that can't be polled, EINVAL where `epfd` is no instance or
-    /// both name the same, EINVAL for an operation or a mask that this version doesn't accept, ENOENT for MOD and DEL of what
-    /// is not there, EEXIST for ADD of what is, ELOOP where instances would watch each other in a loop or in a chain of more
+    /// both name the same, and EINVAL for an operation or a mask that this version doesn't accept.
+    pub fn plan(&self, pid: Pid, args: Control) -> Result<Plan, Outcome>
+        ensures ok { IfOk result (IsPlan self.now pid.0 args) }
+        ensures err { IfErr result (λ outcome. (n caller : ℕ) → DoesCall n caller pid.0 (control_call args) outcome self.now self.now) }
+        ensures picked { IfErr result (λ outcome. outcome.picked ≡ []) }
+    {
+        self.tables.known();
+        let named = match find_named(&self.tables, pid, args.epfd, args.fd) {
+            Ok(named) => named,
+            Err(errno) => return Err(Outcome::refused(self.alloc, errno)),
+        };
+        let Some(operation) = operation_of(args) else {
+            return Err(Outcome::refused(self.alloc, Errno::Einval));
+        };
+        let found = self.interest.find(named.instance, args.fd, named.desc);
+        Ok(Plan {
+            named,
+            operation,
+            found,
+        })
+    }
+
+    /// Does what an epoll_ctl is about, or answers the refusal that comes first, in this order: ENOENT for MOD and DEL of what is
+    /// not there, EEXIST for ADD of what is, ELOOP where instances would watch each other in a loop or in a chain of more
     /// than five, and ENOSPC past `watches`.
+    /// What is added or modified and reportable at once raises IN at its instance.
+    /// A refusal and an `Err`, which is want of memory and comes of ADD alone, leave the parts.
+    pub fn control(&mut self, pid: Pid, args: Control, plan: Plan) -> Result<Outcome, AllocError>
+        requires { IsPlan self.old pid.0 args plan }
+        ensures ok { IfOk result (λ outcome. (n caller : ℕ) → DoesCall n caller pid.0 (control_call args) outcome self.old self.new) }
+        ensures controls { IfOk result (λ outcome. Controls plan args outcome self.old self.new) }
+        ensures err { OnErr result (self.new ≡ self.old) }
+    {
+        self.tables.known();
+        self.interest.known();
+        match plan.found {
+            Some(id) => {
+                let answer = alter(
+                    &mut self.interest,
+                    &mut self.graph,
+                    id,
+                    plan.operation,
+                    args,
+                );
+                Ok(self.controlled(plan.named, args.fd, answer))
+            }
+            None => {
+                let answer = enter(
+                    &self.tables,
+                    &mut self.interest,
+                    &mut self.graph,
+                    plan.named,
+                    plan.operation,
+                    args,
+                )?;
+                Ok(self.controlled(plan.named, args.fd, answer))
+            }
+        }
+    }
+
+    /// epoll_ctl(2): adds, modifies or deletes a registration, or answers the refusal that comes first: those of `plan`, and then
+    /// those of `control`.
     /// What is added or modified and reportable at once raises IN at its instance.
     /// A refusal and an `Err`, which is want of memory and comes of ADD alone, leave the parts.
     pub fn epoll_ctl(&mut self, pid: Pid, args: Control) -> Result<Outcome, AllocError>
         ensures ok { IfOk result (λ outcome. (n caller : ℕ) → DoesCall n caller pid.0 (control_call args) outcome self.old self.new) }
         ensures err { OnErr result (self.new ≡ self.old) }
     {
-        self.tables.known();
-        self.interest.known();
-        let named = match find_named(&self.tables, pid, args.epfd, args.fd) {
-            Ok(named) => named,
-            Err(errno) => return Ok(Outcome::refused(self.alloc, errno)),
-        };
-        let Some(operation) = operation_of(args) else {
-            return Ok(Outcome::refused(self.alloc, Errno::Einval));
-        };
-        if let Some(id) = self.interest.find(named.instance, args.fd, named.desc) {
-            let answer = alter(&mut self.interest, &mut self.graph, id, operation, args);
-            return Ok(self.controlled(named, args.fd, answer));
+        match self.plan(pid, args) {
+            Ok(plan) => self.control(pid, args, plan),
+            Err(refused) => Ok(refused),
         }
-        let answer = enter(
-            &self.tables,
-            &mut self.interest,
-            &mut self.graph,
-            named,
-            operation,
-            args,
-        )?;
-        Ok(self.controlled(named, args.fd, answer))
     }
 }

@@ -20,7 +20,7 @@ mod table_call;
 mod wait;
 
 pub use crate::below::{EntryTest, any_below};
-pub use crate::control::Control;
+pub use crate::control::{Control, Named, Operation, Plan};
 pub use crate::kernel::Kernel;
 pub use crate::outcome::Outcome;
 pub use crate::parts::Parts;

@@ -120,6 +120,7 @@ impl Parts {
     ) -> Result<Outcome, AllocError>
         requires { fd_of call.now ≡ Some fd }
         ensures interest { self.new.interest ≡ self.old.interest }
+        ensures picked { IfOk result (λ outcome. outcome.picked ≡ []) }
         ensures ok { IfOk result (λ outcome. (n caller : ℕ) → DoesCall n caller pid.0 call.now outcome self.old self.new) }
         ensures kept { IfOk result (λ outcome. IsKept kept outcome) }
         ensures err { OnErr result (self.new ≡ self.old) }

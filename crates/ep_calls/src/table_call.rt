@@ -1,6 +1,6 @@
 //! Calls on the tables alone: those that open descriptors of a new object, and those on descriptors and processes.
 ghost use Rattle.std.specs.List.{list_any};
-ghost use Rattle.std.specs.Prelude.{ℕ, ◌≡◌, IfOk, IsSome, OnErr, is_some, true};
+ghost use Rattle.std.specs.Prelude.{ℕ, ◌≡◌, [], IfOk, IsSome, OnErr, is_some, true};
 ghost use Rattle.ep_machine.specs.Files.{table_of};
 ghost use Rattle.ep_machine.specs.FilesCalls.{exec_of, exit_of, timerfd_of};
 ghost use Rattle.ep_park.specs.Waiters.{is_of};
@@ -104,6 +104,7 @@ impl Parts {
         requires call { IsTableCall call.now }
         requires process { is_some (table_of self.old.tables.files pid.0) ≡ true }
         ensures interest { self.new.interest ≡ self.old.interest }
+        ensures picked { IfOk result (λ outcome. outcome.picked ≡ []) }
         ensures ok { IfOk result (λ outcome. (n caller : ℕ) → DoesCall n caller pid.0 call.now outcome self.old self.new) }
         ensures err { OnErr result (self.new ≡ self.old) }
     {

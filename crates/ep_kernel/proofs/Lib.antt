@@ -3,3 +3,16 @@ pub mod ChooseLemmas
 pub mod TakeLemmas
 pub mod PlacesLemmas
 pub mod PushLemmas
+pub mod SetLemmas
+pub mod ControlLemmas
+pub mod ControlTurnsLemmas
+pub mod NumberLemmas
+pub mod PickLemmas
+pub mod WaitTurnsLemmas
+pub mod ViewLemmas
+pub mod SurvivalLemmas
+pub mod PassLemmas
+pub mod JoinLemmas
+pub mod AlteredLemmas
+pub mod NextLemmas
+pub mod RunLemmas

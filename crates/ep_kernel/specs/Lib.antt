@@ -4,3 +4,6 @@ pub mod Take
 pub mod Places
 pub mod Push
 pub mod Turns
+pub mod Control
+pub mod Wait
+pub mod Running

@@ -1,8 +1,14 @@
-//! Parts of a kernel with ready lists: what a wait finds on a list and leaves of it, what an event puts on lists, and the
-//! places that go with what dies. No kernel is made of them yet.
+//! The kernel with ready lists.
 #![tactic(auto)]
 
+mod act;
 mod choose;
+mod control;
 mod places;
 mod push;
+mod ready;
+mod settle;
 mod take;
+mod wait;
+
+pub use crate::ready::ReadyKernel;

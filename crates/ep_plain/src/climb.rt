@@ -65,6 +65,7 @@ fn climb_links(tables: &Tables, interest: &mut Interest, graph: &Graph, step: u6
     requires linked { AreLinked tables.now interest.old }
     requires nested { AreNested tables.now interest.old graph.now }
     ensures climbs { Climbs step tables.now interest.old interest.new }
+    ensures keys { interest.new.keys ≡ interest.old.keys }
     ensures nested { AreNested tables.now interest.new graph.now }
 {
     for link in graph.links() {
@@ -76,6 +77,7 @@ fn climb_links(tables: &Tables, interest: &mut Interest, graph: &Graph, step: u6
 /// Makes fresh what watches an instance that IN reaches, and forgets what was passed on in this step.
 pub fn climb_instances(parts: &mut Parts, step: u64)
     ensures climbs { Climbs step parts.old.tables parts.old.interest parts.new.interest }
+    ensures keys { parts.new.interest.keys ≡ parts.old.interest.keys }
     ensures others { parts.new ≡ record parts.old { interest = parts.new.interest } }
 {
     climb_links(&parts.tables, &mut parts.interest, &parts.graph, step);

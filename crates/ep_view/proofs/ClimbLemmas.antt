@@ -102,7 +102,7 @@ module _ (after : State) (g : Files) (n : ℕ) (raised : List (ℕ × ℕ)) (apa
   bits_are : (r : ℕ → Bool) (x : Watch) → stays x ≡ true → bit_or (raised_of live x.target) (reaching_of r x.target (object_of g x.target)) ≡ bit_or (raised_of raised x.target) (when (watches_instance g (kernel_watch after x) && r x.target) IN)
   bits_are r x holds = λ i. bit_or (alive_raised g raised x.target (target_lives x holds) i) (reaching_is r x.target (object_of g x.target) i)
 
-  passes_as_noted : (r : ℕ → Bool) (x : Watch) → stays x ≡ true → passes_on_by r b live x ≡ carries r g n (note x)
+  pub passes_as_noted : (r : ℕ → Bool) (x : Watch) → stays x ≡ true → passes_on_by r b live x ≡ carries r g n (note x)
   passes_as_noted r x holds =
       let direct = nat_lt 0 (asked x.mask (raised_of raised x.target)) in
       let below = watches_instance g (kernel_watch after x) && r x.target in
@@ -124,7 +124,7 @@ module _ (after : State) (g : Files) (n : ℕ) (raised : List (ℕ × ℕ)) (apa
   abbrev pub reached : ℕ → Bool
   reached = reached_now g n (map (freshened n raised) (kernel_watches after left))
 
-  reached_same : is_reached b live ≡ reached
+  pub reached_same : is_reached b live ≡ reached
   unfolding is_reached reached_now
   reached_same = λ i e. within_same 5 e i
 

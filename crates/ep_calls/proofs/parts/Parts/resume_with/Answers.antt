@@ -18,6 +18,7 @@ use Rattle.ep_calls.proofs.ParkLemmas.{found_all}
 use Rattle.ep_calls.proofs.ResumeLemmas.{goes_left, goes_unmarked}
 use Rattle.ep_calls.proofs.WaitLemmas.{coherent_parked, coherent_reported, resume_does}
 use Rattle.ep_calls.proofs.PickLemmas.{noted_none}
+use Rattle.ep_calls.proofs.ReportLemmas.{no_numbers}
 use Rattle.ep_calls.proofs.parts.Parts.resume_with.Goals as goal
 use Rattle.ep_calls.proofs.parts.Parts.resume_with.Goals.{else-is_empty-via-then-is_empty+else-not-is_due, else-is_empty-via-else-is_empty}
 
@@ -88,3 +89,6 @@ pub returns-then-not-is_due-clause-entries : goal.returns-then-not-is_due-clause
 returns-then-not-is_due-clause-entries c =
     let xs = c.self.inside.interest.entries in
     rw (← c.self.view_is) (sym (noted_none c.args.step xs) ∙ ap (λ (ks : List ℕ). map (with_report c.args.step ks) xs) (sym c.settled.ensures.picked))
+
+pub returns-then-not-is_due-clause-picked : goal.returns-then-not-is_due-clause-picked
+returns-then-not-is_due-clause-picked c = c.settled.ensures.picked ∙ sym (no_numbers c.args.chosen.now (sym c.if-is_empty.ensures))

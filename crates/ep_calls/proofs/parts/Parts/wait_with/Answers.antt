@@ -10,6 +10,7 @@ use Rattle.ep_calls.specs.Wait.{AreKeyed, IsPick, Waits, with_report}
 use Rattle.ep_calls.proofs.OutcomeLemmas.{goes_told}
 use Rattle.ep_calls.proofs.WaitLemmas.{coherent_parked, coherent_reported, goes_parked, goes_reported, not_dying, parked_waiting, placed_waiting, wait_does}
 use Rattle.ep_calls.proofs.PickLemmas.{noted_none}
+use Rattle.ep_calls.proofs.ReportLemmas.{no_numbers}
 use Rattle.ep_calls.proofs.parts.Parts.wait_with.Goals as goal
 
 pub invariant_of-self-then-not-is_empty : goal.invariant_of-self-then-not-is_empty
@@ -80,3 +81,6 @@ pub returns-clause-entries : goal.returns-clause-entries
 returns-clause-entries c =
     let xs = c.self.inside.interest.entries in
     rw (← c.self.view_is) (sym (noted_none c.args.step xs) ∙ ap (λ (ks : List ℕ). map (with_report c.args.step ks) xs) (sym c.settled.ensures.picked))
+
+pub returns-clause-picked : goal.returns-clause-picked
+returns-clause-picked c = c.settled.ensures.picked ∙ sym (no_numbers c.args.chosen.now (sym c.is_empty.ensures ∙ c.if-not-is_empty.false))

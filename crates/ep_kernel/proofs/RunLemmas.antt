@@ -1,0 +1,139 @@
+-- What holds of the kernel at the start, where an event changes nothing, and over one event.
+use Rattle.std.proofs.Common.{◌≡◌, ◌∙◌, ◌+◌, ◌++◌, ℕ, false, List, [], ◌∷◌, None, Option, Some, ap, length, map, refl, subst, sym, unwrap_or}
+use Rattle.std.proofs.lemmas.Bool.{false≢true}
+use Rattle.ep_base.specs.Limits.{Limits}
+use Rattle.ep_base.specs.declared.call.Event.{Event}
+use Rattle.ep_base.specs.declared.ids.CallerId.{CallerId}
+use Rattle.ep_base.specs.declared.ids.EntryId.{EntryId}
+use Rattle.ep_base.specs.declared.record.Record.{Record}
+use Rattle.ep_calls.proofs.KeepsLemmas.{DoesAt, Settles, adds_next, keeps_opening, record_of}
+use Rattle.ep_calls.specs.Acts.{Adds}
+use Rattle.ep_calls.specs.Does.{DoesEventIf}
+use Rattle.ep_calls.specs.Moves.{StandFor}
+use Rattle.ep_calls.specs.Parts.{AreCoherent, AreOpening, Parts}
+use Rattle.ep_calls.specs.Stands.{number_at}
+use Rattle.ep_calls.specs.declared.outcome.Outcome.{Outcome}
+use Rattle.ep_interest.specs.Registrations.{IsSound, Registrations, entry_under, number_under}
+use Rattle.ep_kernel.proofs.JoinLemmas.{Follows}
+use Rattle.ep_kernel.proofs.NextLemmas.{runs_next}
+use Rattle.ep_interest.specs.declared.entry.Entry.{Entry}
+use Rattle.std.specs.Option.{option_map}
+use Rattle.ep_kernel.specs.Listed.{AreFair, HavePlaces, key_shows, order_at, shows_found}
+use Rattle.ep_kernel.specs.Running.{Ends, Runs}
+use Rattle.ep_kernel.specs.Turns.{Turns}
+use Rattle.ep_law.proofs.GraphLemmas.{graph_stays_legal}
+use Rattle.ep_law.proofs.SoundLemmas.{sound_begun}
+use Rattle.ep_machine.specs.Lists.{is_among}
+use Rattle.ep_machine.specs.Run.{run}
+use Rattle.ep_machine.specs.State.{opening}
+use Rattle.ep_machine.specs.Step.{next_event}
+use Rattle.ep_order.proofs.EventLemmas.{beginning_keeps_turns}
+use Rattle.ep_order.specs.Event.{ListsGoOn}
+use Rattle.ep_order.specs.Order.{IsFairOrder, Turns as Order}
+use Rattle.ep_order.specs.Pick.{turns_of}
+use Rattle.ep_ready.specs.ReadyLists.{IsSound as AreSoundLists, Lists, Same, empty, entry_id, instance_at, stands, stands_by}
+use Rattle.ep_table.specs.Value.{Sound as SoundTables}
+use Rattle.ep_view.proofs.AtRestLemmas.{quiet_begun}
+
+-- no registration and no list
+pub runs_opening : (limits : Limits) (p : Parts) (l : Lists) → AreOpening limits p → l ≡ empty → Runs [] p l
+runs_opening limits p l opens is =
+    let none : (id : EntryId) → entry_under p.interest id ≡ None = λ id. ap (λ (r : Registrations). entry_under r id) opens.interest in
+    let hides : (k : ℕ) → key_shows p k ≡ false = λ k. ap (shows_found p) (none (entry_id k)) in
+    let places : HavePlaces p.interest l = λ id. ap (λ (m : Lists). instance_at m id) is ∙ sym (ap (option_map (λ (x : Entry). x.instance.0)) (none id)) in
+    let keeps = keeps_opening limits p opens in
+    record {
+      keeps = keeps;
+      listed = record {
+        places = places;
+        sound = λ id x h t. absurd (let no : None ≡ Some x = sym (none id) ∙ h in cc);
+        complete = λ k t. absurd (false≢true (sym (hides k) ∙ t));
+      };
+      fair = λ i. subst (λ (m : Lists). IsFairOrder (turns_of keeps.state (number_at p.tables.keys (record { 0 = i }))) (order_at p.interest m i)) (sym is) tt;
+    }
+
+-- lists that are the same
+stands_same : (l m : Lists) → Same l m → (id : EntryId) → stands l id ≡ stands m id
+stands_same l m same id = ap (stands_by l id.0) (same.places id) ∙ by (instance_at m id) where
+  by : (o : Option ℕ) → stands_by l id.0 o ≡ stands_by m id.0 o
+  by None = refl
+  by (Some i) = ap (λ (ks : List ℕ). is_among ks id.0) (same.lists i)
+
+pub runs_same : (past : List Record) (p : Parts) (l m : Lists) → Same l m → Runs past p l → Runs past p m
+runs_same past p l m same runs = record {
+  keeps = runs.keeps;
+  listed = record {
+    places = λ id. sym (same.places id) ∙ runs.listed.places id;
+    sound = λ id x h t. runs.listed.sound id x h (stands_same l m same id ∙ t);
+    complete = λ k t. sym (stands_same l m same (entry_id k)) ∙ runs.listed.complete k t;
+  };
+  fair = λ i. subst (λ (ks : List ℕ). IsFairOrder (turns_of runs.keeps.state (number_at p.tables.keys (record { 0 = i }))) (map (λ k. unwrap_or (number_under p.interest (entry_id k)) 0) ks)) (same.lists i) (runs.fair i);
+}
+
+-- what an event does, at the state that the history leads to
+pub does_fairly : (past : List Record) (old new : Parts) (l : Lists) (runs : Runs past old l) (n caller : ℕ) (event : Event) (outcome : Outcome) → n ≡ length past + 1
+    → DoesEventIf (λ s. AreFair s old l) n caller event outcome old new → DoesAt (next_event runs.keeps.state) caller event outcome old new
+does_fairly past old new l runs n caller event outcome at does =
+    let keeps = runs.keeps in
+    let s = keeps.state in
+    let begins : (next_event s).n ≡ n = ap (λ (k : ℕ). k + 1) keeps.n ∙ sym at in
+    let legal = graph_stays_legal old.tables.limits past s keeps.leads in
+    let stand : StandFor old (next_event s) = record { now = keeps.stands.now; files = keeps.stands.files; watches = keeps.stands.watches; added = keeps.stands.added; waiters = keeps.stands.waiters } in
+    let fair : AreFair (next_event s) old l = λ i. subst (λ (o : Order). IsFairOrder o (order_at old.interest l i)) (sym (beginning_keeps_turns s (number_at old.tables.keys (record { 0 = i })))) (runs.fair i) in
+    record {
+      goes = does.moves (next_event s) begins (sound_begun s keeps.sound) (quiet_begun s keeps.quiet) legal stand fair;
+      raises = does.raises (next_event s) begins (sound_begun s keeps.sound) (quiet_begun s keeps.quiet) legal stand fair;
+      raising = does.raising;
+      limits = does.limits;
+    }
+
+module _ (law : ListsGoOn) (past : List Record) (old mid new : Parts) (l0 l1 l3 : Lists) (runs : Runs past old l0) (coherent : AreCoherent old) (tables : SoundTables old.tables) (was : IsSound old.interest) (before : AreSoundLists l0) (after : AreSoundLists l3)
+    (caller : CallerId) (event : Event) (outcome : Outcome) (n : ℕ) (at : n ≡ length past + 1) (does : DoesEventIf (λ s. AreFair s old l0) n caller.0 event outcome old mid)
+    (turns : Turns event outcome.picked old l0 mid l1) (ends : Ends n outcome.raising mid l1 new l3) where
+  settles : Settles n outcome.raising mid ends.noted ends.buried ends.climbed new
+  settles = record {
+    coherent = ends.coherent;
+    sound = ends.tables;
+    stirs = ends.stirs;
+    noted_others = ends.noted_others;
+    burial = ends.burial;
+    parked = ends.parked;
+    clock = ends.clock;
+    coherent_buried = ends.coherent_buried;
+    sound_buried = ends.tables_buried;
+    climbs = ends.climbs;
+    climbed_others = ends.climbed_others;
+    marks = ends.marks;
+    marked_others = ends.marked_others;
+  }
+
+  follows : Follows n event outcome old mid ends.noted ends.buried ends.climbed new l0 l1 ends.between l3
+  follows = record {
+    coherent = coherent;
+    tables = tables;
+    keys = does.keys;
+    raises = does.raising;
+    settles = settles;
+    noted_keys = ends.noted_keys;
+    ids = ends.ids;
+    climbed_keys = ends.climbed_keys;
+    was = was;
+    changed = ends.sound;
+    stirred = ends.noted_sound;
+    left = ends.sound_buried;
+    now = ends.climbed_sound;
+    turns = turns;
+    loses = ends.loses;
+    gains = ends.gains;
+    lists_before = before;
+    lists_after = after;
+  }
+
+  pub does_at : DoesAt (next_event runs.keeps.state) caller.0 event outcome old mid
+  does_at = does_fairly past old mid l0 runs n caller.0 event outcome at does
+
+  pub runs_on : Runs (past ++ record_of caller event outcome ∷ []) new l3
+  runs_on = runs_next law past n event outcome old mid ends.noted ends.buried ends.climbed new l0 l1 ends.between l3 follows caller at runs does_at
+
+  pub adds_on : Adds old.tables.limits caller event outcome.answer (unwrap_or (run old.tables.limits opening past) opening) (unwrap_or (run new.tables.limits opening (past ++ record_of caller event outcome ∷ [])) opening) past (past ++ record_of caller event outcome ∷ [])
+  adds_on = adds_next past old mid ends.noted ends.buried ends.climbed new runs.keeps caller event outcome n at does_at settles

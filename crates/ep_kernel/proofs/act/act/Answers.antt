@@ -1,0 +1,63 @@
+use Rattle.std.proofs.Common.{◌≡◌, ◌∙◌, ap, false, is_some, subst, sym, true}
+use Rattle.std.specs.List.{list_any}
+use Rattle.std.proofs.lemmas.Result.{IfOk-weaker}
+use Rattle.ep_base.specs.declared.call.Event.{Event}
+use Rattle.ep_base.specs.declared.call.Event.TheVariants.{Call as CallOf, Tick}
+use Rattle.ep_base.specs.declared.errno.Errno.TheVariants.{Ebusy}
+use Rattle.ep_calls.proofs.ActLemmas.{busy, past_does_if, refused_does, tick_does}
+use Rattle.ep_calls.specs.Does.{DoesEvent, DoesEventIf}
+use Rattle.ep_calls.specs.Parts.{Parts}
+use Rattle.ep_kernel.proofs.PickLemmas.{event_does_if}
+use Rattle.ep_kernel.proofs.WaitTurnsLemmas.{refused_turns, same_turns}
+use Rattle.ep_kernel.proofs.act.act.Goals as goal
+use Rattle.ep_kernel.specs.Listed.{AreFair}
+use Rattle.ep_kernel.specs.Turns.{AlteredStand}
+use Rattle.ep_machine.specs.Files.{table_of}
+use Rattle.ep_machine.specs.State.{State}
+use Rattle.ep_park.specs.Waiters.{is_caller}
+
+pub returns-then-not-has_process-clause-turns : goal.returns-then-not-has_process-clause-turns
+returns-then-not-has_process-clause-turns c = refused_turns c.args.event.now c.refused.result.picked c.args.parts.now c.args.lists.now c.requires c.refused.ensures.picked
+
+pub returns-then-is_parked-clause-turns : goal.returns-then-is_parked-clause-turns
+returns-then-is_parked-clause-turns c = refused_turns c.args.event.now c.refused-then-is_parked.result.picked c.args.parts.now c.args.lists.now c.requires c.refused-then-is_parked.ensures.picked
+
+pub returns-then-is_parked-clause-ok : goal.returns-then-is_parked-clause-ok
+returns-then-is_parked-clause-ok c =
+    let k = c.parts.inside in
+    let p : Parts = record { tables = k.tables; interest = k.interest; graph = k.graph; parked = k.waiters; clock = k.clock } in
+    let e = c.refused-then-is_parked.ensures in
+    let caller = c.args.caller.0 in
+    let event : Event = CallOf c.in-Call.pid c.in-Call.call in
+    let fair : State → Type 0 = λ s. AreFair s p c.args.lists.now in
+    rw (← c.parts.view_is, c.in-Call.is)
+    (event_does_if fair c.args.step caller event c.refused-then-is_parked.result p p
+    (refused_does p c.args.step caller event Ebusy c.refused-then-is_parked.result (busy p caller c.in-Call.pid c.in-Call.call (sym c.has_process.ensures ∙ c.if-not-has_process.false) (sym c.is_parked.ensures ∙ c.if-is_parked.true)) e.answer e.picked e.raising))
+
+pub returns-else-is_parked-clause-ok : goal.returns-else-is_parked-clause-ok
+returns-else-is_parked-clause-ok c =
+    let pid = c.in-Call.pid in
+    let caller = c.args.caller.0 in
+    let p = c.args.parts.now in
+    let fair : State → Type 0 = λ s. AreFair s p c.args.lists.now in
+    let there = subst (λ (q : Parts). is_some (table_of q.tables.files pid.0) ≡ true) c.parts.view_is (sym c.has_process.ensures ∙ c.if-not-has_process.false) in
+    let free = subst (λ (q : Parts). list_any (is_caller caller) q.parked ≡ false) c.parts.view_is (sym c.is_parked.ensures ∙ c.if-is_parked.false) in
+    IfOk-weaker c.make_call.result _ _ (λ outcome does. subst (λ (event : Event). DoesEventIf fair c.args.step caller event outcome p c.make_call.new.parts) (sym c.in-Call.is)
+    (past_does_if p caller pid c.in-Call.call there fair c.args.step c.make_call.new.parts outcome free does)) c.make_call.ensures.ok
+
+pub returns-in-Tick-clause-ok : goal.returns-in-Tick-clause-ok
+returns-in-Tick-clause-ok c =
+    let p = c.args.parts.now in
+    let e = c.tick.ensures in
+    let fair : State → Type 0 = λ s. AreFair s p c.args.lists.now in
+    event_does_if fair c.args.step c.args.caller.0 c.args.event.now c.tick.result p c.tick.new.self
+    (subst (λ (event : Event). DoesEvent c.args.step c.args.caller.0 event c.tick.result p c.tick.new.self) (sym c.in-Tick.is)
+    (subst (DoesEvent c.args.step c.args.caller.0 (Tick c.in-Tick.n) c.tick.result p) (sym e.others) (tick_does p c.args.step c.args.caller.0 c.in-Tick.n c.tick.result c.tick.new.self.clock e.ticks e.raising e.picked e.moment)))
+
+pub returns-in-Tick-clause-turns : goal.returns-in-Tick-clause-turns
+returns-in-Tick-clause-turns c =
+    let p = c.args.parts.now in
+    let q = c.tick.new.self in
+    let l = c.args.lists.now in
+    same_turns c.args.event.now c.tick.result.picked p q l c.requires (ap (λ (r : Parts). r.interest) c.tick.ensures.others) c.tick.ensures.picked
+    (subst (λ (event : Event). AlteredStand event p q l) (sym c.in-Tick.is) tt)

@@ -1,0 +1,58 @@
+use Rattle.std.proofs.Common.{ℤ, IsSome, of_z, rules, subst, sym, to_z, w32}
+use Rattle.std.proofs.lemmas.Int.{to_z-of_z}
+use Rattle.std.proofs.lemmas.Result.{IfOk-weaker, on_err_weaker}
+use mir.Val.{SFits}
+use Rattle.ep_base.specs.declared.call.Call.{Call}
+use Rattle.ep_base.specs.declared.call.Call.TheVariants.{EpollCtl}
+use Rattle.ep_base.specs.declared.call.Event.TheVariants.{Call as CallOf}
+use Rattle.ep_calls.proofs.KeptLemmas.{table_call_kept}
+use Rattle.ep_calls.specs.Does.{DoesCallIf}
+use Rattle.ep_calls.specs.ObjectCall.{fd_of}
+use Rattle.ep_calls.specs.TableCall.{IsTableCall}
+use Rattle.ep_kernel.proofs.PickLemmas.{call_does_if}
+use Rattle.ep_kernel.proofs.WaitTurnsLemmas.{object_altered, same_lists, same_turns, table_altered}
+use Rattle.ep_kernel.proofs.act.make_call.Goals as goal
+use Rattle.ep_kernel.specs.Listed.{AreFair}
+use Rattle.ep_machine.specs.State.{State}
+
+pub returns-in_default : goal.returns-in_default
+returns-in_default c =
+    let p = c.args.parts.now in
+    let l = c.args.lists.now in
+    let call = c.args.call.now in
+    let on_tables : IsTableCall call = search rules in
+    let fair : State → Type 0 = λ s. AreFair s p l in
+    record {
+      ok = IfOk-weaker c.table_call.result _ _ (λ outcome h. call_does_if fair c.args.request.step c.args.request.caller.0 c.args.pid.0 call outcome p c.table_call.new.self (h c.args.request.step c.args.request.caller.0)) c.table_call.ensures.ok;
+      kept = IfOk-weaker c.table_call.result _ _ (λ outcome h. table_call_kept call c.args.request.kept outcome on_tables) c.table_call.ensures.ok;
+      turns = IfOk-weaker c.table_call.result _ _ (λ outcome none. same_turns (CallOf c.args.pid call) outcome.picked p c.table_call.new.self l c.requires.listed c.table_call.ensures.interest none (table_altered c.args.pid call p c.table_call.new.self l on_tables)) c.table_call.ensures.picked;
+      err = on_err_weaker c.table_call.result (λ same. (same, same_lists l)) c.table_call.ensures.err;
+    }
+
+pub returns-in-Read-clause-ok : goal.returns-in-Read-clause-ok
+returns-in-Read-clause-ok c =
+    let p = c.args.parts.now in
+    let fair : State → Type 0 = λ s. AreFair s p c.args.lists.now in
+    IfOk-weaker c.object_call.result _ _ (λ outcome h. call_does_if fair c.args.request.step c.args.request.caller.0 c.args.pid.0 c.args.call.now outcome p c.object_call.new.self (h c.args.request.step c.args.request.caller.0)) c.object_call.ensures.ok
+
+pub returns-in-Read-clause-turns : goal.returns-in-Read-clause-turns
+returns-in-Read-clause-turns c =
+    let p = c.args.parts.now in
+    let q = c.object_call.new.self in
+    let l = c.args.lists.now in
+    let on_object : IsSome (fd_of c.args.call.now) = search rules in
+    let altered = object_altered c.args.pid c.args.call.now p q l on_object in
+    IfOk-weaker c.object_call.result _ _ (λ outcome none. same_turns (CallOf c.args.pid c.args.call.now) outcome.picked p q l c.requires.listed c.object_call.ensures.interest none altered) c.object_call.ensures.picked
+
+pub returns-in-EpollCtl-clause-ok : goal.returns-in-EpollCtl-clause-ok
+returns-in-EpollCtl-clause-ok c =
+    let x = c.in-EpollCtl in
+    let p = c.args.parts.now in
+    let q = c.epoll_ctl.new.parts in
+    let step = c.args.request.step in
+    let caller = c.args.request.caller.0 in
+    let fair : State → Type 0 = λ s. AreFair s p c.args.lists.now in
+    let fits : SFits w32 x.op = search rules in
+    IfOk-weaker c.epoll_ctl.result _ _ (λ outcome h.
+    let P : Call → Type 0 = λ call. DoesCallIf fair step caller c.args.pid.0 call outcome p q in
+    subst P (sym x.is) (subst (λ (z : ℤ). P (EpollCtl x.epfd z x.fd x.mask x.tag)) (to_z-of_z w32 x.op fits) (call_does_if fair step caller c.args.pid.0 (EpollCtl x.epfd (to_z w32 (of_z w32 x.op)) x.fd x.mask x.tag) outcome p q (h step caller)))) c.epoll_ctl.ensures.ok

@@ -1,0 +1,9 @@
+use Rattle.ep_kernel.proofs.ControlTurnsLemmas.{found_placed, settled_at, sound_at, turns_altered}
+use Rattle.ep_kernel.proofs.control.alter.Goals as goal
+
+pub returns-clause-turns : goal.returns-clause-turns
+returns-clause-turns c =
+    turns_altered c.args.pid c.args.args c.args.plan c.in_ok-outcome.outcome c.args.parts.now c.control.new.self c.args.lists.now c.requires.listed c.in_ok-outcome.ensures.controls c.known.ensures.sound (sound_at _ _ c.parts.view_is c.known-2.ensures) c.known-3.ensures.coherent (sound_at _ _ c.parts-2.view_is c.known-4.ensures) c.requires.plan c.settle.new.lists c.args.id c.requires.found (settled_at _ _ _ _ _ _ c.parts-2.view_is c.settle.ensures)
+
+pub settle-requires : goal.settle-requires
+settle-requires c = found_placed c.args.pid.0 c.args.args c.args.plan c.args.parts.now c.args.lists.now c.requires.listed c.requires.plan c.args.id c.requires.found

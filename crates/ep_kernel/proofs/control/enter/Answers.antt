@@ -1,0 +1,12 @@
+use Rattle.std.proofs.lemmas.Result.{IfOk-weaker}
+use Rattle.ep_calls.specs.declared.control.Operation.TheVariants.{Delete, Modify}
+use Rattle.ep_kernel.proofs.ControlTurnsLemmas.{turns_missed}
+use Rattle.ep_kernel.proofs.control.enter.Goals as goal
+
+pub returns-in-Delete-clause-turns : goal.returns-in-Delete-clause-turns
+returns-in-Delete-clause-turns c =
+    IfOk-weaker c.control.result _ _ (λ outcome controls. turns_missed c.args.pid c.args.args c.args.plan outcome c.args.parts.now c.control.new.self c.args.lists.now c.requires.listed controls c.requires.found Delete c.in-Delete.is (λ h. h)) c.control.ensures.controls
+
+pub returns-in-Modify-clause-turns : goal.returns-in-Modify-clause-turns
+returns-in-Modify-clause-turns c =
+    IfOk-weaker c.control-in-Modify.result _ _ (λ outcome controls. turns_missed c.args.pid c.args.args c.args.plan outcome c.args.parts.now c.control-in-Modify.new.self c.args.lists.now c.requires.listed controls c.requires.found Modify c.in-Modify.is (λ h. h)) c.control-in-Modify.ensures.controls

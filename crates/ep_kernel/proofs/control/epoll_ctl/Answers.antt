@@ -1,0 +1,13 @@
+use Rattle.std.proofs.Common.{ℕ, List, refl, subst, sym}
+use Rattle.ep_base.specs.declared.call.Event.TheVariants.{Call as CallOf}
+use Rattle.ep_calls.specs.Control.{control_call}
+use Rattle.ep_kernel.specs.Turns.{Turns}
+use Rattle.ep_kernel.proofs.ControlTurnsLemmas.{same_lists}
+use Rattle.ep_kernel.proofs.ControlLemmas.{turns_still}
+use Rattle.ep_kernel.proofs.control.epoll_ctl.Goals as goal
+
+pub returns-in-Err-clause-turns : goal.returns-in-Err-clause-turns
+returns-in-Err-clause-turns c =
+    let p = c.args.parts.now in
+    let l = c.args.lists.now in
+    subst (λ (ks : List ℕ). Turns (CallOf c.args.pid (control_call c.args.args)) ks p l p l) (sym c.in-Err.ensures.picked) (turns_still c.args.pid c.args.args p p l l c.requires.listed refl refl refl (same_lists l l refl))

@@ -1,0 +1,10 @@
+use Rattle.std.proofs.Common.{List, subst, sym}
+use Rattle.ep_base.specs.declared.record.Record.{Record}
+use Rattle.ep_kernel.specs.Running.{Runs}
+use Rattle.ep_kernel.proofs.RunLemmas.{runs_opening}
+use Rattle.ep_kernel.proofs.ready.ReadyKernel.new.Goals as goal
+
+pub invariant_of-result : goal.invariant_of-result
+invariant_of-result c =
+    let p = c.in_ok-new.field-0 in
+    subst (λ (rs : List Record). Runs rs p c.new-2.result) (sym c.new-3.ensures.items) (runs_opening c.args.limits p c.new-2.result c.in_ok-new.ensures c.new-2.ensures)

@@ -1,0 +1,57 @@
+use Rattle.std.proofs.Common.{◌≡◌, ◌+◌, ◌++◌, [], ◌∷◌, List, length, ◌∙◌, arith, subst, sym, vec_capacity}
+use Rattle.ep_base.specs.declared.record.Record.{Record}
+use Rattle.ep_machine.specs.Step.{next_event}
+use Rattle.ep_calls.specs.Acts.{Adds}
+use Rattle.ep_calls.specs.Book.{Book, state_of}
+use Rattle.ep_calls.specs.Parts.{Parts}
+use Rattle.ep_calls.proofs.KeepsLemmas.{record_of}
+use Rattle.ep_calls.proofs.KeptLemmas.{inline_event}
+use Rattle.ep_kernel.specs.Running.{Runs, book_of}
+use Rattle.ep_kernel.proofs.RunLemmas.{adds_on, does_fairly, runs_on, runs_same}
+use Rattle.ep_kernel.proofs.ready.ReadyKernel.try_step.Goals as goal
+
+-- want of memory changes nothing
+pub invariant_of-self-in_err-answer : goal.invariant_of-self-in_err-answer
+invariant_of-self-in_err-answer c =
+    let k = c.self.inside in
+    let same = c.in_err-answer.ensures.err in
+    subst (λ (rs : List Record). Runs rs c.act.new.parts c.act.new.lists) (sym c.reserve.ensures.items)
+    (runs_same k.history.items c.act.new.parts k.lists c.act.new.lists same.1 (subst (λ (p : Parts). Runs k.history.items p k.lists) (sym same.0) c.self.invariant))
+
+-- where a second record is asked for, there is a copy, or none is needed
+pub of-spare-requires-clause-inline : goal.of-spare-requires-clause-inline
+of-spare-requires-clause-inline c asked none =
+    let k = c.self.inside in
+    let o = c.in_ok-answer.field-0 in
+    let n : c.len.result + 1 ≡ length k.history.items + 1 = omega (arith, c.len.ensures, c.reserve.ensures.len) in
+    let does = does_fairly k.history.items k.parts c.act.new.parts k.lists c.self.invariant (c.len.result + 1) c.args.caller.0 c.args.event o n c.in_ok-answer.ensures.ok in
+    inline_event k.parts.tables.limits (next_event c.self.invariant.keeps.state) c.args.caller.0 o c.args.kept asked none c.args.event c.act.new.parts does.goes c.in_ok-answer.ensures.kept
+
+-- the number of the event
+number : (c : goal.After-push_reserved) → c.len.result + 1 ≡ length c.self.inside.history.items + 1
+number c = omega (arith, c.len.ensures, c.reserve.ensures.len)
+
+-- the history has its record
+records : (c : goal.After-push_reserved) → c.push_reserved.new.self.items ≡ c.self.inside.history.items ++ record_of c.args.caller c.args.event c.in_ok-answer.field-0 ∷ []
+records c =
+    let outcome = c.in_ok-answer.field-0 in
+    c.push_reserved.ensures.items
+    ∙ (λ i. c.reserve.ensures.items i ++ record { caller = c.args.caller; event = c.args.event; answer = outcome.same i; picked = outcome.picked } ∷ [])
+
+pub invariant_of-self-2 : goal.invariant_of-self-2
+invariant_of-self-2 c =
+    let k = c.self.inside in
+    subst (λ (rs : List Record). Runs rs c.settle.new.parts c.settle.new.lists) (sym (records c))
+    (runs_on c.lists_go_on.ensures.law k.history.items k.parts c.act.new.parts c.settle.new.parts k.lists c.act.new.lists c.settle.new.lists c.self.invariant c.know.ensures.coherent c.know.ensures.tables c.know.ensures.interest c.known.ensures c.known-2.ensures
+    c.args.caller c.args.event c.in_ok-answer.field-0 (c.len.result + 1) (number c) c.in_ok-answer.ensures.ok c.in_ok-answer.ensures.turns c.settle.ensures)
+
+pub returns-clause-ok : goal.returns-clause-ok
+returns-clause-ok c =
+    let k = c.self.inside in
+    let outcome = c.in_ok-answer.field-0 in
+    let new : Book = record { limits = c.settle.new.parts.tables.limits; past = c.push_reserved.new.self.items; capacity = vec_capacity c.push_reserved.new.self } in
+    let adds =
+    adds_on c.lists_go_on.ensures.law k.history.items k.parts c.act.new.parts c.settle.new.parts k.lists c.act.new.lists c.settle.new.lists c.self.invariant c.know.ensures.coherent c.know.ensures.tables c.know.ensures.interest c.known.ensures c.known-2.ensures
+    c.args.caller c.args.event outcome (c.len.result + 1) (number c) c.in_ok-answer.ensures.ok c.in_ok-answer.ensures.turns c.settle.ensures in
+    subst (λ (b : Book). Adds b.limits c.args.caller c.args.event outcome.answer (state_of b) (state_of new) b.past new.past) c.self.view_is
+    (subst (λ (rs : List Record). Adds k.parts.tables.limits c.args.caller c.args.event outcome.answer (state_of (book_of k)) (state_of (record new { past = rs })) k.history.items rs) (sym (records c)) adds)

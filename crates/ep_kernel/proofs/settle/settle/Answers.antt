@@ -1,0 +1,57 @@
+use Rattle.std.proofs.Common.{◌≡◌, subst}
+use Rattle.ep_calls.specs.Burial.{Burial}
+use Rattle.ep_calls.specs.Parts.{Parts}
+use Rattle.ep_kernel.proofs.SurvivalLemmas.{Leaves, places_left}
+use Rattle.ep_kernel.specs.Places.{LosesDying}
+use Rattle.ep_kernel.proofs.settle.settle.Goals as goal
+
+pub push-requires : goal.push-requires
+push-requires c =
+    let mid = c.args.parts.now in
+    let noted = c.raise.new.self in
+    let buried = c.bury.new.self in
+    let is : noted ≡ record mid { interest = noted.interest } = c.raise.ensures.others in
+    let leaves : Leaves c.args.step c.args.raising mid noted.interest buried = record {
+      coherent = c.know.ensures.coherent;
+      tables = c.know.ensures.tables;
+      raises = c.requires.raises;
+      stirs = c.raise.ensures.stirs;
+      keys = c.raise.ensures.ids;
+      burial = subst (λ (p : Parts). Burial c.args.step p.tables p.interest buried.tables buried.interest) is c.bury.ensures.burial;
+      ids = c.bury.ensures.ids;
+      was = c.know.ensures.interest;
+      then_sound = c.know-2.ensures.interest;
+      left = c.know-3.ensures.interest;
+    } in
+    places_left c.args.step c.args.raising mid noted.interest buried leaves c.args.lists.now c.drop_dying.new.lists
+    (subst (λ (p : Parts). LosesDying p.tables p.interest c.args.lists.now c.drop_dying.new.lists) is c.drop_dying.ensures) c.requires.places
+
+pub returns : goal.returns
+returns c = record {
+  noted = c.raise.new.self;
+  buried = c.bury.new.self;
+  climbed = c.climb_instances.new.parts;
+  between = c.drop_dying.new.lists;
+  coherent = c.know.ensures.coherent;
+  tables = c.know.ensures.tables;
+  sound = c.know.ensures.interest;
+  stirs = c.raise.ensures.stirs;
+  noted_keys = c.raise.ensures.ids;
+  noted_others = c.raise.ensures.others;
+  noted_sound = c.know-2.ensures.interest;
+  loses = c.drop_dying.ensures;
+  burial = c.bury.ensures.burial;
+  ids = c.bury.ensures.ids;
+  parked = c.bury.ensures.parked;
+  clock = c.bury.ensures.clock;
+  coherent_buried = c.know-3.ensures.coherent;
+  tables_buried = c.know-3.ensures.tables;
+  sound_buried = c.know-3.ensures.interest;
+  gains = c.push.ensures;
+  climbs = c.climb_instances.ensures.climbs;
+  climbed_keys = c.climb_instances.ensures.keys;
+  climbed_others = c.climb_instances.ensures.others;
+  climbed_sound = c.know-4.ensures.interest;
+  marks = c.mark_waiters.ensures.marks;
+  marked_others = c.mark_waiters.ensures.others;
+}

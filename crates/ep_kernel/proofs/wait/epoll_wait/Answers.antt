@@ -1,0 +1,55 @@
+use Rattle.std.proofs.Common.{◌∙◌, IsSome, SFits, ap, refl, rules, subst, w32}
+use Rattle.std.proofs.lemmas.Int.{to_z-of_z}
+use Rattle.ep_base.specs.declared.call.Event.TheVariants.{Call as CallOf}
+use Rattle.ep_calls.specs.Parts.{Parts}
+use Rattle.ep_calls.specs.Wait.{IsPick, wait_call}
+use Rattle.ep_interest.specs.Registrations.{IsSound}
+use Rattle.ep_kernel.proofs.PickLemmas.{does_from, found_is_pick, same_found}
+use Rattle.ep_kernel.proofs.WaitTurnsLemmas.{refused_turns, wait_turns}
+use Rattle.ep_kernel.proofs.wait.epoll_wait.Goals as goal
+use Rattle.ep_kernel.specs.Listed.{AreFair}
+use Rattle.ep_kernel.specs.Take.{SetsList, key_stays, taken}
+use Rattle.ep_machine.specs.Refusal.{call_refusals}
+use Rattle.ep_machine.specs.Step.{call_change}
+use Rattle.ep_machine.specs.Watches.{number_in}
+use Rattle.ep_ready.specs.ReadyLists.{list_at}
+use Rattle.ep_table.specs.Value.{number_under}
+
+pub returns-in-Err-clause-turns : goal.returns-in-Err-clause-turns
+returns-in-Err-clause-turns c = refused_turns (CallOf c.args.args.pid (wait_call c.args.args)) c.refused.result.picked c.args.parts.now c.args.lists.now c.requires.listed c.refused.ensures.picked
+
+pub returns-clause-ok : goal.returns-clause-ok
+returns-clause-ok c =
+    let x = c.args.args in
+    let p = c.args.parts.now in
+    let l = c.args.lists.now in
+    let i = c.in-Ok.instance in
+    let walked = c.in_ok-found.found.walked in
+    let chosen = c.deref.result.now in
+    let fits : SFits w32 x.max = search rules in
+    let finds = same_found p (list_at l i.0) c.most.result (number_in x.max) walked c.in_ok-found.found.reportables.items chosen c.in_ok-found.ensures (c.most.ensures ∙ ap number_in (to_z-of_z w32 x.max fits)) c.deref.ensures.value in
+    let sound = subst (λ (q : Parts). IsSound q.interest) c.parts.view_is c.known-2.ensures in
+    let lives = subst (λ (q : Parts). IsSome (number_under q.tables i)) c.parts.view_is c.in-Ok.ensures.lives in
+    does_from (λ s. AreFair s p l) (IsPick p.tables i (number_in x.max) chosen) c.args.step (λ s. call_refusals p.tables.limits s x.pid.0 (wait_call x)) (λ s picked. call_change p.tables.limits s c.args.caller.0 x.pid.0 (wait_call x) picked) c.in_ok-outcome.outcome p c.wait_with.new.self
+    c.in_ok-outcome.ensures.ok (found_is_pick p l i (number_in x.max) walked chosen c.args.step c.known.ensures.coherent c.known.ensures.sound sound c.known-3.ensures c.requires.listed lives finds)
+
+pub returns-clause-turns : goal.returns-clause-turns
+returns-clause-turns c =
+    let x = c.args.args in
+    let p = c.args.parts.now in
+    let q = c.wait_with.new.self in
+    let l = c.args.lists.now in
+    let m = c.take.new.lists in
+    let i = c.in-Ok.instance in
+    let walked = c.in_ok-found.found.walked in
+    let chosen = c.deref.result.now in
+    wait_turns p q l m i.0 c.args.step c.most.result walked chosen c.in_ok-outcome.outcome.picked (record {
+      listed = c.requires.listed;
+      sound = subst (λ (r : Parts). IsSound r.interest) c.parts.view_is c.known-2.ensures;
+      lists = c.known-3.ensures;
+      finds = same_found p (list_at l i.0) c.most.result c.most.result walked c.in_ok-found.found.reportables.items chosen c.in_ok-found.ensures refl c.deref.ensures.value;
+      picks = c.in_ok-outcome.ensures.picked;
+      keys = c.in_ok-outcome.ensures.ids;
+      entries = c.in_ok-outcome.ensures.entries;
+      takes = subst (λ (r : Parts). SetsList l m i.0 (taken (key_stays c.args.step r.interest) walked (list_at l i.0))) c.parts-2.view_is c.take.ensures;
+    }) (CallOf x.pid (wait_call x)) tt

@@ -1,0 +1,99 @@
+use Rattle.std.proofs.Common.{◌≡◌, ◌∙◌, ℤ, true, SFits, ap, refl, rules, subst, sym, w32}
+use Rattle.std.proofs.lemmas.Int.{to_z-of_z}
+use Rattle.ep_base.specs.declared.answer.Answer.TheVariants.{Refused, Still}
+use Rattle.ep_base.specs.declared.call.Event.TheVariants.{Resume}
+use Rattle.ep_base.specs.declared.errno.Errno.TheVariants.{Einval}
+use Rattle.ep_calls.proofs.OutcomeLemmas.{goes_told}
+use Rattle.ep_calls.proofs.ParkLemmas.{found_all}
+use Rattle.ep_calls.proofs.ResumeLemmas.{goes_still, goes_unparked, is_off}
+use Rattle.ep_calls.proofs.WaitLemmas.{asked_some, resume_does}
+use Rattle.ep_calls.specs.Parts.{Parts}
+use Rattle.ep_calls.specs.Stands.{IsPlaced}
+use Rattle.ep_calls.specs.Wait.{IsPick}
+use Rattle.ep_interest.specs.Registrations.{IsSound}
+use Rattle.ep_kernel.proofs.PickLemmas.{does_from, found_is_pick, same_found}
+use Rattle.ep_kernel.proofs.WaitTurnsLemmas.{refused_turns, wait_turns}
+use Rattle.ep_kernel.proofs.wait.resume.Goals as goal
+use Rattle.ep_kernel.specs.Listed.{AreFair}
+use Rattle.ep_kernel.specs.Take.{SetsList, key_stays, taken}
+use Rattle.ep_machine.specs.Refusal.{refusals}
+use Rattle.ep_machine.specs.State.{State}
+use Rattle.ep_machine.specs.Step.{change}
+use Rattle.ep_machine.specs.Waits.{is_positive, resume}
+use Rattle.ep_machine.specs.Watches.{number_in}
+use Rattle.ep_park.specs.Waiters.{parked}
+use Rattle.ep_ready.specs.ReadyLists.{list_at}
+
+pub returns-in_default-clause-turns : goal.returns-in_default-clause-turns
+returns-in_default-clause-turns c = refused_turns Resume c.refused.result.picked c.args.parts.now c.args.lists.now c.requires c.refused.ensures.picked
+
+pub returns-then-not-waiter-clause-turns : goal.returns-then-not-waiter-clause-turns
+returns-then-not-waiter-clause-turns c = refused_turns Resume c.settled.result.picked c.args.parts.now c.args.lists.now c.requires c.settled.ensures.picked
+
+pub returns-in_default-clause-ok : goal.returns-in_default-clause-ok
+returns-in_default-clause-ok c =
+    let k = c.parts.inside in
+    let p : Parts = record { tables = k.tables; interest = k.interest; graph = k.graph; parked = k.waiters; clock = k.clock } in
+    let o = c.refused.ensures in
+    let caller = c.args.caller.0 in
+    let fair : State → Type 0 = λ s. AreFair s p c.args.lists.now in
+    rw (← c.parts.view_is) (resume_does fair c.args.step caller c.refused.result p p o.raising refl refl refl (λ s at sound quiet legal stands u.
+    goes_told (refusals p.tables.limits s caller Resume) (resume s caller) s c.refused.result.answer (Refused Einval) c.refused.result.picked p o.answer o.picked
+    (goes_unparked p.graph p.tables p.interest p.parked p.clock caller p.tables.limits s stands (sym c.in_default.ensures))))
+
+pub returns-then-not-waiter-clause-ok : goal.returns-then-not-waiter-clause-ok
+returns-then-not-waiter-clause-ok c =
+    let k = c.parts.inside in
+    let p : Parts = record { tables = k.tables; interest = k.interest; graph = k.graph; parked = k.waiters; clock = k.clock } in
+    let o = c.settled.ensures in
+    let caller = c.args.caller.0 in
+    let fair : State → Type 0 = λ s. AreFair s p c.args.lists.now in
+    rw (← c.parts.view_is) (resume_does fair c.args.step caller c.settled.result p p o.raising refl refl refl (λ s at sound quiet legal stands u.
+    goes_told (refusals p.tables.limits s caller Resume) (resume s caller) s c.settled.result.answer Still c.settled.result.picked p o.answer o.picked
+    (goes_still p.graph p.tables p.interest p.parked p.clock caller p.tables.limits s stands c.in-Some.waiter (sym c.in-Some.ensures) (is_off c.in-Some.waiter.marked c.if-not-waiter.true))))
+
+pub most-requires : goal.most-requires
+most-requires c =
+    let w = c.in-Some.waiter in
+    let k = c.parts.inside in
+    let fits : SFits w32 w.max = search rules in
+    let placed = found_all (IsPlaced k.tables.keys) c.args.caller.0 k.waiters (parked c.args.caller.0 w) (sym c.in-Some.ensures) c.parts.invariant.placed in
+    subst (λ (z : ℤ). is_positive z ≡ true) (sym (to_z-of_z w32 w.max fits)) (asked_some w.max placed.most)
+
+pub returns-clause-ok : goal.returns-clause-ok
+returns-clause-ok c =
+    let k = c.parts.inside in
+    let w = c.in-Some.waiter in
+    let p = c.args.parts.now in
+    let l = c.args.lists.now in
+    let i = w.instance in
+    let caller = c.args.caller.0 in
+    let walked = c.in_ok-found.found.walked in
+    let chosen = c.deref.result.now in
+    let fits : SFits w32 w.max = search rules in
+    let finds = same_found p (list_at l i.0) c.most.result (number_in w.max) walked c.in_ok-found.found.reportables.items chosen c.in_ok-found.ensures (c.most.ensures ∙ ap number_in (to_z-of_z w32 w.max fits)) c.deref.ensures.value in
+    let sound = subst (λ (q : Parts). IsSound q.interest) c.parts.view_is c.known-2.ensures in
+    let lives = subst (λ (q : Parts). IsPlaced q.tables.keys (parked caller w)) c.parts.view_is
+    (found_all (IsPlaced k.tables.keys) caller k.waiters (parked caller w) (sym c.in-Some.ensures) c.parts.invariant.placed) in
+    does_from (λ s. AreFair s p l) (IsPick p.tables i (number_in w.max) chosen) c.args.step (λ s. refusals p.tables.limits s caller Resume) (λ s picked. change p.tables.limits s caller Resume picked) c.in_ok-outcome.outcome p c.resume_with.new.self
+    c.in_ok-outcome.ensures.ok (found_is_pick p l i (number_in w.max) walked chosen c.args.step c.known.ensures.coherent c.known.ensures.sound sound c.known-3.ensures c.requires lives.instance finds)
+
+pub returns-clause-turns : goal.returns-clause-turns
+returns-clause-turns c =
+    let p = c.args.parts.now in
+    let q = c.resume_with.new.self in
+    let l = c.args.lists.now in
+    let m = c.take.new.lists in
+    let i = c.in-Some.waiter.instance in
+    let walked = c.in_ok-found.found.walked in
+    let chosen = c.deref.result.now in
+    wait_turns p q l m i.0 c.args.step c.most.result walked chosen c.in_ok-outcome.outcome.picked (record {
+      listed = c.requires;
+      sound = subst (λ (r : Parts). IsSound r.interest) c.parts.view_is c.known-2.ensures;
+      lists = c.known-3.ensures;
+      finds = same_found p (list_at l i.0) c.most.result c.most.result walked c.in_ok-found.found.reportables.items chosen c.in_ok-found.ensures refl c.deref.ensures.value;
+      picks = c.in_ok-outcome.ensures.picked;
+      keys = c.in_ok-outcome.ensures.ids;
+      entries = c.in_ok-outcome.ensures.entries;
+      takes = subst (λ (r : Parts). SetsList l m i.0 (taken (key_stays c.args.step r.interest) walked (list_at l i.0))) c.parts-2.view_is c.take.ensures;
+    }) Resume tt

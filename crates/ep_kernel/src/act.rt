@@ -1,0 +1,112 @@
+//! One event, with the ready lists.
+ghost use Rattle.std.specs.Prelude.{◌≡◌, IfOk, OnErr, false, is_some, true};
+ghost use Rattle.std.specs.List.{list_any};
+ghost use Rattle.ep_base.specs.declared.call.Event.TheVariants.{Call as CallOf};
+ghost use Rattle.ep_calls.specs.Kept.{KeepsCall, KeepsEvent};
+ghost use Rattle.ep_kernel.specs.Listed.{IsListed};
+ghost use Rattle.ep_kernel.specs.Turns.{Turns};
+ghost use Rattle.ep_kernel.specs.Wait.{DoesCallFairly, DoesEventFairly};
+ghost use Rattle.ep_machine.specs.Files.{table_of};
+ghost use Rattle.ep_park.specs.Waiters.{is_caller};
+ghost use Rattle.ep_ready.specs.ReadyLists.{Same};
+
+use crate::control::epoll_ctl;
+use crate::wait::{epoll_wait, resume};
+use ep_base::{Call, CallerId, Errno, Event, Pid};
+use ep_calls::{Control, Outcome, Parts, Wait};
+use ep_ready::ReadyLists;
+use std::alloc::AllocError;
+
+/// The number of an event, who makes it, and whether a second record of it is asked for.
+#[derive(Clone, Copy)]
+struct Request {
+    step: u64,
+    caller: CallerId,
+    kept: bool,
+}
+
+/// A call of a process that is there.
+/// A refusal and an `Err`, which is want of memory, leave the parts and the lists.
+fn make_call(
+    parts: &mut Parts,
+    lists: &mut ReadyLists,
+    request: Request,
+    pid: Pid,
+    call: &Call,
+) -> Result<Outcome, AllocError>
+    requires free { list_any (is_caller request.caller.0) parts.old.parked ≡ false }
+    requires process { is_some (table_of parts.old.tables.files pid.0) ≡ true }
+    requires listed { IsListed parts.old lists.old }
+    ensures ok { IfOk result (λ outcome. DoesCallFairly lists.old request.step request.caller.0 pid.0 call.now outcome parts.old parts.new) }
+    ensures kept { IfOk result (λ outcome. KeepsCall call.now request.kept outcome) }
+    ensures turns { IfOk result (λ outcome. Turns (CallOf pid call.now) outcome.picked parts.old lists.old parts.new lists.new) }
+    ensures err { OnErr result ((parts.new ≡ parts.old) × Same lists.old lists.new) }
+{
+    match *call {
+        Call::EpollCtl {
+            epfd,
+            op,
+            fd,
+            mask,
+            tag,
+        } => {
+            let args = Control {
+                epfd,
+                op,
+                fd,
+                mask,
+                tag,
+            };
+            epoll_ctl(parts, lists, pid, args)
+        }
+        Call::EpollWait { epfd, max, timeout } => {
+            let args = Wait {
+                pid,
+                epfd,
+                max,
+                timeout,
+                kept: request.kept,
+            };
+            epoll_wait(parts, lists, request.step, request.caller, args)
+        }
+        Call::Read { fd, .. }
+        | Call::Write { fd, .. }
+        | Call::Shutdown { fd }
+        | Call::SetTime { fd, .. }
+        | Call::GetTime { fd } => parts.object_call(pid, fd, call, request.kept),
+        _ => parts.table_call(pid, call),
+    }
+}
+
+/// One event: its refusal, ESRCH first for a call, or its change, and what that does to the ready lists before anything
+/// climbs. `kept`: a second record of it is asked for.
+/// A refusal and an `Err`, which is want of memory, leave the parts and the lists.
+pub fn act(
+    parts: &mut Parts,
+    lists: &mut ReadyLists,
+    step: u64,
+    caller: CallerId,
+    event: &Event,
+    kept: bool,
+) -> Result<Outcome, AllocError>
+    requires { IsListed parts.old lists.old }
+    ensures ok { IfOk result (λ outcome. DoesEventFairly lists.old step caller.0 event.now outcome parts.old parts.new) }
+    ensures kept { IfOk result (λ outcome. KeepsEvent event.now kept outcome) }
+    ensures turns { IfOk result (λ outcome. Turns event.now outcome.picked parts.old lists.old parts.new lists.new) }
+    ensures err { OnErr result ((parts.new ≡ parts.old) × Same lists.old lists.new) }
+{
+    match event {
+        Event::Call { pid, call } => {
+            if !parts.tables.has_process(*pid) {
+                return Ok(Outcome::refused(parts.alloc, Errno::Esrch));
+            }
+            if parts.waiters.is_parked(caller) {
+                return Ok(Outcome::refused(parts.alloc, Errno::Ebusy));
+            }
+            let request = Request { step, caller, kept };
+            make_call(parts, lists, request, *pid, call)
+        }
+        Event::Resume => resume(parts, lists, step, caller, kept),
+        Event::Tick { n } => Ok(parts.tick(*n)),
+    }
+}

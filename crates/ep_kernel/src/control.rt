@@ -1,0 +1,138 @@
+//! epoll_ctl: the places that come and go with registrations.
+ghost use Rattle.std.specs.Prelude.{◌≡◌, ℕ, IfOk, IsSome, None, OnErr, Some};
+ghost use Rattle.ep_base.specs.declared.call.Event.TheVariants.{Call as CallOf};
+ghost use Rattle.ep_calls.specs.Control.{IsPlan, control_call};
+ghost use Rattle.ep_calls.specs.Does.{DoesCall};
+ghost use Rattle.ep_calls.specs.declared.control.Operation.TheVariants.{Add};
+ghost use Rattle.ep_interest.specs.Registrations.{entry_under};
+ghost use Rattle.ep_kernel.specs.Control.{Settles};
+ghost use Rattle.ep_kernel.specs.Listed.{IsListed};
+ghost use Rattle.ep_kernel.specs.Turns.{Turns};
+ghost use Rattle.ep_ready.specs.ReadyLists.{Same, instance_at};
+
+use ep_base::{EntryId, Pid};
+use ep_calls::{Control, Operation, Outcome, Parts, Plan, Raising};
+use ep_interest::Interest;
+use ep_ready::ReadyLists;
+use std::alloc::AllocError;
+
+/// Takes a place away whose registration is gone. One that is left comes to the end of its list, if it does not stand there, where
+/// IN was raised at its instance.
+fn settle(interest: &Interest, lists: &mut ReadyLists, id: EntryId, raising: Raising)
+    requires { IsSome (instance_at lists.old id) }
+    ensures { Settles id (entry_under interest.now id) raising lists.old lists.new }
+{
+    lists.known();
+    let Some(_) = interest.get(id) else {
+        lists.drop_place(id);
+        return;
+    };
+    if let Raising::Instance { .. } = raising {
+        lists.push_back(id);
+    }
+}
+
+/// The call on a registration that is there.
+fn alter(
+    parts: &mut Parts,
+    lists: &mut ReadyLists,
+    pid: Pid,
+    args: Control,
+    plan: Plan,
+    id: EntryId,
+) -> Result<Outcome, AllocError>
+    requires plan { IsPlan parts.old pid.0 args plan }
+    requires found { plan.found ≡ Some id }
+    requires listed { IsListed parts.old lists.old }
+    ensures ok { IfOk result (λ outcome. (n caller : ℕ) → DoesCall n caller pid.0 (control_call args) outcome parts.old parts.new) }
+    ensures turns { IfOk result (λ outcome. Turns (CallOf pid (control_call args)) outcome.picked parts.old lists.old parts.new lists.new) }
+    ensures err { OnErr result ((parts.new ≡ parts.old) × Same lists.old lists.new) }
+{
+    parts.known();
+    parts.interest.known();
+    let outcome = parts.control(pid, args, plan)?;
+    parts.known();
+    parts.interest.known();
+    settle(&parts.interest, lists, id, outcome.raising);
+    Ok(outcome)
+}
+
+/// Adds a registration that is not there, with its place. An `Err` is want of memory and leaves both.
+fn add(
+    parts: &mut Parts,
+    lists: &mut ReadyLists,
+    pid: Pid,
+    args: Control,
+    plan: Plan,
+) -> Result<Outcome, AllocError>
+    requires plan { IsPlan parts.old pid.0 args plan }
+    requires adds { plan.operation ≡ Add }
+    requires found { plan.found ≡ None }
+    requires listed { IsListed parts.old lists.old }
+    ensures ok { IfOk result (λ outcome. (n caller : ℕ) → DoesCall n caller pid.0 (control_call args) outcome parts.old parts.new) }
+    ensures turns { IfOk result (λ outcome. Turns (CallOf pid (control_call args)) outcome.picked parts.old lists.old parts.new lists.new) }
+    ensures err { OnErr result ((parts.new ≡ parts.old) × Same lists.old lists.new) }
+{
+    parts.known();
+    parts.interest.known();
+    lists.known();
+    let id = parts.interest.next_key();
+    lists.make_place(plan.named.instance, id)?;
+    let outcome = match parts.control(pid, args, plan) {
+        Ok(outcome) => outcome,
+        Err(error) => {
+            lists.drop_place(id);
+            return Err(error);
+        }
+    };
+    parts.known();
+    parts.interest.known();
+    settle(&parts.interest, lists, id, outcome.raising);
+    Ok(outcome)
+}
+
+/// The call where its registration is not there: ADD adds it, and the others are refused.
+fn enter(
+    parts: &mut Parts,
+    lists: &mut ReadyLists,
+    pid: Pid,
+    args: Control,
+    plan: Plan,
+) -> Result<Outcome, AllocError>
+    requires plan { IsPlan parts.old pid.0 args plan }
+    requires found { plan.found ≡ None }
+    requires listed { IsListed parts.old lists.old }
+    ensures ok { IfOk result (λ outcome. (n caller : ℕ) → DoesCall n caller pid.0 (control_call args) outcome parts.old parts.new) }
+    ensures turns { IfOk result (λ outcome. Turns (CallOf pid (control_call args)) outcome.picked parts.old lists.old parts.new lists.new) }
+    ensures err { OnErr result ((parts.new ≡ parts.old) × Same lists.old lists.new) }
+{
+    match plan.operation {
+        Operation::Add => add(parts, lists, pid, args, plan),
+        Operation::Delete => parts.control(pid, args, plan),
+        Operation::Modify => parts.control(pid, args, plan),
+    }
+}
+
+/// epoll_ctl(2), as `Parts::epoll_ctl`, with the ready lists: a registration that is added gets a place, and one that is deleted
+/// loses it; what is added or modified and reportable comes to the end of its list.
+/// A refusal leaves the parts and the lists, and so does an `Err`, which is want of memory and comes of ADD alone.
+pub fn epoll_ctl(
+    parts: &mut Parts,
+    lists: &mut ReadyLists,
+    pid: Pid,
+    args: Control,
+) -> Result<Outcome, AllocError>
+    requires listed { IsListed parts.old lists.old }
+    ensures ok { IfOk result (λ outcome. (n caller : ℕ) → DoesCall n caller pid.0 (control_call args) outcome parts.old parts.new) }
+    ensures turns { IfOk result (λ outcome. Turns (CallOf pid (control_call args)) outcome.picked parts.old lists.old parts.new lists.new) }
+    ensures err { OnErr result ((parts.new ≡ parts.old) × Same lists.old lists.new) }
+{
+    let plan = match parts.plan(pid, args) {
+        Ok(plan) => plan,
+        Err(refused) => return Ok(refused),
+    };
+    match plan.found {
+        Some(id) => alter(parts, lists, pid, args, plan, id),
+        None => enter(parts, lists, pid, args, plan),
+    }
+}

@@ -1,0 +1,94 @@
+//! Waits along ready lists: epoll_wait, and a parked caller that asks whether it may go on.
+ghost use Rattle.std.specs.Prelude.{◌≡◌, IfOk, OnErr, false, true};
+ghost use Rattle.std.specs.List.{list_any};
+ghost use Rattle.ep_base.specs.declared.call.Event.TheVariants.{Call as CallOf, Resume};
+ghost use Rattle.ep_calls.specs.Kept.{IsKept};
+ghost use Rattle.ep_calls.specs.Wait.{wait_call};
+ghost use Rattle.ep_kernel.specs.Listed.{IsListed};
+ghost use Rattle.ep_kernel.specs.Turns.{Turns};
+ghost use Rattle.ep_kernel.specs.Wait.{DoesCallFairly, DoesEventFairly};
+ghost use Rattle.ep_machine.specs.Waits.{is_positive};
+ghost use Rattle.ep_machine.specs.Watches.{number_in};
+ghost use Rattle.ep_park.specs.Waiters.{is_caller};
+
+use crate::choose::choose;
+use crate::take::take;
+use ep_base::{Answer, CallerId, Errno};
+use ep_calls::{Outcome, Parts, Raising, Wait, find_instance};
+use ep_ready::ReadyLists;
+use std::alloc::AllocError;
+
+/// How many reports are asked for.
+fn most(max: i32) -> usize
+    requires { is_positive max ≡ true }
+    ensures { result ≡ number_in max }
+{
+    max as usize
+}
+
+/// epoll_wait(2): at most `max` reports of what is reportable at an instance now, in the order of its ready list. Where
+/// nothing is, no report with a timeout of 0, and else the caller is parked until it is marked, `timeout` milliseconds at
+/// most, and without end where that is negative.
+/// Refused with EINVAL for a `max` below 1 or no instance, and with EBADF where `epfd` names nothing.
+/// A refusal and an `Err`, which is want of memory, leave the parts and the lists.
+pub fn epoll_wait(
+    parts: &mut Parts,
+    lists: &mut ReadyLists,
+    step: u64,
+    caller: CallerId,
+    args: Wait,
+) -> Result<Outcome, AllocError>
+    requires free { list_any (is_caller caller.0) parts.old.parked ≡ false }
+    requires listed { IsListed parts.old lists.old }
+    ensures ok { IfOk result (λ outcome. DoesCallFairly lists.old step caller.0 args.pid.0 (wait_call args) outcome parts.old parts.new) }
+    ensures kept { IfOk result (λ outcome. IsKept args.kept outcome) }
+    ensures turns { IfOk result (λ outcome. Turns (CallOf args.pid (wait_call args)) outcome.picked parts.old lists.old parts.new lists.new) }
+    ensures err { OnErr result (parts.new ≡ parts.old) }
+    ensures err_lists { OnErr result (lists.new ≡ lists.old) }
+{
+    let instance = match find_instance(&parts.tables, args) {
+        Ok(instance) => instance,
+        Err(errno) => return Ok(Outcome::refused(parts.alloc, errno)),
+    };
+    parts.known();
+    parts.interest.known();
+    lists.known();
+    let found = choose(parts, lists, instance, most(args.max))?;
+    let outcome = parts.wait_with(step, caller, args, instance, &found.reportables)?;
+    take(&parts.interest, lists, instance, found.walked, step);
+    Ok(outcome)
+}
+
+/// A parked caller asks whether it may go on: EINVAL where it is not parked, `Still` where it isn't marked. A marked one
+/// gets at most as many reports as it asked for, in the order of the ready list, and is no longer parked; where nothing is
+/// reportable, it gets none at its deadline, and before that loses its mark and stays parked. `kept`: a second record of it
+/// is asked for.
+/// A refusal and an `Err`, which is want of memory, leave the parts and the lists.
+pub fn resume(
+    parts: &mut Parts,
+    lists: &mut ReadyLists,
+    step: u64,
+    caller: CallerId,
+    kept: bool,
+) -> Result<Outcome, AllocError>
+    requires { IsListed parts.old lists.old }
+    ensures ok { IfOk result (λ outcome. DoesEventFairly lists.old step caller.0 Resume outcome parts.old parts.new) }
+    ensures kept { IfOk result (λ outcome. IsKept kept outcome) }
+    ensures turns { IfOk result (λ outcome. Turns Resume outcome.picked parts.old lists.old parts.new lists.new) }
+    ensures err { OnErr result (parts.new ≡ parts.old) }
+    ensures err_lists { OnErr result (lists.new ≡ lists.old) }
+{
+    let Some(waiter) = parts.waiters.waiter(caller) else {
+        return Ok(Outcome::refused(parts.alloc, Errno::Einval));
+    };
+    if !waiter.marked {
+        return Ok(Outcome::settled(parts.alloc, Answer::Still, Raising::Nowhere));
+    }
+    parts.known();
+    parts.interest.known();
+    lists.known();
+    let found = choose(parts, lists, waiter.instance, most(waiter.max))?;
+    let outcome = parts.resume_with(step, caller, waiter, &found.reportables, kept)?;
+    take(&parts.interest, lists, waiter.instance, found.walked, step);
+    Ok(outcome)
+}
