@@ -5,10 +5,12 @@ pub mod AdditionLemmas
 pub mod PlaceLemmas
 pub mod FillLemmas
 pub mod LengthLemmas
-pub mod ClimbLemmas
 pub mod GatherLemmas
 pub mod AdmitLemmas
 pub mod ScratchLemmas
 pub mod MayAddLemmas
 pub mod RuleLemmas
 pub mod RenameLemmas
+pub mod NoteLemmas
+pub mod AscentLemmas
+pub mod ListLemmas

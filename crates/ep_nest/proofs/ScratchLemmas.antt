@@ -5,20 +5,22 @@ use Rattle.ep_nest.proofs.ChainLemmas.{short_part, turned}
 use Rattle.ep_nest.proofs.ElementLemmas.{Contains-cons, Contains-from_filter, Contains-from_map, Contains-head, Contains-map, Contains-nil, among, from_among}
 use Rattle.ep_nest.proofs.FillLemmas.{at_fill}
 use Rattle.ep_nest.proofs.GatherLemmas.{distinct_push}
+use Rattle.ep_nest.proofs.ListLemmas.{filter_turned}
 use Rattle.ep_nest.proofs.LegalityLemmas.{is_legal_from_short, short_from_is_legal}
+use Rattle.ep_nest.specs.Ascent.{IsWalkable, is_to, list_to}
 use Rattle.ep_nest.specs.Chains.{IsShort, LeadsBy}
 use Rattle.ep_nest.specs.Lengths.{AreLengths, HasPlaces}
 use Rattle.ep_nest.specs.Links.{along, edges, ends_of, entries, is_apart_from, is_of, without}
-use Rattle.ep_nest.specs.Scratch.{HasGrown, IsKept}
+use Rattle.ep_nest.specs.Scratch.{HasGrown, IsKept, SameTables}
 use Rattle.ep_nest.specs.declared.link.Link.{Link}
 use Rattle.ep_nest.specs.declared.link.Way.TheVariants.{Down, Up}
 use Rattle.ep_nest.specs.declared.scratch.Scratch.{Scratch}
-use Rattle.std.proofs.Common.{Bool, Contains, List, [], ap, arith, false, filter, get_or, inl, inr, length, not, refl, replicate, slice_index, subst, suc, sym, true, vec_capacity, zero, ℕ, ◌&&◌, ◌==◌, ◌++◌, ◌-◌, ◌<◌, ◌∙◌, ◌∷◌, ◌≡◌, ◌≤◌}
-use Rattle.std.specs.List.{list_any}
+use Rattle.std.proofs.Common.{Bool, Contains, List, [], ap, arith, false, filter, get_or, if◌then◌else◌, inl, inr, length, not, refl, replicate, slice_index, subst, suc, sym, true, vec_capacity, zero, ℕ, ◌&&◌, ◌==◌, ◌++◌, ◌-◌, ◌<◌, ◌∙◌, ◌∷◌, ◌≡◌, ◌≤◌}
+use Rattle.std.specs.List.{All, list_any}
 use Rattle.std.proofs.lemmas.Bool.{and_from, and_parts, cases_Bool, cases_lt, eqb-true, not-true}
 use Rattle.std.proofs.lemmas.Bool.Decides.{eqb_tells}
 use Rattle.std.proofs.lemmas.List.{get_or-append_right, get_or_append_left, get_or_past, length-append, map-append}
-use Rattle.std.proofs.lemmas.List.Elements.{All-contains, Contains-get_or, Contains-push_cases}
+use Rattle.std.proofs.lemmas.List.Elements.{All-contains, All-filter, Contains-get_or, Contains-push_cases}
 
 -- the two ways
 way_up : (ls : List Link) (a b : ℕ) → Contains (along Down ls) (a, b) → Contains (along Up ls) (b, a)
@@ -130,8 +132,8 @@ module _ (p : Link → Bool) (ls left : List Link) (is : left ≡ filter p ls) w
   places_left room h = subst (λ (ls : List Link). HasPlaces (edges ls) room) (sym is) (places_part (edges (filter p ls)) (edges ls) room (kept_edge p ls) h)
 
   -- once the tables say the chains of what is left
-  pub kept_left : {A : Type 0} (old new : Scratch A) → IsKept ls old → AreLengths (along Down left) new.heights.items → AreLengths (along Up left) new.depths.items → new.marks.items ≡ old.marks.items → vec_capacity new.admitted ≡ vec_capacity old.admitted → vec_capacity new.reached ≡ vec_capacity old.reached → IsKept left new
-  kept_left old new kept heights depths marks admitted reached =
+  pub kept_left : {A : Type 0} (old new : Scratch A) → IsKept ls old → AreLengths (along Down left) new.heights.items → AreLengths (along Up left) new.depths.items → new.marks.items ≡ old.marks.items → vec_capacity new.admitted ≡ vec_capacity old.admitted → vec_capacity new.reached ≡ vec_capacity old.reached → ((k : ℕ) → list_to new.lists.items k ≡ filter p (list_to old.lists.items k)) → IsKept left new
+  kept_left old new kept heights depths marks admitted reached lists =
       let few : length left ≤ length ls = omega (arith, ap (λ (ls : List Link). length ls) is, length_part p ls) in
       record {
         legal = legal_left kept.legal;
@@ -140,19 +142,21 @@ module _ (p : Link → Bool) (ls left : List Link) (is : left ≡ filter p ls) w
         depths = depths;
         marks = subst (λ (ms : List Bool). HasPlaces (edges left) (length ms)) (sym marks) (places_left (length old.marks.items) kept.marks);
         admitted = omega (arith, few, kept.admitted, admitted);
-        reached = omega (arith, few, kept.reached, reached);
+        reached = let same = ap (λ (ms : List Bool). length ms) marks in omega (arith, same, kept.reached, reached);
+        clear = λ x. ap (λ (ms : List Bool). get_or ms x false) marks ∙ kept.clear x;
+        listed = λ k. lists k ∙ (ap (λ (ms : List Link). filter p ms) (kept.listed k) ∙ (filter_turned p (is_to k) ls ∙ ap (λ (ms : List Link). filter (is_to k) ms) (sym is)));
       }
 
 -- a table with more places says the same
-grown_same : (xs : List ℕ) (n y : ℕ) → get_or (xs ++ replicate n 0) y 0 ≡ get_or xs y 0
-grown_same xs n y = elim (cases_lt y (length xs)) [
-  | inl inside ↦ get_or_append_left xs (replicate n 0) 0 y inside
-  | inr past ↦ get_or-append_right xs (replicate n 0) (length xs) y 0 refl past ∙ (at_fill n 0 (replicate n 0) refl (y - length xs) ∙ sym (get_or_past xs y 0 past))
+grown_same : {X : Type 0} (v : X) (xs : List X) (n y : ℕ) → get_or (xs ++ replicate n v) y v ≡ get_or xs y v
+grown_same v xs n y = elim (cases_lt y (length xs)) [
+  | inl inside ↦ get_or_append_left xs (replicate n v) v y inside
+  | inr past ↦ get_or-append_right xs (replicate n v) (length xs) y v refl past ∙ (at_fill n v (replicate n v) refl (y - length xs) ∙ sym (get_or_past xs y v past))
 ]
 
 pub lengths_grown : (es : List (ℕ × ℕ)) (old new : List ℕ) (n : ℕ) → new ≡ old ++ replicate n 0 → AreLengths es old → AreLengths es new
 lengths_grown es old new n e h =
-    let same : (y : ℕ) → slice_index new y ≡ slice_index old y = λ y. ap (λ (xs : List ℕ). get_or xs y 0) e ∙ grown_same old n y in
+    let same : (y : ℕ) → slice_index new y ≡ slice_index old y = λ y. ap (λ (xs : List ℕ). get_or xs y 0) e ∙ grown_same 0 old n y in
     let longer : length old ≤ length new = omega (arith, ap (λ (xs : List ℕ). length xs) e, length-append old (replicate n 0)) in
     record {
       places = places_more es (length old) (length new) longer h.places;
@@ -166,9 +170,13 @@ kept_grown ls old new kept grown = record {
   distinct = kept.distinct;
   heights = lengths_grown (along Down ls) old.heights.items new.heights.items grown.heights.0 grown.heights.1 kept.heights;
   depths = lengths_grown (along Up ls) old.depths.items new.depths.items grown.depths.0 grown.depths.1 kept.depths;
-  marks = places_more (along Down ls) (length old.marks.items) (length new.marks.items) grown.marks kept.marks;
+  marks =
+      let long = ap (λ (ms : List Bool). length ms) grown.marks.1 ∙ length-append old.marks.items (replicate grown.marks.0 false) in
+      places_more (along Down ls) (length old.marks.items) (length new.marks.items) (omega (arith, long)) kept.marks;
   admitted = let a = kept.admitted in let b = grown.admitted in omega arith;
-  reached = let a = kept.reached in let b = grown.reached in omega arith;
+  reached = grown.reached kept.reached;
+  clear = λ x. ap (λ (ms : List Bool). get_or ms x false) grown.marks.1 ∙ (grown_same false old.marks.items grown.marks.0 x ∙ kept.clear x);
+  listed = λ k. grown.lists k ∙ kept.listed k;
 }
 
 -- no links
@@ -183,16 +191,52 @@ none_lengths = record {
     no_chain zero x y p = omega arith
     no_chain (suc m) x y p = absurd (Contains-nil (x, p.0) p.1)
 
-pub kept_none : {A : Type 0} (ls : List Link) (s : Scratch A) → ls ≡ [] → s.heights.items ≡ [] → s.depths.items ≡ [] → IsKept ls s
-kept_none ls s e eh ed = record {
+pub kept_none : {A : Type 0} (ls : List Link) (s : Scratch A) → ls ≡ [] → s.heights.items ≡ [] → s.depths.items ≡ [] → s.marks.items ≡ [] → s.lists.items ≡ [] → IsKept ls s
+kept_none ls s e eh ed em el = record {
   legal = ap (λ (ls : List Link). is_legal (edges ls)) e;
   distinct = ap (λ (ls : List Link). are_distinct (entries ls)) e;
   heights = subst (λ (ls : List Link). AreLengths (along Down ls) s.heights.items) (sym e) (subst (λ (xs : List ℕ). AreLengths [] xs) (sym eh) none_lengths);
   depths = subst (λ (ls : List Link). AreLengths (along Up ls) s.depths.items) (sym e) (subst (λ (xs : List ℕ). AreLengths [] xs) (sym ed) none_lengths);
   marks = subst (λ (ls : List Link). HasPlaces (along Down ls) (length s.marks.items)) (sym e) (λ k d l. absurd (omega arith));
   admitted = let n = ap (λ (ls : List Link). length ls) e in omega (arith, n);
-  reached = let n = ap (λ (ls : List Link). length ls) e in omega (arith, n);
+  reached = let n = ap (λ (ms : List Bool). length ms) em in omega (arith, n);
+  clear = λ x. ap (λ (ms : List Bool). get_or ms x false) em;
+  listed = λ k. ap (λ lists. list_to lists k) el ∙ ap (λ (ls : List Link). filter (is_to k) ls) (sym e);
 }
+
+-- the links as they were
+pub kept_same : {A : Type 0} (ls : List Link) (old new : Scratch A) → IsKept ls old → SameTables old new → ((k : ℕ) → list_to new.lists.items k ≡ list_to old.lists.items k) → IsKept ls new
+kept_same ls old new kept same lists = record {
+  legal = kept.legal;
+  distinct = kept.distinct;
+  heights = subst (λ (xs : List ℕ). AreLengths (along Down ls) xs) (sym same.heights) kept.heights;
+  depths = subst (λ (xs : List ℕ). AreLengths (along Up ls) xs) (sym same.depths) kept.depths;
+  marks = subst (λ (ms : List Bool). HasPlaces (along Down ls) (length ms)) (sym same.marks) kept.marks;
+  admitted = omega (arith, kept.admitted, same.admitted);
+  reached = let long = ap (λ (ms : List Bool). length ms) same.marks in omega (arith, long, kept.reached, same.reached);
+  clear = λ x. ap (λ (ms : List Bool). get_or ms x false) same.marks ∙ kept.clear x;
+  listed = λ k. lists k ∙ kept.listed k;
+}
+
+-- a link more at the end is one more in the list to its inner instance
+pub listed_more : (ls : List Link) (l : Link) (k : ℕ) → filter (is_to k) (ls ++ l ∷ []) ≡ filter (is_to k) ls ++ (if is_to k l then l ∷ [] else [])
+listed_more [] l k = elim (cases_Bool (is_to k l)) [ inl is ↦ rw is refl | inr off ↦ rw off refl ]
+listed_more (m ∷ ls) l k =
+    let rest = listed_more ls l k in
+    elim (cases_Bool (is_to k m)) [ inl is ↦ rw is (ap (λ (ms : List Link). m ∷ ms) rest) | inr off ↦ rw off rest ]
+
+-- a walk can follow the links to any instance
+pub walkable_to : {A : Type 0} (ls : List Link) (s : Scratch A) → IsKept ls s → (k : ℕ) → IsWalkable (list_to s.lists.items k) (vec_capacity s.admitted) (length s.marks.items)
+walkable_to ls s kept k =
+    let P : Link → Type 0 = λ l. l.outer.0 < length s.marks.items in
+    let placed : All P ls = λ i d lt.
+    let l = get_or ls i d in
+    (place_of (edges ls) (length s.marks.items) kept.marks (ends_of Down l) (Contains-map (ends_of Down) ls l (Contains-get_or ls i d lt))).0 in
+    subst (λ (ms : List Link). IsWalkable ms (vec_capacity s.admitted) (length s.marks.items)) (sym (kept.listed k)) (record {
+      distinct = distinct_part (is_to k) ls kept.distinct;
+      fit = omega (arith, length_part (is_to k) ls, kept.admitted);
+      places = All-filter (is_to k) P ls placed;
+    })
 
 -- Nothing is taken away where no link is met.
 pub all_stay : (p : Link → Bool) (ls : List Link) → ((l : Link) → Contains ls l → p l ≡ true) → ls ≡ filter p ls

@@ -3,3 +3,5 @@ pub mod Chains
 pub mod Lengths
 pub mod Marks
 pub mod Scratch
+pub mod Ascent
+pub mod Removal

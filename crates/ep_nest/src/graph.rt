@@ -1,18 +1,19 @@
 //! The graph.
-ghost use Rattle.std.specs.Prelude.{◌≡◌, ◌++◌, ◌∷◌, ◌↔◌, [], IfErr, IsOk, OnErr, OnOk, Bool, false, filter, true, ℕ, ⊤};
+ghost use Rattle.std.specs.Prelude.{◌≡◌, ◌++◌, ◌∷◌, ◌↔◌, [], IfErr, IsOk, OnErr, OnOk, false, filter, true, ⊤};
 ghost use Rattle.std.specs.Borrow.{follows_so, sem};
-ghost use Rattle.std.specs.List.{All};
 ghost use mathlib.Core.Option.{none};
 ghost use Rattle.ep_machine.specs.Lists.{are_distinct, is_among};
 ghost use Rattle.ep_machine.specs.Watches.{is_legal};
-ghost use Rattle.ep_nest.specs.Chains.{IsAbove, IsLegalGraph};
-ghost use Rattle.ep_nest.specs.Links.{admitted_by, edges, entries, is_apart_from, keys, without};
+ghost use Rattle.ep_nest.specs.Ascent.{Finds};
+ghost use Rattle.ep_nest.specs.Chains.{IsLegalGraph};
+ghost use Rattle.ep_nest.specs.Links.{edges, entries, is_apart_from, keys, without};
 ghost use Rattle.ep_nest.specs.contracts.graph.Graph.{the_row};
 
+use crate::ascend::ascend;
 use crate::lengths::{LONGEST, length_at};
-use crate::link::{Link, has_link, watches};
+use crate::link::{Link, Removal, has_link, watches};
 use crate::scratch::Scratch;
-use crate::walk::{admit, collect_above};
+use crate::walk::put;
 use ep_base::{DescId, EntryId, Errno};
 use std::alloc::{AllocError, Allocator, Global};
 use std::marker::Model;
@@ -95,6 +96,8 @@ impl<A: Allocator> Graph<A> {
     /// It takes all room that `above` needs, and is the only growth. An error leaves the graph as it was.
     /// Its cost grows as the number of links and, where a key is new, as the key.
     pub fn link(&mut self, outer: DescId, inner: DescId, entry: EntryId) -> Result<(), AllocError>
+    where
+        A: Copy,
         requires legal { is_legal ((outer.0, inner.0) ∷ edges self.old) ≡ true }
         requires fresh { is_among (entries self.old) entry.0 ≡ false }
         ensures linked { OnOk result (self.new ≡ self.old ++ record { outer = outer; inner = inner; entry = entry } ∷ []) }
@@ -102,11 +105,14 @@ impl<A: Allocator> Graph<A> {
     {
         let many = self.links.len() + 1;
         self.scratch.make_room(outer.0.max(inner.0), many)?;
-        self.links.push(Link {
+        self.links.reserve(1)?;
+        let link = Link {
             outer,
             inner,
             entry,
-        })?;
+        };
+        self.scratch.list(link)?;
+        put(&mut self.links, link);
         self.scratch.measure(&self.links);
         Ok(())
     }
@@ -120,6 +126,7 @@ impl<A: Allocator> Graph<A> {
             return;
         }
         self.links.retain(|link| link.entry != entry);
+        self.scratch.part(Removal::Entry(entry));
         self.scratch.measure(&self.links);
     }
 
@@ -133,23 +140,25 @@ impl<A: Allocator> Graph<A> {
         }
         self.links
             .retain(|link| link.outer != instance && link.inner != instance);
+        self.scratch.part(Removal::Instance(instance));
         self.scratch.measure(&self.links);
     }
 
     /// The instances, each once, from which a chain of links that `passes` admits leads down to one.
-    /// It asks about every entry once, and takes no memory. Its cost grows as the number of links
-    /// and as the greatest key of an instance.
+    /// It asks once about each link to `inner` and to what it finds, and about no other. It takes no memory,
+    /// and its cost grows as the number of these links.
     pub fn above<F: Fn(EntryId) -> bool>(&mut self, inner: DescId, passes: &F) -> &[DescId]
         requires { F.IsAlwaysCallable passes.now }
         ensures* stays { sem 𝓛 (follows_so (the_row A.row A.Allocator) (the_row A.row A.Allocator) self.entry.ghost_name none (λ _ _. ⊤) (λ v. v ≡ self.old)) }
-        ensures exact { (admits : ℕ → Bool) × All (λ l. F.post passes.now l.entry (admits l.entry.0)) self.old × ((x : ℕ) → (is_among (keys result.now) x ≡ true) ↔ IsAbove (edges (admitted_by admits self.old)) x inner.0) }
+        ensures exact { Finds (λ e b. F.post passes.now e b) self.old inner.0 (keys result.now) }
         ensures once { are_distinct (keys result.now) ≡ true }
     {
         let scratch = &mut self.scratch;
-        admit(&self.links, passes, &mut scratch.admitted);
-        collect_above(
-            &scratch.admitted,
+        ascend(
+            &scratch.lists,
             inner,
+            passes,
+            &mut scratch.admitted,
             &mut scratch.marks,
             &mut scratch.reached,
         );

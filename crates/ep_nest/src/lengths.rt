@@ -26,6 +26,7 @@ pub fn widen<T: Copy + Drop, A: Allocator>(
 ) -> Result<(), AllocError>
     ensures grown { (n : ℕ) × (table.new.items ≡ table.old.items ++ replicate n value) }
     ensures placed { OnOk result (key < vec_len table.new) }
+    ensures few { (n : ℕ) → key < n → length table.old.items ≤ n → length table.new.items ≤ n }
 {
     while table.len() <= key {
         table.push(value)?;

@@ -1,9 +1,11 @@
 //! The watch graph: which instances watch which, as epoll_ctl(2) limits it.
 #![tactic(auto)]
 
+mod ascend;
 mod graph;
 mod lengths;
 mod link;
+mod lists;
 mod scratch;
 mod walk;
 

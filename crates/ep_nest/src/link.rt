@@ -2,6 +2,7 @@
 ghost use Rattle.std.specs.Prelude.{◌≡◌};
 ghost use Rattle.std.specs.List.{list_any};
 ghost use Rattle.ep_nest.specs.Links.{ends_of, is_between, is_of};
+ghost use Rattle.ep_nest.specs.Removal.{stays};
 
 use ep_base::{DescId, EntryId};
 
@@ -25,7 +26,26 @@ pub enum Way {
     Up,
 }
 
+/// What is taken from the links.
+#[derive(Clone, Copy)]
+pub enum Removal {
+    /// The link of a registration.
+    Entry(EntryId),
+    /// The links from and to an instance.
+    Instance(DescId),
+}
+
 impl Link {
+    /// Whether the link stays where something is taken away.
+    pub fn stays(&self, removal: Removal) -> bool
+        ensures { result ≡ stays removal self.now }
+    {
+        match removal {
+            Removal::Entry(entry) => self.entry != entry,
+            Removal::Instance(instance) => self.outer != instance && self.inner != instance,
+        }
+    }
+
     /// The key of the instance from which the link leads.
     pub fn start(&self, way: Way) -> usize
         ensures { result ≡ (ends_of way self.now).0 }
