@@ -27,10 +27,10 @@ pub fn raise_at_one(alloc: Global, count: u32) -> Result<(usize, u32), AllocErro
     for number in 0..count {
         add(&mut sets, DescId(number as usize))?;
     }
-    let mut left = 0;
+    let mut left = 0u32;
     for event in 0..EVENTS {
         if raise(&mut sets, DescId(0), u64::from(event) + 1) == 0 {
-            left += 1;
+            left = left.saturating_add(1);
         }
     }
     Ok((sets.count(), left))
