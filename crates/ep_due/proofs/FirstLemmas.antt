@@ -1,9 +1,9 @@
 -- The top of a heap is its least.
-use Rattle.std.proofs.Common.{◌≡◌, ℕ, zero, suc, ◌/◌, ◌<◌, ◌≤◌, List, length, Option, Some, None, sym, ap, ◌∙◌, subst, arith}
+use Rattle.std.proofs.Common.{◌≡◌, ℕ, zero, suc, ◌/◌, ◌<◌, ◌≤◌, List, length, MatchOption, Option, Some, None, sym, ap, ◌∙◌, subst, arith}
 use Rattle.ep_due.specs.declared.heap.Item.{Item}
 use Rattle.ep_due.specs.Order.{NoLater}
 use Rattle.ep_due.specs.Heap.{item_at, key, index_of, IsOrdered}
-use Rattle.ep_due.specs.DueQueue.{moment_in_use, moments, moment_at, IsHeap, IsLeastDue, HasNoneDue}
+use Rattle.ep_due.specs.DueQueue.{moment_in_use, moments, moment_at, IsHeap, IsLeastDue, IsLeastMoment, HasNoMoments, HasNoneDue}
 use Rattle.ep_due.proofs.OrderLemmas.{no_later_same, no_later_over, some_before}
 use Rattle.ep_due.proofs.ViewLemmas.{used, moments_in, in_use}
 
@@ -20,14 +20,10 @@ top_before live heap places h q m e =
     let o : NoLater (key heap 0) (Some m) = subst (λ (v : Option ℕ). NoLater (key heap 0) v) u.2 (least_by live heap h.ordered (index_of places q) (index_of places q) (omega arith) inner) in
     (omega (arith, inner), some_before (key heap 0) m o)
 
--- no place has a moment
-abbrev HasNone : List (Option (Option ℕ)) → Type 0
-HasNone v = (p m : ℕ) → moment_at v p ≡ Some (Some m) → ⊥
-
-has_none_empty : (live : ℕ) (heap : List Item) (places : List ℕ) → IsHeap live heap places → live ≡ 0 → HasNone (moments live heap places)
+pub has_none_empty : (live : ℕ) (heap : List Item) (places : List ℕ) → IsHeap live heap places → live ≡ 0 → HasNoMoments (moments live heap places)
 has_none_empty live heap places h none q m e = let t = (top_before live heap places h q m e).0 in absurd (omega arith)
 
-has_none_top : (live : ℕ) (heap : List Item) (places : List ℕ) → IsHeap live heap places → key heap 0 ≡ None → HasNone (moments live heap places)
+has_none_top : (live : ℕ) (heap : List Item) (places : List ℕ) → IsHeap live heap places → key heap 0 ≡ None → HasNoMoments (moments live heap places)
 has_none_top live heap places h none q m e =
     let t = (top_before live heap places h q m e).1 in
     let f : None ≡ Some t.0 = sym none ∙ t.1 in
@@ -66,3 +62,12 @@ none_due_empty live heap places now h none q m e = absurd (has_none_empty live h
 
 pub none_due_top : (live : ℕ) (heap : List Item) (places : List ℕ) (now : ℕ) → IsHeap live heap places → key heap 0 ≡ None → HasNoneDue (moments live heap places) now
 none_due_top live heap places now h none q m e = absurd (has_none_top live heap places h none q m e)
+
+-- the top has the least moment, and none where no place has one
+pub earliest_top : (live : ℕ) (heap : List Item) (places : List ℕ) → IsHeap live heap places → 0 < live → (o : Option ℕ) → key heap 0 ≡ o → MatchOption o (HasNoMoments (moments live heap places)) (λ m. IsLeastMoment (moments live heap places) m)
+earliest_top live heap places h pos None top = has_none_top live heap places h top
+earliest_top live heap places h pos (Some m) top = record {
+  place = (item_at heap 0).place;
+  its = top_is live heap places m h pos top;
+  least = top_least live heap places m h top;
+}

@@ -1,9 +1,9 @@
 -- The value as a map, after a place is made.
-use Rattle.std.proofs.Common.{◌≡◌, ◌≢◌, ℕ, ◌<◌, ◌≤◌, List, [], ◌∷◌, ◌++◌, length, set, Option, Some, None, sym, ap, ◌∙◌, inl, inr, arith, length-append, if◌then◌else◌, nat_lt}
+use Rattle.std.proofs.Common.{◌≡◌, ◌≢◌, ℕ, ◌<◌, ◌≤◌, List, [], ◌∷◌, ◌++◌, length, set, Option, Some, None, sym, ap, ◌∙◌, inl, inr, arith, length-append, length-set, if◌then◌else◌, nat_lt}
 use Rattle.std.proofs.lemmas.Bool.{cases_lt, lt-ltb, le-ltb}
 use Rattle.std.proofs.lemmas.List.{get_or_past, get_or-set_same, get_or-set_other, get_or_append_left}
 use Rattle.std.proofs.Math.Seq.{get_or-append_seam}
-use Rattle.ep_due.specs.DueQueue.{moment_at, GainsPlace}
+use Rattle.ep_due.specs.DueQueue.{moment_at, GainsPlace, HasFreePlace}
 
 -- the place with no moment, beside the others
 abbrev pub with_place : List (Option (Option ℕ)) → ℕ → List (Option (Option ℕ))
@@ -48,3 +48,10 @@ gains_place old new p e = record {
   here = ap (λ w. moment_at w p) e.value ∙ made_at old p e.near;
   others = λ q ne. ap (λ w. moment_at w q) e.value ∙ kept_at old p e.near q ne;
 }
+
+-- a place that was dropped is free
+pub free_dropped : (v : List (Option (Option ℕ))) (p : ℕ) (x : Option ℕ) → moment_at v p ≡ Some x → HasFreePlace (set v p None)
+free_dropped v p x e = elim (cases_lt p (length v)) [
+  | inl l ↦ (p, omega (arith, l, length-set v p None), get_or-set_same v p None None l)
+  | inr g ↦ absurd (let f : None ≡ Some x = sym (get_or_past v p None g) ∙ e in cc)
+]

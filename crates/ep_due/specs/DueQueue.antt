@@ -41,3 +41,13 @@ pub record IsLeastDue (v : List (Option (Option ℕ))) (now p : ℕ) : Type 0 wh
 -- a number that was a place and is none now
 abbrev pub HasFreePlace : List (Option (Option ℕ)) → Type 0
 HasFreePlace v = (p : ℕ) × (p < length v) × (moment_at v p ≡ None)
+
+-- no place has a moment
+abbrev pub HasNoMoments : List (Option (Option ℕ)) → Type 0
+HasNoMoments v = (p m : ℕ) → moment_at v p ≡ Some (Some m) → ⊥
+
+-- a place has this moment, and none has a smaller one
+pub record IsLeastMoment (v : List (Option (Option ℕ))) (moment : ℕ) : Type 0 where
+  pub place : ℕ
+  pub its : moment_at v place ≡ Some (Some moment)
+  pub least : (q m : ℕ) → moment_at v q ≡ Some (Some m) → moment ≤ m

@@ -1,6 +1,6 @@
 //! The due queue: places, each with a moment or none.
 ghost use Rattle.std.specs.Prelude.{◌≡◌, [], Some, None, IsSome, IsOk, OnErr, IfOk, MatchOption, slice_set};
-ghost use Rattle.ep_due.specs.DueQueue.{GainsPlace, HasFreePlace, HasNoneDue, IsLeastDue, moment_at};
+ghost use Rattle.ep_due.specs.DueQueue.{GainsPlace, HasFreePlace, HasNoMoments, HasNoneDue, IsLeastDue, IsLeastMoment, moment_at};
 
 use crate::heap::{Item, put, withdraw};
 use std::alloc::{AllocError, Allocator, Global};
@@ -119,5 +119,17 @@ impl<A: Allocator> DueQueue<A> {
             Some(moment) if moment <= now => Some(DuePlace(first.place)),
             _ => None,
         }
+    }
+
+    /// The least moment of all; `None` exactly where no place has one. It takes constant time.
+    pub fn earliest(&self) -> Option<u64>
+        ensures { MatchOption result (HasNoMoments self.now) (λ m. IsLeastMoment self.now m) }
+    {
+        let _kept = &self.places;
+        if self.live == 0 {
+            return None;
+        }
+        let top = self.heap[0];
+        top.moment
     }
 }

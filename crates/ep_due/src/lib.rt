@@ -2,8 +2,10 @@
 #![tactic(auto)]
 
 mod due;
+mod due_map;
 mod heap;
 mod tick;
 
 pub use crate::due::{DuePlace, DueQueue};
+pub use crate::due_map::DueMap;
 pub use crate::tick::take_due;

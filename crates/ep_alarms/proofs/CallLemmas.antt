@@ -1,0 +1,124 @@
+-- Which timers a call on the tables alone leaves as they were.
+use Rattle.std.proofs.Common.{◌≡◌, ◌≢◌, ◌∙◌, ◌++◌, ◌<◌, ℕ, ℤ, Bool, true, false, pos, negsuc, IsSome, List, [], ◌∷◌, None, Option, Some, ap, arith, cond, inl, inr, is_some, length, length-append, refl, slice_index_or, sym, unwrap_or}
+use Rattle.std.proofs.Math.Seq.{get_or-append_seam}
+use Rattle.std.proofs.lemmas.Bool.{cases_eq, cases_lt}
+use Rattle.std.proofs.lemmas.List.{get_or_append_left, get_or_past}
+use Rattle.ep_base.specs.declared.call.Call.TheVariants.{Close, Dup, Dup2, EpollCreate, EpollCtl, EpollWait, EventFd, Exec, Exit, Fork, GetTime, Pipe as PipeCall, Plain, Read, SetTime, Shutdown, SocketPair, TimerFd, Write}
+use Rattle.ep_base.specs.declared.object.End.{End}
+use Rattle.ep_base.specs.declared.object.End.TheVariants.{First, Second}
+use Rattle.ep_machine.specs.Files.{Files, Place, named_by, numbers_of, object_at, place_of}
+use Rattle.ep_machine.specs.Lists.{place_at}
+use Rattle.ep_machine.specs.Objects.{Object, counter, instance, pair, pipe, plain, timer}
+use Rattle.ep_machine.specs.Tables.{create_one, create_two, describe, dup2, new_object, same_number, slot, with_table}
+use Rattle.ep_machine.specs.Pipe.{new_pipe}
+use Rattle.ep_machine.specs.Sockets.{new_pair}
+use Rattle.ep_machine.specs.Timer.{Timer, new_timer}
+use Rattle.ep_alarms.specs.Calls.{HaveObjects, MadeAloneLaw, MadeLaw, OtherCallsLaw}
+use Rattle.ep_alarms.specs.Kept.{timer_in}
+use Rattle.ep_alarms.specs.Timers.{timer_of}
+
+within : (xs : List (Option Object)) (k : ℕ) → IsSome (slice_index_or xs k None) → k < length xs
+within xs k h = elim (cases_lt k (length xs)) [
+  | inl l ↦ l
+  | inr past ↦ absurd (let e : is_some (slice_index_or xs k None) ≡ false = ap is_some (get_or_past xs k None past) in cc)
+]
+
+module _ (f : Files) (x : Object) (objects : HaveObjects f) where
+  with_one : (d : ℕ) → timer_in (new_object f x) d ≡ timer_in f d
+  with_one d = by_place (place_of f d) refl where
+    by_place : (o : Option Place) → place_of f d ≡ o → timer_in (new_object f x) d ≡ timer_in f d
+    by_place None is =
+        ap (λ (q : Option Place). timer_of (unwrap_or (object_at (new_object f x) q) plain)) is ∙ sym (ap (λ (q : Option Place). timer_of (unwrap_or (object_at f q) plain)) is)
+    by_place (Some p) is =
+        ap (λ (q : Option Place). timer_of (unwrap_or (object_at (new_object f x) q) plain)) is
+        ∙ (ap (λ (q : Option Object). timer_of (unwrap_or q plain)) (get_or_append_left f.objects (Some x ∷ []) None p.object (within f.objects p.object (objects d p is)))
+        ∙ sym (ap (λ (q : Option Place). timer_of (unwrap_or (object_at f q) plain)) is))
+
+abbrev pub timer_placed : List (Option Object) → Option Place → Option Timer
+timer_placed xs None = None
+timer_placed xs (Some p) = timer_of (unwrap_or (slice_index_or xs p.object None) plain)
+
+pub placed_is : (f : Files) (o : Option Place) → timer_of (unwrap_or (object_at f o) plain) ≡ timer_placed f.objects o
+placed_is f None = refl
+placed_is f (Some p) = refl
+
+-- a new description, and the others as they were
+module _ (f : Files) (p k : ℕ) (e : End) (cloexec : Bool) where
+  described : (d : ℕ) → d ≢ length f.descriptions → timer_in (describe f p k e cloexec) d ≡ timer_in f d
+  described d ne =
+      let more : List (Option Place) = Some (record { object = k; side = e }) ∷ [] in
+      let same : place_of (describe f p k e cloexec) d ≡ place_of f d = elim (cases_lt d (length f.descriptions)) [
+        | inl l ↦ get_or_append_left f.descriptions more None d l
+        | inr past ↦ get_or_past (f.descriptions ++ more) d None (let n = length-append f.descriptions more in omega (arith, past, ne, n)) ∙ sym (get_or_past f.descriptions d None past)
+      ] in
+      placed_is (describe f p k e cloexec) (place_of (describe f p k e cloexec) d) ∙ (ap (timer_placed f.objects) same ∙ sym (placed_is f (place_of f d)))
+
+  described_last : timer_in (describe f p k e cloexec) (length f.descriptions) ≡ timer_of (unwrap_or (slice_index_or f.objects k None) plain)
+  described_last =
+      placed_is (describe f p k e cloexec) (place_of (describe f p k e cloexec) (length f.descriptions))
+      ∙ ap (timer_placed f.objects) (get_or-append_seam f.descriptions (Some (record { object = k; side = e })) [] None)
+
+  past_none : timer_in f (length f.descriptions) ≡ None
+  past_none = placed_is f (place_of f (length f.descriptions)) ∙ ap (timer_placed f.objects) (get_or_past f.descriptions (length f.descriptions) None (omega arith))
+
+last_object : (f : Files) (x : Object) → timer_of (unwrap_or (slice_index_or (new_object f x).objects (length f.objects) None) plain) ≡ timer_of x
+last_object f x = ap (λ (q : Option Object). timer_of (unwrap_or q plain)) (get_or-append_seam f.objects (Some x) [] None)
+
+-- an object with one description
+pub one_made : (f : Files) (x : Object) (p : ℕ) (cloexec : Bool) → HaveObjects f → (d : ℕ) → d ≢ length f.descriptions → timer_in (create_one f p x cloexec) d ≡ timer_in f d
+one_made f x p cloexec objects d ne = described (new_object f x) p (length f.objects) First cloexec d ne ∙ with_one f x objects d
+
+pub one_is : (f : Files) (x : Object) (p : ℕ) (cloexec : Bool) → timer_in (create_one f p x cloexec) (length f.descriptions) ≡ timer_of x
+one_is f x p cloexec = described_last (new_object f x) p (length f.objects) First cloexec ∙ last_object f x
+
+pub one_other : (f : Files) (x : Object) (p : ℕ) (cloexec : Bool) → HaveObjects f → timer_of x ≡ None → (d : ℕ) → timer_in (create_one f p x cloexec) d ≡ timer_in f d
+one_other f x p cloexec objects none d = elim (cases_eq d (length f.descriptions)) [
+  | inl is ↦ ap (timer_in (create_one f p x cloexec)) is ∙ (one_is f x p cloexec ∙ (none ∙ (sym (past_none f p 0 First cloexec) ∙ sym (ap (timer_in f) is))))
+  | inr ne ↦ one_made f x p cloexec objects d ne
+]
+
+-- an object with two
+pub two_other : (f : Files) (x : Object) (p : ℕ) (cloexec : Bool) → HaveObjects f → timer_of x ≡ None → (d : ℕ) → timer_in (create_two f p x cloexec) d ≡ timer_in f d
+two_other f x p cloexec objects none d =
+    let g = create_one f p x cloexec in
+    let last : timer_in (describe g p (length f.objects) Second cloexec) (length g.descriptions) ≡ timer_in g (length g.descriptions) =
+    described_last g p (length f.objects) Second cloexec ∙ (last_object f x ∙ (none ∙ sym (past_none g p 0 First cloexec))) in
+    elim (cases_eq d (length g.descriptions)) [
+      | inl is ↦ ap (timer_in (create_two f p x cloexec)) is ∙ (last ∙ (sym (ap (timer_in g) is) ∙ one_other f x p cloexec objects none d))
+      | inr ne ↦ described g p (length f.objects) Second cloexec d ne ∙ one_other f x p cloexec objects none d
+    ]
+
+-- another name of a description
+name_again : (f : Files) (p : ℕ) (fd to : ℤ) (e : ℕ) (d : ℕ) → timer_in (dup2 f p fd to e) d ≡ timer_in f d
+name_again f p fd (negsuc k) e d = refl
+name_again f p fd (pos k) e d = by_test (same_number fd (pos k)) where
+  by_test : (b : Bool) → timer_in (cond b f (with_table f p (place_at (numbers_of f p) k (slot e false)))) d ≡ timer_in f d
+  by_test true = refl
+  by_test false = refl
+
+pub others_left : OtherCallsLaw
+others_left limits f p busy (PipeCall cloexec) objects is d = two_other f (pipe (new_pipe limits.pipe_bytes)) p cloexec objects refl d
+others_left limits f p busy (SocketPair cloexec) objects is d = two_other f (pair (new_pair limits.sock_bytes)) p cloexec objects refl d
+others_left limits f p busy (EventFd init semaphore cloexec) objects is d = one_other f (counter (record { count = init; is_semaphore = semaphore })) p cloexec objects refl d
+others_left limits f p busy (Plain cloexec) objects is d = one_other f plain p cloexec objects refl d
+others_left limits f p busy (EpollCreate cloexec) objects is d = one_other f instance p cloexec objects refl d
+others_left limits f p busy (Dup fd) objects is d = refl
+others_left limits f p busy (Dup2 fd to) objects is d = name_again f p fd.0 to.0 (named_by f p fd.0) d
+others_left limits f p busy (Close fd) objects is d = refl
+others_left limits f p busy Fork objects is d = refl
+others_left limits f p busy Exec objects is d = refl
+others_left limits f p busy Exit objects is d = refl
+others_left limits f p busy (TimerFd clock cloexec) objects is d = absurd is
+others_left limits f p busy (EpollCtl epfd op fd mask tag) objects is d = absurd is
+others_left limits f p busy (EpollWait epfd most timeout) objects is d = absurd is
+others_left limits f p busy (Read fd n) objects is d = absurd is
+others_left limits f p busy (Write fd bytes) objects is d = absurd is
+others_left limits f p busy (Shutdown fd) objects is d = absurd is
+others_left limits f p busy (SetTime fd absolute value interval) objects is d = absurd is
+others_left limits f p busy (GetTime fd) objects is d = absurd is
+
+pub timer_made : MadeLaw
+timer_made limits f p busy clock cloexec = one_is f (timer new_timer) p cloexec
+
+pub made_alone : MadeAloneLaw
+made_alone limits f p busy clock cloexec objects d ne = one_made f (timer new_timer) p cloexec objects d ne

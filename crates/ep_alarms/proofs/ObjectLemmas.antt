@@ -1,0 +1,137 @@
+-- Which timers a call on an object leaves as they were.
+use Rattle.std.proofs.Common.{◌≡◌, ◌≢◌, ◌∙◌, ℕ, Bool, true, List, None, Option, Some, ap, is_some, refl, slice_index_or, sym, unwrap_or}
+use Rattle.ep_base.specs.declared.call.Call.{Call}
+use Rattle.ep_base.specs.declared.call.Call.TheVariants.{Close, Dup, Dup2, EpollCreate, EpollCtl, EpollWait, EventFd, Exec, Exit, Fork, GetTime, Pipe as PipeCall, Plain, Read, SetTime, Shutdown, SocketPair, TimerFd, Write}
+use Rattle.ep_base.specs.declared.object.End.{End}
+use Rattle.ep_base.specs.declared.object.End.TheVariants.{First, Second}
+use Rattle.ep_law.proofs.EndLemmas.{set_object}
+use Rattle.ep_machine.specs.Files.{Files, Place, object_at, object_number, place_of, side_of}
+use Rattle.ep_machine.specs.Objects.{Object, counter, gettime, instance, object_effect, pair, pipe, plain, read, settime, shutdown, timer, write}
+use Rattle.ep_machine.specs.Tables.{affected}
+use Rattle.ep_machine.specs.Timer.{Timer}
+use Rattle.ep_object.specs.Law.{object_has}
+use Rattle.ep_alarms.proofs.CallLemmas.{placed_is, timer_placed}
+use Rattle.ep_alarms.specs.Calls.{HaveOwnEnds, ObjectCallsLaw}
+use Rattle.ep_alarms.specs.Kept.{timer_in}
+use Rattle.ep_alarms.specs.Timers.{timer_of}
+use Rattle.ep_table.specs.Value.{content_of}
+
+-- what is no timer stays none
+read_none : (x : Object) (e : End) (n now : ℕ) → timer_of x ≡ None → timer_of (read x e n now).1 ≡ None
+read_none plain e n now h = refl
+read_none (pipe p) e n now h = refl
+read_none (pair p) e n now h = refl
+read_none (counter c) e n now h = refl
+read_none (timer t) e n now h = absurd cc
+read_none instance e n now h = refl
+
+write_none : (x : Object) (e : End) (bytes : List ℕ) → timer_of x ≡ None → timer_of (write x e bytes).1 ≡ None
+write_none plain e bytes h = refl
+write_none (pipe p) e bytes h = refl
+write_none (pair p) e bytes h = refl
+write_none (counter c) e bytes h = refl
+write_none (timer t) e bytes h = absurd cc
+write_none instance e bytes h = refl
+
+shutdown_none : (x : Object) (e : End) → timer_of x ≡ None → timer_of (shutdown x e).1 ≡ None
+shutdown_none plain e h = refl
+shutdown_none (pipe p) e h = refl
+shutdown_none (pair p) e h = refl
+shutdown_none (counter c) e h = refl
+shutdown_none (timer t) e h = absurd cc
+shutdown_none instance e h = refl
+
+settime_none : (x : Object) (absolute : Bool) (value interval now : ℕ) → timer_of x ≡ None → timer_of (settime x absolute value interval now).1 ≡ None
+settime_none plain absolute value interval now h = refl
+settime_none (pipe p) absolute value interval now h = refl
+settime_none (pair p) absolute value interval now h = refl
+settime_none (counter c) absolute value interval now h = refl
+settime_none (timer t) absolute value interval now h = absurd cc
+settime_none instance absolute value interval now h = refl
+
+gettime_none : (x : Object) (now : ℕ) → timer_of x ≡ None → timer_of (gettime x now).1 ≡ None
+gettime_none plain now h = refl
+gettime_none (pipe p) now h = refl
+gettime_none (pair p) now h = refl
+gettime_none (counter c) now h = refl
+gettime_none (timer t) now h = absurd cc
+gettime_none instance now h = refl
+
+effect_none : (x : Object) (e : End) (now : ℕ) (call : Call) → timer_of x ≡ None → timer_of (object_effect x e now call).1 ≡ None
+effect_none x e now (Read fd n) h = read_none x e n now h
+effect_none x e now (Write fd bytes) h = write_none x e bytes h
+effect_none x e now (Shutdown fd) h = shutdown_none x e h
+effect_none x e now (SetTime fd absolute value interval) h = settime_none x absolute value interval now h
+effect_none x e now (GetTime fd) h = gettime_none x now h
+effect_none x e now (PipeCall cloexec) h = h
+effect_none x e now (SocketPair cloexec) h = h
+effect_none x e now (EventFd init semaphore cloexec) h = h
+effect_none x e now (TimerFd clock cloexec) h = h
+effect_none x e now (Plain cloexec) h = h
+effect_none x e now (EpollCreate cloexec) h = h
+effect_none x e now (Dup fd) h = h
+effect_none x e now (Dup2 fd to) h = h
+effect_none x e now (Close fd) h = h
+effect_none x e now Fork h = h
+effect_none x e now Exec h = h
+effect_none x e now Exit h = h
+effect_none x e now (EpollCtl epfd op fd mask tag) h = h
+effect_none x e now (EpollWait epfd most timeout) h = h
+
+-- a timer has its first end alone
+first_end : (x : Object) (e : End) (t : Timer) → timer_of x ≡ Some t → object_has x e ≡ true → e ≡ First
+first_end (timer u) First t is h = refl
+first_end (timer u) Second t is h = absurd cc
+first_end plain e t is h = absurd cc
+first_end (pipe p) e t is h = absurd cc
+first_end (pair p) e t is h = absurd cc
+first_end (counter c) e t is h = absurd cc
+first_end instance e t is h = absurd cc
+
+abbrev there : Files → ℕ → Object
+there f k = unwrap_or (slice_index_or f.objects k None) plain
+
+a_place : (o : Option Place) → is_some o ≡ true → (p : Place) × (o ≡ Some p)
+a_place None h = absurd cc
+a_place (Some p) h = (p, refl)
+
+same_place : (p q : Place) → p.object ≡ q.object → p.side ≡ q.side → p ≡ q
+same_place p q a b = λ i. record { object = a i; side = b i }
+
+module _ (f : Files) (number now : ℕ) (call : Call) (own : HaveOwnEnds f) (q : Place) (its : place_of f number ≡ Some q) where
+  abbrev after : Object
+  after = (object_effect (content_of f number) (side_of f number) now call).1
+
+  abbrev g : Files
+  g = affected f number (object_effect (content_of f number) (side_of f number) now call)
+
+  content : content_of f number ≡ there f q.object
+  content = ap (λ (o : Option Place). unwrap_or (object_at f o) plain) its
+
+  no_timer : (d : ℕ) → d ≢ number → (p : Place) → place_of f d ≡ Some p → p.object ≡ q.object → (t : Option Timer) → timer_of (there f p.object) ≡ t → t ≡ None
+  no_timer d ne p is same None at = refl
+  no_timer d ne p is same (Some t) at =
+      let at_q : timer_of (there f q.object) ≡ Some t = ap (λ (k : ℕ). timer_of (there f k)) (sym same) ∙ at in
+      let sides : p.side ≡ q.side = first_end (there f p.object) p.side t at (own.ends d p is) ∙ sym (first_end (there f q.object) q.side t at_q (own.ends number q its)) in
+      absurd (ne (own.apart d number q (is ∙ ap (λ (r : Place). Some r) (same_place p q same sides)) its))
+
+  timer_stays : (d : ℕ) → d ≢ number → (p : Place) → place_of f d ≡ Some p → timer_of (there g p.object) ≡ timer_of (there f p.object)
+  timer_stays d ne p is =
+      let target = object_number (place_of f number) in
+      set_object (λ (y : Object). timer_of y ≡ timer_of (there f p.object)) f.objects target p.object (Some after)
+      (λ e.
+      let same : p.object ≡ q.object = e ∙ ap object_number its in
+      let none : timer_of (there f p.object) ≡ None = no_timer d ne p is same (timer_of (there f p.object)) refl in
+      let held : timer_of (content_of f number) ≡ None = ap timer_of content ∙ (ap (λ (k : ℕ). timer_of (there f k)) (sym same) ∙ none) in
+      effect_none (content_of f number) (side_of f number) now call held ∙ sym none)
+      refl
+
+  by_place : (d : ℕ) → d ≢ number → (o : Option Place) → place_of f d ≡ o → timer_placed g.objects o ≡ timer_placed f.objects o
+  by_place d ne None is = refl
+  by_place d ne (Some p) is = timer_stays d ne p is
+
+  other_stays : (d : ℕ) → d ≢ number → timer_in g d ≡ timer_in f d
+  other_stays d ne = placed_is g (place_of f d) ∙ (by_place d ne (place_of f d) refl ∙ sym (placed_is f (place_of f d)))
+
+pub object_calls_leave : ObjectCallsLaw
+object_calls_leave f number now call own lives d ne = let p = a_place (place_of f number) lives in other_stays f number now call own p.0 p.1 d ne

@@ -1,0 +1,5 @@
+pub mod Timers
+pub mod Alarms
+pub mod Law
+pub mod Kept
+pub mod Calls

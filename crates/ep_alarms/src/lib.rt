@@ -1,0 +1,11 @@
+//! When the clock next raises IN at each live timer, the earliest at hand, so that the clock's going on touches the timers alone
+//! whose moment has come.
+#![tactic(auto)]
+
+mod alarms;
+mod law;
+
+pub use crate::alarms::Alarms;
+pub use crate::law::{
+    burial_leaves_alarms, calls_leave_alarms, object_calls_leave_timers, table_calls_leave_timers,
+};
