@@ -39,7 +39,10 @@ fn command<'a>(alloc: Global) -> Result<Command<'a>, AllocError> {
 
 /// The text of `--limits` in the words of the command line, the program's name first, where it is
 /// there. What `--help` and `--version` print is an `Err`, too, each with a kind of its own.
-pub fn limits_word<'a>(alloc: Global, words: &'a [String]) -> Result<Option<&'a str>, Error> {
+pub(crate) fn limits_word<'a>(
+    alloc: Global,
+    words: &'a [String],
+) -> Result<Option<&'a str>, Error> {
     let matches = command(alloc)?.try_get_matches_from(words)?;
     Ok(matches.get_str("limits"))
 }

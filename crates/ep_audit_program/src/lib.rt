@@ -5,5 +5,4 @@
 mod command_line;
 mod program;
 
-pub use crate::command_line::limits_word;
 pub use crate::program::{no_words, run_with};

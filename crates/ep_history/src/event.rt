@@ -1,16 +1,16 @@
 //! An event to its object, and back.
 ghost use Rattle.std.specs.Prelude.{◌≡◌, IfOk, Some};
 ghost use Rattle.serde_json.specs.View.{view};
-ghost use Rattle.ep_base.specs.declared.call.Event.TheVariants.{Call as CallOf, Tick};
+ghost use Rattle.ep_base.specs.declared.call.Event.TheVariants.{Call as CallOf};
 ghost use Rattle.ep_history.specs.Fields.{named};
 ghost use Rattle.ep_history.specs.Records.{call_event, event_data, event_of, other_events};
 
-use crate::answer_value::flag_value;
+use crate::answer_value::{flag_value, tagged_value};
 use crate::call_value::call_value;
 use crate::fields::{required_u64, single, size};
 use crate::read_call::call_of;
 use ep_base::{Call, Event, Pid};
-use serde_json::{Map, Value, json, put};
+use serde_json::{Map, Value, put};
 use std::alloc::{AllocError, Global};
 
 fn call_event_value(alloc: Global, pid: Pid, call: &Call) -> Result<Value, AllocError>
@@ -24,12 +24,6 @@ fn call_event_value(alloc: Global, pid: Pid, call: &Call) -> Result<Value, Alloc
     Ok(Value::Object(members))
 }
 
-fn tick_value(alloc: Global, n: u64) -> Result<Value, AllocError>
-    ensures { IfOk result (λ v. view v ≡ event_data (Tick n)) }
-{
-    json!(in alloc; {"tick": n})
-}
-
 /// The object of an event.
 pub(crate) fn event_value(alloc: Global, event: &Event) -> Result<Value, AllocError>
     ensures data { IfOk result (λ v. view v ≡ event_data event.now) }
@@ -38,7 +32,7 @@ pub(crate) fn event_value(alloc: Global, event: &Event) -> Result<Value, AllocEr
     match event {
         Event::Call { pid, call } => call_event_value(alloc, *pid, call),
         Event::Resume => flag_value(alloc, "resume"),
-        Event::Tick { n } => tick_value(alloc, *n),
+        Event::Tick { n } => tagged_value(alloc, "tick", Value::from(*n)),
     }
 }
 

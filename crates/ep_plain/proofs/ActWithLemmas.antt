@@ -26,7 +26,7 @@ use Rattle.ep_calls.specs.Wait.{wait_call}
 use Rattle.ep_calls.specs.declared.outcome.Outcome.{Outcome}
 use Rattle.ep_calls.specs.declared.wait.Wait.{Wait}
 use Rattle.ep_plain.proofs.WaitingLemmas.{resume_goes, wait_goes}
-use Rattle.ep_plain.specs.These.{AsksFor, CallsWait, MayGo, MayPick, PicksThese, Resumes, WherePicked, goes_with}
+use Rattle.ep_plain.specs.These.{AsksFor, CallsWait, MayGo, MayPick, MayReport, PicksThese, Resumes, WherePicked, goes_with}
 
 -- from states of which more holds
 pub does_where : (Also Other : State → Type 0) (n : ℕ) (tests : State → List (Bool × Errno)) (changed : State → List ℕ → Option Change) (outcome : Outcome) (old new : Parts)
@@ -106,3 +106,13 @@ none_picks p new n caller event picks outcome asks does = λ s at sound quiet le
     let limits = p.tables.limits in
     let some : goes_with limits caller event outcome.picked s ≡ true = goes_some (first (refusals limits s caller event)) (change limits s caller event outcome.picked) s outcome.answer outcome.picked new (does.moves s at sound quiet legal stands) in
     is_none_of outcome.picked (sym (asks s sound legal stands outcome.picked) ∙ some) ∙ sym (is_none_of picks (sym (asks s sound legal stands picks) ∙ goes))
+
+-- from every state, where nothing is asked of it
+pub does_always : (n caller : ℕ) (event : Event) (outcome : Outcome) (old new : Parts) → DoesEvent n caller event outcome old new → DoesEventIf (MayReport old caller event None) n caller event outcome old new
+does_always n caller event outcome old new does = record {
+  moves = λ s at sound quiet legal stands _. does.moves s at sound quiet legal stands;
+  raises = λ s at sound quiet legal stands _. does.raises s at sound quiet legal stands;
+  raising = does.raising;
+  limits = does.limits;
+  keys = does.keys;
+}

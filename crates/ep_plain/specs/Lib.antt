@@ -6,3 +6,4 @@ pub mod Since
 pub mod Pick
 pub mod These
 pub mod StepWith
+pub mod Ends

@@ -1,6 +1,6 @@
 -- A step whose report is of given registrations.
 use Rattle.std.specs.List.{find, list_any}
-use Rattle.std.specs.Prelude.{◌≡◌, Bool, List, None, Option, Some, false, is_some, true, ℕ}
+use Rattle.std.specs.Prelude.{◌≡◌, Bool, IfSome, List, None, Option, Some, false, is_some, true, ℕ}
 use Rattle.ep_base.specs.Limits.{Limits}
 use Rattle.ep_base.specs.declared.call.Call.{Call}
 use Rattle.ep_base.specs.declared.call.Event.{Event}
@@ -76,3 +76,10 @@ MayGo p caller event picks s = goes_with p.tables.limits caller event picks s �
 -- where it has, these are what is picked
 abbrev pub PicksThese : ℕ → Parts → ℕ → Event → List ℕ → List ℕ → Type 0
 PicksThese n p caller event picks picked = MovesIf (MayGo p caller event picks) n p (λ s. picked ≡ picks)
+
+-- the same of what is given, if anything is
+abbrev pub MayReport : Parts → ℕ → Event → Option (List ℕ) → State → Type 0
+MayReport p caller event given s = IfSome given (λ picks. MayGo p caller event picks s)
+
+abbrev pub ReportsThese : ℕ → Parts → ℕ → Event → Option (List ℕ) → List ℕ → Type 0
+ReportsThese n p caller event given picked = IfSome given (λ picks. PicksThese n p caller event picks picked)

@@ -7,6 +7,7 @@ mod climb;
 mod mark;
 mod pick;
 mod plain;
+mod settle;
 mod since;
 mod these;
 mod wait;

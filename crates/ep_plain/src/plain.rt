@@ -1,14 +1,12 @@
 //! The kernel that scans.
-ghost use Rattle.std.specs.Prelude.{◌≡◌, ◌≤◌, [], IfOk, OnErr, false, is_some, true};
+ghost use Rattle.std.specs.Prelude.{◌≡◌, ◌≤◌, [], IfOk, IfSome, OnErr, false, is_some, option_copied, true};
 ghost use Rattle.ep_calls.specs.Acts.{Adds, is_no_memory};
 ghost use Rattle.ep_calls.specs.Book.{state_of};
 ghost use Rattle.ep_calls.specs.KeptRecords.{Gains, HasRecord};
 ghost use Rattle.ep_machine.specs.Step.{step as step_of};
-ghost use Rattle.ep_plain.specs.StepWith.{AddsWith, StepsWith};
+ghost use Rattle.ep_plain.specs.StepWith.{AddsBy, HasStep, StepsWith};
 
-use crate::act::act;
-use crate::climb::climb_instances;
-use crate::mark::mark_waiters;
+use crate::settle::settle;
 use crate::since::date;
 use crate::these::{act_with, allows};
 use ep_base::{Answer, CallerId, Errno, Event, Limits, Record};
@@ -53,17 +51,21 @@ impl PlainKernel {
         })
     }
 
-    /// One event. `kept`: what a second record of it is made of is asked for.
+    /// One event whose report is of these registrations, in this order, and of the longest unreported where none are
+    /// given: then `kept` asks for what a second record of it is made of.
     /// An `AllocError` has changed nothing, but that there may be more room for records.
     fn try_step(
         &mut self,
         caller: CallerId,
         event: Event,
+        picks: Option<&[u64]>,
         kept: bool,
     ) -> Result<(Answer, Option<Spare>), AllocError>
+        requires there { HasStep self.old.limits (state_of self.old) caller event (option_copied picks) }
+        requires kept { IfSome (option_copied picks) (λ _. kept ≡ false) }
         ensures limits { self.new.limits ≡ self.old.limits }
         ensures capacity { self.old.capacity ≤ self.new.capacity }
-        ensures ok { IfOk result (λ r. Adds self.old.limits caller event r.0 (state_of self.old) (state_of self.new) self.old.past self.new.past) }
+        ensures ok { IfOk result (λ r. AddsBy self.old.limits caller event (option_copied picks.entry) r.0 (state_of self.old) (state_of self.new) self.old.past self.new.past) }
         ensures real { IfOk result (λ r. is_no_memory r.0 ≡ false) }
         ensures spare { IfOk result (λ r. kept ≡ true → HasRecord caller event r.1 self.old.past self.new.past) }
         ensures err { OnErr result (self.new ≡ record self.old { capacity = self.new.capacity }) }
@@ -77,14 +79,9 @@ impl PlainKernel {
             picked,
             spare,
             raising,
-        } = act(&mut self.parts, step, caller, &event, kept)?;
+        } = act_with(&mut self.parts, step, caller, &event, picks, kept)?;
         let spare = Spare::of(kept, spare, &answer, &picked);
-        self.parts.known();
-        self.parts.raise(step, raising);
-        self.parts.bury(step);
-        self.parts.known();
-        climb_instances(&mut self.parts, step);
-        mark_waiters(&mut self.parts);
+        settle(&mut self.parts, step, raising);
         self.since.push_reserved(0);
         date(&self.parts, step, &mut self.since);
         self.history.push_reserved(Record {
@@ -103,48 +100,6 @@ impl PlainKernel {
         allows(&self.parts, &self.since, caller, event, picks)
     }
 
-    /// One event whose report is of these registrations, in this order.
-    /// An `AllocError` has changed nothing, but that there may be more room for records.
-    fn try_step_with(
-        &mut self,
-        caller: CallerId,
-        event: Event,
-        picks: &[u64],
-    ) -> Result<Answer, AllocError>
-        requires { is_some (step_of self.old.limits (state_of self.old) caller.0 event picks.now) ≡ true }
-        ensures limits { self.new.limits ≡ self.old.limits }
-        ensures capacity { self.old.capacity ≤ self.new.capacity }
-        ensures ok { IfOk result (λ answer. AddsWith self.old.limits caller event picks.now answer (state_of self.old) (state_of self.new) self.old.past self.new.past) }
-        ensures real { IfOk result (λ answer. is_no_memory answer ≡ false) }
-        ensures err { OnErr result (self.new ≡ record self.old { capacity = self.new.capacity }) }
-    {
-        self.history.reserve(1)?;
-        self.since.reserve(1)?;
-        let step = self.history.len() as u64 + 1;
-        let Outcome {
-            answer,
-            recorded,
-            picked,
-            spare: _,
-            raising,
-        } = act_with(&mut self.parts, step, caller, &event, picks)?;
-        self.parts.known();
-        self.parts.raise(step, raising);
-        self.parts.bury(step);
-        self.parts.known();
-        climb_instances(&mut self.parts, step);
-        mark_waiters(&mut self.parts);
-        self.since.push_reserved(0);
-        date(&self.parts, step, &mut self.since);
-        self.history.push_reserved(Record {
-            caller,
-            event,
-            answer: recorded,
-            picked,
-        });
-        Ok(answer)
-    }
-
     /// The step of an event whose report is of the registrations of these numbers, in this order; of none for an event
     /// that makes no report. `None` exactly where the machine has no such step, and then nothing changes.
     /// ENOMEM is want of memory: nothing changes, and there is such a step. In both cases there may be more room for
@@ -157,8 +112,8 @@ impl PlainKernel {
         if !self.has_step(caller, &event, picks) {
             return None;
         }
-        match self.try_step_with(caller, event, picks) {
-            Ok(answer) => Some(answer),
+        match self.try_step(caller, event, Some(picks), false) {
+            Ok((answer, _)) => Some(answer),
             Err(_) => Some(Answer::Refused(Errno::Enomem)),
         }
     }
@@ -181,7 +136,7 @@ impl PlainKernel {
     {
         let again = event.copy()?;
         kept.reserve(1)?;
-        let (answer, spare) = self.try_step(caller, event, true)?;
+        let (answer, spare) = self.try_step(caller, event, None, true)?;
         let Some(
             Spare {
                 answer: recorded,
@@ -211,7 +166,7 @@ impl Kernel for PlainKernel {
     ghost capacity = { λ book. book.capacity };
 
     fn step(&mut self, caller: CallerId, event: Event) -> Answer {
-        match self.try_step(caller, event, false) {
+        match self.try_step(caller, event, None, false) {
             Ok((answer, _)) => answer,
             Err(_) => Answer::Refused(Errno::Enomem),
         }

@@ -1,6 +1,6 @@
 //! Waits that report given registrations.
 ghost use Rattle.std.specs.List.{filter_map, find, list_any};
-ghost use Rattle.std.specs.Prelude.{◌≡◌, ◌==◌, ◌≤◌, IfOk, OnErr, Some, false, map, true};
+ghost use Rattle.std.specs.Prelude.{◌≡◌, ◌==◌, ◌≤◌, IfNone, IfOk, OnErr, Some, false, map, option_copied, true};
 ghost use Rattle.ep_base.specs.declared.call.Event.TheVariants.{Resume};
 ghost use Rattle.ep_interest.specs.Registrations.{numbered};
 ghost use Rattle.ep_law.specs.Sound.{Sound};
@@ -8,11 +8,12 @@ ghost use Rattle.ep_machine.specs.Timer.{last_moment};
 ghost use Rattle.ep_machine.specs.Watches.{number_in};
 ghost use Rattle.ep_park.specs.Waiters.{is_caller, parked};
 ghost use Rattle.ep_calls.specs.Does.{DoesCallIf, DoesEventIf};
+ghost use Rattle.ep_calls.specs.Kept.{KeepsEvent};
 ghost use Rattle.ep_calls.specs.Stands.{AreLinked};
 ghost use Rattle.ep_calls.specs.Wait.{AreKeyed, Waits, wait_call};
 ghost use Rattle.ep_plain.specs.Choose.{reportables_at};
 ghost use Rattle.ep_plain.specs.Since.{IsDated};
-ghost use Rattle.ep_plain.specs.These.{ForEach, MayGo, MayPick, PicksThese, WherePicked, goes_with};
+ghost use Rattle.ep_plain.specs.These.{ForEach, MayGo, MayPick, MayReport, PicksThese, ReportsThese, WherePicked, goes_with};
 
 use crate::act::act;
 use crate::choose::{most, reportables};
@@ -133,7 +134,7 @@ fn resume_these(
 }
 
 /// One event whose report is of these registrations, in this order. An `Err` is want of memory and leaves the parts.
-pub fn act_with(
+fn act_these(
     parts: &mut Parts,
     step: u64,
     caller: CallerId,
@@ -150,6 +151,27 @@ pub fn act_with(
         }
         Some(Waiting::Parked { waiter }) => resume_these(parts, step, caller, waiter, picks),
         None => act(parts, step, caller, event, false),
+    }
+}
+
+/// One event whose report is of these registrations, in this order, and of the longest unreported where none are given:
+/// then `kept` asks for what a second record of it is made of. An `Err` is want of memory and leaves the parts.
+pub fn act_with(
+    parts: &mut Parts,
+    step: u64,
+    caller: CallerId,
+    event: &Event,
+    picks: Option<&[u64]>,
+    kept: bool,
+) -> Result<Outcome, AllocError>
+    ensures ok { IfOk result (λ outcome. DoesEventIf (MayReport parts.old caller.0 event.now (option_copied picks.entry)) step caller.0 event.now outcome parts.old parts.new) }
+    ensures picked { IfOk result (λ outcome. ReportsThese step parts.old caller.0 event.now (option_copied picks.entry) outcome.picked) }
+    ensures kept { IfOk result (λ outcome. IfNone (option_copied picks.entry) (KeepsEvent event.now kept outcome)) }
+    ensures err { OnErr result (parts.new ≡ parts.old) }
+{
+    match picks {
+        None => act(parts, step, caller, event, kept),
+        Some(picks) => act_these(parts, step, caller, event, picks),
     }
 }
 

@@ -2,10 +2,11 @@
 ghost use Rattle.std.specs.Prelude.{◌≡◌};
 
 use crate::gates::{BothHere, Shut};
+use ep_audit::audit;
 use ep_base::{Answer, Buffer, Call, CallerId, Fd, Limits, Mask, Pid, Record};
 use ep_plain::PlainKernel;
 use ep_pool::{Gate, Job, PoolReport, Step, run_sessions};
-use ep_shared::{Session, Shared};
+use ep_shared::{History, Session, Shared};
 use std::alloc::{AllocError, Global};
 use std::marker::Brand;
 use std::sync::Wait;
@@ -169,6 +170,12 @@ fn run_both<L: Ledger + Send + Sync, R: Threads + Wait + Sync>(
     Ok(sessions)
 }
 
+/// A history of nine records, which is a run.
+fn is_whole(alloc: Global, history: &History) -> bool {
+    let records = history.records.as_slice();
+    records.len() == 9 && audit(alloc, &history.limits, records).is_ok()
+}
+
 fn one_wakes_the_other<L: Ledger + Send + Sync, R: Threads + Wait + Sync>(
     rt: &R,
     alloc: Global,
@@ -185,7 +192,7 @@ fn one_wakes_the_other<L: Ledger + Send + Sync, R: Threads + Wait + Sync>(
     let back = run_both(rt, alloc, &shared, two_jobs(alloc, one, two)?)?;
     check(are_told(&back))?;
     match shared.finish(back) {
-        Ok(history) => check(history.records.len() == 9),
+        Ok(history) => check(is_whole(alloc, &history)),
         Err(_) => Err(Fail::new("not finished")),
     }
 }

@@ -1,6 +1,7 @@
 //! Two sessions of one kernel, in one thread.
 ghost use Rattle.std.specs.Prelude.{◌≡◌};
 
+use ep_audit::audit;
 use ep_base::{Answer, Buffer, Call, CallerId, Errno, Fd, Limits, Mask, Pid, Record};
 use ep_plain::PlainKernel;
 use ep_shared::laws::same_parts;
@@ -191,14 +192,15 @@ fn count_of(records: &[Record], caller: CallerId) -> usize {
     records.iter().filter(|r| r.caller == caller).count()
 }
 
-/// A history of eight records.
-fn is_whole(finished: &Result<History, FinishFault>) -> bool {
+/// A history of eight records, which is a run.
+fn is_whole(alloc: Global, finished: &Result<History, FinishFault>) -> bool {
     match finished {
         Ok(history) => {
             let records = history.records.as_slice();
             records.len() == 8
                 && count_of(records, CallerId(1)) == 6
                 && count_of(records, CallerId(2)) == 2
+                && audit(alloc, &history.limits, records).is_ok()
         }
         Err(_) => false,
     }
@@ -211,7 +213,7 @@ fn all_come_back<L: Ledger, R: Wait>(rt: &R, alloc: Global, blank: Blank) -> Res
 {
     let (shared, sessions) = sessions_that_asked::<L, R>(rt, alloc, blank)?;
     let are_right = are_told(&sessions) && differs_without_the_last(alloc, &sessions);
-    check(is_whole(&shared.finish(sessions)) && are_right)
+    check(is_whole(alloc, &shared.finish(sessions)) && are_right)
 }
 
 fn one_is_missing<L: Ledger, R: Wait>(rt: &R, alloc: Global, blank: Blank) -> Result<(), Fail>

@@ -1,22 +1,35 @@
-use Rattle.std.proofs.Common.{◌≡◌, ◌<◌, ◌+◌, ◌++◌, [], ◌∷◌, List, ℕ, ap, length, ◌∙◌, arith, subst, sym, vec_capacity}
+use Rattle.std.proofs.Common.{◌≡◌, ◌<◌, ◌+◌, ◌++◌, [], ◌∷◌, List, ℕ, ap, length, ◌∙◌, arith, option_copied, subst, sym, vec_capacity}
 use Rattle.ep_base.specs.declared.record.Record.{Record}
 use Rattle.ep_machine.specs.Step.{next_event}
-use Rattle.ep_calls.specs.Acts.{Adds}
 use Rattle.ep_calls.specs.Book.{Book, state_of}
-use Rattle.ep_calls.proofs.KeepsLemmas.{DoesAt, Settles, adds_next, does_at, record_of}
+use Rattle.ep_calls.proofs.KeepsLemmas.{DoesAt, record_of}
 use Rattle.ep_calls.proofs.KeptLemmas.{inline_event}
+use Rattle.ep_calls.specs.Kept.{KeepsEvent}
 use Rattle.ep_calls.specs.Readiness.{entry_shows, readiness}
 use Rattle.ep_plain.specs.Since.{Dates}
 use Rattle.ep_plain.specs.Standing.{Standing, book_of}
-use Rattle.ep_plain.proofs.StandingLemmas.{room, standing_next}
+use Rattle.ep_plain.specs.StepWith.{AddsBy, HasStep}
+use Rattle.ep_plain.specs.These.{MayReport}
+use Rattle.ep_plain.proofs.StandingLemmas.{adds_by, does_with, kept_of, may_report, reports, room, standing_next}
 use Rattle.ep_plain.proofs.plain.PlainKernel.try_step.Goals as goal
 
 -- the number of the event
 number : (c : goal.After-push_reserved-2) → c.len.result + 1 ≡ length c.self.inside.history.items + 1
 number c = omega (arith, c.len.ensures, c.reserve.ensures.len)
 
-does : (c : goal.After-push_reserved-2) → DoesAt (next_event c.self.invariant.keeps.state) c.args.caller.0 c.args.event c.in_ok-answer.field-0 c.self.inside.parts c.act.new.parts
-does c = does_at c.self.inside.history.items c.self.inside.parts c.act.new.parts c.self.invariant.keeps (c.len.result + 1) c.args.caller.0 c.args.event c.in_ok-answer.field-0 (number c) c.in_ok-answer.ensures.ok
+-- the machine has a step that reports what is given
+may : (c : goal.After-push_reserved-2) → MayReport c.self.inside.parts c.args.caller.0 c.args.event (option_copied c.args.picks) (next_event c.self.invariant.keeps.state)
+may c =
+    let k = c.self.inside in
+    may_report k.history.items k.parts c.self.invariant.keeps c.args.caller c.args.event (option_copied c.args.picks)
+    (subst (λ (b : Book). HasStep b.limits (state_of b) c.args.caller c.args.event (option_copied c.args.picks)) (sym c.self.view_is) c.requires.there)
+
+-- what the event did
+does : (c : goal.After-push_reserved-2) → DoesAt (next_event c.self.invariant.keeps.state) c.args.caller.0 c.args.event c.in_ok-answer.field-0 c.self.inside.parts c.act_with.new.parts
+does c =
+    let k = c.self.inside in
+    does_with k.history.items k.parts c.self.invariant.keeps (c.len.result + 1) (number c) (MayReport k.parts c.args.caller.0 c.args.event (option_copied c.args.picks)) c.args.caller.0 c.args.event c.in_ok-answer.field-0 c.act_with.new.parts
+    c.in_ok-answer.ensures.ok (may c)
 
 -- where a second record is asked for, there is a copy, or none is needed
 pub of-spare-requires-clause-inline : goal.of-spare-requires-clause-inline
@@ -24,25 +37,13 @@ of-spare-requires-clause-inline c asked none =
     let k = c.self.inside in
     let o = c.in_ok-answer.field-0 in
     let n : c.len.result + 1 ≡ length k.history.items + 1 = omega (arith, c.len.ensures, c.reserve.ensures.len) in
-    let does = does_at k.history.items k.parts c.act.new.parts c.self.invariant.keeps (c.len.result + 1) c.args.caller.0 c.args.event o n c.in_ok-answer.ensures.ok in
-    inline_event k.parts.tables.limits (next_event c.self.invariant.keeps.state) c.args.caller.0 o c.args.kept asked none c.args.event c.act.new.parts does.goes c.in_ok-answer.ensures.kept
-
-settles : (c : goal.After-push_reserved-2) → Settles (c.len.result + 1) c.in_ok-answer.field-0.raising c.act.new.parts c.raise.new.self c.bury.new.self c.climb_instances.new.parts c.mark_waiters.new.parts
-settles c = record {
-  coherent = c.known.ensures.coherent;
-  sound = c.known.ensures.sound;
-  stirs = c.raise.ensures.stirs;
-  noted_others = c.raise.ensures.others;
-  burial = c.bury.ensures.burial;
-  parked = c.bury.ensures.parked;
-  clock = c.bury.ensures.clock;
-  coherent_buried = c.known-2.ensures.coherent;
-  sound_buried = c.known-2.ensures.sound;
-  climbs = c.climb_instances.ensures.climbs;
-  climbed_others = c.climb_instances.ensures.others;
-  marks = c.mark_waiters.ensures.marks;
-  marked_others = c.mark_waiters.ensures.others;
-}
+    let go =
+    may_report k.history.items k.parts c.self.invariant.keeps c.args.caller c.args.event (option_copied c.args.picks)
+    (subst (λ (b : Book). HasStep b.limits (state_of b) c.args.caller c.args.event (option_copied c.args.picks)) (sym c.self.view_is) c.requires.there) in
+    let done =
+    does_with k.history.items k.parts c.self.invariant.keeps (c.len.result + 1) n (MayReport k.parts c.args.caller.0 c.args.event (option_copied c.args.picks)) c.args.caller.0 c.args.event o c.act_with.new.parts c.in_ok-answer.ensures.ok go in
+    let keeps : KeepsEvent c.args.event c.args.kept o = kept_of (option_copied c.args.picks) c.args.kept c.requires.kept asked c.in_ok-answer.ensures.kept in
+    inline_event k.parts.tables.limits (next_event c.self.invariant.keeps.state) c.args.caller.0 o c.args.kept asked none c.args.event c.act_with.new.parts done.goes keeps
 
 -- the history has its record
 records : (c : goal.After-push_reserved-2) → c.push_reserved-2.new.self.items ≡ c.self.inside.history.items ++ record_of c.args.caller c.args.event c.in_ok-answer.field-0 ∷ []
@@ -51,34 +52,40 @@ records c =
     c.push_reserved-2.ensures.items
     ∙ (λ i. c.reserve.ensures.items i ++ record { caller = c.args.caller; event = c.args.event; answer = outcome.same i; picked = outcome.picked } ∷ [])
 
--- registrations are dated
-dated : (c : goal.After-push_reserved-2) → Dates (entry_shows (readiness c.mark_waiters.new.parts.tables c.mark_waiters.new.parts.clock c.mark_waiters.new.parts.interest) c.mark_waiters.new.parts.tables c.mark_waiters.new.parts.clock) (c.len.result + 1) c.mark_waiters.new.parts.interest (c.self.inside.since.items ++ 0 ∷ []) c.date.new.since.items
-dated c =
-    let q = c.mark_waiters.new.parts in
-    let since = c.push_reserved.ensures.items ∙ ap (λ (xs : List ℕ). xs ++ 0 ∷ []) c.reserve-2.ensures.items in
-    subst (λ (xs : List ℕ). Dates (entry_shows (readiness q.tables q.clock q.interest) q.tables q.clock) (c.len.result + 1) q.interest xs c.date.new.since.items) since c.date.ensures
-
 pub date-requires : goal.date-requires
 date-requires c =
     let k = c.self.inside in
-    let o = c.in_ok-answer.field-0 in
-    let at : c.len.result + 1 ≡ length k.history.items + 1 = omega (arith, c.len.ensures, c.reserve.ensures.len) in
-    let moved = does_at k.history.items k.parts c.act.new.parts c.self.invariant.keeps (c.len.result + 1) c.args.caller.0 c.args.event o at c.in_ok-answer.ensures.ok in
+    let n : c.len.result + 1 ≡ length k.history.items + 1 = omega (arith, c.len.ensures, c.reserve.ensures.len) in
+    let go =
+    may_report k.history.items k.parts c.self.invariant.keeps c.args.caller c.args.event (option_copied c.args.picks)
+    (subst (λ (b : Book). HasStep b.limits (state_of b) c.args.caller c.args.event (option_copied c.args.picks)) (sym c.self.view_is) c.requires.there) in
+    let done =
+    does_with k.history.items k.parts c.self.invariant.keeps (c.len.result + 1) n (MayReport k.parts c.args.caller.0 c.args.event (option_copied c.args.picks)) c.args.caller.0 c.args.event c.in_ok-answer.field-0 c.act_with.new.parts c.in_ok-answer.ensures.ok go in
     let since = c.push_reserved.ensures.items ∙ ap (λ (xs : List ℕ). xs ++ 0 ∷ []) c.reserve-2.ensures.items in
-    subst (λ (xs : List ℕ). c.mark_waiters.new.parts.interest.added < length xs) (sym since)
-    (room k.history.items k.parts c.act.new.parts c.raise.new.self c.bury.new.self c.climb_instances.new.parts c.mark_waiters.new.parts k.since.items c.self.invariant c.args.caller c.args.event o (c.len.result + 1) at moved (record { coherent = c.known.ensures.coherent; sound = c.known.ensures.sound; stirs = c.raise.ensures.stirs; noted_others = c.raise.ensures.others; burial = c.bury.ensures.burial; parked = c.bury.ensures.parked; clock = c.bury.ensures.clock; coherent_buried = c.known-2.ensures.coherent; sound_buried = c.known-2.ensures.sound; climbs = c.climb_instances.ensures.climbs; climbed_others = c.climb_instances.ensures.others; marks = c.mark_waiters.ensures.marks; marked_others = c.mark_waiters.ensures.others }))
+    subst (λ (xs : List ℕ). c.settle.new.parts.interest.added < length xs) (sym since)
+    (room k.history.items k.parts c.act_with.new.parts c.settle.new.parts k.since.items c.self.invariant c.args.caller c.args.event c.in_ok-answer.field-0 (c.len.result + 1) n done c.settle.ensures)
+
+-- registrations are dated
+dated : (c : goal.After-push_reserved-2) → Dates (entry_shows (readiness c.settle.new.parts.tables c.settle.new.parts.clock c.settle.new.parts.interest) c.settle.new.parts.tables c.settle.new.parts.clock) (c.len.result + 1) c.settle.new.parts.interest (c.self.inside.since.items ++ 0 ∷ []) c.date.new.since.items
+dated c =
+    let q = c.settle.new.parts in
+    let since = c.push_reserved.ensures.items ∙ ap (λ (xs : List ℕ). xs ++ 0 ∷ []) c.reserve-2.ensures.items in
+    subst (λ (xs : List ℕ). Dates (entry_shows (readiness q.tables q.clock q.interest) q.tables q.clock) (c.len.result + 1) q.interest xs c.date.new.since.items) since c.date.ensures
 
 pub invariant_of-self-2 : goal.invariant_of-self-2
 invariant_of-self-2 c =
     let k = c.self.inside in
-    subst (λ (rs : List Record). Standing rs c.mark_waiters.new.parts c.date.new.since.items) (sym (records c))
-    (standing_next k.history.items k.parts c.act.new.parts c.raise.new.self c.bury.new.self c.climb_instances.new.parts c.mark_waiters.new.parts k.since.items c.self.invariant c.args.caller c.args.event c.in_ok-answer.field-0 (c.len.result + 1) (number c) (does c) (settles c) c.date.new.since.items (dated c))
+    subst (λ (rs : List Record). Standing rs c.settle.new.parts c.date.new.since.items) (sym (records c))
+    (standing_next k.history.items k.parts c.act_with.new.parts c.settle.new.parts k.since.items c.self.invariant c.args.caller c.args.event c.in_ok-answer.field-0 (c.len.result + 1) (number c) (does c) c.settle.ensures c.date.new.since.items (dated c))
 
 pub returns-clause-ok : goal.returns-clause-ok
 returns-clause-ok c =
     let k = c.self.inside in
     let outcome = c.in_ok-answer.field-0 in
-    let new : Book = record { limits = c.mark_waiters.new.parts.tables.limits; past = c.push_reserved-2.new.self.items; capacity = vec_capacity c.push_reserved-2.new.self } in
-    let adds = adds_next k.history.items k.parts c.act.new.parts c.raise.new.self c.bury.new.self c.climb_instances.new.parts c.mark_waiters.new.parts c.self.invariant.keeps c.args.caller c.args.event outcome (c.len.result + 1) (number c) (does c) (settles c) in
-    subst (λ (b : Book). Adds b.limits c.args.caller c.args.event outcome.answer (state_of b) (state_of new) b.past new.past) c.self.view_is
-    (subst (λ (rs : List Record). Adds k.parts.tables.limits c.args.caller c.args.event outcome.answer (state_of (book_of k)) (state_of (record new { past = rs })) k.history.items rs) (sym (records c)) adds)
+    let given = option_copied c.args.picks in
+    let new : Book = record { limits = c.settle.new.parts.tables.limits; past = c.push_reserved-2.new.self.items; capacity = vec_capacity c.push_reserved-2.new.self } in
+    let told = reports k.history.items k.parts c.self.invariant.keeps c.args.caller c.args.event (c.len.result + 1) (number c) given outcome.picked (may c) c.in_ok-answer.ensures.picked in
+    let adds =
+    adds_by k.history.items k.parts c.act_with.new.parts c.settle.new.parts k.since.items c.self.invariant c.args.caller c.args.event outcome (c.len.result + 1) (number c) (does c) c.settle.ensures given told in
+    subst (λ (b : Book). AddsBy b.limits c.args.caller c.args.event given outcome.answer (state_of b) (state_of new) b.past new.past) c.self.view_is
+    (subst (λ (rs : List Record). AddsBy k.parts.tables.limits c.args.caller c.args.event given outcome.answer (state_of (book_of k)) (state_of (record new { past = rs })) k.history.items rs) (sym (records c)) adds)
