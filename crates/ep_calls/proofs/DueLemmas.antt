@@ -63,7 +63,7 @@ module _ (all : List (Option ℕ)) where
 zero_plus : (k : ℕ) → 0 + k ≡ k
 zero_plus k = omega arith
 
-live_all : (keys : List (Option ℕ)) → All (HasNumber keys) (live_ids keys)
+pub live_all : (keys : List (Option ℕ)) → All (HasNumber keys) (live_ids keys)
 live_all keys = live_after keys 0 keys (λ i. ap (λ (n : ℕ). slice_index_or keys n None) (zero_plus i))
 
 pub raises_begins : (v : Seen) (since now n : ℕ) (old : Registrations) → Raises v since now n old (live_ids v.keys) old

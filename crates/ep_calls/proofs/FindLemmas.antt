@@ -61,7 +61,7 @@ and_all true true false h = absurd (false≢true h)
 and_all true false c h = absurd (false≢true h)
 and_all false b c h = absurd (false≢true h)
 
-same_bools : (a b : Bool) → (a ≡ true → b ≡ true) → (b ≡ true → a ≡ true) → a ≡ b
+pub same_bools : (a b : Bool) → (a ≡ true → b ≡ true) → (b ≡ true → a ≡ true) → a ≡ b
 same_bools true b f g = sym (f refl)
 same_bools false true f g = g refl
 same_bools false false f g = refl

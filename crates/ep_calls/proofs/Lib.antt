@@ -37,3 +37,6 @@ pub mod KeepsLemmas
 pub mod StepLemmas
 pub mod KeptLemmas
 pub mod IdLemmas
+pub mod NextArrivalLemmas
+pub mod NextMomentLemmas
+pub mod FirstMarkedLemmas

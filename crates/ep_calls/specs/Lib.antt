@@ -20,3 +20,5 @@ pub mod Burial
 pub mod Climb
 pub mod TableCall
 pub mod Ids
+pub mod Arrivals
+pub mod Driver

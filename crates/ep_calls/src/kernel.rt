@@ -1,11 +1,13 @@
 //! What every kernel promises.
 ghost use Rattle.std.specs.Prelude.{◌≡◌, ◌+◌, ◌≤◌, ℕ, List, OnOk, Some, length};
+ghost use Rattle.std.specs.Option.{option_map};
 ghost use Rattle.ep_base.specs.Limits.{Limits as Numbers};
 ghost use Rattle.ep_base.specs.declared.record.Record.{Record as Entry};
 ghost use Rattle.ep_machine.specs.Run.{run};
 ghost use Rattle.ep_machine.specs.Waits.{is_marked, is_parked};
 ghost use Rattle.ep_machine.specs.State.{State, opening};
 ghost use Rattle.ep_calls.specs.Acts.{Acts};
+ghost use Rattle.ep_calls.specs.Driver.{TellsNext, first_marked};
 ghost use Rattle.ep_calls.specs.KeptRecords.{KeepsRecord};
 
 use ep_base::{Answer, CallerId, Event, Limits, Record};
@@ -72,4 +74,13 @@ pub trait Kernel {
     /// is reportable or its deadline has come. At each ready instance that has waiters one is marked.
     fn is_marked(&self, caller: CallerId) -> bool
         ensures { result ≡ is_marked (state self.now) caller.0 };
+
+    /// Of the marked callers the one that was parked first; `None` exactly where nobody is marked.
+    fn first_marked(&self) -> Option<CallerId>
+        ensures { option_map (λ c. c.0) result ≡ first_marked (state self.now) };
+
+    /// The first moment after now to which a tick raises a bit or marks a caller; a shorter tick does neither. `None` exactly
+    /// where no tick does: then nothing ends a wait but a call, or the resumption of whoever is marked.
+    fn next_moment(&self) -> Option<u64>
+        ensures { TellsNext (state self.now) result };
 }

@@ -5,6 +5,7 @@ mod below;
 mod bury;
 mod clock;
 mod control;
+mod driver;
 mod due;
 mod kernel;
 mod object_call;

@@ -2,10 +2,13 @@
 #![tactic(auto)]
 
 mod clock;
+mod driver;
 mod room;
+mod timers;
 
 use crate::clock::advance;
 use crate::room::print_room;
+use crate::timers::let_end;
 use ep_base::{Answer, Buffer, Call, CallerId, Event, Fd, Limits, Mask, Pid, Record, Report};
 use ep_plain::{Kernel, PlainKernel, run};
 use std::alloc::{AllocError, Global};
@@ -51,14 +54,19 @@ fn print_opened(rt: &HostRuntime, answers: &[Answer]) -> io::Result<()> {
     }
 }
 
+/// A wait for 8 reports at most, for so many milliseconds.
+fn wait_at(epfd: i32, timeout: i64) -> Call {
+    Call::EpollWait {
+        epfd: Fd(epfd),
+        max: 8,
+        timeout,
+    }
+}
+
 /// Waits for 100 milliseconds at most: whether that parks the reader.
 fn wait<K: Kernel>(kernel: &mut K) -> bool {
-    let wait = Call::EpollWait {
-        epfd: Fd(5),
-        max: 8,
-        timeout: 100,
-    };
-    matches!(kernel.step(READER, in_process(wait)), Answer::Parked)
+    let wait = in_process(wait_at(5, 100));
+    matches!(kernel.step(READER, wait), Answer::Parked)
 }
 
 /// Writes three bytes to the pipe.
@@ -105,5 +113,6 @@ fn act_out<K: Kernel>(rt: &HostRuntime, kernel: &mut K) -> io::Result<()> {
 fn main(rt: HostRuntime) -> io::Result<()> {
     let mut kernel = PlainKernel::new(rt.alloc(), Limits::default())?;
     print_room(&rt, &mut kernel)?;
-    act_out(&rt, &mut kernel)
+    act_out(&rt, &mut kernel)?;
+    let_end(&rt, &mut kernel)
 }

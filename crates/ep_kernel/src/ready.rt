@@ -170,4 +170,12 @@ impl Kernel for ReadyKernel {
     fn is_marked(&self, caller: CallerId) -> bool {
         self.parts.waiters.is_marked(caller)
     }
+
+    fn first_marked(&self) -> Option<CallerId> {
+        self.parts.first_marked()
+    }
+
+    fn next_moment(&self) -> Option<u64> {
+        self.parts.next_moment()
+    }
 }

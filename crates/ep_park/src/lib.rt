@@ -9,4 +9,4 @@ mod tally;
 mod waiter;
 
 pub use crate::park::Park;
-pub use crate::waiter::{Waiter, is_due};
+pub use crate::waiter::{Waiter, earlier, is_due};

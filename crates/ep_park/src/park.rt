@@ -2,16 +2,16 @@
 //!
 //! Waiters stand in a map by caller, in order of parking, and each instance that has waiters has a tally: who waits longest there, and
 //! how many are marked. So what is asked of one caller or of one instance costs the same, however many are parked.
-ghost use Rattle.std.specs.Prelude.{◌≡◌, ◌++◌, ◌∷◌, ◌<◌, [], MatchOption, OnErr, OnOk, false, filter, length, map, nat_eq, slice_index_or};
+ghost use Rattle.std.specs.Prelude.{◌≡◌, ◌++◌, ◌∷◌, ◌<◌, ℕ, [], MatchOption, OnErr, OnOk, false, filter, length, map, nat_eq, slice_index_or};
 ghost use Rattle.std.specs.List.{IsDistinct, find, list_any, position};
 ghost use Rattle.std.specs.Option.{option_map};
-ghost use Rattle.ep_machine.specs.Waits.{is_marked_at, marked_if_due, unmark, waits_at};
+ghost use Rattle.ep_machine.specs.Waits.{is_due, is_marked_at, marked_if_due, unmark, waits_at};
 ghost use Rattle.ep_park.specs.Changes.{changed_at, with_mark_of};
-ghost use Rattle.ep_park.specs.Deadlines.{IsAwaitedAt};
+ghost use Rattle.ep_park.specs.Deadlines.{IsAwaitedAt, awaits_mark};
 ghost use Rattle.ep_park.specs.Waiters.{is_caller, is_marked_caller, is_of, longest_marked, parked, without};
 
 use crate::deadlines::Deadlines;
-use crate::scan::{caller_at, longest, waits_for};
+use crate::scan::{caller_at, first_deadline, first_marked, longest, waits_for};
 use crate::tally::{Tallies, count, discount, recount};
 use crate::waiter::{Waiter, Waiters, awaited};
 use ep_base::{CallerId, DescId, Pid};
@@ -208,6 +208,22 @@ impl<A: Allocator> Park<A> {
             Some(index) => self.waiters[index].marked,
             None => false,
         }
+    }
+
+    /// Of the marked callers the one that was parked first, or `None` where none is marked. The cost grows with the callers that are
+    /// parked.
+    pub fn first_marked(&self) -> Option<CallerId>
+        ensures { option_map (λ c. c.0) result ≡ option_map (λ w. w.caller) (find (λ w. w.marked) self.now) }
+    {
+        first_marked(&self.waiters)
+    }
+
+    /// The first moment at which the deadline of a caller that isn't marked has come, or `None` where none of them has one. The cost
+    /// grows with the callers that are parked.
+    pub fn first_deadline(&self) -> Option<u64>
+        ensures { (now : ℕ) → is_due now result ≡ list_any (awaits_mark now) self.now }
+    {
+        first_deadline(&self.waiters)
     }
 
     /// Whether somebody waits at an instance. The cost doesn't grow with the callers that are parked.

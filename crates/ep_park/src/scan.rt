@@ -1,12 +1,14 @@
 //! Questions about the waiters in their order.
-ghost use Rattle.std.specs.Prelude.{◌≡◌, ◌==◌, ◌<◌, Some, length, slice_get};
-ghost use Rattle.std.specs.List.{list_any, position};
+ghost use Rattle.std.specs.Prelude.{◌≡◌, ◌==◌, ◌<◌, ℕ, Some, length, slice_get};
+ghost use Rattle.std.specs.List.{find, list_any, position};
 ghost use Rattle.std.specs.Option.{option_map};
 ghost use Rattle.indexmap.specs.IndexMap.{values};
+ghost use Rattle.ep_machine.specs.Waits.{is_due};
+ghost use Rattle.ep_park.specs.Deadlines.{awaits_mark};
 ghost use Rattle.ep_park.specs.Tallies.{first_at};
 ghost use Rattle.ep_park.specs.Waiters.{listed};
 
-use crate::waiter::Waiters;
+use crate::waiter::{Waiters, awaited, earlier};
 use ep_base::{CallerId, DescId, Pid};
 use std::alloc::Allocator;
 
@@ -42,4 +44,28 @@ pub fn caller_at<A: Allocator>(waiters: &Waiters<A>, index: usize) -> CallerId
 {
     let (caller, _) = waiters.get_index(index).unwrap();
     CallerId(*caller)
+}
+
+/// The marked caller that waits longest.
+pub fn first_marked<A: Allocator>(waiters: &Waiters<A>) -> Option<CallerId>
+    ensures { option_map (λ c. c.0) result
+        ≡ option_map (λ w. w.caller) (find (λ w. w.marked) (listed waiters.now.entries)) }
+{
+    for (caller, waiter) in waiters.iter() {
+        if waiter.marked {
+            return Some(CallerId(*caller));
+        }
+    }
+    None
+}
+
+/// The earliest deadline of the waiters that are not marked.
+pub fn first_deadline<A: Allocator>(waiters: &Waiters<A>) -> Option<u64>
+    ensures { (now : ℕ) → is_due now result ≡ list_any (awaits_mark now) (listed waiters.now.entries) }
+{
+    let mut first = None;
+    for (_, waiter) in waiters.iter() {
+        first = earlier(first, awaited(*waiter));
+    }
+    first
 }

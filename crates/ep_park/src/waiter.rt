@@ -1,6 +1,6 @@
 //! One parked wait.
 
-ghost use Rattle.std.specs.Prelude.{◌≡◌};
+ghost use Rattle.std.specs.Prelude.{◌≡◌, ◌||◌, ℕ};
 ghost use Rattle.ep_machine.specs.Waits.{is_due as is_reached};
 ghost use Rattle.ep_park.specs.Deadlines.{awaited as deadline_of};
 
@@ -44,4 +44,14 @@ pub fn awaited(waiter: Waiter) -> Option<u64>
         return None;
     }
     waiter.deadline
+}
+
+/// The earlier of two moments; `None` where neither is there.
+pub fn earlier(a: Option<u64>, b: Option<u64>) -> Option<u64>
+    ensures { (now : ℕ) → is_reached now result ≡ (is_reached now a || is_reached now b) }
+{
+    match (a, b) {
+        (Some(a), Some(b)) => Some(a.min(b)),
+        _ => a.or(b),
+    }
 }

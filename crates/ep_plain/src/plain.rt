@@ -202,4 +202,12 @@ impl Kernel for PlainKernel {
     fn is_marked(&self, caller: CallerId) -> bool {
         self.parts.waiters.is_marked(caller)
     }
+
+    fn first_marked(&self) -> Option<CallerId> {
+        self.parts.first_marked()
+    }
+
+    fn next_moment(&self) -> Option<u64> {
+        self.parts.next_moment()
+    }
 }

@@ -51,6 +51,14 @@ impl Kernel for NoMemory {
     fn is_marked(&self, _caller: CallerId) -> bool {
         false
     }
+
+    fn first_marked(&self) -> Option<CallerId> {
+        None
+    }
+
+    fn next_moment(&self) -> Option<u64> {
+        None
+    }
 }
 
 /// Gives a text in pieces, and then fails or ends.

@@ -1,0 +1,155 @@
+-- What arrives at timers, by the keys of the descriptions that live and by their numbers.
+use Rattle.std.proofs.Common.{◌≡◌, ◌∙◌, ◌+◌, ◌||◌, ℕ, zero, suc, All, Bool, true, false, IsSome, List, [], ◌∷◌, None, Option, Some, ap, arith, get_or, inl, inr, is_some, nat_lt, refl, sym, unwrap_or}
+use Rattle.std.specs.List.{list_any}
+use Rattle.std.proofs.lemmas.Bool.{cases_Bool, false≢true}
+use Rattle.ep_base.specs.declared.ids.DescId.{DescId}
+use Rattle.ep_counters.specs.Law.{NextTellsAdvance, is_by}
+use Rattle.ep_machine.specs.Bits.{IN, when}
+use Rattle.ep_machine.specs.Files.{Place, object_at, place_of}
+use Rattle.ep_machine.specs.Lists.{numbered}
+use Rattle.ep_machine.specs.Objects.{Object, advance, counter, instance, pair, pipe, plain, timer}
+use Rattle.ep_machine.specs.Waits.{is_due}
+use Rattle.ep_calls.proofs.DueLemmas.{live_all}
+use Rattle.ep_calls.proofs.FindLemmas.{same_bools}
+use Rattle.ep_calls.specs.Arrivals.{arrives_at, arrives_by}
+use Rattle.ep_calls.specs.Raising.{clock_bits}
+use Rattle.ep_law.proofs.TestLemmas.{or_right}
+use Rattle.ep_object.specs.Next.{IsNextMoment}
+use Rattle.ep_table.specs.Live.{key_of, live_from, live_ids}
+use Rattle.ep_table.specs.Value.{Seen, Sound, number_under, unwrapped}
+use Rattle.std.proofs.lemmas.List.Elements.{All-head, All-tail}
+
+-- What is there, each with its number.
+next_number : (j i : ℕ) → j + 1 + i ≡ j + suc i
+next_number j i = omega arith
+
+this_number : (j : ℕ) → j ≡ j + 0
+this_number j = omega arith
+
+module _ {X : Type 0} (test : ℕ × X → Bool) where
+  -- some passes a test
+  pub record Passes (j : ℕ) (xs : List (Option X)) : Type 0 where
+    pub place : ℕ
+    pub thing : X
+    pub there : get_or xs place None ≡ Some thing
+    pub passes : test (j + place, thing) ≡ true
+
+  later : (j : ℕ) (o : Option X) (xs : List (Option X)) → Passes (j + 1) xs → Passes j (o ∷ xs)
+  later j o xs h = record { place = suc h.place; thing = h.thing; there = h.there; passes = ap (λ (k : ℕ). test (k, h.thing)) (sym (next_number j h.place)) ∙ h.passes }
+
+  pub passing : (j : ℕ) (xs : List (Option X)) → list_any test (numbered j xs) ≡ true → Passes j xs
+  passing j [] h = absurd (false≢true h)
+  passing j (None ∷ xs) h = later j None xs (passing (j + 1) xs h)
+  passing j (Some x ∷ xs) h = elim (cases_Bool (test (j, x))) [
+    | inl e ↦ record { place = 0; thing = x; there = refl; passes = ap (λ (k : ℕ). test (k, x)) (sym (this_number j)) ∙ e }
+    | inr e ↦ later j (Some x) xs (passing (j + 1) xs (ap (λ (b : Bool). b || list_any test (numbered (j + 1) xs)) (sym e) ∙ h))
+  ]
+
+  pub any_passing : (j i : ℕ) (x : X) (xs : List (Option X)) → get_or xs i None ≡ Some x → test (j + i, x) ≡ true → list_any test (numbered j xs) ≡ true
+  any_passing j i x [] there h = absurd (cc)
+  any_passing j zero x (None ∷ xs) there h = absurd (cc)
+  any_passing j zero x (Some y ∷ xs) there h =
+      let is : y ≡ x = cc in
+      ap (λ (b : Bool). b || list_any test (numbered (j + 1) xs)) (ap (λ (z : X). test (j, z)) is ∙ (ap (λ (k : ℕ). test (k, x)) (this_number j) ∙ h))
+  any_passing j (suc i) x (None ∷ xs) there h = any_passing (j + 1) i x xs there (ap (λ (k : ℕ). test (k, x)) (next_number j i) ∙ h)
+  any_passing j (suc i) x (Some y ∷ xs) there h =
+      or_right (test (j, y)) (list_any test (numbered (j + 1) xs)) (any_passing (j + 1) i x xs there (ap (λ (k : ℕ). test (k, x)) (next_number j i) ∙ h))
+
+any_live : (p : DescId → Bool) (j : ℕ) (keys : List (Option ℕ)) → list_any p (live_from j keys) ≡ list_any (λ x. p (key_of x.0)) (numbered j keys)
+any_live p j [] = refl
+any_live p j (None ∷ keys) = any_live p (j + 1) keys
+any_live p j (Some n ∷ keys) = ap (λ (b : Bool). p (key_of j) || b) (any_live p (j + 1) keys)
+
+zero_plus : (k : ℕ) → 0 + k ≡ k
+zero_plus k = omega arith
+
+module _ (v : Seen) (since now : ℕ) (sound : Sound v) where
+  abbrev of_place : ℕ × Place → Bool
+  of_place x = nat_lt 0 (clock_bits v.files since now (Some x.1))
+
+  abbrev of_key : ℕ × ℕ → Bool
+  of_key x = arrives_at v since now (key_of x.0)
+
+  same_bit : (desc : DescId) (n : ℕ) (p : Place) → number_under v desc ≡ Some n → place_of v.files n ≡ Some p → arrives_at v since now desc ≡ of_place (n, p)
+  same_bit desc n p is at =
+      ap (λ (o : Option ℕ). nat_lt 0 (advance (unwrapped (object_at v.files (place_of v.files (unwrap_or o 0)))) since now)) is
+      ∙ ap (λ (o : Option Place). nat_lt 0 (advance (unwrapped (object_at v.files o)) since now)) at
+
+  some_is : {X : Type 0} (o : Option X) → IsSome o → (x : X) × (o ≡ Some x)
+  some_is None h = absurd (cc)
+  some_is (Some x) h = (x, refl)
+
+  to_numbers : list_any of_key (numbered 0 v.keys) ≡ true → arrives_by v.files since now ≡ true
+  to_numbers h =
+      let key = passing of_key 0 v.keys h in
+      let desc = key_of key.place in
+      let is : number_under v desc ≡ Some key.thing = key.there in
+      let at = some_is (place_of v.files key.thing) (sound.place desc key.thing is) in
+      let passes : arrives_at v since now desc ≡ true = ap (λ (k : ℕ). arrives_at v since now (key_of k)) (sym (zero_plus key.place)) ∙ key.passes in
+      any_passing of_place 0 key.thing at.0 v.files.descriptions at.1
+      (ap (λ (k : ℕ). of_place (k, at.0)) (zero_plus key.thing) ∙ (sym (same_bit desc key.thing at.0 is at.1) ∙ passes))
+
+  to_keys : arrives_by v.files since now ≡ true → list_any of_key (numbered 0 v.keys) ≡ true
+  to_keys h =
+      let one = passing of_place 0 v.files.descriptions h in
+      let at : place_of v.files one.place ≡ Some one.thing = one.there in
+      let key = sound.keyed one.place (ap (λ (o : Option Place). is_some o) at) in
+      any_passing of_key 0 key.0.0 one.place v.keys key.1
+      (ap (λ (k : ℕ). of_key (k, one.place)) (zero_plus key.0.0)
+      ∙ (same_bit key.0 one.place one.thing key.1 at ∙ (ap (λ (k : ℕ). of_place (k, one.thing)) (sym (zero_plus one.place)) ∙ one.passes)))
+
+  -- by keys as by numbers
+  pub arrives_by_keys : list_any (arrives_at v since now) (live_ids v.keys) ≡ arrives_by v.files since now
+  arrives_by_keys = any_live (arrives_at v since now) 0 v.keys ∙ same_bools (list_any of_key (numbered 0 v.keys)) (arrives_by v.files since now) to_numbers to_keys
+
+-- What one object tells of its next moment.
+bit_is : (b : Bool) → nat_lt 0 (when b IN) ≡ b
+bit_is true = refl
+bit_is false = refl
+
+by_is_due : (next : Option ℕ) (now : ℕ) → is_by next now ≡ is_due now next
+by_is_due None now = refl
+by_is_due (Some moment) now = refl
+
+never : (next : Option ℕ) (now : ℕ) → next ≡ None → false ≡ is_due now next
+never next now h = ap (is_due now) (sym h)
+
+pub arrival_told : NextTellsAdvance → (x : Object) (since now : ℕ) (next : Option ℕ) → IsNextMoment x since next → nat_lt 0 (advance x since now) ≡ is_due now next
+arrival_told law plain since now next h = never next now h
+arrival_told law (pipe p) since now next h = never next now h
+arrival_told law (pair p) since now next h = never next now h
+arrival_told law (counter c) since now next h = never next now h
+arrival_told law (timer t) since now next h = ap (λ (bits : ℕ). nat_lt 0 bits) (law t since now next h) ∙ (bit_is (is_by next now) ∙ by_is_due next now)
+arrival_told law instance since now next h = never next now h
+
+-- those that are left are live, and with them the moments come to what all tell
+pub record Arrives (v : Seen) (since : ℕ) (left : List DescId) (first : Option ℕ) : Type 0 where
+  pub live : All (λ id. IsSome (number_under v id)) left
+  pub told : (now : ℕ) → (is_due now first || list_any (arrives_at v since now) left) ≡ list_any (arrives_at v since now) (live_ids v.keys)
+
+pub arrives_begins : (v : Seen) (since : ℕ) → Arrives v since (live_ids v.keys) None
+arrives_begins v since = record { live = live_all v.keys; told = λ now. refl }
+
+pub first_live : (v : Seen) (since : ℕ) (id : DescId) (left : List DescId) (first : Option ℕ) → Arrives v since (id ∷ left) first → IsSome (number_under v id)
+first_live v since id left first h = All-head (λ k. IsSome (number_under v k)) id left h.live
+
+or_in_turn : (a b c : Bool) → (a || b || c) ≡ (a || (b || c))
+or_in_turn true b c = refl
+or_in_turn false b c = refl
+
+pub arrives_more : (v : Seen) (since : ℕ) (id : DescId) (left : List DescId) (first next new : Option ℕ) → Arrives v since (id ∷ left) first
+    → ((now : ℕ) → arrives_at v since now id ≡ is_due now next) → ((now : ℕ) → is_due now new ≡ (is_due now first || is_due now next)) → Arrives v since left new
+arrives_more v since id left first next new h one earlier = record {
+  live = All-tail (λ k. IsSome (number_under v k)) id left h.live;
+  told = λ now.
+      let rest = list_any (arrives_at v since now) left in
+      ap (λ (b : Bool). b || rest) (earlier now ∙ ap (λ (b : Bool). is_due now first || b) (sym (one now)))
+      ∙ (or_in_turn (is_due now first) (arrives_at v since now id) rest ∙ h.told now);
+}
+
+or_false : (b : Bool) → (b || false) ≡ b
+or_false true = refl
+or_false false = refl
+
+pub arrives_ends : (v : Seen) (since : ℕ) (first : Option ℕ) → Sound v → Arrives v since [] first → (now : ℕ) → is_due now first ≡ arrives_by v.files since now
+arrives_ends v since first sound h now = sym (or_false (is_due now first)) ∙ (h.told now ∙ arrives_by_keys v since now sound)

@@ -1,0 +1,38 @@
+//! The loop that goes on until nothing but a call ends a wait.
+ghost use Rattle.std.specs.Prelude.{◌≡◌, None, true, false};
+ghost use Rattle.ep_calls.specs.Driver.{HasNoEffect, first_marked};
+
+use ep_base::{CallerId, Event};
+use ep_plain::Kernel;
+
+/// Resumes whoever is marked, of several the one that was parked first; where nobody is, moves the clock to the next moment.
+/// False, and nothing is done, where there is neither.
+fn turn<K: Kernel>(kernel: &mut K, clock: CallerId) -> bool
+    ensures marked { result ≡ false → first_marked (K.state kernel.new) ≡ None }
+    ensures effect { result ≡ false → HasNoEffect (K.state kernel.new) }
+{
+    if let Some(caller) = kernel.first_marked() {
+        kernel.step(caller, Event::Resume);
+        return true;
+    }
+    let Some(moment) = kernel.next_moment() else {
+        return false;
+    };
+    let n = moment - kernel.now();
+    kernel.step(clock, Event::Tick { n });
+    true
+}
+
+/// Takes such turns until there is none to take, and so many at most. Where there is none, nobody is marked, and no tick
+/// raises a bit or marks a caller: whoever is parked then stays so until somebody makes a call.
+pub fn drive<K: Kernel>(kernel: &mut K, clock: CallerId, turns: usize) -> bool
+    ensures marked { result ≡ true → first_marked (K.state kernel.new) ≡ None }
+    ensures effect { result ≡ true → HasNoEffect (K.state kernel.new) }
+{
+    for _ in 0..turns {
+        if !turn(kernel, clock) {
+            return true;
+        }
+    }
+    false
+}
