@@ -3,6 +3,10 @@ pub mod ChooseLemmas
 pub mod TakeLemmas
 pub mod PlacesLemmas
 pub mod PushLemmas
+pub mod WalkLemmas
+pub mod ReachLemmas
+pub mod ComesLemmas
+pub mod ClimbLemmas
 pub mod SetLemmas
 pub mod ControlLemmas
 pub mod ControlTurnsLemmas
@@ -16,3 +20,4 @@ pub mod JoinLemmas
 pub mod AlteredLemmas
 pub mod NextLemmas
 pub mod RunLemmas
+pub mod SettledLemmas

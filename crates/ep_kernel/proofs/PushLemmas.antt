@@ -10,7 +10,7 @@ use Rattle.ep_interest.specs.Registrations.{Registrations, entry_under}
 use Rattle.ep_interest.specs.declared.entry.Entry.{Entry}
 use Rattle.ep_machine.specs.Lists.{is_among}
 use Rattle.ep_kernel.specs.Listed.{HavePlaces, may_stand}
-use Rattle.ep_kernel.specs.Push.{Gains, is_home, passes_found}
+use Rattle.ep_kernel.specs.Push.{Appends, Gains, is_home, passes_found}
 use Rattle.ep_ready.specs.ReadyLists.{IsSound, Lists, after_push, entry_id, instance_at, list_at, push_by, with_list}
 
 or_false : (b : Bool) → (b || false) ≡ b
@@ -241,3 +241,9 @@ passing_only (Some x) = twice (nat_lt 0 x.passes_in) (may_stand x) where
   twice : (a b : Bool) → (a && (a && b)) ≡ (a && b)
   twice true b = refl
   twice false b = refl
+
+-- what the walk reached plays no part in it
+pub appends : (comes : ℕ → Bool) (old mid new : Lists) → mid ≡ record old { reached = mid.reached } → Gains comes mid new → Appends comes old new
+appends comes old mid new is a =
+    let b : Gains comes (record old { reached = mid.reached }) new = subst (λ (l : Lists). Gains comes l new) is a in
+    record { places = b.places; more = b.more; lists = b.lists; each = b.each }

@@ -3,6 +3,7 @@ pub mod Choose
 pub mod Take
 pub mod Places
 pub mod Push
+pub mod Reach
 pub mod Turns
 pub mod Control
 pub mod Wait

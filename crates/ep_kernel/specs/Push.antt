@@ -1,7 +1,9 @@
 -- Which registrations come to the end of their lists.
 use Rattle.std.specs.List.{list_any}
 use Rattle.std.specs.Prelude.{◌≡◌, ◌&&◌, ◌++◌, ◌==◌, ◌||◌, Bool, List, None, Option, Some, false, filter, nat_lt, ℕ}
+use Rattle.ep_base.specs.declared.ids.DescId.{DescId}
 use Rattle.ep_base.specs.declared.ids.EntryId.{EntryId}
+use Rattle.ep_calls.specs.Climb.{is_nested_key}
 use Rattle.ep_calls.specs.Parts.{Parts}
 use Rattle.ep_interest.specs.Passes.{has_id}
 use Rattle.ep_interest.specs.Registrations.{Registrations, entry_under, ids, is_on, lets_in}
@@ -25,10 +27,21 @@ pub record Gains (comes : ℕ → Bool) (old new : Lists) : Type 0 where
   pub each : (i k : ℕ) → is_among (list_at new i) k ≡ (is_among (list_at old i) k || comes k && is_home i (instance_at old (entry_id k)))
   pub reached : new.reached ≡ old.reached
 
+-- the same, whatever the walk reached
+pub record Appends (comes : ℕ → Bool) (old new : Lists) : Type 0 where
+  pub places : (id : EntryId) → instance_at new id ≡ instance_at old id
+  pub more : ℕ → List ℕ
+  pub lists : (i : ℕ) → list_at new i ≡ list_at old i ++ more i
+  pub each : (i k : ℕ) → is_among (list_at new i) k ≡ (is_among (list_at old i) k || comes k && is_home i (instance_at old (entry_id k)))
+
 -- it passes something on that was raised at its target
 abbrev pub passes_found : Option Entry → Bool
 passes_found None = false
 passes_found (Some x) = nat_lt 0 x.passes_in && may_stand x
+
+-- a registration through which IN comes from an instance
+abbrev pub comes_on : Parts → DescId → ℕ → Bool
+comes_on p desc k = is_nested_key p.tables desc && (has_id (ids p.interest (filter (is_on desc) p.interest.entries)) k && lets_in (entry_under p.interest (entry_id k)))
 
 -- a registration through which IN comes from an instance that IN reaches in event n
 abbrev pub comes_by : ℕ → Parts → Link → ℕ → Bool

@@ -13,7 +13,8 @@ use Rattle.ep_calls.specs.declared.raising.Raising.{Raising}
 use Rattle.ep_interest.specs.Registrations.{IsSound as AreSound}
 use Rattle.ep_kernel.specs.Listed.{AreFair, IsListed}
 use Rattle.ep_kernel.specs.Places.{LosesDying}
-use Rattle.ep_kernel.specs.Push.{Gains, comes_in}
+use Rattle.ep_kernel.specs.Push.{Appends, comes_in}
+use Rattle.ep_kernel.specs.Reach.{AreReached}
 use Rattle.ep_kernel.specs.declared.ready.ReadyKernel.TheInside.{Inside}
 use Rattle.ep_machine.specs.Marks.{marked_by}
 use Rattle.ep_ready.specs.ReadyLists.{Lists}
@@ -32,8 +33,35 @@ book_of k = record { limits = k.parts.tables.limits; past = k.history.items; cap
 abbrev pub IsRunning : Inside → Type 0
 IsRunning k = Runs k.history.items k.parts k.lists
 
--- what follows the change of event n: what it raised is noted, the dead go with their places, what passes something on comes to
--- the end of its list, what was raised climbs, and marks are set
+-- what follows the change of event n up to its marks: what it raised is noted, the dead go with their places, what passes something
+-- on comes to the end of its list, and what was raised climbs; the lists have the instances that IN reached as reached
+pub record Settled (n : ℕ) (raising : Raising) (mid : Parts) (l : Lists) (climbed : Parts) (m : Lists) : Type 0 where
+  pub noted : Parts
+  pub buried : Parts
+  pub between : Lists
+  pub coherent : AreCoherent mid
+  pub tables : SoundTables mid.tables
+  pub sound : AreSound mid.interest
+  pub stirs : Stirs raising mid.tables mid.clock n mid.interest noted.interest
+  pub noted_keys : noted.interest.keys ≡ mid.interest.keys
+  pub noted_others : noted ≡ record mid { interest = noted.interest }
+  pub noted_sound : AreSound noted.interest
+  pub loses : LosesDying noted.tables noted.interest l between
+  pub burial : Burial n noted.tables noted.interest buried.tables buried.interest
+  pub ids : KeepsIds noted.interest buried.interest
+  pub parked : buried.parked ≡ noted.parked
+  pub clock : buried.clock ≡ noted.clock
+  pub coherent_buried : AreCoherent buried
+  pub tables_buried : SoundTables buried.tables
+  pub sound_buried : AreSound buried.interest
+  pub gains : Appends (comes_in n buried) between m
+  pub reached : AreReached n buried.tables buried.interest m.reached
+  pub climbs : Climbs n buried.tables buried.interest climbed.interest
+  pub climbed_keys : climbed.interest.keys ≡ buried.interest.keys
+  pub climbed_others : climbed ≡ record buried { interest = climbed.interest }
+  pub climbed_sound : AreSound climbed.interest
+
+-- the same, and then marks are set
 pub record Ends (n : ℕ) (raising : Raising) (mid : Parts) (l : Lists) (new : Parts) (m : Lists) : Type 0 where
   pub noted : Parts
   pub buried : Parts
@@ -54,7 +82,8 @@ pub record Ends (n : ℕ) (raising : Raising) (mid : Parts) (l : Lists) (new : P
   pub coherent_buried : AreCoherent buried
   pub tables_buried : SoundTables buried.tables
   pub sound_buried : AreSound buried.interest
-  pub gains : Gains (comes_in n buried) between m
+  pub gains : Appends (comes_in n buried) between m
+  pub reached : AreReached n buried.tables buried.interest m.reached
   pub climbs : Climbs n buried.tables buried.interest climbed.interest
   pub climbed_keys : climbed.interest.keys ≡ buried.interest.keys
   pub climbed_others : climbed ≡ record buried { interest = climbed.interest }

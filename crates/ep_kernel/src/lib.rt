@@ -3,9 +3,11 @@
 
 mod act;
 mod choose;
+mod climb;
 mod control;
 mod places;
 mod push;
+mod reach;
 mod ready;
 mod settle;
 mod take;

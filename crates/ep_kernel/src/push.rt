@@ -1,10 +1,11 @@
 //! Which registrations an event puts at the end of their lists: those that pass something of it on.
 ghost use Rattle.std.specs.List.{list_any};
-ghost use Rattle.std.specs.Prelude.{◌≡◌, ◌&&◌, ◌==◌, IsSome, filter};
+ghost use Rattle.std.specs.Prelude.{◌≡◌, ◌&&◌, ◌==◌, ℕ, IsSome, filter};
 ghost use Rattle.ep_interest.specs.Passes.{has_id};
 ghost use Rattle.ep_interest.specs.Registrations.{entry_under, ids, is_on, lets_in};
 ghost use Rattle.ep_kernel.specs.Listed.{HavePlaces, may_stand as may_be_listed};
-ghost use Rattle.ep_kernel.specs.Push.{Gains, comes_by, comes_in, passes_found};
+ghost use Rattle.ep_kernel.specs.Push.{Gains, comes_in, comes_on, passes_found};
+ghost use Rattle.ep_kernel.specs.Reach.{AreLive, AreReached};
 ghost use Rattle.ep_table.specs.Value.{number_under};
 ghost use Rattle.ep_ready.specs.ReadyLists.{entry_id};
 
@@ -12,8 +13,6 @@ use bitflags::Flags;
 use ep_base::{DescId, EntryId, Mask};
 use ep_calls::Parts;
 use ep_interest::{Entry, Interest};
-use ep_nest::Link;
-use ep_plain::is_reached;
 use ep_ready::ReadyLists;
 
 /// Whether a registration may stand on a list: it is armed, and fresh where it is edge-triggered.
@@ -75,35 +74,38 @@ fn push_watchers(interest: &Interest, lists: &mut ReadyLists, desc: DescId)
     }
 }
 
-/// Puts the registrations on an instance at the end of their lists through which IN comes, where IN reaches it.
-fn push_above(parts: &Parts, lists: &mut ReadyLists, link: Link, step: u64)
+/// Puts the registrations on an instance at the end of their lists through which IN comes, where it is one.
+fn push_above(parts: &Parts, lists: &mut ReadyLists, desc: DescId)
     requires places { HavePlaces parts.now.interest lists.old }
-    requires live { IsSome (number_under parts.now.tables link.inner) }
-    ensures { Gains (comes_by step parts.now link) lists.old lists.new }
+    requires live { IsSome (number_under parts.now.tables desc) }
+    ensures { Gains (comes_on parts.now desc) lists.old lists.new }
 {
-    parts.known();
-    if is_reached(&parts.tables, &parts.interest, link.inner, step) {
-        push_watchers(&parts.interest, lists, link.inner);
+    if parts.tables.object(desc).is_instance() {
+        push_watchers(&parts.interest, lists, desc);
     }
 }
 
-/// Puts each registration at the end of its list through which IN comes from an instance that IN reaches.
-fn push_nested(parts: &Parts, lists: &mut ReadyLists, step: u64)
-    requires { HavePlaces parts.now.interest lists.old }
-    ensures { Gains (λ k. list_any (λ l. comes_by step parts.now l k) parts.now.graph) lists.old lists.new }
+/// Puts each registration at the end of its list through which IN comes from an instance that the walk reached.
+fn push_nested(parts: &Parts, lists: &mut ReadyLists)
+    requires places { HavePlaces parts.now.interest lists.old }
+    requires live { AreLive parts.now.tables lists.old.reached }
+    ensures { Gains (λ k. list_any (λ i. comes_on parts.now (record { 0 = i }) k) lists.old.reached) lists.old lists.new }
 {
-    parts.known();
-    for link in parts.graph.links() {
-        push_above(parts, lists, *link, step);
+    for index in 0..lists.reached_count() {
+        let instance = lists.reached_at(index);
+        push_above(parts, lists, instance);
     }
 }
 
-/// Puts each registration at the end of its list, if it does not stand there, that passes something of an event on.
-/// A list that it stands on already stays.
-pub fn push(parts: &Parts, lists: &mut ReadyLists, step: u64)
-    requires { HavePlaces parts.now.interest lists.old }
-    ensures { Gains (comes_in step parts.now) lists.old lists.new }
+/// Puts each registration at the end of its list, if it does not stand there, that passes something of an event on, where
+/// the walk has reached what the event reaches. A list that it stands on already stays.
+pub fn push(parts: &Parts, lists: &mut ReadyLists)
+    requires places { HavePlaces parts.now.interest lists.old }
+    requires live { AreLive parts.now.tables lists.old.reached }
+    ensures { (n : ℕ) → AreReached n parts.now.tables parts.now.interest lists.old.reached → Gains (comes_in n parts.now) lists.old lists.new }
 {
+    parts.known();
+    parts.interest.known();
     push_passing(&parts.interest, lists);
-    push_nested(parts, lists, step);
+    push_nested(parts, lists);
 }

@@ -9,6 +9,7 @@ use crate::settle::{know, settle};
 use ep_base::{Answer, CallerId, Errno, Event, Limits, Record};
 use ep_calls::{Kernel, Outcome, Parts, Spare};
 use ep_order::lists_go_on;
+use ep_plain::mark_waiters;
 use ep_ready::ReadyLists;
 use std::alloc::{AllocError, Global};
 use std::marker::Model;
@@ -76,6 +77,7 @@ impl ReadyKernel {
         } = act(&mut self.parts, &mut self.lists, step, caller, &event, kept)?;
         let spare = Spare::of(kept, spare, &answer, &picked);
         settle(&mut self.parts, &mut self.lists, step, raising);
+        mark_waiters(&mut self.parts);
         self.lists.known();
         self.history.push_reserved(Record {
             caller,

@@ -1,16 +1,15 @@
 //! The end of an event, with the ready lists.
-ghost use Rattle.std.specs.Prelude.{◌≡◌};
+ghost use Rattle.std.specs.Prelude.{◌≡◌, ◌<◌};
 ghost use Rattle.ep_calls.specs.Parts.{AreCoherent};
 ghost use Rattle.ep_calls.specs.Raising.{IsRaising};
 ghost use Rattle.ep_interest.specs.Registrations.{IsSound};
 ghost use Rattle.ep_kernel.specs.Listed.{HavePlaces};
-ghost use Rattle.ep_kernel.specs.Running.{Ends};
+ghost use Rattle.ep_kernel.specs.Running.{Settled};
 ghost use Rattle.ep_table.specs.Value.{Sound};
 
+use crate::climb::climb;
 use crate::places::drop_dying;
-use crate::push::push;
 use ep_calls::{Parts, Raising};
-use ep_plain::{climb_instances, mark_waiters};
 use ep_ready::ReadyLists;
 
 /// Does nothing. What holds of the parts between calls, with their registrations; a fact for proofs.
@@ -24,11 +23,13 @@ pub fn know(parts: &Parts)
 }
 
 /// Notes what an event raised, takes the dead away with their places, puts what passes something on at the end of its
-/// list, lets what was raised climb, and sets marks.
+/// list, and lets what was raised climb. The lists have the instances that IN reached as reached afterwards. Marks are still to be
+/// set.
 pub fn settle(parts: &mut Parts, lists: &mut ReadyLists, step: u64, raising: Raising)
+    requires step { 0 < step }
     requires raises { IsRaising raising parts.old.tables }
     requires places { HavePlaces parts.old.interest lists.old }
-    ensures { Ends step raising parts.old lists.old parts.new lists.new }
+    ensures { Settled step raising parts.old lists.old parts.new lists.new }
 {
     know(parts);
     parts.raise(step, raising);
@@ -36,8 +37,6 @@ pub fn settle(parts: &mut Parts, lists: &mut ReadyLists, step: u64, raising: Rai
     drop_dying(parts, lists);
     parts.bury(step);
     know(parts);
-    push(parts, lists, step);
-    climb_instances(parts, step);
+    climb(parts, lists, step);
     know(parts);
-    mark_waiters(parts);
 }

@@ -1,17 +1,22 @@
-use Rattle.std.specs.List.{list_any}
+use Rattle.std.proofs.Common.{List, ℕ, subst, sym}
 use Rattle.ep_interest.specs.Registrations.{entry_under}
-use Rattle.ep_kernel.specs.Push.{Gains, comes_by, passes_found}
-use Rattle.ep_kernel.proofs.PushLemmas.{gains_both, have_still}
+use Rattle.ep_kernel.specs.Push.{Gains, passes_found}
+use Rattle.ep_kernel.specs.Reach.{AreLive}
+use Rattle.ep_kernel.proofs.ComesLemmas.{gains_in}
+use Rattle.ep_kernel.proofs.PushLemmas.{have_still}
 use Rattle.ep_kernel.proofs.push.push.Goals as goal
 use Rattle.ep_ready.specs.ReadyLists.{entry_id}
 
-pub push_nested-requires : goal.push_nested-requires
-push_nested-requires c =
+pub push_nested-requires-clause-places : goal.push_nested-requires-clause-places
+push_nested-requires-clause-places c =
     let p = c.args.parts.now in
     let gains : Gains (λ k. passes_found (entry_under p.interest (entry_id k))) c.args.lists.now c.push_passing.new.lists = rw (← c.parts.view_is) c.push_passing.ensures in
-    have_still p.interest (λ k. passes_found (entry_under p.interest (entry_id k))) c.args.lists.now c.push_passing.new.lists c.requires gains
+    have_still p.interest (λ k. passes_found (entry_under p.interest (entry_id k))) c.args.lists.now c.push_passing.new.lists c.requires.places gains
+
+pub push_nested-requires-clause-live : goal.push_nested-requires-clause-live
+push_nested-requires-clause-live c = subst (λ (ks : List ℕ). AreLive c.args.parts.now.tables ks) (sym c.push_passing.ensures.reached) c.requires.live
 
 pub returns : goal.returns
-returns c =
+returns c = λ n exact.
     let p = c.args.parts.now in
-    gains_both (λ k. passes_found (entry_under p.interest (entry_id k))) (λ k. list_any (λ l. comes_by c.args.step p l k) p.graph) c.args.lists.now c.push_passing.new.lists c.push_nested.new.lists (rw (← c.parts.view_is) c.push_passing.ensures) c.push_nested.ensures
+    gains_in n p c.known.ensures.coherent (rw (← c.parts.view_is) c.known-2.ensures) c.args.lists.now.reached exact c.args.lists.now c.push_passing.new.lists c.push_nested.new.lists (λ i. c.args.lists.now.reached) (rw (← c.parts.view_is) c.push_passing.ensures) c.push_nested.ensures

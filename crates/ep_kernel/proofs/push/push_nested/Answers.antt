@@ -1,35 +1,42 @@
-use Rattle.std.proofs.Common.{◌≡◌, ◌∙◌, List, arith, subst, sym, take, take_all}
-use Rattle.std.specs.Prelude.{All}
-use Rattle.std.proofs.lemmas.List.Elements.{All-get_or}
+use Rattle.std.proofs.Common.{◌≡◌, ◌∙◌, ◌<◌, ℕ, List, Some, ap, arith, get_or, length, slice_get, subst, sym, take, take_all}
 use Rattle.std.specs.List.{list_any}
-use Rattle.ep_plain.proofs.ClimbLemmas.{LeadsToLive, links_live}
-use Rattle.ep_kernel.specs.Push.{Gains, comes_by}
+use Rattle.std.proofs.lemmas.Option.{get_or_from_slice_get}
+use Rattle.ep_kernel.proofs.ComesLemmas.{among_here}
 use Rattle.ep_kernel.proofs.PushLemmas.{any_next, gains_none, have_still}
+use Rattle.ep_kernel.specs.Push.{Gains, comes_on}
 use Rattle.ep_kernel.proofs.push.push_nested.Goals as goal
-use Rattle.ep_nest.specs.declared.link.Link.{Link}
+use Rattle.ep_machine.specs.Lists.{is_among}
 
-abbrev nowhere : Link
-nowhere = record { outer = record { 0 = 0 }; inner = record { 0 = 0 }; entry = record { 0 = 0 } }
+pub loop-index-init : goal.loop-index-init
+loop-index-init c = gains_none c.args.lists.now
 
-pub loop-link-init : goal.loop-link-init
-loop-link-init c = gains_none c.args.lists.now
+pub reached_at-instance-requires : goal.reached_at-instance-requires
+reached_at-instance-requires c =
+    let same = ap (λ (ks : List ℕ). length ks) c.loop-index.invariant.reached in
+    omega (arith, same, c.loop-index-test.true, c.reached_count-index-end.ensures)
 
 pub push_above-requires-clause-places : goal.push_above-requires-clause-places
-push_above-requires-clause-places c = have_still c.args.parts.now.interest _ c.args.lists.now c.loop-link.lists c.requires c.loop-link.invariant
+push_above-requires-clause-places c = have_still c.args.parts.now.interest _ c.args.lists.now c.loop-index.lists c.requires.places c.loop-index.invariant
 
 pub push_above-requires-clause-live : goal.push_above-requires-clause-live
 push_above-requires-clause-live c =
-    let p = c.args.parts.now in
-    let links = c.links-link-items.result.now in
-    let whole : links ≡ p.graph = rw (← c.parts.view_is) c.links-link-items.ensures in
-    All-get_or (LeadsToLive p.tables p.interest) links c.loop-link.link-index nowhere c.loop-link-test.true
-    (subst (All (LeadsToLive p.tables p.interest)) (sym (whole ∙ c.known.ensures.coherent.nested)) (links_live p.tables p.interest p.interest.entries c.known.ensures.coherent.linked))
+    let ks = c.args.lists.now.reached in
+    let i = c.loop-index.index in
+    let less : i < length ks = omega (arith, c.loop-index-test.true, c.reached_count-index-end.ensures) in
+    let here : get_or ks i 0 ≡ c.reached_at-instance.result.0 = get_or_from_slice_get ks i c.reached_at-instance.result.0 0 (ap (λ (xs : List ℕ). slice_get xs i) (sym c.loop-index.invariant.reached) ∙ c.reached_at-instance.ensures) in
+    c.requires.live c.reached_at-instance.result (ap (is_among ks) (sym here) ∙ among_here ks i 0 less)
 
-pub loop-link-preserved : goal.loop-link-preserved
-loop-link-preserved c = any_next (λ x. comes_by c.args.step c.args.parts.now x) c.links-link-items.result.now c.loop-link.link-index nowhere c.args.lists.now c.loop-link.lists c.push_above.new.lists c.loop-link-test.true c.loop-link.invariant c.push_above.ensures
+pub loop-index-preserved : goal.loop-index-preserved
+loop-index-preserved c =
+    let ks = c.args.lists.now.reached in
+    let i = c.loop-index.index in
+    let less : i < length ks = omega (arith, c.loop-index-test.true, c.reached_count-index-end.ensures) in
+    let here : get_or ks i 0 ≡ c.reached_at-instance.result.0 = get_or_from_slice_get ks i c.reached_at-instance.result.0 0 (ap (λ (xs : List ℕ). slice_get xs i) (sym c.loop-index.invariant.reached) ∙ c.reached_at-instance.ensures) in
+    any_next (λ j k. comes_on c.args.parts.now (record { 0 = j }) k) ks i 0 c.args.lists.now c.loop-index.lists c.push_above.new.lists less c.loop-index.invariant
+    (subst (λ (j : ℕ). Gains (comes_on c.args.parts.now (record { 0 = j })) c.loop-index.lists c.push_above.new.lists) (sym here) c.push_above.ensures)
 
 pub returns : goal.returns
 returns c =
-    let all = c.links-link-items.result.now in
-    let whole : take c.loop-link.link-index all ≡ c.args.parts.now.graph = take_all c.loop-link.link-index all (omega (arith, c.loop-link-test.false)) ∙ (rw (← c.parts.view_is) c.links-link-items.ensures) in
-    subst (λ (ls : List Link). Gains (λ k. list_any (λ x. comes_by c.args.step c.args.parts.now x k) ls) c.args.lists.now c.loop-link.lists) whole c.loop-link.invariant
+    let ks = c.args.lists.now.reached in
+    let whole : take c.loop-index.index ks ≡ ks = take_all c.loop-index.index ks (omega (arith, c.loop-index-test.false, c.reached_count-index-end.ensures)) in
+    subst (λ (xs : List ℕ). Gains (λ k. list_any (λ i. comes_on c.args.parts.now (record { 0 = i }) k) xs) c.args.lists.now c.loop-index.lists) whole c.loop-index.invariant

@@ -5,8 +5,8 @@ use Rattle.ep_kernel.proofs.SurvivalLemmas.{Leaves, places_left}
 use Rattle.ep_kernel.specs.Places.{LosesDying}
 use Rattle.ep_kernel.proofs.settle.settle.Goals as goal
 
-pub push-requires : goal.push-requires
-push-requires c =
+pub climb-requires-clause-places : goal.climb-requires-clause-places
+climb-requires-clause-places c =
     let mid = c.args.parts.now in
     let noted = c.raise.new.self in
     let buried = c.bury.new.self in
@@ -30,7 +30,6 @@ pub returns : goal.returns
 returns c = record {
   noted = c.raise.new.self;
   buried = c.bury.new.self;
-  climbed = c.climb_instances.new.parts;
   between = c.drop_dying.new.lists;
   coherent = c.know.ensures.coherent;
   tables = c.know.ensures.tables;
@@ -47,11 +46,10 @@ returns c = record {
   coherent_buried = c.know-3.ensures.coherent;
   tables_buried = c.know-3.ensures.tables;
   sound_buried = c.know-3.ensures.interest;
-  gains = c.push.ensures;
-  climbs = c.climb_instances.ensures.climbs;
-  climbed_keys = c.climb_instances.ensures.keys;
-  climbed_others = c.climb_instances.ensures.others;
+  gains = c.climb.ensures.gains;
+  reached = c.climb.ensures.reached;
+  climbs = c.climb.ensures.climbs;
+  climbed_keys = c.climb.ensures.keys;
+  climbed_others = c.climb.ensures.others;
   climbed_sound = c.know-4.ensures.interest;
-  marks = c.mark_waiters.ensures.marks;
-  marked_others = c.mark_waiters.ensures.others;
 }

@@ -6,8 +6,9 @@ use Rattle.ep_calls.specs.Book.{Book, state_of}
 use Rattle.ep_calls.specs.Parts.{Parts}
 use Rattle.ep_calls.proofs.KeepsLemmas.{record_of}
 use Rattle.ep_calls.proofs.KeptLemmas.{inline_event}
-use Rattle.ep_kernel.specs.Running.{Runs, book_of}
+use Rattle.ep_kernel.specs.Running.{Ends, Runs, book_of}
 use Rattle.ep_kernel.proofs.RunLemmas.{adds_on, does_fairly, runs_on, runs_same}
+use Rattle.ep_kernel.proofs.SettledLemmas.{ends_of}
 use Rattle.ep_kernel.proofs.ready.ReadyKernel.try_step.Goals as goal
 
 -- want of memory changes nothing
@@ -38,20 +39,24 @@ records c =
     c.push_reserved.ensures.items
     ∙ (λ i. c.reserve.ensures.items i ++ record { caller = c.args.caller; event = c.args.event; answer = outcome.same i; picked = outcome.picked } ∷ [])
 
+-- what follows the change
+ends : (c : goal.After-push_reserved) → Ends (c.len.result + 1) c.in_ok-answer.field-0.raising c.act.new.parts c.act.new.lists c.mark_waiters.new.parts c.settle.new.lists
+ends c = ends_of (c.len.result + 1) c.in_ok-answer.field-0.raising c.act.new.parts c.act.new.lists c.settle.new.parts c.settle.new.lists c.mark_waiters.new.parts c.settle.ensures c.mark_waiters.ensures.marks c.mark_waiters.ensures.others
+
 pub invariant_of-self-2 : goal.invariant_of-self-2
 invariant_of-self-2 c =
     let k = c.self.inside in
-    subst (λ (rs : List Record). Runs rs c.settle.new.parts c.settle.new.lists) (sym (records c))
-    (runs_on c.lists_go_on.ensures.law k.history.items k.parts c.act.new.parts c.settle.new.parts k.lists c.act.new.lists c.settle.new.lists c.self.invariant c.know.ensures.coherent c.know.ensures.tables c.know.ensures.interest c.known.ensures c.known-2.ensures
-    c.args.caller c.args.event c.in_ok-answer.field-0 (c.len.result + 1) (number c) c.in_ok-answer.ensures.ok c.in_ok-answer.ensures.turns c.settle.ensures)
+    subst (λ (rs : List Record). Runs rs c.mark_waiters.new.parts c.settle.new.lists) (sym (records c))
+    (runs_on c.lists_go_on.ensures.law k.history.items k.parts c.act.new.parts c.mark_waiters.new.parts k.lists c.act.new.lists c.settle.new.lists c.self.invariant c.know.ensures.coherent c.know.ensures.tables c.know.ensures.interest c.known.ensures c.known-2.ensures
+    c.args.caller c.args.event c.in_ok-answer.field-0 (c.len.result + 1) (number c) c.in_ok-answer.ensures.ok c.in_ok-answer.ensures.turns (ends c))
 
 pub returns-clause-ok : goal.returns-clause-ok
 returns-clause-ok c =
     let k = c.self.inside in
     let outcome = c.in_ok-answer.field-0 in
-    let new : Book = record { limits = c.settle.new.parts.tables.limits; past = c.push_reserved.new.self.items; capacity = vec_capacity c.push_reserved.new.self } in
+    let new : Book = record { limits = c.mark_waiters.new.parts.tables.limits; past = c.push_reserved.new.self.items; capacity = vec_capacity c.push_reserved.new.self } in
     let adds =
-    adds_on c.lists_go_on.ensures.law k.history.items k.parts c.act.new.parts c.settle.new.parts k.lists c.act.new.lists c.settle.new.lists c.self.invariant c.know.ensures.coherent c.know.ensures.tables c.know.ensures.interest c.known.ensures c.known-2.ensures
-    c.args.caller c.args.event outcome (c.len.result + 1) (number c) c.in_ok-answer.ensures.ok c.in_ok-answer.ensures.turns c.settle.ensures in
+    adds_on c.lists_go_on.ensures.law k.history.items k.parts c.act.new.parts c.mark_waiters.new.parts k.lists c.act.new.lists c.settle.new.lists c.self.invariant c.know.ensures.coherent c.know.ensures.tables c.know.ensures.interest c.known.ensures c.known-2.ensures
+    c.args.caller c.args.event outcome (c.len.result + 1) (number c) c.in_ok-answer.ensures.ok c.in_ok-answer.ensures.turns (ends c) in
     subst (λ (b : Book). Adds b.limits c.args.caller c.args.event outcome.answer (state_of b) (state_of new) b.past new.past) c.self.view_is
     (subst (λ (rs : List Record). Adds k.parts.tables.limits c.args.caller c.args.event outcome.answer (state_of (book_of k)) (state_of (record new { past = rs })) k.history.items rs) (sym (records c)) adds)

@@ -1,0 +1,54 @@
+use Rattle.std.proofs.Common.{◌∙◌, ℕ, List, ap, subst, sym}
+use Rattle.ep_calls.specs.Climb.{Climbs}
+use Rattle.ep_calls.specs.Parts.{Parts}
+use Rattle.ep_kernel.proofs.ComesLemmas.{live_of}
+use Rattle.ep_kernel.proofs.PushLemmas.{appends}
+use Rattle.ep_kernel.specs.Listed.{HavePlaces}
+use Rattle.ep_kernel.specs.Push.{Gains, comes_in}
+use Rattle.ep_kernel.specs.Reach.{AreLive, AreReached}
+use Rattle.ep_kernel.proofs.climb.climb.Goals as goal
+use Rattle.ep_ready.specs.ReadyLists.{Lists, instance_at}
+
+pub push-requires-clause-places : goal.push-requires-clause-places
+push-requires-clause-places c =
+    subst (λ (q : Parts). HavePlaces q.interest c.reach.new.lists) (sym c.reach.ensures.parts) (λ id. ap (λ (l : Lists). instance_at l id) c.reach.ensures.others ∙ c.requires.places id)
+
+pub push-requires-clause-live : goal.push-requires-clause-live
+push-requires-clause-live c =
+    let p = c.args.parts.now in
+    subst (λ (q : Parts). AreLive q.tables c.reach.new.lists.reached) (sym c.reach.ensures.parts) (live_of c.args.step p.tables p.interest c.reach.new.lists.reached c.reach.ensures.reached)
+
+pub freshen-requires : goal.freshen-requires
+freshen-requires c =
+    let n = c.args.step in
+    let exact = subst (λ (q : Parts). AreReached n q.tables q.interest c.reach.new.lists.reached) (sym c.reach.ensures.parts) c.reach.ensures.reached in
+    let gains = c.push.ensures n exact in
+    (n, subst (AreReached n c.reach.new.parts.tables c.reach.new.parts.interest) (sym gains.reached) exact)
+
+pub returns-clause-gains : goal.returns-clause-gains
+returns-clause-gains c =
+    let n = c.args.step in
+    let exact = subst (λ (q : Parts). AreReached n q.tables q.interest c.reach.new.lists.reached) (sym c.reach.ensures.parts) c.reach.ensures.reached in
+    appends (comes_in n c.args.parts.now) c.args.lists.now c.reach.new.lists c.push.new.lists c.reach.ensures.others
+    (subst (λ (q : Parts). Gains (comes_in n q) c.reach.new.lists c.push.new.lists) c.reach.ensures.parts (c.push.ensures n exact))
+
+pub returns-clause-reached : goal.returns-clause-reached
+returns-clause-reached c =
+    let n = c.args.step in
+    let p = c.args.parts.now in
+    let exact = subst (λ (q : Parts). AreReached n q.tables q.interest c.reach.new.lists.reached) (sym c.reach.ensures.parts) c.reach.ensures.reached in
+    subst (AreReached n p.tables p.interest) (sym (c.push.ensures n exact).reached) c.reach.ensures.reached
+
+pub returns-clause-climbs : goal.returns-clause-climbs
+returns-clause-climbs c =
+    let n = c.args.step in
+    let exact = subst (λ (q : Parts). AreReached n q.tables q.interest c.reach.new.lists.reached) (sym c.reach.ensures.parts) c.reach.ensures.reached in
+    let gains = c.push.ensures n exact in
+    subst (λ (q : Parts). Climbs n q.tables q.interest c.freshen.new.parts.interest) c.reach.ensures.parts
+    (c.freshen.ensures.climbs n (subst (AreReached n c.reach.new.parts.tables c.reach.new.parts.interest) (sym gains.reached) exact))
+
+pub returns-clause-keys : goal.returns-clause-keys
+returns-clause-keys c = c.freshen.ensures.keys ∙ ap (λ (q : Parts). q.interest.keys) c.reach.ensures.parts
+
+pub returns-clause-others : goal.returns-clause-others
+returns-clause-others c = c.freshen.ensures.others ∙ ap (λ (q : Parts). record q { interest = c.freshen.new.parts.interest }) c.reach.ensures.parts

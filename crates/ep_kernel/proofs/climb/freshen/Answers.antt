@@ -1,0 +1,32 @@
+use Rattle.std.proofs.Common.{map, refl, subst, sym}
+use Rattle.ep_calls.specs.Climb.{Climbs}
+use Rattle.ep_calls.specs.Parts.{Parts}
+use Rattle.ep_view.specs.KernelView.{climbed, reached_now}
+use Rattle.ep_calls.specs.Stands.{watch_at}
+use Rattle.ep_calls.proofs.PartsLemmas.{watched_by}
+use Rattle.ep_kernel.proofs.ComesLemmas.{live_of}
+use Rattle.ep_kernel.specs.Reach.{AreLive, AreReached}
+use Rattle.ep_kernel.proofs.climb.freshen.Goals as goal
+
+pub freshen_reached-requires-clause-live : goal.freshen_reached-requires-clause-live
+freshen_reached-requires-clause-live c = subst (λ (q : Parts). AreLive q.tables c.args.lists.now.reached) (sym c.parts.view_is) (live_of c.requires.0 c.args.parts.now.tables c.args.parts.now.interest c.args.lists.now.reached c.requires.1)
+
+pub invariant_of-parts : goal.invariant_of-parts
+invariant_of-parts c =
+    let k = c.parts.inside in
+    let h = c.parts.invariant in
+    let n = c.requires.0 in
+    let climbs = c.freshen_reached.ensures.climbs n (subst (λ (q : Parts). AreReached n q.tables q.interest c.args.lists.now.reached) (sym c.parts.view_is) c.requires.1) in
+    record {
+      linked = climbs.linked;
+      watched = watched_by k.tables k.interest.entries c.freshen_reached.new.interest.entries (climbed (reached_now k.tables.files n (map (watch_at k.tables.keys) k.interest.entries)) k.tables.files) (λ w. refl) climbs.watches h.watched;
+      nested = c.freshen_reached.ensures.nested k.graph h.nested;
+      placed = h.placed;
+      held = h.held;
+      clock = h.clock;
+    }
+
+pub returns-clause-climbs : goal.returns-clause-climbs
+returns-clause-climbs c = λ n exact.
+    subst (λ (q : Parts). Climbs n q.tables q.interest c.freshen_reached.new.interest) c.parts.view_is
+    (c.freshen_reached.ensures.climbs n (subst (λ (q : Parts). AreReached n q.tables q.interest c.args.lists.now.reached) (sym c.parts.view_is) exact))
