@@ -26,7 +26,7 @@ pub use crate::kernel::Kernel;
 pub use crate::outcome::Outcome;
 pub use crate::parts::Parts;
 pub use crate::raising::Raising;
-pub use crate::readiness::{is_ready_now, is_reportable, shown};
+pub use crate::readiness::{is_ready_now, is_reportable, shown, shown_at};
 pub use crate::runs::{ready_waiters_are_marked, run};
 pub use crate::spare::Spare;
 pub use crate::wait::{Reportable, Wait, find_instance};

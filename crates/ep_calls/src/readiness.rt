@@ -26,7 +26,7 @@ fn present(tables: &Tables, now: u64, desc: DescId, below: bool) -> Mask
 }
 
 /// The bits that a registration shows: where it is armed, those of its target that its mask asks for, ERR and HUP unasked.
-fn shown_at(tables: &Tables, now: u64, entry: &Entry, below: bool) -> Mask
+pub fn shown_at(tables: &Tables, now: u64, entry: &Entry, below: bool) -> Mask
     requires target { IsSome (number_under tables.now entry.now.desc) }
     requires clock { now ≤ last_moment }
     ensures { result.0 ≡ shown_over below tables.now now entry.now }

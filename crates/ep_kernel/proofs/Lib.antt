@@ -21,3 +21,5 @@ pub mod AlteredLemmas
 pub mod NextLemmas
 pub mod RunLemmas
 pub mod SettledLemmas
+pub mod ReadinessLemmas
+pub mod MarkLemmas

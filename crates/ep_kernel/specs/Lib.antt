@@ -1,5 +1,7 @@
 pub mod Listed
+pub mod Readiness
 pub mod Choose
+pub mod Mark
 pub mod Take
 pub mod Places
 pub mod Push

@@ -2,11 +2,12 @@
 ghost use Rattle.std.specs.Prelude.{◌≡◌, IfOk, IfSome, is_some};
 ghost use Rattle.ep_calls.specs.Wait.{IsKeyed};
 ghost use Rattle.ep_kernel.specs.Choose.{IsFound};
-ghost use Rattle.ep_kernel.specs.Listed.{key_shows};
+ghost use Rattle.ep_kernel.specs.Listed.{IsListed, key_shows};
 ghost use Rattle.ep_ready.specs.ReadyLists.{list_at};
 
+use crate::readiness::shown;
 use ep_base::{DescId, EntryId};
-use ep_calls::{Parts, Reportable, is_reportable, shown};
+use ep_calls::{Parts, Reportable, is_reportable};
 use ep_ready::ReadyLists;
 use std::alloc::AllocError;
 
@@ -18,7 +19,8 @@ pub struct Found {
 }
 
 /// The registration under a key with the bits that it shows, where it is reportable.
-fn reportable_at(parts: &Parts, id: EntryId) -> Option<Reportable>
+fn reportable_at(parts: &Parts, lists: &ReadyLists, id: EntryId) -> Option<Reportable>
+    requires listed { IsListed parts.now lists.now }
     ensures shows { is_some result ≡ key_shows parts.now id.0 }
     ensures id { IfSome result (λ x. x.id ≡ id) }
     ensures keyed { IfSome result (λ x. IsKeyed parts.now.tables parts.now.clock parts.now.interest x) }
@@ -26,7 +28,7 @@ fn reportable_at(parts: &Parts, id: EntryId) -> Option<Reportable>
     parts.known();
     parts.interest.known();
     let entry = parts.interest.get(id)?;
-    let bits = shown(&parts.tables, parts.clock, &parts.interest, entry);
+    let bits = shown(parts, lists, entry);
     if !is_reportable(entry, bits) {
         return None;
     }
@@ -38,13 +40,15 @@ fn reportable_at(parts: &Parts, id: EntryId) -> Option<Reportable>
 }
 
 /// The first reportable registrations on the list of an instance, at most so many.
-/// An `Err` is want of memory. Only the places up to the last of them are looked at.
+/// An `Err` is want of memory. Only the places up to the last of them are looked at, and where one watches an instance, the
+/// places on the lists of the instances below up to the first that is reportable.
 pub fn choose(
     parts: &Parts,
     lists: &ReadyLists,
     instance: DescId,
     most: usize,
 ) -> Result<Found, AllocError>
+    requires listed { IsListed parts.now lists.now }
     ensures { IfOk result (λ found. IsFound parts.now (list_at lists.now instance.0) most found.reportables.items found.walked) }
 {
     let mut reportables = Vec::new(parts.alloc);
@@ -55,7 +59,7 @@ pub fn choose(
             break;
         }
         walked += 1;
-        if let Some(x) = reportable_at(parts, id) {
+        if let Some(x) = reportable_at(parts, lists, id) {
             reportables.push(x)?;
         }
     }
