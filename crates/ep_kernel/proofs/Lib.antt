@@ -12,6 +12,8 @@ pub mod ControlLemmas
 pub mod ControlTurnsLemmas
 pub mod NumberLemmas
 pub mod PickLemmas
+pub mod ReadyBookLemmas
+pub mod ReportsFirstLemmas
 pub mod WaitTurnsLemmas
 pub mod ViewLemmas
 pub mod SurvivalLemmas

@@ -9,7 +9,7 @@ use Rattle.ep_base.specs.declared.call.Event.{Event}
 use Rattle.ep_calls.specs.Does.{Does, DoesCall, DoesCallIf, DoesEvent, DoesEventIf}
 use Rattle.ep_machine.specs.Refusal.{call_refusals, refusals}
 use Rattle.ep_machine.specs.Step.{call_change, change}
-use Rattle.ep_calls.specs.Moves.{MovesBy, MovesIf}
+use Rattle.ep_calls.specs.Moves.{MovesBy, MovesIf, StandFor}
 use Rattle.ep_calls.specs.Parts.{AreCoherent, Parts}
 use Rattle.ep_calls.specs.Wait.{AreKeyed, IsKeyed, IsPick, numbers_of}
 use Rattle.ep_calls.specs.declared.outcome.Outcome.{Outcome}
@@ -97,18 +97,23 @@ first_shown p keys most found walked h = elim h.all [
       all ∙ sym (take_all most (filter (key_shows p) keys) (omega (arith, len, few)))
 ]
 
--- what a walk finds along the list of an instance, the machine may pick
+-- what a walk finds along the list of an instance, by the numbers of the machine
+pub found_first : (p : Parts) (l : Lists) (i : DescId) (most walked : ℕ) (found : List Reportable) → AreCoherent p → SoundTables p.tables → IsSound p.interest → AreSoundLists l → IsListed p l
+    → IsFound p (list_at l i.0) most found walked → (s : State) → StandFor p s → numbers_of found ≡ take most (filter (is_reportable_in s (number_at p.tables.keys i)) (order_at p.interest l i.0))
+found_first p l i most walked found coherent tables sound lists listed h s stands =
+    let e = number_at p.tables.keys i in
+    let keys = list_at l i.0 in
+    found_numbers p found h.keyed
+    ∙ (ap (numbers_at p.interest) (first_shown p keys most found walked h)
+    ∙ (take_numbers p.interest most (filter (key_shows p) keys)
+    ∙ ap (take most) (filter_numbers p.interest (key_shows p) (is_reportable_in s e) keys (shows_at p s stands sound coherent.linked tables l listed.places lists i))))
+
+-- the machine may pick it
 pub found_is_pick : (p : Parts) (l : Lists) (i : DescId) (most walked : ℕ) (found : List Reportable) (n : ℕ) → AreCoherent p → SoundTables p.tables → IsSound p.interest → AreSoundLists l → IsListed p l
     → IsSome (desc_number p.tables i) → IsFound p (list_at l i.0) most found walked → MovesBy n p (λ s. AreFair s p l → IsPick p.tables i most found s)
 found_is_pick p l i most walked found n coherent tables sound lists listed lives h = λ s at sound_state quiet legal stands fair.
     let e = number_at p.tables.keys i in
-    let keys = list_at l i.0 in
-    let same : numbers_of found ≡ take most (filter (is_reportable_in s e) (order_at p.interest l i.0)) =
-    found_numbers p found h.keyed
-    ∙ (ap (numbers_at p.interest) (first_shown p keys most found walked h)
-    ∙ (take_numbers p.interest most (filter (key_shows p) keys)
-    ∙ ap (take most) (filter_numbers p.interest (key_shows p) (is_reportable_in s e) keys (shows_at p s stands sound coherent.linked tables l listed.places lists i)))) in
-    subst (λ (ns : List ℕ). is_pick s e most ns ≡ true) (sym same)
+    subst (λ (ns : List ℕ). is_pick s e most ns ≡ true) (sym (found_first p l i most walked found coherent tables sound lists listed h s stands))
     (first_are_pick s e most (order_at p.interest l i.0) sound_state (distinct_order p s stands sound coherent.linked tables l listed.places lists i.0) (fair i.0)
     (complete_order p s stands sound coherent.linked tables l listed.places listed.complete i lives))
 

@@ -1,11 +1,11 @@
 -- Places taken away one after another.
-use Rattle.std.proofs.Common.{◌≡◌, ◌≢◌, ◌++◌, ◌&&◌, ◌||◌, ◌==◌, ◌∙◌, ℕ, Bool, true, false, List, [], ◌∷◌, None, Option, Some, ap, append-nil, cond, eqb, filter, inl, inr, is_some, map, nat_eq, not, refl, rules, subst, sym}
+use Rattle.std.proofs.Common.{◌≡◌, ◌++◌, ◌||◌, ◌==◌, ◌∙◌, ℕ, Bool, true, false, List, [], ◌∷◌, None, Option, Some, ap, append-nil, cond, filter, inl, inr, is_some, map, nat_eq, not, refl, rules, subst, sym}
 use Rattle.std.specs.List.{list_any}
 use Rattle.std.proofs.lemmas.Bool.{cases_Bool, cases_eq}
 use Rattle.std.proofs.lemmas.List.{append_assoc}
 use Rattle.ep_base.specs.declared.ids.DescId.{DescId}
 use Rattle.ep_base.specs.declared.ids.EntryId.{EntryId}
-use Rattle.ep_interest.specs.Passes.{has_id, key_numbers}
+use Rattle.ep_interest.specs.Passes.{has_id}
 use Rattle.ep_interest.specs.Registrations.{Registrations, id_of, ids, with_ids}
 use Rattle.ep_interest.specs.declared.entry.Entry.{Entry}
 use Rattle.ep_machine.specs.Lists.{is_among}

@@ -1,12 +1,12 @@
 -- What holds of the kernel at the start, where an event changes nothing, and over one event.
-use Rattle.std.proofs.Common.{◌≡◌, ◌∙◌, ◌+◌, ◌++◌, ℕ, false, List, [], ◌∷◌, None, Option, Some, ap, length, map, refl, subst, sym, unwrap_or}
+use Rattle.std.proofs.Common.{◌≡◌, ◌∙◌, ◌+◌, ◌++◌, ℕ, false, List, [], ◌∷◌, None, Option, Some, ap, filter, length, map, refl, subst, sym, take, unwrap_or}
 use Rattle.std.proofs.lemmas.Bool.{false≢true}
 use Rattle.ep_base.specs.Limits.{Limits}
 use Rattle.ep_base.specs.declared.call.Event.{Event}
 use Rattle.ep_base.specs.declared.ids.CallerId.{CallerId}
 use Rattle.ep_base.specs.declared.ids.EntryId.{EntryId}
 use Rattle.ep_base.specs.declared.record.Record.{Record}
-use Rattle.ep_calls.proofs.KeepsLemmas.{DoesAt, Settles, adds_next, keeps_opening, record_of}
+use Rattle.ep_calls.proofs.KeepsLemmas.{DoesAt, Settles, adds_next, keeps_opening, record_of, state_is}
 use Rattle.ep_calls.specs.Acts.{Adds}
 use Rattle.ep_calls.specs.Does.{DoesEventIf}
 use Rattle.ep_calls.specs.Moves.{StandFor}
@@ -18,14 +18,17 @@ use Rattle.ep_kernel.proofs.JoinLemmas.{Follows}
 use Rattle.ep_kernel.proofs.NextLemmas.{runs_next}
 use Rattle.ep_interest.specs.declared.entry.Entry.{Entry}
 use Rattle.std.specs.Option.{option_map}
-use Rattle.ep_kernel.specs.Listed.{AreFair, HavePlaces, key_shows, order_at, shows_found}
+use Rattle.ep_kernel.proofs.ReportsFirstLemmas.{waits_begun}
+use Rattle.ep_kernel.specs.Listed.{AreFair, HavePlaces, key_shows, lists_of, order_at, shows_found}
+use Rattle.ep_kernel.specs.ReadyBook.{ReportsFirst, list_of}
 use Rattle.ep_kernel.specs.Running.{Ends, Runs}
 use Rattle.ep_kernel.specs.Turns.{Turns}
+use Rattle.ep_kernel.specs.Wait.{ReportsInOrder}
 use Rattle.ep_law.proofs.GraphLemmas.{graph_stays_legal}
 use Rattle.ep_law.proofs.SoundLemmas.{sound_begun}
 use Rattle.ep_machine.specs.Lists.{is_among}
 use Rattle.ep_machine.specs.Run.{run}
-use Rattle.ep_machine.specs.State.{opening}
+use Rattle.ep_machine.specs.State.{State, opening}
 use Rattle.ep_machine.specs.Step.{next_event}
 use Rattle.ep_order.proofs.EventLemmas.{beginning_keeps_turns}
 use Rattle.ep_order.specs.Event.{ListsGoOn}
@@ -137,3 +140,16 @@ module _ (law : ListsGoOn) (past : List Record) (old mid new : Parts) (l0 l1 l3 
 
   pub adds_on : Adds old.tables.limits caller event outcome.answer (unwrap_or (run old.tables.limits opening past) opening) (unwrap_or (run new.tables.limits opening (past ++ record_of caller event outcome ∷ [])) opening) past (past ++ record_of caller event outcome ∷ [])
   adds_on = adds_next past old mid ends.noted ends.buried ends.climbed new runs.keeps caller event outcome n at does_at settles
+
+  -- it reports in the order of the lists
+  pub first_on : ReportsInOrder l0 n caller.0 event outcome old → ReportsFirst (unwrap_or (run old.tables.limits opening past) opening) caller.0 event outcome.answer outcome.picked (list_of (lists_of old l0))
+  first_on told =
+      let keeps = runs.keeps in
+      let s = keeps.state in
+      let begins : (next_event s).n ≡ n = ap (λ (k : ℕ). k + 1) keeps.n ∙ sym at in
+      let legal = graph_stays_legal old.tables.limits past s keeps.leads in
+      let stand : StandFor old (next_event s) = record { now = keeps.stands.now; files = keeps.stands.files; watches = keeps.stands.watches; added = keeps.stands.added; waiters = keeps.stands.waiters } in
+      let first = told (next_event s) begins (sound_begun s keeps.sound) (quiet_begun s keeps.quiet) legal stand in
+      subst (λ (u : State). ReportsFirst u caller.0 event outcome.answer outcome.picked (list_of (lists_of old l0))) (sym (state_is past old keeps))
+      (λ e most reports is waits. first e most reports is (waits_begun s caller.0 event e most waits)
+      ∙ ap (λ (o : Order). take most (filter o.ready (list_of (lists_of old l0) e))) (beginning_keeps_turns s e))

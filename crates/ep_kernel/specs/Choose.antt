@@ -4,7 +4,6 @@ use Rattle.ep_calls.specs.Parts.{Parts}
 use Rattle.ep_calls.specs.Wait.{AreKeyed}
 use Rattle.ep_calls.specs.declared.wait.Reportable.{Reportable}
 use Rattle.ep_kernel.specs.Listed.{key_shows}
-use Rattle.ep_ready.specs.ReadyLists.{Lists, list_at}
 
 abbrev pub keys_of : List Reportable → List ℕ
 keys_of xs = map (λ x. x.id.0) xs

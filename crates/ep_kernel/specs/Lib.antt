@@ -1,3 +1,4 @@
+pub mod ReadyBook
 pub mod Listed
 pub mod Readiness
 pub mod Choose

@@ -1,12 +1,13 @@
 -- How ready lists fit the registrations.
 use Rattle.std.specs.Option.{option_map}
-use Rattle.std.specs.Prelude.{◌≡◌, ◌&&◌, ◌||◌, Bool, List, None, Option, Some, false, filter, map, not, true, unwrap_or, ℕ}
+use Rattle.std.specs.Prelude.{◌≡◌, ◌&&◌, ◌||◌, Bool, List, [], ◌∷◌, None, Option, Some, false, map, not, suc, true, unwrap_or, ℕ}
 use Rattle.ep_base.specs.declared.ids.EntryId.{EntryId}
 use Rattle.ep_calls.specs.Parts.{Parts}
 use Rattle.ep_calls.specs.Readiness.{entry_shows, readiness}
 use Rattle.ep_calls.specs.Stands.{number_at}
 use Rattle.ep_interest.specs.Registrations.{Registrations, entry_under, number_under}
 use Rattle.ep_interest.specs.declared.entry.Entry.{Entry}
+use Rattle.ep_kernel.specs.ReadyBook.{InstanceList}
 use Rattle.ep_machine.specs.Bits.{ET, has_bit}
 use Rattle.ep_machine.specs.State.{State}
 use Rattle.ep_order.specs.Order.{IsFairOrder}
@@ -50,3 +51,17 @@ order_at r l i = map (λ k. unwrap_or (number_under r (entry_id k)) 0) (list_at 
 -- at a state of the machine: whoever stands before a reportable one was not reported since that one came to be reportable
 abbrev pub AreFair : State → Parts → Lists → Type 0
 AreFair s p l = (i : ℕ) → IsFairOrder (turns_of s (number_at p.tables.keys (record { 0 = i }))) (order_at p.interest l i)
+
+-- the list of instance d in front, if it is not empty
+abbrev pub with_first : ℕ → List ℕ → List InstanceList → List InstanceList
+with_first d [] xs = xs
+with_first d (k ∷ ks) xs = record { instance = d; registrations = k ∷ ks } ∷ xs
+
+-- the lists under keys, by the numbers of their instances
+abbrev pub lists_under : (ℕ → List ℕ) → List (Option ℕ) → List InstanceList
+lists_under order [] = []
+lists_under order (None ∷ keys) = lists_under (λ i. order (suc i)) keys
+lists_under order (Some d ∷ keys) = with_first d (order 0) (lists_under (λ i. order (suc i)) keys)
+
+abbrev pub lists_of : Parts → Lists → List InstanceList
+lists_of p l = lists_under (order_at p.interest l) p.tables.keys

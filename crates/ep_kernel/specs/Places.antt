@@ -1,6 +1,6 @@
 -- The places that go with registrations.
 use Rattle.std.specs.List.{list_any}
-use Rattle.std.specs.Prelude.{◌≡◌, ◌||◌, Bool, List, None, Option, Some, false, filter, if◌then◌else◌, map, not, ℕ}
+use Rattle.std.specs.Prelude.{◌≡◌, ◌||◌, Bool, List, None, Some, filter, if◌then◌else◌, map, not, ℕ}
 use Rattle.ep_base.specs.declared.ids.DescId.{DescId}
 use Rattle.ep_base.specs.declared.ids.EntryId.{EntryId}
 use Rattle.ep_interest.specs.Passes.{has_id}

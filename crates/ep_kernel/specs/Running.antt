@@ -1,7 +1,6 @@
 -- What holds of the kernel with ready lists between two events, and what the end of an event does.
 use Rattle.std.specs.Prelude.{◌≡◌, List, vec_capacity, ℕ}
 use Rattle.ep_base.specs.declared.record.Record.{Record}
-use Rattle.ep_calls.specs.Book.{Book}
 use Rattle.ep_calls.specs.Burial.{Burial}
 use Rattle.ep_calls.specs.Climb.{Climbs}
 use Rattle.ep_calls.specs.Ids.{KeepsIds}
@@ -11,10 +10,11 @@ use Rattle.ep_calls.specs.Parts.{AreCoherent, Parts}
 use Rattle.ep_calls.specs.Raising.{Stirs}
 use Rattle.ep_calls.specs.declared.raising.Raising.{Raising}
 use Rattle.ep_interest.specs.Registrations.{IsSound as AreSound}
-use Rattle.ep_kernel.specs.Listed.{AreFair, IsListed}
+use Rattle.ep_kernel.specs.Listed.{AreFair, IsListed, lists_of}
 use Rattle.ep_kernel.specs.Places.{LosesDying}
 use Rattle.ep_kernel.specs.Push.{Appends, comes_in}
 use Rattle.ep_kernel.specs.Reach.{AreReached}
+use Rattle.ep_kernel.specs.ReadyBook.{ReadyBook}
 use Rattle.ep_kernel.specs.declared.ready.ReadyKernel.TheInside.{Inside}
 use Rattle.ep_machine.specs.Marks.{marked_by}
 use Rattle.ep_ready.specs.ReadyLists.{Lists}
@@ -27,8 +27,11 @@ pub record Runs (past : List Record) (p : Parts) (l : Lists) : Type 0 where
   pub listed : IsListed p l
   pub fair : AreFair keeps.state p l
 
-abbrev pub book_of : Inside → Book
-book_of k = record { limits = k.parts.tables.limits; past = k.history.items; capacity = vec_capacity k.history }
+abbrev pub book_of : Inside → ReadyBook
+book_of k = record {
+  book = record { limits = k.parts.tables.limits; past = k.history.items; capacity = vec_capacity k.history };
+  lists = lists_of k.parts k.lists;
+}
 
 abbrev pub IsRunning : Inside → Type 0
 IsRunning k = Runs k.history.items k.parts k.lists

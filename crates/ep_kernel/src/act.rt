@@ -5,7 +5,7 @@ ghost use Rattle.ep_base.specs.declared.call.Event.TheVariants.{Call as CallOf};
 ghost use Rattle.ep_calls.specs.Kept.{KeepsCall, KeepsEvent};
 ghost use Rattle.ep_kernel.specs.Listed.{IsListed};
 ghost use Rattle.ep_kernel.specs.Turns.{Turns};
-ghost use Rattle.ep_kernel.specs.Wait.{DoesCallFairly, DoesEventFairly};
+ghost use Rattle.ep_kernel.specs.Wait.{DoesCallFairly, DoesEventFairly, ReportsInOrder};
 ghost use Rattle.ep_machine.specs.Files.{table_of};
 ghost use Rattle.ep_park.specs.Waiters.{is_caller};
 ghost use Rattle.ep_ready.specs.ReadyLists.{Same};
@@ -40,6 +40,7 @@ fn make_call(
     ensures ok { IfOk result (λ outcome. DoesCallFairly lists.old request.step request.caller.0 pid.0 call.now outcome parts.old parts.new) }
     ensures kept { IfOk result (λ outcome. KeepsCall call.now request.kept outcome) }
     ensures turns { IfOk result (λ outcome. Turns (CallOf pid call.now) outcome.picked parts.old lists.old parts.new lists.new) }
+    ensures order { IfOk result (λ outcome. ReportsInOrder lists.old request.step request.caller.0 (CallOf pid call.now) outcome parts.old) }
     ensures err { OnErr result ((parts.new ≡ parts.old) × Same lists.old lists.new) }
 {
     match *call {
@@ -93,6 +94,7 @@ pub fn act(
     ensures ok { IfOk result (λ outcome. DoesEventFairly lists.old step caller.0 event.now outcome parts.old parts.new) }
     ensures kept { IfOk result (λ outcome. KeepsEvent event.now kept outcome) }
     ensures turns { IfOk result (λ outcome. Turns event.now outcome.picked parts.old lists.old parts.new lists.new) }
+    ensures order { IfOk result (λ outcome. ReportsInOrder lists.old step caller.0 event.now outcome parts.old) }
     ensures err { OnErr result ((parts.new ≡ parts.old) × Same lists.old lists.new) }
 {
     match event {

@@ -1,8 +1,12 @@
 //! The kernel with ready lists.
-ghost use Rattle.std.specs.Prelude.{◌≡◌, ◌≤◌, [], IfOk, OnErr, false, true};
-ghost use Rattle.ep_calls.specs.Acts.{Adds, is_no_memory};
-ghost use Rattle.ep_calls.specs.Book.{state_of};
-ghost use Rattle.ep_calls.specs.KeptRecords.{Gains, HasRecord};
+ghost use Rattle.std.specs.Prelude.{◌≡◌, ◌≤◌, [], All, IfOk, OnErr, false, true, ℕ};
+ghost use Rattle.ep_calls.specs.Acts.{Acts, Adds, is_no_memory};
+ghost use Rattle.ep_calls.specs.KeptRecords.{Gains, HasRecord, KeepsRecord};
+ghost use Rattle.ep_kernel.specs.ReadyBook.{ActsOnLists, MayBeListed, TurnsLists, listed, state_of};
+ghost use Rattle.ep_law.specs.Laws.{is_reportable_in};
+ghost use Rattle.ep_machine.specs.Files.{object_of};
+ghost use Rattle.ep_machine.specs.Lists.{are_distinct, is_among};
+ghost use Rattle.ep_view.specs.AtRest.{IsSteady, kind_of};
 
 use crate::act::act;
 use crate::settle::{know, settle};
@@ -15,7 +19,8 @@ use std::alloc::{AllocError, Global};
 use std::marker::Model;
 
 /// A kernel with a ready list for each instance: a wait looks at the front of the list of its instance.
-/// Contracts see its limits, its history, and how many records fit.
+/// Contracts see its limits, its history, how many records fit, and by the number of each instance which registrations
+/// stand on its list, in order.
 #[derive(Drop)]
 pub struct ReadyKernel {
     parts: Parts,
@@ -24,9 +29,9 @@ pub struct ReadyKernel {
 }
 
 impl Model for ReadyKernel {
-    ghost use Rattle.ep_calls.specs.Book.{Book};
+    ghost use Rattle.ep_kernel.specs.ReadyBook.{ReadyBook};
 
-    ghost Value = { Book };
+    ghost Value = { ReadyBook };
 
     ghost use Rattle.ep_kernel.specs.Running.{book_of, IsRunning};
 
@@ -39,13 +44,27 @@ impl ReadyKernel {
     /// A kernel in the opening state: process 1, whose descriptors 0, 1 and 2 name one plain object,
     /// and an empty history. An `Err` is want of memory.
     pub fn new(alloc: Global, limits: Limits) -> Result<ReadyKernel, AllocError>
-        ensures { IfOk result (λ kernel. kernel ≡ record { limits = limits; past = []; capacity = 0 }) }
+        ensures { IfOk result (λ kernel. kernel ≡ record { book = record { limits = limits; past = []; capacity = 0 }; lists = [] }) }
     {
         Ok(ReadyKernel {
             parts: Parts::new(alloc, limits)?,
             lists: ReadyLists::new(alloc),
             history: Vec::new(alloc),
         })
+    }
+
+    /// Does nothing. What holds of the ready lists between two events; a fact for proofs: each reportable registration is
+    /// on the list of its instance, what is on one is armed, and fresh where it is edge-triggered, and none is on one twice.
+    /// The instance and the target of each registration live, and each waiter waits at an instance.
+    pub fn known(&self)
+        ensures complete { (e k : ℕ) → is_reportable_in (state_of self.now) e k ≡ true → is_among (listed self.now e) k ≡ true }
+        ensures sound { (e k : ℕ) → is_among (listed self.now e) k ≡ true → MayBeListed (state_of self.now) e k }
+        ensures once { (e : ℕ) → are_distinct (listed self.now e) ≡ true }
+        ensures live { All (λ x. IsSteady (state_of self.now).files x.instance x.target) (state_of self.now).watches }
+        ensures waiting { All (λ w. kind_of (object_of (state_of self.now).files w.instance) ≡ 1) (state_of self.now).waiters }
+    {
+        know(&self.parts);
+        self.lists.known();
     }
 
     /// One event. `kept`: what a second record of it is made of is asked for.
@@ -56,12 +75,14 @@ impl ReadyKernel {
         event: Event,
         kept: bool,
     ) -> Result<(Answer, Option<Spare>), AllocError>
-        ensures limits { self.new.limits ≡ self.old.limits }
-        ensures capacity { self.old.capacity ≤ self.new.capacity }
-        ensures ok { IfOk result (λ r. Adds self.old.limits caller event r.0 (state_of self.old) (state_of self.new) self.old.past self.new.past) }
+        ensures limits { self.new.book.limits ≡ self.old.book.limits }
+        ensures capacity { self.old.book.capacity ≤ self.new.book.capacity }
+        ensures ok { IfOk result (λ r. Adds self.old.book.limits caller event r.0 (state_of self.old) (state_of self.new) self.old.book.past self.new.book.past) }
+        ensures lists { IfOk result (λ r. TurnsLists caller event r.0 self.old self.new) }
         ensures real { IfOk result (λ r. is_no_memory r.0 ≡ false) }
-        ensures spare { IfOk result (λ r. kept ≡ true → HasRecord caller event r.1 self.old.past self.new.past) }
-        ensures err { OnErr result (self.new ≡ record self.old { capacity = self.new.capacity }) }
+        ensures spare { IfOk result (λ r. kept ≡ true → HasRecord caller event r.1 self.old.book.past self.new.book.past) }
+        ensures err { OnErr result (self.new.book ≡ record self.old.book { capacity = self.new.book.capacity }) }
+        ensures err_lists { OnErr result (self.new.lists ≡ self.old.lists) }
     {
         self.history.reserve(1)?;
         let step = self.history.len() as u64 + 1;
@@ -96,12 +117,14 @@ impl ReadyKernel {
         event: Event,
         kept: &mut Vec<Record>,
     ) -> Result<Answer, AllocError>
-        ensures limits { self.new.limits ≡ self.old.limits }
-        ensures capacity { self.old.capacity ≤ self.new.capacity }
-        ensures ok { IfOk result (λ answer. Adds self.old.limits caller event answer (state_of self.old) (state_of self.new) self.old.past self.new.past) }
+        ensures limits { self.new.book.limits ≡ self.old.book.limits }
+        ensures capacity { self.old.book.capacity ≤ self.new.book.capacity }
+        ensures ok { IfOk result (λ answer. Adds self.old.book.limits caller event answer (state_of self.old) (state_of self.new) self.old.book.past self.new.book.past) }
+        ensures lists { IfOk result (λ answer. TurnsLists caller event answer self.old self.new) }
         ensures real { IfOk result (λ answer. is_no_memory answer ≡ false) }
-        ensures kept { IfOk result (λ answer. Gains self.old.past self.new.past kept.old.items kept.new.items) }
-        ensures err { OnErr result (self.new ≡ record self.old { capacity = self.new.capacity }) }
+        ensures kept { IfOk result (λ answer. Gains self.old.book.past self.new.book.past kept.old.items kept.new.items) }
+        ensures err { OnErr result (self.new.book ≡ record self.old.book { capacity = self.new.book.capacity }) }
+        ensures err_lists { OnErr result (self.new.lists ≡ self.old.lists) }
         ensures err_kept { OnErr result (kept.new.items ≡ kept.old.items) }
     {
         let again = event.copy()?;
@@ -129,20 +152,35 @@ impl ReadyKernel {
 impl Kernel for ReadyKernel {
     ghost state = { state_of };
 
-    ghost past = { λ book. book.past };
+    ghost past = { λ kernel. kernel.book.past };
 
-    ghost bounds = { λ book. book.limits };
+    ghost bounds = { λ kernel. kernel.book.limits };
 
-    ghost capacity = { λ book. book.capacity };
+    ghost capacity = { λ kernel. kernel.book.capacity };
 
-    fn step(&mut self, caller: CallerId, event: Event) -> Answer {
+    /// One event, as the trait has it. A wait reports the first reportable registrations of the ready list of its
+    /// instance, in its order. ENOMEM leaves the lists.
+    fn step(&mut self, caller: CallerId, event: Event) -> Answer
+        ensures limits { self.new.book.limits ≡ self.old.book.limits }
+        ensures capacity { self.old.book.capacity ≤ self.new.book.capacity }
+        ensures acts { Acts self.old.book.limits caller event result (state_of self.old) (state_of self.new) self.old.book.past self.new.book.past }
+        ensures lists { ActsOnLists caller event result self.old self.new }
+    {
         match self.try_step(caller, event, false) {
             Ok((answer, _)) => answer,
             Err(_) => Answer::Refused(Errno::Enomem),
         }
     }
 
-    fn step_kept(&mut self, caller: CallerId, event: Event, kept: &mut Vec<Record>) -> Answer {
+    /// A step whose record is put at the end of a list of the caller's too, as the trait has it, with the ready lists as
+    /// in `step`.
+    fn step_kept(&mut self, caller: CallerId, event: Event, kept: &mut Vec<Record>) -> Answer
+        ensures limits { self.new.book.limits ≡ self.old.book.limits }
+        ensures capacity { self.old.book.capacity ≤ self.new.book.capacity }
+        ensures acts { Acts self.old.book.limits caller event result (state_of self.old) (state_of self.new) self.old.book.past self.new.book.past }
+        ensures kept { KeepsRecord result self.old.book.past self.new.book.past kept.old.items kept.new.items }
+        ensures lists { ActsOnLists caller event result self.old self.new }
+    {
         match self.try_step_kept(caller, event, kept) {
             Ok(answer) => answer,
             Err(_) => Answer::Refused(Errno::Enomem),

@@ -6,7 +6,7 @@ ghost use Rattle.ep_calls.specs.Kept.{IsKept};
 ghost use Rattle.ep_calls.specs.Wait.{wait_call};
 ghost use Rattle.ep_kernel.specs.Listed.{IsListed};
 ghost use Rattle.ep_kernel.specs.Turns.{Turns};
-ghost use Rattle.ep_kernel.specs.Wait.{DoesCallFairly, DoesEventFairly};
+ghost use Rattle.ep_kernel.specs.Wait.{DoesCallFairly, DoesEventFairly, ReportsInOrder};
 ghost use Rattle.ep_machine.specs.Waits.{is_positive};
 ghost use Rattle.ep_machine.specs.Watches.{number_in};
 ghost use Rattle.ep_park.specs.Waiters.{is_caller};
@@ -43,6 +43,7 @@ pub fn epoll_wait(
     ensures ok { IfOk result (λ outcome. DoesCallFairly lists.old step caller.0 args.pid.0 (wait_call args) outcome parts.old parts.new) }
     ensures kept { IfOk result (λ outcome. IsKept args.kept outcome) }
     ensures turns { IfOk result (λ outcome. Turns (CallOf args.pid (wait_call args)) outcome.picked parts.old lists.old parts.new lists.new) }
+    ensures order { IfOk result (λ outcome. ReportsInOrder lists.old step caller.0 (CallOf args.pid (wait_call args)) outcome parts.old) }
     ensures err { OnErr result (parts.new ≡ parts.old) }
     ensures err_lists { OnErr result (lists.new ≡ lists.old) }
 {
@@ -75,6 +76,7 @@ pub fn resume(
     ensures ok { IfOk result (λ outcome. DoesEventFairly lists.old step caller.0 Resume outcome parts.old parts.new) }
     ensures kept { IfOk result (λ outcome. IsKept kept outcome) }
     ensures turns { IfOk result (λ outcome. Turns Resume outcome.picked parts.old lists.old parts.new lists.new) }
+    ensures order { IfOk result (λ outcome. ReportsInOrder lists.old step caller.0 Resume outcome parts.old) }
     ensures err { OnErr result (parts.new ≡ parts.old) }
     ensures err_lists { OnErr result (lists.new ≡ lists.old) }
 {

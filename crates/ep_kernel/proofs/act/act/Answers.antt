@@ -3,15 +3,17 @@ use Rattle.std.specs.List.{list_any}
 use Rattle.std.proofs.lemmas.Result.{IfOk-weaker}
 use Rattle.ep_base.specs.declared.call.Event.{Event}
 use Rattle.ep_base.specs.declared.call.Event.TheVariants.{Call as CallOf, Tick}
-use Rattle.ep_base.specs.declared.errno.Errno.TheVariants.{Ebusy}
+use Rattle.ep_base.specs.declared.errno.Errno.TheVariants.{Ebusy, Esrch}
 use Rattle.ep_calls.proofs.ActLemmas.{busy, past_does_if, refused_does, tick_does}
 use Rattle.ep_calls.specs.Does.{DoesEvent, DoesEventIf}
 use Rattle.ep_calls.specs.Parts.{Parts}
 use Rattle.ep_kernel.proofs.PickLemmas.{event_does_if}
+use Rattle.ep_kernel.proofs.ReportsFirstLemmas.{is_wait, other_reports, refused_reports}
 use Rattle.ep_kernel.proofs.WaitTurnsLemmas.{refused_turns, same_turns}
 use Rattle.ep_kernel.proofs.act.act.Goals as goal
 use Rattle.ep_kernel.specs.Listed.{AreFair}
 use Rattle.ep_kernel.specs.Turns.{AlteredStand}
+use Rattle.ep_kernel.specs.Wait.{ReportsInOrder}
 use Rattle.ep_machine.specs.Files.{table_of}
 use Rattle.ep_machine.specs.State.{State}
 use Rattle.ep_park.specs.Waiters.{is_caller}
@@ -61,3 +63,22 @@ returns-in-Tick-clause-turns c =
     let l = c.args.lists.now in
     same_turns c.args.event.now c.tick.result.picked p q l c.requires (ap (λ (r : Parts). r.interest) c.tick.ensures.others) c.tick.ensures.picked
     (subst (λ (event : Event). AlteredStand event p q l) (sym c.in-Tick.is) tt)
+
+pub returns-then-not-has_process-clause-order : goal.returns-then-not-has_process-clause-order
+returns-then-not-has_process-clause-order c = refused_reports c.args.lists.now c.args.step c.args.caller.0 c.args.event.now c.refused.result c.args.parts.now Esrch c.refused.ensures.answer
+
+pub returns-then-is_parked-clause-order : goal.returns-then-is_parked-clause-order
+returns-then-is_parked-clause-order c = refused_reports c.args.lists.now c.args.step c.args.caller.0 c.args.event.now c.refused-then-is_parked.result c.args.parts.now Ebusy c.refused-then-is_parked.ensures.answer
+
+pub returns-else-is_parked-clause-order : goal.returns-else-is_parked-clause-order
+returns-else-is_parked-clause-order c =
+    let p = c.args.parts.now in
+    IfOk-weaker c.make_call.result _ _ (λ outcome told. subst (λ (event : Event). ReportsInOrder c.args.lists.now c.args.step c.args.caller.0 event outcome p) (sym c.in-Call.is) told) c.make_call.ensures.order
+
+pub returns-in-Tick-clause-order : goal.returns-in-Tick-clause-order
+returns-in-Tick-clause-order c = other_reports c.args.lists.now c.args.step c.args.caller.0 c.args.event.now c.tick.result c.args.parts.now (ap is_wait c.in-Tick.is)
+
+pub returns-in-Resume-clause-order : goal.returns-in-Resume-clause-order
+returns-in-Resume-clause-order c =
+    let p = c.args.parts.now in
+    IfOk-weaker c.resume.result _ _ (λ outcome told. subst (λ (event : Event). ReportsInOrder c.args.lists.now c.args.step c.args.caller.0 event outcome p) (sym c.in-Resume.is) told) c.resume.ensures.order

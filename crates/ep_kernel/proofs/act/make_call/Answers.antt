@@ -1,18 +1,20 @@
-use Rattle.std.proofs.Common.{ℤ, IsSome, of_z, rules, subst, sym, to_z, w32}
+use Rattle.std.proofs.Common.{ℤ, IsSome, ap, of_z, rules, subst, sym, to_z, w32, w64}
 use Rattle.std.proofs.lemmas.Int.{to_z-of_z}
 use Rattle.std.proofs.lemmas.Result.{IfOk-weaker, on_err_weaker}
 use mir.Val.{SFits}
 use Rattle.ep_base.specs.declared.call.Call.{Call}
-use Rattle.ep_base.specs.declared.call.Call.TheVariants.{EpollCtl}
+use Rattle.ep_base.specs.declared.call.Call.TheVariants.{EpollCtl, EpollWait}
 use Rattle.ep_base.specs.declared.call.Event.TheVariants.{Call as CallOf}
 use Rattle.ep_calls.proofs.KeptLemmas.{table_call_kept}
 use Rattle.ep_calls.specs.Does.{DoesCallIf}
 use Rattle.ep_calls.specs.ObjectCall.{fd_of}
 use Rattle.ep_calls.specs.TableCall.{IsTableCall}
 use Rattle.ep_kernel.proofs.PickLemmas.{call_does_if}
+use Rattle.ep_kernel.proofs.ReportsFirstLemmas.{is_wait, object_waits, other_reports, table_waits}
 use Rattle.ep_kernel.proofs.WaitTurnsLemmas.{object_altered, same_lists, same_turns, table_altered}
 use Rattle.ep_kernel.proofs.act.make_call.Goals as goal
 use Rattle.ep_kernel.specs.Listed.{AreFair}
+use Rattle.ep_kernel.specs.Wait.{ReportsInOrder}
 use Rattle.ep_machine.specs.State.{State}
 
 pub returns-in_default : goal.returns-in_default
@@ -26,6 +28,7 @@ returns-in_default c =
       ok = IfOk-weaker c.table_call.result _ _ (λ outcome h. call_does_if fair c.args.request.step c.args.request.caller.0 c.args.pid.0 call outcome p c.table_call.new.self (h c.args.request.step c.args.request.caller.0)) c.table_call.ensures.ok;
       kept = IfOk-weaker c.table_call.result _ _ (λ outcome h. table_call_kept call c.args.request.kept outcome on_tables) c.table_call.ensures.ok;
       turns = IfOk-weaker c.table_call.result _ _ (λ outcome none. same_turns (CallOf c.args.pid call) outcome.picked p c.table_call.new.self l c.requires.listed c.table_call.ensures.interest none (table_altered c.args.pid call p c.table_call.new.self l on_tables)) c.table_call.ensures.picked;
+      order = IfOk-weaker c.table_call.result _ _ (λ outcome none. other_reports l c.args.request.step c.args.request.caller.0 (CallOf c.args.pid call) outcome p (table_waits c.args.pid call on_tables)) c.table_call.ensures.picked;
       err = on_err_weaker c.table_call.result (λ same. (same, same_lists l)) c.table_call.ensures.err;
     }
 
@@ -56,3 +59,26 @@ returns-in-EpollCtl-clause-ok c =
     IfOk-weaker c.epoll_ctl.result _ _ (λ outcome h.
     let P : Call → Type 0 = λ call. DoesCallIf fair step caller c.args.pid.0 call outcome p q in
     subst P (sym x.is) (subst (λ (z : ℤ). P (EpollCtl x.epfd z x.fd x.mask x.tag)) (to_z-of_z w32 x.op fits) (call_does_if fair step caller c.args.pid.0 (EpollCtl x.epfd (to_z w32 (of_z w32 x.op)) x.fd x.mask x.tag) outcome p q (h step caller)))) c.epoll_ctl.ensures.ok
+
+pub returns-in-Read-clause-order : goal.returns-in-Read-clause-order
+returns-in-Read-clause-order c =
+    let call = c.args.call.now in
+    let on_object : IsSome (fd_of call) = search rules in
+    IfOk-weaker c.object_call.result _ _ (λ outcome none. other_reports c.args.lists.now c.args.request.step c.args.request.caller.0 (CallOf c.args.pid call) outcome c.args.parts.now (object_waits c.args.pid call on_object)) c.object_call.ensures.picked
+
+pub returns-in-EpollCtl-clause-order : goal.returns-in-EpollCtl-clause-order
+returns-in-EpollCtl-clause-order c =
+    let call = c.args.call.now in
+    IfOk-weaker c.epoll_ctl.result _ _ (λ outcome turns. other_reports c.args.lists.now c.args.request.step c.args.request.caller.0 (CallOf c.args.pid call) outcome c.args.parts.now (ap (λ (k : Call). is_wait (CallOf c.args.pid k)) c.in-EpollCtl.is)) c.epoll_ctl.ensures.turns
+
+pub returns-in-EpollWait-clause-order : goal.returns-in-EpollWait-clause-order
+returns-in-EpollWait-clause-order c =
+    let x = c.in-EpollWait in
+    let p = c.args.parts.now in
+    let max : SFits w32 x.max = search rules in
+    let timeout : SFits w64 x.timeout = search rules in
+    IfOk-weaker c.epoll_wait.result _ _ (λ outcome told.
+    let P : Call → Type 0 = λ call. ReportsInOrder c.args.lists.now c.args.request.step c.args.request.caller.0 (CallOf c.args.pid call) outcome p in
+    subst P (sym x.is)
+    (subst (λ (z : ℤ). P (EpollWait x.epfd x.max z)) (to_z-of_z w64 x.timeout timeout)
+    (subst (λ (z : ℤ). P (EpollWait x.epfd z (to_z w64 (of_z w64 x.timeout)))) (to_z-of_z w32 x.max max) told))) c.epoll_wait.ensures.order

@@ -1,8 +1,7 @@
-use Rattle.std.proofs.Common.{◌∙◌, List, Some, ap, map, subst, sym}
+use Rattle.std.proofs.Common.{List, subst, sym}
 use Rattle.ep_base.specs.declared.ids.DescId.{DescId}
 use Rattle.ep_kernel.proofs.PlacesLemmas.{LosesEach, each_all, each_first, each_more}
 use Rattle.ep_kernel.proofs.places.drop_dying.Goals as goal
-use Rattle.ep_ready.specs.ReadyLists.{Lists}
 
 pub loop-desc-init : goal.loop-desc-init
 loop-desc-init c =

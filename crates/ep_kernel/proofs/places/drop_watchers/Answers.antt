@@ -1,4 +1,4 @@
-use Rattle.std.proofs.Common.{◌∙◌, List, [], filter, subst, sym}
+use Rattle.std.proofs.Common.{◌∙◌, List, filter, subst, sym}
 use Rattle.ep_base.specs.declared.ids.EntryId.{EntryId}
 use Rattle.ep_interest.specs.Registrations.{ids, is_on}
 use Rattle.ep_kernel.proofs.PlacesLemmas.{Loses, loses_all, loses_first, loses_more}

@@ -1,6 +1,6 @@
 use Rattle.std.proofs.Common.{◌<◌, arith, length}
 use Rattle.ep_kernel.specs.Take.{key_stays}
-use Rattle.ep_kernel.proofs.TakeLemmas.{one_left, takes_more}
+use Rattle.ep_kernel.proofs.TakeLemmas.{takes_more}
 use Rattle.ep_kernel.proofs.take.take.Goals as goal
 use Rattle.ep_ready.specs.ReadyLists.{list_at}
 

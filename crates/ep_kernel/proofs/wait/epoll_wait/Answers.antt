@@ -2,9 +2,10 @@ use Rattle.std.proofs.Common.{◌∙◌, IsSome, SFits, ap, refl, rules, subst, 
 use Rattle.std.proofs.lemmas.Int.{to_z-of_z}
 use Rattle.ep_base.specs.declared.call.Event.TheVariants.{Call as CallOf}
 use Rattle.ep_calls.specs.Parts.{Parts}
-use Rattle.ep_calls.specs.Wait.{IsPick, wait_call}
+use Rattle.ep_calls.specs.Wait.{IsPick, Waits, wait_call}
 use Rattle.ep_interest.specs.Registrations.{IsSound}
 use Rattle.ep_kernel.proofs.PickLemmas.{does_from, found_is_pick, same_found}
+use Rattle.ep_kernel.proofs.ReportsFirstLemmas.{first_reported, refused_reports, waits_at_named}
 use Rattle.ep_kernel.proofs.WaitTurnsLemmas.{refused_turns, wait_turns}
 use Rattle.ep_kernel.proofs.wait.epoll_wait.Goals as goal
 use Rattle.ep_kernel.specs.Listed.{AreFair}
@@ -53,3 +54,22 @@ returns-clause-turns c =
       entries = c.in_ok-outcome.ensures.entries;
       takes = subst (λ (r : Parts). SetsList l m i.0 (taken (key_stays c.args.step r.interest) walked (list_at l i.0))) c.parts-2.view_is c.take.ensures;
     }) (CallOf x.pid (wait_call x)) tt
+
+pub returns-in-Err-clause-order : goal.returns-in-Err-clause-order
+returns-in-Err-clause-order c =
+    refused_reports c.args.lists.now c.args.step c.args.caller.0 (CallOf c.args.args.pid (wait_call c.args.args)) c.refused.result c.args.parts.now c.in-Err.errno c.refused.ensures.answer
+
+pub returns-clause-order : goal.returns-clause-order
+returns-clause-order c =
+    let x = c.args.args in
+    let p = c.args.parts.now in
+    let l = c.args.lists.now in
+    let i = c.in-Ok.instance in
+    let walked = c.in_ok-found.found.walked in
+    let chosen = c.deref.result.now in
+    let fits : SFits w32 x.max = search rules in
+    let finds = same_found p (list_at l i.0) c.most.result (number_in x.max) walked c.in_ok-found.found.reportables.items chosen c.in_ok-found.ensures (c.most.ensures ∙ ap number_in (to_z-of_z w32 x.max fits)) c.deref.ensures.value in
+    let sound = subst (λ (q : Parts). IsSound q.interest) c.parts.view_is c.known-2.ensures in
+    let waits = subst (λ (q : Parts). Waits q.tables x i) c.parts.view_is c.in-Ok.ensures in
+    first_reported l c.args.step c.args.caller.0 (CallOf x.pid (wait_call x)) c.in_ok-outcome.outcome p i (number_in x.max) walked chosen c.known.ensures.coherent c.known.ensures.sound sound c.known-3.ensures c.requires.listed waits.lives finds c.in_ok-outcome.ensures.picked
+    (waits_at_named p c.args.caller.0 x i waits)

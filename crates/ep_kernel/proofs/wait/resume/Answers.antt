@@ -1,4 +1,4 @@
-use Rattle.std.proofs.Common.{◌≡◌, ◌∙◌, ℤ, true, SFits, ap, refl, rules, subst, sym, w32}
+use Rattle.std.proofs.Common.{◌≡◌, ◌∙◌, ℤ, Some, true, SFits, ap, find, refl, rules, subst, sym, w32}
 use Rattle.std.proofs.lemmas.Int.{to_z-of_z}
 use Rattle.ep_base.specs.declared.answer.Answer.TheVariants.{Refused, Still}
 use Rattle.ep_base.specs.declared.call.Event.TheVariants.{Resume}
@@ -12,6 +12,7 @@ use Rattle.ep_calls.specs.Stands.{IsPlaced}
 use Rattle.ep_calls.specs.Wait.{IsPick}
 use Rattle.ep_interest.specs.Registrations.{IsSound}
 use Rattle.ep_kernel.proofs.PickLemmas.{does_from, found_is_pick, same_found}
+use Rattle.ep_kernel.proofs.ReportsFirstLemmas.{first_reported, refused_reports, still_reports, waits_at_parked}
 use Rattle.ep_kernel.proofs.WaitTurnsLemmas.{refused_turns, wait_turns}
 use Rattle.ep_kernel.proofs.wait.resume.Goals as goal
 use Rattle.ep_kernel.specs.Listed.{AreFair}
@@ -21,7 +22,7 @@ use Rattle.ep_machine.specs.State.{State}
 use Rattle.ep_machine.specs.Step.{change}
 use Rattle.ep_machine.specs.Waits.{is_positive, resume}
 use Rattle.ep_machine.specs.Watches.{number_in}
-use Rattle.ep_park.specs.Waiters.{parked}
+use Rattle.ep_park.specs.Waiters.{is_caller, parked}
 use Rattle.ep_ready.specs.ReadyLists.{list_at}
 
 pub returns-in_default-clause-turns : goal.returns-in_default-clause-turns
@@ -97,3 +98,28 @@ returns-clause-turns c =
       entries = c.in_ok-outcome.ensures.entries;
       takes = subst (λ (r : Parts). SetsList l m i.0 (taken (key_stays c.args.step r.interest) walked (list_at l i.0))) c.parts-2.view_is c.take.ensures;
     }) Resume tt
+
+pub returns-in_default-clause-order : goal.returns-in_default-clause-order
+returns-in_default-clause-order c = refused_reports c.args.lists.now c.args.step c.args.caller.0 Resume c.refused.result c.args.parts.now Einval c.refused.ensures.answer
+
+pub returns-then-not-waiter-clause-order : goal.returns-then-not-waiter-clause-order
+returns-then-not-waiter-clause-order c = still_reports c.args.lists.now c.args.step c.args.caller.0 Resume c.settled.result c.args.parts.now c.settled.ensures.answer
+
+pub returns-clause-order : goal.returns-clause-order
+returns-clause-order c =
+    let k = c.parts.inside in
+    let w = c.in-Some.waiter in
+    let p = c.args.parts.now in
+    let l = c.args.lists.now in
+    let i = w.instance in
+    let caller = c.args.caller.0 in
+    let walked = c.in_ok-found.found.walked in
+    let chosen = c.deref.result.now in
+    let fits : SFits w32 w.max = search rules in
+    let finds = same_found p (list_at l i.0) c.most.result (number_in w.max) walked c.in_ok-found.found.reportables.items chosen c.in_ok-found.ensures (c.most.ensures ∙ ap number_in (to_z-of_z w32 w.max fits)) c.deref.ensures.value in
+    let sound = subst (λ (q : Parts). IsSound q.interest) c.parts.view_is c.known-2.ensures in
+    let lives = subst (λ (q : Parts). IsPlaced q.tables.keys (parked caller w)) c.parts.view_is
+    (found_all (IsPlaced k.tables.keys) caller k.waiters (parked caller w) (sym c.in-Some.ensures) c.parts.invariant.placed) in
+    let waits = subst (λ (q : Parts). find (is_caller caller) q.parked ≡ Some (parked caller w)) c.parts.view_is (sym c.in-Some.ensures) in
+    first_reported l c.args.step caller Resume c.in_ok-outcome.outcome p i (number_in w.max) walked chosen c.known.ensures.coherent c.known.ensures.sound sound c.known-3.ensures c.requires lives.instance finds c.in_ok-outcome.ensures.picked
+    (waits_at_parked p caller w waits)

@@ -1,13 +1,16 @@
-use Rattle.std.proofs.Common.{◌≡◌, ◌+◌, ◌++◌, [], ◌∷◌, List, length, ◌∙◌, arith, subst, sym, vec_capacity}
+use Rattle.std.proofs.Common.{◌≡◌, ◌+◌, ◌++◌, [], ◌∷◌, Err, List, Ok, OnErr, Result, ap, length, ◌∙◌, arith, subst, sym, vec_capacity}
 use Rattle.ep_base.specs.declared.record.Record.{Record}
 use Rattle.ep_machine.specs.Step.{next_event}
 use Rattle.ep_calls.specs.Acts.{Adds}
 use Rattle.ep_calls.specs.Book.{Book, state_of}
+use Rattle.ep_kernel.specs.ReadyBook.{ReadyBook, TurnsLists}
 use Rattle.ep_calls.specs.Parts.{Parts}
 use Rattle.ep_calls.proofs.KeepsLemmas.{record_of}
 use Rattle.ep_calls.proofs.KeptLemmas.{inline_event}
+use Rattle.ep_kernel.proofs.ReadyBookLemmas.{same_lists}
+use Rattle.ep_kernel.specs.Listed.{lists_of}
 use Rattle.ep_kernel.specs.Running.{Ends, Runs, book_of}
-use Rattle.ep_kernel.proofs.RunLemmas.{adds_on, does_fairly, runs_on, runs_same}
+use Rattle.ep_kernel.proofs.RunLemmas.{adds_on, does_fairly, first_on, runs_on, runs_same}
 use Rattle.ep_kernel.proofs.SettledLemmas.{ends_of}
 use Rattle.ep_kernel.proofs.ready.ReadyKernel.try_step.Goals as goal
 
@@ -18,6 +21,19 @@ invariant_of-self-in_err-answer c =
     let same = c.in_err-answer.ensures.err in
     subst (λ (rs : List Record). Runs rs c.act.new.parts c.act.new.lists) (sym c.reserve.ensures.items)
     (runs_same k.history.items c.act.new.parts k.lists c.act.new.lists same.1 (subst (λ (p : Parts). Runs k.history.items p k.lists) (sym same.0) c.self.invariant))
+
+-- what holds holds of an error
+if_err : {T E P : Type 0} (r : Result T E) → P → OnErr r P
+if_err (Ok x) p = tt
+if_err (Err e) p = p
+
+pub returns-in_err-answer-clause-err_lists : goal.returns-in_err-answer-clause-err_lists
+returns-in_err-answer-clause-err_lists c =
+    let k = c.self.inside in
+    let same = c.in_err-answer.ensures.err in
+    if_err c.from_residual-in_err-answer.result
+    (subst (λ (b : ReadyBook). lists_of c.act.new.parts c.act.new.lists ≡ b.lists) c.self.view_is
+    (ap (λ (p : Parts). lists_of p c.act.new.lists) same.0 ∙ same_lists k.parts k.lists c.act.new.lists same.1))
 
 -- where a second record is asked for, there is a copy, or none is needed
 pub of-spare-requires-clause-inline : goal.of-spare-requires-clause-inline
@@ -58,5 +74,17 @@ returns-clause-ok c =
     let adds =
     adds_on c.lists_go_on.ensures.law k.history.items k.parts c.act.new.parts c.mark_waiters.new.parts k.lists c.act.new.lists c.settle.new.lists c.self.invariant c.know.ensures.coherent c.know.ensures.tables c.know.ensures.interest c.known.ensures c.known-2.ensures
     c.args.caller c.args.event outcome (c.len.result + 1) (number c) c.in_ok-answer.ensures.ok c.in_ok-answer.ensures.turns (ends c) in
-    subst (λ (b : Book). Adds b.limits c.args.caller c.args.event outcome.answer (state_of b) (state_of new) b.past new.past) c.self.view_is
-    (subst (λ (rs : List Record). Adds k.parts.tables.limits c.args.caller c.args.event outcome.answer (state_of (book_of k)) (state_of (record new { past = rs })) k.history.items rs) (sym (records c)) adds)
+    subst (λ (b : ReadyBook). Adds b.book.limits c.args.caller c.args.event outcome.answer (state_of b.book) (state_of new) b.book.past new.past) c.self.view_is
+    (subst (λ (rs : List Record). Adds k.parts.tables.limits c.args.caller c.args.event outcome.answer (state_of (book_of k).book) (state_of (record new { past = rs })) k.history.items rs) (sym (records c)) adds)
+
+pub returns-clause-lists : goal.returns-clause-lists
+returns-clause-lists c =
+    let k = c.self.inside in
+    let outcome = c.in_ok-answer.field-0 in
+    let book : Book = record { limits = c.mark_waiters.new.parts.tables.limits; past = c.push_reserved.new.self.items; capacity = vec_capacity c.push_reserved.new.self } in
+    let new : ReadyBook = record { book = book; lists = lists_of c.mark_waiters.new.parts c.settle.new.lists } in
+    let first =
+    first_on c.lists_go_on.ensures.law k.history.items k.parts c.act.new.parts c.mark_waiters.new.parts k.lists c.act.new.lists c.settle.new.lists c.self.invariant c.know.ensures.coherent c.know.ensures.tables c.know.ensures.interest c.known.ensures c.known-2.ensures
+    c.args.caller c.args.event outcome (c.len.result + 1) (number c) c.in_ok-answer.ensures.ok c.in_ok-answer.ensures.turns (ends c) c.in_ok-answer.ensures.order in
+    subst (λ (b : ReadyBook). TurnsLists c.args.caller c.args.event outcome.answer b new) c.self.view_is
+    (record { picked = outcome.picked; added = records c; first = first })

@@ -1,5 +1,5 @@
 use Rattle.std.proofs.Common.{◌∙◌, ap, sym}
-use Rattle.ep_calls.specs.Book.{Book, state_of}
+use Rattle.ep_kernel.specs.ReadyBook.{ReadyBook, state_of}
 use Rattle.ep_calls.specs.Driver.{first_marked}
 use Rattle.ep_calls.proofs.KeepsLemmas.{state_is}
 use Rattle.ep_kernel.proofs.ready.ReadyKernelKernel.first_marked.Goals as goal
@@ -9,4 +9,4 @@ returns c =
     let k = c.self.inside in
     let keeps = c.self.invariant.keeps in
     c.first_marked.ensures keeps.state keeps.stands
-    ∙ (ap first_marked (sym (state_is k.history.items k.parts keeps)) ∙ ap (λ (b : Book). first_marked (state_of b)) c.self.view_is)
+    ∙ (ap first_marked (sym (state_is k.history.items k.parts keeps)) ∙ ap (λ (b : ReadyBook). first_marked (state_of b)) c.self.view_is)

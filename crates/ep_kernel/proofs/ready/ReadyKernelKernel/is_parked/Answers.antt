@@ -3,7 +3,7 @@ use Rattle.std.specs.List.{list_any}
 use Rattle.ep_machine.specs.State.{State}
 use Rattle.ep_machine.specs.Waits.{is_parked}
 use Rattle.ep_park.specs.Waiters.{is_caller}
-use Rattle.ep_calls.specs.Book.{Book, state_of}
+use Rattle.ep_kernel.specs.ReadyBook.{ReadyBook, state_of}
 use Rattle.ep_calls.proofs.RegistrationLemmas.{caller_waits}
 use Rattle.ep_kernel.specs.declared.ready.ReadyKernel.TheInside.{Inside}
 use Rattle.ep_calls.proofs.KeepsLemmas.{state_is}
@@ -18,4 +18,4 @@ returns c =
     c.is_parked.ensures
     ∙ (ap (λ (j : Inside). list_any (is_caller caller) j.parts.parked) c.self-inside.view_is
     ∙ (sym (caller_waits p.tables p.interest p.parked p.clock keeps.state caller keeps.stands)
-    ∙ (ap (λ (s : State). is_parked s caller) (sym (state_is k.history.items p keeps)) ∙ ap (λ (b : Book). is_parked (state_of b) caller) c.self.view_is)))
+    ∙ (ap (λ (s : State). is_parked s caller) (sym (state_is k.history.items p keeps)) ∙ ap (λ (b : ReadyBook). is_parked (state_of b) caller) c.self.view_is)))

@@ -1,0 +1,111 @@
+-- Which events report in the order of ready lists.
+use Rattle.std.proofs.Common.{◌≡◌, ◌∙◌, ℕ, Bool, true, false, IsSome, List, Option, Some, ap, filter, refl, sym, take, unwrap_or}
+use Rattle.std.specs.List.{find}
+use Rattle.std.proofs.lemmas.Bool.{false≢true}
+use Rattle.ep_base.specs.declared.answer.Answer.TheVariants.{Events, Refused, Still}
+use Rattle.ep_base.specs.declared.answer.Report.{Report}
+use Rattle.ep_base.specs.declared.call.Call.{Call}
+use Rattle.ep_base.specs.declared.call.Call.TheVariants.{EpollWait}
+use Rattle.ep_base.specs.declared.call.Event.{Event}
+use Rattle.ep_base.specs.declared.call.Event.TheVariants.{Call as CallOf, Resume}
+use Rattle.ep_base.specs.declared.errno.Errno.{Errno}
+use Rattle.ep_base.specs.declared.ids.DescId.{DescId}
+use Rattle.ep_base.specs.declared.ids.Pid.{Pid}
+use Rattle.ep_calls.proofs.KeyLemmas.{under_key}
+use Rattle.ep_calls.proofs.ResumeLemmas.{there}
+use Rattle.ep_calls.specs.Moves.{StandFor}
+use Rattle.ep_calls.specs.ObjectCall.{fd_of}
+use Rattle.ep_calls.specs.Parts.{AreCoherent, Parts}
+use Rattle.ep_calls.specs.Stands.{number_at}
+use Rattle.ep_calls.specs.TableCall.{IsTableCall}
+use Rattle.ep_calls.specs.Wait.{Waits, numbers_of, wait_call}
+use Rattle.ep_calls.specs.declared.outcome.Outcome.{Outcome}
+use Rattle.ep_calls.specs.declared.wait.Reportable.{Reportable}
+use Rattle.ep_calls.specs.declared.wait.Wait.{Wait}
+use Rattle.ep_interest.specs.Registrations.{IsSound}
+use Rattle.ep_kernel.proofs.PickLemmas.{found_first}
+use Rattle.ep_kernel.proofs.ReadyBookLemmas.{listed_of, number_is}
+use Rattle.ep_kernel.specs.Choose.{IsFound}
+use Rattle.ep_kernel.specs.Listed.{IsListed, order_at}
+use Rattle.ep_kernel.specs.ReadyBook.{WaitsAt}
+use Rattle.ep_kernel.specs.Wait.{ReportsInOrder}
+use Rattle.ep_law.specs.Laws.{is_reportable_in}
+use Rattle.ep_machine.specs.Files.{Files, named_by}
+use Rattle.ep_machine.specs.State.{State, Waiter}
+use Rattle.ep_machine.specs.Step.{next_event}
+use Rattle.ep_machine.specs.Watches.{number_in}
+use Rattle.ep_park.specs.Waiters.{is_caller, parked}
+use Rattle.ep_park.specs.declared.waiter.Waiter.{Waiter as ParkedWaiter}
+use Rattle.ep_ready.specs.ReadyLists.{IsSound as AreSoundLists, Lists, list_at}
+use Rattle.ep_table.specs.Value.{Sound as SoundTables, number_under}
+
+-- Events that are no waits.
+
+abbrev pub is_wait : Event → Bool
+is_wait (CallOf p (EpollWait epfd max timeout)) = true
+is_wait Resume = true
+is_wait event = false
+
+pub other_reports : (l : Lists) (n caller : ℕ) (event : Event) (outcome : Outcome) (p : Parts) → is_wait event ≡ false → ReportsInOrder l n caller event outcome p
+other_reports l n caller (CallOf pid (EpollWait epfd max timeout)) outcome p h = absurd (false≢true (sym h))
+other_reports l n caller Resume outcome p h = absurd (false≢true (sym h))
+other_reports l n caller event outcome p h = λ s at sound quiet legal stands e most reports is waits. absurd waits
+
+pub table_waits : (pid : Pid) (call : Call) → IsTableCall call → is_wait (CallOf pid call) ≡ false
+table_waits pid (EpollWait epfd max timeout) h = absurd h
+table_waits pid call h = refl
+
+pub object_waits : (pid : Pid) (call : Call) → IsSome (fd_of call) → is_wait (CallOf pid call) ≡ false
+object_waits pid (EpollWait epfd max timeout) h = absurd (false≢true h)
+object_waits pid call h = refl
+
+-- Answers that are no reports.
+
+no_events : (e : Errno) (reports : List Report) → Refused e ≡ Events reports → ⊥
+no_events e reports h = absurd (cc)
+
+still_no_events : (reports : List Report) → Still ≡ Events reports → ⊥
+still_no_events reports h = absurd (cc)
+
+pub refused_reports : (l : Lists) (n caller : ℕ) (event : Event) (outcome : Outcome) (p : Parts) (e : Errno) → outcome.answer ≡ Refused e → ReportsInOrder l n caller event outcome p
+refused_reports l n caller event outcome p error refused = λ s at sound quiet legal stands e most reports is waits. absurd (no_events error reports (sym refused ∙ is))
+
+pub still_reports : (l : Lists) (n caller : ℕ) (event : Event) (outcome : Outcome) (p : Parts) → outcome.answer ≡ Still → ReportsInOrder l n caller event outcome p
+still_reports l n caller event outcome p still = λ s at sound quiet legal stands e most reports is waits. absurd (still_no_events reports (sym still ∙ is))
+
+-- Waits.
+
+-- the event waits at the instance under this key, for so many
+abbrev pub WaitsAtKey : Parts → ℕ → Event → DescId → ℕ → Type 0
+WaitsAtKey p caller event i most = (s : State) → StandFor p s → (e m : ℕ) → WaitsAt s caller event e m → (number_at p.tables.keys i ≡ e) × (most ≡ m)
+
+pub first_reported : (l : Lists) (n caller : ℕ) (event : Event) (outcome : Outcome) (p : Parts) (i : DescId) (most walked : ℕ) (found : List Reportable) → AreCoherent p → SoundTables p.tables → IsSound p.interest → AreSoundLists l → IsListed p l
+    → IsSome (number_under p.tables i) → IsFound p (list_at l i.0) most found walked → outcome.picked ≡ numbers_of found → WaitsAtKey p caller event i most → ReportsInOrder l n caller event outcome p
+first_reported l n caller event outcome p i most walked found coherent tables sound lists listed lives finds picks waits_there = λ s at sound_state quiet legal stands e m reports is waits.
+    let w = waits_there s stands e m waits in
+    let u = under_key p.tables.keys i lives in
+    picks
+    ∙ (found_first p l i most walked found coherent tables sound lists listed finds s stands
+    ∙ ((λ j. take (w.1 j) (filter (is_reportable_in s (w.0 j)) (order_at p.interest l i.0)))
+    ∙ ap (λ (ks : List ℕ). take m (filter (is_reportable_in s e) ks)) (sym (listed_of p l tables i e (number_is _ u.number e u.is w.0)))))
+
+pub waits_at_named : (p : Parts) (caller : ℕ) (args : Wait) (i : DescId) → Waits p.tables args i → WaitsAtKey p caller (CallOf args.pid (wait_call args)) i (number_in args.max)
+waits_at_named p caller args i found s stands e m waits = (
+  ap (λ (o : Option ℕ). unwrap_or o 0) found.named ∙ (ap (λ (f : Files). named_by f args.pid.0 args.epfd.0) (sym stands.files) ∙ waits.0),
+  waits.1,
+)
+
+some_waiter : (v w : Waiter) → Some v ≡ Some w → v ≡ w
+some_waiter v w h = ap (λ (o : Option Waiter). unwrap_or o v) h
+
+pub waits_at_parked : (p : Parts) (caller : ℕ) (w : ParkedWaiter) → find (is_caller caller) p.parked ≡ Some (parked caller w) → WaitsAtKey p caller Resume w.instance (number_in w.max)
+waits_at_parked p caller w is s stands e m waits =
+    let own = there p.graph p.tables p.interest p.parked p.clock caller p.tables.limits s stands w is in
+    let same = some_waiter _ waits.0 (sym own ∙ waits.1) in
+    (ap (λ (v : Waiter). v.instance) same ∙ waits.2, ap (λ (v : Waiter). v.most) same ∙ waits.3)
+
+-- A wait is one in the state in which the event begins.
+pub waits_begun : (s : State) (caller : ℕ) (event : Event) (e most : ℕ) → WaitsAt s caller event e most → WaitsAt (next_event s) caller event e most
+waits_begun s caller (CallOf p (EpollWait epfd max timeout)) e most h = h
+waits_begun s caller Resume e most h = h
+waits_begun s caller event e most h = absurd h
