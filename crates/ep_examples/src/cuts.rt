@@ -1,5 +1,6 @@
 //! Scripts that end too soon.
 
+use crate::make::Make;
 use crate::script::is_answered;
 use ep_base::Limits;
 use std::alloc::{AllocError, Global};
@@ -27,7 +28,7 @@ fn answers_of_cut(
 }
 
 /// Whether the script is answered as it is to be wherever it ends.
-pub(crate) fn is_answered_when_cut(
+pub(crate) fn is_answered_when_cut<K: Make>(
     alloc: Global,
     script: &str,
     answers: &str,
@@ -35,7 +36,7 @@ pub(crate) fn is_answered_when_cut(
     for count in 0..=script.len() {
         let wanted = answers_of_cut(alloc, script, answers, count)?;
         let part = script.get(..count).unwrap_or("");
-        if !is_answered(alloc, Limits::default(), part, wanted.as_str())? {
+        if !is_answered::<K>(alloc, Limits::default(), part, wanted.as_str())? {
             return Ok(false);
         }
     }

@@ -2,7 +2,8 @@
 
 use crate::cuts::is_answered_when_cut;
 use crate::files::{has, limits_of, text_of};
-use crate::script::{are_forgeries, is_answered};
+use crate::make::Make;
+use crate::script::{are_forgeries, is_answered, is_list_answered};
 use crate::waiters::are_waiters;
 use ep_base::Limits;
 use std::alloc::{AllocError, Global};
@@ -12,69 +13,76 @@ use std::rt::Files;
 /// The script that is run cut after each of its bytes, too.
 const CUT: &str = "level";
 
-/// Whether the answers, who is parked and marked after the lines, or what the audit says of forgeries of the history,
-/// are not what the files say, or the history is no run of the machine.
-pub(crate) fn differs(rt: &(impl Files + AllocGlobal), name: &str) -> io::Result<bool> {
+/// Whether the answers of a new kernel, who is parked and marked after the lines, or what the audit says of forgeries of
+/// the history, are not what the files say, or the history is no run of the machine.
+pub(crate) fn differs<K: Make>(rt: &(impl Files + AllocGlobal), name: &str) -> io::Result<bool> {
     if has(rt, name, ".lines")? {
-        return lines_differ(rt, name);
+        return lines_differ::<K>(rt, name);
     }
     let Some(limits) = limits_of(rt, name)? else {
         return Ok(true);
     };
     let script = text_of(rt, name, ".jsonl")?;
-    if has(rt, name, ".waiters")? && waiters_differ(rt, name, limits, script.as_str())? {
+    if has(rt, name, ".waiters")? && waiters_differ::<K>(rt, name, limits, script.as_str())? {
         return Ok(true);
     }
-    if has(rt, name, ".forged")? && forgeries_differ(rt, name, limits, script.as_str())? {
+    if has(rt, name, ".forged")? && forgeries_differ::<K>(rt, name, limits, script.as_str())? {
         return Ok(true);
     }
-    answers_differ(rt, name, limits, script.as_str())
+    answers_differ::<K>(rt, name, limits, script.as_str())
 }
 
-/// Whether the script is not answered as NAME.answers says.
-fn answers_differ(
+/// Whether the script is not answered as NAME.answers says, line by line or as one list of events.
+fn answers_differ<K: Make>(
     rt: &(impl Files + AllocGlobal),
     name: &str,
     limits: Limits,
     script: &str,
 ) -> io::Result<bool> {
     let answers = text_of(rt, name, ".answers")?;
-    if name == CUT && !is_answered_when_cut(rt.alloc(), script, answers.as_str())? {
+    if name == CUT && !is_answered_when_cut::<K>(rt.alloc(), script, answers.as_str())? {
         return Ok(true);
     }
-    Ok(!is_answered(rt.alloc(), limits, script, answers.as_str())?)
+    if !is_list_answered::<K>(rt.alloc(), limits, script, answers.as_str())? {
+        return Ok(true);
+    }
+    Ok(!is_answered::<K>(rt.alloc(), limits, script, answers.as_str())?)
 }
 
 /// Whether who is parked and who is marked after each line is not what NAME.waiters says.
-fn waiters_differ(
+fn waiters_differ<K: Make>(
     rt: &(impl Files + AllocGlobal),
     name: &str,
     limits: Limits,
     script: &str,
 ) -> io::Result<bool> {
     let wanted = text_of(rt, name, ".waiters")?;
-    Ok(!are_waiters(rt.alloc(), limits, script, wanted.as_str())?)
+    Ok(!are_waiters::<K>(rt.alloc(), limits, script, wanted.as_str())?)
 }
 
 /// Whether the audit says of a forgery of the script's history anything but what NAME.forged says.
-fn forgeries_differ(
+fn forgeries_differ<K: Make>(
     rt: &(impl Files + AllocGlobal),
     name: &str,
     limits: Limits,
     script: &str,
 ) -> io::Result<bool> {
     let wanted = text_of(rt, name, ".forged")?;
-    Ok(!are_forgeries(rt.alloc(), limits, script, wanted.as_str())?)
+    Ok(!are_forgeries::<K>(rt.alloc(), limits, script, wanted.as_str())?)
 }
 
 /// Whether each line is answered so where it is the only one of its script.
-fn are_answered_alone(alloc: Global, lines: &str, answers: &str) -> Result<bool, AllocError> {
+fn are_answered_alone<K: Make>(
+    alloc: Global,
+    lines: &str,
+    answers: &str,
+) -> Result<bool, AllocError> {
     if lines.lines().count() != answers.lines().count() {
         return Ok(false);
     }
     let answers = answers.split_inclusive('\n');
     for (line, answer) in lines.split_inclusive('\n').zip(answers) {
-        if !is_answered(alloc, Limits::default(), line, answer)? {
+        if !is_answered::<K>(alloc, Limits::default(), line, answer)? {
             return Ok(false);
         }
     }
@@ -83,8 +91,8 @@ fn are_answered_alone(alloc: Global, lines: &str, answers: &str) -> Result<bool,
 
 /// Whether a line of NAME.lines is not answered with that line of NAME.answers where it is the only
 /// one of its script.
-fn lines_differ(rt: &(impl Files + AllocGlobal), name: &str) -> io::Result<bool> {
+fn lines_differ<K: Make>(rt: &(impl Files + AllocGlobal), name: &str) -> io::Result<bool> {
     let lines = text_of(rt, name, ".lines")?;
     let answers = text_of(rt, name, ".answers")?;
-    Ok(!are_answered_alone(rt.alloc(), lines.as_str(), answers.as_str())?)
+    Ok(!are_answered_alone::<K>(rt.alloc(), lines.as_str(), answers.as_str())?)
 }

@@ -1,16 +1,18 @@
 //! Runs a script over a new kernel.
 
+use crate::events::are_events_answered;
 use crate::forged::are_verdicts;
+use crate::make::Make;
 use ep_audit::audit;
 use ep_base::Limits;
-use ep_plain::{Kernel, PlainKernel};
+use ep_plain::Kernel;
 use ep_script::{ScriptFault, Summary, Watched, run_script};
 use std::alloc::{AllocError, Global};
 
 /// Runs a script on the kernel: what the run counts, and what it writes.
-pub(crate) fn run(
+pub(crate) fn run<K: Kernel>(
     alloc: Global,
-    kernel: &mut PlainKernel,
+    kernel: &mut K,
     script: &str,
 ) -> (Result<Summary, ScriptFault>, Vec<u8>) {
     let mut reader = Watched::new(script.as_bytes());
@@ -38,13 +40,13 @@ fn summary_of(answers: &str) -> Summary {
 }
 
 /// Whether the audit finds the kernel's history to be a run under its limits.
-pub(crate) fn is_legal(alloc: Global, kernel: &PlainKernel) -> bool {
+pub(crate) fn is_legal<K: Kernel>(alloc: Global, kernel: &K) -> bool {
     audit(alloc, kernel.limits(), kernel.history()).is_ok()
 }
 
 /// Whether the script is run to its end, writes these answers and nothing else, counts them, and
 /// leaves the new kernel a record for each line that is a command, and a legal history.
-fn is_answered_by(alloc: Global, kernel: &mut PlainKernel, script: &str, answers: &str) -> bool {
+fn is_answered_by<K: Kernel>(alloc: Global, kernel: &mut K, script: &str, answers: &str) -> bool {
     let (outcome, written) = run(alloc, kernel, script);
     let wanted = summary_of(answers);
     let records = kernel.history().len() as u64;
@@ -53,20 +55,31 @@ fn is_answered_by(alloc: Global, kernel: &mut PlainKernel, script: &str, answers
 }
 
 /// The same of a new kernel of these limits.
-pub(crate) fn is_answered(
+pub(crate) fn is_answered<K: Make>(
     alloc: Global,
     limits: Limits,
     script: &str,
     answers: &str,
 ) -> Result<bool, AllocError> {
-    let mut kernel = PlainKernel::new(alloc, limits)?;
+    let mut kernel = K::make(alloc, limits)?;
     Ok(is_answered_by(alloc, &mut kernel, script, answers))
 }
 
-/// Whether the audit says of the forgeries of what the kernel does in the script what the text says.
-fn are_verdicts_on(
+/// Whether a new kernel of these limits answers the commands of the script so where they are asked of it as one list.
+pub(crate) fn is_list_answered<K: Make>(
     alloc: Global,
-    kernel: &mut PlainKernel,
+    limits: Limits,
+    script: &str,
+    answers: &str,
+) -> Result<bool, AllocError> {
+    let mut kernel = K::make(alloc, limits)?;
+    are_events_answered(alloc, &mut kernel, script, answers)
+}
+
+/// Whether the audit says of the forgeries of what the kernel does in the script what the text says.
+fn are_verdicts_on<K: Kernel>(
+    alloc: Global,
+    kernel: &mut K,
     script: &str,
     wanted: &str,
 ) -> Result<bool, AllocError> {
@@ -75,12 +88,12 @@ fn are_verdicts_on(
 }
 
 /// The same of a new kernel of these limits.
-pub(crate) fn are_forgeries(
+pub(crate) fn are_forgeries<K: Make>(
     alloc: Global,
     limits: Limits,
     script: &str,
     wanted: &str,
 ) -> Result<bool, AllocError> {
-    let mut kernel = PlainKernel::new(alloc, limits)?;
+    let mut kernel = K::make(alloc, limits)?;
     are_verdicts_on(alloc, &mut kernel, script, wanted)
 }

@@ -1,15 +1,16 @@
 //! Who is parked and who is marked after each line of a script.
 
+use crate::make::Make;
 use crate::script::run;
 use ep_base::{CallerId, Limits};
-use ep_plain::{Kernel, PlainKernel};
+use ep_plain::Kernel;
 use std::alloc::{AllocError, Global};
 
 /// How many callers are asked for, from 0 on.
 const CALLERS: u32 = 4;
 
 /// Writes who is parked and who is marked, as `parked [1, 2], marked [1]`.
-fn push_waiters(alloc: Global, text: &mut String, kernel: &PlainKernel) -> Result<(), AllocError> {
+fn push_waiters<K: Kernel>(alloc: Global, text: &mut String, kernel: &K) -> Result<(), AllocError> {
     let mut parked = Vec::new(alloc);
     let mut marked = Vec::new(alloc);
     for number in 0..CALLERS {
@@ -24,10 +25,10 @@ fn push_waiters(alloc: Global, text: &mut String, kernel: &PlainKernel) -> Resul
 }
 
 /// Runs a line, and writes who is parked and who is marked then, or the fault of the run.
-fn push_after(
+fn push_after<K: Kernel>(
     alloc: Global,
     text: &mut String,
-    kernel: &mut PlainKernel,
+    kernel: &mut K,
     line: &str,
 ) -> Result<(), AllocError> {
     match run(alloc, kernel, line).0 {
@@ -37,7 +38,11 @@ fn push_after(
 }
 
 /// Who is parked and who is marked on the kernel after each line of the script.
-fn waiters_on(alloc: Global, kernel: &mut PlainKernel, script: &str) -> Result<String, AllocError> {
+fn waiters_on<K: Kernel>(
+    alloc: Global,
+    kernel: &mut K,
+    script: &str,
+) -> Result<String, AllocError> {
     let mut text = String::new(alloc);
     for line in script.lines() {
         push_after(alloc, &mut text, kernel, line)?;
@@ -46,9 +51,9 @@ fn waiters_on(alloc: Global, kernel: &mut PlainKernel, script: &str) -> Result<S
 }
 
 /// Whether who is parked and who is marked on the kernel after each line of the script is so.
-fn are_waiters_on(
+fn are_waiters_on<K: Kernel>(
     alloc: Global,
-    kernel: &mut PlainKernel,
+    kernel: &mut K,
     script: &str,
     wanted: &str,
 ) -> Result<bool, AllocError> {
@@ -57,12 +62,12 @@ fn are_waiters_on(
 }
 
 /// The same of a new kernel of these limits.
-pub(crate) fn are_waiters(
+pub(crate) fn are_waiters<K: Make>(
     alloc: Global,
     limits: Limits,
     script: &str,
     wanted: &str,
 ) -> Result<bool, AllocError> {
-    let mut kernel = PlainKernel::new(alloc, limits)?;
+    let mut kernel = K::make(alloc, limits)?;
     are_waiters_on(alloc, &mut kernel, script, wanted)
 }

@@ -1,5 +1,6 @@
-//! The test of `ReadyKernel`, in a crate of its own: the gate proves a crate that has tests twice.
+//! Tests of both kernels, in a crate of their own: the gate proves a crate that has tests twice. What a kernel answers is
+//! in the scripts of `ep_examples`.
 #![tactic(auto)]
 
 #[cfg(test)]
-mod level;
+mod memory;

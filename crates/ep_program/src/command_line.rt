@@ -29,6 +29,11 @@ const LIMITS_HELP: &str =
   pipe_bytes   bytes of a pipe                          4096 to 1048576  else 65536
   sock_bytes   bytes in one direction of a socket pair  1 to 1048576     else 65536";
 
+/// What `--plain` takes.
+const PLAIN_HELP: &str =
+    "Runs it on the kernel that keeps no ready lists and looks at every registration: answers
+differ at most in which of several reportable registrations a wait reports first";
+
 /// What the words of the command line ask for.
 #[derive(Clone, Copy, Debug)]
 pub struct Settings<'a> {
@@ -59,7 +64,7 @@ fn plain_argument<'a>(alloc: Global) -> Arg<'a>
     Arg::new(alloc, "plain")
         .long("plain")
         .action(ArgAction::SetTrue)
-        .help("Takes the kernel that scans, as every run does for now")
+        .help(PLAIN_HELP)
 }
 
 fn explain_argument<'a>(alloc: Global) -> Arg<'a>

@@ -12,6 +12,7 @@ use crate::explainer::Explainer;
 use crate::files::{Create, NoFiles};
 use clap::error::ErrorKind;
 use ep_base::Limits;
+use ep_kernel::ReadyKernel;
 use ep_plain::{Kernel, PlainKernel};
 use ep_script::{
     RecordedFault, ScriptFault, Summary, Watched, parse_limits, run_recorded, run_script,
@@ -30,6 +31,14 @@ const BAD_WORDS: u8 = 2;
 
 /// The text of `--limits` writes none.
 const BAD_LIMITS: u8 = 2;
+
+/// Which kernel a script is run on.
+#[derive(Clone, Copy)]
+struct Choice {
+    /// Whether it is the one that scans, in place of the one with ready lists.
+    plain: bool,
+    limits: Limits,
+}
 
 /// Tells a fault in one line. A write that fails changes nothing.
 fn fail<E: Write>(fault: &RecordedFault, errors: &mut E) -> u8
@@ -141,8 +150,38 @@ fn run_explained<K: Kernel, R: Read + Drop, W: Write + Drop, E: Write + Drop, H:
     result
 }
 
-/// Runs the script on a new kernel, and explains it where there is a writer for that.
-fn run<R: Read + Drop, W: Write + Drop, E: Write + Drop, H: Write + Drop>(
+/// Runs the script on the kernel, and explains it where there is a writer for that.
+fn run_over<K: Kernel, R: Read + Drop, W: Write + Drop, E: Write + Drop, H: Write + Drop>(
+    alloc: Global,
+    kernel: &mut K,
+    reader: R,
+    output: W,
+    explain_to: Option<E>,
+    history: Option<H>,
+) -> Result<Summary, RecordedFault> {
+    match explain_to {
+        Some(errors) => run_explained(alloc, kernel, reader, output, errors, history),
+        None => run_on(alloc, kernel, &mut Watched::new(reader), output, history),
+    }
+}
+
+/// Runs the script on a new kernel with ready lists.
+fn run_ready<R: Read + Drop, W: Write + Drop, E: Write + Drop, H: Write + Drop>(
+    alloc: Global,
+    limits: Limits,
+    reader: R,
+    output: W,
+    explain_to: Option<E>,
+    history: Option<H>,
+) -> Result<Summary, RecordedFault> {
+    let Ok(mut kernel) = ReadyKernel::new(alloc, limits) else {
+        return Err(RecordedFault::Memory);
+    };
+    run_over(alloc, &mut kernel, reader, output, explain_to, history)
+}
+
+/// Runs the script on a new kernel that scans.
+fn run_plain<R: Read + Drop, W: Write + Drop, E: Write + Drop, H: Write + Drop>(
     alloc: Global,
     limits: Limits,
     reader: R,
@@ -153,15 +192,23 @@ fn run<R: Read + Drop, W: Write + Drop, E: Write + Drop, H: Write + Drop>(
     let Ok(mut kernel) = PlainKernel::new(alloc, limits) else {
         return Err(RecordedFault::Memory);
     };
-    match explain_to {
-        Some(errors) => run_explained(alloc, &mut kernel, reader, output, errors, history),
-        None => run_on(
-            alloc,
-            &mut kernel,
-            &mut Watched::new(reader),
-            output,
-            history,
-        ),
+    run_over(alloc, &mut kernel, reader, output, explain_to, history)
+}
+
+/// Runs the script on a new kernel of the kind that was chosen.
+fn run<R: Read + Drop, W: Write + Drop, E: Write + Drop, H: Write + Drop>(
+    alloc: Global,
+    choice: Choice,
+    reader: R,
+    output: W,
+    explain_to: Option<E>,
+    history: Option<H>,
+) -> Result<Summary, RecordedFault> {
+    let Choice { plain, limits } = choice;
+    if plain {
+        run_plain(alloc, limits, reader, output, explain_to, history)
+    } else {
+        run_ready(alloc, limits, reader, output, explain_to, history)
     }
 }
 
@@ -202,7 +249,11 @@ fn run_settings<R: Read + Drop, W: Write, E: Write, C: Create>(
     } else {
         None
     };
-    match run(alloc, limits, reader, output, explain_to, history) {
+    let choice = Choice {
+        plain: settings.plain,
+        limits,
+    };
+    match run(alloc, choice, reader, output, explain_to, history) {
         Ok(_) => DONE,
         Err(fault) => fail(&fault, errors),
     }
@@ -212,10 +263,11 @@ fn run_settings<R: Read + Drop, W: Write, E: Write, C: Create>(
 /// status: 0 at the end of the script or for `--help` and `--version`, 1 where the script was not
 /// run to its end or such a text could not be written, 2 for a bad command line or limits that are
 /// none. The words are looked at first, then the limits, then the file of `--history` is made by
-/// `files`, and the script is read last. `--plain` changes nothing while the scanning kernel is the
-/// only one. `--explain` changes what stands on `errors` alone, and `--history` only ends the run
-/// where its file can't be written. What went wrong is one line on `errors`, or the text of `clap`;
-/// a write there that fails changes no status.
+/// `files`, and the script is read last, by a kernel with ready lists, or with `--plain` by one that
+/// scans: their answers differ at most in which of several reportable registrations a wait reports
+/// first. `--explain` changes what stands on `errors` alone, and `--history` only ends the run where
+/// its file can't be written. What went wrong is one line on `errors`, or the text of `clap`; a write
+/// there that fails changes no status.
 pub fn run_with_files<R: Read + Drop, W: Write, E: Write, C: Create>(
     alloc: Global,
     words: Vec<String>,

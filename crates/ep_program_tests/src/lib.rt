@@ -4,4 +4,6 @@
 #[cfg(test)]
 mod history;
 #[cfg(test)]
+mod kernels;
+#[cfg(test)]
 mod program;

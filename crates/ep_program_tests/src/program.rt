@@ -77,7 +77,7 @@ fn reads_the_options(rt: HostRuntime) -> Result<(), Fail> {
     expect_bad_words(&rt, &["script.jsonl"])
 }
 
-fn expect_run<R: Read + Drop>(
+pub(crate) fn expect_run<R: Read + Drop>(
     rt: &(impl AllocGlobal + Abort),
     given: &[&str],
     reader: R,
