@@ -5,9 +5,6 @@ use ep_base::{DescId, Mask};
 use ep_interest::Interest;
 use std::alloc::{AllocError, Global};
 
-/// How many events are made, whatever stands beside.
-const EVENTS: u32 = 5_000_000;
-
 /// What arrives.
 const IN: Mask = Mask(1);
 
@@ -20,18 +17,16 @@ fn raise(sets: &mut Interest, desc: DescId, event: u64) -> usize {
     passing
 }
 
-/// With so many registrations, each on a description of its own, lets bits arrive at the first of them, in as many events
-/// whatever stands beside. The answer is how many registrations there are, and how many arrivals none of them passed on.
-pub fn raise_at_one(alloc: Global, count: u32) -> Result<(usize, u32), AllocError> {
+/// With so many registrations, each on a description of its own, lets bits arrive at the first of them, in so many events. The
+/// answer is how many registrations there are, and whether an arrival was not passed on.
+pub fn raise_at_one(alloc: Global, count: u32, events: u32) -> Result<(usize, bool), AllocError> {
     let mut sets = Interest::new(alloc);
     for number in 0..count {
         add(&mut sets, DescId(number as usize))?;
     }
-    let mut left = 0u32;
-    for event in 0..EVENTS {
-        if raise(&mut sets, DescId(0), u64::from(event) + 1) == 0 {
-            left = left.saturating_add(1);
-        }
+    let mut is_lost = false;
+    for event in 0..events {
+        is_lost |= raise(&mut sets, DescId(0), u64::from(event) + 1) == 0;
     }
-    Ok((sets.count(), left))
+    Ok((sets.count(), is_lost))
 }

@@ -73,3 +73,30 @@ fn keeps_the_queue_where_memory_is_refused(rt: HostRuntime) -> Result<(), Fail> 
     assert!(rt; !is_refused(&rt, 16_384)?);
     Ok(())
 }
+
+// Whether a tick over a list that grows on a heap of so many bytes is refused, and then has taken the earliest places and left
+// the others.
+fn is_tick_refused(rt: &(impl Abort + AllocGlobal), bytes: usize) -> Result<bool, AllocError> {
+    let heap = LocalHeap::new(rt.alloc(), bytes)?;
+    let mut queue = DueQueue::new(rt.alloc());
+    for turn in 0..16_u64 {
+        place_at(&mut queue, turn)?;
+    }
+    let mut taken: Vec<DuePlace, _> = Vec::new(&heap);
+    let is_refused = take_due(&mut queue, 20, None, &mut taken).is_err();
+    let next = queue.first_due(20).map(|due| due.0);
+    assert!(rt; taken.iter().zip(0..16).all(|(due, place)| due.0 == place));
+    assert!(rt; is_refused == next.is_some());
+    assert!(rt; next.unwrap_or(16) == taken.len());
+    Ok(is_refused)
+}
+
+#[test]
+fn keeps_what_is_taken_where_memory_is_refused(rt: HostRuntime) -> Result<(), Fail> {
+    for units in 1..64 {
+        let _refused = is_tick_refused(&rt, 16 * units)?;
+    }
+    assert!(rt; is_tick_refused(&rt, 16)?);
+    assert!(rt; !is_tick_refused(&rt, 4_096)?);
+    Ok(())
+}

@@ -1,0 +1,75 @@
+//! Calls that find nothing to do, with others beside them.
+
+use crate::registrations::add;
+use ep_base::{CallerId, DescId, EntryId, Pid};
+use ep_interest::Interest;
+use ep_nest::Graph;
+use ep_park::{Park, Waiter};
+use std::alloc::{AllocError, Global};
+
+/// The instance that all others wait for or watch.
+const INSTANCE: DescId = DescId(0);
+
+/// With so many registrations, each on a description of its own, ends a description without registrations in each call. The answer
+/// is how many registrations there are, and whether one is missing.
+pub fn end_unwatched(alloc: Global, count: u32, calls: u32) -> Result<(usize, bool), AllocError> {
+    let mut sets = Interest::new(alloc);
+    for number in 0..count {
+        add(&mut sets, DescId(number as usize))?;
+    }
+    let most = sets.count();
+    for _call in 0..calls {
+        sets.purge(DescId(count as usize));
+    }
+    Ok((most, sets.count() != most))
+}
+
+/// Lets the instance watch another, where the graph allows it.
+fn watch(graph: &mut Graph, inner: usize) -> Result<(), AllocError> {
+    if graph.may_add(INSTANCE, DescId(inner)).is_ok() && !graph.is_linked(EntryId(inner)) {
+        graph.link(INSTANCE, DescId(inner), EntryId(inner))?;
+    }
+    Ok(())
+}
+
+/// With so many links, ends an instance without links in each call. The answer is how many links there are, and whether one is
+/// missing.
+pub fn end_apart(alloc: Global, count: u32, calls: u32) -> Result<(usize, bool), AllocError> {
+    let mut graph = Graph::new(alloc);
+    for number in 0..count {
+        watch(&mut graph, number as usize + 1)?;
+    }
+    let most = graph.links().len();
+    for _call in 0..calls {
+        graph.purge(DescId(count as usize + 1));
+    }
+    Ok((most, graph.links().len() != most))
+}
+
+/// Parks a caller whose deadline never comes, where it isn't parked.
+fn park(waits: &mut Park, caller: CallerId) -> Result<(), AllocError> {
+    if waits.is_parked(caller) {
+        return Ok(());
+    }
+    let waiter = Waiter {
+        process: Pid(1),
+        instance: INSTANCE,
+        max: 1,
+        deadline: Some(u64::MAX),
+        marked: false,
+    };
+    waits.park(caller, waiter)
+}
+
+/// With so many callers that are parked, marks those that are due, of which there are none, in each call. The answer is how many
+/// are parked, and whether one is marked.
+pub fn tick(alloc: Global, count: u32, calls: u32) -> Result<(usize, bool), AllocError> {
+    let mut waits = Park::new(alloc);
+    for number in 0..count {
+        park(&mut waits, CallerId(number))?;
+    }
+    for call in 0..calls {
+        waits.mark_due(u64::from(call));
+    }
+    Ok((waits.count(), waits.has_mark(INSTANCE)))
+}
