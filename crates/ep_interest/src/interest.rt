@@ -1,5 +1,5 @@
 //! All interest sets together.
-ghost use Rattle.std.specs.Prelude.{nat_eq, nat_lt, not, vec_capacity, ◌≤◌, ◌≡◌, ◌&&◌, ◌+◌, ◌<◌, ◌^◌, [], ◌∷◌, ◌++◌, false, IfOk, IfNone, IfSome, IsOk, OnErr, IsSome, Some, is_some, All, filter, length, map, slice_index_or, slice_set, None, option_copied, unwrap_or};
+ghost use Rattle.std.specs.Prelude.{nat_eq, nat_lt, not, vec_capacity, ◌≤◌, ◌≡◌, ◌&&◌, ◌+◌, [], ◌∷◌, ◌++◌, false, IfOk, IfNone, IfSome, OnErr, IsSome, Some, is_some, All, filter, length, map, slice_index_or, slice_set, None, option_copied, unwrap_or};
 ghost use Rattle.std.specs.Map.Iter.{ShowsInOrder};
 ghost use Rattle.std.specs.Option.{option_map};
 ghost use Rattle.ep_base.specs.declared.ids.EntryId.{EntryId};
@@ -388,15 +388,6 @@ impl<A: Allocator> Interest<A> {
             fresh: true,
             ..*changed
         };
-    }
-
-    /// The number that the next registration gets: it is above each that was ever given. An `Err` where none is left, after
-    /// 2^64 - 1 of them.
-    pub fn next_number(&self) -> Result<u64, AllocError>
-        ensures ok { IfOk result (λ number. number ≡ self.now.added + 1) }
-        ensures left { self.now.added + 1 < 2 ^ 64 → IsOk result }
-    {
-        self.added.checked_add(1).ok_or(AllocError)
     }
 
     /// Notes that an event raised these bits at a description. Each registration on it whose mask asks for one of them, ERR
