@@ -207,23 +207,47 @@ fn runs_under_the_limits(rt: HostRuntime) -> Result<(), Fail> {
     expect_run(&rt, &options, LEVEL, 0, of_five, b"")
 }
 
+fn expect_bad_limits(rt: &(impl AllocGlobal + Abort), cases: &[(&str, &str)]) -> Result<(), Fail> {
+    for (text, wanted) in cases {
+        let error = format!(in rt.alloc(); "epsim: bad limits\nepsim: bad limits: {wanted}\n")?;
+        let options = ["--explain", "--limits", text];
+        expect_run(rt, &options, Failing, 2, b"", error.as_bytes())?;
+    }
+    Ok(())
+}
+
 #[test]
-fn explains_bad_limits(rt: HostRuntime) -> Result<(), Fail> {
-    for (text, wanted) in [
+fn explains_limits_below_their_range(rt: HostRuntime) -> Result<(), Fail> {
+    let cases = [
         (
             "2,5,2,8,4096,1",
             "descriptors is 2, and goes from 3 to 65536",
         ),
+        ("6,0,2,8,4096,1", "files is 0, and goes from 1 to 1000000"),
+        ("6,5,0,8,4096,1", "processes is 0, and goes from 1 to 10000"),
+        (
+            "6,5,2,8,4095,1",
+            "pipe_bytes is 4095, and goes from 4096 to 1048576",
+        ),
+        (
+            "6,5,2,8,4096,0",
+            "sock_bytes is 0, and goes from 1 to 1048576",
+        ),
+    ];
+    expect_bad_limits(&rt, &cases)
+}
+
+#[test]
+fn explains_limits_above_their_range(rt: HostRuntime) -> Result<(), Fail> {
+    let cases = [
         (
             "65537,5,2,8,4096,1",
             "descriptors is 65537, and goes from 3 to 65536",
         ),
-        ("6,0,2,8,4096,1", "files is 0, and goes from 1 to 1000000"),
         (
             "6,1000001,2,8,4096,1",
             "files is 1000001, and goes from 1 to 1000000",
         ),
-        ("6,5,0,8,4096,1", "processes is 0, and goes from 1 to 10000"),
         (
             "6,5,10001,8,4096,1",
             "processes is 10001, and goes from 1 to 10000",
@@ -233,21 +257,20 @@ fn explains_bad_limits(rt: HostRuntime) -> Result<(), Fail> {
             "watches is 1000001, and goes from 0 to 1000000",
         ),
         (
-            "6,5,2,8,4095,1",
-            "pipe_bytes is 4095, and goes from 4096 to 1048576",
-        ),
-        (
             "6,5,2,8,1048577,1",
             "pipe_bytes is 1048577, and goes from 4096 to 1048576",
-        ),
-        (
-            "6,5,2,8,4096,0",
-            "sock_bytes is 0, and goes from 1 to 1048576",
         ),
         (
             "6,5,2,8,4096,1048577",
             "sock_bytes is 1048577, and goes from 1 to 1048576",
         ),
+    ];
+    expect_bad_limits(&rt, &cases)
+}
+
+#[test]
+fn explains_limits_that_are_not_six_numbers(rt: HostRuntime) -> Result<(), Fail> {
+    let cases = [
         (
             "+6,5,2,8,4096,1",
             "descriptors is \"+6\", and goes from 3 to 65536",
@@ -268,12 +291,8 @@ fn explains_bad_limits(rt: HostRuntime) -> Result<(), Fail> {
             "",
             "six numbers with commas between are wanted, and there are 1",
         ),
-    ] {
-        let error = format!(in rt.alloc(); "epsim: bad limits\nepsim: bad limits: {wanted}\n")?;
-        let options = ["--explain", "--limits", text];
-        expect_run(&rt, &options, Failing, 2, b"", error.as_bytes())?;
-    }
-    Ok(())
+    ];
+    expect_bad_limits(&rt, &cases)
 }
 
 // The answers and the status are those that are given without the option.
