@@ -1,7 +1,7 @@
 //! Each call on the tables that can grow is refused its memory over heaps of rising size, and leaves the tables.
 ghost use Rattle.std.specs.Prelude.{◌≡◌, []};
 
-use self::Growth::{Create, CreateTwo, Dup, Dup2, Fork};
+use self::Growth::{Create, Dup, Dup2, Fork, Pipe, SocketPair};
 use ep_base::{Answer, Errno, Fd, Limits, Pid};
 use ep_object::Object;
 use ep_table::Tables;
@@ -14,7 +14,8 @@ use std::test::Fail;
 #[derive(Clone, Copy)]
 enum Growth {
     Create,
-    CreateTwo,
+    Pipe,
+    SocketPair,
     Dup,
     Dup2,
     Fork,
@@ -31,7 +32,8 @@ fn call(
     }
     match growth {
         Create => tables.create(Pid(1), true, Object::instance()),
-        CreateTwo => tables.socketpair(alloc, Pid(1), false),
+        Pipe => tables.pipe(alloc, Pid(1), false),
+        SocketPair => tables.socketpair(alloc, Pid(1), false),
         Dup => tables.dup(Pid(1), Fd(0)),
         Dup2 => tables.dup2(Pid(1), Fd(0), Fd(i32::from(to))),
         Fork => tables.fork(Pid(1)),
@@ -98,7 +100,7 @@ fn refuse_in_turn(rt: &(impl Abort + AllocGlobal), growth: Growth) -> Result<(),
 
 #[test]
 fn keeps_the_tables_where_memory_is_refused(rt: HostRuntime) -> Result<(), Fail> {
-    for growth in [Create, CreateTwo, Dup, Dup2, Fork] {
+    for growth in [Create, Pipe, SocketPair, Dup, Dup2, Fork] {
         refuse_in_turn(&rt, growth)?;
     }
     Ok(())
