@@ -18,7 +18,7 @@ use Rattle.ep_table.specs.Value.{Seen}
 abbrev pub KeepKinds : Files → Files → List KernelWatch → Type 0
 KeepKinds f g xs = All (λ w. kind_of (object_of g w.target) ≡ kind_of (object_of f w.target)) xs
 
-instance_kind : (o : Option Object) → is_instance (unwrap_or o plain) ≡ (kind_of o == 1)
+pub instance_kind : (o : Option Object) → is_instance (unwrap_or o plain) ≡ (kind_of o == 1)
 instance_kind None = refl
 instance_kind (Some plain) = refl
 instance_kind (Some (pipe p)) = refl

@@ -1,5 +1,5 @@
 -- A call on an object over the parts.
-use Rattle.std.proofs.Common.{◌≡◌, ◌∙◌, ℕ, List, [], IsSome, None, Option, Some, false, ap, is_none, refl, subst, sym, unwrap_or}
+use Rattle.std.proofs.Common.{◌≡◌, ◌∙◌, ◌==◌, ℕ, true, List, [], IsSome, None, Option, Some, false, ap, is_none, refl, subst, sym, unwrap_or}
 use Rattle.std.proofs.lemmas.Bool.{false≢true}
 use Rattle.ep_base.specs.declared.call.Call.{Call}
 use Rattle.ep_base.specs.declared.call.Call.TheVariants.{GetTime, Read, SetTime, Shutdown, Write}
@@ -7,9 +7,11 @@ use Rattle.ep_base.specs.declared.errno.Errno.{Errno}
 use Rattle.ep_base.specs.declared.ids.DescId.{DescId}
 use Rattle.ep_base.specs.declared.ids.Fd.{Fd}
 use Rattle.ep_base.specs.declared.object.End.{End}
-use Rattle.ep_machine.specs.Effect.{first, unless}
-use Rattle.ep_machine.specs.Files.{object_number, object_of, place_of, side_of}
-use Rattle.ep_machine.specs.Objects.{Object, object_effect, object_refusals}
+use Rattle.ep_law.proofs.EndLemmas.{set_object}
+use Rattle.ep_machine.specs.Bits.{nothing}
+use Rattle.ep_machine.specs.Effect.{Effect, attempt, first, unless}
+use Rattle.ep_machine.specs.Files.{Files, Place, object_at, object_number, object_of, place_of, side_of}
+use Rattle.ep_machine.specs.Objects.{Object, counter, instance, is_instance, object_effect, object_refusals, pair, pipe, plain, timer}
 use Rattle.ep_view.specs.AtRest.{kind_of}
 use Rattle.ep_machine.specs.Refusal.{call_refusals}
 use Rattle.ep_machine.specs.Step.{call_change}
@@ -25,7 +27,8 @@ use Rattle.ep_calls.specs.Raising.{IsRaising, Raises, RaisesByCall}
 use Rattle.ep_calls.specs.Stands.{KeepsKinds}
 use Rattle.ep_calls.proofs.ObjectRaiseLemmas.{object_raises}
 use Rattle.ep_calls.proofs.FilesCallLemmas.{CallsObject, IsOnObject, object_called, object_keys, object_limits}
-use Rattle.ep_table.specs.Value.{Seen, Sound, content_of, effect_at, number_of, number_under}
+use Rattle.ep_calls.proofs.KindLemmas.{instance_kind}
+use Rattle.ep_table.specs.Value.{Seen, Sound, content_of, effect_at, number_of, number_under, unwrapped}
 use Rattle.ep_calls.proofs.KeyLemmas.{under_key}
 
 pub on_object : (call : Call) (fd : Fd) → fd_of call ≡ Some fd → IsOnObject fd call
@@ -57,6 +60,49 @@ applied_kinds v key now call sound there =
     let place : IsSome (place_of f d) = subst (λ (n : ℕ). IsSome (place_of f n)) (sym (ap (λ (o : Option ℕ). unwrap_or o 0) u.is)) (sound.place key u.number u.is) in
     (extends_with_object f (object_number (place_of f d)) (effect_at f d now call).1
     (λ shows. unless_kind (first (object_refusals x (side_of f d) now call)) x (side_of f d) now call ∙ (kind_there (object_of f d) ∙ kind_at f (place_of f d) (some_not_none (place_of f d) place)))).shows
+
+-- a call on an instance is refused
+refused_raises : (x : Object) (e : End) (now : ℕ) (call : Call) → is_instance x ≡ true → (attempt (object_refusals x e now call) x (object_effect x e now call)).2 ≡ nothing
+refused_raises plain e now call h = absurd (false≢true h)
+refused_raises (pipe p) e now call h = absurd (false≢true h)
+refused_raises (pair p) e now call h = absurd (false≢true h)
+refused_raises (counter c) e now call h = absurd (false≢true h)
+refused_raises (timer t) e now call h = absurd (false≢true h)
+refused_raises instance e now (Read fd n) h = refl
+refused_raises instance e now (Write fd bytes) h = refl
+refused_raises instance e now (Shutdown fd) h = refl
+refused_raises instance e now (SetTime fd absolute value interval) h = refl
+refused_raises instance e now (GetTime fd) h = refl
+refused_raises instance e now call h = refl
+
+-- so it raises nothing at the object of what is an instance after it
+module _ (f : Files) (d now : ℕ) (call : Call) where
+  abbrev x : Object
+  x = content_of f d
+
+  abbrev made : Effect Object
+  made = effect_at f d now call
+
+  -- where that object is an instance
+  abbrev RaisesNothing : Object → Type 0
+  RaisesNothing y = is_instance y ≡ true → made.2 ≡ nothing
+
+  old_raises : RaisesNothing x
+  old_raises = refused_raises x (side_of f d) now call
+
+  new_raises : RaisesNothing made.1
+  new_raises h =
+      let kind = unless_kind (first (object_refusals x (side_of f d) now call)) x (side_of f d) now call in
+      old_raises (instance_kind (Some x) ∙ (ap (λ (k : ℕ). k == 1) (sym kind) ∙ (sym (instance_kind (Some made.1)) ∙ h)))
+
+  raises_at : (o : Option Place) → place_of f d ≡ o → RaisesNothing (unwrapped (object_at (affected f d made) o))
+  raises_at None is h = absurd (false≢true h)
+  raises_at (Some p) is h =
+      let was : RaisesNothing (unwrapped (object_at f (Some p))) = subst (λ (o : Option Place). RaisesNothing (unwrapped (object_at f o))) is old_raises in
+      set_object RaisesNothing f.objects (object_number (place_of f d)) p.object (Some made.1) (λ e. new_raises) was h
+
+  pub instance_raises : is_instance (content_of (affected f d made) d) ≡ true → made.2 ≡ nothing
+  instance_raises h = raises_at (place_of f d) refl h
 
 -- so the parts do what the machine does
 pub object_does : (p : Parts) (new : Seen) (pid : ℕ) (fd : Fd) (call : Call) (outcome : Outcome) → AreCoherent p → fd_of call ≡ Some fd → CallsObject pid fd p.clock call outcome.answer p.tables new

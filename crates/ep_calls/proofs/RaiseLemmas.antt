@@ -216,7 +216,7 @@ stirs_watches Nowhere v now n old new h sound is linked =
       map_itself (y ∷ ys) = ap (λ (zs : List Entry). y ∷ zs) (map_itself ys)
 stirs_watches (Object desc raised) v now n old new h sound is linked =
     subst (λ (xs : List Entry). Freshens v n (raised_bits (Object desc raised) v now) old.entries xs) (sym (map_twice _ _ old.entries) ∙ sym h.entries)
-    (freshens v n (raised_bits (Object desc raised) v now) _ (λ x link. object_each v desc raised n sound is h.other h.is_at x link) old.entries linked)
+    (freshens v n (raised_bits (Object desc raised) v now) _ (λ x link. object_each v desc raised n sound is.0 h.other h.is_at x link) old.entries linked)
 stirs_watches (Instance desc) v now n old new h sound is linked =
     subst (λ (xs : List Entry). Freshens v n (raised_bits (Instance desc) v now) old.entries xs) (sym h.0)
     (freshens v n (raised_bits (Instance desc) v now) (raised_on desc (bits_of IN) n) (λ x link. instance_each v desc n sound is x link) old.entries linked)

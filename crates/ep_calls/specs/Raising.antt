@@ -9,10 +9,10 @@ use Rattle.ep_base.specs.declared.mask.Mask.{Mask}
 use Rattle.ep_base.specs.declared.object.Raised.{Raised}
 use Rattle.ep_interest.specs.Registrations.{Registrations, raised_on}
 use Rattle.ep_interest.specs.declared.entry.Entry.{Entry}
-use Rattle.ep_machine.specs.Bits.{IN, at_end, when}
+use Rattle.ep_machine.specs.Bits.{IN, at_end, nothing, when}
 use Rattle.ep_machine.specs.Effect.{first}
 use Rattle.ep_machine.specs.Files.{Files, Place, named_by, names_nothing, object_at, object_number, object_of, object_under, place_of, side_of, side_under}
-use Rattle.ep_machine.specs.Objects.{advance, object_refusals, plain}
+use Rattle.ep_machine.specs.Objects.{advance, is_instance, object_refusals, plain}
 use Rattle.ep_view.specs.AtRest.{can_be_watched}
 use Rattle.ep_machine.specs.Spread.{raised_of}
 use Rattle.ep_machine.specs.State.{Change}
@@ -25,10 +25,12 @@ use Rattle.ep_table.specs.Closing.{IsAt, across, opposite}
 use Rattle.ep_table.specs.Live.{live_ids}
 use Rattle.ep_table.specs.Value.{Seen, content_of, number_of, number_under}
 
--- its description lives, its moment is one
+-- its description lives, its moment is one, and no call raises anything at the object of an instance
 abbrev pub IsRaising : Raising → Seen → Type 0
 IsRaising Nowhere v = Unit {0}
-IsRaising (Object desc raised) v = IsSome (number_under v desc)
+IsRaising (Object desc raised) v =
+    IsSome (number_under v desc)
+    × (is_instance (content_of v.files (number_of v desc)) ≡ true → raised ≡ nothing)
 IsRaising (Instance desc) v = IsSome (number_under v desc)
 IsRaising (Clock since) v = since ≤ last_moment
 

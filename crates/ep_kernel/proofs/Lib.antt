@@ -22,6 +22,7 @@ pub mod JoinLemmas
 pub mod AlteredLemmas
 pub mod NextLemmas
 pub mod RunLemmas
+pub mod AreLookedAtLemmas
 pub mod SettledLemmas
 pub mod ReadinessLemmas
 pub mod MarkLemmas

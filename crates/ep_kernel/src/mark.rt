@@ -2,16 +2,40 @@
 ghost use Rattle.std.specs.Prelude.{◌≡◌, filter, map};
 ghost use Rattle.ep_calls.specs.Parking.{ready_key};
 ghost use Rattle.ep_kernel.specs.Listed.{IsListed};
-ghost use Rattle.ep_kernel.specs.Mark.{AreLookedAt, attended, marked_where};
+ghost use Rattle.ep_kernel.specs.Mark.{AreLookedAt, attended, attends, marked_where, resumed_at as resumed};
 ghost use Rattle.ep_machine.specs.Marks.{marked_by};
 ghost use Rattle.ep_machine.specs.Waits.{marked_if_due};
 ghost use Rattle.ep_park.specs.Turns.{marked_in_turn};
 
 use crate::readiness::is_ready;
-use ep_base::DescId;
-use ep_calls::Parts;
+use ep_base::{CallerId, DescId, Event};
+use ep_calls::{Parts, Raising};
 use ep_park::laws::unmarked_in_turn;
 use ep_ready::ReadyLists;
+
+/// The instance at which a caller waits that an event resumes, or `None` where the event resumes none that is parked.
+pub fn resumed_at(parts: &Parts, caller: CallerId, event: &Event) -> Option<DescId>
+    ensures { result ≡ resumed parts.now.parked caller.0 event.now }
+{
+    match event {
+        Event::Resume => parts.waiters.waiter(caller).map(|waiter| waiter.instance),
+        _ => None,
+    }
+}
+
+/// The instance that an event attends beside those that it reaches: the one at which a caller waited that it resumed, or the one
+/// at which it raised IN. `None` where it did neither.
+pub fn attend(resumed: Option<DescId>, raising: Raising) -> Option<DescId>
+    ensures { result ≡ attends resumed raising }
+{
+    if resumed.is_some() {
+        return resumed;
+    }
+    match raising {
+        Raising::Instance { desc } => Some(desc),
+        _ => None,
+    }
+}
 
 /// Marks whoever is due. The cost grows with those that this marks, and not with others.
 fn mark_due(parts: &mut Parts)

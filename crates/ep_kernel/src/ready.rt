@@ -9,11 +9,11 @@ ghost use Rattle.ep_machine.specs.Lists.{are_distinct, is_among};
 ghost use Rattle.ep_view.specs.AtRest.{IsSteady, kind_of};
 
 use crate::act::act;
+use crate::mark::{attend, mark, resumed_at};
 use crate::settle::{know, settle};
 use ep_base::{Answer, CallerId, Errno, Event, Limits, Record};
 use ep_calls::{Kernel, Outcome, Parts, Spare};
-use ep_order::lists_go_on;
-use ep_plain::mark_waiters;
+use ep_order::{lists_go_on, unmarked_are_reached};
 use ep_ready::ReadyLists;
 use std::alloc::{AllocError, Global};
 use std::marker::Model;
@@ -87,8 +87,10 @@ impl ReadyKernel {
         self.history.reserve(1)?;
         let step = self.history.len() as u64 + 1;
         lists_go_on();
+        unmarked_are_reached();
         know(&self.parts);
         self.lists.known();
+        let resumed = resumed_at(&self.parts, caller, &event);
         let Outcome {
             answer,
             recorded,
@@ -98,8 +100,8 @@ impl ReadyKernel {
         } = act(&mut self.parts, &mut self.lists, step, caller, &event, kept)?;
         let spare = Spare::of(kept, spare, &answer, &picked);
         settle(&mut self.parts, &mut self.lists, step, raising);
-        mark_waiters(&mut self.parts);
         self.lists.known();
+        mark(&mut self.parts, &self.lists, attend(resumed, raising));
         self.history.push_reserved(Record {
             caller,
             event,

@@ -20,6 +20,7 @@ use Rattle.ep_machine.specs.State.{Change, State, Waiter}
 use Rattle.ep_machine.specs.Step.{call_change, change, next_event}
 use Rattle.ep_machine.specs.Waits.{is_marked_at, leave_after, resume, resume_by, tick, unmark, wait_for, waiter_of, waits_at}
 use Rattle.ep_machine.specs.Watches.{ctl, is_add, is_del, number_in}
+use Rattle.ep_law.proofs.GraphLemmas.{linked_begun, linked_change, linked_run}
 use Rattle.ep_law.proofs.StepLemmas.{change_counted}
 use Rattle.ep_law.proofs.MarkLemmas.{marked_parts, ready_marked, ready_same}
 use Rattle.ep_view.proofs.AtRestLemmas.{quiet_begun, quiet_change, quiet_run}
@@ -27,10 +28,11 @@ use Rattle.ep_view.proofs.SettleLemmas.{quiet_settled, settle_changed}
 use Rattle.ep_view.proofs.KernelViewLemmas.{readiness}
 use Rattle.ep_law.proofs.TestLemmas.{from_test, or_left, or_right}
 use Rattle.ep_object.specs.Law.{AdvanceLaw, ApplyLaw, CloseLaw}
+use Rattle.ep_order.proofs.RaisedLemmas.{in_spread_at_instance}
 use Rattle.ep_order.specs.Mark.{ResumesAt, UnmarkedAreReached}
 use Rattle.ep_law.proofs.BeginningLemmas.{instance_begins}
 
-instance_of_kind : (o : Option Object) → kind_of o ≡ 1 → o ≡ Some instance
+pub instance_of_kind : (o : Option Object) → kind_of o ≡ 1 → o ≡ Some instance
 instance_of_kind None h = cc
 instance_of_kind (Some plain) h = cc
 instance_of_kind (Some (pipe p)) h = cc
@@ -46,7 +48,7 @@ waits_by : (ws : List Waiter) (e : ℕ) → waits_at ws e ≡ at_any e (map (λ 
 waits_by [] e = refl
 waits_by (w ∷ ws) e = ap (λ (b : Bool). w.instance == e || b) (waits_by ws e)
 
-waiter_there : (P : Waiter → Type 0) (ws : List Waiter) (e : ℕ) → All P ws → waits_at ws e ≡ true → (w : Waiter) × P w × (w.instance ≡ e)
+pub waiter_there : (P : Waiter → Type 0) (ws : List Waiter) (e : ℕ) → All P ws → waits_at ws e ≡ true → (w : Waiter) × P w × (w.instance ≡ e)
 waiter_there P [] e h t = absurd (false≢true t)
 waiter_there P (w ∷ ws) e h t = elim (cases_Bool (w.instance == e)) [
   | inl here ↦ (w, h 0 w (omega arith), from_test w.instance e here)
@@ -290,9 +292,14 @@ unmarked_are_reached apply close clock limits past s caller event picked c e is 
     let who = waiter_there (λ w. kind_of (object_of t.files w.instance) ≡ 1) t.waiters e after.waiting there in
     let here : object_of t.files e ≡ Some instance = instance_of_kind (object_of t.files e) (ap (λ (d : ℕ). kind_of (object_of t.files d)) (sym who.2) ∙ who.1) in
     elim (cases_Bool (is_ready b e)) [
-      | inr silent ↦ inl (instance_begins apply close clock limits past s caller event picked c is allowed made e here ready silent)
+      | inr silent ↦
+          let linked = linked_change limits b caller event picked c allowed made (linked_begun s (linked_run limits past s is)) in
+          elim (in_spread_at_instance c.1 c.2 linked.made e here (instance_begins apply close clock limits past s caller event picked c is allowed made e here ready silent)) [
+            | inl reached ↦ inl reached
+            | inr raised ↦ inr (inl raised)
+          ]
       | inl was ↦ elim (stays_after_event limits b e caller quiet.callers event picked) [
-        | inl attends ↦ inr attends
+        | inl resumes ↦ inr (inr resumes)
         | inr kept ↦
             let stays = from_stays limits b e caller quiet.callers (change limits b caller event picked) c made kept in
             let waited = stays.waits waits was in

@@ -43,8 +43,9 @@ pub fn reached_is_above()
     ensures law { ReachedIsAbove }
 {}
 
-/// An instance that is ready after an event and has waiters, none of them marked before marks are set, has IN in the event's
-/// spread, or the event resumed a caller that waits there. So no other instance needs a look when marks are set. Does nothing.
+/// An instance that is ready after an event and has waiters, none of them marked before marks are set, is one that IN reaches
+/// from below, or the event raised IN at it, or resumed a caller that waits there. So no other instance needs a look when marks
+/// are set. Does nothing.
 pub fn unmarked_are_reached()
     ensures law { UnmarkedAreReached }
 {

@@ -13,6 +13,5 @@ mod these;
 mod wait;
 mod waiting;
 
-pub use crate::mark::mark_waiters;
 pub use crate::plain::PlainKernel;
 pub use ep_calls::{Kernel, ready_waiters_are_marked, run};

@@ -1,18 +1,19 @@
-use Rattle.std.proofs.Common.{◌∙◌, IsSome, ap, arith, refl, slice_index_or, None, subst, sym}
+use Rattle.std.proofs.Common.{◌∙◌, ap, refl, slice_index_or, None, subst, sym}
 use Rattle.ep_base.specs.declared.answer.Answer.{Answer}
 use Rattle.ep_machine.specs.Files.{side_of}
 use Rattle.ep_calls.specs.Parts.{Parts}
-use Rattle.ep_calls.proofs.ObjectLemmas.{applied_kinds, is_object_call, object_does}
+use Rattle.ep_calls.proofs.ObjectLemmas.{applied_kinds, instance_raises, is_object_call, object_does}
 use Rattle.ep_calls.proofs.PartsLemmas.{coherent_kept}
 use Rattle.ep_calls.specs.ObjectCall.{FitsRoom}
 use Rattle.ep_calls.specs.Stands.{KeepsKinds}
 use Rattle.ep_calls.proofs.KeyLemmas.{object_there}
 use Rattle.ep_calls.specs.Raising.{IsRaising, RaisesByCall}
 use Rattle.ep_calls.specs.declared.raising.Raising.{Raising}
+use Rattle.ep_calls.specs.declared.raising.Raising.TheVariants.{Object}
 use Rattle.ep_calls.proofs.FilesCallLemmas.{CallsObject}
 use Rattle.ep_calls.proofs.ObjectCallLemmas.{calls_object, fits}
 use Rattle.ep_calls.proofs.ObjectRaiseLemmas.{raises_object}
-use Rattle.ep_table.specs.Value.{Seen, content_of, holds_of, number_of, number_under}
+use Rattle.ep_table.specs.Value.{Seen, content_of, holds_of, number_of}
 use Rattle.ep_calls.proofs.parts.Parts.object_call.Goals as goal
 
 pub outcome_of-requires-clause-fits : goal.outcome_of-requires-clause-fits
@@ -49,7 +50,10 @@ returns-clause-ok c =
     let found = c.in-Some.ensures in
     let calls = calls_object v new c.args.pid.0 c.args.fd.0 c.in-Some.desc k.clock c.args.call.now c.in_ok-answer.answer found.number found.live (object_there v c.in-Some.desc c.known.ensures found.live) e.answer e.files in
     let raises = raises_object v c.in-Some.desc k.clock c.args.call.now c.in_ok-answer.raised _ refl new c.args.pid.0 c.args.fd.0 found.number found.live (ap (λ (t : Seen). t.keys) e.files) (ap (λ (t : Seen). t.files.descriptions) e.files) e.raised in
-    let lives : IsSome (number_under new c.in-Some.desc) = subst (λ (t : Seen). IsSome (number_under t c.in-Some.desc)) (sym e.files) found.live in
+    let key = c.in-Some.desc in
+    let d = number_of v key in
+    let lives : IsRaising (Object key c.in_ok-answer.raised) new =
+    subst (IsRaising (Object key c.in_ok-answer.raised)) (sym e.files) (found.live, λ h. e.raised ∙ instance_raises v.files d k.clock c.args.call.now h) in
     let o = c.outcome_of.ensures in
     rw (← c.self.view_is) (object_does p new c.args.pid.0 c.args.fd c.args.call.now c.outcome_of.result c.self.invariant c.requires
     (subst (λ (a : Answer). CallsObject c.args.pid.0 c.args.fd k.clock c.args.call.now a v new) (sym o.answer) calls)

@@ -1,4 +1,5 @@
-use Rattle.std.proofs.Common.{◌≡◌, ◌+◌, ◌++◌, [], ◌∷◌, Err, List, Ok, OnErr, Result, ap, length, ◌∙◌, arith, subst, sym, vec_capacity}
+use Rattle.std.proofs.Common.{◌≡◌, ◌+◌, ◌++◌, [], ◌∷◌, Err, List, Ok, OnErr, Option, Result, ap, length, ◌∙◌, arith, subst, sym, vec_capacity}
+use Rattle.ep_base.specs.declared.ids.DescId.{DescId}
 use Rattle.ep_base.specs.declared.record.Record.{Record}
 use Rattle.ep_machine.specs.Step.{next_event}
 use Rattle.ep_calls.specs.Acts.{Adds}
@@ -9,7 +10,9 @@ use Rattle.ep_calls.proofs.KeepsLemmas.{record_of}
 use Rattle.ep_calls.proofs.KeptLemmas.{inline_event}
 use Rattle.ep_kernel.proofs.ReadyBookLemmas.{same_lists}
 use Rattle.ep_kernel.specs.Listed.{lists_of}
+use Rattle.ep_kernel.specs.Mark.{AreLookedAt, attends}
 use Rattle.ep_kernel.specs.Running.{Ends, Runs, book_of}
+use Rattle.ep_kernel.proofs.AreLookedAtLemmas.{are_looked_at, listed_climbed}
 use Rattle.ep_kernel.proofs.RunLemmas.{adds_on, does_fairly, first_on, runs_on, runs_same}
 use Rattle.ep_kernel.proofs.SettledLemmas.{ends_of}
 use Rattle.ep_kernel.proofs.ready.ReadyKernel.try_step.Goals as goal
@@ -44,6 +47,24 @@ of-spare-requires-clause-inline c asked none =
     let does = does_fairly k.history.items k.parts c.act.new.parts k.lists c.self.invariant (c.len.result + 1) c.args.caller.0 c.args.event o n c.in_ok-answer.ensures.ok in
     inline_event k.parts.tables.limits (next_event c.self.invariant.keeps.state) c.args.caller.0 o c.args.kept asked none c.args.event c.act.new.parts does.goes c.in_ok-answer.ensures.kept
 
+-- where marks are set the lists fit, and no other instance has a caller to mark
+at_step : (c : goal.After-attend) → c.len.result + 1 ≡ length c.self.inside.history.items + 1
+at_step c = omega (arith, c.len.ensures, c.reserve.ensures.len)
+
+pub mark-requires-clause-listed : goal.mark-requires-clause-listed
+mark-requires-clause-listed c =
+    let k = c.self.inside in
+    listed_climbed c.lists_go_on.ensures.law c.unmarked_are_reached.ensures.law k.history.items k.parts c.act.new.parts c.settle.new.parts k.lists c.act.new.lists c.settle.new.lists c.self.invariant c.know.ensures.coherent c.know.ensures.tables c.know.ensures.interest c.known.ensures c.known-2.ensures
+    c.args.caller c.args.event c.in_ok-answer.field-0 (c.len.result + 1) (at_step c) c.in_ok-answer.ensures.ok c.in_ok-answer.ensures.turns c.settle.ensures
+
+pub mark-requires-clause-reached : goal.mark-requires-clause-reached
+mark-requires-clause-reached c =
+    let k = c.self.inside in
+    let raising = c.in_ok-answer.field-0.raising in
+    subst (AreLookedAt c.settle.new.parts c.settle.new.lists) (sym (c.attend.ensures ∙ ap (λ (o : Option DescId). attends o raising) c.resumed_at-resumed.ensures))
+    (are_looked_at c.lists_go_on.ensures.law c.unmarked_are_reached.ensures.law k.history.items k.parts c.act.new.parts c.settle.new.parts k.lists c.act.new.lists c.settle.new.lists c.self.invariant c.know.ensures.coherent c.know.ensures.tables c.know.ensures.interest c.known.ensures c.known-2.ensures
+    c.args.caller c.args.event c.in_ok-answer.field-0 (c.len.result + 1) (at_step c) c.in_ok-answer.ensures.ok c.in_ok-answer.ensures.turns c.settle.ensures)
+
 -- the number of the event
 number : (c : goal.After-push_reserved) → c.len.result + 1 ≡ length c.self.inside.history.items + 1
 number c = omega (arith, c.len.ensures, c.reserve.ensures.len)
@@ -56,23 +77,23 @@ records c =
     ∙ (λ i. c.reserve.ensures.items i ++ record { caller = c.args.caller; event = c.args.event; answer = outcome.same i; picked = outcome.picked } ∷ [])
 
 -- what follows the change
-ends : (c : goal.After-push_reserved) → Ends (c.len.result + 1) c.in_ok-answer.field-0.raising c.act.new.parts c.act.new.lists c.mark_waiters.new.parts c.settle.new.lists
-ends c = ends_of (c.len.result + 1) c.in_ok-answer.field-0.raising c.act.new.parts c.act.new.lists c.settle.new.parts c.settle.new.lists c.mark_waiters.new.parts c.settle.ensures c.mark_waiters.ensures.marks c.mark_waiters.ensures.others
+ends : (c : goal.After-push_reserved) → Ends (c.len.result + 1) c.in_ok-answer.field-0.raising c.act.new.parts c.act.new.lists c.mark.new.parts c.settle.new.lists
+ends c = ends_of (c.len.result + 1) c.in_ok-answer.field-0.raising c.act.new.parts c.act.new.lists c.settle.new.parts c.settle.new.lists c.mark.new.parts c.settle.ensures c.mark.ensures.marks c.mark.ensures.others
 
 pub invariant_of-self-2 : goal.invariant_of-self-2
 invariant_of-self-2 c =
     let k = c.self.inside in
-    subst (λ (rs : List Record). Runs rs c.mark_waiters.new.parts c.settle.new.lists) (sym (records c))
-    (runs_on c.lists_go_on.ensures.law k.history.items k.parts c.act.new.parts c.mark_waiters.new.parts k.lists c.act.new.lists c.settle.new.lists c.self.invariant c.know.ensures.coherent c.know.ensures.tables c.know.ensures.interest c.known.ensures c.known-2.ensures
+    subst (λ (rs : List Record). Runs rs c.mark.new.parts c.settle.new.lists) (sym (records c))
+    (runs_on c.lists_go_on.ensures.law k.history.items k.parts c.act.new.parts c.mark.new.parts k.lists c.act.new.lists c.settle.new.lists c.self.invariant c.know.ensures.coherent c.know.ensures.tables c.know.ensures.interest c.known.ensures c.known-2.ensures
     c.args.caller c.args.event c.in_ok-answer.field-0 (c.len.result + 1) (number c) c.in_ok-answer.ensures.ok c.in_ok-answer.ensures.turns (ends c))
 
 pub returns-clause-ok : goal.returns-clause-ok
 returns-clause-ok c =
     let k = c.self.inside in
     let outcome = c.in_ok-answer.field-0 in
-    let new : Book = record { limits = c.mark_waiters.new.parts.tables.limits; past = c.push_reserved.new.self.items; capacity = vec_capacity c.push_reserved.new.self } in
+    let new : Book = record { limits = c.mark.new.parts.tables.limits; past = c.push_reserved.new.self.items; capacity = vec_capacity c.push_reserved.new.self } in
     let adds =
-    adds_on c.lists_go_on.ensures.law k.history.items k.parts c.act.new.parts c.mark_waiters.new.parts k.lists c.act.new.lists c.settle.new.lists c.self.invariant c.know.ensures.coherent c.know.ensures.tables c.know.ensures.interest c.known.ensures c.known-2.ensures
+    adds_on c.lists_go_on.ensures.law k.history.items k.parts c.act.new.parts c.mark.new.parts k.lists c.act.new.lists c.settle.new.lists c.self.invariant c.know.ensures.coherent c.know.ensures.tables c.know.ensures.interest c.known.ensures c.known-2.ensures
     c.args.caller c.args.event outcome (c.len.result + 1) (number c) c.in_ok-answer.ensures.ok c.in_ok-answer.ensures.turns (ends c) in
     subst (λ (b : ReadyBook). Adds b.book.limits c.args.caller c.args.event outcome.answer (state_of b.book) (state_of new) b.book.past new.past) c.self.view_is
     (subst (λ (rs : List Record). Adds k.parts.tables.limits c.args.caller c.args.event outcome.answer (state_of (book_of k).book) (state_of (record new { past = rs })) k.history.items rs) (sym (records c)) adds)
@@ -81,10 +102,10 @@ pub returns-clause-lists : goal.returns-clause-lists
 returns-clause-lists c =
     let k = c.self.inside in
     let outcome = c.in_ok-answer.field-0 in
-    let book : Book = record { limits = c.mark_waiters.new.parts.tables.limits; past = c.push_reserved.new.self.items; capacity = vec_capacity c.push_reserved.new.self } in
-    let new : ReadyBook = record { book = book; lists = lists_of c.mark_waiters.new.parts c.settle.new.lists } in
+    let book : Book = record { limits = c.mark.new.parts.tables.limits; past = c.push_reserved.new.self.items; capacity = vec_capacity c.push_reserved.new.self } in
+    let new : ReadyBook = record { book = book; lists = lists_of c.mark.new.parts c.settle.new.lists } in
     let first =
-    first_on c.lists_go_on.ensures.law k.history.items k.parts c.act.new.parts c.mark_waiters.new.parts k.lists c.act.new.lists c.settle.new.lists c.self.invariant c.know.ensures.coherent c.know.ensures.tables c.know.ensures.interest c.known.ensures c.known-2.ensures
+    first_on c.lists_go_on.ensures.law k.history.items k.parts c.act.new.parts c.mark.new.parts k.lists c.act.new.lists c.settle.new.lists c.self.invariant c.know.ensures.coherent c.know.ensures.tables c.know.ensures.interest c.known.ensures c.known-2.ensures
     c.args.caller c.args.event outcome (c.len.result + 1) (number c) c.in_ok-answer.ensures.ok c.in_ok-answer.ensures.turns (ends c) c.in_ok-answer.ensures.order in
     subst (λ (b : ReadyBook). TurnsLists c.args.caller c.args.event outcome.answer b new) c.self.view_is
     (record { picked = outcome.picked; added = records c; first = first })
