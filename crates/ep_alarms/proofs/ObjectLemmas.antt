@@ -5,13 +5,14 @@ use Rattle.ep_base.specs.declared.call.Call.TheVariants.{Close, Dup, Dup2, Epoll
 use Rattle.ep_base.specs.declared.object.End.{End}
 use Rattle.ep_base.specs.declared.object.End.TheVariants.{First, Second}
 use Rattle.ep_law.proofs.EndLemmas.{set_object}
+use Rattle.ep_law.specs.Laws.{HaveOwnEnds}
 use Rattle.ep_machine.specs.Files.{Files, Place, object_at, object_number, place_of, side_of}
 use Rattle.ep_machine.specs.Objects.{Object, counter, gettime, instance, object_effect, pair, pipe, plain, read, settime, shutdown, timer, write}
 use Rattle.ep_machine.specs.Tables.{affected}
 use Rattle.ep_machine.specs.Timer.{Timer}
 use Rattle.ep_object.specs.Law.{object_has}
 use Rattle.ep_alarms.proofs.CallLemmas.{placed_is, timer_placed}
-use Rattle.ep_alarms.specs.Calls.{HaveOwnEnds, ObjectCallsLaw}
+use Rattle.ep_alarms.specs.Calls.{ObjectCallsLaw}
 use Rattle.ep_alarms.specs.Kept.{timer_in}
 use Rattle.ep_alarms.specs.Timers.{timer_of}
 use Rattle.ep_table.specs.Value.{content_of}
@@ -135,3 +136,41 @@ module _ (f : Files) (number now : ℕ) (call : Call) (own : HaveOwnEnds f) (q :
 
 pub object_calls_leave : ObjectCallsLaw
 object_calls_leave f number now call own lives d ne = let p = a_place (place_of f number) lives in other_stays f number now call own p.0 p.1 d ne
+
+-- a timer stays one
+effect_some : (t : Timer) (e : End) (now : ℕ) (call : Call) → is_some (timer_of (object_effect (timer t) e now call).1) ≡ true
+effect_some t e now (Read fd n) = refl
+effect_some t e now (Write fd bytes) = refl
+effect_some t e now (Shutdown fd) = refl
+effect_some t e now (SetTime fd absolute value interval) = refl
+effect_some t e now (GetTime fd) = refl
+effect_some t e now call = refl
+
+effect_keeps : (x : Object) (e : End) (now : ℕ) (call : Call) → is_some (timer_of (object_effect x e now call).1) ≡ is_some (timer_of x)
+effect_keeps plain e now call = ap (λ (o : Option Timer). is_some o) (effect_none plain e now call refl)
+effect_keeps (pipe p) e now call = ap (λ (o : Option Timer). is_some o) (effect_none (pipe p) e now call refl)
+effect_keeps (pair p) e now call = ap (λ (o : Option Timer). is_some o) (effect_none (pair p) e now call refl)
+effect_keeps (counter c) e now call = ap (λ (o : Option Timer). is_some o) (effect_none (counter c) e now call refl)
+effect_keeps (timer t) e now call = effect_some t e now call
+effect_keeps instance e now call = ap (λ (o : Option Timer). is_some o) (effect_none instance e now call refl)
+
+-- the description of the call is a timer's where it was
+pub own_kept : (f : Files) (number now : ℕ) (call : Call) → is_some (timer_in (affected f number (object_effect (content_of f number) (side_of f number) now call)) number) ≡ is_some (timer_in f number)
+own_kept f number now call = by_place (place_of f number) refl where
+  after_call : Object
+  after_call = (object_effect (content_of f number) (side_of f number) now call).1
+
+  left : Files
+  left = affected f number (object_effect (content_of f number) (side_of f number) now call)
+
+  by_place : (o : Option Place) → place_of f number ≡ o → is_some (timer_in left number) ≡ is_some (timer_in f number)
+  by_place None is =
+      ap (λ (t : Option Timer). is_some t) (placed_is left (place_of f number) ∙ (ap (timer_placed left.objects) is ∙ sym (placed_is f (place_of f number) ∙ ap (timer_placed f.objects) is)))
+  by_place (Some q) is =
+      let content_is : content_of f number ≡ there f q.object = ap (λ (o : Option Place). unwrap_or (object_at f o) plain) is in
+      let kept : is_some (timer_of (there left q.object)) ≡ is_some (timer_of (there f q.object)) =
+      set_object (λ (y : Object). is_some (timer_of y) ≡ is_some (timer_of (there f q.object))) f.objects (object_number (place_of f number)) q.object (Some after_call)
+      (λ e. effect_keeps (content_of f number) (side_of f number) now call ∙ ap (λ (y : Object). is_some (timer_of y)) content_is)
+      refl in
+      ap (λ (t : Option Timer). is_some t) (placed_is left (place_of f number) ∙ ap (timer_placed left.objects) is)
+      ∙ (kept ∙ sym (ap (λ (t : Option Timer). is_some t) (placed_is f (place_of f number) ∙ ap (timer_placed f.objects) is)))

@@ -1,14 +1,14 @@
 -- Which timers a call on the tables alone makes, and which it leaves.
-use Rattle.std.specs.Prelude.{Bool, IsSome, None, Some, length, slice_index_or, true, unwrap_or, ℕ, ℤ, ◌≡◌, ◌≢◌}
+use Rattle.std.specs.Prelude.{Bool, IsSome, None, Some, length, slice_index_or, true, ℕ, ℤ, ◌≡◌, ◌≢◌}
 use Rattle.ep_base.specs.Limits.{Limits}
 use Rattle.ep_base.specs.declared.call.Call.{Call}
 use Rattle.ep_base.specs.declared.call.Call.TheVariants.{Close, Dup, Dup2, EpollCreate, EventFd, Exec, Exit, Fork, Pipe as PipeCall, Plain, SocketPair, TimerFd}
+use Rattle.ep_law.specs.Laws.{HaveOwnEnds}
 use Rattle.ep_machine.specs.Files.{Files, Place, is_live, place_of, side_of}
 use Rattle.ep_machine.specs.FilesCalls.{files_call}
-use Rattle.ep_machine.specs.Objects.{object_effect, plain}
+use Rattle.ep_machine.specs.Objects.{object_effect}
 use Rattle.ep_machine.specs.Tables.{affected}
 use Rattle.ep_machine.specs.Timer.{new_timer}
-use Rattle.ep_object.specs.Law.{object_has}
 use Rattle.ep_alarms.specs.Kept.{timer_in}
 use Rattle.ep_table.specs.Value.{content_of}
 
@@ -44,11 +44,6 @@ MadeLaw = (limits : Limits) (f : Files) (p : ℕ) (busy : Bool) (clock : ℤ) (c
 abbrev pub MadeAloneLaw : Type 0
 MadeAloneLaw = (limits : Limits) (f : Files) (p : ℕ) (busy : Bool) (clock : ℤ) (cloexec : Bool) → HaveObjects f
     → (d : ℕ) → d ≢ length f.descriptions → timer_in (files_call limits f p busy (TimerFd clock cloexec)).after d ≡ timer_in f d
-
--- each description has an end of an object of its own, and that end is there
-pub record HaveOwnEnds (f : Files) : Type 0 where
-  pub apart : (d e : ℕ) (p : Place) → place_of f d ≡ Some p → place_of f e ≡ Some p → d ≡ e
-  pub ends : (d : ℕ) (p : Place) → place_of f d ≡ Some p → object_has (unwrap_or (slice_index_or f.objects p.object None) plain) p.side ≡ true
 
 -- a call on an object changes no other timer than that of its description
 abbrev pub ObjectCallsLaw : Type 0

@@ -18,7 +18,7 @@ use Rattle.ep_machine.specs.Tables.{affected_raises}
 use Rattle.ep_calls.specs.Moves.{Goes, Makes, Refuses as Refused}
 use Rattle.ep_calls.specs.Parts.{Parts}
 use Rattle.ep_calls.specs.Stands.{AreLinked, ArePlaced, KeepsHolds, KeepsKeys, KeepsKinds, Stands}
-use Rattle.ep_calls.specs.ObjectCall.{object_call_of, object_effect_of}
+use Rattle.ep_calls.specs.ObjectCall.{CallsObject, object_call_of, object_effect_of}
 use Rattle.ep_calls.proofs.RegistrationLemmas.{stands_kept}
 use Rattle.ep_nest.specs.declared.link.Link.{Link}
 use Rattle.ep_table.specs.Value.{Does, Refuses, Seen, Succeeds}
@@ -65,10 +65,6 @@ module _ (call : FilesCall) (answer : Answer) (v new : Seen) (does : Does call a
         stands = subst (λ (x : Seen). Stands x r ws now s) (sym q.tables) stands;
       })
       does
-
--- on the object that a descriptor names
-abbrev pub CallsObject : ℕ → Fd → ℕ → Call → Answer → Seen → Seen → Type 0
-CallsObject p fd now call answer v new = Does (object_call_of v.files p fd.0 now call) answer v new
 
 -- what the machine asks of such a call and does
 abbrev pub IsOnObject : Fd → Call → Type 0

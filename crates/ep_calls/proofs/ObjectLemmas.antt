@@ -19,14 +19,14 @@ use Rattle.ep_machine.specs.Tables.{affected}
 use Rattle.ep_view.proofs.FilesLemmas.{extends_with_object}
 use Rattle.ep_view.proofs.AtRestLemmas.{effect_kind, kind_at, kind_there}
 use Rattle.ep_calls.specs.Does.{DoesCall}
-use Rattle.ep_calls.specs.ObjectCall.{fd_of}
+use Rattle.ep_calls.specs.ObjectCall.{CallsObject, fd_of}
 use Rattle.ep_calls.specs.Parts.{AreCoherent, Parts}
 use Rattle.ep_calls.specs.declared.outcome.Outcome.{Outcome}
 use Rattle.ep_calls.specs.Moves.{Goes}
 use Rattle.ep_calls.specs.Raising.{IsRaising, Raises, RaisesByCall}
 use Rattle.ep_calls.specs.Stands.{KeepsKinds}
 use Rattle.ep_calls.proofs.ObjectRaiseLemmas.{object_raises}
-use Rattle.ep_calls.proofs.FilesCallLemmas.{CallsObject, IsOnObject, object_called, object_keys, object_limits}
+use Rattle.ep_calls.proofs.FilesCallLemmas.{IsOnObject, object_called, object_keys, object_limits}
 use Rattle.ep_calls.proofs.KindLemmas.{instance_kind}
 use Rattle.ep_table.specs.Value.{Seen, Sound, content_of, effect_at, number_of, number_under, unwrapped}
 use Rattle.ep_calls.proofs.KeyLemmas.{under_key}

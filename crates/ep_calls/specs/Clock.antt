@@ -16,3 +16,8 @@ Ticks now k then answer = MatchOption (first ((nat_lt last_moment (now + k), Ein
 -- what that raises is raised since the moment before
 abbrev pub Sets : ℕ → ℕ → Raising → Type 0
 Sets now k raising = MatchOption (first ((nat_lt last_moment (now + k), Einval) ∷ [])) (raising ≡ Clock now) (λ e. raising ≡ Nowhere)
+
+-- the clock stays, and raises nothing
+abbrev pub ClockStays : Raising → ℕ → ℕ → Type 0
+ClockStays (Clock since) before now = ⊥
+ClockStays raising before now = now ≡ before

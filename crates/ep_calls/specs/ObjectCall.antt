@@ -13,7 +13,7 @@ use Rattle.ep_base.specs.declared.ids.DescId.{DescId}
 use Rattle.ep_machine.specs.Files.{Files, named_by, names_nothing, object_under, side_of, side_under}
 use Rattle.ep_machine.specs.FilesCalls.{FilesCall}
 use Rattle.ep_object.specs.Memory.{object_waiting}
-use Rattle.ep_table.specs.Value.{Seen, content_of, number_of}
+use Rattle.ep_table.specs.Value.{Does, Seen, content_of, number_of}
 use Rattle.ep_base.specs.declared.errno.Errno.TheVariants.{Ebadf}
 use Rattle.ep_machine.specs.Objects.{Object, object_effect, object_refusals}
 use Rattle.ep_machine.specs.Tables.{affected}
@@ -40,6 +40,10 @@ object_call_of files p fd now call =
       answer = effect.0;
       after = affected files (named_by files p fd) effect;
     }
+
+-- it is made at this moment, with this answer
+abbrev pub CallsObject : ℕ → Fd → ℕ → Call → Answer → Seen → Seen → Type 0
+CallsObject p fd now call answer old new = Does (object_call_of old.files p fd.0 now call) answer old new
 
 -- an answer of such a call, with room for its bytes
 abbrev pub FitsRoom : Answer → SmallVec ℕ 16 Global → Type 0

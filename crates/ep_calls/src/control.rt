@@ -283,6 +283,7 @@ impl Parts {
         ensures ok { IfOk result (IsPlan self.now pid.0 args) }
         ensures err { IfErr result (λ outcome. (n caller : ℕ) → DoesCall n caller pid.0 (control_call args) outcome self.now self.now) }
         ensures picked { IfErr result (λ outcome. outcome.picked ≡ []) }
+        ensures raising { IfErr result (λ outcome. outcome.raising ≡ Nowhere) }
     {
         self.tables.known();
         let named = match find_named(&self.tables, pid, args.epfd, args.fd) {

@@ -7,9 +7,10 @@ ghost use Rattle.ep_machine.specs.Tables.{affected};
 ghost use Rattle.ep_machine.specs.Timer.{last_moment};
 ghost use Rattle.ep_object.specs.Memory.{asked_of, object_waiting};
 ghost use Rattle.ep_calls.specs.Stands.{KeepsHolds};
+ghost use Rattle.ep_calls.specs.Clock.{ClockStays};
 ghost use Rattle.ep_calls.specs.Does.{DoesCall};
 ghost use Rattle.ep_calls.specs.Kept.{IsKept};
-ghost use Rattle.ep_calls.specs.ObjectCall.{FitsRoom, fd_of, waiting_at};
+ghost use Rattle.ep_calls.specs.ObjectCall.{CallsObject, FitsRoom, fd_of, waiting_at};
 ghost use Rattle.ep_calls.specs.Acts.{is_no_memory};
 ghost use Rattle.ep_calls.specs.Raising.{IsRaising, RaisesByCall};
 ghost use Rattle.ep_table.specs.Value.{content_of, number_of, number_under};
@@ -120,6 +121,8 @@ impl Parts {
     ) -> Result<Outcome, AllocError>
         requires { fd_of call.now ≡ Some fd }
         ensures interest { self.new.interest ≡ self.old.interest }
+        ensures tables { IfOk result (λ outcome. CallsObject pid.0 fd self.old.clock call.now outcome.answer self.old.tables self.new.tables) }
+        ensures clock { IfOk result (λ outcome. ClockStays outcome.raising self.old.clock self.new.clock) }
         ensures picked { IfOk result (λ outcome. outcome.picked ≡ []) }
         ensures ok { IfOk result (λ outcome. (n caller : ℕ) → DoesCall n caller pid.0 call.now outcome self.old self.new) }
         ensures kept { IfOk result (λ outcome. IsKept kept outcome) }

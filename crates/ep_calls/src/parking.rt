@@ -4,6 +4,7 @@ ghost use Rattle.std.specs.List.{find, list_any};
 ghost use Rattle.ep_base.specs.declared.call.Event.TheVariants.{Resume};
 ghost use Rattle.ep_machine.specs.Lists.{is_among};
 ghost use Rattle.ep_park.specs.Waiters.{is_caller, parked, without};
+ghost use Rattle.ep_calls.specs.Clock.{ClockStays};
 ghost use Rattle.ep_calls.specs.Does.{DoesEvent, DoesResume};
 ghost use Rattle.ep_calls.specs.Kept.{IsKept};
 ghost use Rattle.ep_calls.specs.Stands.{AreHeld, ArePlaced};
@@ -82,6 +83,8 @@ impl Parts {
         requires marked { waiter.marked ≡ true }
         requires keyed { AreKeyed self.old.tables self.old.clock self.old.interest chosen.now }
         ensures ids { self.new.interest.keys ≡ self.old.interest.keys }
+        ensures files { self.new.tables.files ≡ self.old.tables.files }
+        ensures clock { IfOk result (λ outcome. ClockStays outcome.raising self.old.clock self.new.clock) }
         ensures entries { IfOk result (λ outcome. self.new.interest.entries ≡ map (with_report step outcome.picked) self.old.interest.entries) }
         ensures ok { IfOk result (λ outcome. DoesResume step caller.0 waiter chosen.now outcome self.old self.new) }
         ensures picked { IfOk result (λ outcome. outcome.picked ≡ numbers_of chosen.now) }

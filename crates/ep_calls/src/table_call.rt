@@ -4,6 +4,7 @@ ghost use Rattle.std.specs.Prelude.{ℕ, ◌≡◌, [], IfOk, IsSome, OnErr, is_
 ghost use Rattle.ep_machine.specs.Files.{table_of};
 ghost use Rattle.ep_machine.specs.FilesCalls.{exec_of, exit_of, timerfd_of};
 ghost use Rattle.ep_park.specs.Waiters.{is_of};
+ghost use Rattle.ep_calls.specs.Clock.{ClockStays};
 ghost use Rattle.ep_calls.specs.Does.{DoesCall};
 ghost use Rattle.ep_calls.specs.TableCall.{IsTableCall, called};
 ghost use Rattle.ep_table.specs.Value.{Does};
@@ -104,6 +105,8 @@ impl Parts {
         requires call { IsTableCall call.now }
         requires process { is_some (table_of self.old.tables.files pid.0) ≡ true }
         ensures interest { self.new.interest ≡ self.old.interest }
+        ensures tables { IfOk result (λ outcome. Does (called self.old.tables self.old.parked pid.0 call.now) outcome.answer self.old.tables self.new.tables) }
+        ensures clock { IfOk result (λ outcome. ClockStays outcome.raising self.old.clock self.new.clock) }
         ensures picked { IfOk result (λ outcome. outcome.picked ≡ []) }
         ensures ok { IfOk result (λ outcome. (n caller : ℕ) → DoesCall n caller pid.0 call.now outcome self.old self.new) }
         ensures err { OnErr result (self.new ≡ self.old) }

@@ -4,6 +4,7 @@ ghost use Rattle.std.specs.List.{list_any};
 ghost use Rattle.ep_machine.specs.Effect.{first};
 ghost use Rattle.ep_machine.specs.Timer.{last_moment};
 ghost use Rattle.ep_park.specs.Waiters.{is_caller};
+ghost use Rattle.ep_calls.specs.Clock.{ClockStays};
 ghost use Rattle.ep_calls.specs.Does.{DoesCall, DoesWait};
 ghost use Rattle.ep_calls.specs.Kept.{IsKept};
 ghost use Rattle.ep_calls.specs.Wait.{AreKeyed, Waits, deadline_of, numbers_of, wait_call, wait_tests, with_report};
@@ -81,6 +82,8 @@ impl Parts {
         requires waits { Waits self.old.tables args instance }
         requires keyed { AreKeyed self.old.tables self.old.clock self.old.interest chosen.now }
         ensures ids { self.new.interest.keys ≡ self.old.interest.keys }
+        ensures files { self.new.tables.files ≡ self.old.tables.files }
+        ensures clock { IfOk result (λ outcome. ClockStays outcome.raising self.old.clock self.new.clock) }
         ensures entries { IfOk result (λ outcome. self.new.interest.entries ≡ map (with_report step outcome.picked) self.old.interest.entries) }
         ensures ok { IfOk result (λ outcome. DoesWait step caller.0 args instance chosen.now outcome self.old self.new) }
         ensures picked { IfOk result (λ outcome. outcome.picked ≡ numbers_of chosen.now) }

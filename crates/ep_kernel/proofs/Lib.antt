@@ -26,3 +26,4 @@ pub mod AreLookedAtLemmas
 pub mod SettledLemmas
 pub mod ReadinessLemmas
 pub mod MarkLemmas
+pub mod TimersLemmas

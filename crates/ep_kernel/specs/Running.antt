@@ -1,5 +1,6 @@
 -- What holds of the kernel with ready lists between two events, and what the end of an event does.
 use Rattle.std.specs.Prelude.{◌≡◌, List, vec_capacity, ℕ}
+use Rattle.ep_alarms.specs.Alarms.{AreSet}
 use Rattle.ep_base.specs.declared.record.Record.{Record}
 use Rattle.ep_calls.specs.Burial.{Burial}
 use Rattle.ep_calls.specs.Climb.{Climbs}
@@ -33,8 +34,10 @@ book_of k = record {
   lists = lists_of k.parts k.lists;
 }
 
-abbrev pub IsRunning : Inside → Type 0
-IsRunning k = Runs k.history.items k.parts k.lists
+-- the same, and each timer has its moment
+pub record IsRunning (k : Inside) : Type 0 where
+  pub runs : Runs k.history.items k.parts k.lists
+  pub set : AreSet k.parts.tables k.parts.clock k.alarms
 
 -- what follows the change of event n up to its marks: what it raised is noted, the dead go with their places, what passes something
 -- on comes to the end of its list, and what was raised climbs; the lists have the instances that IN reached as reached

@@ -2,8 +2,10 @@
 ghost use Rattle.std.specs.Prelude.{◌≡◌, IfOk, OnErr, false, is_some, true};
 ghost use Rattle.std.specs.List.{list_any};
 ghost use Rattle.ep_base.specs.declared.call.Event.TheVariants.{Call as CallOf};
+ghost use Rattle.ep_calls.specs.Clock.{ClockStays};
 ghost use Rattle.ep_calls.specs.Kept.{KeepsCall, KeepsEvent};
 ghost use Rattle.ep_kernel.specs.Listed.{IsListed};
+ghost use Rattle.ep_kernel.specs.Timers.{CallsTables, MovesClock, TouchesTables};
 ghost use Rattle.ep_kernel.specs.Turns.{Turns};
 ghost use Rattle.ep_kernel.specs.Wait.{DoesCallFairly, DoesEventFairly, ReportsInOrder};
 ghost use Rattle.ep_machine.specs.Files.{table_of};
@@ -38,6 +40,8 @@ fn make_call(
     requires process { is_some (table_of parts.old.tables.files pid.0) ≡ true }
     requires listed { IsListed parts.old lists.old }
     ensures ok { IfOk result (λ outcome. DoesCallFairly lists.old request.step request.caller.0 pid.0 call.now outcome parts.old parts.new) }
+    ensures tables { IfOk result (λ outcome. CallsTables pid.0 call.now outcome.answer parts.old parts.new) }
+    ensures clock { IfOk result (λ outcome. ClockStays outcome.raising parts.old.clock parts.new.clock) }
     ensures kept { IfOk result (λ outcome. KeepsCall call.now request.kept outcome) }
     ensures turns { IfOk result (λ outcome. Turns (CallOf pid call.now) outcome.picked parts.old lists.old parts.new lists.new) }
     ensures order { IfOk result (λ outcome. ReportsInOrder lists.old request.step request.caller.0 (CallOf pid call.now) outcome parts.old) }
@@ -92,6 +96,8 @@ pub fn act(
 ) -> Result<Outcome, AllocError>
     requires { IsListed parts.old lists.old }
     ensures ok { IfOk result (λ outcome. DoesEventFairly lists.old step caller.0 event.now outcome parts.old parts.new) }
+    ensures tables { IfOk result (λ outcome. TouchesTables event.now outcome.answer parts.old parts.new) }
+    ensures clock { IfOk result (λ outcome. MovesClock event.now outcome.raising parts.old.clock parts.new.clock) }
     ensures kept { IfOk result (λ outcome. KeepsEvent event.now kept outcome) }
     ensures turns { IfOk result (λ outcome. Turns event.now outcome.picked parts.old lists.old parts.new lists.new) }
     ensures order { IfOk result (λ outcome. ReportsInOrder lists.old step caller.0 event.now outcome parts.old) }

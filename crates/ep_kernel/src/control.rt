@@ -7,6 +7,7 @@ ghost use Rattle.ep_calls.specs.declared.control.Operation.TheVariants.{Add};
 ghost use Rattle.ep_interest.specs.Registrations.{entry_under};
 ghost use Rattle.ep_kernel.specs.Control.{Settles};
 ghost use Rattle.ep_kernel.specs.Listed.{IsListed};
+ghost use Rattle.ep_kernel.specs.Timers.{LeavesFiles};
 ghost use Rattle.ep_kernel.specs.Turns.{Turns};
 ghost use Rattle.ep_ready.specs.ReadyLists.{Same, instance_at};
 
@@ -45,6 +46,7 @@ fn alter(
     requires found { plan.found ≡ Some id }
     requires listed { IsListed parts.old lists.old }
     ensures ok { IfOk result (λ outcome. (n caller : ℕ) → DoesCall n caller pid.0 (control_call args) outcome parts.old parts.new) }
+    ensures leaves { IfOk result (λ outcome. LeavesFiles outcome.raising parts.old parts.new) }
     ensures turns { IfOk result (λ outcome. Turns (CallOf pid (control_call args)) outcome.picked parts.old lists.old parts.new lists.new) }
     ensures err { OnErr result ((parts.new ≡ parts.old) × Same lists.old lists.new) }
 {
@@ -70,6 +72,7 @@ fn add(
     requires found { plan.found ≡ None }
     requires listed { IsListed parts.old lists.old }
     ensures ok { IfOk result (λ outcome. (n caller : ℕ) → DoesCall n caller pid.0 (control_call args) outcome parts.old parts.new) }
+    ensures leaves { IfOk result (λ outcome. LeavesFiles outcome.raising parts.old parts.new) }
     ensures turns { IfOk result (λ outcome. Turns (CallOf pid (control_call args)) outcome.picked parts.old lists.old parts.new lists.new) }
     ensures err { OnErr result ((parts.new ≡ parts.old) × Same lists.old lists.new) }
 {
@@ -103,6 +106,7 @@ fn enter(
     requires found { plan.found ≡ None }
     requires listed { IsListed parts.old lists.old }
     ensures ok { IfOk result (λ outcome. (n caller : ℕ) → DoesCall n caller pid.0 (control_call args) outcome parts.old parts.new) }
+    ensures leaves { IfOk result (λ outcome. LeavesFiles outcome.raising parts.old parts.new) }
     ensures turns { IfOk result (λ outcome. Turns (CallOf pid (control_call args)) outcome.picked parts.old lists.old parts.new lists.new) }
     ensures err { OnErr result ((parts.new ≡ parts.old) × Same lists.old lists.new) }
 {
@@ -124,6 +128,7 @@ pub fn epoll_ctl(
 ) -> Result<Outcome, AllocError>
     requires listed { IsListed parts.old lists.old }
     ensures ok { IfOk result (λ outcome. (n caller : ℕ) → DoesCall n caller pid.0 (control_call args) outcome parts.old parts.new) }
+    ensures leaves { IfOk result (λ outcome. LeavesFiles outcome.raising parts.old parts.new) }
     ensures turns { IfOk result (λ outcome. Turns (CallOf pid (control_call args)) outcome.picked parts.old lists.old parts.new lists.new) }
     ensures err { OnErr result ((parts.new ≡ parts.old) × Same lists.old lists.new) }
 {

@@ -13,6 +13,7 @@ mod readiness;
 mod ready;
 mod settle;
 mod take;
+mod timers;
 mod wait;
 
 pub use crate::ready::ReadyKernel;

@@ -11,8 +11,11 @@ ghost use Rattle.ep_view.specs.AtRest.{IsSteady, kind_of};
 use crate::act::act;
 use crate::mark::{attend, mark, resumed_at};
 use crate::settle::{know, settle};
+use crate::timers::{follow, make_room};
+use ep_alarms::Alarms;
 use ep_base::{Answer, CallerId, Errno, Event, Limits, Record};
 use ep_calls::{Kernel, Outcome, Parts, Spare};
+use ep_law::laws::ends_are_apart;
 use ep_order::{lists_go_on, unmarked_are_reached};
 use ep_ready::ReadyLists;
 use std::alloc::{AllocError, Global};
@@ -25,6 +28,7 @@ use std::marker::Model;
 pub struct ReadyKernel {
     parts: Parts,
     lists: ReadyLists,
+    alarms: Alarms,
     history: Vec<Record>,
 }
 
@@ -49,6 +53,7 @@ impl ReadyKernel {
         Ok(ReadyKernel {
             parts: Parts::new(alloc, limits)?,
             lists: ReadyLists::new(alloc),
+            alarms: Alarms::new(alloc),
             history: Vec::new(alloc),
         })
     }
@@ -85,21 +90,31 @@ impl ReadyKernel {
         ensures err_lists { OnErr result (self.new.lists ≡ self.old.lists) }
     {
         self.history.reserve(1)?;
+        make_room(&mut self.alarms, &event)?;
         let step = self.history.len() as u64 + 1;
         lists_go_on();
+        ends_are_apart();
         unmarked_are_reached();
         know(&self.parts);
         self.lists.known();
         let resumed = resumed_at(&self.parts, caller, &event);
+        let outcome = act(&mut self.parts, &mut self.lists, step, caller, &event, kept)?;
+        follow(&self.parts, &mut self.alarms, &event, &outcome);
         let Outcome {
             answer,
             recorded,
             picked,
             spare,
             raising,
-        } = act(&mut self.parts, &mut self.lists, step, caller, &event, kept)?;
+        } = outcome;
         let spare = Spare::of(kept, spare, &answer, &picked);
-        settle(&mut self.parts, &mut self.lists, step, raising);
+        settle(
+            &mut self.parts,
+            &mut self.lists,
+            &mut self.alarms,
+            step,
+            raising,
+        );
         self.lists.known();
         mark(&mut self.parts, &self.lists, attend(resumed, raising));
         self.history.push_reserved(Record {

@@ -1,14 +1,18 @@
 //! The end of an event, with the ready lists.
 ghost use Rattle.std.specs.Prelude.{◌≡◌, ◌<◌};
+ghost use Rattle.ep_alarms.specs.Alarms.{AreSet};
 ghost use Rattle.ep_calls.specs.Parts.{AreCoherent};
 ghost use Rattle.ep_calls.specs.Raising.{IsRaising};
 ghost use Rattle.ep_interest.specs.Registrations.{IsSound};
 ghost use Rattle.ep_kernel.specs.Listed.{HavePlaces};
 ghost use Rattle.ep_kernel.specs.Running.{Settled};
+ghost use Rattle.ep_kernel.specs.Timers.{AreSetSince};
 ghost use Rattle.ep_table.specs.Value.{Sound};
 
 use crate::climb::climb;
 use crate::places::drop_dying;
+use crate::timers::raise;
+use ep_alarms::{Alarms, burial_leaves_alarms};
 use ep_calls::{Parts, Raising};
 use ep_ready::ReadyLists;
 
@@ -22,19 +26,29 @@ pub fn know(parts: &Parts)
     parts.interest.known();
 }
 
-/// Notes what an event raised, takes the dead away with their places, puts what passes something on at the end of its
+/// Notes what an event raised, takes the dead away with their places and moments, puts what passes something on at the end of its
 /// list, and lets what was raised climb. The lists have the instances that IN reached as reached afterwards. Marks are still to be
 /// set.
-pub fn settle(parts: &mut Parts, lists: &mut ReadyLists, step: u64, raising: Raising)
+pub fn settle(
+    parts: &mut Parts,
+    lists: &mut ReadyLists,
+    alarms: &mut Alarms,
+    step: u64,
+    raising: Raising,
+)
     requires step { 0 < step }
     requires raises { IsRaising raising parts.old.tables }
     requires places { HavePlaces parts.old.interest lists.old }
-    ensures { Settled step raising parts.old lists.old parts.new lists.new }
+    requires set { AreSetSince raising parts.old.tables parts.old.clock alarms.old }
+    ensures settled { Settled step raising parts.old lists.old parts.new lists.new }
+    ensures set { AreSet parts.new.tables parts.new.clock alarms.new }
 {
     know(parts);
-    parts.raise(step, raising);
+    raise(parts, alarms, step, raising);
     know(parts);
     drop_dying(parts, lists);
+    burial_leaves_alarms();
+    alarms.drop_dying(&parts.tables);
     parts.bury(step);
     know(parts);
     climb(parts, lists, step);

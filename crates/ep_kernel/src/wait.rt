@@ -5,6 +5,7 @@ ghost use Rattle.ep_base.specs.declared.call.Event.TheVariants.{Call as CallOf, 
 ghost use Rattle.ep_calls.specs.Kept.{IsKept};
 ghost use Rattle.ep_calls.specs.Wait.{wait_call};
 ghost use Rattle.ep_kernel.specs.Listed.{IsListed};
+ghost use Rattle.ep_kernel.specs.Timers.{LeavesFiles};
 ghost use Rattle.ep_kernel.specs.Turns.{Turns};
 ghost use Rattle.ep_kernel.specs.Wait.{DoesCallFairly, DoesEventFairly, ReportsInOrder};
 ghost use Rattle.ep_machine.specs.Waits.{is_positive};
@@ -41,6 +42,7 @@ pub fn epoll_wait(
     requires free { list_any (is_caller caller.0) parts.old.parked ≡ false }
     requires listed { IsListed parts.old lists.old }
     ensures ok { IfOk result (λ outcome. DoesCallFairly lists.old step caller.0 args.pid.0 (wait_call args) outcome parts.old parts.new) }
+    ensures leaves { IfOk result (λ outcome. LeavesFiles outcome.raising parts.old parts.new) }
     ensures kept { IfOk result (λ outcome. IsKept args.kept outcome) }
     ensures turns { IfOk result (λ outcome. Turns (CallOf args.pid (wait_call args)) outcome.picked parts.old lists.old parts.new lists.new) }
     ensures order { IfOk result (λ outcome. ReportsInOrder lists.old step caller.0 (CallOf args.pid (wait_call args)) outcome parts.old) }
@@ -74,6 +76,7 @@ pub fn resume(
 ) -> Result<Outcome, AllocError>
     requires { IsListed parts.old lists.old }
     ensures ok { IfOk result (λ outcome. DoesEventFairly lists.old step caller.0 Resume outcome parts.old parts.new) }
+    ensures leaves { IfOk result (λ outcome. LeavesFiles outcome.raising parts.old parts.new) }
     ensures kept { IfOk result (λ outcome. IsKept kept outcome) }
     ensures turns { IfOk result (λ outcome. Turns Resume outcome.picked parts.old lists.old parts.new lists.new) }
     ensures order { IfOk result (λ outcome. ReportsInOrder lists.old step caller.0 Resume outcome parts.old) }

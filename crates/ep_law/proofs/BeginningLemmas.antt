@@ -14,7 +14,7 @@ use Rattle.ep_machine.specs.Counts.{counted, no_counts}
 use Rattle.ep_machine.specs.Deaths.{buried, die, die_all, dying, is_kept}
 use Rattle.ep_machine.specs.Effect.{first}
 use Rattle.ep_machine.specs.Files.{Files, Place, is_live, object_of, opening_files, place_of, side_of}
-use Rattle.ep_law.specs.Laws.{BeginningsAreSpread, HasCause, IsNoted, Member, ReportablesAreSpread, spread_of}
+use Rattle.ep_law.specs.Laws.{BeginningsAreSpread, EndsAreApart, HasCause, IsNoted, Member, ReportablesAreSpread, spread_of}
 use Rattle.ep_machine.specs.Lists.{is_among}
 use Rattle.ep_machine.specs.Objects.{Object, counter, instance, is_instance, object_present, pair, pipe, plain, timer}
 use Rattle.ep_law.proofs.Present.{present_at}
@@ -257,6 +257,11 @@ stands_opening = record { own = own; lives = λ x m. absurd m } where
     apart = λ d e p a c. (place d p a).0 ∙ sym (place e p c).0;
     ends = λ d p e. subst (λ (q : Place). object_has (object_there opening_files q.object) q.side ≡ true) (sym (place d p e).1) refl;
   }
+
+pub ends_are_apart : ApplyLaw → AdvanceLaw → EndsAreApart
+ends_are_apart apply clock limits past s is =
+    let own = (run_keeps Stands limits (stands_step apply clock limits) opening s past stands_opening is).own in
+    record { apart = own.apart; ends = own.ends }
 
 present_begun : (s : State) (d : ℕ) → present (next_event s) d ≡ present s d
 present_begun s d = λ i. present_of (λ e. ready_same s (s.n + 1) s.waiters e i) d (object_of s.files d) (side_of s.files d) s.now

@@ -1,7 +1,7 @@
 -- What holds of the definitions, over all runs.
 use Rattle.std.specs.List.{AllByRecursion, list_any}
-use Rattle.std.specs.Prelude.{Bool, List, None, Option, Some, [], bit_or, false, filter, is_some, map, nat_lt}
-use Rattle.std.specs.Prelude.{not, true, ℕ, ◌&&◌, ◌++◌, ◌==◌, ◌≡◌, ◌⊎◌, ◌∷◌}
+use Rattle.std.specs.Prelude.{Bool, List, None, Option, Some, [], bit_or, false, filter, is_some, map, nat_lt, slice_index_or}
+use Rattle.std.specs.Prelude.{not, true, unwrap_or, ℕ, ◌&&◌, ◌++◌, ◌==◌, ◌≡◌, ◌⊎◌, ◌∷◌}
 use Rattle.ep_base.specs.Limits.{Limits}
 use Rattle.ep_base.specs.declared.answer.Answer.TheVariants.{Refused}
 use Rattle.ep_base.specs.declared.call.Event.{Event}
@@ -12,6 +12,7 @@ use Rattle.ep_machine.specs.Deaths.{buried, die_all, named}
 use Rattle.ep_machine.specs.Effect.{first}
 use Rattle.ep_machine.specs.Files.{Files, Place, is_live, place_of}
 use Rattle.ep_machine.specs.Lists.{are_distinct, is_among}
+use Rattle.ep_machine.specs.Objects.{plain}
 use Rattle.ep_machine.specs.Readiness.{is_ready, is_reportable, reportables, present}
 use Rattle.ep_machine.specs.Refusal.{refusals}
 use Rattle.ep_machine.specs.Run.{go_on, run}
@@ -22,6 +23,7 @@ use Rattle.ep_machine.specs.Step.{next_event, step, change}
 use Rattle.ep_machine.specs.Waits.{is_marked_at, waits_at}
 use Rattle.ep_machine.specs.Watches.{is_legal, links}
 use Rattle.ep_machine.specs.Settle.{settle}
+use Rattle.ep_object.specs.Law.{object_has}
 
 abbrev pub Member : {X : Type 0} → X → List X → Type 0
 Member x [] = ⊥
@@ -116,6 +118,14 @@ FairRounds = (limits : Limits) (past later : List Record) (s : State) (e k : ℕ
 -- the spread of an event's change at a description
 abbrev pub spread_of : Change → ℕ → ℕ
 spread_of c d = let left = buried c.1 c.2 in spread left.0 (raised_alive left.0 left.1) d
+
+-- each description has an end of an object of its own, and that end is there
+pub record HaveOwnEnds (f : Files) : Type 0 where
+  pub apart : (d e : ℕ) (p : Place) → place_of f d ≡ Some p → place_of f e ≡ Some p → d ≡ e
+  pub ends : (d : ℕ) (p : Place) → place_of f d ≡ Some p → object_has (unwrap_or (slice_index_or f.objects p.object None) plain) p.side ≡ true
+
+abbrev pub EndsAreApart : Type 0
+EndsAreApart = (limits : Limits) (past : List Record) (s : State) → run limits opening past ≡ Some s → HaveOwnEnds s.files
 
 -- a bit that begins to hold at a description that lives before and after an event is in the event's spread
 abbrev pub BeginningsAreSpread : Type 0

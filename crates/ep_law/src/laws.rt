@@ -1,5 +1,5 @@
 //! Each law is the contract of a function that does nothing, so that it is proved.
-ghost use Rattle.ep_law.specs.Laws.{BeginningsAreSpread, DeathsInAnyOrder, Determined, EachSound, FairRounds, GraphStaysLegal, NamedLives, ReadyEquation, ReadyMarked, RefusalChangesNothing, ReportablesAreSpread, SpreadEquation, SpreadLeast};
+ghost use Rattle.ep_law.specs.Laws.{BeginningsAreSpread, DeathsInAnyOrder, Determined, EachSound, EndsAreApart, FairRounds, GraphStaysLegal, NamedLives, ReadyEquation, ReadyMarked, RefusalChangesNothing, ReportablesAreSpread, SpreadEquation, SpreadLeast};
 
 /// An instance is ready exactly where one of its registrations is reportable: five levels are enough
 /// where the graph of instances is legal.
@@ -57,6 +57,13 @@ pub fn ready_waiters_are_marked()
 pub fn graph_stays_legal()
     ensures law { GraphStaysLegal }
 {}
+
+/// In each state of a run each description has an end of an object of its own. It rests on the law of objects.
+pub fn ends_are_apart()
+    ensures law { EndsAreApart }
+{
+    ep_object::arrivals_are_raised();
+}
 
 /// A bit that begins to hold at a description which lives before and after an event is in the
 /// event's spread, at instances too. It rests on the law of objects.

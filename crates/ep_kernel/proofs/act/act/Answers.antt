@@ -1,4 +1,4 @@
-use Rattle.std.proofs.Common.{◌≡◌, ◌∙◌, ap, false, is_some, subst, sym, true}
+use Rattle.std.proofs.Common.{◌≡◌, ◌∙◌, ℕ, ap, false, inl, inr, is_some, refl, subst, sym, true}
 use Rattle.std.specs.List.{list_any}
 use Rattle.std.proofs.lemmas.Result.{IfOk-weaker}
 use Rattle.ep_base.specs.declared.call.Event.{Event}
@@ -10,6 +10,13 @@ use Rattle.ep_calls.specs.Parts.{Parts}
 use Rattle.ep_kernel.proofs.PickLemmas.{event_does_if}
 use Rattle.ep_kernel.proofs.ReportsFirstLemmas.{is_wait, other_reports, refused_reports}
 use Rattle.ep_kernel.proofs.WaitTurnsLemmas.{refused_turns, same_turns}
+use Rattle.ep_base.specs.declared.call.Call.{Call}
+use Rattle.ep_base.specs.declared.ids.Pid.{Pid}
+use Rattle.ep_calls.specs.Clock.{ClockStays}
+use Rattle.ep_calls.specs.declared.raising.Raising.{Raising}
+use Rattle.ep_calls.specs.declared.raising.Raising.TheVariants.{Nowhere}
+use Rattle.ep_kernel.proofs.TimersLemmas.{tick_moves}
+use Rattle.ep_kernel.specs.Timers.{MovesClock, TouchesTables}
 use Rattle.ep_kernel.proofs.act.act.Goals as goal
 use Rattle.ep_kernel.specs.Listed.{AreFair}
 use Rattle.ep_kernel.specs.Turns.{AlteredStand}
@@ -82,3 +89,57 @@ pub returns-in-Resume-clause-order : goal.returns-in-Resume-clause-order
 returns-in-Resume-clause-order c =
     let p = c.args.parts.now in
     IfOk-weaker c.resume.result _ _ (λ outcome told. subst (λ (event : Event). ReportsInOrder c.args.lists.now c.args.step c.args.caller.0 event outcome p) (sym c.in-Resume.is) told) c.resume.ensures.order
+
+pub returns-then-not-has_process-clause-tables : goal.returns-then-not-has_process-clause-tables
+returns-then-not-has_process-clause-tables c =
+    let p = c.args.parts.now in
+    subst (λ (event : Event). TouchesTables event c.refused.result.answer p p) (sym c.in-Call.is) (inl (Esrch, record { answers = c.refused.ensures.answer; tables = refl }))
+
+pub returns-then-is_parked-clause-tables : goal.returns-then-is_parked-clause-tables
+returns-then-is_parked-clause-tables c =
+    let p = c.args.parts.now in
+    let refused = c.refused-then-is_parked in
+    subst (λ (event : Event). TouchesTables event refused.result.answer p p) (sym c.in-Call.is) (inl (Ebusy, record { answers = refused.ensures.answer; tables = refl }))
+
+pub returns-else-is_parked-clause-tables : goal.returns-else-is_parked-clause-tables
+returns-else-is_parked-clause-tables c =
+    let p = c.args.parts.now in
+    let there = subst (λ (q : Parts). is_some (table_of q.tables.files c.in-Call.pid.0) ≡ true) c.parts.view_is (sym c.has_process.ensures ∙ c.if-not-has_process.false) in
+    IfOk-weaker c.make_call.result _ _ (λ outcome did. subst (λ (event : Event). TouchesTables event outcome.answer p c.make_call.new.parts) (sym c.in-Call.is) (inr (there, did))) c.make_call.ensures.tables
+
+pub returns-in-Resume-clause-tables : goal.returns-in-Resume-clause-tables
+returns-in-Resume-clause-tables c =
+    let p = c.args.parts.now in
+    IfOk-weaker c.resume.result _ _ (λ outcome leaves. subst (λ (event : Event). TouchesTables event outcome.answer p c.resume.new.parts) (sym c.in-Resume.is) leaves.files) c.resume.ensures.leaves
+
+pub returns-in-Tick-clause-tables : goal.returns-in-Tick-clause-tables
+returns-in-Tick-clause-tables c =
+    let p = c.args.parts.now in
+    subst (λ (event : Event). TouchesTables event c.tick.result.answer p c.tick.new.self) (sym c.in-Tick.is) (ap (λ (q : Parts). q.tables.files) c.tick.ensures.others)
+
+-- the clock
+by_refusal : (event : Event) (pid : Pid) (call : Call) (raising : Raising) (now : ℕ) → event ≡ CallOf pid call → raising ≡ Nowhere → MovesClock event raising now now
+by_refusal event pid call raising now is nowhere =
+    subst (λ (e : Event). MovesClock e raising now now) (sym is) (subst (λ (r : Raising). ClockStays r now now) (sym nowhere) refl)
+
+pub returns-then-not-has_process-clause-clock : goal.returns-then-not-has_process-clause-clock
+returns-then-not-has_process-clause-clock c = by_refusal c.args.event.now c.in-Call.pid c.in-Call.call c.refused.result.raising c.args.parts.now.clock c.in-Call.is c.refused.ensures.raising
+
+pub returns-then-is_parked-clause-clock : goal.returns-then-is_parked-clause-clock
+returns-then-is_parked-clause-clock c = by_refusal c.args.event.now c.in-Call.pid c.in-Call.call c.refused-then-is_parked.result.raising c.args.parts.now.clock c.in-Call.is c.refused-then-is_parked.ensures.raising
+
+pub returns-else-is_parked-clause-clock : goal.returns-else-is_parked-clause-clock
+returns-else-is_parked-clause-clock c =
+    let p = c.args.parts.now in
+    IfOk-weaker c.make_call.result _ _ (λ outcome stays. subst (λ (event : Event). MovesClock event outcome.raising p.clock c.make_call.new.parts.clock) (sym c.in-Call.is) stays) c.make_call.ensures.clock
+
+pub returns-in-Resume-clause-clock : goal.returns-in-Resume-clause-clock
+returns-in-Resume-clause-clock c =
+    let p = c.args.parts.now in
+    IfOk-weaker c.resume.result _ _ (λ outcome leaves. subst (λ (event : Event). MovesClock event outcome.raising p.clock c.resume.new.parts.clock) (sym c.in-Resume.is) leaves.clock) c.resume.ensures.leaves
+
+pub returns-in-Tick-clause-clock : goal.returns-in-Tick-clause-clock
+returns-in-Tick-clause-clock c =
+    let p = c.args.parts.now in
+    let now = c.tick.new.self.clock in
+    subst (λ (event : Event). MovesClock event c.tick.result.raising p.clock now) (sym c.in-Tick.is) (tick_moves c.in-Tick.n p.clock now c.tick.result.answer c.tick.result.raising c.tick.ensures.ticks c.tick.ensures.raising)

@@ -1,4 +1,4 @@
-use Rattle.std.proofs.Common.{ℤ, IsSome, ap, of_z, rules, subst, sym, to_z, w32, w64}
+use Rattle.std.proofs.Common.{◌≡◌, ℤ, IsSome, Some, ap, of_z, rules, subst, sym, to_z, w32, w64}
 use Rattle.std.proofs.lemmas.Int.{to_z-of_z}
 use Rattle.std.proofs.lemmas.Result.{IfOk-weaker, on_err_weaker}
 use mir.Val.{SFits}
@@ -12,6 +12,8 @@ use Rattle.ep_calls.specs.TableCall.{IsTableCall}
 use Rattle.ep_kernel.proofs.PickLemmas.{call_does_if}
 use Rattle.ep_kernel.proofs.ReportsFirstLemmas.{is_wait, object_waits, other_reports, table_waits}
 use Rattle.ep_kernel.proofs.WaitTurnsLemmas.{object_altered, same_lists, same_turns, table_altered}
+use Rattle.ep_kernel.proofs.TimersLemmas.{as_object, as_table}
+use Rattle.ep_kernel.specs.Timers.{CallsTables}
 use Rattle.ep_kernel.proofs.act.make_call.Goals as goal
 use Rattle.ep_kernel.specs.Listed.{AreFair}
 use Rattle.ep_kernel.specs.Wait.{ReportsInOrder}
@@ -27,6 +29,8 @@ returns-in_default c =
     record {
       ok = IfOk-weaker c.table_call.result _ _ (λ outcome h. call_does_if fair c.args.request.step c.args.request.caller.0 c.args.pid.0 call outcome p c.table_call.new.self (h c.args.request.step c.args.request.caller.0)) c.table_call.ensures.ok;
       kept = IfOk-weaker c.table_call.result _ _ (λ outcome h. table_call_kept call c.args.request.kept outcome on_tables) c.table_call.ensures.ok;
+      tables = IfOk-weaker c.table_call.result _ _ (λ outcome did. as_table c.args.pid.0 call outcome.answer p c.table_call.new.self on_tables did) c.table_call.ensures.tables;
+      clock = c.table_call.ensures.clock;
       turns = IfOk-weaker c.table_call.result _ _ (λ outcome none. same_turns (CallOf c.args.pid call) outcome.picked p c.table_call.new.self l c.requires.listed c.table_call.ensures.interest none (table_altered c.args.pid call p c.table_call.new.self l on_tables)) c.table_call.ensures.picked;
       order = IfOk-weaker c.table_call.result _ _ (λ outcome none. other_reports l c.args.request.step c.args.request.caller.0 (CallOf c.args.pid call) outcome p (table_waits c.args.pid call on_tables)) c.table_call.ensures.picked;
       err = on_err_weaker c.table_call.result (λ same. (same, same_lists l)) c.table_call.ensures.err;
@@ -82,3 +86,30 @@ returns-in-EpollWait-clause-order c =
     subst P (sym x.is)
     (subst (λ (z : ℤ). P (EpollWait x.epfd x.max z)) (to_z-of_z w64 x.timeout timeout)
     (subst (λ (z : ℤ). P (EpollWait x.epfd z (to_z w64 (of_z w64 x.timeout)))) (to_z-of_z w32 x.max max) told))) c.epoll_wait.ensures.order
+
+pub returns-in-Read-clause-tables : goal.returns-in-Read-clause-tables
+returns-in-Read-clause-tables c =
+    let p = c.args.parts.now in
+    let q = c.object_call.new.self in
+    let call = c.args.call.now in
+    let fd = c.in-Read-1.fd in
+    let on : fd_of call ≡ Some fd = search rules in
+    IfOk-weaker c.object_call.result _ _ (λ outcome did. as_object c.args.pid.0 call fd outcome.answer p q on did) c.object_call.ensures.tables
+
+pub returns-in-EpollCtl-clause-tables : goal.returns-in-EpollCtl-clause-tables
+returns-in-EpollCtl-clause-tables c =
+    let p = c.args.parts.now in
+    let q = c.epoll_ctl.new.parts in
+    IfOk-weaker c.epoll_ctl.result _ _ (λ outcome leaves. subst (λ (call : Call). CallsTables c.args.pid.0 call outcome.answer p q) (sym c.in-EpollCtl.is) leaves.files) c.epoll_ctl.ensures.leaves
+
+pub returns-in-EpollCtl-clause-clock : goal.returns-in-EpollCtl-clause-clock
+returns-in-EpollCtl-clause-clock c = IfOk-weaker c.epoll_ctl.result _ _ (λ outcome leaves. leaves.clock) c.epoll_ctl.ensures.leaves
+
+pub returns-in-EpollWait-clause-tables : goal.returns-in-EpollWait-clause-tables
+returns-in-EpollWait-clause-tables c =
+    let p = c.args.parts.now in
+    let q = c.epoll_wait.new.parts in
+    IfOk-weaker c.epoll_wait.result _ _ (λ outcome leaves. subst (λ (call : Call). CallsTables c.args.pid.0 call outcome.answer p q) (sym c.in-EpollWait.is) leaves.files) c.epoll_wait.ensures.leaves
+
+pub returns-in-EpollWait-clause-clock : goal.returns-in-EpollWait-clause-clock
+returns-in-EpollWait-clause-clock c = IfOk-weaker c.epoll_wait.result _ _ (λ outcome leaves. leaves.clock) c.epoll_wait.ensures.leaves

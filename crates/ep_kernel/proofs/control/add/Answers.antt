@@ -1,3 +1,4 @@
+use Rattle.ep_kernel.proofs.TimersLemmas.{controls_leave}
 use Rattle.ep_kernel.proofs.ControlTurnsLemmas.{next_at, none_placed, same_again, settled_at, some_placed, sound_at, turns_added, vacant_at}
 use Rattle.ep_kernel.proofs.control.add.Goals as goal
 
@@ -13,3 +14,6 @@ settle-requires c = some_placed c.make_place.new.self c.next_key-id.result c.arg
 
 pub returns-in-Err-clause-err : goal.returns-in-Err-clause-err
 returns-in-Err-clause-err c = (c.in-Err.ensures.err, same_again c.args.lists.now c.make_place.new.self c.drop_place.new.self c.next_key-id.result c.args.plan.named.instance.0 c.known-3.ensures (none_placed c.args.parts.now c.args.lists.now c.requires.listed c.next_key-id.result (vacant_at _ _ _ c.parts.view_is c.next_key-id.ensures.vacant)) c.in_ok-make_place.ensures.made c.drop_place.ensures)
+
+pub returns-clause-leaves : goal.returns-clause-leaves
+returns-clause-leaves c = controls_leave c.args.plan c.args.args c.in-Ok.outcome c.args.parts.now c.control.new.self c.in-Ok.ensures.controls

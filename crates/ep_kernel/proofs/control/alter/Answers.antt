@@ -1,3 +1,4 @@
+use Rattle.ep_kernel.proofs.TimersLemmas.{controls_leave}
 use Rattle.ep_kernel.proofs.ControlTurnsLemmas.{found_placed, settled_at, sound_at, turns_altered}
 use Rattle.ep_kernel.proofs.control.alter.Goals as goal
 
@@ -7,3 +8,6 @@ returns-clause-turns c =
 
 pub settle-requires : goal.settle-requires
 settle-requires c = found_placed c.args.pid.0 c.args.args c.args.plan c.args.parts.now c.args.lists.now c.requires.listed c.requires.plan c.args.id c.requires.found
+
+pub returns-clause-leaves : goal.returns-clause-leaves
+returns-clause-leaves c = controls_leave c.args.plan c.args.args c.in_ok-outcome.outcome c.args.parts.now c.control.new.self c.in_ok-outcome.ensures.controls

@@ -1,3 +1,4 @@
+use Rattle.ep_kernel.proofs.TimersLemmas.{controls_leave}
 use Rattle.std.proofs.lemmas.Result.{IfOk-weaker}
 use Rattle.ep_calls.specs.declared.control.Operation.TheVariants.{Delete, Modify}
 use Rattle.ep_kernel.proofs.ControlTurnsLemmas.{turns_missed}
@@ -10,3 +11,9 @@ returns-in-Delete-clause-turns c =
 pub returns-in-Modify-clause-turns : goal.returns-in-Modify-clause-turns
 returns-in-Modify-clause-turns c =
     IfOk-weaker c.control-in-Modify.result _ _ (λ outcome controls. turns_missed c.args.pid c.args.args c.args.plan outcome c.args.parts.now c.control-in-Modify.new.self c.args.lists.now c.requires.listed controls c.requires.found Modify c.in-Modify.is (λ h. h)) c.control-in-Modify.ensures.controls
+
+pub returns-in-Delete-clause-leaves : goal.returns-in-Delete-clause-leaves
+returns-in-Delete-clause-leaves c = IfOk-weaker c.control.result _ _ (λ outcome controls. controls_leave c.args.plan c.args.args outcome c.args.parts.now c.control.new.self controls) c.control.ensures.controls
+
+pub returns-in-Modify-clause-leaves : goal.returns-in-Modify-clause-leaves
+returns-in-Modify-clause-leaves c = IfOk-weaker c.control-in-Modify.result _ _ (λ outcome controls. controls_leave c.args.plan c.args.args outcome c.args.parts.now c.control-in-Modify.new.self controls) c.control-in-Modify.ensures.controls

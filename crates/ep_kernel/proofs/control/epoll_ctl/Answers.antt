@@ -1,3 +1,4 @@
+use Rattle.ep_kernel.proofs.TimersLemmas.{nowhere_leaves}
 use Rattle.std.proofs.Common.{ℕ, List, refl, subst, sym}
 use Rattle.ep_base.specs.declared.call.Event.TheVariants.{Call as CallOf}
 use Rattle.ep_calls.specs.Control.{control_call}
@@ -11,3 +12,6 @@ returns-in-Err-clause-turns c =
     let p = c.args.parts.now in
     let l = c.args.lists.now in
     subst (λ (ks : List ℕ). Turns (CallOf c.args.pid (control_call c.args.args)) ks p l p l) (sym c.in-Err.ensures.picked) (turns_still c.args.pid c.args.args p p l l c.requires.listed refl refl refl (same_lists l l refl))
+
+pub returns-in-Err-clause-leaves : goal.returns-in-Err-clause-leaves
+returns-in-Err-clause-leaves c = nowhere_leaves c.in-Err.refused.raising c.args.parts.now c.in-Err.ensures.raising

@@ -1,4 +1,5 @@
-use Rattle.std.proofs.Common.{◌≡◌, subst}
+use Rattle.std.proofs.Common.{◌≡◌, ℕ, subst, sym}
+use Rattle.ep_alarms.specs.Alarms.{AreSet, LosesDying as LosesTimers}
 use Rattle.ep_calls.specs.Burial.{Burial}
 use Rattle.ep_calls.specs.Parts.{Parts}
 use Rattle.ep_kernel.proofs.SurvivalLemmas.{Leaves, places_left}
@@ -8,7 +9,7 @@ use Rattle.ep_kernel.proofs.settle.settle.Goals as goal
 pub climb-requires-clause-places : goal.climb-requires-clause-places
 climb-requires-clause-places c =
     let mid = c.args.parts.now in
-    let noted = c.raise.new.self in
+    let noted = c.raise.new.parts in
     let buried = c.bury.new.self in
     let is : noted ≡ record mid { interest = noted.interest } = c.raise.ensures.others in
     let leaves : Leaves c.args.step c.args.raising mid noted.interest buried = record {
@@ -16,7 +17,7 @@ climb-requires-clause-places c =
       tables = c.know.ensures.tables;
       raises = c.requires.raises;
       stirs = c.raise.ensures.stirs;
-      keys = c.raise.ensures.ids;
+      keys = c.raise.ensures.keys;
       burial = subst (λ (p : Parts). Burial c.args.step p.tables p.interest buried.tables buried.interest) is c.bury.ensures.burial;
       ids = c.bury.ensures.ids;
       was = c.know.ensures.interest;
@@ -26,16 +27,16 @@ climb-requires-clause-places c =
     places_left c.args.step c.args.raising mid noted.interest buried leaves c.args.lists.now c.drop_dying.new.lists
     (subst (λ (p : Parts). LosesDying p.tables p.interest c.args.lists.now c.drop_dying.new.lists) is c.drop_dying.ensures) c.requires.places
 
-pub returns : goal.returns
-returns c = record {
-  noted = c.raise.new.self;
+pub returns-clause-settled : goal.returns-clause-settled
+returns-clause-settled c = record {
+  noted = c.raise.new.parts;
   buried = c.bury.new.self;
   between = c.drop_dying.new.lists;
   coherent = c.know.ensures.coherent;
   tables = c.know.ensures.tables;
   sound = c.know.ensures.interest;
   stirs = c.raise.ensures.stirs;
-  noted_keys = c.raise.ensures.ids;
+  noted_keys = c.raise.ensures.keys;
   noted_others = c.raise.ensures.others;
   noted_sound = c.know-2.ensures.interest;
   loses = c.drop_dying.ensures;
@@ -53,3 +54,12 @@ returns c = record {
   climbed_others = c.climb.ensures.others;
   climbed_sound = c.know-4.ensures.interest;
 }
+
+pub returns-clause-set : goal.returns-clause-set
+returns-clause-set c =
+    let noted = c.raise.new.parts in
+    let buried = c.bury.new.self in
+    let a = c.raise.new.alarms in
+    let b = c.drop_dying-2.new.self in
+    let set = c.burial_leaves_alarms.ensures c.args.step noted.tables buried.tables noted.interest buried.interest noted.clock a b c.bury.ensures.burial c.know-3.ensures.tables c.raise.ensures.set (subst (λ (p : Parts). LosesTimers p.tables a b) c.parts.view_is c.drop_dying-2.ensures) in
+    subst (λ (p : Parts). AreSet p.tables p.clock b) (sym c.climb.ensures.others) (subst (λ (n : ℕ). AreSet buried.tables n b) (sym c.bury.ensures.clock) set)

@@ -1,3 +1,4 @@
+use Rattle.ep_kernel.proofs.TimersLemmas.{nowhere_leaves}
 use Rattle.std.proofs.Common.{◌∙◌, IsSome, SFits, ap, refl, rules, subst, w32}
 use Rattle.std.proofs.lemmas.Int.{to_z-of_z}
 use Rattle.ep_base.specs.declared.call.Event.TheVariants.{Call as CallOf}
@@ -73,3 +74,9 @@ returns-clause-order c =
     let waits = subst (λ (q : Parts). Waits q.tables x i) c.parts.view_is c.in-Ok.ensures in
     first_reported l c.args.step c.args.caller.0 (CallOf x.pid (wait_call x)) c.in_ok-outcome.outcome p i (number_in x.max) walked chosen c.known.ensures.coherent c.known.ensures.sound sound c.known-3.ensures c.requires.listed waits.lives finds c.in_ok-outcome.ensures.picked
     (waits_at_named p c.args.caller.0 x i waits)
+
+pub returns-in-Err-clause-leaves : goal.returns-in-Err-clause-leaves
+returns-in-Err-clause-leaves c = nowhere_leaves c.refused.result.raising c.args.parts.now c.refused.ensures.raising
+
+pub returns-clause-leaves : goal.returns-clause-leaves
+returns-clause-leaves c = record { files = c.wait_with.ensures.files; clock = c.in_ok-outcome.ensures.clock }

@@ -1,3 +1,4 @@
+use Rattle.ep_kernel.proofs.TimersLemmas.{nowhere_leaves}
 use Rattle.std.proofs.Common.{◌≡◌, ◌∙◌, ℤ, Some, true, SFits, ap, find, refl, rules, subst, sym, w32}
 use Rattle.std.proofs.lemmas.Int.{to_z-of_z}
 use Rattle.ep_base.specs.declared.answer.Answer.TheVariants.{Refused, Still}
@@ -123,3 +124,12 @@ returns-clause-order c =
     let waits = subst (λ (q : Parts). find (is_caller caller) q.parked ≡ Some (parked caller w)) c.parts.view_is (sym c.in-Some.ensures) in
     first_reported l c.args.step caller Resume c.in_ok-outcome.outcome p i (number_in w.max) walked chosen c.known.ensures.coherent c.known.ensures.sound sound c.known-3.ensures c.requires lives.instance finds c.in_ok-outcome.ensures.picked
     (waits_at_parked p caller w waits)
+
+pub returns-in_default-clause-leaves : goal.returns-in_default-clause-leaves
+returns-in_default-clause-leaves c = nowhere_leaves c.refused.result.raising c.args.parts.now c.refused.ensures.raising
+
+pub returns-then-not-waiter-clause-leaves : goal.returns-then-not-waiter-clause-leaves
+returns-then-not-waiter-clause-leaves c = nowhere_leaves c.settled.result.raising c.args.parts.now c.settled.ensures.raising
+
+pub returns-clause-leaves : goal.returns-clause-leaves
+returns-clause-leaves c = record { files = c.resume_with.ensures.files; clock = c.in_ok-outcome.ensures.clock }

@@ -4,13 +4,12 @@ use Rattle.ep_machine.specs.Files.{side_of}
 use Rattle.ep_calls.specs.Parts.{Parts}
 use Rattle.ep_calls.proofs.ObjectLemmas.{applied_kinds, instance_raises, is_object_call, object_does}
 use Rattle.ep_calls.proofs.PartsLemmas.{coherent_kept}
-use Rattle.ep_calls.specs.ObjectCall.{FitsRoom}
+use Rattle.ep_calls.specs.ObjectCall.{CallsObject, FitsRoom}
 use Rattle.ep_calls.specs.Stands.{KeepsKinds}
 use Rattle.ep_calls.proofs.KeyLemmas.{object_there}
 use Rattle.ep_calls.specs.Raising.{IsRaising, RaisesByCall}
 use Rattle.ep_calls.specs.declared.raising.Raising.{Raising}
 use Rattle.ep_calls.specs.declared.raising.Raising.TheVariants.{Object}
-use Rattle.ep_calls.proofs.FilesCallLemmas.{CallsObject}
 use Rattle.ep_calls.proofs.ObjectCallLemmas.{calls_object, fits}
 use Rattle.ep_calls.proofs.ObjectRaiseLemmas.{raises_object}
 use Rattle.ep_table.specs.Value.{Seen, content_of, holds_of, number_of}
@@ -40,6 +39,20 @@ invariant_of-self-2 c =
     coherent_kept p c.apply.new.self c.self.invariant (λ key d h. ap (λ (v : Seen). slice_index_or v.keys key.0 None) same ∙ h) (subst (λ (v : Seen). KeepsKinds k.tables.files v.files) (sym same) (applied_kinds k.tables c.in-Some.desc k.clock c.args.call.now c.known.ensures c.in-Some.ensures.live))
     (λ d. ap (λ (v : Seen). holds_of v d) same)
 
+-- the call that was answered
+calls : (c : goal.After-outcome_of) → CallsObject c.args.pid.0 c.args.fd c.self.inside.clock c.args.call.now c.in_ok-answer.answer c.self.inside.tables c.apply.new.self
+calls c =
+    let k = c.self.inside in
+    let e = c.in_ok-answer.ensures in
+    let found = c.in-Some.ensures in
+    calls_object k.tables c.apply.new.self c.args.pid.0 c.args.fd.0 c.in-Some.desc k.clock c.args.call.now c.in_ok-answer.answer found.number found.live (object_there k.tables c.in-Some.desc c.known.ensures found.live) e.answer e.files
+
+pub returns-clause-tables : goal.returns-clause-tables
+returns-clause-tables c =
+    let k = c.self.inside in
+    subst (λ (p : Parts). CallsObject c.args.pid.0 c.args.fd p.clock c.args.call.now c.outcome_of.result.answer p.tables c.apply.new.self) c.self.view_is
+    (subst (λ (a : Answer). CallsObject c.args.pid.0 c.args.fd k.clock c.args.call.now a k.tables c.apply.new.self) (sym c.outcome_of.ensures.answer) (calls c))
+
 pub returns-clause-ok : goal.returns-clause-ok
 returns-clause-ok c =
     let k = c.self.inside in
@@ -48,7 +61,6 @@ returns-clause-ok c =
     let p : Parts = record { tables = v; interest = k.interest; graph = k.graph; parked = k.waiters; clock = k.clock } in
     let e = c.in_ok-answer.ensures in
     let found = c.in-Some.ensures in
-    let calls = calls_object v new c.args.pid.0 c.args.fd.0 c.in-Some.desc k.clock c.args.call.now c.in_ok-answer.answer found.number found.live (object_there v c.in-Some.desc c.known.ensures found.live) e.answer e.files in
     let raises = raises_object v c.in-Some.desc k.clock c.args.call.now c.in_ok-answer.raised _ refl new c.args.pid.0 c.args.fd.0 found.number found.live (ap (λ (t : Seen). t.keys) e.files) (ap (λ (t : Seen). t.files.descriptions) e.files) e.raised in
     let key = c.in-Some.desc in
     let d = number_of v key in
@@ -56,5 +68,5 @@ returns-clause-ok c =
     subst (IsRaising (Object key c.in_ok-answer.raised)) (sym e.files) (found.live, λ h. e.raised ∙ instance_raises v.files d k.clock c.args.call.now h) in
     let o = c.outcome_of.ensures in
     rw (← c.self.view_is) (object_does p new c.args.pid.0 c.args.fd c.args.call.now c.outcome_of.result c.self.invariant c.requires
-    (subst (λ (a : Answer). CallsObject c.args.pid.0 c.args.fd k.clock c.args.call.now a v new) (sym o.answer) calls)
+    (subst (λ (a : Answer). CallsObject c.args.pid.0 c.args.fd k.clock c.args.call.now a v new) (sym o.answer) (calls c))
     (subst (λ (r : Raising). RaisesByCall v new c.args.pid.0 c.args.fd.0 k.clock c.args.call.now r) (sym o.raising) raises) o.picked (subst (λ (r : Raising). IsRaising r new) (sym o.raising) lives))

@@ -1,4 +1,5 @@
 use Rattle.std.proofs.Common.{◌≡◌, ◌+◌, ◌++◌, [], ◌∷◌, Err, List, Ok, OnErr, Option, Result, ap, length, ◌∙◌, arith, subst, sym, vec_capacity}
+use Rattle.ep_alarms.specs.Alarms.{AreSet}
 use Rattle.ep_base.specs.declared.ids.DescId.{DescId}
 use Rattle.ep_base.specs.declared.record.Record.{Record}
 use Rattle.ep_machine.specs.Step.{next_event}
@@ -15,26 +16,31 @@ use Rattle.ep_kernel.specs.Running.{Ends, Runs, book_of}
 use Rattle.ep_kernel.proofs.AreLookedAtLemmas.{are_looked_at, listed_climbed}
 use Rattle.ep_kernel.proofs.RunLemmas.{adds_on, does_fairly, first_on, runs_on, runs_same}
 use Rattle.ep_kernel.proofs.SettledLemmas.{ends_of}
+use Rattle.ep_kernel.proofs.TimersLemmas.{set_same}
 use Rattle.ep_kernel.proofs.ready.ReadyKernel.try_step.Goals as goal
 
 -- want of memory changes nothing
-pub invariant_of-self-in_err-answer : goal.invariant_of-self-in_err-answer
-invariant_of-self-in_err-answer c =
+pub invariant_of-self-in_err-outcome : goal.invariant_of-self-in_err-outcome
+invariant_of-self-in_err-outcome c =
     let k = c.self.inside in
-    let same = c.in_err-answer.ensures.err in
-    subst (λ (rs : List Record). Runs rs c.act.new.parts c.act.new.lists) (sym c.reserve.ensures.items)
-    (runs_same k.history.items c.act.new.parts k.lists c.act.new.lists same.1 (subst (λ (p : Parts). Runs k.history.items p k.lists) (sym same.0) c.self.invariant))
+    let same = c.in_err-outcome.ensures.err in
+    let runs = runs_same k.history.items c.act.new.parts k.lists c.act.new.lists same.1 (subst (λ (p : Parts). Runs k.history.items p k.lists) (sym same.0) c.self.invariant.runs) in
+    let set = set_same k.parts.tables k.parts.clock k.alarms c.make_room.new.alarms c.make_room.ensures.kept c.self.invariant.set in
+    record {
+      runs = subst (λ (rs : List Record). Runs rs c.act.new.parts c.act.new.lists) (sym c.reserve.ensures.items) runs;
+      set = subst (λ (p : Parts). AreSet p.tables p.clock c.make_room.new.alarms) (sym same.0) set;
+    }
 
 -- what holds holds of an error
 if_err : {T E P : Type 0} (r : Result T E) → P → OnErr r P
 if_err (Ok x) p = tt
 if_err (Err e) p = p
 
-pub returns-in_err-answer-clause-err_lists : goal.returns-in_err-answer-clause-err_lists
-returns-in_err-answer-clause-err_lists c =
+pub returns-in_err-outcome-clause-err_lists : goal.returns-in_err-outcome-clause-err_lists
+returns-in_err-outcome-clause-err_lists c =
     let k = c.self.inside in
-    let same = c.in_err-answer.ensures.err in
-    if_err c.from_residual-in_err-answer.result
+    let same = c.in_err-outcome.ensures.err in
+    if_err c.from_residual-in_err-outcome.result
     (subst (λ (b : ReadyBook). lists_of c.act.new.parts c.act.new.lists ≡ b.lists) c.self.view_is
     (ap (λ (p : Parts). lists_of p c.act.new.lists) same.0 ∙ same_lists k.parts k.lists c.act.new.lists same.1))
 
@@ -42,10 +48,10 @@ returns-in_err-answer-clause-err_lists c =
 pub of-spare-requires-clause-inline : goal.of-spare-requires-clause-inline
 of-spare-requires-clause-inline c asked none =
     let k = c.self.inside in
-    let o = c.in_ok-answer.field-0 in
+    let o = c.in_ok-outcome.outcome in
     let n : c.len.result + 1 ≡ length k.history.items + 1 = omega (arith, c.len.ensures, c.reserve.ensures.len) in
-    let does = does_fairly k.history.items k.parts c.act.new.parts k.lists c.self.invariant (c.len.result + 1) c.args.caller.0 c.args.event o n c.in_ok-answer.ensures.ok in
-    inline_event k.parts.tables.limits (next_event c.self.invariant.keeps.state) c.args.caller.0 o c.args.kept asked none c.args.event c.act.new.parts does.goes c.in_ok-answer.ensures.kept
+    let does = does_fairly k.history.items k.parts c.act.new.parts k.lists c.self.invariant.runs (c.len.result + 1) c.args.caller.0 c.args.event o n c.in_ok-outcome.ensures.ok in
+    inline_event k.parts.tables.limits (next_event c.self.invariant.runs.keeps.state) c.args.caller.0 o c.args.kept asked none c.args.event c.act.new.parts does.goes c.in_ok-outcome.ensures.kept
 
 -- where marks are set the lists fit, and no other instance has a caller to mark
 at_step : (c : goal.After-attend) → c.len.result + 1 ≡ length c.self.inside.history.items + 1
@@ -54,58 +60,62 @@ at_step c = omega (arith, c.len.ensures, c.reserve.ensures.len)
 pub mark-requires-clause-listed : goal.mark-requires-clause-listed
 mark-requires-clause-listed c =
     let k = c.self.inside in
-    listed_climbed c.lists_go_on.ensures.law c.unmarked_are_reached.ensures.law k.history.items k.parts c.act.new.parts c.settle.new.parts k.lists c.act.new.lists c.settle.new.lists c.self.invariant c.know.ensures.coherent c.know.ensures.tables c.know.ensures.interest c.known.ensures c.known-2.ensures
-    c.args.caller c.args.event c.in_ok-answer.field-0 (c.len.result + 1) (at_step c) c.in_ok-answer.ensures.ok c.in_ok-answer.ensures.turns c.settle.ensures
+    listed_climbed c.lists_go_on.ensures.law c.unmarked_are_reached.ensures.law k.history.items k.parts c.act.new.parts c.settle.new.parts k.lists c.act.new.lists c.settle.new.lists c.self.invariant.runs c.know.ensures.coherent c.know.ensures.tables c.know.ensures.interest c.known.ensures c.known-2.ensures
+    c.args.caller c.args.event c.in_ok-outcome.outcome (c.len.result + 1) (at_step c) c.in_ok-outcome.ensures.ok c.in_ok-outcome.ensures.turns c.settle.ensures.settled
 
 pub mark-requires-clause-reached : goal.mark-requires-clause-reached
 mark-requires-clause-reached c =
     let k = c.self.inside in
-    let raising = c.in_ok-answer.field-0.raising in
+    let raising = c.in_ok-outcome.outcome.raising in
     subst (AreLookedAt c.settle.new.parts c.settle.new.lists) (sym (c.attend.ensures ∙ ap (λ (o : Option DescId). attends o raising) c.resumed_at-resumed.ensures))
-    (are_looked_at c.lists_go_on.ensures.law c.unmarked_are_reached.ensures.law k.history.items k.parts c.act.new.parts c.settle.new.parts k.lists c.act.new.lists c.settle.new.lists c.self.invariant c.know.ensures.coherent c.know.ensures.tables c.know.ensures.interest c.known.ensures c.known-2.ensures
-    c.args.caller c.args.event c.in_ok-answer.field-0 (c.len.result + 1) (at_step c) c.in_ok-answer.ensures.ok c.in_ok-answer.ensures.turns c.settle.ensures)
+    (are_looked_at c.lists_go_on.ensures.law c.unmarked_are_reached.ensures.law k.history.items k.parts c.act.new.parts c.settle.new.parts k.lists c.act.new.lists c.settle.new.lists c.self.invariant.runs c.know.ensures.coherent c.know.ensures.tables c.know.ensures.interest c.known.ensures c.known-2.ensures
+    c.args.caller c.args.event c.in_ok-outcome.outcome (c.len.result + 1) (at_step c) c.in_ok-outcome.ensures.ok c.in_ok-outcome.ensures.turns c.settle.ensures.settled)
 
 -- the number of the event
 number : (c : goal.After-push_reserved) → c.len.result + 1 ≡ length c.self.inside.history.items + 1
 number c = omega (arith, c.len.ensures, c.reserve.ensures.len)
 
 -- the history has its record
-records : (c : goal.After-push_reserved) → c.push_reserved.new.self.items ≡ c.self.inside.history.items ++ record_of c.args.caller c.args.event c.in_ok-answer.field-0 ∷ []
+records : (c : goal.After-push_reserved) → c.push_reserved.new.self.items ≡ c.self.inside.history.items ++ record_of c.args.caller c.args.event c.in_ok-outcome.outcome ∷ []
 records c =
-    let outcome = c.in_ok-answer.field-0 in
+    let outcome = c.in_ok-outcome.outcome in
     c.push_reserved.ensures.items
     ∙ (λ i. c.reserve.ensures.items i ++ record { caller = c.args.caller; event = c.args.event; answer = outcome.same i; picked = outcome.picked } ∷ [])
 
 -- what follows the change
-ends : (c : goal.After-push_reserved) → Ends (c.len.result + 1) c.in_ok-answer.field-0.raising c.act.new.parts c.act.new.lists c.mark.new.parts c.settle.new.lists
-ends c = ends_of (c.len.result + 1) c.in_ok-answer.field-0.raising c.act.new.parts c.act.new.lists c.settle.new.parts c.settle.new.lists c.mark.new.parts c.settle.ensures c.mark.ensures.marks c.mark.ensures.others
+ends : (c : goal.After-push_reserved) → Ends (c.len.result + 1) c.in_ok-outcome.outcome.raising c.act.new.parts c.act.new.lists c.mark.new.parts c.settle.new.lists
+ends c = ends_of (c.len.result + 1) c.in_ok-outcome.outcome.raising c.act.new.parts c.act.new.lists c.settle.new.parts c.settle.new.lists c.mark.new.parts c.settle.ensures.settled c.mark.ensures.marks c.mark.ensures.others
 
 pub invariant_of-self-2 : goal.invariant_of-self-2
 invariant_of-self-2 c =
     let k = c.self.inside in
-    subst (λ (rs : List Record). Runs rs c.mark.new.parts c.settle.new.lists) (sym (records c))
-    (runs_on c.lists_go_on.ensures.law k.history.items k.parts c.act.new.parts c.mark.new.parts k.lists c.act.new.lists c.settle.new.lists c.self.invariant c.know.ensures.coherent c.know.ensures.tables c.know.ensures.interest c.known.ensures c.known-2.ensures
-    c.args.caller c.args.event c.in_ok-answer.field-0 (c.len.result + 1) (number c) c.in_ok-answer.ensures.ok c.in_ok-answer.ensures.turns (ends c))
+    let runs = subst (λ (rs : List Record). Runs rs c.mark.new.parts c.settle.new.lists) (sym (records c))
+    (runs_on c.lists_go_on.ensures.law k.history.items k.parts c.act.new.parts c.mark.new.parts k.lists c.act.new.lists c.settle.new.lists c.self.invariant.runs c.know.ensures.coherent c.know.ensures.tables c.know.ensures.interest c.known.ensures c.known-2.ensures
+    c.args.caller c.args.event c.in_ok-outcome.outcome (c.len.result + 1) (number c) c.in_ok-outcome.ensures.ok c.in_ok-outcome.ensures.turns (ends c)) in
+    record {
+      runs = runs;
+      set = subst (λ (p : Parts). AreSet p.tables p.clock c.settle.new.alarms) (sym c.mark.ensures.others) c.settle.ensures.set;
+    }
 
 pub returns-clause-ok : goal.returns-clause-ok
 returns-clause-ok c =
     let k = c.self.inside in
-    let outcome = c.in_ok-answer.field-0 in
+    let outcome = c.in_ok-outcome.outcome in
     let new : Book = record { limits = c.mark.new.parts.tables.limits; past = c.push_reserved.new.self.items; capacity = vec_capacity c.push_reserved.new.self } in
     let adds =
-    adds_on c.lists_go_on.ensures.law k.history.items k.parts c.act.new.parts c.mark.new.parts k.lists c.act.new.lists c.settle.new.lists c.self.invariant c.know.ensures.coherent c.know.ensures.tables c.know.ensures.interest c.known.ensures c.known-2.ensures
-    c.args.caller c.args.event outcome (c.len.result + 1) (number c) c.in_ok-answer.ensures.ok c.in_ok-answer.ensures.turns (ends c) in
+    adds_on c.lists_go_on.ensures.law k.history.items k.parts c.act.new.parts c.mark.new.parts k.lists c.act.new.lists c.settle.new.lists c.self.invariant.runs c.know.ensures.coherent c.know.ensures.tables c.know.ensures.interest c.known.ensures c.known-2.ensures
+    c.args.caller c.args.event outcome (c.len.result + 1) (number c) c.in_ok-outcome.ensures.ok c.in_ok-outcome.ensures.turns (ends c) in
     subst (λ (b : ReadyBook). Adds b.book.limits c.args.caller c.args.event outcome.answer (state_of b.book) (state_of new) b.book.past new.past) c.self.view_is
     (subst (λ (rs : List Record). Adds k.parts.tables.limits c.args.caller c.args.event outcome.answer (state_of (book_of k).book) (state_of (record new { past = rs })) k.history.items rs) (sym (records c)) adds)
 
 pub returns-clause-lists : goal.returns-clause-lists
 returns-clause-lists c =
     let k = c.self.inside in
-    let outcome = c.in_ok-answer.field-0 in
+    let outcome = c.in_ok-outcome.outcome in
     let book : Book = record { limits = c.mark.new.parts.tables.limits; past = c.push_reserved.new.self.items; capacity = vec_capacity c.push_reserved.new.self } in
     let new : ReadyBook = record { book = book; lists = lists_of c.mark.new.parts c.settle.new.lists } in
     let first =
-    first_on c.lists_go_on.ensures.law k.history.items k.parts c.act.new.parts c.mark.new.parts k.lists c.act.new.lists c.settle.new.lists c.self.invariant c.know.ensures.coherent c.know.ensures.tables c.know.ensures.interest c.known.ensures c.known-2.ensures
-    c.args.caller c.args.event outcome (c.len.result + 1) (number c) c.in_ok-answer.ensures.ok c.in_ok-answer.ensures.turns (ends c) c.in_ok-answer.ensures.order in
+    first_on c.lists_go_on.ensures.law k.history.items k.parts c.act.new.parts c.mark.new.parts k.lists c.act.new.lists c.settle.new.lists c.self.invariant.runs c.know.ensures.coherent c.know.ensures.tables c.know.ensures.interest c.known.ensures c.known-2.ensures
+    c.args.caller c.args.event outcome (c.len.result + 1) (number c) c.in_ok-outcome.ensures.ok c.in_ok-outcome.ensures.turns (ends c) c.in_ok-outcome.ensures.order in
     subst (λ (b : ReadyBook). TurnsLists c.args.caller c.args.event outcome.answer b new) c.self.view_is
     (record { picked = outcome.picked; added = records c; first = first })

@@ -8,6 +8,6 @@ use Rattle.ep_kernel.proofs.ready.ReadyKernelKernel.next_moment.Goals as goal
 pub returns : goal.returns
 returns c =
     let k = c.self.inside in
-    let keeps = c.self.invariant.keeps in
+    let keeps = c.self.invariant.runs.keeps in
     subst (λ (s : State). TellsNext s c.next_moment.result) (sym (state_is k.history.items k.parts keeps) ∙ ap state_of c.self.view_is)
     (c.next_moment.ensures keeps.state keeps.quiet keeps.stands)

@@ -1,0 +1,391 @@
+-- The moments of timers over an event.
+use Rattle.std.proofs.Common.{◌≡◌, ◌≢◌, ◌≤◌, ◌+◌, ◌<◌, ◌^◌, ◌∙◌, ℕ, ℤ, pos, zero, suc, false, true, IsSome, Bool, List, [], ◌∷◌, None, Option, Some, add-one, ap, arith, filter, get_or, if◌then◌else◌, inl, inr, is_none, is_some, length, nat_le, nat_lt, not, refl, slice_index_or, subst, sym, unwrap_or}
+use Rattle.std.specs.Prelude.{MatchOption}
+use Rattle.std.specs.List.{list_any}
+use Rattle.std.proofs.lemmas.Bool.{cases_lt, false≢true, leb-false}
+use Rattle.std.proofs.lemmas.List.{get_or-set_same, get_or_past}
+use Rattle.std.proofs.lemmas.Option.{none-some}
+use Rattle.ep_base.specs.declared.call.Call.TheVariants.{Close, Dup, Dup2, EpollCreate, EpollCtl, EpollWait, EventFd, Exec, Exit, Fork, GetTime, Pipe as PipeCall, Plain, Read, SetTime, Shutdown, SocketPair, TimerFd, Write}
+use Rattle.ep_base.specs.declared.call.Event.{Event}
+use Rattle.ep_base.specs.declared.call.Event.TheVariants.{Call as CallOf, Resume, Tick}
+use Rattle.ep_base.specs.declared.ids.Pid.{Pid}
+use Rattle.ep_calls.proofs.FilesCallLemmas.{does_limits}
+use Rattle.ep_calls.specs.TableCall.{IsTableCall, called}
+use Rattle.ep_park.specs.Waiters.{is_of}
+use Rattle.ep_calls.specs.Control.{Controls, is_done}
+use Rattle.ep_calls.specs.Readiness.{entry_shows, readiness}
+use Rattle.ep_calls.specs.declared.control.Control.{Control}
+use Rattle.ep_calls.specs.declared.control.Plan.{Plan}
+use Rattle.ep_calls.specs.declared.outcome.Outcome.{Outcome}
+use Rattle.ep_interest.specs.Registrations.{has_key}
+use Rattle.ep_machine.specs.Objects.{Object as Content, object_refusals, timer}
+use Rattle.ep_machine.specs.Tables.{create_one, one_free, one_refusals, slot}
+use Rattle.ep_alarms.proofs.CallLemmas.{made_alone, others_left, timer_made}
+use Rattle.ep_alarms.proofs.KeptLemmas.{set_but, set_kept}
+use Rattle.ep_alarms.proofs.ObjectLemmas.{object_calls_leave, own_kept}
+use Rattle.ep_alarms.specs.Alarms.{AreSet, AreSetBut, IsKept, IsSetFor}
+use Rattle.ep_alarms.specs.Calls.{HaveObjects, MakesNoTimer}
+use Rattle.ep_alarms.specs.Kept.{timer_in}
+use Rattle.ep_alarms.specs.Timers.{timer_at, timer_under}
+use Rattle.ep_base.specs.Limits.{Limits}
+use Rattle.ep_base.specs.declared.answer.Answer.{Answer}
+use Rattle.ep_base.specs.declared.answer.Answer.TheVariants.{Done, Refused}
+use Rattle.ep_base.specs.declared.call.Call.{Call}
+use Rattle.ep_base.specs.declared.errno.Errno.{Errno}
+use Rattle.ep_base.specs.declared.errno.Errno.TheVariants.{Ebadf, Einval, Emfile, Enfile}
+use Rattle.ep_base.specs.declared.ids.DescId.{DescId}
+use Rattle.ep_base.specs.declared.ids.Fd.{Fd}
+use Rattle.ep_calls.specs.Clock.{ClockStays, Sets, Ticks}
+use Rattle.ep_calls.specs.ObjectCall.{CallsObject, fd_of, object_call_of}
+use Rattle.ep_calls.specs.Parts.{AreOpening, Parts}
+use Rattle.ep_calls.specs.declared.raising.Raising.{Raising}
+use Rattle.ep_calls.specs.declared.raising.Raising.TheVariants.{Clock, Instance, Nowhere, Object as ObjectOf}
+use Rattle.ep_due.specs.DueMap.{Moments, SameMoments, moment_of}
+use Rattle.ep_kernel.specs.Timers.{AreSetBeside, AreSetSince, CallsTables, CreatesTimer, GoesOn, IsCreated, IsRefused, LeavesFiles, MovesClock, TouchesTables, WereSet}
+use Rattle.ep_law.specs.Laws.{HaveOwnEnds}
+use Rattle.ep_machine.specs.Effect.{first}
+use Rattle.ep_machine.specs.Files.{Files, Place, Slot, Table, description_in, is_live, live, named_by, names_nothing, numbers_of, object_at, opening_files, object_under, place_of, side_under, table_of, under}
+use Rattle.ep_machine.specs.FilesCalls.{FilesCall, files_call, is_clock}
+use Rattle.ep_machine.specs.Lists.{enter, lowest_free}
+use Rattle.ep_machine.specs.Timer.{Timer, last_moment, new_timer}
+use Rattle.ep_table.specs.Live.{key_of}
+use Rattle.ep_table.specs.Value.{Does, KeepsKeys, Refuses, Seen, Sound as SoundTables, Succeeds, number_under}
+
+-- Each timer is among them, and nothing else is.
+kept_for : (now : ℕ) (t : Option Timer) (m : Option (Option ℕ)) → IsSetFor t now m → is_some m ≡ is_some t
+kept_for now None m h = ap (λ (o : Option (Option ℕ)). is_some o) h
+kept_for now (Some t) None h = absurd h
+kept_for now (Some t) (Some next) h = refl
+
+pub set_keeps : (v : Seen) (now : ℕ) (a : Moments) (key : ℕ) → AreSet v now a → IsKept v key a
+set_keeps v now a key are_set = kept_for now (timer_under v key) (moment_of a key) (are_set key)
+
+-- where no moment changed
+pub set_same : (v : Seen) (now : ℕ) (a b : Moments) → SameMoments a b → AreSet v now a → AreSet v now b
+set_same v now a b same are_set k = subst (λ (m : Option (Option ℕ)). IsSetFor (timer_under v k) now m) (sym (same k)) (are_set k)
+
+-- The clock.
+pub since_stays : (raising : Raising) (v : Seen) (before now : ℕ) (a : Moments) → ClockStays raising before now → AreSet v now a → AreSetSince raising v now a
+since_stays Nowhere v before now a stays are_set = are_set
+since_stays (ObjectOf desc raised) v before now a stays are_set = are_set
+since_stays (Instance desc) v before now a stays are_set = are_set
+since_stays (Clock since) v before now a stays are_set = absurd stays
+
+pub clock_same : (raising : Raising) (before now : ℕ) → ClockStays raising before now → now ≡ before
+clock_same Nowhere before now stays = stays
+clock_same (ObjectOf desc raised) before now stays = stays
+clock_same (Instance desc) before now stays = stays
+clock_same (Clock since) before now stays = absurd stays
+
+-- what a call makes of the tables that isn't refused
+by_call : {C : Type 0} (call : FilesCall) (answer : Answer) (v w : Seen) → Does call answer v w
+    → ((e : Errno) → Refuses e answer v w → C) → (first call.refusals ≡ None → Succeeds call answer v w → C) → C
+by_call {C = C} call answer v w does refused done = by (first call.refusals) refl does where
+  by : (o : Option Errno) → first call.refusals ≡ o → MatchOption o (Succeeds call answer v w) (λ e. Refuses e answer v w) → C
+  by None is h = done is h
+  by (Some e) is h = refused e h
+
+past_one : (b : Bool) (e : Errno) (rest : List (Bool × Errno)) → first ((b, e) ∷ rest) ≡ None → (b ≡ false) × (first rest ≡ None)
+past_one true e rest h = absurd (none-some e (sym h))
+past_one false e rest h = (refl, h)
+
+some_is : {X : Type 0} (o : Option X) → is_none o ≡ false → (x : X) × (o ≡ Some x)
+some_is None h = absurd (false≢true (sym h))
+some_is (Some x) h = (x, refl)
+
+-- What leaves the files.
+raised_there : (a b : Bool) (desc : DescId) (before now : ℕ) → now ≡ before → ClockStays (if a then (if b then Instance desc else Nowhere) else Nowhere) before now
+raised_there true true desc before now same = same
+raised_there true false desc before now same = same
+raised_there false b desc before now same = same
+
+pub controls_leave : (plan : Plan) (args : Control) (outcome : Outcome) (p q : Parts) → Controls plan args outcome p q → LeavesFiles outcome.raising p q
+controls_leave plan args outcome p q controls = record {
+  files = ap (λ (v : Seen). v.files) controls.tables;
+  clock = subst (λ (r : Raising). ClockStays r p.clock q.clock) (sym controls.raising)
+      (raised_there (is_done outcome.answer) (list_any (entry_shows (readiness q.tables q.clock q.interest) q.tables q.clock) (filter (has_key plan.named.instance args.fd plan.named.desc) q.interest.entries)) plan.named.instance p.clock q.clock controls.clock);
+}
+
+pub nowhere_leaves : (raising : Raising) (p : Parts) → raising ≡ Nowhere → LeavesFiles raising p p
+nowhere_leaves raising p is = record { files = refl; clock = subst (λ (r : Raising). ClockStays r p.clock p.clock) (sym is) refl }
+
+-- A number that a new description got.
+entered : {X : Type 0} (xs : List (Option X)) (x : X) → get_or (enter xs x) (lowest_free xs) None ≡ Some x
+entered [] x = refl
+entered (None ∷ xs) x = refl
+entered (Some y ∷ xs) x = rw (add-one) (entered xs x)
+
+table_within : (ts : List (Option Table)) (p : ℕ) → is_some (slice_index_or ts p None) ≡ true → p < length ts
+table_within ts p h = elim (cases_lt p (length ts)) [
+  | inl l ↦ l
+  | inr past ↦ absurd (false≢true (sym (ap (λ (o : Option Table). is_some o) (get_or_past ts p None past)) ∙ h))
+]
+
+created_under : (f : Files) (p : ℕ) (x : Content) (cloexec : Bool) → is_some (table_of f p) ≡ true → under (create_one f p x cloexec) p (pos (one_free (numbers_of f p))) ≡ Some (length f.descriptions)
+created_under f p x cloexec there =
+    let entry = slot (length f.descriptions) cloexec in
+    ap (λ (o : Option Table). description_in (slice_index_or (unwrap_or o []) (one_free (numbers_of f p)) None)) (get_or-set_same f.tables p (Some (enter (numbers_of f p) entry)) None (table_within f.tables p there))
+    ∙ ap (λ (o : Option Slot). description_in o) (entered (numbers_of f p) entry)
+
+small_number : (n most : ℕ) → nat_le most n ≡ false → most ≤ 65536 → n < 2 ^ 31
+small_number n most over h = omega (arith, leb-false most n over, h)
+
+-- From parts p to parts q.
+module _ (p q : Parts) (a : Moments) (sound : SoundTables p.tables) (sound_now : SoundTables q.tables) (keys : KeepsKeys p.tables q.tables) (are_set : AreSet p.tables p.clock a) (clock : q.clock ≡ p.clock) where
+  pub refused_set : q.tables ≡ p.tables → AreSet q.tables q.clock a
+  refused_set same = subst (λ (n : ℕ). AreSet q.tables n a) (sym clock) (subst (λ (v : Seen). AreSet v p.clock a) (sym same) are_set)
+
+  pub left_set : ((d : ℕ) → timer_in q.tables.files d ≡ timer_in p.tables.files d) → AreSet q.tables q.clock a
+  left_set same = subst (λ (n : ℕ). AreSet q.tables n a) (sym clock) (set_kept p.tables q.tables p.clock a sound sound_now keys same are_set)
+
+  but_one : (key number : ℕ) → number_under q.tables (key_of key) ≡ Some number → ((d : ℕ) → d ≢ number → timer_in q.tables.files d ≡ timer_in p.tables.files d) → AreSetBut q.tables q.clock key a
+  but_one key number is same = subst (λ (n : ℕ). AreSetBut q.tables n key a) (sym clock) (set_but p.tables q.tables p.clock a key number sound sound_now keys is same are_set)
+
+  have_objects : HaveObjects p.tables.files
+  have_objects d place is =
+      let key = sound.keyed d (ap (λ (o : Option Place). is_some o) is) in
+      subst (λ (o : Option Place). IsSome (object_at p.tables.files o)) is (sound.object key.0 d key.1)
+
+  -- a call on the tables that makes no timer
+  pub others_set : (limits : Limits) (pid : ℕ) (busy : Bool) (call : Call) (answer : Answer) → MakesNoTimer call → Does (files_call limits p.tables.files pid busy call) answer p.tables q.tables → AreSet q.tables q.clock a
+  others_set limits pid busy call answer is does =
+      by_call (files_call limits p.tables.files pid busy call) answer p.tables q.tables does
+      (λ e refuses. refused_set refuses.tables)
+      (λ accepted done. left_set (λ d. ap (λ (f : Files). timer_in f d) done.files ∙ others_left limits p.tables.files pid busy call have_objects is d))
+
+  -- a call on the object that a descriptor names
+  module _ (ends : HaveOwnEnds p.tables.files) (pid : ℕ) (fd : Fd) (call : Call) (answer : Answer) where
+    abbrev made : FilesCall
+    made = object_call_of p.tables.files pid fd.0 p.clock call
+
+    abbrev number : ℕ
+    number = named_by p.tables.files pid fd.0
+
+    -- the key of the description is the one that it had
+    key_before : (desc : DescId) → number_under q.tables desc ≡ Some number → under p.tables.files pid fd.0 ≡ Some number → number_under p.tables desc ≡ Some number
+    key_before desc is was =
+        let key = sound.named pid number fd.0 was in
+        let same : key.0.0 ≡ desc.0 = sound_now.one key.0 desc number (keys key.0 number key.1) is in
+        subst (λ (k : ℕ). number_under p.tables (key_of k) ≡ Some number) same key.1
+
+    own_is_kept : (desc : DescId) → number_under q.tables desc ≡ Some number → under p.tables.files pid fd.0 ≡ Some number → q.tables.files ≡ made.after → IsKept q.tables desc.0 a
+    own_is_kept desc is was files =
+        set_keeps p.tables p.clock a desc.0 are_set
+        ∙ (ap (λ (o : Option ℕ). is_some (timer_at p.tables.files o)) (key_before desc is was)
+        ∙ (sym (own_kept p.tables.files number p.clock call)
+        ∙ (ap (λ (f : Files). is_some (timer_in f number)) (sym files)
+        ∙ sym (ap (λ (o : Option ℕ). is_some (timer_at q.tables.files o)) is))))
+
+    pub object_set : Does made answer p.tables q.tables → AreSetBeside q pid fd.0 a
+    object_set does =
+        by_call made answer p.tables q.tables does
+        (λ e refuses.
+        let all = refused_set refuses.tables in
+        record { others = λ desc is. (set_keeps q.tables q.clock a desc.0 all, λ k ne. all k); all = λ none. all })
+        (λ accepted done.
+        let names = past_one (names_nothing p.tables.files pid fd.0) Ebadf (object_refusals (object_under p.tables.files pid fd.0) (side_under p.tables.files pid fd.0) p.clock call) accepted in
+        let there = some_is (under p.tables.files pid fd.0) names.0 in
+        let was : under p.tables.files pid fd.0 ≡ Some number = there.1 ∙ sym (ap (λ (o : Option ℕ). Some (unwrap_or o 0)) there.1) in
+        let now : under q.tables.files pid fd.0 ≡ Some number = ap (λ (f : Files). under f pid fd.0) done.files ∙ was in
+        let key = sound.named pid number fd.0 was in
+        let lives : is_live p.tables.files number ≡ true = sound.place key.0 number key.1 in
+        record {
+          others = λ desc is. (
+            own_is_kept desc (is ∙ now) was done.files,
+            but_one desc.0 number (is ∙ now) (λ d ne. ap (λ (f : Files). timer_in f d) done.files ∙ object_calls_leave p.tables.files number p.clock call ends lives d ne),
+          );
+          all = λ none. absurd (none-some number (sym none ∙ now));
+        })
+
+  -- timerfd_create
+  module _ (limits : Limits) (pid : ℕ) (busy : Bool) (kind : ℤ) (cloexec : Bool) (answer : Answer) where
+    abbrev f : Files
+    f = p.tables.files
+
+    abbrev creation : FilesCall
+    creation = files_call limits f pid busy (TimerFd kind cloexec)
+
+    abbrev n : ℕ
+    n = one_free (numbers_of f pid)
+
+    -- its key was free
+    was_free : (desc : DescId) → number_under q.tables desc ≡ Some (length f.descriptions) → (o : Option ℕ) → number_under p.tables desc ≡ o → number_under p.tables desc ≡ None
+    was_free desc is None was = was
+    was_free desc is (Some d) was =
+        let both : Some d ≡ Some (length f.descriptions) = sym (keys desc d was) ∙ is in
+        let same : d ≡ length f.descriptions = cc in
+        let past : place_of f d ≡ None = get_or_past f.descriptions d None (omega (arith, same)) in
+        absurd (false≢true (sym (ap (λ (o : Option Place). is_some o) past) ∙ sound.place desc d was))
+
+    created : limits.descriptors ≤ 65536 → is_some (table_of f pid) ≡ true → first creation.refusals ≡ None → q.tables.files ≡ creation.after → IsCreated q pid n a
+    created few there accepted files =
+        let clocks = past_one (not (is_clock kind)) Einval (one_refusals limits f pid) accepted in
+        let free = past_one (nat_le limits.descriptors n) Emfile ((nat_lt limits.files (length (live f) + 1), Enfile) ∷ []) clocks.1 in
+        let now : under q.tables.files pid (pos n) ≡ Some (length f.descriptions) = ap (λ (g : Files). under g pid (pos n)) files ∙ created_under f pid (timer new_timer) cloexec there in
+        record {
+          small = small_number n limits.descriptors free.0 few;
+          there = ap (λ (o : Option ℕ). is_some o) now;
+          timer = λ desc is.
+              ap (λ (o : Option ℕ). is_some (timer_at q.tables.files o)) (is ∙ now)
+              ∙ ap (λ (t : Option Timer). is_some t) (ap (λ (g : Files). timer_in g (length f.descriptions)) files ∙ timer_made limits f pid busy kind cloexec);
+          none = λ desc is.
+              let free_key = was_free desc (is ∙ now) (number_under p.tables desc) refl in
+              subst (λ (t : Option Timer). IsSetFor t p.clock (moment_of a desc.0)) (ap (timer_at f) free_key) (are_set desc.0);
+          others = λ desc is. but_one desc.0 (length f.descriptions) (is ∙ now) (λ d ne. ap (λ (g : Files). timer_in g d) files ∙ made_alone limits f pid busy kind cloexec have_objects d ne);
+        }
+
+    pub creation_set : limits.descriptors ≤ 65536 → is_some (table_of f pid) ≡ true → Does creation answer p.tables q.tables → CreatesTimer answer q pid a
+    creation_set few there does =
+        by_call creation answer p.tables q.tables does
+        (λ e refuses. subst (λ (r : Answer). CreatesTimer r q pid a) (sym refuses.answers) (refused_set refuses.tables))
+        (λ accepted done. subst (λ (r : Answer). CreatesTimer r q pid a) (sym done.answers) (created few there accepted done.files))
+
+-- What an object's call is on.
+on_object : (pid : ℕ) (call : Call) (fd : Fd) (answer : Answer) (p q : Parts) → fd_of call ≡ Some fd → CallsTables pid call answer p q → CallsObject pid fd p.clock call answer p.tables q.tables
+on_object pid (Read on n) fd answer p q is did = subst (λ (d : Fd). CallsObject pid d p.clock (Read on n) answer p.tables q.tables) (let same : on ≡ fd = cc in same) did
+on_object pid (Write on bytes) fd answer p q is did = subst (λ (d : Fd). CallsObject pid d p.clock (Write on bytes) answer p.tables q.tables) (let same : on ≡ fd = cc in same) did
+on_object pid (Shutdown on) fd answer p q is did = subst (λ (d : Fd). CallsObject pid d p.clock (Shutdown on) answer p.tables q.tables) (let same : on ≡ fd = cc in same) did
+on_object pid (SetTime on absolute value interval) fd answer p q is did = subst (λ (d : Fd). CallsObject pid d p.clock (SetTime on absolute value interval) answer p.tables q.tables) (let same : on ≡ fd = cc in same) did
+on_object pid (GetTime on) fd answer p q is did = subst (λ (d : Fd). CallsObject pid d p.clock (GetTime on) answer p.tables q.tables) (let same : on ≡ fd = cc in same) did
+on_object pid call fd answer p q is did = absurd (none-some fd is)
+
+pub as_object : (pid : ℕ) (call : Call) (fd : Fd) (answer : Answer) (p q : Parts) → fd_of call ≡ Some fd → CallsObject pid fd p.clock call answer p.tables q.tables → CallsTables pid call answer p q
+as_object pid (Read on n) fd answer p q is did = subst (λ (d : Fd). CallsObject pid d p.clock (Read on n) answer p.tables q.tables) (let same : fd ≡ on = cc in same) did
+as_object pid (Write on bytes) fd answer p q is did = subst (λ (d : Fd). CallsObject pid d p.clock (Write on bytes) answer p.tables q.tables) (let same : fd ≡ on = cc in same) did
+as_object pid (Shutdown on) fd answer p q is did = subst (λ (d : Fd). CallsObject pid d p.clock (Shutdown on) answer p.tables q.tables) (let same : fd ≡ on = cc in same) did
+as_object pid (SetTime on absolute value interval) fd answer p q is did = subst (λ (d : Fd). CallsObject pid d p.clock (SetTime on absolute value interval) answer p.tables q.tables) (let same : fd ≡ on = cc in same) did
+as_object pid (GetTime on) fd answer p q is did = subst (λ (d : Fd). CallsObject pid d p.clock (GetTime on) answer p.tables q.tables) (let same : fd ≡ on = cc in same) did
+as_object pid call fd answer p q is did = absurd (none-some fd is)
+
+pub as_table : (pid : ℕ) (call : Call) (answer : Answer) (p q : Parts) → IsTableCall call → Does (called p.tables p.parked pid call) answer p.tables q.tables → CallsTables pid call answer p q
+as_table pid (EpollCtl epfd op fd mask tag) answer p q is did = absurd is
+as_table pid (EpollWait epfd most timeout) answer p q is did = absurd is
+as_table pid (Read fd n) answer p q is did = absurd is
+as_table pid (Write fd bytes) answer p q is did = absurd is
+as_table pid (Shutdown fd) answer p q is did = absurd is
+as_table pid (SetTime fd absolute value interval) answer p q is did = absurd is
+as_table pid (GetTime fd) answer p q is did = absurd is
+as_table pid call answer p q is did = did
+
+-- a call that is neither on an object nor creates a timer
+pub record IsOther (call : Call) : Type 0 where
+  pub creates : (kind : ℤ) (cloexec : Bool) → call ≡ TimerFd kind cloexec → ⊥
+  pub reads : (fd : Fd) (n : ℕ) → call ≡ Read fd n → ⊥
+  pub writes : (fd : Fd) (bytes : List ℕ) → call ≡ Write fd bytes → ⊥
+  pub shuts : (fd : Fd) → call ≡ Shutdown fd → ⊥
+  pub sets : (fd : Fd) (absolute : Bool) (value interval : ℕ) → call ≡ SetTime fd absolute value interval → ⊥
+  pub gets : (fd : Fd) → call ≡ GetTime fd → ⊥
+
+-- Once an event has changed the parts.
+module _ (event : Event) (outcome : Outcome) (q : Parts) (a : Moments) (were : WereSet event outcome q a) (sound_now : SoundTables q.tables) where
+  abbrev p : Parts
+  p = were.before
+
+  -- by a call
+  module _ (pid : Pid) (call : Call) (is : event ≡ CallOf pid call) where
+    touches : TouchesTables (CallOf pid call) outcome.answer p q
+    touches = subst (λ (e : Event). TouchesTables e outcome.answer p q) is were.tables
+
+    stays : ClockStays outcome.raising p.clock q.clock
+    stays = subst (λ (e : Event). MovesClock e outcome.raising p.clock q.clock) is were.clock
+
+    clock : q.clock ≡ p.clock
+    clock = clock_same outcome.raising p.clock q.clock stays
+
+    pub since_call : (b : Moments) → AreSet q.tables q.clock b → AreSetSince outcome.raising q.tables q.clock b
+    since_call b are_set = since_stays outcome.raising q.tables p.clock q.clock b stays are_set
+
+    refused_call : IsRefused outcome.answer p.tables q.tables → AreSet q.tables q.clock a
+    refused_call refused = refused_set p q a were.sound sound_now were.keys were.set clock refused.1.tables
+
+    pub object_beside : (fd : Fd) → fd_of call ≡ Some fd → AreSetBeside q pid.0 fd.0 a
+    object_beside fd on = elim touches [
+      | inl refused ↦
+          let all = refused_call refused in
+          record { others = λ desc named. (set_keeps q.tables q.clock a desc.0 all, λ k ne. all k); all = λ none. all }
+      | inr did ↦ object_set p q a were.sound sound_now were.keys were.set clock were.ends pid.0 fd call outcome.answer (on_object pid.0 call fd outcome.answer p q on did.1)
+    ]
+
+    pub call_creates : (kind : ℤ) (cloexec : Bool) → call ≡ TimerFd kind cloexec → q.tables.limits.descriptors ≤ 65536 → CreatesTimer outcome.answer q pid.0 a
+    call_creates kind cloexec creates few = elim touches [
+      | inl refused ↦ subst (λ (r : Answer). CreatesTimer r q pid.0 a) (sym refused.1.answers) (refused_call refused)
+      | inr did ↦
+          let limits = p.tables.limits in
+          let busy = list_any (is_of pid.0) p.parked in
+          let does : Does (files_call limits p.tables.files pid.0 busy (TimerFd kind cloexec)) outcome.answer p.tables q.tables = subst (λ (k : Call). CallsTables pid.0 k outcome.answer p q) creates did.1 in
+          let same = does_limits (files_call limits p.tables.files pid.0 busy (TimerFd kind cloexec)) outcome.answer p.tables q.tables does in
+          creation_set p q a were.sound sound_now were.keys were.set clock limits pid.0 busy kind cloexec outcome.answer (subst (λ (l : Limits). l.descriptors ≤ 65536) same few) did.0 does
+    ]
+
+    on_tables : (call : Call) → MakesNoTimer call → Does (called p.tables p.parked pid.0 call) outcome.answer p.tables q.tables → AreSet q.tables q.clock a
+    on_tables call none does = others_set p q a were.sound sound_now were.keys were.set clock p.tables.limits pid.0 (list_any (is_of pid.0) p.parked) call outcome.answer none does
+
+    on_files : q.tables.files ≡ p.tables.files → AreSet q.tables q.clock a
+    on_files same = left_set p q a were.sound sound_now were.keys were.set clock (λ d. ap (λ (f : Files). timer_in f d) same)
+
+    by_other : (call : Call) → IsOther call → CallsTables pid.0 call outcome.answer p q → AreSet q.tables q.clock a
+    by_other (EpollCtl epfd op fd mask tag) other did = on_files did
+    by_other (EpollWait epfd most timeout) other did = on_files did
+    by_other (Read fd n) other did = absurd (other.reads fd n refl)
+    by_other (Write fd bytes) other did = absurd (other.writes fd bytes refl)
+    by_other (Shutdown fd) other did = absurd (other.shuts fd refl)
+    by_other (SetTime fd absolute value interval) other did = absurd (other.sets fd absolute value interval refl)
+    by_other (GetTime fd) other did = absurd (other.gets fd refl)
+    by_other (TimerFd kind cloexec) other did = absurd (other.creates kind cloexec refl)
+    by_other (PipeCall cloexec) other did = on_tables (PipeCall cloexec) tt did
+    by_other (SocketPair cloexec) other did = on_tables (SocketPair cloexec) tt did
+    by_other (EventFd init semaphore cloexec) other did = on_tables (EventFd init semaphore cloexec) tt did
+    by_other (Plain cloexec) other did = on_tables (Plain cloexec) tt did
+    by_other (EpollCreate cloexec) other did = on_tables (EpollCreate cloexec) tt did
+    by_other (Dup fd) other did = on_tables (Dup fd) tt did
+    by_other (Dup2 fd to) other did = on_tables (Dup2 fd to) tt did
+    by_other (Close fd) other did = on_tables (Close fd) tt did
+    by_other Fork other did = on_tables Fork tt did
+    by_other Exec other did = on_tables Exec tt did
+    by_other Exit other did = on_tables Exit tt did
+
+    pub other_call : IsOther call → AreSetSince outcome.raising q.tables q.clock a
+    other_call other = since_call a (elim touches [
+      | inl refused ↦ refused_call refused
+      | inr did ↦ by_other call other did.1
+    ])
+
+  -- the clock goes on
+  moved : (raising : Raising) → GoesOn raising p.clock q.clock → q.tables.files ≡ p.tables.files → AreSetSince raising q.tables q.clock a
+  moved (Clock since) on same =
+      let kept = set_kept p.tables q.tables p.clock a were.sound sound_now were.keys (λ d. ap (λ (f : Files). timer_in f d) same) were.set in
+      (subst (λ (n : ℕ). n ≤ q.clock) (sym on.0) on.1, subst (λ (n : ℕ). AreSet q.tables n a) (sym on.0) kept)
+  moved Nowhere on same = left_set p q a were.sound sound_now were.keys were.set on (λ d. ap (λ (f : Files). timer_in f d) same)
+  moved (ObjectOf desc raised) on same = left_set p q a were.sound sound_now were.keys were.set on (λ d. ap (λ (f : Files). timer_in f d) same)
+  moved (Instance desc) on same = left_set p q a were.sound sound_now were.keys were.set on (λ d. ap (λ (f : Files). timer_in f d) same)
+
+  stayed : ClockStays outcome.raising p.clock q.clock → q.tables.files ≡ p.tables.files → AreSetSince outcome.raising q.tables q.clock a
+  stayed stays same =
+      since_stays outcome.raising q.tables p.clock q.clock a stays
+      (left_set p q a were.sound sound_now were.keys were.set (clock_same outcome.raising p.clock q.clock stays) (λ d. ap (λ (f : Files). timer_in f d) same))
+
+  by_event : (e : Event) → ((pid : Pid) (call : Call) → e ≡ CallOf pid call → ⊥) → TouchesTables e outcome.answer p q → MovesClock e outcome.raising p.clock q.clock → AreSetSince outcome.raising q.tables q.clock a
+  by_event (CallOf pid call) none did moves = absurd (none pid call refl)
+  by_event Resume none same moves = stayed moves same
+  by_event (Tick n) none same moves = moved outcome.raising moves same
+
+  pub other_event : ((pid : Pid) (call : Call) → event ≡ CallOf pid call → ⊥) → AreSetSince outcome.raising q.tables q.clock a
+  other_event none = by_event event none were.tables were.clock
+
+-- At the start.
+opening_none : (d : ℕ) → timer_in opening_files d ≡ None
+opening_none zero = refl
+opening_none (suc d) = refl
+
+pub set_opening : (limits : Limits) (p : Parts) (a : Moments) → AreOpening limits p → ((k : ℕ) → moment_of a k ≡ None) → AreSet p.tables p.clock a
+set_opening limits p a opens none k = subst (λ (t : Option Timer). IsSetFor t p.clock (moment_of a k)) (sym (by (number_under p.tables (key_of k)))) (none k) where
+  by : (o : Option ℕ) → timer_at p.tables.files o ≡ None
+  by None = refl
+  by (Some d) = ap (λ (f : Files). timer_in f d) opens.files ∙ opening_none d
+
+-- A tick.
+pub tick_moves : (n before now : ℕ) (answer : Answer) (raising : Raising) → Ticks before n now answer → Sets before n raising → GoesOn raising before now
+tick_moves n before now answer raising = by (first ((nat_lt last_moment (before + n), Einval) ∷ [])) where
+  by : (o : Option Errno) → MatchOption o ((answer ≡ Done) × (now ≡ before + n)) (λ e. (answer ≡ Refused e) × (now ≡ before)) → MatchOption o (raising ≡ Clock before) (λ e. raising ≡ Nowhere) → GoesOn raising before now
+  by None ticks sets = subst (λ (r : Raising). GoesOn r before now) (sym sets) (refl, subst (λ (k : ℕ). before ≤ k) (sym ticks.1) (omega arith))
+  by (Some e) ticks sets = subst (λ (r : Raising). GoesOn r before now) (sym sets) ticks.1
