@@ -27,3 +27,6 @@ pub mod SettledLemmas
 pub mod ReadinessLemmas
 pub mod MarkLemmas
 pub mod TimersLemmas
+pub mod WaitedLemmas
+pub mod ArriveLemmas
+pub mod FewLemmas

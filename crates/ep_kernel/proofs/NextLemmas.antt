@@ -89,7 +89,7 @@ module _ (law : ListsGoOn) (past : List Record) (n : ℕ) (event : Event) (outco
   abbrev t : State
   t = keeps_after.state
 
-  goes : step old.tables.limits s caller.0 event outcome.picked ≡ Some (outcome.answer, t)
+  pub goes : step old.tables.limits s caller.0 event outcome.picked ≡ Some (outcome.answer, t)
   goes =
       let adds = adds_next past old mid noted buried climbed new runs.keeps caller event outcome n at does follows.settles in
       let picked : outcome.picked ≡ adds.picked = ap (λ (r : Record). r.picked) (last_is past _ _ adds.added) in
@@ -102,10 +102,10 @@ module _ (law : ListsGoOn) (past : List Record) (n : ℕ) (event : Event) (outco
   new_is : new ≡ left
   new_is = settled_is n event outcome old mid noted buried climbed new l0 l1 l2 l3 follows
 
-  stands_after : StandFor left t
+  pub stands_after : StandFor left t
   stands_after = subst (λ (p : Parts). StandFor p t) new_is keeps_after.stands
 
-  to_state : (o : Option (Answer × State)) (a b : Answer) (u v : State) → o ≡ Some (a, u) → o ≡ Some (b, v) → u ≡ v
+  pub to_state : (o : Option (Answer × State)) (a b : Answer) (u v : State) → o ≡ Some (a, u) → o ≡ Some (b, v) → u ≡ v
   to_state o a b u v h k = ap (λ (q : Option (Answer × State)). unwrap_or (option_map (λ (r : Answer × State). r.1) q) u) (sym h ∙ k)
 
   -- At an instance that lives at the end.

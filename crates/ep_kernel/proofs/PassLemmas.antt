@@ -44,7 +44,7 @@ module _ (n : ℕ) (raising : Raising) (mid : Parts) (noted : Registrations) (bu
       all_noted n (record mid { interest = noted }) buried (coherent_raised n mid raising noted leaves.coherent leaves.tables leaves.raises leaves.stirs) leaves.burial parked clock sound_buried
       c.1 (settle b c.1 c.2) c.2 settled at stirred_stands
 
-  kept_watches : map (freshened n by_machine) (kernel_watches c.1 (buried_of c.1 c.2).0.watches) ≡ map (watch_at buried.tables.keys) buried.interest.entries
+  pub kept_watches : map (freshened n by_machine) (kernel_watches c.1 (buried_of c.1 c.2).0.watches) ≡ map (watch_at buried.tables.keys) buried.interest.entries
   kept_watches = ap (map (freshened n by_machine)) (kept_filter c.1 (stays_in files) c.1.watches) ∙ left_watches
 
   -- IN reaches from below the same instances

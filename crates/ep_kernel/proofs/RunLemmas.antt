@@ -1,5 +1,5 @@
 -- What holds of the kernel at the start, where an event changes nothing, and over one event.
-use Rattle.std.proofs.Common.{◌≡◌, ◌∙◌, ◌+◌, ◌++◌, ℕ, false, List, [], ◌∷◌, None, Option, Some, ap, filter, length, map, refl, subst, sym, take, unwrap_or}
+use Rattle.std.proofs.Common.{◌≡◌, ◌<◌, ◌∙◌, ◌+◌, ◌++◌, ℕ, false, List, [], ◌∷◌, None, Option, Some, ap, filter, length, map, refl, subst, sym, take, true, unwrap_or}
 use Rattle.std.proofs.lemmas.Bool.{false≢true}
 use Rattle.ep_base.specs.Limits.{Limits}
 use Rattle.ep_base.specs.declared.call.Event.{Event}
@@ -15,17 +15,20 @@ use Rattle.ep_calls.specs.Stands.{number_at}
 use Rattle.ep_calls.specs.declared.outcome.Outcome.{Outcome}
 use Rattle.ep_interest.specs.Registrations.{IsSound, Registrations, entry_under, number_under}
 use Rattle.ep_kernel.proofs.JoinLemmas.{Follows}
-use Rattle.ep_kernel.proofs.NextLemmas.{runs_next}
+use Rattle.ep_kernel.proofs.FewLemmas.{few_reportable}
+use Rattle.ep_kernel.proofs.NextLemmas.{keeps_after, runs_next}
 use Rattle.ep_interest.specs.declared.entry.Entry.{Entry}
 use Rattle.std.specs.Option.{option_map}
 use Rattle.ep_kernel.proofs.ReportsFirstLemmas.{waits_begun}
 use Rattle.ep_kernel.specs.Listed.{AreFair, HavePlaces, key_shows, lists_of, order_at, shows_found}
-use Rattle.ep_kernel.specs.ReadyBook.{ReportsFirst, list_of}
+use Rattle.ep_kernel.specs.ReadyBook.{LeavesReportable, ReportsFirst, WaitsAt, list_of}
 use Rattle.ep_kernel.specs.Running.{Ends, Runs}
 use Rattle.ep_kernel.specs.Turns.{Turns}
 use Rattle.ep_kernel.specs.Wait.{ReportsInOrder}
 use Rattle.ep_law.proofs.GraphLemmas.{graph_stays_legal}
 use Rattle.ep_law.proofs.SoundLemmas.{sound_begun}
+use Rattle.ep_law.specs.Laws.{is_reportable_in}
+use Rattle.ep_machine.specs.Files.{is_live}
 use Rattle.ep_machine.specs.Lists.{is_among}
 use Rattle.ep_machine.specs.Run.{run}
 use Rattle.ep_machine.specs.State.{State, opening}
@@ -145,14 +148,30 @@ module _ (law : ListsGoOn) (past : List Record) (old mid new : Parts) (l0 l1 l3 
   step_on = step_next past old mid ends.noted ends.buried ends.climbed new runs.keeps caller event outcome n at does_at settles
 
   -- it reports in the order of the lists
-  pub first_on : ReportsInOrder l0 n caller.0 event outcome old → ReportsFirst (unwrap_or (run old.tables.limits opening past) opening) caller.0 event outcome.answer outcome.picked (list_of (lists_of old l0))
+  pub first_on : ReportsInOrder l0 n caller.0 event outcome old mid l1 → ReportsFirst (unwrap_or (run old.tables.limits opening past) opening) caller.0 event outcome.answer outcome.picked (list_of (lists_of old l0))
   first_on told =
       let keeps = runs.keeps in
       let s = keeps.state in
       let begins : (next_event s).n ≡ n = ap (λ (k : ℕ). k + 1) keeps.n ∙ sym at in
       let legal = graph_stays_legal old.tables.limits past s keeps.leads in
       let stand : StandFor old (next_event s) = record { now = keeps.stands.now; files = keeps.stands.files; watches = keeps.stands.watches; added = keeps.stands.added; waiters = keeps.stands.waiters } in
-      let first = told (next_event s) begins (sound_begun s keeps.sound) (quiet_begun s keeps.quiet) legal stand in
+      let first = (told (next_event s) begins (sound_begun s keeps.sound) (quiet_begun s keeps.quiet) legal stand).0 in
       subst (λ (u : State). ReportsFirst u caller.0 event outcome.answer outcome.picked (list_of (lists_of old l0))) (sym (state_is past old keeps))
       (λ e most reports is waits. first e most reports is (waits_begun s caller.0 event e most waits)
       ∙ ap (λ (o : Order). take most (filter o.ready (list_of (lists_of old l0) e))) (beginning_keeps_turns s e))
+
+  -- and where it finds few, what it leaves is reportable
+  pub few_on : ReportsInOrder l0 n caller.0 event outcome old mid l1
+      → LeavesReportable (unwrap_or (run old.tables.limits opening past) opening) (unwrap_or (run new.tables.limits opening (past ++ record_of caller event outcome ∷ [])) opening) caller.0 event outcome.answer (list_of (lists_of new l3))
+  few_on told =
+      let keeps = runs.keeps in
+      let s = keeps.state in
+      let begins : (next_event s).n ≡ n = ap (λ (k : ℕ). k + 1) keeps.n ∙ sym at in
+      let legal = graph_stays_legal old.tables.limits past s keeps.leads in
+      let stand : StandFor old (next_event s) = record { now = keeps.stands.now; files = keeps.stands.files; watches = keeps.stands.watches; added = keeps.stands.added; waiters = keeps.stands.waiters } in
+      let leaves = (told (next_event s) begins (sound_begun s keeps.sound) (quiet_begun s keeps.quiet) legal stand).1 in
+      let few = few_reportable law past n event outcome old mid ends.noted ends.buried ends.climbed new l0 l1 ends.between l3 follows caller at runs does_at leaves in
+      let after = keeps_after law past n event outcome old mid ends.noted ends.buried ends.climbed new l0 l1 ends.between l3 follows caller at runs does_at in
+      (λ e most reports is. subst (λ (u : State). (v : State) → v ≡ after.state → WaitsAt u caller.0 event e most → length reports < most → is_live v.files e ≡ true → (k : ℕ) → is_among (list_of (lists_of new l3) e) k ≡ true → is_reportable_in v e k ≡ true) (sym (state_is past old keeps))
+      (λ v same waits short live k on. ap (λ (w : State). is_reportable_in w e k) same ∙ few e most reports is waits short (ap (λ (w : State). is_live w.files e) (sym same) ∙ live) k on)
+      _ (state_is (past ++ record_of caller event outcome ∷ []) new after))

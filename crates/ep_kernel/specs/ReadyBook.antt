@@ -1,5 +1,5 @@
 -- What contracts see of the kernel with ready lists.
-use Rattle.std.specs.Prelude.{◌≡◌, ◌++◌, ◌==◌, List, [], ◌∷◌, MatchBool, Some, filter, if◌then◌else◌, take, true, ℕ}
+use Rattle.std.specs.Prelude.{◌≡◌, ◌<◌, ◌++◌, ◌==◌, List, [], ◌∷◌, MatchBool, Some, filter, if◌then◌else◌, length, take, true, ℕ}
 use Rattle.ep_base.specs.declared.answer.Answer.{Answer}
 use Rattle.ep_base.specs.declared.answer.Answer.TheVariants.{Events}
 use Rattle.ep_base.specs.declared.answer.Report.{Report}
@@ -11,7 +11,8 @@ use Rattle.ep_calls.specs.Acts.{is_no_memory}
 use Rattle.ep_calls.specs.Book.{Book, state_of as state_in}
 use Rattle.ep_law.specs.Laws.{Member, is_reportable_in}
 use Rattle.ep_machine.specs.Bits.{ET, has_bit}
-use Rattle.ep_machine.specs.Files.{named_by}
+use Rattle.ep_machine.specs.Files.{is_live, named_by}
+use Rattle.ep_machine.specs.Lists.{is_among}
 use Rattle.ep_machine.specs.Readiness.{is_fresh}
 use Rattle.ep_machine.specs.State.{State, Waiter, Watch}
 use Rattle.ep_machine.specs.Waits.{waiter_of}
@@ -58,11 +59,19 @@ abbrev pub ReportsFirst : State → ℕ → Event → Answer → List ℕ → (�
 ReportsFirst s caller event answer picked list = (e most : ℕ) (reports : List Report) → answer ≡ Events reports
     → WaitsAt s caller event e most → picked ≡ take most (filter (is_reportable_in s e) (list e))
 
+-- where a wait at instance e is answered with fewer reports than it asked for, what is left on the list of e is reportable, if e
+-- lives on
+abbrev pub LeavesReportable : State → State → ℕ → Event → Answer → (ℕ → List ℕ) → Type 0
+LeavesReportable s t caller event answer list = (e most : ℕ) (reports : List Report) → answer ≡ Events reports
+    → WaitsAt s caller event e most → length reports < most → is_live t.files e ≡ true
+    → (k : ℕ) → is_among (list e) k ≡ true → is_reportable_in t e k ≡ true
+
 -- one record was added, and what its event did to the ready lists
 pub record TurnsLists (caller : CallerId) (event : Event) (answer : Answer) (old new : ReadyBook) : Type 0 where
   pub picked : List ℕ
   pub added : new.book.past ≡ old.book.past ++ record { caller = caller; event = event; answer = answer; picked = picked } ∷ []
   pub first : ReportsFirst (state_of old) caller.0 event answer picked (listed old)
+  pub few : LeavesReportable (state_of old) (state_of new) caller.0 event answer (listed new)
 
 -- want of memory leaves the lists
 abbrev pub ActsOnLists : CallerId → Event → Answer → ReadyBook → ReadyBook → Type 0

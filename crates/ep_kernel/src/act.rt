@@ -44,7 +44,7 @@ fn make_call(
     ensures clock { IfOk result (λ outcome. ClockStays outcome.raising parts.old.clock parts.new.clock) }
     ensures kept { IfOk result (λ outcome. KeepsCall call.now request.kept outcome) }
     ensures turns { IfOk result (λ outcome. Turns (CallOf pid call.now) outcome.picked parts.old lists.old parts.new lists.new) }
-    ensures order { IfOk result (λ outcome. ReportsInOrder lists.old request.step request.caller.0 (CallOf pid call.now) outcome parts.old) }
+    ensures order { IfOk result (λ outcome. ReportsInOrder lists.old request.step request.caller.0 (CallOf pid call.now) outcome parts.old parts.new lists.new) }
     ensures err { OnErr result ((parts.new ≡ parts.old) × Same lists.old lists.new) }
 {
     match *call {
@@ -100,7 +100,7 @@ pub fn act(
     ensures clock { IfOk result (λ outcome. MovesClock event.now outcome.raising parts.old.clock parts.new.clock) }
     ensures kept { IfOk result (λ outcome. KeepsEvent event.now kept outcome) }
     ensures turns { IfOk result (λ outcome. Turns event.now outcome.picked parts.old lists.old parts.new lists.new) }
-    ensures order { IfOk result (λ outcome. ReportsInOrder lists.old step caller.0 event.now outcome parts.old) }
+    ensures order { IfOk result (λ outcome. ReportsInOrder lists.old step caller.0 event.now outcome parts.old parts.new lists.new) }
     ensures err { OnErr result ((parts.new ≡ parts.old) × Same lists.old lists.new) }
 {
     match event {

@@ -45,7 +45,7 @@ pub fn epoll_wait(
     ensures leaves { IfOk result (λ outcome. LeavesFiles outcome.raising parts.old parts.new) }
     ensures kept { IfOk result (λ outcome. IsKept args.kept outcome) }
     ensures turns { IfOk result (λ outcome. Turns (CallOf args.pid (wait_call args)) outcome.picked parts.old lists.old parts.new lists.new) }
-    ensures order { IfOk result (λ outcome. ReportsInOrder lists.old step caller.0 (CallOf args.pid (wait_call args)) outcome parts.old) }
+    ensures order { IfOk result (λ outcome. ReportsInOrder lists.old step caller.0 (CallOf args.pid (wait_call args)) outcome parts.old parts.new lists.new) }
     ensures err { OnErr result (parts.new ≡ parts.old) }
     ensures err_lists { OnErr result (lists.new ≡ lists.old) }
 {
@@ -79,7 +79,7 @@ pub fn resume(
     ensures leaves { IfOk result (λ outcome. LeavesFiles outcome.raising parts.old parts.new) }
     ensures kept { IfOk result (λ outcome. IsKept kept outcome) }
     ensures turns { IfOk result (λ outcome. Turns Resume outcome.picked parts.old lists.old parts.new lists.new) }
-    ensures order { IfOk result (λ outcome. ReportsInOrder lists.old step caller.0 Resume outcome parts.old) }
+    ensures order { IfOk result (λ outcome. ReportsInOrder lists.old step caller.0 Resume outcome parts.old parts.new lists.new) }
     ensures err { OnErr result (parts.new ≡ parts.old) }
     ensures err_lists { OnErr result (lists.new ≡ lists.old) }
 {

@@ -72,23 +72,23 @@ returns-in-Tick-clause-turns c =
     (subst (λ (event : Event). AlteredStand event p q l) (sym c.in-Tick.is) tt)
 
 pub returns-then-not-has_process-clause-order : goal.returns-then-not-has_process-clause-order
-returns-then-not-has_process-clause-order c = refused_reports c.args.lists.now c.args.step c.args.caller.0 c.args.event.now c.refused.result c.args.parts.now Esrch c.refused.ensures.answer
+returns-then-not-has_process-clause-order c = refused_reports c.args.lists.now c.args.step c.args.caller.0 c.args.event.now c.refused.result c.args.parts.now c.args.parts.now c.args.lists.now Esrch c.refused.ensures.answer
 
 pub returns-then-is_parked-clause-order : goal.returns-then-is_parked-clause-order
-returns-then-is_parked-clause-order c = refused_reports c.args.lists.now c.args.step c.args.caller.0 c.args.event.now c.refused-then-is_parked.result c.args.parts.now Ebusy c.refused-then-is_parked.ensures.answer
+returns-then-is_parked-clause-order c = refused_reports c.args.lists.now c.args.step c.args.caller.0 c.args.event.now c.refused-then-is_parked.result c.args.parts.now c.args.parts.now c.args.lists.now Ebusy c.refused-then-is_parked.ensures.answer
 
 pub returns-else-is_parked-clause-order : goal.returns-else-is_parked-clause-order
 returns-else-is_parked-clause-order c =
     let p = c.args.parts.now in
-    IfOk-weaker c.make_call.result _ _ (λ outcome told. subst (λ (event : Event). ReportsInOrder c.args.lists.now c.args.step c.args.caller.0 event outcome p) (sym c.in-Call.is) told) c.make_call.ensures.order
+    IfOk-weaker c.make_call.result _ _ (λ outcome told. subst (λ (event : Event). ReportsInOrder c.args.lists.now c.args.step c.args.caller.0 event outcome p c.make_call.new.parts c.make_call.new.lists) (sym c.in-Call.is) told) c.make_call.ensures.order
 
 pub returns-in-Tick-clause-order : goal.returns-in-Tick-clause-order
-returns-in-Tick-clause-order c = other_reports c.args.lists.now c.args.step c.args.caller.0 c.args.event.now c.tick.result c.args.parts.now (ap is_wait c.in-Tick.is)
+returns-in-Tick-clause-order c = other_reports c.args.lists.now c.args.step c.args.caller.0 c.args.event.now c.tick.result c.args.parts.now c.tick.new.self c.args.lists.now (ap is_wait c.in-Tick.is)
 
 pub returns-in-Resume-clause-order : goal.returns-in-Resume-clause-order
 returns-in-Resume-clause-order c =
     let p = c.args.parts.now in
-    IfOk-weaker c.resume.result _ _ (λ outcome told. subst (λ (event : Event). ReportsInOrder c.args.lists.now c.args.step c.args.caller.0 event outcome p) (sym c.in-Resume.is) told) c.resume.ensures.order
+    IfOk-weaker c.resume.result _ _ (λ outcome told. subst (λ (event : Event). ReportsInOrder c.args.lists.now c.args.step c.args.caller.0 event outcome p c.resume.new.parts c.resume.new.lists) (sym c.in-Resume.is) told) c.resume.ensures.order
 
 pub returns-then-not-has_process-clause-tables : goal.returns-then-not-has_process-clause-tables
 returns-then-not-has_process-clause-tables c =

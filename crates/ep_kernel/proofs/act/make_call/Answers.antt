@@ -32,7 +32,7 @@ returns-in_default c =
       tables = IfOk-weaker c.table_call.result _ _ (λ outcome did. as_table c.args.pid.0 call outcome.answer p c.table_call.new.self on_tables did) c.table_call.ensures.tables;
       clock = c.table_call.ensures.clock;
       turns = IfOk-weaker c.table_call.result _ _ (λ outcome none. same_turns (CallOf c.args.pid call) outcome.picked p c.table_call.new.self l c.requires.listed c.table_call.ensures.interest none (table_altered c.args.pid call p c.table_call.new.self l on_tables)) c.table_call.ensures.picked;
-      order = IfOk-weaker c.table_call.result _ _ (λ outcome none. other_reports l c.args.request.step c.args.request.caller.0 (CallOf c.args.pid call) outcome p (table_waits c.args.pid call on_tables)) c.table_call.ensures.picked;
+      order = IfOk-weaker c.table_call.result _ _ (λ outcome none. other_reports l c.args.request.step c.args.request.caller.0 (CallOf c.args.pid call) outcome p c.table_call.new.self l (table_waits c.args.pid call on_tables)) c.table_call.ensures.picked;
       err = on_err_weaker c.table_call.result (λ same. (same, same_lists l)) c.table_call.ensures.err;
     }
 
@@ -68,12 +68,12 @@ pub returns-in-Read-clause-order : goal.returns-in-Read-clause-order
 returns-in-Read-clause-order c =
     let call = c.args.call.now in
     let on_object : IsSome (fd_of call) = search rules in
-    IfOk-weaker c.object_call.result _ _ (λ outcome none. other_reports c.args.lists.now c.args.request.step c.args.request.caller.0 (CallOf c.args.pid call) outcome c.args.parts.now (object_waits c.args.pid call on_object)) c.object_call.ensures.picked
+    IfOk-weaker c.object_call.result _ _ (λ outcome none. other_reports c.args.lists.now c.args.request.step c.args.request.caller.0 (CallOf c.args.pid call) outcome c.args.parts.now c.object_call.new.self c.args.lists.now (object_waits c.args.pid call on_object)) c.object_call.ensures.picked
 
 pub returns-in-EpollCtl-clause-order : goal.returns-in-EpollCtl-clause-order
 returns-in-EpollCtl-clause-order c =
     let call = c.args.call.now in
-    IfOk-weaker c.epoll_ctl.result _ _ (λ outcome turns. other_reports c.args.lists.now c.args.request.step c.args.request.caller.0 (CallOf c.args.pid call) outcome c.args.parts.now (ap (λ (k : Call). is_wait (CallOf c.args.pid k)) c.in-EpollCtl.is)) c.epoll_ctl.ensures.turns
+    IfOk-weaker c.epoll_ctl.result _ _ (λ outcome turns. other_reports c.args.lists.now c.args.request.step c.args.request.caller.0 (CallOf c.args.pid call) outcome c.args.parts.now c.epoll_ctl.new.parts c.epoll_ctl.new.lists (ap (λ (k : Call). is_wait (CallOf c.args.pid k)) c.in-EpollCtl.is)) c.epoll_ctl.ensures.turns
 
 pub returns-in-EpollWait-clause-order : goal.returns-in-EpollWait-clause-order
 returns-in-EpollWait-clause-order c =
@@ -82,7 +82,7 @@ returns-in-EpollWait-clause-order c =
     let max : SFits w32 x.max = search rules in
     let timeout : SFits w64 x.timeout = search rules in
     IfOk-weaker c.epoll_wait.result _ _ (λ outcome told.
-    let P : Call → Type 0 = λ call. ReportsInOrder c.args.lists.now c.args.request.step c.args.request.caller.0 (CallOf c.args.pid call) outcome p in
+    let P : Call → Type 0 = λ call. ReportsInOrder c.args.lists.now c.args.request.step c.args.request.caller.0 (CallOf c.args.pid call) outcome p c.epoll_wait.new.parts c.epoll_wait.new.lists in
     subst P (sym x.is)
     (subst (λ (z : ℤ). P (EpollWait x.epfd x.max z)) (to_z-of_z w64 x.timeout timeout)
     (subst (λ (z : ℤ). P (EpollWait x.epfd z (to_z w64 (of_z w64 x.timeout)))) (to_z-of_z w32 x.max max) told))) c.epoll_wait.ensures.order

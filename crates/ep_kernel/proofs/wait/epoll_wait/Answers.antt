@@ -58,7 +58,7 @@ returns-clause-turns c =
 
 pub returns-in-Err-clause-order : goal.returns-in-Err-clause-order
 returns-in-Err-clause-order c =
-    refused_reports c.args.lists.now c.args.step c.args.caller.0 (CallOf c.args.args.pid (wait_call c.args.args)) c.refused.result c.args.parts.now c.in-Err.errno c.refused.ensures.answer
+    refused_reports c.args.lists.now c.args.step c.args.caller.0 (CallOf c.args.args.pid (wait_call c.args.args)) c.refused.result c.args.parts.now c.args.parts.now c.args.lists.now c.in-Err.errno c.refused.ensures.answer
 
 pub returns-clause-order : goal.returns-clause-order
 returns-clause-order c =
@@ -73,7 +73,8 @@ returns-clause-order c =
     let sound = subst (λ (q : Parts). IsSound q.interest) c.parts.view_is c.known-2.ensures in
     let waits = subst (λ (q : Parts). Waits q.tables x i) c.parts.view_is c.in-Ok.ensures in
     first_reported l c.args.step c.args.caller.0 (CallOf x.pid (wait_call x)) c.in_ok-outcome.outcome p i (number_in x.max) walked chosen c.known.ensures.coherent c.known.ensures.sound sound c.known-3.ensures c.requires.listed waits.lives finds c.in_ok-outcome.ensures.picked
-    (waits_at_named p c.args.caller.0 x i waits)
+    (waits_at_named p c.args.caller.0 x i waits) c.wait_with.new.self c.take.new.lists
+    (subst (λ (r : Parts). SetsList l c.take.new.lists i.0 (taken (key_stays c.args.step r.interest) walked (list_at l i.0))) c.parts-2.view_is c.take.ensures)
 
 pub returns-in-Err-clause-leaves : goal.returns-in-Err-clause-leaves
 returns-in-Err-clause-leaves c = nowhere_leaves c.refused.result.raising c.args.parts.now c.refused.ensures.raising

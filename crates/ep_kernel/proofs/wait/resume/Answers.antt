@@ -101,10 +101,10 @@ returns-clause-turns c =
     }) Resume tt
 
 pub returns-in_default-clause-order : goal.returns-in_default-clause-order
-returns-in_default-clause-order c = refused_reports c.args.lists.now c.args.step c.args.caller.0 Resume c.refused.result c.args.parts.now Einval c.refused.ensures.answer
+returns-in_default-clause-order c = refused_reports c.args.lists.now c.args.step c.args.caller.0 Resume c.refused.result c.args.parts.now c.args.parts.now c.args.lists.now Einval c.refused.ensures.answer
 
 pub returns-then-not-waiter-clause-order : goal.returns-then-not-waiter-clause-order
-returns-then-not-waiter-clause-order c = still_reports c.args.lists.now c.args.step c.args.caller.0 Resume c.settled.result c.args.parts.now c.settled.ensures.answer
+returns-then-not-waiter-clause-order c = still_reports c.args.lists.now c.args.step c.args.caller.0 Resume c.settled.result c.args.parts.now c.args.parts.now c.args.lists.now c.settled.ensures.answer
 
 pub returns-clause-order : goal.returns-clause-order
 returns-clause-order c =
@@ -123,7 +123,8 @@ returns-clause-order c =
     (found_all (IsPlaced k.tables.keys) caller k.waiters (parked caller w) (sym c.in-Some.ensures) c.parts.invariant.placed) in
     let waits = subst (λ (q : Parts). find (is_caller caller) q.parked ≡ Some (parked caller w)) c.parts.view_is (sym c.in-Some.ensures) in
     first_reported l c.args.step caller Resume c.in_ok-outcome.outcome p i (number_in w.max) walked chosen c.known.ensures.coherent c.known.ensures.sound sound c.known-3.ensures c.requires lives.instance finds c.in_ok-outcome.ensures.picked
-    (waits_at_parked p caller w waits)
+    (waits_at_parked p caller w waits) c.resume_with.new.self c.take.new.lists
+    (subst (λ (r : Parts). SetsList l c.take.new.lists i.0 (taken (key_stays c.args.step r.interest) walked (list_at l i.0))) c.parts-2.view_is c.take.ensures)
 
 pub returns-in_default-clause-leaves : goal.returns-in_default-clause-leaves
 returns-in_default-clause-leaves c = nowhere_leaves c.refused.result.raising c.args.parts.now c.refused.ensures.raising
