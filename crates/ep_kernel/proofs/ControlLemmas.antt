@@ -1,5 +1,5 @@
 -- What an epoll_ctl leaves of the ready lists.
-use Rattle.std.proofs.Common.{◌≡◌, ◌≢◌, ◌++◌, ◌&&◌, ◌||◌, ◌==◌, ◌∙◌, ℕ, ℤ, Bool, true, false, IsSome, List, [], ◌∷◌, None, Option, Some, ap, append-nil, cond, filter, inl, inr, not, pos, refl, subst, sym, unwrap_or}
+use Rattle.std.proofs.Common.{◌≡◌, ◌≢◌, ◌++◌, ◌&&◌, ◌||◌, ◌⊎◌, ◌==◌, ◌∙◌, ℕ, ℤ, Bool, true, false, IsSome, List, [], ◌∷◌, None, Option, Some, ap, append-nil, cond, filter, inl, inr, not, pos, refl, subst, sym, unwrap_or}
 use Rattle.std.specs.List.{list_any}
 use Rattle.std.specs.Option.{option_map}
 use Rattle.std.specs.Ordering.{int_eq}
@@ -25,11 +25,15 @@ use Rattle.ep_interest.specs.declared.entry.Entry.{Entry}
 use Rattle.ep_kernel.specs.Control.{Settles, is_at_instance}
 use Rattle.ep_kernel.specs.Listed.{HavePlaces, IsListed, key_shows, may_stand, shows_found}
 use Rattle.ep_kernel.specs.Push.{Gains, is_home}
-use Rattle.ep_kernel.specs.Turns.{Turns}
+use Rattle.ep_kernel.specs.Turns.{IsAlteredKey, Turns}
 use Rattle.ep_kernel.proofs.EntryLemmas.{holds_under, is_under}
 use Rattle.ep_kernel.proofs.PushLemmas.{gains_none, gains_one, gains_same, have_still}
 use Rattle.ep_kernel.proofs.SetLemmas.{Clears, Sets, apart_nat, some_of}
-use Rattle.ep_law.proofs.TestLemmas.{from_test, same_nat}
+use Rattle.ep_calls.proofs.FindLemmas.{each_numbered}
+use Rattle.ep_kernel.proofs.SurvivalLemmas.{or_cases}
+use Rattle.ep_law.proofs.ListLemmas.{all_member, among_split, any_member, filtered_member, filtered_passes}
+use Rattle.ep_law.proofs.TestLemmas.{both_true, from_test, or_right, same_nat}
+use Rattle.std.proofs.lemmas.List.Elements.{All-from_recursion}
 use Rattle.ep_machine.specs.Files.{named_by}
 use Rattle.ep_machine.specs.Lists.{is_among}
 use Rattle.ep_machine.specs.Watches.{is_del}
@@ -78,6 +82,7 @@ module _ (pid : Pid) (args : Control) (p q : Parts) (l m : Lists) (listed : IsLi
     keeps = λ k. true;
     more = λ i. [];
     lists = λ i. sym (same.lists i) ∙ sym (append-nil (filter (λ k. true) (list_at l i)) ∙ all_kept (list_at l i));
+    comes = λ i k on. absurd (false≢true on);
     unpicked = λ i k x h u t. refl;
     leaves = λ i k x h u f s. absurd (false≢true (sym f));
     again = λ k x u f s. absurd (false≢true f);
@@ -144,6 +149,12 @@ keyed_named named fd x is =
     (λ i. is.instance i == named.instance.0 && int_eq (is.fd i) fd.0 && is.desc i == named.desc.0)
     ∙ (λ i. same_nat named.instance.0 i && same_int fd.0 i && same_nat named.desc.0 i)
 
+keyed_by : (named : Named) (fd : Fd) (x : Entry) → has_key named.instance fd named.desc x ≡ true → IsNamed named fd x
+keyed_by named fd x h =
+    let two = both_true (x.instance.0 == named.instance.0 && int_eq x.fd.0 fd.0) (x.desc.0 == named.desc.0) h in
+    let one = both_true (x.instance.0 == named.instance.0) (int_eq x.fd.0 fd.0) two.0 in
+    record { instance = from_test x.instance.0 named.instance.0 one.0; fd = (Decides-int_eq x.fd.0 fd.0).0 one.1; desc = from_test x.desc.0 named.desc.0 two.1 }
+
 one_named : (named : Named) (fd : Fd) (x y : Entry) → IsNamed named fd x → IsNamed named fd y → has_key y.instance y.fd y.desc x ≡ true
 one_named named fd x y a b =
     (λ i. (a.instance ∙ sym b.instance) i == y.instance.0 && int_eq ((a.fd ∙ sym b.fd) i) y.fd.0 && (a.desc ∙ sym b.desc) i == y.desc.0)
@@ -153,7 +164,7 @@ one_named named fd x y a b =
 module _ (pid : Pid) (args : Control) (p q : Parts) (l mid m : Lists) (listed : IsListed p l) (tables : q.tables ≡ p.tables) (sound : Sound p.tables) (linked : AreLinked q.tables q.interest) (is : IsSound q.interest)
     (named : Named) (names : Names p.tables pid.0 args.epfd.0 args.fd.0 named) (id : EntryId) (y : Entry) (sets : Sets p.interest q.interest id y) (may : may_stand y ≡ true) (keyed : IsNamed named args.fd y)
     (lists : (i : ℕ) → list_at mid i ≡ list_at l i) (have : HavePlaces q.interest mid) (raising : Raising) (raises : raising ≡ raising_of_ctl q.tables q.clock q.interest named args.fd)
-    (settles : MatchBool (is_at_instance raising) (Gains (λ k. k == id.0) mid m) (m ≡ mid))
+    (settles : MatchBool (is_at_instance raising) (Gains (λ k. k == id.0) mid m) (m ≡ mid)) (keeps : is_del args.op ≡ false)
   where
     abbrev comes : ℕ → Bool
     comes k = k == id.0 && is_at_instance raising
@@ -201,11 +212,45 @@ module _ (pid : Pid) (args : Control) (p q : Parts) (l mid m : Lists) (listed : 
         ∙ (ap (λ (j : ℕ). stands mid (entry_id k) || j == id.0 && true) (at_id k x u n)
         ∙ (ap (λ (b : Bool). stands mid (entry_id k) || b && true) (same_nat id.0) ∙ or_true (stands mid (entry_id k)))))
 
+    -- what comes, is this one
+    shows_raised : is_at_instance raising ≡ true → key_shows q id.0 ≡ true
+    shows_raised at_instance = by (list_any (entry_shows (readiness q.tables q.clock q.interest) q.tables q.clock) (filter (has_key named.instance args.fd named.desc) q.interest.entries)) refl (ap is_at_instance (sym raises) ∙ at_instance) where
+      by : (b : Bool) → list_any (entry_shows (readiness q.tables q.clock q.interest) q.tables q.clock) (filter (has_key named.instance args.fd named.desc) q.interest.entries) ≡ b → is_at_instance (cond b (Instance named.instance) Nowhere) ≡ true → key_shows q id.0 ≡ true
+      by false h t = absurd (false≢true t)
+      by true h t =
+          let x = any_member (entry_shows (readiness q.tables q.clock q.interest) q.tables q.clock) (filter (has_key named.instance args.fd named.desc) q.interest.entries) h in
+          let there = filtered_member (has_key named.instance args.fd named.desc) q.interest.entries x.0 x.1 in
+          let found = all_member (λ (z : Entry). numbered q.interest.entries z.number ≡ Some z) q.interest.entries x.0 (All-from_recursion (λ (z : Entry). numbered q.interest.entries z.number ≡ Some z) q.interest.entries (each_numbered 0 q.interest.entries is.rises)) there in
+          let here = is_under q.interest id y sets.here in
+          let named_too = keyed_by named args.fd x.0 (filtered_passes (has_key named.instance args.fd named.desc) q.interest.entries x.0 x.1) in
+          let number : y.number ≡ x.0.number = is.apart y.number x.0.number y x.0 here.there found (one_named named args.fd x.0 y named_too keyed) in
+          let same : Some y ≡ Some x.0 = sym here.there ∙ (ap (numbered q.interest.entries) number ∙ found) in
+          ap (shows_found q) (sets.here ∙ same) ∙ x.2
+
+    come_named : (i k : ℕ) → is_among (gains.more i) k ≡ true → (is_among (list_at l i) k ≡ true) ⊎ IsAlteredKey (CallOf pid (control_call args)) p q k
+    come_named i k on = elim (or_cases (is_among (list_at mid i) k) (comes k && is_home i (instance_at mid (entry_id k))) (sym (gains.each i k) ∙ (ap (λ (ks : List ℕ). is_among ks k) (gains.lists i) ∙ (among_split (list_at mid i) (gains.more i) k ∙ or_right (is_among (list_at mid i) k) _ on)))) [
+      | inl stood_there ↦ inl (ap (λ (ks : List ℕ). is_among ks k) (sym (lists i)) ∙ stood_there)
+      | inr came ↦
+          let two = both_true (k == id.0) (is_at_instance raising) (both_true (comes k) (is_home i (instance_at mid (entry_id k))) came).0 in
+          let key : k ≡ id.0 = from_test k id.0 two.0 in
+          inr (λ x u.
+          let same : Some x ≡ Some y = sym u ∙ (ap (λ (m : ℕ). entry_under q.interest (record { 0 = m })) key ∙ sets.here) in
+          let here : x ≡ y = ap (λ (o : Option Entry). unwrap_or o x) same in
+          let descriptor : x.fd.0 ≡ args.fd.0 = ap (λ (z : Entry). z.fd.0) here ∙ keyed.fd in (
+            keeps,
+            ((λ j. number_at (tables j).keys (record { 0 = (ap (λ (z : Entry). z.instance.0) here ∙ keyed.instance) j })) ∙ ap (λ (o : Option ℕ). unwrap_or o 0) names.instance),
+            (λ j. record { 0 = descriptor j }),
+            ((λ j. number_at (tables j).keys (record { 0 = (ap (λ (z : Entry). z.desc.0) here ∙ keyed.desc) j })) ∙ ap (λ (o : Option ℕ). unwrap_or o 0) names.desc),
+            ap (key_shows q) key ∙ shows_raised two.1,
+          ))
+    ]
+
     pub turns_set : Turns (CallOf pid (control_call args)) [] p l q m
     turns_set = record {
       keeps = λ k. true;
       more = gains.more;
       lists = λ i. gains.lists i ∙ ap (λ (ks : List ℕ). ks ++ gains.more i) (lists i ∙ sym (all_kept (list_at l i)));
+      comes = come_named;
       unpicked = λ i k x h u t. refl;
       leaves = λ i k x h u f s. absurd (false≢true (sym f));
       again = λ k x u f s. absurd (false≢true f);
@@ -249,6 +294,7 @@ module _ (pid : Pid) (args : Control) (p q : Parts) (l m : Lists) (listed : IsLi
     keeps = λ k. not (k == id.0);
     more = λ i. [];
     lists = λ i. loses.lists i ∙ sym (append-nil (filter (λ k. not (k == id.0)) (list_at l i)));
+    comes = λ i k on. absurd (false≢true on);
     unpicked = λ i k x h u t. refl;
     leaves = λ i k x h u f s. inr (ap (λ (n : ℕ). number_under q.interest (record { 0 = n })) (from_test k id.0 (not_false (k == id.0) f)) ∙ clears.gone);
     again = λ k x u f s. absurd (false≢true f);

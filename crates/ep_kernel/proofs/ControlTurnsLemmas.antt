@@ -32,6 +32,7 @@ use Rattle.ep_kernel.proofs.PlacesLemmas.{loses_nothing}
 use Rattle.ep_kernel.proofs.SetLemmas.{Sets, clears_deleted, renewed, sets_added, sets_modified, some_of}
 use Rattle.ep_law.proofs.TestLemmas.{from_test}
 use Rattle.ep_machine.specs.Bits.{ET, has_bit}
+use Rattle.ep_machine.specs.Watches.{is_del}
 use Rattle.ep_ready.specs.ReadyLists.{GainsPlace, IsSound as AreSound, Lists, LosesPlace, Same, instance_at}
 use Rattle.ep_table.specs.Value.{Sound}
 
@@ -159,20 +160,20 @@ module _ (pid : Pid) (args : Control) (plan : Plan) (outcome : Outcome) (p q : P
         | inr ne ↦ listed.places k ∙ ap (option_map (λ (z : Entry). z.instance.0)) (sym (sets.others k ne))
       ]
 
-      changed : is_done outcome.answer ≡ true → Changes Modify (Some id) plan.named args p.interest q.interest → Done m
-      changed h changes =
+      changed : plan.operation ≡ Modify → is_done outcome.answer ≡ true → Changes Modify (Some id) plan.named args p.interest q.interest → Done m
+      changed of h changes =
           let y : Entry = renewed args.mask args.tag there.it in
           let sets = sets_modified p.interest q.interest was id there.it there.here args.mask args.tag changes.0 changes.1 in
           let named : IsNamed plan.named args.fd y = record { instance = there.named.instance; fd = there.named.fd; desc = there.named.desc } in
           let settled : Settles id (Some y) outcome.raising l m = subst (λ (o : Option Entry). Settles id o outcome.raising l m) sets.here settles in
           subst (λ (ks : List ℕ). Turns (CallOf pid (control_call args)) ks p l q m) (sym controls.picked)
-          (turns_set pid args p q l l m listed controls.tables sound coherent.linked is plan.named plans.names id y sets (or_true (not (has_bit args.mask.0 ET))) named (λ i. refl) (modified_places sets) outcome.raising (raises h) settled)
+          (turns_set pid args p q l l m listed controls.tables sound coherent.linked is plan.named plans.names id y sets (or_true (not (has_bit args.mask.0 ET))) named (λ i. refl) (modified_places sets) outcome.raising (raises h) settled (ap is_del (plans.code ∙ ap code_of of)))
 
       by_case : (b : Bool) → is_done outcome.answer ≡ b → (op : Operation) → plan.operation ≡ op → MatchBool b (Changes op (Some id) plan.named args p.interest q.interest) (q.interest ≡ p.interest) → Done m
       by_case false h op of changes = refused h changes
       by_case true h Add of changes = absurd changes
       by_case true h Delete of changes = deleted of changes
-      by_case true h Modify of changes = changed h changes
+      by_case true h Modify of changes = changed of h changes
 
       pub turns_altered : Done m
       turns_altered = by_case (is_done outcome.answer) refl plan.operation refl (subst (λ (o : Option EntryId). MatchBool (is_done outcome.answer) (Changes plan.operation o plan.named args p.interest q.interest) (q.interest ≡ p.interest)) found controls.interest)
@@ -205,7 +206,7 @@ module _ (pid : Pid) (args : Control) (plan : Plan) (outcome : Outcome) (p q : P
             let named : IsNamed plan.named args.fd y = record { instance = refl; fd = refl; desc = refl } in
             let settled : Settles id (Some y) outcome.raising mid m = subst (λ (o : Option Entry). Settles id o outcome.raising mid m) sets.here settles in
             subst (λ (ks : List ℕ). Turns (CallOf pid (control_call args)) ks p l q m) (sym controls.picked)
-            (turns_set pid args p q l mid m listed controls.tables sound coherent.linked is plan.named plans.names id y sets (or_true (not (has_bit args.mask.0 ET))) named gains.lists (added_places sets) outcome.raising (raises h) settled)
+            (turns_set pid args p q l mid m listed controls.tables sound coherent.linked is plan.named plans.names id y sets (or_true (not (has_bit args.mask.0 ET))) named gains.lists (added_places sets) outcome.raising (raises h) settled (ap is_del (plans.code ∙ ap code_of adds)))
 
         add_case : (b : Bool) → is_done outcome.answer ≡ b → MatchBool b (Changes Add None plan.named args p.interest q.interest) (q.interest ≡ p.interest) → Done m
         add_case true h changes = added h changes

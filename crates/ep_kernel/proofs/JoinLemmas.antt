@@ -166,7 +166,7 @@ module _ (n : ℕ) (event : Event) (outcome : Outcome) (old mid noted buried cli
       ]
 
   -- and before it, or is the one that was added
-  old_number : (k m : ℕ) → number_under climbed.interest (entry_id k) ≡ Some m → (number_under old.interest (entry_id k) ≡ Some m) ⊎ ((number_under old.interest (entry_id k) ≡ None) × (m ≡ old.interest.added + 1))
+  pub old_number : (k m : ℕ) → number_under climbed.interest (entry_id k) ≡ Some m → (number_under old.interest (entry_id k) ≡ Some m) ⊎ ((number_under old.interest (entry_id k) ≡ None) × (m ≡ old.interest.added + 1))
   old_number k m h = follows.turns.ids (entry_id k) m (mid_number k m h)
 
   -- what has a registration at the end, did not die

@@ -30,3 +30,4 @@ pub mod TimersLemmas
 pub mod WaitedLemmas
 pub mod ArriveLemmas
 pub mod FewLemmas
+pub mod AddedLemmas

@@ -4,8 +4,8 @@ use Rattle.std.proofs.lemmas.Bool.{cases_Bool, false≢true}
 use Rattle.ep_base.specs.declared.ids.DescId.{DescId}
 use Rattle.ep_calls.proofs.KeyLemmas.{under_key}
 use Rattle.ep_calls.specs.Moves.{StandFor}
-use Rattle.ep_calls.specs.Parts.{AreCoherent, Parts}
-use Rattle.ep_calls.specs.Stands.{IsLinked, number_at, watch_at}
+use Rattle.ep_calls.specs.Parts.{Parts}
+use Rattle.ep_calls.specs.Stands.{AreLinked, IsLinked, number_at, watch_at}
 use Rattle.ep_interest.specs.Registrations.{IsSound, entry_found, entry_under}
 use Rattle.ep_interest.specs.declared.entry.Entry.{Entry}
 use Rattle.ep_kernel.proofs.EntryLemmas.{holds_under, is_under}
@@ -137,21 +137,21 @@ edge_fresh : (edge fresh : Bool) → (not edge || fresh) ≡ true → edge ≡ t
 edge_fresh true fresh h t = h
 edge_fresh false fresh h t = absurd (false≢true t)
 
-module _ (p : Parts) (l : Lists) (s : State) (stands_for : StandFor p s) (coherent : AreCoherent p) (tables : SoundTables p.tables) (sound : IsSound p.interest) (lists : AreSoundLists l) (fits : IsListed p l) where
+module _ (p : Parts) (l : Lists) (s : State) (stands_for : StandFor p s) (linked : AreLinked p.tables p.interest) (tables : SoundTables p.tables) (sound : IsSound p.interest) (lists : AreSoundLists l) (fits : IsListed p l) where
   pub complete_listed : (e k : ℕ) → is_reportable_in s e k ≡ true → is_among (list_of (lists_of p l) e) k ≡ true
   complete_listed e k r =
       let w = shown_of p s stands_for sound e k r in
       let key = sound.has_one k w.x w.there in
       let under : entry_under p.interest (entry_id key.0.0) ≡ Some w.x = ap (entry_found p.interest.entries) key.1 ∙ w.there in
-      let link = holds_under (IsLinked p.tables.keys) p.interest (entry_id key.0.0) w.x coherent.linked under in
+      let link = holds_under (IsLinked p.tables.keys) p.interest (entry_id key.0.0) w.x linked under in
       let i = w.x.instance in
       let u = under_key p.tables.keys i link.instance in
-      let complete = subst (λ (d : ℕ). IsComplete (turns_of s d) (order_at p.interest l i.0)) w.instance (complete_order p s stands_for sound coherent.linked tables l fits.places fits.complete i link.instance) in
+      let complete = subst (λ (d : ℕ). IsComplete (turns_of s d) (order_at p.interest l i.0)) w.instance (complete_order p s stands_for sound linked tables l fits.places fits.complete i link.instance) in
       ap (λ (ks : List ℕ). is_among ks k) (listed_of p l tables i e (number_is _ u.number e u.is w.instance)) ∙ complete k r
 
   pub once_listed : (e : ℕ) → are_distinct (list_of (lists_of p l) e) ≡ true
   once_listed e = elim (listed_by p l tables e) [
-    | inl w ↦ ap are_distinct (listed_of p l tables w.0 e w.1) ∙ distinct_order p s stands_for sound coherent.linked tables l fits.places lists w.0.0
+    | inl w ↦ ap are_distinct (listed_of p l tables w.0 e w.1) ∙ distinct_order p s stands_for sound linked tables l fits.places lists w.0.0
     | inr none ↦ ap are_distinct none
   ]
 
@@ -166,7 +166,7 @@ module _ (p : Parts) (l : Lists) (s : State) (stands_for : StandFor p s) (cohere
   at_key i e n at on =
       let w = number_member p.interest (list_at l i.0) n (among_member (order_at p.interest l i.0) n on) in
       let k = w.0 in
-      let x = entry_at p s stands_for sound coherent.linked tables l fits.places lists i.0 k w.1 in
+      let x = entry_at p s stands_for sound linked tables l fits.places lists i.0 k w.1 in
       let there = among k (list_at l i.0) w.1 in
       let stood : stands l (entry_id k) ≡ true = ap (stands_by l k) (lists.own i.0 (entry_id k) there) ∙ there in
       let may = both_true x.0.armed (not (has_bit x.0.mask.0 ET) || x.0.fresh) (fits.sound (entry_id k) x.0 x.1 stood) in

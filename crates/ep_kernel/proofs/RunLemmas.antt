@@ -15,13 +15,14 @@ use Rattle.ep_calls.specs.Stands.{number_at}
 use Rattle.ep_calls.specs.declared.outcome.Outcome.{Outcome}
 use Rattle.ep_interest.specs.Registrations.{IsSound, Registrations, entry_under, number_under}
 use Rattle.ep_kernel.proofs.JoinLemmas.{Follows}
+use Rattle.ep_kernel.proofs.AddedLemmas.{all_added}
 use Rattle.ep_kernel.proofs.FewLemmas.{few_reportable}
 use Rattle.ep_kernel.proofs.NextLemmas.{keeps_after, runs_next}
 use Rattle.ep_interest.specs.declared.entry.Entry.{Entry}
 use Rattle.std.specs.Option.{option_map}
 use Rattle.ep_kernel.proofs.ReportsFirstLemmas.{waits_begun}
 use Rattle.ep_kernel.specs.Listed.{AreFair, HavePlaces, key_shows, lists_of, order_at, shows_found}
-use Rattle.ep_kernel.specs.ReadyBook.{LeavesReportable, ReportsFirst, WaitsAt, list_of}
+use Rattle.ep_kernel.specs.ReadyBook.{AreAdded, LeavesReportable, ReportsFirst, WaitsAt, list_of}
 use Rattle.ep_kernel.specs.Running.{Ends, Runs}
 use Rattle.ep_kernel.specs.Turns.{Turns}
 use Rattle.ep_kernel.specs.Wait.{ReportsInOrder}
@@ -175,3 +176,11 @@ module _ (law : ListsGoOn) (past : List Record) (old mid new : Parts) (l0 l1 l3 
       (λ e most reports is. subst (λ (u : State). (v : State) → v ≡ after.state → WaitsAt u caller.0 event e most → length reports < most → is_live v.files e ≡ true → (k : ℕ) → is_among (list_of (lists_of new l3) e) k ≡ true → is_reportable_in v e k ≡ true) (sym (state_is past old keeps))
       (λ v same waits short live k on. ap (λ (w : State). is_reportable_in w e k) same ∙ few e most reports is waits short (ap (λ (w : State). is_live w.files e) (sym same) ∙ live) k on)
       _ (state_is (past ++ record_of caller event outcome ∷ []) new after))
+
+  -- what comes to a list was added to it
+  pub added_on : AreAdded old.tables.limits caller.0 event outcome.picked (unwrap_or (run old.tables.limits opening past) opening) (unwrap_or (run new.tables.limits opening (past ++ record_of caller event outcome ∷ [])) opening) (list_of (lists_of old l0)) (list_of (lists_of new l3))
+  added_on =
+      let after = keeps_after law past n event outcome old mid ends.noted ends.buried ends.climbed new l0 l1 ends.between l3 follows caller at runs does_at in
+      let added = all_added law past n event outcome old mid ends.noted ends.buried ends.climbed new l0 l1 ends.between l3 follows caller at runs does_at in
+      subst (λ (u : State). AreAdded old.tables.limits caller.0 event outcome.picked u (unwrap_or (run new.tables.limits opening (past ++ record_of caller event outcome ∷ [])) opening) (list_of (lists_of old l0)) (list_of (lists_of new l3))) (sym (state_is past old runs.keeps))
+      (subst (λ (v : State). AreAdded old.tables.limits caller.0 event outcome.picked runs.keeps.state v (list_of (lists_of old l0)) (list_of (lists_of new l3))) (sym (state_is (past ++ record_of caller event outcome ∷ []) new after)) added)

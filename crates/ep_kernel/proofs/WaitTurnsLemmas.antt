@@ -279,11 +279,21 @@ module _ (p q : Parts) (l m : Lists) (i step most walked : ℕ) (found : List Re
             | inr off ↦ again_may_stand id x j is (ap (λ (b : Bool). b || is_among (more_at j) id.0) (sym off) ∙ split)
           ]
 
+    comes_from : (j k : ℕ) → is_among (more_at j) k ≡ true → is_among (list_at l j) k ≡ true
+    comes_from j k on = elim (cases_Bool (j == i)) [
+      | inl t ↦
+          let behind : is_among again_of k ≡ true = ap (λ (b : Bool). is_among (cond b again_of []) k) (sym t) ∙ on in
+          let seen = filtered_member (key_stays step q.interest) front_keys k (among_member again_of k behind) in
+          ap (λ (d : ℕ). is_among (list_at l d) k) (from_test j i t) ∙ among k (list_at l i) (taken_member walked (list_at l i) k seen)
+      | inr f ↦ absurd (false≢true (ap (λ (b : Bool). is_among (cond b again_of []) k) (sym f) ∙ on))
+    ]
+
     pub wait_turns : (event : Event) → AlteredStand event p q m → Turns event picked p l q m
     wait_turns event altered = record {
       keeps = still;
       more = more_at;
       lists = lists_go_on;
+      comes = λ j k on. inl (comes_from j k on);
       unpicked = λ j k x on is keeps. not_true (is_among picked x.number) (λ t.
           false≢true (sym (from_not (is_among front_keys k) keeps) ∙ picked_in_front k x.number (is_under p.interest (entry_id k) x is).number t));
       leaves = λ j k x on is goes shows. inl (shown_is_picked k x.number (is_under p.interest (entry_id k) x is).number (from_not_false (is_among front_keys k) goes) shows);
@@ -301,6 +311,7 @@ same_turns event picked p q l listed same none altered = record {
   keeps = λ k. true;
   more = λ j. [];
   lists = λ j. sym (append-nil (filter (λ k. true) (list_at l j)) ∙ none_left_out (list_at l j));
+  comes = λ j k on. absurd (false≢true on);
   unpicked = λ j k x on is keeps. ap (λ (ks : List ℕ). is_among ks x.number) none;
   leaves = λ j k x on is goes shows. absurd (false≢true (sym goes));
   again = λ k x is t shows. absurd (false≢true (ap (λ (ks : List ℕ). is_among ks x.number) (sym none) ∙ t));

@@ -175,11 +175,24 @@ reportable_by s e k = ap (λ (ks : List ℕ). is_among ks k) (watch_numbers (rep
   watch_numbers [] = refl
   watch_numbers (x ∷ xs) = ap (λ (ks : List ℕ). x.number ∷ ks) (watch_numbers xs)
 
-ready_in : (t : State) (y : Watch) → Member y t.watches → is_reportable t y ≡ true → is_reportable_in t y.instance y.number ≡ true
+pub ready_in : (t : State) (y : Watch) → Member y t.watches → is_reportable t y ≡ true → is_reportable_in t y.instance y.number ≡ true
 ready_in t y m r =
     let p : Watch → Bool = λ x. x.instance == y.instance && is_reportable t x in
     let same = same_nat y.instance in
     among y.number (map (λ x. x.number) (reportables t y.instance)) (member_map (λ x. x.number) y (reportables t y.instance) (member_filter p y t.watches m (λ i. same i && r i)))
+
+-- A state at rest that nothing changed.
+module _ (b : State) (rest : AtRest b) where
+  none_dying : dying b ≡ []
+  none_dying = all_named b (λ d lives. rest.named d ∙ lives)
+
+  pub rest_files : (settle b b []).files ≡ b.files
+  rest_files = ap (λ (xs : List (ℕ × Place)). (die_all (b.files, []) xs).0) none_dying
+
+  pub rest_passes : (answer : Answer) (x : Watch) → passes_on_of (answer, b, []) x ≡ false
+  rest_passes answer x =
+      ap (λ (xs : List (ℕ × Place)). let now = die_all (b.files, []) xs in let kept = without_dead_watches (record b { files = now.0 }) in passes_on kept (raised_alive kept now.1) x) none_dying
+      ∙ none_passes (without_dead_watches b) x
 
 -- Its end, where it was at rest before.
 module _ (b : State) (rest : AtRest b) (counted : (0 == b.n) ≡ false) (ks : List ℕ) (ws : List Waiter) where

@@ -1,5 +1,6 @@
 -- What contracts see of the kernel with ready lists.
-use Rattle.std.specs.Prelude.{◌≡◌, ◌<◌, ◌++◌, ◌==◌, List, [], ◌∷◌, MatchBool, Some, filter, if◌then◌else◌, length, take, true, ℕ}
+use Rattle.std.specs.Prelude.{◌≡◌, ◌⊎◌, ◌<◌, ◌++◌, ◌==◌, List, [], ◌∷◌, MatchBool, Some, filter, if◌then◌else◌, length, take, false, true, ℕ}
+use Rattle.ep_base.specs.Limits.{Limits}
 use Rattle.ep_base.specs.declared.answer.Answer.{Answer}
 use Rattle.ep_base.specs.declared.answer.Answer.TheVariants.{Events}
 use Rattle.ep_base.specs.declared.answer.Report.{Report}
@@ -9,14 +10,16 @@ use Rattle.ep_base.specs.declared.call.Event.TheVariants.{Call as CallOf, Resume
 use Rattle.ep_base.specs.declared.ids.CallerId.{CallerId}
 use Rattle.ep_calls.specs.Acts.{is_no_memory}
 use Rattle.ep_calls.specs.Book.{Book, state_of as state_in}
-use Rattle.ep_law.specs.Laws.{Member, is_reportable_in}
+use Rattle.ep_law.specs.Laws.{Member, is_reportable_in, passes_on_of}
 use Rattle.ep_machine.specs.Bits.{ET, has_bit}
 use Rattle.ep_machine.specs.Files.{is_live, named_by}
 use Rattle.ep_machine.specs.Lists.{is_among}
 use Rattle.ep_machine.specs.Readiness.{is_fresh}
-use Rattle.ep_machine.specs.State.{State, Waiter, Watch}
+use Rattle.ep_machine.specs.State.{Change, State, Waiter, Watch}
+use Rattle.ep_machine.specs.Step.{change, next_event}
 use Rattle.ep_machine.specs.Waits.{waiter_of}
 use Rattle.ep_machine.specs.Watches.{number_in}
+use Rattle.ep_order.specs.Event.{IsAltered}
 
 -- the ready list of an instance: the numbers of the registrations on it, in order
 pub record InstanceList : Type 0 where
@@ -66,12 +69,26 @@ LeavesReportable s t caller event answer list = (e most : ℕ) (reports : List R
     → WaitsAt s caller event e most → length reports < most → is_live t.files e ≡ true
     → (k : ℕ) → is_among (list e) k ≡ true → is_reportable_in t e k ≡ true
 
+-- what an event adds to the list of instance e: a registration k through which something of the event's spread passes on, or one
+-- that an ADD or MOD altered and left reportable
+pub record IsAdded (limits : Limits) (caller : ℕ) (event : Event) (picked : List ℕ) (s t : State) (e k : ℕ) : Type 0 where
+  pub may : MayBeListed t e k
+  pub made : Change
+  pub is : change limits (next_event s) caller event picked ≡ Some made
+  pub cause : (passes_on_of made may.x ≡ true) ⊎ (IsAltered s event may.x × (is_reportable_in made.1 e k ≡ true))
+
+-- each registration that comes to a list was added to it
+abbrev pub AreAdded : Limits → ℕ → Event → List ℕ → State → State → (ℕ → List ℕ) → (ℕ → List ℕ) → Type 0
+AreAdded limits caller event picked s t old new = (e k : ℕ) → is_among (new e) k ≡ true → is_among (old e) k ≡ false
+    → IsAdded limits caller event picked s t e k
+
 -- one record was added, and what its event did to the ready lists
 pub record TurnsLists (caller : CallerId) (event : Event) (answer : Answer) (old new : ReadyBook) : Type 0 where
   pub picked : List ℕ
   pub added : new.book.past ≡ old.book.past ++ record { caller = caller; event = event; answer = answer; picked = picked } ∷ []
   pub first : ReportsFirst (state_of old) caller.0 event answer picked (listed old)
   pub few : LeavesReportable (state_of old) (state_of new) caller.0 event answer (listed new)
+  pub arrives : AreAdded old.book.limits caller.0 event picked (state_of old) (state_of new) (listed old) (listed new)
 
 -- want of memory leaves the lists
 abbrev pub ActsOnLists : CallerId → Event → Answer → ReadyBook → ReadyBook → Type 0

@@ -29,11 +29,23 @@ AlteredStand (CallOf pid (EpollCtl epfd op fd mask tag)) p q m = (k : ℕ) (x : 
     → key_shows q k ≡ true → stands m (entry_id k) ≡ true
 AlteredStand event p q m = Unit {0}
 
+-- an epoll_ctl added or modified the registration under this key, and left it reportable
+abbrev pub IsAlteredKey : Event → Parts → Parts → ℕ → Type 0
+IsAlteredKey (CallOf pid (EpollCtl epfd op fd mask tag)) p q k = (x : Entry) → entry_under q.interest (entry_id k) ≡ Some x
+    → (is_del op ≡ false)
+    × (number_at q.tables.keys x.instance ≡ named_by p.tables.files pid.0 epfd.0)
+    × (x.fd ≡ fd)
+    × (number_at q.tables.keys x.desc ≡ named_by p.tables.files pid.0 fd.0)
+    × (key_shows q k ≡ true)
+IsAlteredKey event p q k = ⊥
+
 -- from parts p and lists l to parts q and lists m, where the registrations of these numbers are reported
 pub record Turns (event : Event) (picked : List ℕ) (p : Parts) (l : Lists) (q : Parts) (m : Lists) : Type 0 where
   pub keeps : ℕ → Bool  -- by key: what stays where it stands
   pub more : ℕ → List ℕ  -- what comes behind
   pub lists : (i : ℕ) → list_at m i ≡ filter keeps (list_at l i) ++ more i
+  -- what comes behind stood on that list, or was added or modified and is reportable
+  pub comes : (i k : ℕ) → is_among (more i) k ≡ true → (is_among (list_at l i) k ≡ true) ⊎ IsAlteredKey event p q k
   -- what is reported does not stay where it stood
   pub unpicked : (i k : ℕ) (x : Entry) → is_among (list_at l i) k ≡ true → entry_under p.interest (entry_id k) ≡ Some x → keeps k ≡ true
       → is_among picked x.number ≡ false

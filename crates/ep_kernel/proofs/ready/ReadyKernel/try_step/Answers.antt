@@ -5,7 +5,7 @@ use Rattle.ep_base.specs.declared.record.Record.{Record}
 use Rattle.ep_machine.specs.Step.{next_event}
 use Rattle.ep_calls.specs.Acts.{Adds}
 use Rattle.ep_calls.specs.Book.{Book, state_of}
-use Rattle.ep_kernel.specs.ReadyBook.{LeavesReportable, ReadyBook, TurnsLists, listed}
+use Rattle.ep_kernel.specs.ReadyBook.{AreAdded, LeavesReportable, ReadyBook, TurnsLists, list_of, listed}
 use Rattle.ep_calls.specs.Parts.{Parts}
 use Rattle.ep_calls.proofs.KeepsLemmas.{record_of}
 use Rattle.ep_calls.proofs.KeptLemmas.{inline_event}
@@ -14,7 +14,7 @@ use Rattle.ep_kernel.specs.Listed.{lists_of}
 use Rattle.ep_kernel.specs.Mark.{AreLookedAt, attends}
 use Rattle.ep_kernel.specs.Running.{Ends, Runs, book_of}
 use Rattle.ep_kernel.proofs.AreLookedAtLemmas.{are_looked_at, listed_climbed}
-use Rattle.ep_kernel.proofs.RunLemmas.{adds_on, does_fairly, few_on, first_on, runs_on, runs_same}
+use Rattle.ep_kernel.proofs.RunLemmas.{added_on, adds_on, does_fairly, few_on, first_on, runs_on, runs_same}
 use Rattle.ep_kernel.proofs.SettledLemmas.{ends_of}
 use Rattle.ep_kernel.proofs.TimersLemmas.{set_same}
 use Rattle.ep_kernel.proofs.ready.ReadyKernel.try_step.Goals as goal
@@ -120,10 +120,15 @@ returns-clause-lists c =
     let few =
     few_on c.lists_go_on.ensures.law k.history.items k.parts c.act.new.parts c.mark.new.parts k.lists c.act.new.lists c.settle.new.lists c.self.invariant.runs c.know.ensures.coherent c.know.ensures.tables c.know.ensures.interest c.known.ensures c.known-2.ensures
     c.args.caller c.args.event outcome (c.len.result + 1) (number c) c.in_ok-outcome.ensures.ok c.in_ok-outcome.ensures.turns (ends c) c.in_ok-outcome.ensures.order in
+    let added =
+    added_on c.lists_go_on.ensures.law k.history.items k.parts c.act.new.parts c.mark.new.parts k.lists c.act.new.lists c.settle.new.lists c.self.invariant.runs c.know.ensures.coherent c.know.ensures.tables c.know.ensures.interest c.known.ensures c.known-2.ensures
+    c.args.caller c.args.event outcome (c.len.result + 1) (number c) c.in_ok-outcome.ensures.ok c.in_ok-outcome.ensures.turns (ends c) in
     subst (λ (b : ReadyBook). TurnsLists c.args.caller c.args.event outcome.answer b new) c.self.view_is
     (record {
       picked = outcome.picked;
       added = records c;
       first = first;
       few = subst (λ (rs : List Record). LeavesReportable (state_of (book_of k).book) (state_of (record book { past = rs })) c.args.caller.0 c.args.event outcome.answer (listed new)) (sym (records c)) few;
+      arrives =
+          subst (λ (rs : List Record). AreAdded k.parts.tables.limits c.args.caller.0 c.args.event outcome.picked (state_of (book_of k).book) (state_of (record book { past = rs })) (list_of (lists_of k.parts k.lists)) (listed new)) (sym (records c)) added;
     })
