@@ -65,7 +65,8 @@ impl Alarms {
     pub fn set(&mut self, tables: &Tables, desc: DescId, now: u64)
         requires live { IsSome (number_under tables.now desc) }
         requires clock { now ≤ last_moment }
-        ensures { IsKept tables.now desc.0 self.old → AreSetBut tables.now now desc.0 self.old → AreSet tables.now now self.new }
+        ensures { IsKept tables.now desc.0 self.old → AreSetBut tables.now now desc.0 self.old
+            → AreSet tables.now now self.new }
     {
         if self.moments.has(desc.0) {
             let next = tables.next(desc, now);
@@ -93,7 +94,8 @@ impl Alarms {
 
     /// A timer whose moment is at or below `now`; `None` exactly where there is none.
     fn first(&self, now: u64) -> Option<DescId>
-        ensures { MatchOption result (HasNoneReached self.now now) (λ desc. IsReachedAt self.now now desc.0) }
+        ensures { MatchOption result (HasNoneReached self.now now)
+            (λ desc. IsReachedAt self.now now desc.0) }
     {
         let key = self.moments.first(now)?;
         Some(DescId(key))
@@ -112,7 +114,9 @@ impl Alarms {
         requires order { since ≤ now }
         requires clock { now ≤ last_moment }
         requires set { AreSet tables.now since self.old }
-        ensures entries { interest.new.entries ≡ raised_each (due_bits tables.now since now) step (live_ids tables.now.keys) interest.old.entries }
+        ensures entries { interest.new.entries
+            ≡ raised_each (due_bits tables.now since now) step (live_ids tables.now.keys)
+            interest.old.entries }
         ensures keys { interest.new.keys ≡ interest.old.keys }
         ensures added { interest.new.added ≡ interest.old.added }
         ensures set { AreSet tables.now now self.new }

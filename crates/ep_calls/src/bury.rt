@@ -40,7 +40,8 @@ fn end_each(tables: &mut Tables, interest: &mut Interest, graph: &mut Graph, ste
 impl Parts {
     /// Ends each description that no descriptor names any more, and takes its registrations and those in it away.
     pub fn bury(&mut self, step: u64)
-        ensures burial { Burial step self.old.tables self.old.interest self.new.tables self.new.interest }
+        ensures burial { Burial step self.old.tables self.old.interest self.new.tables
+            self.new.interest }
         ensures ids { KeepsIds self.old.interest self.new.interest }
         ensures parked { self.new.parked ≡ self.old.parked }
         ensures clock { self.new.clock ≡ self.old.clock }

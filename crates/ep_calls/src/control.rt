@@ -63,7 +63,8 @@ pub struct Plan {
 
 /// The instance and the description that are named, or the refusal that comes first.
 fn find_named(tables: &Tables, pid: Pid, epfd: Fd, fd: Fd) -> Result<Named, Errno>
-    ensures { MatchResult result (Names tables.now pid.0 epfd.0 fd.0) (λ e. first (naming_refusals tables.now.files pid.0 epfd.0 fd.0) ≡ Some e) }
+    ensures { MatchResult result (Names tables.now pid.0 epfd.0 fd.0)
+        (λ e. first (naming_refusals tables.now.files pid.0 epfd.0 fd.0) ≡ Some e) }
 {
     let Some(instance) = tables.lookup(pid, epfd) else {
         return Err(Errno::Ebadf);
@@ -85,7 +86,8 @@ fn find_named(tables: &Tables, pid: Pid, epfd: Fd, fd: Fd) -> Result<Named, Errn
 fn is_same(tables: &Tables, a: DescId, b: DescId) -> bool
     requires first { IsSome (number_under tables.now a) }
     requires second { IsSome (number_under tables.now b) }
-    ensures { result ≡ (unwrap_or (number_under tables.now a) 0 == unwrap_or (number_under tables.now b) 0) }
+    ensures { result ≡ (unwrap_or (number_under tables.now a) 0
+        == unwrap_or (number_under tables.now b) 0) }
 {
     tables.known();
     a.0 == b.0
@@ -94,7 +96,8 @@ fn is_same(tables: &Tables, a: DescId, b: DescId) -> bool
 /// The operation that is asked for. `None` where its number or the mask is not accepted; DEL looks at no mask.
 fn operation_of(args: Control) -> Option<Operation>
     ensures none { IfNone result (is_refused_op args.op args.mask.0 ≡ true) }
-    ensures some { IfSome result (λ operation. (args.op ≡ code_of operation) × (is_refused_op args.op args.mask.0 ≡ false)) }
+    ensures some { IfSome result
+        (λ operation. (args.op ≡ code_of operation) × (is_refused_op args.op args.mask.0 ≡ false)) }
 {
     let operation = match args.op {
         1 => Operation::Add,
@@ -117,12 +120,14 @@ fn alter(
     args: Control,
 ) -> Answer
     requires { IsSome (number_of_entry interest.old id) }
-    ensures alters { Alters operation (unwrap_or (number_of_entry interest.old id) 0) args.mask args.tag interest.old interest.new result }
+    ensures alters { Alters operation (unwrap_or (number_of_entry interest.old id) 0) args.mask
+        args.tag interest.old interest.new result }
     ensures nested { KeepsLinks interest.old graph.old interest.new graph.new }
     ensures inline { FitsInline result }
     ensures real { is_no_memory result ≡ false }
     ensures added { interest.new.added ≡ interest.old.added }
-    ensures changes { (named : Named) → ChangesIf result operation (Some id) named args interest.old interest.new }
+    ensures changes { (named : Named)
+        → ChangesIf result operation (Some id) named args interest.old interest.new }
 {
     match operation {
         Operation::Add => Answer::Refused(Errno::Eexist),
@@ -160,11 +165,16 @@ fn add_linked(
     named: Named,
     args: Control,
 ) -> Result<(), AllocError>
-    requires absent { list_any (has_key named.instance args.fd named.desc) interest.old.entries ≡ false }
+    requires absent { list_any (has_key named.instance args.fd named.desc) interest.old.entries
+        ≡ false }
     requires legal { is_legal ((named.instance.0, named.desc.0) ∷ edges graph.old) ≡ true }
     requires named { All (λ l. IsSome (number_of_entry interest.old l.entry)) graph.old }
-    ensures entries { IfOk result (λ _. interest.new.entries ≡ interest.old.entries ++ next_entry interest.old named args ∷ []) }
-    ensures keys { IfOk result (λ _. GainsKey interest.old interest.new (record { 0 = interest.old.next }) (interest.old.added + 1)) }
+    ensures entries { IfOk result
+        (λ _. interest.new.entries
+        ≡ interest.old.entries ++ next_entry interest.old named args ∷ []) }
+    ensures keys { IfOk result
+        (λ _. GainsKey interest.old interest.new (record { 0 = interest.old.next })
+        (interest.old.added + 1)) }
     ensures added { IfOk result (λ _. interest.new.added ≡ interest.old.added + 1) }
     ensures linked { IfOk result (λ _. graph.new ≡ graph.old ++ next_link interest.old named ∷ []) }
     ensures err { OnErr result ((interest.new ≡ interest.old) × (graph.new ≡ graph.old)) }
@@ -188,13 +198,21 @@ fn add(
     is_nested: bool,
     args: Control,
 ) -> Result<(), AllocError>
-    requires absent { list_any (has_key named.instance args.fd named.desc) interest.old.entries ≡ false }
-    requires legal { is_nested ≡ true → is_legal ((named.instance.0, named.desc.0) ∷ edges graph.old) ≡ true }
+    requires absent { list_any (has_key named.instance args.fd named.desc) interest.old.entries
+        ≡ false }
+    requires legal { is_nested ≡ true
+        → is_legal ((named.instance.0, named.desc.0) ∷ edges graph.old) ≡ true }
     requires named { All (λ l. IsSome (number_of_entry interest.old l.entry)) graph.old }
-    ensures entries { IfOk result (λ _. interest.new.entries ≡ interest.old.entries ++ next_entry interest.old named args ∷ []) }
-    ensures keys { IfOk result (λ _. GainsKey interest.old interest.new (record { 0 = interest.old.next }) (interest.old.added + 1)) }
+    ensures entries { IfOk result
+        (λ _. interest.new.entries
+        ≡ interest.old.entries ++ next_entry interest.old named args ∷ []) }
+    ensures keys { IfOk result
+        (λ _. GainsKey interest.old interest.new (record { 0 = interest.old.next })
+        (interest.old.added + 1)) }
     ensures added { IfOk result (λ _. interest.new.added ≡ interest.old.added + 1) }
-    ensures linked { IfOk result (λ _. graph.new ≡ graph.old ++ (if is_nested then next_link interest.old named ∷ [] else [])) }
+    ensures linked { IfOk result
+        (λ _. graph.new
+        ≡ graph.old ++ (if is_nested then next_link interest.old named ∷ [] else [])) }
     ensures err { OnErr result ((interest.new ≡ interest.old) × (graph.new ≡ graph.old)) }
 {
     if is_nested {
@@ -216,10 +234,14 @@ fn enter(
     args: Control,
 ) -> Result<Answer, AllocError>
     requires desc { IsSome (number_under tables.now named.desc) }
-    requires absent { list_any (has_key named.instance args.fd named.desc) interest.old.entries ≡ false }
+    requires absent { list_any (has_key named.instance args.fd named.desc) interest.old.entries
+        ≡ false }
     requires nested { AreNested tables.now interest.old graph.old }
-    ensures ok { IfOk result (λ answer. EntersAt operation tables.now graph.old named args interest.old interest.new answer) }
-    ensures changes { IfOk result (λ answer. ChangesIf answer operation None named args interest.old interest.new) }
+    ensures ok { IfOk result
+        (λ answer. EntersAt operation tables.now graph.old named args interest.old interest.new
+        answer) }
+    ensures changes { IfOk result
+        (λ answer. ChangesIf answer operation None named args interest.old interest.new) }
     ensures nested { AreNested tables.now interest.new graph.new }
     ensures inline { IfOk result FitsInline }
     ensures real { IfOk result (λ answer. is_no_memory answer ≡ false) }
@@ -267,7 +289,8 @@ impl Parts {
         requires real { is_no_memory answer ≡ false }
         ensures answer { result.answer ≡ answer }
         ensures picked { result.picked ≡ [] }
-        ensures raising { result.raising ≡ raising_after answer self.now.tables self.now.clock self.now.interest named fd }
+        ensures raising { result.raising
+            ≡ raising_after answer self.now.tables self.now.clock self.now.interest named fd }
     {
         let raising = match answer {
             Answer::Done => look_at(&self.tables, self.clock, &self.interest, named, fd),
@@ -281,7 +304,9 @@ impl Parts {
     /// both name the same, and EINVAL for an operation or a mask that this version doesn't accept.
     pub fn plan(&self, pid: Pid, args: Control) -> Result<Plan, Outcome>
         ensures ok { IfOk result (IsPlan self.now pid.0 args) }
-        ensures err { IfErr result (λ outcome. (n caller : ℕ) → DoesCall n caller pid.0 (control_call args) outcome self.now self.now) }
+        ensures err { IfErr result
+            (λ outcome. (n caller : ℕ)
+            → DoesCall n caller pid.0 (control_call args) outcome self.now self.now) }
         ensures picked { IfErr result (λ outcome. outcome.picked ≡ []) }
         ensures raising { IfErr result (λ outcome. outcome.raising ≡ Nowhere) }
     {
@@ -308,7 +333,9 @@ impl Parts {
     /// A refusal and an `Err`, which is want of memory and comes of ADD alone, leave the parts.
     pub fn control(&mut self, pid: Pid, args: Control, plan: Plan) -> Result<Outcome, AllocError>
         requires { IsPlan self.old pid.0 args plan }
-        ensures ok { IfOk result (λ outcome. (n caller : ℕ) → DoesCall n caller pid.0 (control_call args) outcome self.old self.new) }
+        ensures ok { IfOk result
+            (λ outcome. (n caller : ℕ)
+            → DoesCall n caller pid.0 (control_call args) outcome self.old self.new) }
         ensures controls { IfOk result (λ outcome. Controls plan args outcome self.old self.new) }
         ensures err { OnErr result (self.new ≡ self.old) }
     {
@@ -344,7 +371,9 @@ impl Parts {
     /// What is added or modified and reportable at once raises IN at its instance.
     /// A refusal and an `Err`, which is want of memory and comes of ADD alone, leave the parts.
     pub fn epoll_ctl(&mut self, pid: Pid, args: Control) -> Result<Outcome, AllocError>
-        ensures ok { IfOk result (λ outcome. (n caller : ℕ) → DoesCall n caller pid.0 (control_call args) outcome self.old self.new) }
+        ensures ok { IfOk result
+            (λ outcome. (n caller : ℕ)
+            → DoesCall n caller pid.0 (control_call args) outcome self.old self.new) }
         ensures err { OnErr result (self.new ≡ self.old) }
     {
         match self.plan(pid, args) {

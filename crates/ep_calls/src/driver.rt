@@ -45,7 +45,8 @@ impl Parts {
 
     /// Of the marked callers the one that was parked first; `None` where none is marked. It looks at waiters up to that one.
     pub fn first_marked(&self) -> Option<CallerId>
-        ensures { (s : State) → StandFor self.now s → option_map (λ c. c.0) result ≡ first_marked s }
+        ensures { (s : State) → StandFor self.now s
+            → option_map (λ c. c.0) result ≡ first_marked s }
     {
         self.waiters.first_marked()
     }

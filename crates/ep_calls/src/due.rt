@@ -12,7 +12,9 @@ use ep_table::Tables;
 pub fn raise_due(tables: &Tables, interest: &mut Interest, since: u64, now: u64, step: u64)
     requires since { since ≤ last_moment }
     requires now { now ≤ last_moment }
-    ensures entries { interest.new.entries ≡ raised_each (due_bits tables.now since now) step (live_ids tables.now.keys) interest.old.entries }
+    ensures entries { interest.new.entries
+        ≡ raised_each (due_bits tables.now since now) step (live_ids tables.now.keys)
+        interest.old.entries }
     ensures keys { interest.new.keys ≡ interest.old.keys }
     ensures added { interest.new.added ≡ interest.old.added }
 {

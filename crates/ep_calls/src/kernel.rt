@@ -34,7 +34,8 @@ pub trait Kernel {
     fn step(&mut self, caller: CallerId, event: Event) -> Answer
         ensures limits { bounds self.new ≡ bounds self.old }
         ensures capacity { capacity self.old ≤ capacity self.new }
-        ensures acts { Acts (bounds self.old) caller event result (state self.old) (state self.new) (past self.old) (past self.new) };
+        ensures acts { Acts (bounds self.old) caller event result (state self.old) (state self.new)
+            (past self.old) (past self.new) };
 
     /// A step whose record is put at the end of a list of the caller's too.
     /// ENOMEM is want of memory, for the history or for that list: then the list too is as before, but that it may have
@@ -42,8 +43,10 @@ pub trait Kernel {
     fn step_kept(&mut self, caller: CallerId, event: Event, kept: &mut Vec<Record>) -> Answer
         ensures limits { bounds self.new ≡ bounds self.old }
         ensures capacity { capacity self.old ≤ capacity self.new }
-        ensures acts { Acts (bounds self.old) caller event result (state self.old) (state self.new) (past self.old) (past self.new) }
-        ensures kept { KeepsRecord result (past self.old) (past self.new) kept.old.items kept.new.items };
+        ensures acts { Acts (bounds self.old) caller event result (state self.old) (state self.new)
+            (past self.old) (past self.new) }
+        ensures kept { KeepsRecord result (past self.old) (past self.new) kept.old.items
+            kept.new.items };
 
     /// Makes room for this many further records, or fails where memory is refused. State and history stay in both cases.
     fn reserve(&mut self, additional: usize) -> Result<(), AllocError>

@@ -34,7 +34,9 @@ fn room_for_copy(
     requires { IsSome (number_under tables.now desc) }
     ensures empty { IfOk result (λ room. room.items ≡ []) }
     ensures inline { IfOk result (λ room. HasRoomFor room 16) }
-    ensures room { IfOk result (λ room. wanted ≡ true → HasRoomFor room (min (asked_of call.now) (waiting_at tables.now desc))) }
+    ensures room { IfOk result
+        (λ room. wanted ≡ true
+        → HasRoomFor room (min (asked_of call.now) (waiting_at tables.now desc))) }
 {
     let mut room = SmallVec::new(alloc);
     if !wanted {
@@ -121,10 +123,15 @@ impl Parts {
     ) -> Result<Outcome, AllocError>
         requires { fd_of call.now ≡ Some fd }
         ensures interest { self.new.interest ≡ self.old.interest }
-        ensures tables { IfOk result (λ outcome. CallsObject pid.0 fd self.old.clock call.now outcome.answer self.old.tables self.new.tables) }
-        ensures clock { IfOk result (λ outcome. ClockStays outcome.raising self.old.clock self.new.clock) }
+        ensures tables { IfOk result
+            (λ outcome. CallsObject pid.0 fd self.old.clock call.now outcome.answer self.old.tables
+            self.new.tables) }
+        ensures clock { IfOk result
+            (λ outcome. ClockStays outcome.raising self.old.clock self.new.clock) }
         ensures picked { IfOk result (λ outcome. outcome.picked ≡ []) }
-        ensures ok { IfOk result (λ outcome. (n caller : ℕ) → DoesCall n caller pid.0 call.now outcome self.old self.new) }
+        ensures ok { IfOk result
+            (λ outcome. (n caller : ℕ)
+            → DoesCall n caller pid.0 call.now outcome self.old self.new) }
         ensures kept { IfOk result (λ outcome. IsKept kept outcome) }
         ensures err { OnErr result (self.new ≡ self.old) }
     {

@@ -79,14 +79,19 @@ impl Parts {
         chosen: &[Reportable],
         kept: bool,
     ) -> Result<Outcome, AllocError>
-        requires parked { find (is_caller caller.0) self.old.parked ≡ Some (parked caller.0 waiter) }
+        requires parked { find (is_caller caller.0) self.old.parked
+            ≡ Some (parked caller.0 waiter) }
         requires marked { waiter.marked ≡ true }
         requires keyed { AreKeyed self.old.tables self.old.clock self.old.interest chosen.now }
         ensures ids { self.new.interest.keys ≡ self.old.interest.keys }
         ensures files { self.new.tables.files ≡ self.old.tables.files }
-        ensures clock { IfOk result (λ outcome. ClockStays outcome.raising self.old.clock self.new.clock) }
-        ensures entries { IfOk result (λ outcome. self.new.interest.entries ≡ map (with_report step outcome.picked) self.old.interest.entries) }
-        ensures ok { IfOk result (λ outcome. DoesResume step caller.0 waiter chosen.now outcome self.old self.new) }
+        ensures clock { IfOk result
+            (λ outcome. ClockStays outcome.raising self.old.clock self.new.clock) }
+        ensures entries { IfOk result
+            (λ outcome. self.new.interest.entries
+            ≡ map (with_report step outcome.picked) self.old.interest.entries) }
+        ensures ok { IfOk result
+            (λ outcome. DoesResume step caller.0 waiter chosen.now outcome self.old self.new) }
         ensures picked { IfOk result (λ outcome. outcome.picked ≡ numbers_of chosen.now) }
         ensures kept { IfOk result (λ outcome. IsKept kept outcome) }
         ensures err { OnErr result (self.new ≡ self.old) }

@@ -61,7 +61,8 @@ pub fn raise_at(interest: &mut Interest, desc: DescId, bits: Mask, step: u64)
 
 /// Raises bits at a description, where there is one.
 pub fn raise_there(interest: &mut Interest, desc: Option<DescId>, bits: Mask, step: u64)
-    ensures entries { interest.new.entries ≡ map (raised_there desc bits step) interest.old.entries }
+    ensures entries { interest.new.entries
+        ≡ map (raised_there desc bits step) interest.old.entries }
     ensures keys { interest.new.keys ≡ interest.old.keys }
     ensures added { interest.new.added ≡ interest.old.added }
 {
@@ -104,7 +105,8 @@ impl Parts {
     /// Notes in registrations what an event raised.
     pub fn raise(&mut self, step: u64, raising: Raising)
         requires { IsRaising raising self.old.tables }
-        ensures stirs { Stirs raising self.old.tables self.old.clock step self.old.interest self.new.interest }
+        ensures stirs { Stirs raising self.old.tables self.old.clock step self.old.interest
+            self.new.interest }
         ensures ids { self.new.interest.keys ≡ self.old.interest.keys }
         ensures others { self.new ≡ record self.old { interest = self.new.interest } }
     {

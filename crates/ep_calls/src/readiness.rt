@@ -66,7 +66,8 @@ pub fn shown(tables: &Tables, now: u64, interest: &Interest, entry: &Entry) -> M
     requires target { IsSome (number_under tables.now entry.now.desc) }
     requires linked { AreLinked tables.now interest.now }
     requires clock { now ≤ last_moment }
-    ensures { result.0 ≡ entry_bits (readiness tables.now now interest.now) tables.now now entry.now }
+    ensures { result.0 ≡ entry_bits (readiness tables.now now interest.now) tables.now now
+        entry.now }
 {
     let below = tables.object(entry.desc).is_instance()
         && is_ready_now(tables, now, interest, entry.desc);

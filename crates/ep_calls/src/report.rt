@@ -42,7 +42,8 @@ fn picked_of(alloc: Global, chosen: &[Reportable]) -> Result<Picked, AllocError>
 /// Notes that they are reported in this step.
 fn note(interest: &mut Interest, step: u64, chosen: &[Reportable])
     requires { All (λ x. number_of_entry interest.old x.id ≡ Some x.entry.number) chosen.now }
-    ensures entries { interest.new.entries ≡ map (with_report step (numbers_of chosen.now)) interest.old.entries }
+    ensures entries { interest.new.entries
+        ≡ map (with_report step (numbers_of chosen.now)) interest.old.entries }
     ensures keys { interest.new.keys ≡ interest.old.keys }
     ensures added { interest.new.added ≡ interest.old.added }
 {
@@ -53,7 +54,10 @@ fn note(interest: &mut Interest, step: u64, chosen: &[Reportable])
 
 /// Copies for a second record, where one is asked for.
 fn spare_of(alloc: Global, chosen: &[Reportable], kept: bool) -> Result<Option<Spare>, AllocError>
-    ensures { IfOk result (λ spare. MatchOption spare (kept ≡ false) (λ s. (s.answer ≡ Events (map report_of chosen.now)) × (s.picked ≡ numbers_of chosen.now))) }
+    ensures { IfOk result
+        (λ spare. MatchOption spare (kept ≡ false)
+        (λ s. (s.answer ≡ Events (map report_of chosen.now))
+        × (s.picked ≡ numbers_of chosen.now))) }
 {
     if !kept {
         return Ok(None);
@@ -88,7 +92,9 @@ pub fn report(
 ) -> Result<Outcome, AllocError>
     requires keyed { All (λ x. number_of_entry interest.old x.id ≡ Some x.entry.number) chosen.now }
     ensures keys { interest.new.keys ≡ interest.old.keys }
-    ensures ok { IfOk result (λ outcome. Reports interest.old interest.new step chosen.now outcome.answer outcome.picked) }
+    ensures ok { IfOk result
+        (λ outcome. Reports interest.old interest.new step chosen.now outcome.answer
+        outcome.picked) }
     ensures kept { IfOk result (λ outcome. IsKept kept outcome) }
     ensures raising { IfOk result (λ outcome. outcome.raising ≡ Nowhere) }
     ensures err { OnErr result (interest.new ≡ interest.old) }

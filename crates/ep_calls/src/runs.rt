@@ -16,7 +16,9 @@ pub fn run<K: Kernel>(
     events: Vec<(CallerId, Event)>,
 ) -> Result<Vec<Answer>, AllocError>
     ensures limits { K.bounds kernel.new ≡ K.bounds kernel.old }
-    ensures ok { IfOk result (λ answers. Answers (K.bounds kernel.old) events.items answers.items (K.state kernel.old) (K.state kernel.new) (K.past kernel.old) (K.past kernel.new)) }
+    ensures ok { IfOk result
+        (λ answers. Answers (K.bounds kernel.old) events.items answers.items (K.state kernel.old)
+        (K.state kernel.new) (K.past kernel.old) (K.past kernel.new)) }
     ensures err { OnErr result (kernel.new ≡ kernel.old) }
 {
     let mut answers = Vec::with_capacity(*events.allocator(), events.len())?;
@@ -29,7 +31,9 @@ pub fn run<K: Kernel>(
 /// No waiter is forgotten: at each instance that is ready and has waiters, one of them is marked, whatever events came
 /// before. A fact for proofs.
 pub fn ready_waiters_are_marked<K: Kernel>(kernel: &K)
-    ensures { (instance : ℕ) → waits_at (K.state kernel.now).waiters instance ≡ true → is_ready (K.state kernel.now) instance ≡ true → is_marked_at (K.state kernel.now).waiters instance ≡ true }
+    ensures { (instance : ℕ) → waits_at (K.state kernel.now).waiters instance ≡ true
+        → is_ready (K.state kernel.now) instance ≡ true
+        → is_marked_at (K.state kernel.now).waiters instance ≡ true }
 {
     let _past = kernel.history();
     laws::ready_waiters_are_marked();

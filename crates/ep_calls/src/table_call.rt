@@ -27,7 +27,9 @@ fn create_timer(
     cloexec: bool,
 ) -> Result<Answer, AllocError>
     requires { IsSome (table_of tables.old.files pid.0) }
-    ensures ok { IfOk result (λ answer. Does (timerfd_of tables.old.limits tables.old.files pid.0 clock cloexec) answer tables.old tables.new) }
+    ensures ok { IfOk result
+        (λ answer. Does (timerfd_of tables.old.limits tables.old.files pid.0 clock cloexec) answer
+        tables.old tables.new) }
     ensures err { OnErr result (tables.new ≡ tables.old) }
 {
     if clock != 0 && clock != 1 {
@@ -39,7 +41,8 @@ fn create_timer(
 /// execve(2): closes the descriptors with close-on-exec, or EBUSY where a caller of the process is parked.
 fn exec(tables: &mut Tables, waiters: &Park, pid: Pid) -> Answer
     requires { IsSome (table_of tables.old.files pid.0) }
-    ensures { Does (exec_of tables.old.files pid.0 (list_any (is_of pid.0) waiters.now)) result tables.old tables.new }
+    ensures { Does (exec_of tables.old.files pid.0 (list_any (is_of pid.0) waiters.now)) result
+        tables.old tables.new }
 {
     if waiters.any_of(pid) {
         return Answer::Refused(Errno::Ebusy);
@@ -51,7 +54,8 @@ fn exec(tables: &mut Tables, waiters: &Park, pid: Pid) -> Answer
 /// _exit(2): closes all descriptors and ends the process, or EBUSY where a caller of it is parked.
 fn exit(tables: &mut Tables, waiters: &Park, pid: Pid) -> Answer
     requires { IsSome (table_of tables.old.files pid.0) }
-    ensures { Does (exit_of tables.old.files pid.0 (list_any (is_of pid.0) waiters.now)) result tables.old tables.new }
+    ensures { Does (exit_of tables.old.files pid.0 (list_any (is_of pid.0) waiters.now)) result
+        tables.old tables.new }
 {
     if waiters.any_of(pid) {
         return Answer::Refused(Errno::Ebusy);
@@ -71,7 +75,9 @@ fn answer_of(
 ) -> Result<Answer, AllocError>
     requires call { IsTableCall call.now }
     requires process { IsSome (table_of tables.old.files pid.0) }
-    ensures ok { IfOk result (λ answer. Does (called tables.old waiters.now pid.0 call.now) answer tables.old tables.new) }
+    ensures ok { IfOk result
+        (λ answer. Does (called tables.old waiters.now pid.0 call.now) answer tables.old
+        tables.new) }
     ensures err { OnErr result (tables.new ≡ tables.old) }
 {
     match *call {
@@ -105,10 +111,15 @@ impl Parts {
         requires call { IsTableCall call.now }
         requires process { is_some (table_of self.old.tables.files pid.0) ≡ true }
         ensures interest { self.new.interest ≡ self.old.interest }
-        ensures tables { IfOk result (λ outcome. Does (called self.old.tables self.old.parked pid.0 call.now) outcome.answer self.old.tables self.new.tables) }
-        ensures clock { IfOk result (λ outcome. ClockStays outcome.raising self.old.clock self.new.clock) }
+        ensures tables { IfOk result
+            (λ outcome. Does (called self.old.tables self.old.parked pid.0 call.now) outcome.answer
+            self.old.tables self.new.tables) }
+        ensures clock { IfOk result
+            (λ outcome. ClockStays outcome.raising self.old.clock self.new.clock) }
         ensures picked { IfOk result (λ outcome. outcome.picked ≡ []) }
-        ensures ok { IfOk result (λ outcome. (n caller : ℕ) → DoesCall n caller pid.0 call.now outcome self.old self.new) }
+        ensures ok { IfOk result
+            (λ outcome. (n caller : ℕ)
+            → DoesCall n caller pid.0 call.now outcome self.old self.new) }
         ensures err { OnErr result (self.new ≡ self.old) }
     {
         let answer = answer_of(self.alloc, &mut self.tables, &self.waiters, pid, call)?;

@@ -40,7 +40,8 @@ pub struct Reportable {
 
 /// The instance that is waited for, or the refusal that comes first.
 pub fn find_instance(tables: &Tables, args: Wait) -> Result<DescId, Errno>
-    ensures { MatchResult result (λ desc. Waits tables.now args desc) (λ e. first (wait_tests tables.now.files args) ≡ Some e) }
+    ensures { MatchResult result (λ desc. Waits tables.now args desc)
+        (λ e. first (wait_tests tables.now.files args) ≡ Some e) }
 {
     if args.max <= 0 {
         return Err(Errno::Einval);
@@ -83,9 +84,13 @@ impl Parts {
         requires keyed { AreKeyed self.old.tables self.old.clock self.old.interest chosen.now }
         ensures ids { self.new.interest.keys ≡ self.old.interest.keys }
         ensures files { self.new.tables.files ≡ self.old.tables.files }
-        ensures clock { IfOk result (λ outcome. ClockStays outcome.raising self.old.clock self.new.clock) }
-        ensures entries { IfOk result (λ outcome. self.new.interest.entries ≡ map (with_report step outcome.picked) self.old.interest.entries) }
-        ensures ok { IfOk result (λ outcome. DoesWait step caller.0 args instance chosen.now outcome self.old self.new) }
+        ensures clock { IfOk result
+            (λ outcome. ClockStays outcome.raising self.old.clock self.new.clock) }
+        ensures entries { IfOk result
+            (λ outcome. self.new.interest.entries
+            ≡ map (with_report step outcome.picked) self.old.interest.entries) }
+        ensures ok { IfOk result
+            (λ outcome. DoesWait step caller.0 args instance chosen.now outcome self.old self.new) }
         ensures picked { IfOk result (λ outcome. outcome.picked ≡ numbers_of chosen.now) }
         ensures kept { IfOk result (λ outcome. IsKept args.kept outcome) }
         ensures err { OnErr result (self.new ≡ self.old) }

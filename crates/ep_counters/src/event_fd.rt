@@ -48,7 +48,8 @@ impl EventFd {
     ///
     /// EINVAL where `n` is below 8, and then EAGAIN where the count is 0; a refusal changes and raises nothing.
     pub fn read(&mut self, n: u32) -> (Answer, Raised)
-        ensures { (result.0, self.new, result.1) ≡ attempt (counter_read_refusals self.old n) self.old (counter_read self.old) }
+        ensures { (result.0, self.new, result.1)
+            ≡ attempt (counter_read_refusals self.old n) self.old (counter_read self.old) }
     {
         if n < 8 {
             return refused(Errno::Einval);
@@ -67,7 +68,9 @@ impl EventFd {
     /// EINVAL below 8 bytes, then EINVAL for 2^64 - 1, then EAGAIN where the sum would pass 2^64 - 2;
     /// a refusal changes and raises nothing.
     pub fn write(&mut self, bytes: &[u8]) -> (Answer, Raised)
-        ensures { (result.0, self.new, result.1) ≡ attempt (counter_write_refusals self.old bytes.now) self.old (counter_write self.old bytes.now) }
+        ensures { (result.0, self.new, result.1)
+            ≡ attempt (counter_write_refusals self.old bytes.now) self.old
+            (counter_write self.old bytes.now) }
     {
         let Some(value) = written_value(bytes) else {
             return refused(Errno::Einval);

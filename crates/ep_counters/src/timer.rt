@@ -63,7 +63,9 @@ impl Timer {
         interval: u64,
     ) -> (Answer, Raised)
         requires { now ≤ last_moment }
-        ensures { (result.0, self.new, result.1) ≡ attempt (timer_set_refusals value interval) self.old (timer_settime self.old absolute value interval now) }
+        ensures { (result.0, self.new, result.1)
+            ≡ attempt (timer_set_refusals value interval) self.old
+            (timer_settime self.old absolute value interval now) }
     {
         if value > LAST_MOMENT || interval > LAST_MOMENT {
             return refused(Errno::Einval);
@@ -100,7 +102,8 @@ impl Timer {
     /// EINVAL where `n` is below 8, and then EAGAIN where none is unread; a refusal changes nothing.
     pub fn read(&mut self, now: u64, n: u32) -> (Answer, Raised)
         requires { now ≤ last_moment }
-        ensures { (result.0, self.new, result.1) ≡ attempt (timer_read_refusals self.old n now) self.old (timer_read self.old now) }
+        ensures { (result.0, self.new, result.1)
+            ≡ attempt (timer_read_refusals self.old n now) self.old (timer_read self.old now) }
     {
         if n < 8 {
             return refused(Errno::Einval);

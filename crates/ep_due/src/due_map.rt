@@ -109,7 +109,8 @@ impl<A: Allocator> DueMap<A> {
 
     /// A key whose moment is at or below `now`; `None` exactly where there is none.
     pub fn first(&self, now: u64) -> Option<usize>
-        ensures { MatchOption result (HasNoneReached self.now now) (λ k. IsReachedAt self.now now k) }
+        ensures { MatchOption result (HasNoneReached self.now now)
+            (λ k. IsReachedAt self.now now k) }
     {
         let place = self.queue.first_due(now)?;
         Some(self.owners[&place.0])

@@ -32,7 +32,9 @@ pub fn swap<A: Allocator>(heap: &mut Vec<Item, A>, places: &mut Vec<usize, A>, i
     requires right { j < length heap.old.items }
     ensures paired { ArePaired heap.new.items places.new.items }
     ensures swapped { SwapsItems heap.old.items heap.new.items i j }
-    ensures moments { (live : ℕ) → i < live → j < live → moments live heap.new.items places.new.items ≡ moments live heap.old.items places.old.items }
+    ensures moments { (live : ℕ) → i < live → j < live
+        → moments live heap.new.items places.new.items
+        ≡ moments live heap.old.items places.old.items }
 {
     let a = heap[i];
     let b = heap[j];
@@ -56,7 +58,8 @@ fn sift_up<A: Allocator>(
     ensures paired { ArePaired heap.new.items places.new.items }
     ensures ordered { IsOrdered live heap.new.items }
     ensures len { length heap.new.items ≡ length heap.old.items }
-    ensures moments { moments live heap.new.items places.new.items ≡ moments live heap.old.items places.old.items }
+    ensures moments { moments live heap.new.items places.new.items
+        ≡ moments live heap.old.items places.old.items }
 {
     let mut at = from;
     while at > 0 {
@@ -97,7 +100,8 @@ fn sift_down<A: Allocator>(
     ensures paired { ArePaired heap.new.items places.new.items }
     ensures ordered { IsOrdered live heap.new.items }
     ensures len { length heap.new.items ≡ length heap.old.items }
-    ensures moments { moments live heap.new.items places.new.items ≡ moments live heap.old.items places.old.items }
+    ensures moments { moments live heap.new.items places.new.items
+        ≡ moments live heap.old.items places.old.items }
 {
     let mut at = from;
     while at < live / 2 {
@@ -124,7 +128,8 @@ pub fn settle<A: Allocator>(
     ensures paired { ArePaired heap.new.items places.new.items }
     ensures ordered { IsOrdered live heap.new.items }
     ensures len { length heap.new.items ≡ length heap.old.items }
-    ensures moments { moments live heap.new.items places.new.items ≡ moments live heap.old.items places.old.items }
+    ensures moments { moments live heap.new.items places.new.items
+        ≡ moments live heap.old.items places.old.items }
 {
     if at > 0 && no_later(heap[at].moment, heap[(at - 1) / 2].moment) {
         sift_up(heap, places, live, at);
@@ -149,7 +154,8 @@ pub fn put<A: Allocator>(
     ensures paired { ArePaired heap.new.items places.new.items }
     ensures ordered { IsOrdered live heap.new.items }
     ensures len { length heap.new.items ≡ length heap.old.items }
-    ensures moments { moments live heap.new.items places.new.items ≡ slice_set (moments live heap.old.items places.old.items) place (Some moment) }
+    ensures moments { moments live heap.new.items places.new.items
+        ≡ slice_set (moments live heap.old.items places.old.items) place (Some moment) }
 {
     let at = places[place];
     heap[at] = Item { moment, place };
@@ -171,7 +177,8 @@ pub fn withdraw<A: Allocator>(
     ensures paired { ArePaired heap.new.items places.new.items }
     ensures ordered { IsOrdered last heap.new.items }
     ensures len { length heap.new.items ≡ length heap.old.items }
-    ensures moments { moments last heap.new.items places.new.items ≡ slice_set (moments (last + 1) heap.old.items places.old.items) place None }
+    ensures moments { moments last heap.new.items places.new.items
+        ≡ slice_set (moments (last + 1) heap.old.items places.old.items) place None }
 {
     let at = places[place];
     swap(heap, places, at, last);

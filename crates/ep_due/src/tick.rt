@@ -17,7 +17,9 @@ pub fn take_due<A: Allocator, B: Allocator>(
     requires { IfSome next (λ m. now < m) }
     ensures taken { TakesDue now next queue.old queue.new taken.old.items taken.new.items }
     ensures none_left { OnOk result (HasNoneDue queue.new now) }
-    ensures each_once { OnOk result ((p : ℕ) → times_taken p taken.new.items ≡ times_taken p taken.old.items + due_weight now queue.old p) }
+    ensures each_once { OnOk result
+        ((p : ℕ) → times_taken p taken.new.items
+        ≡ times_taken p taken.old.items + due_weight now queue.old p) }
 {
     while let Some(place) = queue.first_due(now) {
         taken.push(place)?;

@@ -20,7 +20,8 @@ fn record_value(
     answer: Value,
     picked: Value,
 ) -> Result<Value, AllocError>
-    ensures { IfOk result (λ v. view v ≡ record_object caller (view event) (view answer) (view picked)) }
+    ensures { IfOk result
+        (λ v. view v ≡ record_object caller (view event) (view answer) (view picked)) }
 {
     let mut members = Map::new(alloc);
     put(&mut members, alloc, "caller", Value::from(caller))?;

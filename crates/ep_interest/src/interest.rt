@@ -105,7 +105,9 @@ fn raise_one<A: Allocator>(
     requires held { IsSome (slice_index_or slots.old.slots id.0 None) }
     requires passing { ArePassing slots.old.slots passes.old.keys.items }
     requires room { length slots.old.slots ≤ vec_capacity passes.old.keys }
-    ensures slots { slots.new.slots ≡ slice_set slots.old.slots id.0 (option_map (raised_on desc bits event) (slice_index_or slots.old.slots id.0 None)) }
+    ensures slots { slots.new.slots
+        ≡ slice_set slots.old.slots id.0
+        (option_map (raised_on desc bits event) (slice_index_or slots.old.slots id.0 None)) }
     ensures next { slots.new.vacant_key ≡ slots.old.vacant_key }
     ensures passing { ArePassing slots.new.slots passes.new.keys.items }
     ensures room { length slots.new.slots ≤ vec_capacity passes.new.keys }
@@ -129,7 +131,8 @@ fn raise_each<A: Allocator>(
     requires held { AllHeld slots.old.slots watchers }
     requires passing { ArePassing slots.old.slots passes.old.keys.items }
     requires room { length slots.old.slots ≤ vec_capacity passes.old.keys }
-    ensures slots { slots.new.slots ≡ changed_at (raised_on desc bits event) watchers.entry slots.old.slots }
+    ensures slots { slots.new.slots
+        ≡ changed_at (raised_on desc bits event) watchers.entry slots.old.slots }
     ensures next { slots.new.vacant_key ≡ slots.old.vacant_key }
     ensures passing { ArePassing slots.new.slots passes.new.keys.items }
     ensures room { length slots.new.slots ≤ vec_capacity passes.new.keys }
@@ -147,7 +150,8 @@ fn freshen_each<A: Allocator>(
     bits: Mask,
 )
     requires { AllHeld slots.old.slots watchers }
-    ensures slots { slots.new.slots ≡ changed_at (freshened_on desc bits) watchers.entry slots.old.slots }
+    ensures slots { slots.new.slots
+        ≡ changed_at (freshened_on desc bits) watchers.entry slots.old.slots }
     ensures next { slots.new.vacant_key ≡ slots.old.vacant_key }
 {
     for id in watchers {
@@ -171,7 +175,9 @@ fn stays_armed(entry: &Entry) -> bool
 
 /// Forgets it of the registration under a key, where there still is one.
 fn rest_at<A: Allocator>(slots: &mut Slab<Entry, A>, id: EntryId)
-    ensures slots { slots.new.slots ≡ slice_set slots.old.slots id.0 (option_map settled (slice_index_or slots.old.slots id.0 None)) }
+    ensures slots { slots.new.slots
+        ≡ slice_set slots.old.slots id.0
+        (option_map settled (slice_index_or slots.old.slots id.0 None)) }
     ensures next { slots.new.vacant_key ≡ slots.old.vacant_key }
 {
     if let Some(entry) = slots.get_mut(id.0) {
@@ -273,8 +279,11 @@ impl<A: Allocator> Interest<A> {
     pub fn add(&mut self, addition: Addition) -> Result<EntryId, AllocError>
     where
         A: Clone,
-        requires absent { list_any (has_key addition.instance addition.fd addition.desc) self.old.entries ≡ false }
-        ensures entries { IfOk result (λ _. self.new.entries ≡ self.old.entries ++ entry_of (self.old.added + 1) addition ∷ []) }
+        requires absent { list_any (has_key addition.instance addition.fd addition.desc)
+            self.old.entries ≡ false }
+        ensures entries { IfOk result
+            (λ _. self.new.entries
+            ≡ self.old.entries ++ entry_of (self.old.added + 1) addition ∷ []) }
         ensures keys { IfOk result (λ id. GainsKey self.old self.new id (self.old.added + 1)) }
         ensures next { IfOk result (λ id. id.0 ≡ self.old.next) }
         ensures added { IfOk result (λ _. self.new.added ≡ self.old.added + 1) }
@@ -318,10 +327,14 @@ impl<A: Allocator> Interest<A> {
     /// The key of the registration with this instance, descriptor number and description, by a look-up of its hash; `None`
     /// where there is none. The cost doesn't grow with the registrations.
     pub fn find(&self, instance: DescId, fd: Fd, desc: DescId) -> Option<EntryId>
-        ensures exact { result ≡ option_map (λ x. id_of self.now x.number) (first_where (has_key instance fd desc) self.now.entries) }
+        ensures exact { result ≡ option_map
+            (λ x. id_of self.now x.number)
+            (first_where (has_key instance fd desc) self.now.entries) }
         ensures there { is_some result ≡ list_any (has_key instance fd desc) self.now.entries }
         ensures key { IfSome result (λ id. IsSome (number_under self.now id)) }
-        ensures entry { IfSome result (λ id. numbered self.now.entries (unwrap_or (number_under self.now id) 0) ≡ first_where (has_key instance fd desc) self.now.entries) }
+        ensures entry { IfSome result
+            (λ id. numbered self.now.entries (unwrap_or (number_under self.now id) 0)
+            ≡ first_where (has_key instance fd desc) self.now.entries) }
     {
         self.by_key.get(&Key::new(instance, fd, desc)).copied()
     }
@@ -357,7 +370,8 @@ impl<A: Allocator> Interest<A> {
     /// is disarmed. The cost doesn't grow with the registrations.
     pub fn report(&mut self, id: EntryId, event: u64)
         requires { IsSome (number_under self.old id) }
-        ensures entries { self.new.entries ≡ map (reported (unwrap_or (number_under self.old id) 0) event) self.old.entries }
+        ensures entries { self.new.entries
+            ≡ map (reported (unwrap_or (number_under self.old id) 0) event) self.old.entries }
         ensures keys { self.new.keys ≡ self.old.keys }
         ensures added { self.new.added ≡ self.old.added }
         ensures next { self.new.next ≡ self.old.next }
@@ -375,7 +389,8 @@ impl<A: Allocator> Interest<A> {
     /// is fresh. The event of its last report stays. The cost doesn't grow with the registrations.
     pub fn modify(&mut self, id: EntryId, mask: Mask, tag: u64)
         requires { IsSome (number_under self.old id) }
-        ensures entries { self.new.entries ≡ map (modified (unwrap_or (number_under self.old id) 0) mask tag) self.old.entries }
+        ensures entries { self.new.entries
+            ≡ map (modified (unwrap_or (number_under self.old id) 0) mask tag) self.old.entries }
         ensures keys { self.new.keys ≡ self.old.keys }
         ensures added { self.new.added ≡ self.old.added }
         ensures next { self.new.next ≡ self.old.next }
@@ -437,7 +452,8 @@ impl<A: Allocator> Interest<A> {
 
     /// The keys of the registrations that pass something on in this event, each once. It takes no memory.
     pub fn passing(&self) -> &[EntryId]
-        ensures exact { (id : EntryId) → has_id result.now id.0 ≡ passes_on (entry_under self.now id) }
+        ensures exact { (id : EntryId)
+            → has_id result.now id.0 ≡ passes_on (entry_under self.now id) }
         ensures once { IsDistinct nat_eq (key_numbers result.now) }
     {
         &self.passes.keys
@@ -447,7 +463,8 @@ impl<A: Allocator> Interest<A> {
     /// The cost grows as the logarithm of the number of registrations.
     pub fn remove(&mut self, id: EntryId)
         requires { IsSome (number_under self.old id) }
-        ensures entries { self.new.entries ≡ filter (is_other (unwrap_or (number_under self.old id) 0)) self.old.entries }
+        ensures entries { self.new.entries
+            ≡ filter (is_other (unwrap_or (number_under self.old id) 0)) self.old.entries }
         ensures keys { self.new.keys ≡ slice_set self.old.keys id.0 None }
         ensures added { self.new.added ≡ self.old.added }
         ensures next { self.new.next ≡ id.0 }
@@ -466,7 +483,8 @@ impl<A: Allocator> Interest<A> {
     /// Only these are visited, and each costs what `remove` does.
     pub fn purge(&mut self, desc: DescId)
         ensures entries { self.new.entries ≡ filter (is_apart_from desc) self.old.entries }
-        ensures keys { (id : EntryId) → number_under self.new id ≡ left_number self.new.entries (number_under self.old id) }
+        ensures keys { (id : EntryId)
+            → number_under self.new id ≡ left_number self.new.entries (number_under self.old id) }
         ensures added { self.new.added ≡ self.old.added }
     {
         self.known();
@@ -477,7 +495,8 @@ impl<A: Allocator> Interest<A> {
 
     /// The key of a registration in the set of a description or on it, `None` where there is none.
     fn first_touching(&self, desc: DescId) -> Option<EntryId>
-        ensures none { IfNone result (filter (is_apart_from desc) self.now.entries ≡ self.now.entries) }
+        ensures none { IfNone result
+            (filter (is_apart_from desc) self.now.entries ≡ self.now.entries) }
         ensures some { IfSome result (λ id. Touches self.now desc id) }
         ensures sound { IsSound self.now }
     {

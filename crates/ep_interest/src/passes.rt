@@ -88,7 +88,8 @@ impl<A: Allocator> Passes<A> {
     fn remove(&mut self, id: EntryId)
         requires { IsDistinct nat_eq (key_numbers self.old.keys.items) }
         ensures once { IsDistinct nat_eq (key_numbers self.new.keys.items) }
-        ensures noted { (k : ℕ) → has_id self.new.keys.items k ≡ (if nat_eq id.0 k then false else has_id self.old.keys.items k) }
+        ensures noted { (k : ℕ) → has_id self.new.keys.items k
+            ≡ (if nat_eq id.0 k then false else has_id self.old.keys.items k) }
         ensures kept { vec_capacity self.new.keys ≡ vec_capacity self.old.keys }
     {
         match self.place_of(id) {
@@ -106,7 +107,8 @@ impl<A: Allocator> Passes<A> {
         requires noted { has_id self.old.keys.items id.0 ≡ before }
         requires room { before ≡ false → vec_len self.old.keys < vec_capacity self.old.keys }
         ensures once { IsDistinct nat_eq (key_numbers self.new.keys.items) }
-        ensures noted { (k : ℕ) → has_id self.new.keys.items k ≡ (if nat_eq id.0 k then after else has_id self.old.keys.items k) }
+        ensures noted { (k : ℕ) → has_id self.new.keys.items k
+            ≡ (if nat_eq id.0 k then after else has_id self.old.keys.items k) }
         ensures kept { vec_capacity self.old.keys ≤ vec_capacity self.new.keys }
     {
         if before == after {

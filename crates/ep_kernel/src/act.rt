@@ -39,12 +39,20 @@ fn make_call(
     requires free { list_any (is_caller request.caller.0) parts.old.parked ≡ false }
     requires process { is_some (table_of parts.old.tables.files pid.0) ≡ true }
     requires listed { IsListed parts.old lists.old }
-    ensures ok { IfOk result (λ outcome. DoesCallFairly lists.old request.step request.caller.0 pid.0 call.now outcome parts.old parts.new) }
-    ensures tables { IfOk result (λ outcome. CallsTables pid.0 call.now outcome.answer parts.old parts.new) }
-    ensures clock { IfOk result (λ outcome. ClockStays outcome.raising parts.old.clock parts.new.clock) }
+    ensures ok { IfOk result
+        (λ outcome. DoesCallFairly lists.old request.step request.caller.0 pid.0 call.now outcome
+        parts.old parts.new) }
+    ensures tables { IfOk result
+        (λ outcome. CallsTables pid.0 call.now outcome.answer parts.old parts.new) }
+    ensures clock { IfOk result
+        (λ outcome. ClockStays outcome.raising parts.old.clock parts.new.clock) }
     ensures kept { IfOk result (λ outcome. KeepsCall call.now request.kept outcome) }
-    ensures turns { IfOk result (λ outcome. Turns (CallOf pid call.now) outcome.picked parts.old lists.old parts.new lists.new) }
-    ensures order { IfOk result (λ outcome. ReportsInOrder lists.old request.step request.caller.0 (CallOf pid call.now) outcome parts.old parts.new lists.new) }
+    ensures turns { IfOk result
+        (λ outcome. Turns (CallOf pid call.now) outcome.picked parts.old lists.old parts.new
+        lists.new) }
+    ensures order { IfOk result
+        (λ outcome. ReportsInOrder lists.old request.step request.caller.0 (CallOf pid call.now)
+        outcome parts.old parts.new lists.new) }
     ensures err { OnErr result ((parts.new ≡ parts.old) × Same lists.old lists.new) }
 {
     match *call {
@@ -95,12 +103,18 @@ pub fn act(
     kept: bool,
 ) -> Result<Outcome, AllocError>
     requires { IsListed parts.old lists.old }
-    ensures ok { IfOk result (λ outcome. DoesEventFairly lists.old step caller.0 event.now outcome parts.old parts.new) }
-    ensures tables { IfOk result (λ outcome. TouchesTables event.now outcome.answer parts.old parts.new) }
-    ensures clock { IfOk result (λ outcome. MovesClock event.now outcome.raising parts.old.clock parts.new.clock) }
+    ensures ok { IfOk result
+        (λ outcome. DoesEventFairly lists.old step caller.0 event.now outcome parts.old parts.new) }
+    ensures tables { IfOk result
+        (λ outcome. TouchesTables event.now outcome.answer parts.old parts.new) }
+    ensures clock { IfOk result
+        (λ outcome. MovesClock event.now outcome.raising parts.old.clock parts.new.clock) }
     ensures kept { IfOk result (λ outcome. KeepsEvent event.now kept outcome) }
-    ensures turns { IfOk result (λ outcome. Turns event.now outcome.picked parts.old lists.old parts.new lists.new) }
-    ensures order { IfOk result (λ outcome. ReportsInOrder lists.old step caller.0 event.now outcome parts.old parts.new lists.new) }
+    ensures turns { IfOk result
+        (λ outcome. Turns event.now outcome.picked parts.old lists.old parts.new lists.new) }
+    ensures order { IfOk result
+        (λ outcome. ReportsInOrder lists.old step caller.0 event.now outcome parts.old parts.new
+        lists.new) }
     ensures err { OnErr result ((parts.new ≡ parts.old) × Same lists.old lists.new) }
 {
     match event {

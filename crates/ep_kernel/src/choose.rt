@@ -23,7 +23,8 @@ fn reportable_at(parts: &Parts, lists: &ReadyLists, id: EntryId) -> Option<Repor
     requires listed { IsListed parts.now lists.now }
     ensures shows { is_some result ≡ key_shows parts.now id.0 }
     ensures id { IfSome result (λ x. x.id ≡ id) }
-    ensures keyed { IfSome result (λ x. IsKeyed parts.now.tables parts.now.clock parts.now.interest x) }
+    ensures keyed { IfSome result
+        (λ x. IsKeyed parts.now.tables parts.now.clock parts.now.interest x) }
 {
     parts.known();
     parts.interest.known();
@@ -49,7 +50,9 @@ pub fn choose(
     most: usize,
 ) -> Result<Found, AllocError>
     requires listed { IsListed parts.now lists.now }
-    ensures { IfOk result (λ found. IsFound parts.now (list_at lists.now instance.0) most found.reportables.items found.walked) }
+    ensures { IfOk result
+        (λ found. IsFound parts.now (list_at lists.now instance.0) most found.reportables.items
+        found.walked) }
 {
     let mut reportables = Vec::new(parts.alloc);
     let mut walked = 0;

@@ -20,7 +20,8 @@ use ep_table::Tables;
 /// Makes the registrations on an instance fresh that ask for IN, where it is one.
 fn freshen_above(tables: &Tables, interest: &mut Interest, desc: DescId)
     requires { IsSome (number_under tables.now desc) }
-    ensures entries { interest.new.entries ≡ map (climbs_to (is_nested_key tables.now desc) desc) interest.old.entries }
+    ensures entries { interest.new.entries
+        ≡ map (climbs_to (is_nested_key tables.now desc) desc) interest.old.entries }
     ensures keys { interest.new.keys ≡ interest.old.keys }
     ensures added { interest.new.added ≡ interest.old.added }
 {
@@ -33,9 +34,11 @@ fn freshen_above(tables: &Tables, interest: &mut Interest, desc: DescId)
 fn freshen_reached(tables: &Tables, interest: &mut Interest, lists: &ReadyLists)
     requires linked { AreLinked tables.now interest.old }
     requires live { AreLive tables.now lists.now.reached }
-    ensures climbs { (n : ℕ) → AreReached n tables.now interest.old lists.now.reached → Climbs n tables.now interest.old interest.new }
+    ensures climbs { (n : ℕ) → AreReached n tables.now interest.old lists.now.reached
+        → Climbs n tables.now interest.old interest.new }
     ensures keys { interest.new.keys ≡ interest.old.keys }
-    ensures nested { (ls : List Pair) → AreNested tables.now interest.old ls → AreNested tables.now interest.new ls }
+    ensures nested { (ls : List Pair) → AreNested tables.now interest.old ls
+        → AreNested tables.now interest.new ls }
 {
     for index in 0..lists.reached_count() {
         let instance = lists.reached_at(index);
@@ -47,7 +50,8 @@ fn freshen_reached(tables: &Tables, interest: &mut Interest, lists: &ReadyLists)
 /// The same with the parts of a kernel.
 fn freshen(parts: &mut Parts, lists: &ReadyLists)
     requires { (n : ℕ) × AreReached n parts.old.tables parts.old.interest lists.now.reached }
-    ensures climbs { (n : ℕ) → AreReached n parts.old.tables parts.old.interest lists.now.reached → Climbs n parts.old.tables parts.old.interest parts.new.interest }
+    ensures climbs { (n : ℕ) → AreReached n parts.old.tables parts.old.interest lists.now.reached
+        → Climbs n parts.old.tables parts.old.interest parts.new.interest }
     ensures keys { parts.new.interest.keys ≡ parts.old.interest.keys }
     ensures others { parts.new ≡ record parts.old { interest = parts.new.interest } }
 {

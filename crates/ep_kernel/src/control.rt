@@ -45,9 +45,13 @@ fn alter(
     requires plan { IsPlan parts.old pid.0 args plan }
     requires found { plan.found ≡ Some id }
     requires listed { IsListed parts.old lists.old }
-    ensures ok { IfOk result (λ outcome. (n caller : ℕ) → DoesCall n caller pid.0 (control_call args) outcome parts.old parts.new) }
+    ensures ok { IfOk result
+        (λ outcome. (n caller : ℕ)
+        → DoesCall n caller pid.0 (control_call args) outcome parts.old parts.new) }
     ensures leaves { IfOk result (λ outcome. LeavesFiles outcome.raising parts.old parts.new) }
-    ensures turns { IfOk result (λ outcome. Turns (CallOf pid (control_call args)) outcome.picked parts.old lists.old parts.new lists.new) }
+    ensures turns { IfOk result
+        (λ outcome. Turns (CallOf pid (control_call args)) outcome.picked parts.old lists.old
+        parts.new lists.new) }
     ensures err { OnErr result ((parts.new ≡ parts.old) × Same lists.old lists.new) }
 {
     parts.known();
@@ -71,9 +75,13 @@ fn add(
     requires adds { plan.operation ≡ Add }
     requires found { plan.found ≡ None }
     requires listed { IsListed parts.old lists.old }
-    ensures ok { IfOk result (λ outcome. (n caller : ℕ) → DoesCall n caller pid.0 (control_call args) outcome parts.old parts.new) }
+    ensures ok { IfOk result
+        (λ outcome. (n caller : ℕ)
+        → DoesCall n caller pid.0 (control_call args) outcome parts.old parts.new) }
     ensures leaves { IfOk result (λ outcome. LeavesFiles outcome.raising parts.old parts.new) }
-    ensures turns { IfOk result (λ outcome. Turns (CallOf pid (control_call args)) outcome.picked parts.old lists.old parts.new lists.new) }
+    ensures turns { IfOk result
+        (λ outcome. Turns (CallOf pid (control_call args)) outcome.picked parts.old lists.old
+        parts.new lists.new) }
     ensures err { OnErr result ((parts.new ≡ parts.old) × Same lists.old lists.new) }
 {
     parts.known();
@@ -105,9 +113,13 @@ fn enter(
     requires plan { IsPlan parts.old pid.0 args plan }
     requires found { plan.found ≡ None }
     requires listed { IsListed parts.old lists.old }
-    ensures ok { IfOk result (λ outcome. (n caller : ℕ) → DoesCall n caller pid.0 (control_call args) outcome parts.old parts.new) }
+    ensures ok { IfOk result
+        (λ outcome. (n caller : ℕ)
+        → DoesCall n caller pid.0 (control_call args) outcome parts.old parts.new) }
     ensures leaves { IfOk result (λ outcome. LeavesFiles outcome.raising parts.old parts.new) }
-    ensures turns { IfOk result (λ outcome. Turns (CallOf pid (control_call args)) outcome.picked parts.old lists.old parts.new lists.new) }
+    ensures turns { IfOk result
+        (λ outcome. Turns (CallOf pid (control_call args)) outcome.picked parts.old lists.old
+        parts.new lists.new) }
     ensures err { OnErr result ((parts.new ≡ parts.old) × Same lists.old lists.new) }
 {
     match plan.operation {
@@ -127,9 +139,13 @@ pub fn epoll_ctl(
     args: Control,
 ) -> Result<Outcome, AllocError>
     requires listed { IsListed parts.old lists.old }
-    ensures ok { IfOk result (λ outcome. (n caller : ℕ) → DoesCall n caller pid.0 (control_call args) outcome parts.old parts.new) }
+    ensures ok { IfOk result
+        (λ outcome. (n caller : ℕ)
+        → DoesCall n caller pid.0 (control_call args) outcome parts.old parts.new) }
     ensures leaves { IfOk result (λ outcome. LeavesFiles outcome.raising parts.old parts.new) }
-    ensures turns { IfOk result (λ outcome. Turns (CallOf pid (control_call args)) outcome.picked parts.old lists.old parts.new lists.new) }
+    ensures turns { IfOk result
+        (λ outcome. Turns (CallOf pid (control_call args)) outcome.picked parts.old lists.old
+        parts.new lists.new) }
     ensures err { OnErr result ((parts.new ≡ parts.old) × Same lists.old lists.new) }
 {
     let plan = match parts.plan(pid, args) {

@@ -39,7 +39,8 @@ pub fn attend(resumed: Option<DescId>, raising: Raising) -> Option<DescId>
 
 /// Marks whoever is due. The cost grows with those that this marks, and not with others.
 fn mark_due(parts: &mut Parts)
-    ensures { parts.new ≡ record parts.old { parked = map (marked_if_due parts.old.clock) parts.old.parked } }
+    ensures { parts.new
+        ≡ record parts.old { parked = map (marked_if_due parts.old.clock) parts.old.parked } }
 {
     parts.waiters.mark_due(parts.clock);
 }
@@ -48,7 +49,11 @@ fn mark_due(parts: &mut Parts)
 /// nobody waits or one is marked.
 fn mark_at(parts: &mut Parts, lists: &ReadyLists, instance: DescId)
     requires { IsListed parts.old lists.now }
-    ensures { parts.new ≡ record parts.old { parked = marked_where (ready_key parts.old.tables parts.old.clock parts.old.interest) instance.0 parts.old.parked } }
+    ensures { parts.new
+        ≡ record parts.old {
+          parked = marked_where (ready_key parts.old.tables parts.old.clock parts.old.interest)
+              instance.0 parts.old.parked;
+        } }
 {
     parts.known();
     if !parts.waiters.has_waiter(instance) {
@@ -65,7 +70,12 @@ fn mark_at(parts: &mut Parts, lists: &ReadyLists, instance: DescId)
 /// Marks the caller that waits longest at each instance that the event reached, where that is ready and none is marked there.
 fn mark_reached(parts: &mut Parts, lists: &ReadyLists)
     requires { IsListed parts.old lists.now }
-    ensures { parts.new ≡ record parts.old { parked = marked_in_turn (filter (ready_key parts.old.tables parts.old.clock parts.old.interest) lists.now.reached) parts.old.parked } }
+    ensures { parts.new
+        ≡ record parts.old {
+          parked = marked_in_turn
+              (filter (ready_key parts.old.tables parts.old.clock parts.old.interest) lists.now.reached)
+              parts.old.parked;
+        } }
 {
     for index in 0..lists.reached_count() {
         mark_at(parts, lists, lists.reached_at(index));
@@ -75,7 +85,12 @@ fn mark_reached(parts: &mut Parts, lists: &ReadyLists)
 /// The same at the instance that the event attends, if there is one.
 fn mark_attended(parts: &mut Parts, lists: &ReadyLists, attend: Option<DescId>)
     requires { IsListed parts.old lists.now }
-    ensures { parts.new ≡ record parts.old { parked = marked_in_turn (filter (ready_key parts.old.tables parts.old.clock parts.old.interest) (attended attend)) parts.old.parked } }
+    ensures { parts.new
+        ≡ record parts.old {
+          parked = marked_in_turn
+              (filter (ready_key parts.old.tables parts.old.clock parts.old.interest) (attended attend))
+              parts.old.parked;
+        } }
 {
     if let Some(instance) = attend {
         mark_at(parts, lists, instance);
@@ -88,7 +103,9 @@ fn mark_attended(parts: &mut Parts, lists: &ReadyLists, attend: Option<DescId>)
 pub fn mark(parts: &mut Parts, lists: &ReadyLists, attend: Option<DescId>)
     requires listed { IsListed parts.old lists.now }
     requires reached { AreLookedAt parts.old lists.now attend }
-    ensures marks { parts.new.parked ≡ marked_by (ready_key parts.old.tables parts.old.clock parts.old.interest) parts.old.clock parts.old.parked }
+    ensures marks { parts.new.parked
+        ≡ marked_by (ready_key parts.old.tables parts.old.clock parts.old.interest) parts.old.clock
+        parts.old.parked }
     ensures others { parts.new ≡ record parts.old { parked = parts.new.parked } }
 {
     unmarked_in_turn();

@@ -21,7 +21,8 @@ fn drop_one(lists: &mut ReadyLists, id: EntryId)
 
 /// Takes the places of the registrations of an instance away.
 fn drop_set(interest: &Interest, lists: &mut ReadyLists, instance: DescId)
-    ensures { LosesPlaces (has_id (ids interest.now (filter (is_of instance) interest.now.entries))) lists.old lists.new }
+    ensures { LosesPlaces (has_id (ids interest.now (filter (is_of instance) interest.now.entries)))
+        lists.old lists.new }
 {
     for (id, _) in interest.entries(instance) {
         drop_one(lists, id);
@@ -30,7 +31,8 @@ fn drop_set(interest: &Interest, lists: &mut ReadyLists, instance: DescId)
 
 /// Takes the places of the registrations on a description away.
 fn drop_watchers(interest: &Interest, lists: &mut ReadyLists, desc: DescId)
-    ensures { LosesPlaces (has_id (ids interest.now (filter (is_on desc) interest.now.entries))) lists.old lists.new }
+    ensures { LosesPlaces (has_id (ids interest.now (filter (is_on desc) interest.now.entries)))
+        lists.old lists.new }
 {
     for id in interest.watchers(desc) {
         drop_one(lists, id);

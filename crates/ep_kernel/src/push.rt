@@ -35,7 +35,8 @@ fn passes(interest: &Interest, id: EntryId) -> bool
 /// Puts a registration at the end of its list, where it passes something on.
 fn push_if_passing(interest: &Interest, lists: &mut ReadyLists, id: EntryId)
     requires { HavePlaces interest.now lists.old }
-    ensures { Gains (λ k. k == id.0 && passes_found (entry_under interest.now (entry_id k))) lists.old lists.new }
+    ensures { Gains (λ k. k == id.0 && passes_found (entry_under interest.now (entry_id k)))
+        lists.old lists.new }
 {
     lists.known();
     if passes(interest, id) {
@@ -46,7 +47,8 @@ fn push_if_passing(interest: &Interest, lists: &mut ReadyLists, id: EntryId)
 /// Puts each registration at the end of its list that passes something on which was raised at its target.
 fn push_passing(interest: &Interest, lists: &mut ReadyLists)
     requires { HavePlaces interest.now lists.old }
-    ensures { Gains (λ k. passes_found (entry_under interest.now (entry_id k))) lists.old lists.new }
+    ensures { Gains (λ k. passes_found (entry_under interest.now (entry_id k))) lists.old
+        lists.new }
 {
     for id in interest.passing() {
         push_if_passing(interest, lists, *id);
@@ -56,7 +58,8 @@ fn push_passing(interest: &Interest, lists: &mut ReadyLists)
 /// Puts a registration at the end of its list, where IN comes through it.
 fn push_if_letting(interest: &Interest, lists: &mut ReadyLists, id: EntryId)
     requires { HavePlaces interest.now lists.old }
-    ensures { Gains (λ k. k == id.0 && lets_in (entry_under interest.now (entry_id k))) lists.old lists.new }
+    ensures { Gains (λ k. k == id.0 && lets_in (entry_under interest.now (entry_id k))) lists.old
+        lists.new }
 {
     lists.known();
     if interest.lets_by(id) {
@@ -67,7 +70,8 @@ fn push_if_letting(interest: &Interest, lists: &mut ReadyLists, id: EntryId)
 /// Puts the registrations on a description at the end of their lists through which IN comes.
 fn push_watchers(interest: &Interest, lists: &mut ReadyLists, desc: DescId)
     requires { HavePlaces interest.now lists.old }
-    ensures { Gains (λ k. has_id (ids interest.now (filter (is_on desc) interest.now.entries)) k && lets_in (entry_under interest.now (entry_id k))) lists.old lists.new }
+    ensures { Gains (λ k. has_id (ids interest.now (filter (is_on desc) interest.now.entries)) k
+        && lets_in (entry_under interest.now (entry_id k))) lists.old lists.new }
 {
     for id in interest.watchers(desc) {
         push_if_letting(interest, lists, id);
@@ -89,7 +93,8 @@ fn push_above(parts: &Parts, lists: &mut ReadyLists, desc: DescId)
 fn push_nested(parts: &Parts, lists: &mut ReadyLists)
     requires places { HavePlaces parts.now.interest lists.old }
     requires live { AreLive parts.now.tables lists.old.reached }
-    ensures { Gains (λ k. list_any (λ i. comes_on parts.now (record { 0 = i }) k) lists.old.reached) lists.old lists.new }
+    ensures { Gains (λ k. list_any (λ i. comes_on parts.now (record { 0 = i }) k) lists.old.reached)
+        lists.old lists.new }
 {
     for index in 0..lists.reached_count() {
         let instance = lists.reached_at(index);
@@ -102,7 +107,8 @@ fn push_nested(parts: &Parts, lists: &mut ReadyLists)
 pub fn push(parts: &Parts, lists: &mut ReadyLists)
     requires places { HavePlaces parts.now.interest lists.old }
     requires live { AreLive parts.now.tables lists.old.reached }
-    ensures { (n : ℕ) → AreReached n parts.now.tables parts.now.interest lists.old.reached → Gains (comes_in n parts.now) lists.old lists.new }
+    ensures { (n : ℕ) → AreReached n parts.now.tables parts.now.interest lists.old.reached
+        → Gains (comes_in n parts.now) lists.old lists.new }
 {
     parts.known();
     parts.interest.known();

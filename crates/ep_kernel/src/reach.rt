@@ -60,7 +60,8 @@ fn ascend_from(
     requires placed { HavePlaces interest.now lists.old }
     requires places { AreHome graph.old lists.old }
     ensures graph { graph.new ≡ graph.old }
-    ensures exact { AscendsFrom (open_edges interest.now graph.old) (passed_by step (entry_under interest.now id)) lists.old lists.new }
+    ensures exact { AscendsFrom (open_edges interest.now graph.old)
+        (passed_by step (entry_under interest.now id)) lists.old lists.new }
 {
     if let Some(instance) = passed_to(interest, id, step) {
         ascend(interest, graph, lists, instance);

@@ -75,7 +75,9 @@ pub fn is_ready(parts: &Parts, lists: &ReadyLists, instance: DescId) -> bool
 pub fn shown(parts: &Parts, lists: &ReadyLists, entry: &Entry) -> Mask
     requires target { IsSome (number_under parts.now.tables entry.now.desc) }
     requires listed { IsListed parts.now lists.now }
-    ensures { result.0 ≡ entry_bits (readiness_of parts.now.tables parts.now.clock parts.now.interest) parts.now.tables parts.now.clock entry.now }
+    ensures { result.0 ≡ entry_bits
+        (readiness_of parts.now.tables parts.now.clock parts.now.interest) parts.now.tables
+        parts.now.clock entry.now }
 {
     parts.known();
     let below = parts.tables.object(entry.desc).is_instance() && is_ready(parts, lists, entry.desc);

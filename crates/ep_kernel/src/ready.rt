@@ -48,7 +48,9 @@ impl ReadyKernel {
     /// A kernel in the opening state: process 1, whose descriptors 0, 1 and 2 name one plain object,
     /// and an empty history. An `Err` is want of memory.
     pub fn new(alloc: Global, limits: Limits) -> Result<ReadyKernel, AllocError>
-        ensures { IfOk result (λ kernel. kernel ≡ record { book = record { limits = limits; past = []; capacity = 0 }; lists = [] }) }
+        ensures { IfOk result
+            (λ kernel. kernel
+            ≡ record { book = record { limits = limits; past = []; capacity = 0 }; lists = [] }) }
     {
         Ok(ReadyKernel {
             parts: Parts::new(alloc, limits)?,
@@ -62,11 +64,15 @@ impl ReadyKernel {
     /// on the list of its instance, what is on one is armed, and fresh where it is edge-triggered, and none is on one twice.
     /// The instance and the target of each registration live, and each waiter waits at an instance.
     pub fn known(&self)
-        ensures complete { (e k : ℕ) → is_reportable_in (state_of self.now) e k ≡ true → is_among (listed self.now e) k ≡ true }
-        ensures sound { (e k : ℕ) → is_among (listed self.now e) k ≡ true → MayBeListed (state_of self.now) e k }
+        ensures complete { (e k : ℕ) → is_reportable_in (state_of self.now) e k ≡ true
+            → is_among (listed self.now e) k ≡ true }
+        ensures sound { (e k : ℕ) → is_among (listed self.now e) k ≡ true
+            → MayBeListed (state_of self.now) e k }
         ensures once { (e : ℕ) → are_distinct (listed self.now e) ≡ true }
-        ensures live { All (λ x. IsSteady (state_of self.now).files x.instance x.target) (state_of self.now).watches }
-        ensures waiting { All (λ w. kind_of (object_of (state_of self.now).files w.instance) ≡ 1) (state_of self.now).waiters }
+        ensures live { All (λ x. IsSteady (state_of self.now).files x.instance x.target)
+            (state_of self.now).watches }
+        ensures waiting { All (λ w. kind_of (object_of (state_of self.now).files w.instance) ≡ 1)
+            (state_of self.now).waiters }
     {
         know(&self.parts);
         self.lists.known();
@@ -82,11 +88,15 @@ impl ReadyKernel {
     ) -> Result<(Answer, Option<Spare>), AllocError>
         ensures limits { self.new.book.limits ≡ self.old.book.limits }
         ensures capacity { self.old.book.capacity ≤ self.new.book.capacity }
-        ensures ok { IfOk result (λ r. Adds self.old.book.limits caller event r.0 (state_of self.old) (state_of self.new) self.old.book.past self.new.book.past) }
+        ensures ok { IfOk result
+            (λ r. Adds self.old.book.limits caller event r.0 (state_of self.old) (state_of self.new)
+            self.old.book.past self.new.book.past) }
         ensures lists { IfOk result (λ r. TurnsLists caller event r.0 self.old self.new) }
         ensures real { IfOk result (λ r. is_no_memory r.0 ≡ false) }
-        ensures spare { IfOk result (λ r. kept ≡ true → HasRecord caller event r.1 self.old.book.past self.new.book.past) }
-        ensures err { OnErr result (self.new.book ≡ record self.old.book { capacity = self.new.book.capacity }) }
+        ensures spare { IfOk result
+            (λ r. kept ≡ true → HasRecord caller event r.1 self.old.book.past self.new.book.past) }
+        ensures err { OnErr result
+            (self.new.book ≡ record self.old.book { capacity = self.new.book.capacity }) }
         ensures err_lists { OnErr result (self.new.lists ≡ self.old.lists) }
     {
         self.history.reserve(1)?;
@@ -136,11 +146,15 @@ impl ReadyKernel {
     ) -> Result<Answer, AllocError>
         ensures limits { self.new.book.limits ≡ self.old.book.limits }
         ensures capacity { self.old.book.capacity ≤ self.new.book.capacity }
-        ensures ok { IfOk result (λ answer. Adds self.old.book.limits caller event answer (state_of self.old) (state_of self.new) self.old.book.past self.new.book.past) }
+        ensures ok { IfOk result
+            (λ answer. Adds self.old.book.limits caller event answer (state_of self.old)
+            (state_of self.new) self.old.book.past self.new.book.past) }
         ensures lists { IfOk result (λ answer. TurnsLists caller event answer self.old self.new) }
         ensures real { IfOk result (λ answer. is_no_memory answer ≡ false) }
-        ensures kept { IfOk result (λ answer. Gains self.old.book.past self.new.book.past kept.old.items kept.new.items) }
-        ensures err { OnErr result (self.new.book ≡ record self.old.book { capacity = self.new.book.capacity }) }
+        ensures kept { IfOk result
+            (λ answer. Gains self.old.book.past self.new.book.past kept.old.items kept.new.items) }
+        ensures err { OnErr result
+            (self.new.book ≡ record self.old.book { capacity = self.new.book.capacity }) }
         ensures err_lists { OnErr result (self.new.lists ≡ self.old.lists) }
         ensures err_kept { OnErr result (kept.new.items ≡ kept.old.items) }
     {
@@ -181,7 +195,8 @@ impl Kernel for ReadyKernel {
     fn step(&mut self, caller: CallerId, event: Event) -> Answer
         ensures limits { self.new.book.limits ≡ self.old.book.limits }
         ensures capacity { self.old.book.capacity ≤ self.new.book.capacity }
-        ensures acts { Acts self.old.book.limits caller event result (state_of self.old) (state_of self.new) self.old.book.past self.new.book.past }
+        ensures acts { Acts self.old.book.limits caller event result (state_of self.old)
+            (state_of self.new) self.old.book.past self.new.book.past }
         ensures lists { ActsOnLists caller event result self.old self.new }
     {
         match self.try_step(caller, event, false) {
@@ -195,8 +210,10 @@ impl Kernel for ReadyKernel {
     fn step_kept(&mut self, caller: CallerId, event: Event, kept: &mut Vec<Record>) -> Answer
         ensures limits { self.new.book.limits ≡ self.old.book.limits }
         ensures capacity { self.old.book.capacity ≤ self.new.book.capacity }
-        ensures acts { Acts self.old.book.limits caller event result (state_of self.old) (state_of self.new) self.old.book.past self.new.book.past }
-        ensures kept { KeepsRecord result self.old.book.past self.new.book.past kept.old.items kept.new.items }
+        ensures acts { Acts self.old.book.limits caller event result (state_of self.old)
+            (state_of self.new) self.old.book.past self.new.book.past }
+        ensures kept { KeepsRecord result self.old.book.past self.new.book.past kept.old.items
+            kept.new.items }
         ensures lists { ActsOnLists caller event result self.old self.new }
     {
         match self.try_step_kept(caller, event, kept) {

@@ -23,7 +23,8 @@ fn stays_listed(interest: &Interest, id: EntryId, step: u64) -> bool
 /// Takes the first registration off the list of an instance; where it stays, it comes to the end.
 fn take_front(interest: &Interest, lists: &mut ReadyLists, instance: DescId, step: u64)
     requires { 0 < length (list_at lists.old instance.0) }
-    ensures { SetsList lists.old lists.new instance.0 (taken (key_stays step interest.now) 1 (list_at lists.old instance.0)) }
+    ensures { SetsList lists.old lists.new instance.0
+        (taken (key_stays step interest.now) 1 (list_at lists.old instance.0)) }
 {
     lists.known();
     let Some(id) = lists.front(instance) else {
@@ -39,7 +40,8 @@ fn take_front(interest: &Interest, lists: &mut ReadyLists, instance: DescId, ste
 /// Takes so many registrations off the front of the list of an instance; those that stay come to the end, in order.
 pub fn take(interest: &Interest, lists: &mut ReadyLists, instance: DescId, walked: usize, step: u64)
     requires { walked ≤ length (list_at lists.old instance.0) }
-    ensures { SetsList lists.old lists.new instance.0 (taken (key_stays step interest.now) walked (list_at lists.old instance.0)) }
+    ensures { SetsList lists.old lists.new instance.0
+        (taken (key_stays step interest.now) walked (list_at lists.old instance.0)) }
 {
     for _ in 0..walked {
         take_front(interest, lists, instance, step);

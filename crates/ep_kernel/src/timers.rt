@@ -83,7 +83,8 @@ pub fn follow(parts: &Parts, alarms: &mut Alarms, event: &Event, outcome: &Outco
 pub fn raise(parts: &mut Parts, alarms: &mut Alarms, step: u64, raising: Raising)
     requires raises { IsRaising raising parts.old.tables }
     requires set { AreSetSince raising parts.old.tables parts.old.clock alarms.old }
-    ensures stirs { Stirs raising parts.old.tables parts.old.clock step parts.old.interest parts.new.interest }
+    ensures stirs { Stirs raising parts.old.tables parts.old.clock step parts.old.interest
+        parts.new.interest }
     ensures keys { parts.new.interest.keys ≡ parts.old.interest.keys }
     ensures others { parts.new ≡ record parts.old { interest = parts.new.interest } }
     ensures set { AreSet parts.new.tables parts.new.clock alarms.new }

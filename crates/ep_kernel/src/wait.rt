@@ -41,11 +41,17 @@ pub fn epoll_wait(
 ) -> Result<Outcome, AllocError>
     requires free { list_any (is_caller caller.0) parts.old.parked ≡ false }
     requires listed { IsListed parts.old lists.old }
-    ensures ok { IfOk result (λ outcome. DoesCallFairly lists.old step caller.0 args.pid.0 (wait_call args) outcome parts.old parts.new) }
+    ensures ok { IfOk result
+        (λ outcome. DoesCallFairly lists.old step caller.0 args.pid.0 (wait_call args) outcome
+        parts.old parts.new) }
     ensures leaves { IfOk result (λ outcome. LeavesFiles outcome.raising parts.old parts.new) }
     ensures kept { IfOk result (λ outcome. IsKept args.kept outcome) }
-    ensures turns { IfOk result (λ outcome. Turns (CallOf args.pid (wait_call args)) outcome.picked parts.old lists.old parts.new lists.new) }
-    ensures order { IfOk result (λ outcome. ReportsInOrder lists.old step caller.0 (CallOf args.pid (wait_call args)) outcome parts.old parts.new lists.new) }
+    ensures turns { IfOk result
+        (λ outcome. Turns (CallOf args.pid (wait_call args)) outcome.picked parts.old lists.old
+        parts.new lists.new) }
+    ensures order { IfOk result
+        (λ outcome. ReportsInOrder lists.old step caller.0 (CallOf args.pid (wait_call args))
+        outcome parts.old parts.new lists.new) }
     ensures err { OnErr result (parts.new ≡ parts.old) }
     ensures err_lists { OnErr result (lists.new ≡ lists.old) }
 {
@@ -75,11 +81,15 @@ pub fn resume(
     kept: bool,
 ) -> Result<Outcome, AllocError>
     requires { IsListed parts.old lists.old }
-    ensures ok { IfOk result (λ outcome. DoesEventFairly lists.old step caller.0 Resume outcome parts.old parts.new) }
+    ensures ok { IfOk result
+        (λ outcome. DoesEventFairly lists.old step caller.0 Resume outcome parts.old parts.new) }
     ensures leaves { IfOk result (λ outcome. LeavesFiles outcome.raising parts.old parts.new) }
     ensures kept { IfOk result (λ outcome. IsKept kept outcome) }
-    ensures turns { IfOk result (λ outcome. Turns Resume outcome.picked parts.old lists.old parts.new lists.new) }
-    ensures order { IfOk result (λ outcome. ReportsInOrder lists.old step caller.0 Resume outcome parts.old parts.new lists.new) }
+    ensures turns { IfOk result
+        (λ outcome. Turns Resume outcome.picked parts.old lists.old parts.new lists.new) }
+    ensures order { IfOk result
+        (λ outcome. ReportsInOrder lists.old step caller.0 Resume outcome parts.old parts.new
+        lists.new) }
     ensures err { OnErr result (parts.new ≡ parts.old) }
     ensures err_lists { OnErr result (lists.new ≡ lists.old) }
 {

@@ -18,7 +18,8 @@ fn note<A: Allocator>(desc: DescId, marks: &mut [bool], reached: &mut Vec<DescId
     requires noted { AreNoted marks.old (keys reached.old.items) }
     requires fits { length marks.old ≤ vec_capacity reached.old }
     ensures noted { AreNoted marks.new (keys reached.new.items) }
-    ensures exact { (x : ℕ) → is_among (keys reached.new.items) x ≡ (x == desc.0 || is_among (keys reached.old.items) x) }
+    ensures exact { (x : ℕ) → is_among (keys reached.new.items) x
+        ≡ (x == desc.0 || is_among (keys reached.old.items) x) }
     ensures grown { (more : List Key) × (reached.new.items ≡ reached.old.items ++ more) }
     ensures room { length marks.new ≡ length marks.old }
     ensures capacity { vec_capacity reached.old ≤ vec_capacity reached.new }
@@ -36,7 +37,8 @@ fn note_each<A: Allocator>(links: &[Link], marks: &mut [bool], reached: &mut Vec
     requires noted { AreNoted marks.old (keys reached.old.items) }
     requires fits { length marks.old ≤ vec_capacity reached.old }
     ensures noted { AreNoted marks.new (keys reached.new.items) }
-    ensures exact { (x : ℕ) → is_among (keys reached.new.items) x ≡ (is_among (outers links.now) x || is_among (keys reached.old.items) x) }
+    ensures exact { (x : ℕ) → is_among (keys reached.new.items) x
+        ≡ (is_among (outers links.now) x || is_among (keys reached.old.items) x) }
     ensures grown { (more : List Key) × (reached.new.items ≡ reached.old.items ++ more) }
     ensures room { length marks.new ≡ length marks.old }
     ensures capacity { vec_capacity reached.old ≤ vec_capacity reached.new }
@@ -60,7 +62,8 @@ pub fn follow<F: Fn(EntryId) -> bool, A: Allocator>(
     requires places { All (λ l. l.outer.0 < length marks.old) links.now }
     requires noted { AreNoted marks.old (keys reached.old.items) }
     requires fits { length marks.old ≤ vec_capacity reached.old }
-    ensures exact { Follows (λ e b. F.post passes.now e b) links.now (keys reached.old.items) (keys reached.new.items) }
+    ensures exact { Follows (λ e b. F.post passes.now e b) links.now (keys reached.old.items)
+        (keys reached.new.items) }
     ensures noted { AreNoted marks.new (keys reached.new.items) }
     ensures grown { (more : List Key) × (reached.new.items ≡ reached.old.items ++ more) }
     ensures room { length marks.new ≡ length marks.old }
@@ -104,10 +107,12 @@ pub fn ascend<F: Fn(EntryId) -> bool, A: Allocator>(
 )
     requires callable { F.IsAlwaysCallable passes.now }
     requires short { (ls : List Link) × AreListed lists.now ls × IsShort (edges ls) }
-    requires walkable { (k : ℕ) → IsWalkable (list_to lists.now k) (vec_capacity admitted.old) (length marks.old) }
+    requires walkable { (k : ℕ) → IsWalkable (list_to lists.now k) (vec_capacity admitted.old)
+        (length marks.old) }
     requires clear { (x : ℕ) → slice_index_or marks.old x false ≡ false }
     requires fits { length marks.old ≤ vec_capacity reached.old }
-    ensures exact { FindsListed (λ e b. F.post passes.now e b) lists.now below.0 (keys reached.new.items) }
+    ensures exact { FindsListed
+        (λ e b. F.post passes.now e b) lists.now below.0 (keys reached.new.items) }
     ensures once { are_distinct (keys reached.new.items) ≡ true }
     ensures clear { (x : ℕ) → slice_index_or marks.new x false ≡ false }
     ensures room { length marks.new ≡ length marks.old }

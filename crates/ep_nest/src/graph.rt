@@ -100,7 +100,8 @@ impl<A: Allocator> Graph<A> {
         A: Copy,
         requires legal { is_legal ((outer.0, inner.0) ∷ edges self.old) ≡ true }
         requires fresh { is_among (entries self.old) entry.0 ≡ false }
-        ensures linked { OnOk result (self.new ≡ self.old ++ record { outer = outer; inner = inner; entry = entry } ∷ []) }
+        ensures linked { OnOk result
+            (self.new ≡ self.old ++ record { outer = outer; inner = inner; entry = entry } ∷ []) }
         ensures kept { OnErr result (self.new ≡ self.old) }
     {
         let many = self.links.len() + 1;
@@ -149,7 +150,8 @@ impl<A: Allocator> Graph<A> {
     /// and its cost grows as the number of these links.
     pub fn above<F: Fn(EntryId) -> bool>(&mut self, inner: DescId, passes: &F) -> &[DescId]
         requires { F.IsAlwaysCallable passes.now }
-        ensures* stays { sem 𝓛 (follows_so (the_row A.row A.Allocator) (the_row A.row A.Allocator) self.entry.ghost_name none (λ _ _. ⊤) (λ v. v ≡ self.old)) }
+        ensures* stays { sem 𝓛 (follows_so (the_row A.row A.Allocator) (the_row A.row A.Allocator)
+            self.entry.ghost_name none (λ _ _. ⊤) (λ v. v ≡ self.old)) }
         ensures exact { Finds (λ e b. F.post passes.now e b) self.old inner.0 (keys result.now) }
         ensures once { are_distinct (keys result.now) ≡ true }
     {

@@ -40,7 +40,8 @@ fn lengthen(links: &[Link], way: Way, lengths: &mut [u8])
     requires places { HasPlaces (along way links.now) (length lengths.old) }
     requires chains { AreChains (along way links.now) lengths.old }
     ensures still_chains { AreChains (along way links.now) lengths.new }
-    ensures longer { (n : ℕ) → AreLongestTo n (along way links.now) lengths.old → AreLongestTo (suc n) (along way links.now) lengths.new }
+    ensures longer { (n : ℕ) → AreLongestTo n (along way links.now) lengths.old
+        → AreLongestTo (suc n) (along way links.now) lengths.new }
 {
     for link in links {
         let length = lengths[link.start(way)] + 1;

@@ -74,7 +74,8 @@ impl<A: Allocator> Scratch<A> {
         requires place { link.inner.0 < length self.old.lists.items }
         ensures tables { SameTables self.old self.new }
         ensures listed { OnOk result (GainsLink link self.old.lists.items self.new.lists.items) }
-        ensures kept { OnErr result ((k : ℕ) → list_to self.new.lists.items k ≡ list_to self.old.lists.items k) }
+        ensures kept { OnErr result
+            ((k : ℕ) → list_to self.new.lists.items k ≡ list_to self.old.lists.items k) }
     {
         list(&mut self.lists, link)
     }
@@ -82,14 +83,16 @@ impl<A: Allocator> Scratch<A> {
     /// Takes links from each list. It looks at each list and each link once.
     pub fn part(&mut self, removal: Removal)
         ensures tables { SameTables self.old self.new }
-        ensures parted { (k : ℕ) → list_to self.new.lists.items k ≡ filter (stays removal) (list_to self.old.lists.items k) }
+        ensures parted { (k : ℕ) → list_to self.new.lists.items k
+            ≡ filter (stays removal) (list_to self.old.lists.items k) }
     {
         part_each(&mut self.lists, removal);
     }
 
     /// Whether no chain leads down to an instance and none from it. Its cost is constant.
     pub fn is_apart(&self, desc: DescId) -> bool
-        ensures { result ≡ (slice_index self.now.heights.items desc.0 == 0 && slice_index self.now.depths.items desc.0 == 0) }
+        ensures { result ≡ (slice_index self.now.heights.items desc.0
+            == 0 && slice_index self.now.depths.items desc.0 == 0) }
     {
         length_at(&self.heights, desc) == 0 && length_at(&self.depths, desc) == 0
     }

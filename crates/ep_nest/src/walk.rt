@@ -17,7 +17,9 @@ pub fn admit<F: Fn(EntryId) -> bool, A: Allocator>(
     requires callable { F.IsAlwaysCallable passes.now }
     requires distinct { are_distinct (entries links.now) ≡ true }
     requires fits { length links.now ≤ vec_capacity admitted.old }
-    ensures asked { (admits : ℕ → Bool) × All (λ l. F.post passes.now l.entry (admits l.entry.0)) links.now × (admitted.new.items ≡ admitted_by admits links.now) }
+    ensures asked { (admits : ℕ → Bool)
+        × All (λ l. F.post passes.now l.entry (admits l.entry.0)) links.now
+        × (admitted.new.items ≡ admitted_by admits links.now) }
     ensures room { vec_capacity admitted.old ≤ vec_capacity admitted.new }
 {
     admitted.clear();

@@ -64,7 +64,8 @@ impl<A: Allocator> Deadlines<A> {
 
     /// A caller whose moment is at or below `now`; `None` exactly where there is none.
     pub fn first(&self, now: u64) -> Option<CallerId>
-        ensures { MatchOption result (HasNoneReached self.now now) (λ c. IsReachedAt self.now now c.0) }
+        ensures { MatchOption result (HasNoneReached self.now now)
+            (λ c. IsReachedAt self.now now c.0) }
     {
         let caller = self.moments.first(now)?;
         Some(CallerId(caller as u32))

@@ -134,7 +134,8 @@ impl<A: Allocator> Park<A> {
 
     /// The place of a waiter that isn't marked and whose deadline is at or below `now`.
     fn next_due(&self, now: u64) -> Option<usize>
-        ensures { MatchOption result (self.now ≡ map (marked_if_due now) self.now) (λ i. IsAwaitedAt self.now now i) }
+        ensures { MatchOption result (self.now ≡ map (marked_if_due now) self.now)
+            (λ i. IsAwaitedAt self.now now i) }
     {
         let _parked = self.waiters.len();
         let caller = self.deadlines.first(now)?;
@@ -213,7 +214,8 @@ impl<A: Allocator> Park<A> {
     /// Of the marked callers the one that was parked first, or `None` where none is marked. The cost grows with the callers that are
     /// parked.
     pub fn first_marked(&self) -> Option<CallerId>
-        ensures { option_map (λ c. c.0) result ≡ option_map (λ w. w.caller) (find (λ w. w.marked) self.now) }
+        ensures { option_map (λ c. c.0) result
+            ≡ option_map (λ w. w.caller) (find (λ w. w.marked) self.now) }
     {
         first_marked(&self.waiters)
     }

@@ -61,7 +61,8 @@ pub fn first_marked<A: Allocator>(waiters: &Waiters<A>) -> Option<CallerId>
 
 /// The earliest deadline of the waiters that are not marked.
 pub fn first_deadline<A: Allocator>(waiters: &Waiters<A>) -> Option<u64>
-    ensures { (now : ℕ) → is_due now result ≡ list_any (awaits_mark now) (listed waiters.now.entries) }
+    ensures { (now : ℕ)
+        → is_due now result ≡ list_any (awaits_mark now) (listed waiters.now.entries) }
 {
     let mut first = None;
     for (_, waiter) in waiters.iter() {

@@ -26,7 +26,9 @@ pub fn count<A: Allocator>(
     waiter: Waiter,
 ) -> Result<(), AllocError>
     requires { IfSome (get nat_eq tallies.old waiter.instance.0) (λ t. t.marked < usize.MAX) }
-    ensures counted { OnOk result (Rewrites tallies.old.entries tallies.new.entries waiter.instance.0 (Some (joined (get nat_eq tallies.old waiter.instance.0) caller.0 waiter.marked))) }
+    ensures counted { OnOk result
+        (Rewrites tallies.old.entries tallies.new.entries waiter.instance.0
+        (Some (joined (get nat_eq tallies.old waiter.instance.0) caller.0 waiter.marked))) }
     ensures kept { OnErr result (tallies.new.entries ≡ tallies.old.entries) }
 {
     let marked = usize::from(waiter.marked);
@@ -49,7 +51,8 @@ pub fn recount<A: Allocator>(tallies: &mut Tallies<A>, tally: Tally, waiter: Wai
     requires there { get nat_eq tallies.old waiter.instance.0 ≡ Some tally }
     requires least { bit waiter.marked ≤ tally.marked }
     requires most { tally.marked < usize.MAX }
-    ensures { Rewrites tallies.old.entries tallies.new.entries waiter.instance.0 (Some (remarked waiter.marked marked tally)) }
+    ensures { Rewrites tallies.old.entries tallies.new.entries waiter.instance.0
+        (Some (remarked waiter.marked marked tally)) }
 {
     let others = tally.marked - usize::from(waiter.marked);
     let tally = Tally {
@@ -68,7 +71,8 @@ pub fn discount<A: Allocator>(
 )
     requires there { get nat_eq tallies.old waiter.instance.0 ≡ Some tally }
     requires least { bit waiter.marked ≤ tally.marked }
-    ensures { Rewrites tallies.old.entries tallies.new.entries waiter.instance.0 (left waiter.marked tally first) }
+    ensures { Rewrites tallies.old.entries tallies.new.entries waiter.instance.0
+        (left waiter.marked tally first) }
 {
     match first {
         Some(first) => {

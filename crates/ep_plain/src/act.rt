@@ -22,7 +22,8 @@ fn make_call(
 ) -> Result<Outcome, AllocError>
     requires free { list_any (is_caller caller.0) parts.old.parked ≡ false }
     requires process { is_some (table_of parts.old.tables.files pid.0) ≡ true }
-    ensures ok { IfOk result (λ outcome. DoesCall step caller.0 pid.0 call.now outcome parts.old parts.new) }
+    ensures ok { IfOk result
+        (λ outcome. DoesCall step caller.0 pid.0 call.now outcome parts.old parts.new) }
     ensures kept { IfOk result (λ outcome. KeepsCall call.now kept outcome) }
     ensures err { OnErr result (parts.new ≡ parts.old) }
 {
@@ -71,7 +72,8 @@ pub fn act(
     event: &Event,
     kept: bool,
 ) -> Result<Outcome, AllocError>
-    ensures ok { IfOk result (λ outcome. DoesEvent step caller.0 event.now outcome parts.old parts.new) }
+    ensures ok { IfOk result
+        (λ outcome. DoesEvent step caller.0 event.now outcome parts.old parts.new) }
     ensures kept { IfOk result (λ outcome. KeepsEvent event.now kept outcome) }
     ensures err { OnErr result (parts.new ≡ parts.old) }
 {

@@ -23,7 +23,9 @@ pub fn reportables(
 ) -> Result<Vec<Reportable>, AllocError>
     requires linked { AreLinked tables.now interest.now }
     requires clock { now ≤ last_moment }
-    ensures entries { IfOk result (λ found. map (λ x. x.entry) found.items ≡ reportables_at tables.now now interest.now instance) }
+    ensures entries { IfOk result
+        (λ found. map (λ x. x.entry) found.items
+        ≡ reportables_at tables.now now interest.now instance) }
     ensures keyed { IfOk result (λ found. AreKeyed tables.now now interest.now found.items) }
 {
     interest.known();
@@ -61,7 +63,8 @@ pub fn choose(
     requires linked { AreLinked tables.now interest.now }
     requires positive { is_positive max ≡ true }
     requires clock { now ≤ last_moment }
-    ensures { IfOk result (λ chosen. IsChosen tables.now now interest.now instance (number_in max) chosen.items) }
+    ensures { IfOk result
+        (λ chosen. IsChosen tables.now now interest.now instance (number_in max) chosen.items) }
 {
     let mut chosen = reportables(alloc, tables, now, interest, instance)?;
     chosen.sort_by_key(|x| x.entry.reported_in)?;

@@ -17,7 +17,8 @@ use ep_table::Tables;
 /// Whether a registration passes something of this step on, where `below` says whether IN reaches the instance that it
 /// watches.
 fn passes_on(entry: &Entry, step: u64, below: bool) -> bool
-    ensures { result ≡ (entry.now.passes_in == step || entry.now.armed && below && nat_lt 0 (asked entry.now.mask.0 IN)) }
+    ensures { result ≡ (entry.now.passes_in
+        == step || entry.now.armed && below && nat_lt 0 (asked entry.now.mask.0 IN)) }
 {
     let asked = entry.mask.union(Mask::ERR.union(Mask::HUP));
     entry.passes_in == step || entry.armed && below && !Mask::IN.intersection(asked).is_empty()
@@ -51,7 +52,9 @@ fn is_reached(tables: &Tables, interest: &Interest, instance: DescId, step: u64)
 fn climb_to(tables: &Tables, interest: &mut Interest, instance: DescId, step: u64)
     requires live { IsSome (number_under tables.now instance) }
     requires linked { AreLinked tables.now interest.old }
-    ensures entries { interest.new.entries ≡ map (climbs_to (is_reached_key step tables.now interest.old instance) instance) interest.old.entries }
+    ensures entries { interest.new.entries
+        ≡ map (climbs_to (is_reached_key step tables.now interest.old instance) instance)
+        interest.old.entries }
     ensures keys { interest.new.keys ≡ interest.old.keys }
     ensures added { interest.new.added ≡ interest.old.added }
 {

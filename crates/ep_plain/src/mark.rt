@@ -44,7 +44,9 @@ fn mark_each(tables: &Tables, now: u64, interest: &Interest, waiters: &mut Park)
 /// Marks whoever is due, and of those that wait at a ready instance the longest waiting one, where none is marked
 /// there.
 pub fn mark_waiters(parts: &mut Parts)
-    ensures marks { parts.new.parked ≡ marked_by (ready_key parts.old.tables parts.old.clock parts.old.interest) parts.old.clock parts.old.parked }
+    ensures marks { parts.new.parked
+        ≡ marked_by (ready_key parts.old.tables parts.old.clock parts.old.interest) parts.old.clock
+        parts.old.parked }
     ensures others { parts.new ≡ record parts.old { parked = parts.new.parked } }
 {
     mark_each(

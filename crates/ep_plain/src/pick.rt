@@ -74,7 +74,8 @@ fn count(interest: &Interest, since: &[u64], instance: DescId, most: usize) -> u
 
 /// The event of the last report of the registration of an instance that has this number and is reportable.
 fn reported_in(interest: &Interest, since: &[u64], instance: DescId, number: u64) -> Option<u64>
-    ensures { result ≡ option_map (λ t. t.rep) (find_turn (turns_at since.now interest.now instance) number) }
+    ensures { result ≡ option_map
+        (λ t. t.rep) (find_turn (turns_at since.now interest.now instance) number) }
 {
     for (_, entry) in interest.entries(instance) {
         if is_dated(since, entry) {
@@ -115,7 +116,8 @@ fn are_late(
     picks: &[u64],
     latest: u64,
 ) -> bool
-    ensures { result ≡ list_all (is_late_turn latest picks.now) (turns_at since.now interest.now instance) }
+    ensures { result ≡ list_all (is_late_turn latest picks.now)
+        (turns_at since.now interest.now instance) }
 {
     for (_, entry) in interest.entries(instance) {
         if is_dated(since, entry) {

@@ -40,7 +40,8 @@ impl PlainKernel {
     /// A kernel in the opening state: process 1, whose descriptors 0, 1 and 2 name one plain object,
     /// and an empty history. An `Err` is want of memory.
     pub fn new(alloc: Global, limits: Limits) -> Result<PlainKernel, AllocError>
-        ensures { IfOk result (λ kernel. kernel ≡ record { limits = limits; past = []; capacity = 0 }) }
+        ensures { IfOk result
+            (λ kernel. kernel ≡ record { limits = limits; past = []; capacity = 0 }) }
     {
         let mut since = Vec::new(alloc);
         since.push(0)?;
@@ -61,13 +62,17 @@ impl PlainKernel {
         picks: Option<&[u64]>,
         kept: bool,
     ) -> Result<(Answer, Option<Spare>), AllocError>
-        requires there { HasStep self.old.limits (state_of self.old) caller event (option_copied picks) }
+        requires there { HasStep self.old.limits (state_of self.old) caller event
+            (option_copied picks) }
         requires kept { IfSome (option_copied picks) (λ _. kept ≡ false) }
         ensures limits { self.new.limits ≡ self.old.limits }
         ensures capacity { self.old.capacity ≤ self.new.capacity }
-        ensures ok { IfOk result (λ r. AddsBy self.old.limits caller event (option_copied picks.entry) r.0 (state_of self.old) (state_of self.new) self.old.past self.new.past) }
+        ensures ok { IfOk result
+            (λ r. AddsBy self.old.limits caller event (option_copied picks.entry) r.0
+            (state_of self.old) (state_of self.new) self.old.past self.new.past) }
         ensures real { IfOk result (λ r. is_no_memory r.0 ≡ false) }
-        ensures spare { IfOk result (λ r. kept ≡ true → HasRecord caller event r.1 self.old.past self.new.past) }
+        ensures spare { IfOk result
+            (λ r. kept ≡ true → HasRecord caller event r.1 self.old.past self.new.past) }
         ensures err { OnErr result (self.new ≡ record self.old { capacity = self.new.capacity }) }
     {
         self.history.reserve(1)?;
@@ -95,7 +100,8 @@ impl PlainKernel {
 
     /// Whether the machine has a step whose report is of these registrations, in this order. It takes no memory.
     fn has_step(&self, caller: CallerId, event: &Event, picks: &[u64]) -> bool
-        ensures { result ≡ is_some (step_of self.now.limits (state_of self.now) caller.0 event.now picks.now) }
+        ensures { result ≡ is_some
+            (step_of self.now.limits (state_of self.now) caller.0 event.now picks.now) }
     {
         allows(&self.parts, &self.since, caller, event, picks)
     }
@@ -107,7 +113,8 @@ impl PlainKernel {
     pub fn step_with(&mut self, caller: CallerId, event: Event, picks: &[u64]) -> Option<Answer>
         ensures limits { self.new.limits ≡ self.old.limits }
         ensures capacity { self.old.capacity ≤ self.new.capacity }
-        ensures steps { StepsWith self.old.limits caller event picks.now result (state_of self.old) (state_of self.new) self.old.past self.new.past }
+        ensures steps { StepsWith self.old.limits caller event picks.now result (state_of self.old)
+            (state_of self.new) self.old.past self.new.past }
     {
         if !self.has_step(caller, &event, picks) {
             return None;
@@ -128,9 +135,12 @@ impl PlainKernel {
     ) -> Result<Answer, AllocError>
         ensures limits { self.new.limits ≡ self.old.limits }
         ensures capacity { self.old.capacity ≤ self.new.capacity }
-        ensures ok { IfOk result (λ answer. Adds self.old.limits caller event answer (state_of self.old) (state_of self.new) self.old.past self.new.past) }
+        ensures ok { IfOk result
+            (λ answer. Adds self.old.limits caller event answer (state_of self.old)
+            (state_of self.new) self.old.past self.new.past) }
         ensures real { IfOk result (λ answer. is_no_memory answer ≡ false) }
-        ensures kept { IfOk result (λ answer. Gains self.old.past self.new.past kept.old.items kept.new.items) }
+        ensures kept { IfOk result
+            (λ answer. Gains self.old.past self.new.past kept.old.items kept.new.items) }
         ensures err { OnErr result (self.new ≡ record self.old { capacity = self.new.capacity }) }
         ensures err_kept { OnErr result (kept.new.items ≡ kept.old.items) }
     {

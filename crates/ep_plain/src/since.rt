@@ -47,7 +47,9 @@ fn date_instance(
     requires linked { AreLinked tables.now interest.now }
     requires clock { now ≤ last_moment }
     requires room { interest.now.added < length since.old }
-    ensures { since.new ≡ dated_each (entry_shows (readiness tables.now now interest.now) tables.now now) step (filter (is_of instance) interest.now.entries) since.old }
+    ensures { since.new
+        ≡ dated_each (entry_shows (readiness tables.now now interest.now) tables.now now) step
+        (filter (is_of instance) interest.now.entries) since.old }
 {
     interest.known();
     for (_, entry) in interest.entries(instance) {
@@ -62,7 +64,8 @@ fn date_each(tables: &Tables, now: u64, interest: &Interest, step: u64, since: &
     requires linked { AreLinked tables.now interest.now }
     requires clock { now ≤ last_moment }
     requires room { interest.now.added < length since.old }
-    ensures { Dates (entry_shows (readiness tables.now now interest.now) tables.now now) step interest.now since.old since.new }
+    ensures { Dates (entry_shows (readiness tables.now now interest.now) tables.now now) step
+        interest.now since.old since.new }
 {
     interest.known();
     for instance in tables.live() {
@@ -73,7 +76,8 @@ fn date_each(tables: &Tables, now: u64, interest: &Interest, step: u64, since: &
 /// Dates each registration at the end of a step: it looks at each description that lives, and at each registration.
 pub fn date(parts: &Parts, step: u64, since: &mut Vec<u64>)
     requires { parts.now.interest.added < length since.old.items }
-    ensures { Dates (entry_shows (readiness parts.now.tables parts.now.clock parts.now.interest) parts.now.tables parts.now.clock) step parts.now.interest since.old.items since.new.items }
+    ensures { Dates (entry_shows (readiness parts.now.tables parts.now.clock parts.now.interest)
+        parts.now.tables parts.now.clock) step parts.now.interest since.old.items since.new.items }
 {
     date_each(&parts.tables, parts.clock, &parts.interest, step, since);
 }

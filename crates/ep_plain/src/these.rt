@@ -46,7 +46,9 @@ fn take_of(
     found: &[Reportable],
     picks: &[u64],
 ) -> Result<Vec<Reportable>, AllocError>
-    ensures { IfOk result (λ chosen. chosen.items ≡ filter_map (λ k. find (λ x. x.entry.number == k) found.now) picks.now) }
+    ensures { IfOk result
+        (λ chosen. chosen.items
+        ≡ filter_map (λ k. find (λ x. x.entry.number == k) found.now) picks.now) }
 {
     let mut chosen = Vec::new(alloc);
     let mut rest = picks;
@@ -70,7 +72,9 @@ fn take(
 ) -> Result<Vec<Reportable>, AllocError>
     requires linked { AreLinked tables.now interest.now }
     requires clock { now ≤ last_moment }
-    ensures entries { IfOk result (λ chosen. map (λ x. x.entry) chosen.items ≡ filter_map (numbered (reportables_at tables.now now interest.now instance)) picks.now) }
+    ensures entries { IfOk result
+        (λ chosen. map (λ x. x.entry) chosen.items
+        ≡ filter_map (numbered (reportables_at tables.now now interest.now instance)) picks.now) }
     ensures keyed { IfOk result (λ chosen. AreKeyed tables.now now interest.now chosen.items) }
 {
     let found = reportables(alloc, tables, now, interest, instance)?;
@@ -89,8 +93,12 @@ fn wait_these(
 ) -> Result<Outcome, AllocError>
     requires free { list_any (is_caller caller.0) parts.old.parked ≡ false }
     requires waits { Waits parts.old.tables args instance }
-    ensures ok { IfOk result (λ outcome. DoesCallIf (MayPick parts.old instance (number_in args.max) picks.now) step caller.0 args.pid.0 (wait_call args) outcome parts.old parts.new) }
-    ensures picked { IfOk result (λ outcome. WherePicked parts.old instance (number_in args.max) picks.now (outcome.picked ≡ picks.now)) }
+    ensures ok { IfOk result
+        (λ outcome. DoesCallIf (MayPick parts.old instance (number_in args.max) picks.now) step
+        caller.0 args.pid.0 (wait_call args) outcome parts.old parts.new) }
+    ensures picked { IfOk result
+        (λ outcome. WherePicked parts.old instance (number_in args.max) picks.now
+        (outcome.picked ≡ picks.now)) }
     ensures err { OnErr result (parts.new ≡ parts.old) }
 {
     parts.tables.known();
@@ -116,8 +124,12 @@ fn resume_these(
 ) -> Result<Outcome, AllocError>
     requires parked { find (is_caller caller.0) parts.old.parked ≡ Some (parked caller.0 waiter) }
     requires marked { waiter.marked ≡ true }
-    ensures ok { IfOk result (λ outcome. DoesEventIf (MayPick parts.old waiter.instance (number_in waiter.max) picks.now) step caller.0 Resume outcome parts.old parts.new) }
-    ensures picked { IfOk result (λ outcome. WherePicked parts.old waiter.instance (number_in waiter.max) picks.now (outcome.picked ≡ picks.now)) }
+    ensures ok { IfOk result
+        (λ outcome. DoesEventIf (MayPick parts.old waiter.instance (number_in waiter.max) picks.now)
+        step caller.0 Resume outcome parts.old parts.new) }
+    ensures picked { IfOk result
+        (λ outcome. WherePicked parts.old waiter.instance (number_in waiter.max) picks.now
+        (outcome.picked ≡ picks.now)) }
     ensures err { OnErr result (parts.new ≡ parts.old) }
 {
     parts.tables.known();
@@ -141,8 +153,11 @@ fn act_these(
     event: &Event,
     picks: &[u64],
 ) -> Result<Outcome, AllocError>
-    ensures ok { IfOk result (λ outcome. DoesEventIf (MayGo parts.old caller.0 event.now picks.now) step caller.0 event.now outcome parts.old parts.new) }
-    ensures picked { IfOk result (λ outcome. PicksThese step parts.old caller.0 event.now picks.now outcome.picked) }
+    ensures ok { IfOk result
+        (λ outcome. DoesEventIf (MayGo parts.old caller.0 event.now picks.now) step caller.0
+        event.now outcome parts.old parts.new) }
+    ensures picked { IfOk result
+        (λ outcome. PicksThese step parts.old caller.0 event.now picks.now outcome.picked) }
     ensures err { OnErr result (parts.new ≡ parts.old) }
 {
     match find_waiting(parts, caller, event) {
@@ -164,9 +179,14 @@ pub fn act_with(
     picks: Option<&[u64]>,
     kept: bool,
 ) -> Result<Outcome, AllocError>
-    ensures ok { IfOk result (λ outcome. DoesEventIf (MayReport parts.old caller.0 event.now (option_copied picks.entry)) step caller.0 event.now outcome parts.old parts.new) }
-    ensures picked { IfOk result (λ outcome. ReportsThese step parts.old caller.0 event.now (option_copied picks.entry) outcome.picked) }
-    ensures kept { IfOk result (λ outcome. IfNone (option_copied picks.entry) (KeepsEvent event.now kept outcome)) }
+    ensures ok { IfOk result
+        (λ outcome. DoesEventIf (MayReport parts.old caller.0 event.now (option_copied picks.entry))
+        step caller.0 event.now outcome parts.old parts.new) }
+    ensures picked { IfOk result
+        (λ outcome. ReportsThese step parts.old caller.0 event.now (option_copied picks.entry)
+        outcome.picked) }
+    ensures kept { IfOk result
+        (λ outcome. IfNone (option_copied picks.entry) (KeepsEvent event.now kept outcome)) }
     ensures err { OnErr result (parts.new ≡ parts.old) }
 {
     match picks {
@@ -178,7 +198,9 @@ pub fn act_with(
 /// Whether the machine has a step that reports these registrations in this order, by what is kept of those that are
 /// reportable. It takes no memory.
 pub fn allows(parts: &Parts, since: &[u64], caller: CallerId, event: &Event, picks: &[u64]) -> bool
-    ensures { ForEach parts.now (λ s. IsDated s since.now → result ≡ goes_with parts.now.tables.limits caller.0 event.now picks.now s) }
+    ensures { ForEach parts.now
+        (λ s. IsDated s since.now
+        → result ≡ goes_with parts.now.tables.limits caller.0 event.now picks.now s) }
 {
     parts.tables.known();
     match find_waiting(parts, caller, event) {

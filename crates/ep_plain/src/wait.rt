@@ -24,7 +24,9 @@ pub fn epoll_wait(
     args: Wait,
 ) -> Result<Outcome, AllocError>
     requires { list_any (is_caller caller.0) parts.old.parked ≡ false }
-    ensures ok { IfOk result (λ outcome. DoesCall step caller.0 args.pid.0 (wait_call args) outcome parts.old parts.new) }
+    ensures ok { IfOk result
+        (λ outcome. DoesCall step caller.0 args.pid.0 (wait_call args) outcome parts.old
+        parts.new) }
     ensures kept { IfOk result (λ outcome. IsKept args.kept outcome) }
     ensures err { OnErr result (parts.new ≡ parts.old) }
 {
@@ -55,7 +57,8 @@ pub fn resume(
     caller: CallerId,
     kept: bool,
 ) -> Result<Outcome, AllocError>
-    ensures ok { IfOk result (λ outcome. DoesEvent step caller.0 Resume outcome parts.old parts.new) }
+    ensures ok { IfOk result
+        (λ outcome. DoesEvent step caller.0 Resume outcome parts.old parts.new) }
     ensures kept { IfOk result (λ outcome. IsKept kept outcome) }
     ensures err { OnErr result (parts.new ≡ parts.old) }
 {

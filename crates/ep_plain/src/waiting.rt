@@ -18,7 +18,8 @@ pub enum Waiting {
 
 /// The wait of a call, and the instance that is waited for; none where it is another call, or refused.
 fn find_call(parts: &Parts, pid: Pid, call: &Call) -> Option<(Wait, DescId)>
-    ensures { MatchOption result (IsNoWait parts.now pid.0 call.now) (λ x. (x.0.pid ≡ pid) × IsWait parts.now call.now x.0 x.1) }
+    ensures { MatchOption result (IsNoWait parts.now pid.0 call.now)
+        (λ x. (x.0.pid ≡ pid) × IsWait parts.now call.now x.0 x.1) }
 {
     let Call::EpollWait { epfd, max, timeout } = *call else {
         return None;

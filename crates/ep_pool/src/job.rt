@@ -81,8 +81,10 @@ fn make_step<K: Kernel + Drop, L: Ledger, R: Wait>(
     session: &mut Session<L>,
     step: Step,
 ) -> bool
-    ensures made { result ≡ true → StepAdds (caller_of session.old) (records_of session.old) (records_of session.new) step }
-    ensures stopped { result ≡ false → StopAdds (caller_of session.old) (records_of session.old) (records_of session.new) step }
+    ensures made { result ≡ true
+        → StepAdds (caller_of session.old) (records_of session.old) (records_of session.new) step }
+    ensures stopped { result ≡ false
+        → StopAdds (caller_of session.old) (records_of session.old) (records_of session.new) step }
     ensures caller { caller_of session.new ≡ caller_of session.old }
 {
     let answer = match step {

@@ -132,7 +132,8 @@ fn note(
 /// The sessions, and which jobs stopped.
 fn report<L: Ledger>(alloc: Global, ran: Vec<Ran<L>>) -> Result<PoolReport<L>, AllocError>
     ensures sessions { IfOk result (λ p. p.sessions.items ≡ map (λ r. r.session) ran.items) }
-    ensures stopped { IfOk result (λ p. p.stopped.items ≡ flat_map (λ r. stop_of (caller_of r.session) r.stopped) ran.items) }
+    ensures stopped { IfOk result
+        (λ p. p.stopped.items ≡ flat_map (λ r. stop_of (caller_of r.session) r.stopped) ran.items) }
 {
     let mut sessions = Vec::new(alloc);
     let mut stopped = Vec::new(alloc);

@@ -105,10 +105,16 @@ fn command<'a>(alloc: Global) -> Result<Command<'a>, AllocError>
 /// `--explain` and `--history FILE`, each at most once and all at will. What `--help` and `--version` print is an `Err`,
 /// too, each with a kind of its own.
 pub fn options<'a>(alloc: Global, words: &'a [String]) -> Result<Settings<'a>, Error>
-    ensures limits { IfOk result (λ s. option_map (λ t. t.now) s.limits ≡ first_of (codes "limits") (rows_in (map string_bytes words.entry.now))) }
-    ensures plain { IfOk result (λ s. IsTrue s.plain ↔ IsGiven (codes "plain") (map string_bytes words.entry.now)) }
-    ensures explain { IfOk result (λ s. IsTrue s.explain ↔ IsGiven (codes "explain") (map string_bytes words.entry.now)) }
-    ensures history { IfOk result (λ s. option_map (λ t. t.now) s.history ≡ first_of (codes "history") (rows_in (map string_bytes words.entry.now))) }
+    ensures limits { IfOk result
+        (λ s. option_map (λ t. t.now) s.limits
+        ≡ first_of (codes "limits") (rows_in (map string_bytes words.entry.now))) }
+    ensures plain { IfOk result
+        (λ s. IsTrue s.plain ↔ IsGiven (codes "plain") (map string_bytes words.entry.now)) }
+    ensures explain { IfOk result
+        (λ s. IsTrue s.explain ↔ IsGiven (codes "explain") (map string_bytes words.entry.now)) }
+    ensures history { IfOk result
+        (λ s. option_map (λ t. t.now) s.history
+        ≡ first_of (codes "history") (rows_in (map string_bytes words.entry.now))) }
     ensures fault { FailsBy (fault_of program (map string_bytes words.entry.now)) result }
 {
     let matches = command(alloc)?.try_get_matches_from(words)?;

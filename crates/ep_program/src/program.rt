@@ -105,7 +105,8 @@ fn tell<W: Write, E: Write>(found: &clap::Error, output: &mut W, errors: &mut E)
 fn limits_of(text: Option<&str>) -> Option<Limits>
     ensures missing { IsNone text.entry → result ≡ Some default_limits }
     ensures read { IfSome text.entry (λ t. IfSome result (IsLimitsText t.now)) }
-    ensures found { IfSome text.entry (λ t. (limits : Numbers) → IsLimitsText t.now limits → result ≡ Some limits) }
+    ensures found { IfSome text.entry
+        (λ t. (limits : Numbers) → IsLimitsText t.now limits → result ≡ Some limits) }
 {
     match text {
         None => Some(Limits::default()),

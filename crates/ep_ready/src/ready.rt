@@ -38,7 +38,8 @@ fn add_keys<A: Allocator>(
     places: &mut Vec<Option<PlaceId>, A>,
     entry: usize,
 ) -> Result<(), AllocError>
-    ensures same { (e : ℕ) → slice_index_or places.new.items e None ≡ slice_index_or places.old.items e None }
+    ensures same { (e : ℕ) → slice_index_or places.new.items e None
+        ≡ slice_index_or places.old.items e None }
     ensures room { OnOk result (entry < length places.new.items) }
 {
     while places.len() <= entry {

@@ -13,7 +13,8 @@ fn add_ring<A: Allocator>(
     nodes: &mut Slab<Node, A>,
     rings: &mut Vec<Ring, A>,
 ) -> Result<(), AllocError>
-    requires sound { RepresentsLists nodes.old.slots rings.old.items (lists_of nodes.old.slots rings.old.items) }
+    requires sound { RepresentsLists nodes.old.slots rings.old.items
+        (lists_of nodes.old.slots rings.old.items) }
     ensures kept { KeepsLists nodes.old.slots rings.old.items nodes.new.slots rings.new.items }
     ensures longer { OnOk result (length rings.new.items ≡ length rings.old.items + 1) }
 {
@@ -39,7 +40,8 @@ pub fn add_rings<A: Allocator>(
     rings: &mut Vec<Ring, A>,
     owner: usize,
 ) -> Result<(), AllocError>
-    requires sound { RepresentsLists nodes.old.slots rings.old.items (lists_of nodes.old.slots rings.old.items) }
+    requires sound { RepresentsLists nodes.old.slots rings.old.items
+        (lists_of nodes.old.slots rings.old.items) }
     ensures kept { KeepsLists nodes.old.slots rings.old.items nodes.new.slots rings.new.items }
     ensures there { OnOk result (owner < length rings.new.items) }
 {
@@ -56,10 +58,13 @@ pub fn add_place<A: Allocator>(
     owner: usize,
     entry: usize,
 ) -> Result<usize, AllocError>
-    requires sound { RepresentsLists nodes.old.slots rings.now.items (lists_of nodes.old.slots rings.now.items) }
+    requires sound { RepresentsLists nodes.old.slots rings.now.items
+        (lists_of nodes.old.slots rings.now.items) }
     requires there { owner < length rings.now.items }
-    ensures sound { RepresentsLists nodes.new.slots rings.now.items (lists_of nodes.old.slots rings.now.items) }
-    ensures placed { IfOk result (λ key. GainsRole (roles_of nodes.old.slots) (roles_of nodes.new.slots) key owner entry) }
+    ensures sound { RepresentsLists nodes.new.slots rings.now.items
+        (lists_of nodes.old.slots rings.now.items) }
+    ensures placed { IfOk result
+        (λ key. GainsRole (roles_of nodes.old.slots) (roles_of nodes.new.slots) key owner entry) }
     ensures err { OnErr result (roles_of nodes.new.slots ≡ roles_of nodes.old.slots) }
 {
     let _owners = rings.len();

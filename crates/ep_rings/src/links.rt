@@ -19,8 +19,10 @@ pub fn attach<A: Allocator>(
     ghost xss: { List (List ℕ) }
     requires sound { RepresentsLists nodes.old.slots rings.old.items xss }
     requires off { role_at (roles_of nodes.old.slots) place ≡ Some (Member owner entry false) }
-    ensures sound { RepresentsLists nodes.new.slots rings.new.items (slice_set xss owner (row xss owner ++ place ∷ [])) }
-    ensures roles { roles_of nodes.new.slots ≡ slice_set (roles_of nodes.old.slots) place (Some (Member owner entry true)) }
+    ensures sound { RepresentsLists nodes.new.slots rings.new.items
+        (slice_set xss owner (row xss owner ++ place ∷ [])) }
+    ensures roles { roles_of nodes.new.slots
+        ≡ slice_set (roles_of nodes.old.slots) place (Some (Member owner entry true)) }
 {
     let _room = nodes.capacity();
     let head = rings[owner].head;
@@ -47,8 +49,10 @@ pub fn detach<A: Allocator>(
     ghost xss: { List (List ℕ) }
     requires sound { RepresentsLists nodes.old.slots rings.old.items xss }
     requires on { role_at (roles_of nodes.old.slots) place ≡ Some (Member owner entry true) }
-    ensures sound { RepresentsLists nodes.new.slots rings.new.items (slice_set xss owner (filter (λ x. not (x == place)) (row xss owner))) }
-    ensures roles { roles_of nodes.new.slots ≡ slice_set (roles_of nodes.old.slots) place (Some (Member owner entry false)) }
+    ensures sound { RepresentsLists nodes.new.slots rings.new.items
+        (slice_set xss owner (filter (λ x. not (x == place)) (row xss owner))) }
+    ensures roles { roles_of nodes.new.slots
+        ≡ slice_set (roles_of nodes.old.slots) place (Some (Member owner entry false)) }
 {
     let node = nodes[place];
     join(nodes, node.prev, node.next);

@@ -33,8 +33,12 @@ fn run_on<K: Kernel>(
     asked: Asked,
     events: &[(CallerId, Event)],
 ) -> Result<Counts, Fault>
-    ensures made { IfOk result (λ counts. Makes (K.bounds kernel.old) (script asked.setup asked.rounds events.now) counts.refused (K.state kernel.old) (K.state kernel.new) (K.past kernel.old) (K.past kernel.new)) }
-    ensures calls { IfOk result (λ counts. counts.calls ≡ length (script asked.setup asked.rounds events.now)) }
+    ensures made { IfOk result
+        (λ counts. Makes (K.bounds kernel.old) (script asked.setup asked.rounds events.now)
+        counts.refused (K.state kernel.old) (K.state kernel.new) (K.past kernel.old)
+        (K.past kernel.new)) }
+    ensures calls { IfOk result
+        (λ counts. counts.calls ≡ length (script asked.setup asked.rounds events.now)) }
 {
     let Some((setup, round)) = events.split_at_checked(asked.setup) else {
         return Err(Fault::FewLines);

@@ -20,7 +20,9 @@ fn refusals(answer: &Answer) -> usize
 /// Makes a call. The answer is how many refusals that brings. An `Err` is want of memory for the copy of the event.
 fn make<K: Kernel>(kernel: &mut K, asked: &(CallerId, Event)) -> Result<usize, AllocError>
     ensures limits { K.bounds kernel.new ≡ K.bounds kernel.old }
-    ensures made { IfOk result (λ refused. Makes (K.bounds kernel.old) (asked.now ∷ []) refused (K.state kernel.old) (K.state kernel.new) (K.past kernel.old) (K.past kernel.new)) }
+    ensures made { IfOk result
+        (λ refused. Makes (K.bounds kernel.old) (asked.now ∷ []) refused (K.state kernel.old)
+        (K.state kernel.new) (K.past kernel.old) (K.past kernel.new)) }
 {
     let (caller, event) = asked;
     let event = event.copy()?;
@@ -35,7 +37,9 @@ pub(crate) fn make_all<K: Kernel>(
     events: &[(CallerId, Event)],
 ) -> Result<usize, AllocError>
     ensures limits { K.bounds kernel.new ≡ K.bounds kernel.old }
-    ensures made { IfOk result (λ refused. Makes (K.bounds kernel.old) events.now refused (K.state kernel.old) (K.state kernel.new) (K.past kernel.old) (K.past kernel.new)) }
+    ensures made { IfOk result
+        (λ refused. Makes (K.bounds kernel.old) events.now refused (K.state kernel.old)
+        (K.state kernel.new) (K.past kernel.old) (K.past kernel.new)) }
 {
     let mut refused = 0;
     for asked in events {
@@ -54,7 +58,9 @@ pub(crate) fn make_rounds<K: Kernel>(
 ) -> Result<usize, AllocError>
     requires { rounds * length events.now < 2 ^ 64 }
     ensures limits { K.bounds kernel.new ≡ K.bounds kernel.old }
-    ensures made { IfOk result (λ refused. Makes (K.bounds kernel.old) (repeat rounds events.now) refused (K.state kernel.old) (K.state kernel.new) (K.past kernel.old) (K.past kernel.new)) }
+    ensures made { IfOk result
+        (λ refused. Makes (K.bounds kernel.old) (repeat rounds events.now) refused
+        (K.state kernel.old) (K.state kernel.new) (K.past kernel.old) (K.past kernel.new)) }
 {
     let mut refused = 0;
     for _ in 0..rounds {

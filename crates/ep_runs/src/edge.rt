@@ -32,7 +32,8 @@ pub fn shut_again()
 /// pipe(7): the read that makes room for 4,096 bytes makes the other end writable.
 pub fn drained()
     ensures run { is_run (small_limits 16 16 8) (drained_run [] []) ≡ true }
-    ensures no_run { is_run (small_limits 16 16 8) (drained_run (report 4 4 ∷ []) (1 ∷ [])) ≡ false }
+    ensures no_run { is_run (small_limits 16 16 8) (drained_run (report 4 4 ∷ []) (1 ∷ []))
+        ≡ false }
 {}
 
 /// timerfd_settime(2) to a moment that has passed.

@@ -9,10 +9,14 @@ ghost use Rattle.ep_machine.specs.Run.{is_run};
 
 /// epoll_wait(2): of the callers that wait at one instance the one that was parked first is woken first.
 pub fn turns()
-    ensures run { is_run default_limits (turns_run (resumed 2 Still []) (told 1 3 1) (told 2 4 2)) ≡ true }
-    ensures other_run { is_run default_limits (turns_run (resumed 2 Still []) (told 1 4 2) (told 2 3 1)) ≡ true }
-    ensures no_run { is_run default_limits (turns_run (resumed 2 Still []) (told 1 3 1) (told 2 3 1)) ≡ false }
-    ensures no_turn { is_run default_limits (turns_run (told 2 3 1) (told 1 4 2) (resumed 2 (Refused Einval) [])) ≡ false }
+    ensures run { is_run default_limits (turns_run (resumed 2 Still []) (told 1 3 1) (told 2 4 2))
+        ≡ true }
+    ensures other_run { is_run default_limits
+        (turns_run (resumed 2 Still []) (told 1 4 2) (told 2 3 1)) ≡ true }
+    ensures no_run { is_run default_limits
+        (turns_run (resumed 2 Still []) (told 1 3 1) (told 2 3 1)) ≡ false }
+    ensures no_turn { is_run default_limits
+        (turns_run (told 2 3 1) (told 1 4 2) (resumed 2 (Refused Einval) [])) ≡ false }
 {}
 
 /// EBUSY of a parked caller, and of exit(2) and execve(2) beside one.
@@ -29,8 +33,10 @@ pub fn held()
 
 /// epoll_wait(2): a timeout ends a wait, with what is ready by then.
 pub fn timed_out()
-    ensures run { is_run default_limits (expired_run (report 1 3 ∷ report 1 4 ∷ []) (1 ∷ 2 ∷ [])) ≡ true }
-    ensures other_run { is_run default_limits (expired_run (report 1 4 ∷ report 1 3 ∷ []) (2 ∷ 1 ∷ [])) ≡ true }
+    ensures run { is_run default_limits (expired_run (report 1 3 ∷ report 1 4 ∷ []) (1 ∷ 2 ∷ []))
+        ≡ true }
+    ensures other_run { is_run default_limits
+        (expired_run (report 1 4 ∷ report 1 3 ∷ []) (2 ∷ 1 ∷ [])) ≡ true }
     ensures no_run { is_run default_limits (expired_run [] []) ≡ false }
 {}
 

@@ -34,7 +34,9 @@ fn ask<K: Kernel>(
     text: &mut String,
 ) -> Result<LineKind, AllocError>
     ensures limits { K.bounds kernel.new ≡ K.bounds kernel.old }
-    ensures ok { IfOk result (λ kind. Tells (event line.now) number kind (string_bytes text.new) (K.past kernel.old) (K.past kernel.new)) }
+    ensures ok { IfOk result
+        (λ kind. Tells (event line.now) number kind (string_bytes text.new) (K.past kernel.old)
+        (K.past kernel.new)) }
     ensures err { OnErr result (MayGain (K.past kernel.old) (K.past kernel.new)) }
 {
     text.clear();
@@ -61,7 +63,9 @@ pub(crate) fn answer_line<K: Kernel, W: Write>(
     text: &mut String,
 ) -> Result<LineKind, ScriptFault>
     ensures limits { K.bounds kernel.new ≡ K.bounds kernel.old }
-    ensures ok { IfOk result (λ kind. (words : List ℕ) × Tells (event line.now) number kind words (K.past kernel.old) (K.past kernel.new)
+    ensures ok { IfOk result
+        (λ kind. (words : List ℕ)
+        × Tells (event line.now) number kind words (K.past kernel.old) (K.past kernel.new)
         × Appends (W.contents writer.old.inner) (W.contents writer.new.inner) words) }
     ensures flag { OnOk result (writer.new.failed ≡ writer.old.failed) }
     ensures err { IfErr result (λ e. AnswerFault e (event line.now) number

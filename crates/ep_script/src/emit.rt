@@ -8,7 +8,8 @@ use std::io::Write;
 
 /// Writes the bytes and flushes them. An error ends it at once, and so does a write that takes none.
 pub(crate) fn emit<W: Write>(writer: &mut Watched<W>, bytes: &[u8]) -> Result<(), ScriptFault>
-    ensures ok { OnOk result (Appends (W.contents writer.old.inner) (W.contents writer.new.inner) bytes.now) }
+    ensures ok { OnOk result
+        (Appends (W.contents writer.old.inner) (W.contents writer.new.inner) bytes.now) }
     ensures flag { OnOk result (writer.new.failed ≡ writer.old.failed) }
     ensures err { IfErr result (λ e. (e ≡ ScriptFault.Write) × (writer.new.failed ≡ true)
         × ((n : ℕ) × (n ≤ length bytes.now) × Appends (W.contents writer.old.inner) (W.contents writer.new.inner) (take n bytes.now))) }

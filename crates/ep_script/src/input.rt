@@ -22,7 +22,8 @@ const LONGEST_LINE: usize = 65_536;
 fn plain_front(bytes: &[u8]) -> usize
     ensures within { result ≤ length bytes.now }
     ensures plain { IsPlain (take result bytes.now) }
-    ensures cut { result < length bytes.now → bytes.now ≡ take result bytes.now ++ 10 ∷ drop (result + 1) bytes.now }
+    ensures cut { result < length bytes.now
+        → bytes.now ≡ take result bytes.now ++ 10 ∷ drop (result + 1) bytes.now }
 {
     for (i, byte) in bytes.iter().enumerate() {
         if *byte == b'\n' {
@@ -62,11 +63,18 @@ impl Input {
 
     /// Reads on, in place of what was read before.
     fn fill<R: Read>(&mut self, reader: &mut Watched<R>) -> Result<(), ScriptFault>
-        ensures ok { OnOk result (Leads (R.remaining reader.old.inner) (prepend_known (unread self.new) (R.remaining reader.new.inner)) (λ xs ys. xs ≡ ys)) }
-        ensures end { OnOk result (unread self.new ≡ [] → Leads (R.remaining reader.old.inner) (R.remaining reader.new.inner) (λ xs ys. ys ≡ [])) }
+        ensures ok { OnOk result
+            (Leads (R.remaining reader.old.inner)
+            (prepend_known (unread self.new) (R.remaining reader.new.inner)) (λ xs ys. xs ≡ ys)) }
+        ensures end { OnOk result
+            (unread self.new ≡ []
+            → Leads (R.remaining reader.old.inner) (R.remaining reader.new.inner)
+            (λ xs ys. ys ≡ [])) }
         ensures flag { OnOk result (reader.new.failed ≡ reader.old.failed) }
         ensures err { IfErr result (λ e. (e ≡ ScriptFault.Read) × (reader.new.failed ≡ true)) }
-        ensures kept { OnErr result (Leads (R.remaining reader.old.inner) (R.remaining reader.new.inner) (λ xs ys. xs ≡ ys)) }
+        ensures kept { OnErr result
+            (Leads (R.remaining reader.old.inner) (R.remaining reader.new.inner)
+            (λ xs ys. xs ≡ ys)) }
     {
         self.start = 0;
         self.end = 0;
@@ -114,11 +122,16 @@ impl Input {
     ) -> Result<bool, ScriptFault>
         requires plain { IsPlain line.old.items }
         requires short { length line.old.items ≤ longest_line }
-        ensures ended { IfOk result (λ is_whole. is_whole ≡ true → line.old.items ++ unread self.old ≡ line.new.items ++ 10 ∷ unread self.new) }
-        ensures open { IfOk result (λ is_whole. is_whole ≡ false → (line.new.items ≡ line.old.items ++ unread self.old) × (unread self.new ≡ [])) }
+        ensures ended { IfOk result
+            (λ is_whole. is_whole ≡ true
+            → line.old.items ++ unread self.old ≡ line.new.items ++ 10 ∷ unread self.new) }
+        ensures open { IfOk result
+            (λ is_whole. is_whole ≡ false
+            → (line.new.items ≡ line.old.items ++ unread self.old) × (unread self.new ≡ [])) }
         ensures plain { OnOk result (IsPlain line.new.items) }
         ensures short { OnOk result (length line.new.items ≤ longest_line) }
-        ensures long { IsErrOf result (ScriptFault.Line number) → IsTooLong (line.old.items ++ unread self.old) }
+        ensures long { IsErrOf result (ScriptFault.Line number)
+            → IsTooLong (line.old.items ++ unread self.old) }
         ensures err { IfErr result (λ e. (e ≡ ScriptFault.Memory) ⊎ (e ≡ ScriptFault.Line number)) }
     {
         let unread = self.unread();

@@ -29,9 +29,13 @@ pub(crate) fn keep_record<K: Kernel, H: Write>(
     history: &mut Watched<H>,
     place: usize,
 ) -> Result<(), RecordedFault>
-    ensures ok { OnOk result (Appends (H.contents history.old.inner) (H.contents history.new.inner) (line_at place (K.past kernel.now))) }
+    ensures ok { OnOk result
+        (Appends (H.contents history.old.inner) (H.contents history.new.inner)
+        (line_at place (K.past kernel.now))) }
     ensures flag { OnOk result (history.new.failed ≡ history.old.failed) }
-    ensures part { OnErr result ((n : ℕ) × Appends (H.contents history.old.inner) (H.contents history.new.inner) (take n (line_at place (K.past kernel.now)))) }
+    ensures part { OnErr result
+        ((n : ℕ) × Appends (H.contents history.old.inner) (H.contents history.new.inner)
+        (take n (line_at place (K.past kernel.now)))) }
     ensures err { IfErr result (λ e. (e ≡ RecordedFault.History) ⊎ (e ≡ RecordedFault.Memory)) }
     ensures err_flag { IsErrOf result RecordedFault.History → history.new.failed ≡ true }
 {

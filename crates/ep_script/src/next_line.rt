@@ -39,7 +39,9 @@ pub(crate) fn next_line<R: Read>(
         (λ xs ys. Behind IsHeld xs ys) }
     ensures long { IsErrOf result (ScriptFault.Line number) →
         IfSome (prepend_known (unread input.old) (R.remaining reader.old.inner)) (λ xs. IsTooLong xs) }
-    ensures err { IfErr result (λ e. (e ≡ ScriptFault.Memory) ⊎ (((e ≡ ScriptFault.Read) × (reader.new.failed ≡ true)) ⊎ (e ≡ ScriptFault.Line number))) }
+    ensures err { IfErr result
+        (λ e. (e ≡ ScriptFault.Memory)
+        ⊎ (((e ≡ ScriptFault.Read) × (reader.new.failed ≡ true)) ⊎ (e ≡ ScriptFault.Line number))) }
 {
     line.clear();
     'chunks: loop {

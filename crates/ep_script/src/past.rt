@@ -33,9 +33,12 @@ fn add_record(
     number: u64,
     records: &mut Vec<Record>,
 ) -> Result<(), HistoryFault>
-    ensures ok { OnOk result ((r : Entry) × (line_record line.now ≡ Some r) × (records.new.items ≡ records.old.items ++ r ∷ [])) }
+    ensures ok { OnOk result
+        ((r : Entry) × (line_record line.now ≡ Some r)
+        × (records.new.items ≡ records.old.items ++ r ∷ [])) }
     ensures none { IsErrOf result (HistoryFault.NoRecord number) → line_record line.now ≡ None }
-    ensures err { IfErr result (λ e. (e ≡ HistoryFault.Memory) ⊎ (e ≡ HistoryFault.NoRecord number)) }
+    ensures err { IfErr result
+        (λ e. (e ≡ HistoryFault.Memory) ⊎ (e ≡ HistoryFault.NoRecord number)) }
 {
     let Ok(found) = read_record(alloc, line) else {
         return Err(HistoryFault::Memory);

@@ -46,7 +46,8 @@ impl<R: Read> Read for Watched<R> {
 
     fn read(&mut self, buf: &mut [u8]) -> io::Result<usize>
         ensures bound { ReadsAtMost result buf.new }
-        ensures bytes { ReadConsumes (R.remaining self.old.inner) (R.remaining self.new.inner) result buf.new }
+        ensures bytes { ReadConsumes (R.remaining self.old.inner) (R.remaining self.new.inner)
+            result buf.new }
         ensures watched { self.new.failed ≡ (is_err result || self.old.failed) }
     {
         let result = self.inner.read(buf);
@@ -62,8 +63,10 @@ impl<W: Write> Write for Watched<W> {
 
     fn write(&mut self, buf: &[u8]) -> io::Result<usize>
         ensures bound { WritesAtMost result buf.now }
-        ensures bytes { WriteAppends (W.contents self.old.inner) (W.contents self.new.inner) result buf.now }
-        ensures watched { self.new.failed ≡ (write_failed result (length buf.now) || self.old.failed) }
+        ensures bytes { WriteAppends (W.contents self.old.inner) (W.contents self.new.inner) result
+            buf.now }
+        ensures watched { self.new.failed
+            ≡ (write_failed result (length buf.now) || self.old.failed) }
     {
         let result = self.inner.write(buf);
         let failed = match &result {

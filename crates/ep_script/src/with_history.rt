@@ -45,7 +45,8 @@ pub fn run_recorded<K: Kernel, R: Read, W: Write, H: Write>(
     ensures reader_flag { OnOk result (reader.new.failed ≡ false) }
     ensures writer_flag { OnOk result (writer.new.failed ≡ false) }
     ensures history_flag { OnOk result (history.new.failed ≡ false) }
-    ensures history { OnOk result (Writes (H.contents history.old.inner) (H.contents history.new.inner)
+    ensures history { OnOk result
+        (Writes (H.contents history.old.inner) (H.contents history.new.inner)
         (K.past kernel.old) (K.past kernel.new)) }
 
     // How far it came where it did not come to the end.
@@ -60,10 +61,13 @@ pub fn run_recorded<K: Kernel, R: Read, W: Write, H: Write>(
         (R.remaining reader.old.inner) (R.remaining reader.new.inner) (λ input rest.
         Cut IsHeld 1 input rest (W.contents writer.old.inner) (W.contents writer.new.inner)
         (K.past kernel.old) (K.past kernel.new)) }
-    ensures read_flag { IsErrOf result (RecordedFault.Script ScriptFault.Read) → reader.new.failed ≡ true }
-    ensures write_flag { IsErrOf result (RecordedFault.Script ScriptFault.Write) → writer.new.failed ≡ true }
+    ensures read_flag { IsErrOf result (RecordedFault.Script ScriptFault.Read)
+        → reader.new.failed ≡ true }
+    ensures write_flag { IsErrOf result (RecordedFault.Script ScriptFault.Write)
+        → writer.new.failed ≡ true }
     ensures history_fault_flag { IsErrOf result RecordedFault.History → history.new.failed ≡ true }
-    ensures part { OnErr result (WritesPart (H.contents history.old.inner) (H.contents history.new.inner)
+    ensures part { OnErr result
+        (WritesPart (H.contents history.old.inner) (H.contents history.new.inner)
         (K.past kernel.old) (K.past kernel.new)) }
 {
     let Ok(mut input) = Input::new(alloc) else {

@@ -166,11 +166,14 @@ impl<K: Kernel + Drop, L: Ledger> Book<K, L> {
     /// ENOMEM is want of memory, for the kernel or for the session's list: then neither changes.
     pub fn act(&mut self, session: &mut Session<L>, event: Event) -> Answer
         ensures limits { K.bounds self.new.kernel ≡ K.bounds self.old.kernel }
-        ensures acts { Acts (K.bounds self.old.kernel) (record { 0 = session.old.name.number }) event result
+        ensures acts { Acts (K.bounds self.old.kernel) (record { 0 = session.old.name.number })
+            event result
             (K.state self.old.kernel) (K.state self.new.kernel)
             (K.past self.old.kernel) (K.past self.new.kernel) }
-        ensures kept { KeepsRecord result (K.past self.old.kernel) (K.past self.new.kernel) session.old.records.items session.new.records.items }
-        ensures adds { Adds session.old.name.number event result session.old.records.items session.new.records.items }
+        ensures kept { KeepsRecord result (K.past self.old.kernel) (K.past self.new.kernel)
+            session.old.records.items session.new.records.items }
+        ensures adds { Adds session.old.name.number event result session.old.records.items
+            session.new.records.items }
         ensures caller { session.new.name.number ≡ session.old.name.number }
         ensures may { may_answer event result ≡ true }
     {
@@ -216,7 +219,9 @@ impl<K: Kernel + Drop, L: Ledger> Book<K, L> {
 
     /// The parked callers from 1 to `sessions`, in rising order. An `Err` is want of memory.
     pub fn parked(&self, sessions: u32) -> Result<Vec<CallerId>, AllocError>
-        ensures { IfOk result (λ v. map (λ c. c.0) v.items ≡ filter (is_parked (K.state self.now.kernel)) (range_with_len 1 sessions)) }
+        ensures { IfOk result
+            (λ v. map (λ c. c.0) v.items
+            ≡ filter (is_parked (K.state self.now.kernel)) (range_with_len 1 sessions)) }
     {
         let mut parked = Vec::new(self.alloc);
         for before in 0..sessions {

@@ -68,7 +68,8 @@ impl<K: Kernel + Drop, L: Ledger> Shared<K, L> {
 
     /// One event, and then whoever waits for a mark looks again.
     fn act(&self, rt: &impl Wait, session: &mut Session<L>, event: Event) -> Answer
-        ensures adds { Adds (caller_of session.old) event result (records_of session.old) (records_of session.new) }
+        ensures adds { Adds (caller_of session.old) event result (records_of session.old)
+            (records_of session.new) }
         ensures caller { caller_of session.new ≡ caller_of session.old }
         ensures may { may_answer event result ≡ true }
     {
@@ -80,7 +81,8 @@ impl<K: Kernel + Drop, L: Ledger> Shared<K, L> {
     /// One call of a process by the session's caller: an epoll_wait that parks is answered `Parked` at once.
     /// ENOMEM adds no record.
     pub fn call(&self, rt: &impl Wait, session: &mut Session<L>, pid: Pid, call: Call) -> Answer
-        ensures adds { Adds (caller_of session.old) (CallOf pid call) result (records_of session.old) (records_of session.new) }
+        ensures adds { Adds (caller_of session.old) (CallOf pid call) result
+            (records_of session.old) (records_of session.new) }
         ensures caller { caller_of session.new ≡ caller_of session.old }
     {
         self.act(rt, session, Event::Call { pid, call })
@@ -88,7 +90,8 @@ impl<K: Kernel + Drop, L: Ledger> Shared<K, L> {
 
     /// The clock goes on by `n` milliseconds. ENOMEM adds no record.
     pub fn tick(&self, rt: &impl Wait, session: &mut Session<L>, n: u64) -> Answer
-        ensures adds { Adds (caller_of session.old) (Tick n) result (records_of session.old) (records_of session.new) }
+        ensures adds { Adds (caller_of session.old) (Tick n) result (records_of session.old)
+            (records_of session.new) }
         ensures caller { caller_of session.new ≡ caller_of session.old }
     {
         self.act(rt, session, Event::Tick { n })
@@ -97,7 +100,8 @@ impl<K: Kernel + Drop, L: Ledger> Shared<K, L> {
     /// epoll_wait(2) that waits: where it parks, the lock is given up until the caller is marked, and then it resumes.
     /// It is answered neither `Parked` nor `Still`. After ENOMEM the caller may be parked: `resume_wait` goes on.
     pub fn wait(&self, rt: &impl Wait, session: &mut Session<L>, asked: WaitCall) -> Answer
-        ensures adds { WaitAdds (caller_of session.old) (wait_event asked) result (records_of session.old) (records_of session.new) }
+        ensures adds { WaitAdds (caller_of session.old) (wait_event asked) result
+            (records_of session.old) (records_of session.new) }
         ensures caller { caller_of session.new ≡ caller_of session.old }
         ensures ends { ends_wait result ≡ true }
     {
@@ -117,7 +121,8 @@ impl<K: Kernel + Drop, L: Ledger> Shared<K, L> {
 
     /// Goes on with the wait of a caller that is parked, as `wait` does. EINVAL where it is not parked.
     pub fn resume_wait(&self, rt: &impl Wait, session: &mut Session<L>) -> Answer
-        ensures adds { ResumeAdds (caller_of session.old) result (records_of session.old) (records_of session.new) }
+        ensures adds { ResumeAdds (caller_of session.old) result (records_of session.old)
+            (records_of session.new) }
         ensures caller { caller_of session.new ≡ caller_of session.old }
         ensures ends { ends_wait result ≡ true }
     {
@@ -133,7 +138,8 @@ impl<K: Kernel + Drop, L: Ledger> Shared<K, L> {
 
     /// One resumption, once the caller is marked or is not parked.
     fn resume(&self, rt: &impl Wait, session: &mut Session<L>) -> Answer
-        ensures adds { Adds (caller_of session.old) Resume result (records_of session.old) (records_of session.new) }
+        ensures adds { Adds (caller_of session.old) Resume result (records_of session.old)
+            (records_of session.new) }
         ensures caller { caller_of session.new ≡ caller_of session.old }
         ensures may { may_answer Resume result ≡ true }
     {
@@ -149,7 +155,10 @@ impl<K: Kernel + Drop, L: Ledger> Shared<K, L> {
 
     /// The parked callers, in rising order. An `Err` is want of memory.
     pub fn parked(&self, rt: &impl Wait) -> Result<Vec<CallerId>, AllocError>
-        ensures { IfOk result (λ v. (s : State) × (map (λ c. c.0) v.items ≡ filter (is_parked s) (range_with_len 1 self.now.count.number))) }
+        ensures { IfOk result
+            (λ v. (s : State)
+            × (map (λ c. c.0) v.items
+            ≡ filter (is_parked s) (range_with_len 1 self.now.count.number))) }
     {
         self.book.lock(rt).parked(self.count.number())
     }
@@ -160,9 +169,12 @@ impl<K: Kernel + Drop, L: Ledger> Shared<K, L> {
     pub fn finish(self, handed: Vec<Session<L>>) -> Result<History, FinishFault>
         ensures result { Finishes self.count.number self.limits handed.items result }
         ensures limits { IfOk result (λ h. h.limits ≡ self.limits) }
-        ensures replays { IfOk result (λ h. (s : State) × (run h.limits opening h.records.items ≡ Some s)) }
-        ensures within { IfOk result (λ h. All (λ r. IsBetween L.parts r.caller.0) h.records.items) }
-        ensures answered { IfOk result (λ h. vec_len h.records ≡ sum_by (λ s. vec_len s.records) handed.items) }
+        ensures replays { IfOk result
+            (λ h. (s : State) × (run h.limits opening h.records.items ≡ Some s)) }
+        ensures within { IfOk result
+            (λ h. All (λ r. IsBetween L.parts r.caller.0) h.records.items) }
+        ensures answered { IfOk result
+            (λ h. vec_len h.records ≡ sum_by (λ s. vec_len s.records) handed.items) }
     {
         let Shared {
             book,

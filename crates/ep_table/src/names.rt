@@ -11,7 +11,8 @@ use std::alloc::Allocator;
 
 fn add_name<A: Allocator>(store: &mut Store<A>, slot: Option<Descriptor>)
     requires live { LiveSlot store.old.keys slot }
-    requires named { (d : ℕ) → 0 < times d (numbers store.old.keys (slot ∷ [])) → 0 < count_at store.old.names d }
+    requires named { (d : ℕ) → 0 < times d (numbers store.old.keys (slot ∷ []))
+        → 0 < count_at store.old.names d }
     requires fits { store.old.named + 2 < 2 ^ 64 }
     ensures names { Raises store.old store.new (numbers store.old.keys (slot ∷ [])) }
     ensures named { store.new.named ≤ store.old.named + 1 }
@@ -24,7 +25,8 @@ fn add_name<A: Allocator>(store: &mut Store<A>, slot: Option<Descriptor>)
 /// Adds the names that descriptors give.
 pub fn add_names<A: Allocator>(store: &mut Store<A>, slots: &[Option<Descriptor>])
     requires live { LiveTable store.old.keys slots.now }
-    requires named { (d : ℕ) → 0 < times d (numbers store.old.keys slots.now) → 0 < count_at store.old.names d }
+    requires named { (d : ℕ) → 0 < times d (numbers store.old.keys slots.now)
+        → 0 < count_at store.old.names d }
     requires fits { store.old.named + length slots.now + 2 < 2 ^ 64 }
     ensures { Raises store.old store.new (numbers store.old.keys slots.now) }
 {
@@ -35,7 +37,8 @@ pub fn add_names<A: Allocator>(store: &mut Store<A>, slots: &[Option<Descriptor>
 
 fn drop_name<A: Allocator>(store: &mut Store<A>, slot: Option<Descriptor>)
     requires live { LiveSlot store.old.keys slot }
-    requires named { (d : ℕ) → times d (numbers store.old.keys (slot ∷ [])) ≤ count_at store.old.names d }
+    requires named { (d : ℕ) → times d (numbers store.old.keys (slot ∷ []))
+        ≤ count_at store.old.names d }
     ensures { Lowers store.old store.new (numbers store.old.keys (slot ∷ [])) }
 {
     if let Some(descriptor) = slot {
@@ -56,7 +59,8 @@ fn closed(slot: Option<Descriptor>, every: bool) -> Option<Descriptor>
 /// Drops the names that descriptors give: of every one, or of those whose close-on-exec flag is on.
 pub fn drop_names<A: Allocator>(store: &mut Store<A>, slots: &[Option<Descriptor>], every: bool)
     requires live { LiveTable store.old.keys slots.now }
-    requires named { (d : ℕ) → times d (numbers store.old.keys (map (closing every) slots.now)) ≤ count_at store.old.names d }
+    requires named { (d : ℕ) → times d (numbers store.old.keys (map (closing every) slots.now))
+        ≤ count_at store.old.names d }
     ensures { Lowers store.old store.new (numbers store.old.keys (map (closing every) slots.now)) }
 {
     for slot in slots {

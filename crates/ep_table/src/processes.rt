@@ -31,7 +31,8 @@ pub fn lowest<A: Allocator>(processes: &[Option<Table<A>>], pid: Pid) -> usize
 
 /// The lowest free number of a process once the lowest one is taken.
 pub fn second<A: Allocator>(processes: &[Option<Table<A>>], pid: Pid) -> usize
-    ensures { (x : the_descriptor) → result ≡ lowest_free (entered_at (slots_of (process_of processes.now pid.0)) x) }
+    ensures { (x : the_descriptor)
+        → result ≡ lowest_free (entered_at (slots_of (process_of processes.now pid.0)) x) }
 {
     match table_at(processes, pid) {
         Some(table) => table.second(),
@@ -92,7 +93,8 @@ pub fn reserve<A: Allocator>(
     additional: usize,
 ) -> Result<(), AllocError>
     ensures lists { lists processes.new.items ≡ lists processes.old.items }
-    ensures room { OnOk result (HasRoom (slice_index_or processes.new.items pid.0 None) additional) }
+    ensures room { OnOk result
+        (HasRoom (slice_index_or processes.new.items pid.0 None) additional) }
 {
     let at = pid.0 as usize;
     if at < processes.len() {
@@ -108,7 +110,8 @@ pub fn enter<A: Allocator>(
     descriptor: Descriptor,
 )
     requires { HasRoom (slice_index_or processes.old.items pid.0 None) 1 }
-    ensures { lists processes.new.items ≡ change_at processes.old.items pid.0 (λ q. entered q descriptor) }
+    ensures { lists processes.new.items
+        ≡ change_at processes.old.items pid.0 (λ q. entered q descriptor) }
 {
     let at = pid.0 as usize;
     if at < processes.len() {
@@ -124,7 +127,8 @@ pub fn enter_two<A: Allocator>(
     second: Descriptor,
 )
     requires { HasRoom (slice_index_or processes.old.items pid.0 None) 2 }
-    ensures { lists processes.new.items ≡ change_at processes.old.items pid.0 (λ q. entered (entered q first) second) }
+    ensures { lists processes.new.items
+        ≡ change_at processes.old.items pid.0 (λ q. entered (entered q first) second) }
 {
     let at = pid.0 as usize;
     if at < processes.len() {
@@ -156,7 +160,8 @@ fn put_in<A: Allocator>(
     descriptor: Descriptor,
 ) -> Result<(), AllocError>
     requires { number + 1 < 2 ^ 64 }
-    ensures ok { OnOk result (items_of process.new ≡ put_at (items_of process.old) number descriptor) }
+    ensures ok { OnOk result
+        (items_of process.new ≡ put_at (items_of process.old) number descriptor) }
     ensures err { OnErr result (items_of process.new ≡ items_of process.old) }
 {
     match process {
@@ -173,7 +178,9 @@ pub fn put<A: Allocator>(
     descriptor: Descriptor,
 ) -> Result<(), AllocError>
     requires { number + 1 < 2 ^ 64 }
-    ensures ok { OnOk result (lists processes.new.items ≡ change_at processes.old.items pid.0 (λ q. put_at q number descriptor)) }
+    ensures ok { OnOk result
+        (lists processes.new.items
+        ≡ change_at processes.old.items pid.0 (λ q. put_at q number descriptor)) }
     ensures err { OnErr result (lists processes.new.items ≡ lists processes.old.items) }
 {
     let at = pid.0 as usize;

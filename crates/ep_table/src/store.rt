@@ -59,7 +59,8 @@ fn reserve<A: Allocator>(
     ensures grown { vec_capacity dying.old ≤ vec_capacity dying.new }
     ensures room { OnOk result (HasRoomFor descriptions.new additional) }
     ensures object_room { OnOk result (HasRoomFor objects.new 1) }
-    ensures death_room { OnOk result (slab_len descriptions.new + additional ≤ vec_capacity dying.new) }
+    ensures death_room { OnOk result
+        (slab_len descriptions.new + additional ≤ vec_capacity dying.new) }
 {
     objects.reserve(1)?;
     descriptions.reserve(additional)?;
@@ -75,7 +76,9 @@ fn close<A: Allocator>(
     end: End,
 ) -> (Raised, Option<DescId>)
     requires { IsSome (slice_index_or objects.old.slots at None) }
-    ensures slots { objects.new.slots ≡ slice_set objects.old.slots at (closed_slot (slice_index_or objects.old.slots at None) end) }
+    ensures slots { objects.new.slots
+        ≡ slice_set objects.old.slots at
+        (closed_slot (slice_index_or objects.old.slots at None) end) }
     ensures raised { result.0 ≡ raised_slot (slice_index_or objects.old.slots at None) end }
     ensures other { result.1 ≡ other_slot (slice_index_or objects.old.slots at None) end }
 {
@@ -113,7 +116,8 @@ impl<A: Allocator> Store<A> {
     pub fn new(alloc: A) -> Store<A>
     where
         A: Copy,
-        ensures { result ≡ record { descriptions = []; objects = []; keys = []; names = []; holds = []; dying = []; named = 0 } }
+        ensures { result
+            ≡ record { descriptions = []; objects = []; keys = []; names = []; holds = []; dying = []; named = 0 } }
     {
         Store {
             described: 0,
@@ -161,7 +165,8 @@ impl<A: Allocator> Store<A> {
     /// The key of the living description of the other end of the object.
     pub fn other(&self, key: DescId) -> Option<DescId>
         requires { IsSome (number_at self.now.keys key) }
-        ensures { IsAt (files_in self.now) self.now.keys (across (place_of (files_in self.now) (thing_number self.now key))) result }
+        ensures { IsAt (files_in self.now) self.now.keys
+            (across (place_of (files_in self.now) (thing_number self.now key))) result }
     {
         let description = self.descriptions[key.0];
         other_in(&self.objects[description.object], description.end)
@@ -273,7 +278,8 @@ impl<A: Allocator> Store<A> {
         requires clock { now ≤ last_moment }
         ensures answer { IfOk result (λ r. r.0 ≡ (thing_effect self.old key now call.now).0) }
         ensures raised { IfOk result (λ r. r.1 ≡ (thing_effect self.old key now call.now).2) }
-        ensures objects { OnOk result (self.new ≡ record self.old { objects = objects_after self.old key now call.now }) }
+        ensures objects { OnOk result
+            (self.new ≡ record self.old { objects = objects_after self.old key now call.now }) }
         ensures err { OnErr result (self.new ≡ self.old) }
         ensures inline { min (asked_of call.now) (thing_waiting self.old key) ≤ 16 → IsOk result }
     {
@@ -306,7 +312,11 @@ impl<A: Allocator> Store<A> {
         requires live { IsSome (number_at self.old.keys key) }
         requires named { 0 < count_at self.old.names (thing_number self.old key) }
         requires fits { self.old.named + 2 < 2 ^ 64 }
-        ensures { self.new ≡ record self.old { names = more_at self.old.names (thing_number self.old key); named = self.old.named + 1 } }
+        ensures { self.new ≡ record self.old {
+          names = more_at self.old.names
+              (thing_number self.old key);
+          named = self.old.named + 1;
+        } }
     {
         let description = &mut self.descriptions[key.0];
         description.names += 1;
@@ -317,7 +327,8 @@ impl<A: Allocator> Store<A> {
     pub fn drop_name(&mut self, key: DescId)
         requires live { IsSome (number_at self.old.keys key) }
         requires named { 0 < count_at self.old.names (thing_number self.old key) }
-        ensures { self.new ≡ record self.old { names = less_at self.old.names (thing_number self.old key); dying = self.new.dying } }
+        ensures { self.new ≡ record self.old
+            { names = less_at self.old.names (thing_number self.old key); dying = self.new.dying } }
     {
         let description = &mut self.descriptions[key.0];
         description.names -= 1;
@@ -335,9 +346,12 @@ impl<A: Allocator> Store<A> {
     pub fn hold(&mut self, key: DescId) -> Result<(), AllocError>
         requires live { IsSome (number_at self.old.keys key) }
         requires used { is_among self.old.dying (thing_number self.old key) ≡ false }
-        ensures ok { OnOk result (self.new ≡ record self.old { holds = more_at self.old.holds (thing_number self.old key) }) }
+        ensures ok { OnOk result
+            (self.new ≡ record self.old
+            { holds = more_at self.old.holds (thing_number self.old key) }) }
         ensures err { OnErr result (self.new ≡ self.old) }
-        ensures room { count_at self.old.holds (thing_number self.old key) + 1 < 2 ^ 64 → IsOk result }
+        ensures room { count_at self.old.holds (thing_number self.old key) + 1 < 2 ^ 64
+            → IsOk result }
     {
         if self.descriptions[key.0].holds == usize::MAX {
             return Err(AllocError);
@@ -351,7 +365,8 @@ impl<A: Allocator> Store<A> {
     pub fn release(&mut self, key: DescId)
         requires live { IsSome (number_at self.old.keys key) }
         requires held { 0 < count_at self.old.holds (thing_number self.old key) }
-        ensures { self.new ≡ record self.old { holds = less_at self.old.holds (thing_number self.old key); dying = self.new.dying } }
+        ensures { self.new ≡ record self.old
+            { holds = less_at self.old.holds (thing_number self.old key); dying = self.new.dying } }
     {
         let description = &mut self.descriptions[key.0];
         description.holds -= 1;

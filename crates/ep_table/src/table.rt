@@ -109,7 +109,9 @@ fn copy_slots<A: Allocator>(
 impl<A: Allocator> Table<A> {
     /// The table with which the first process starts: 0, 1 and 2 name one description.
     pub fn opening(alloc: A, description: DescId) -> Result<Table<A>, AllocError>
-        ensures { IfOk result (λ table. let x = Some (record { description = description; cloexec = false }) in table.slots.items ≡ x ∷ x ∷ x ∷ []) }
+        ensures { IfOk result
+            (λ table. let x = Some (record { description = description; cloexec = false }) in
+            table.slots.items ≡ x ∷ x ∷ x ∷ []) }
     {
         let descriptor = Descriptor {
             description,
@@ -149,7 +151,8 @@ impl<A: Allocator> Table<A> {
     /// Makes room for so many more descriptors.
     pub fn reserve(&mut self, additional: usize) -> Result<(), AllocError>
         ensures slots { self.new.slots.items ≡ self.old.slots.items }
-        ensures room { OnOk result (vec_len self.new.slots + additional ≤ vec_capacity self.new.slots) }
+        ensures room { OnOk result
+            (vec_len self.new.slots + additional ≤ vec_capacity self.new.slots) }
     {
         self.slots.reserve(additional)
     }
@@ -179,7 +182,8 @@ impl<A: Allocator> Table<A> {
     /// Puts a descriptor at a number. An `AllocError` leaves the table.
     pub fn put(&mut self, number: usize, descriptor: Descriptor) -> Result<(), AllocError>
         requires { number + 1 < 2 ^ 64 }
-        ensures ok { OnOk result (self.new.slots.items ≡ place_at self.old.slots.items number descriptor) }
+        ensures ok { OnOk result
+            (self.new.slots.items ≡ place_at self.old.slots.items number descriptor) }
         ensures err { OnErr result (self.new.slots.items ≡ self.old.slots.items) }
     {
         grow_to(&mut self.slots, number)?;

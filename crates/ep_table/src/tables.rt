@@ -213,7 +213,9 @@ impl<A: Allocator> Tables<A> {
     /// objects were made, leaves the tables.
     pub fn create(&mut self, pid: Pid, cloexec: bool, object: Object) -> Result<Answer, AllocError>
         requires { IsSome (table_of self.old.files pid.0) }
-        ensures ok { IfOk result (λ answer. Does (one_of self.old.limits self.old.files pid.0 object cloexec) answer self.old self.new) }
+        ensures ok { IfOk result
+            (λ answer. Does (one_of self.old.limits self.old.files pid.0 object cloexec) answer
+            self.old self.new) }
         ensures err { OnErr result (self.new ≡ self.old) }
     {
         let number = lowest(&self.processes, pid);
@@ -229,7 +231,9 @@ impl<A: Allocator> Tables<A> {
         requires process { IsSome (table_of self.old.files pid.0) }
         requires free { first (two_refusals self.old.limits self.old.files pid.0) ≡ None }
         requires small { second_free (numbers_of self.old.files pid.0) < 65536 }
-        ensures ok { IfOk result (λ answer. Does (two_of self.old.limits self.old.files pid.0 object cloexec) answer self.old self.new) }
+        ensures ok { IfOk result
+            (λ answer. Does (two_of self.old.limits self.old.files pid.0 object cloexec) answer
+            self.old self.new) }
         ensures err { OnErr result (self.new ≡ self.old) }
     {
         let first = lowest(&self.processes, pid);
@@ -246,7 +250,9 @@ impl<A: Allocator> Tables<A> {
     /// were made, leaves the tables.
     pub fn pipe(&mut self, alloc: Global, pid: Pid, cloexec: bool) -> Result<Answer, AllocError>
         requires { IsSome (table_of self.old.files pid.0) }
-        ensures ok { IfOk result (λ answer. Does (pipe_of self.old.limits self.old.files pid.0 cloexec) answer self.old self.new) }
+        ensures ok { IfOk result
+            (λ answer. Does (pipe_of self.old.limits self.old.files pid.0 cloexec) answer self.old
+            self.new) }
         ensures err { OnErr result (self.new ≡ self.old) }
     {
         if let Some(errno) = self.refuses_two(pid) {
@@ -266,7 +272,9 @@ impl<A: Allocator> Tables<A> {
         cloexec: bool,
     ) -> Result<Answer, AllocError>
         requires { IsSome (table_of self.old.files pid.0) }
-        ensures ok { IfOk result (λ answer. Does (socketpair_of self.old.limits self.old.files pid.0 cloexec) answer self.old self.new) }
+        ensures ok { IfOk result
+            (λ answer. Does (socketpair_of self.old.limits self.old.files pid.0 cloexec) answer
+            self.old self.new) }
         ensures err { OnErr result (self.new ≡ self.old) }
     {
         if let Some(errno) = self.refuses_two(pid) {
@@ -280,8 +288,11 @@ impl<A: Allocator> Tables<A> {
     fn add_name(&mut self, pid: Pid, description: DescId) -> Result<(), AllocError>
         requires process { IsSome (table_of self.old.files pid.0) }
         requires live { IsSome (number_under self.old description) }
-        requires named { is_among (named_in_tables self.old.files.tables) (number_of self.old description) ≡ true }
-        ensures ok { OnOk result (self.new ≡ record self.old { files = dup self.old.files pid.0 (number_of self.old description) }) }
+        requires named { is_among (named_in_tables self.old.files.tables)
+            (number_of self.old description) ≡ true }
+        ensures ok { OnOk result
+            (self.new ≡ record self.old
+            { files = dup self.old.files pid.0 (number_of self.old description) }) }
         ensures err { OnErr result (self.new ≡ self.old) }
     {
         self.store.fits(1)?;
@@ -301,7 +312,9 @@ impl<A: Allocator> Tables<A> {
     /// tables.
     pub fn dup(&mut self, pid: Pid, fd: Fd) -> Result<Answer, AllocError>
         requires { IsSome (table_of self.old.files pid.0) }
-        ensures ok { IfOk result (λ answer. Does (dup_of self.old.limits self.old.files pid.0 fd.0) answer self.old self.new) }
+        ensures ok { IfOk result
+            (λ answer. Does (dup_of self.old.limits self.old.files pid.0 fd.0) answer self.old
+            self.new) }
         ensures err { OnErr result (self.new ≡ self.old) }
     {
         let Some(description) = self.lookup(pid, fd) else {
@@ -319,9 +332,12 @@ impl<A: Allocator> Tables<A> {
     fn name_at(&mut self, pid: Pid, number: usize, description: DescId) -> Result<(), AllocError>
         requires process { IsSome (table_of self.old.files pid.0) }
         requires live { IsSome (number_under self.old description) }
-        requires named { is_among (named_in_tables self.old.files.tables) (number_of self.old description) ≡ true }
+        requires named { is_among (named_in_tables self.old.files.tables)
+            (number_of self.old description) ≡ true }
         requires small { number < 65536 }
-        ensures ok { OnOk result (self.new ≡ record self.old { files = named_at self.old pid.0 number description; dying = self.new.dying }) }
+        ensures ok { OnOk result
+            (self.new ≡ record self.old
+            { files = named_at self.old pid.0 number description; dying = self.new.dying }) }
         ensures err { OnErr result (self.new ≡ self.old) }
     {
         let replaced = descriptor_at(&self.processes, pid, number);
@@ -340,7 +356,9 @@ impl<A: Allocator> Tables<A> {
 
     /// A descriptor number of a process, where it is in the range of all.
     fn in_range(&self, fd: Fd) -> Option<usize>
-        ensures some { IfSome result (λ number. (fd.0 ≡ pos number) × (number < 65536) × (is_in_range self.now.limits fd.0 ≡ true)) }
+        ensures some { IfSome result
+            (λ number. (fd.0 ≡ pos number) × (number < 65536)
+            × (is_in_range self.now.limits fd.0 ≡ true)) }
         ensures none { IfNone result (is_in_range self.now.limits fd.0 ≡ false) }
     {
         let number = index_of(fd)?;
@@ -357,7 +375,9 @@ impl<A: Allocator> Tables<A> {
     /// of range. An `AllocError` leaves the tables. The time is that of growing the table up to `to`.
     pub fn dup2(&mut self, pid: Pid, fd: Fd, to: Fd) -> Result<Answer, AllocError>
         requires { IsSome (table_of self.old.files pid.0) }
-        ensures ok { IfOk result (λ answer. Does (dup2_of self.old.limits self.old.files pid.0 fd.0 to.0) answer self.old self.new) }
+        ensures ok { IfOk result
+            (λ answer. Does (dup2_of self.old.limits self.old.files pid.0 fd.0 to.0) answer self.old
+            self.new) }
         ensures err { OnErr result (self.new ≡ self.old) }
     {
         let Some(description) = self.lookup(pid, fd) else {
@@ -378,7 +398,8 @@ impl<A: Allocator> Tables<A> {
         A: Copy,
         requires process { IsSome (table_of self.old.files pid.0) }
         requires room { length (numbered 0 self.old.files.tables) < 2 ^ 32 }
-        ensures ok { OnOk result (self.new ≡ record self.old { files = fork self.old.files pid.0 }) }
+        ensures ok { OnOk result
+            (self.new ≡ record self.old { files = fork self.old.files pid.0 }) }
         ensures err { OnErr result (self.new ≡ self.old) }
     {
         if let Some(table) = table_at(&self.processes, pid) {
@@ -400,7 +421,9 @@ impl<A: Allocator> Tables<A> {
     where
         A: Copy,
         requires { IsSome (table_of self.old.files pid.0) }
-        ensures ok { IfOk result (λ answer. Does (fork_of self.old.limits self.old.files pid.0) answer self.old self.new) }
+        ensures ok { IfOk result
+            (λ answer. Does (fork_of self.old.limits self.old.files pid.0) answer self.old
+            self.new) }
         ensures err { OnErr result (self.new ≡ self.old) }
     {
         if self.limits.processes() as usize <= self.living {
@@ -414,9 +437,11 @@ impl<A: Allocator> Tables<A> {
     /// Takes a number out of a process at which this descriptor stands.
     fn unname(&mut self, pid: Pid, number: usize, description: DescId)
         requires process { IsSome (table_of self.old.files pid.0) }
-        requires named { number_found self.old (Some description) ≡ under self.old.files pid.0 (pos number) }
+        requires named { number_found self.old (Some description)
+            ≡ under self.old.files pid.0 (pos number) }
         requires live { IsSome (number_under self.old description) }
-        ensures { self.new ≡ record self.old { files = close self.old.files pid.0 (pos number); dying = self.new.dying } }
+        ensures { self.new ≡ record self.old
+            { files = close self.old.files pid.0 (pos number); dying = self.new.dying } }
     {
         leave(&mut self.processes, pid, number);
         self.store.drop_name(description);
@@ -442,7 +467,8 @@ impl<A: Allocator> Tables<A> {
     /// never refused. The time is that of going through its table.
     pub fn exec(&mut self, pid: Pid)
         requires { IsSome (table_of self.old.files pid.0) }
-        ensures { self.new ≡ record self.old { files = exec self.old.files pid.0; dying = self.new.dying } }
+        ensures { self.new ≡ record self.old
+            { files = exec self.old.files pid.0; dying = self.new.dying } }
     {
         if let Some(table) = table_at(&self.processes, pid) {
             drop_names(&mut self.store, &table.slots, false);
@@ -454,7 +480,8 @@ impl<A: Allocator> Tables<A> {
     /// again. It is never refused. The time is that of going through its table.
     pub fn exit(&mut self, pid: Pid)
         requires { IsSome (table_of self.old.files pid.0) }
-        ensures { self.new ≡ record self.old { files = exit self.old.files pid.0; dying = self.new.dying } }
+        ensures { self.new ≡ record self.old
+            { files = exit self.old.files pid.0; dying = self.new.dying } }
     {
         if let Some(table) = table_at(&self.processes, pid) {
             drop_names(&mut self.store, &table.slots, true);
@@ -469,7 +496,9 @@ impl<A: Allocator> Tables<A> {
     pub fn hold(&mut self, desc: DescId) -> Result<(), AllocError>
         requires live { IsSome (number_under self.old desc) }
         requires used { is_among self.old.dying (number_of self.old desc) ≡ false }
-        ensures ok { OnOk result (self.new ≡ record self.old { holds = more_at self.old.holds (number_of self.old desc) }) }
+        ensures ok { OnOk result
+            (self.new ≡ record self.old
+            { holds = more_at self.old.holds (number_of self.old desc) }) }
         ensures err { OnErr result (self.new ≡ self.old) }
         ensures room { holds_of self.old (number_of self.old desc) + 1 < 2 ^ 64 → IsOk result }
     {
@@ -481,7 +510,8 @@ impl<A: Allocator> Tables<A> {
     pub fn release(&mut self, desc: DescId)
         requires live { IsSome (number_under self.old desc) }
         requires held { 0 < holds_of self.old (number_of self.old desc) }
-        ensures { self.new ≡ record self.old { holds = less_at self.old.holds (number_of self.old desc); dying = self.new.dying } }
+        ensures { self.new ≡ record self.old
+            { holds = less_at self.old.holds (number_of self.old desc); dying = self.new.dying } }
     {
         self.store.release(desc);
     }
@@ -528,7 +558,8 @@ impl<A: Allocator> Tables<A> {
     /// has died or the object has one end.
     pub fn other(&self, desc: DescId) -> Option<DescId>
         requires { IsSome (number_under self.now desc) }
-        ensures { IsAt self.now.files self.now.keys (across (place_of self.now.files (number_of self.now desc))) result }
+        ensures { IsAt self.now.files self.now.keys
+            (across (place_of self.now.files (number_of self.now desc))) result }
     {
         self.store.other(desc)
     }
@@ -546,7 +577,9 @@ impl<A: Allocator> Tables<A> {
     pub fn present(&self, desc: DescId, now: u64) -> Mask
         requires live { IsSome (number_under self.now desc) }
         requires clock { now ≤ last_moment }
-        ensures { let number = number_of self.now desc in result.0 ≡ object_present (content_of self.now.files number) (side_of self.now.files number) now }
+        ensures { let number = number_of self.now desc in result.0
+            ≡ object_present (content_of self.now.files number)
+            (side_of self.now.files number) now }
     {
         self.object(desc).present(self.end(desc), now)
     }
@@ -557,7 +590,8 @@ impl<A: Allocator> Tables<A> {
         requires live { IsSome (number_under self.now desc) }
         requires old { old ≤ last_moment }
         requires new { new ≤ last_moment }
-        ensures { result ≡ raises (advance (content_of self.now.files (number_of self.now desc)) old new) 0 }
+        ensures { result ≡ raises
+            (advance (content_of self.now.files (number_of self.now desc)) old new) 0 }
     {
         self.object(desc).advance(old, new)
     }
@@ -586,9 +620,11 @@ impl<A: Allocator> Tables<A> {
         requires clock { now ≤ last_moment }
         ensures answer { IfOk result (λ r. r.0 ≡ (effect_under self.old desc now call.now).0) }
         ensures raised { IfOk result (λ r. r.1 ≡ (effect_under self.old desc now call.now).2) }
-        ensures files { OnOk result (self.new ≡ record self.old { files = files_after self.old desc now call.now }) }
+        ensures files { OnOk result
+            (self.new ≡ record self.old { files = files_after self.old desc now call.now }) }
         ensures err { OnErr result (self.new ≡ self.old) }
-        ensures inline { min (asked_of call.now) (waiting_at self.old.files (number_of self.old desc)) ≤ 16 → IsOk result }
+        ensures inline { min (asked_of call.now)
+            (waiting_at self.old.files (number_of self.old desc)) ≤ 16 → IsOk result }
     {
         self.store.apply(desc, now, call)
     }

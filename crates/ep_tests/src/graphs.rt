@@ -39,7 +39,8 @@ fn add_chain(rt: &impl Abort, graph: &mut Graph, chain: &[usize]) {
 
 /// A caller whose filter follows a rule: the instances above one through entries past a bound.
 fn above_past<'a>(graph: &'a mut Graph, inner: DescId, bound: usize) -> &'a [DescId]
-    ensures { (x : ℕ) → (is_among (keys result.now) x ≡ true) ↔ IsAbove (edges (admitted_by (λ e. nat_lt bound e) graph.old)) x inner.0 }
+    ensures { (x : ℕ) → (is_among (keys result.now) x ≡ true) ↔ IsAbove
+        (edges (admitted_by (λ e. nat_lt bound e) graph.old)) x inner.0 }
 {
     graph.above(inner, &|entry: EntryId| entry.0 > bound)
 }

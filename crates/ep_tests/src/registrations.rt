@@ -12,7 +12,8 @@ use std::test::Fail;
 
 /// The armed registrations of an instance.
 fn armed(alloc: Global, sets: &Interest, instance: DescId) -> Result<Vec<Entry>, AllocError>
-    ensures { IfOk result (λ v. v.items ≡ filter (λ x. x.armed) (filter (is_of instance) sets.now.entries)) }
+    ensures { IfOk result
+        (λ v. v.items ≡ filter (λ x. x.armed) (filter (is_of instance) sets.now.entries)) }
 {
     let mut found = Vec::new(alloc);
     for (_, entry) in sets.entries(instance) {
@@ -53,7 +54,8 @@ type Step = (Op, Key, Found, usize);
 
 /// What a key and this data add, for IN.
 fn addition(key: Key, tag: u64) -> Addition
-    ensures { result ≡ record { instance = record { 0 = key.0 }; fd = record { 0 = key.1 }; desc = record { 0 = key.2 }; mask = record { 0 = 1 }; tag = tag } }
+    ensures { result
+        ≡ record { instance = record { 0 = key.0 }; fd = record { 0 = key.1 }; desc = record { 0 = key.2 }; mask = record { 0 = 1 }; tag = tag } }
 {
     Addition {
         instance: DescId(key.0),

@@ -508,7 +508,8 @@ const TIMER: [Step; 6] = [
 fn closes(tables: &mut Tables, held: DescId, fd: i32) -> bool
     requires { IsSome (number_under tables.old held) }
     ensures live { IsSome (number_under tables.new held) }
-    ensures held { holds_of tables.new (number_of tables.new held) ≡ holds_of tables.old (number_of tables.old held) }
+    ensures held { holds_of tables.new (number_of tables.new held)
+        ≡ holds_of tables.old (number_of tables.old held) }
 {
     tables.has_process(Pid(1)) && answered(tables.close(Pid(1), Fd(fd))) == Done
 }

@@ -9,7 +9,8 @@ use ep_base::Limits;
 
 /// The number of a run of digits.
 fn number(run: &str) -> Option<u32>
-    ensures { SomeIff result (IsNumeral 10 run.now × (digits_value 10 run.now < 2 ^ 32)) (digits_value 10 run.now) }
+    ensures { SomeIff result (IsNumeral 10 run.now × (digits_value 10 run.now < 2 ^ 32))
+        (digits_value 10 run.now) }
 {
     // `parse` takes a plus sign too, which is no digit.
     if run.starts_with('+') {
@@ -20,7 +21,9 @@ fn number(run: &str) -> Option<u32>
 
 /// The number of the digits before the first comma, and what stands behind that comma.
 fn number_and_rest(text: &str) -> Option<(u32, &str)>
-    ensures read { IfSome result (λ p. (run : List ℕ) × (text.now ≡ run ++ 44 ∷ p.1.now) × IsNumeral 10 run × (digits_value 10 run ≡ p.0)) }
+    ensures read { IfSome result
+        (λ p. (run : List ℕ) × (text.now ≡ run ++ 44 ∷ p.1.now) × IsNumeral 10 run
+        × (digits_value 10 run ≡ p.0)) }
     ensures found { (run rest : List ℕ) → text.now ≡ run ++ 44 ∷ rest → IsNumeral 10 run
         → digits_value 10 run < 2 ^ 32
         → IsSomeAnd result (λ p. (p.0 ≡ digits_value 10 run) × (p.1.now ≡ rest)) }

@@ -9,7 +9,8 @@ use ep_base::{Answer, Errno, Report};
 use std::alloc::{AllocError, Global};
 
 fn push_reports(text: &mut String, reports: &[Report]) -> Result<(), AllocError>
-    ensures { OnOk result (string_bytes text.new ≡ string_bytes text.old ++ reports_text true reports.now) }
+    ensures { OnOk result
+        (string_bytes text.new ≡ string_bytes text.old ++ reports_text true reports.now) }
 {
     let mut is_first = true;
     for report in reports {
@@ -26,7 +27,10 @@ fn push_reports(text: &mut String, reports: &[Report]) -> Result<(), AllocError>
 }
 
 fn push_events(text: &mut String, reports: &[Report]) -> Result<(), AllocError>
-    ensures { OnOk result (string_bytes text.new ≡ string_bytes text.old ++ (codes "{\"events\":[" ++ reports_text true reports.now ++ codes "]}\n")) }
+    ensures { OnOk result
+        (string_bytes text.new
+        ≡ string_bytes text.old
+        ++ (codes "{\"events\":[" ++ reports_text true reports.now ++ codes "]}\n")) }
 {
     text.push_str("{\"events\":[")?;
     push_reports(text, reports)?;
@@ -51,7 +55,10 @@ fn push_time(text: &mut String, value: u64, interval: u64) -> Result<(), AllocEr
 }
 
 fn push_bytes(alloc: Global, text: &mut String, bytes: &[u8]) -> Result<(), AllocError>
-    ensures { OnOk result (string_bytes text.new ≡ string_bytes text.old ++ (codes "{\"bytes\":\"" ++ encode_lower bytes.now ++ codes "\"}\n")) }
+    ensures { OnOk result
+        (string_bytes text.new
+        ≡ string_bytes text.old
+        ++ (codes "{\"bytes\":\"" ++ encode_lower bytes.now ++ codes "\"}\n")) }
 {
     let digits = hex::encode(alloc, bytes)?;
     write!(text, "{{\"bytes\":\"{digits}\"}}\n")?;
@@ -88,7 +95,9 @@ pub fn push_answer(alloc: Global, text: &mut String, answer: &Answer) -> Result<
 }
 
 fn push_number(text: &mut String, number: u64) -> Result<(), AllocError>
-    ensures { OnOk result (string_bytes text.new ≡ string_bytes text.old ++ (codes "{\"num\":" ++ decimal number ++ codes "}\n")) }
+    ensures { OnOk result
+        (string_bytes text.new
+        ≡ string_bytes text.old ++ (codes "{\"num\":" ++ decimal number ++ codes "}\n")) }
 {
     write!(text, "{{\"num\":{number}}}\n")?;
     Ok(())

@@ -70,9 +70,12 @@ impl<K: Kernel + Drop, L: Ledger> Book<K, L> {
         ensures result { MatchResult result
             (IsHistory sessions limits.now (K.bounds self.kernel) (K.past self.kernel) handed.items)
             (IsFault sessions limits.now (K.bounds self.kernel) (K.past self.kernel) handed.items) }
-        ensures replays { IfOk result (λ h. run h.limits opening h.records.items ≡ Some (K.state self.kernel)) }
-        ensures within { IfOk result (λ h. All (λ r. IsBetween sessions r.caller.0) h.records.items) }
-        ensures answered { IfOk result (λ h. vec_len h.records ≡ sum_by (λ s. vec_len s.records) handed.items) }
+        ensures replays { IfOk result
+            (λ h. run h.limits opening h.records.items ≡ Some (K.state self.kernel)) }
+        ensures within { IfOk result
+            (λ h. All (λ r. IsBetween sessions r.caller.0) h.records.items) }
+        ensures answered { IfOk result
+            (λ h. vec_len h.records ≡ sum_by (λ s. vec_len s.records) handed.items) }
     {
         if let Some(caller) = first_missing(sessions, &handed) {
             return Err(FinishFault::Missing(caller));

@@ -13,7 +13,9 @@ use std::sync::ledger::Ledger;
 /// The time grows with the records times the sessions, where each caller in the history has a session.
 pub fn same_parts<L: Ledger>(history: &[Record], handed: &[Session<L>]) -> Result<(), CallerId>
     ensures ok { IfOk result (λ _. (c : ℕ) → IsSame history.now handed.now c) }
-    ensures err { IfErr result (λ c. (IsSame history.now handed.now c.0 → ⊥) × ((d : ℕ) → d < c.0 → IsSame history.now handed.now d)) }
+    ensures err { IfErr result
+        (λ c. (IsSame history.now handed.now c.0 → ⊥)
+        × ((d : ℕ) → d < c.0 → IsSame history.now handed.now d)) }
 {
     let mut least: Option<u32> = None;
     for session in handed {
