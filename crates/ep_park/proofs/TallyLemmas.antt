@@ -1,18 +1,18 @@
 -- The tallies stay those of the list.
-use Rattle.std.proofs.Common.{◌≡◌, ℕ, zero, suc, Bool, true, false, cond, ◌==◌, ◌+◌, ◌-◌, ◌<◌, ◌≤◌, List, [], ◌∷◌, ◌++◌, Option, Some, None, refl, sym, ap, ◌∙◌, inl, inr, nat_eq, eqb, slice_get, is_some, arith, length, zero-add, add-zero, nat_lt, if◌then◌else◌}
+use Rattle.std.proofs.Common.{◌≡◌, ℕ, Bool, true, false, cond, ◌+◌, ◌-◌, ◌<◌, List, [], ◌∷◌, ◌++◌, Option, Some, None, refl, sym, ap, ◌∙◌, inl, inr, nat_eq, eqb, is_some, arith, length, zero-add, add-zero, nat_lt, if◌then◌else◌}
 use Rattle.std.proofs.lemmas.Bool.{eq-eqb, lt-ltb}
 use Rattle.std.proofs.lemmas.Bool.Decides.{eqb_tells}
 use Rattle.std.proofs.lemmas.List.{length-map, map-append}
 use Rattle.std.proofs.lemmas.List.Sums.{count_by-le-length, sum_by-append}
 use Rattle.std.proofs.Math.Bool.{or-true}
 use Rattle.std.specs.List.{count_by, list_any}
-use Rattle.std.specs.Map.{lookup, remove_entry, values_of}
+use Rattle.std.specs.Map.{lookup, remove_entry}
 use Rattle.std.specs.Option.{IfSome, option_map, option_or}
-use Rattle.indexmap.specs.IndexMap.{set_value_at}
 use Rattle.ep_base.specs.declared.ids.CallerId.{CallerId}
 use Rattle.ep_machine.specs.State.{Waiter as Parked}
 use Rattle.ep_machine.specs.Waits.{waits_at}
 use Rattle.ep_park.proofs.ViewLemmas.{either}
+use Rattle.ep_park.specs.Queue.{marked_in}
 use Rattle.ep_park.specs.Tallies.{IsTallied, Rewrites, bit, first_at, is_marked_of, joined, left, remarked, tally_by, tally_of}
 use Rattle.ep_park.specs.Waiters.{is_at, listed, parked}
 use Rattle.ep_park.specs.declared.tally.Tally.{Tally}
@@ -176,17 +176,6 @@ waits_found c w (e ∷ es) at = elim (eqb_tells c e.0) [
 pub tally_found : (c : ℕ) (w : Waiter) (es : List (ℕ × Waiter)) (ts : List (ℕ × Tally)) → IsTallied es ts → lookup (nat_eq c) es ≡ Some w → is_some (lookup (nat_eq w.instance.0) ts) ≡ true
 tally_found c w es ts h at = ap is_some (h.of w.instance.0) ∙ (any_tally w.instance.0 (listed es) ∙ waits_found c w es at)
 
-waits_placed : (i : ℕ) (w : Waiter) (es : List (ℕ × Waiter)) → slice_get (values_of es) i ≡ Some w → waits_at (listed es) w.instance.0 ≡ true
-waits_placed i w [] at = absurd (cc)
-waits_placed zero w (e ∷ es) at =
-    let is : e.1 ≡ w = cc in
-    let same : eqb e.1.instance.0 w.instance.0 ≡ true = eq-eqb e.1.instance.0 w.instance.0 (ap (λ (v : Waiter). v.instance.0) is) in
-    rw same refl
-waits_placed (suc i) w (e ∷ es) at = rw (waits_placed i w es at) (or-true (eqb e.1.instance.0 w.instance.0))
-
-pub tally_placed : (i : ℕ) (w : Waiter) (es : List (ℕ × Waiter)) (ts : List (ℕ × Tally)) → IsTallied es ts → slice_get (values_of es) i ≡ Some w → is_some (lookup (nat_eq w.instance.0) ts) ≡ true
-tally_placed i w es ts h at = ap is_some (h.of w.instance.0) ∙ (any_tally w.instance.0 (listed es) ∙ waits_placed i w es at)
-
 -- nobody is marked where there is no tally
 pub none_marked : (e : ℕ) (ws : List Parked) → None ≡ tally_of e ws → false ≡ list_any (is_marked_of e) ws
 none_marked e ws none = ap (nat_lt 0) (sym (none_counted e ws (off (first_at e ws) none))) ∙ any_counted (is_marked_of e) ws
@@ -202,57 +191,52 @@ few_marked n m es (Some t) is few =
     omega (arith, marked_is n (listed es) t is, count_by-le-length (is_marked_of n) (listed es), length-map es (λ (e : ℕ × Waiter). parked e.0 e.1))
 
 -- a waiter's mark changes
-set_count : (p : Parked → Bool) (a b : Bool) (v w : Waiter) (es : List (ℕ × Waiter)) (i : ℕ) → slice_get (values_of es) i ≡ Some v → ((k : ℕ) → p (parked k v) ≡ a) → ((k : ℕ) → p (parked k w) ≡ b) → count_by p (listed (set_value_at es i w)) + bit a ≡ count_by p (listed es) + bit b
-set_count p a b v w [] i at old new = absurd (cc)
-set_count p a b v w (e ∷ es) zero at old new =
-    let is : e.1 ≡ v = cc in
-    let was : p (parked e.0 e.1) ≡ a = ap (λ u. p (parked e.0 u)) is ∙ old e.0 in
-    rw (counted p (parked e.0 e.1) (listed es), counted p (parked e.0 w) (listed es), was, new e.0) (omega arith)
-set_count p a b v w (e ∷ es) (suc i) at old new =
-    rw (counted p (parked e.0 e.1) (listed es), counted p (parked e.0 e.1) (listed (set_value_at es i w)))
-    (omega (arith, set_count p a b v w es i at old new))
+pub mark_count : (p : Parked → Bool) (a b : Bool) (c : ℕ) (v : Waiter) (m : Bool) (es : List (ℕ × Waiter)) → lookup (nat_eq c) es ≡ Some v → ((k : ℕ) → p (parked k v) ≡ a) → ((k : ℕ) → p (parked k (record v { marked = m })) ≡ b)
+    → count_by p (listed (marked_in c m es)) + bit a ≡ count_by p (listed es) + bit b
+mark_count p a b c v m [] at old new = absurd (cc)
+mark_count p a b c v m (e ∷ es) at old new = elim (eqb_tells c e.0) [
+  | inl y ↦
+      let here : Some e.1 ≡ Some v = rw y.0 at at in
+      let is : e.1 ≡ v = cc in
+      let was : p (parked e.0 e.1) ≡ a = ap (λ u. p (parked e.0 u)) is ∙ old e.0 in
+      let now : p (parked e.0 (record e.1 { marked = m })) ≡ b = ap (λ (u : Waiter). p (parked e.0 (record u { marked = m }))) is ∙ new e.0 in
+      rw (y.0, counted p (parked e.0 e.1) (listed es), counted p (parked e.0 (record e.1 { marked = m })) (listed es), was, now) (omega arith)
+  | inr n ↦
+      let rest : lookup (nat_eq c) es ≡ Some v = rw n.0 at at in
+      rw (n.0, counted p (parked e.0 e.1) (listed es), counted p (parked e.0 e.1) (listed (marked_in c m es)))
+      (omega (arith, mark_count p a b c v m es rest old new))
+]
 
-set_first : (n : ℕ) (v w : Waiter) (es : List (ℕ × Waiter)) (i : ℕ) → slice_get (values_of es) i ≡ Some v → w.instance.0 ≡ v.instance.0 → first_at n (listed es) ≡ first_at n (listed (set_value_at es i w))
-set_first n v w [] i at same = refl
-set_first n v w (e ∷ es) zero at same =
-    let is : e.1 ≡ v = cc in
-    let here : e.1.instance.0 ≡ w.instance.0 = ap (λ (u : Waiter). u.instance.0) is ∙ sym same in
-    rw here (elim (either (w.instance.0 == n)) [ inl y ↦ rw y refl | inr k ↦ rw k refl ])
-set_first n v w (e ∷ es) (suc i) at same = elim (either (is_at n (parked e.0 e.1))) [ inl y ↦ rw y refl | inr k ↦ rw k (set_first n v w es i at same) ]
+mark_first : (n c : ℕ) (m : Bool) (es : List (ℕ × Waiter)) → first_at n (listed es) ≡ first_at n (listed (marked_in c m es))
+mark_first n c m [] = refl
+mark_first n c m (e ∷ es) = elim (eqb_tells c e.0) [
+  | inl y ↦ rw y.0 (elim (either (is_at n (parked e.0 e.1))) [ inl z ↦ rw z refl | inr z ↦ rw z refl ])
+  | inr k ↦ rw k.0 (elim (either (is_at n (parked e.0 e.1))) [ inl z ↦ rw z refl | inr z ↦ rw z (mark_first n c m es) ])
+]
 
-pub least_placed : (i : ℕ) (w : Waiter) (t : Tally) (es : List (ℕ × Waiter)) (ts : List (ℕ × Tally)) → IsTallied es ts → slice_get (values_of es) i ≡ Some w → lookup (nat_eq w.instance.0) ts ≡ Some t → bit w.marked ≤ t.marked
-least_placed i w t es ts h at is =
+pub tallied_marked : (c : ℕ) (w : Waiter) (b : Bool) (t : Tally) (es : List (ℕ × Waiter)) (ts ts' : List (ℕ × Tally)) → IsTallied es ts → lookup (nat_eq c) es ≡ Some w → lookup (nat_eq w.instance.0) ts ≡ Some t → Rewrites ts ts' w.instance.0 (Some (remarked w.marked b t)) → IsTallied (marked_in c b es) ts'
+tallied_marked c w b t es ts ts' h at is r =
     let n = w.instance.0 in
-    let yes : eqb n n ≡ true = eq-eqb n n refl in
-    let own = λ (k : ℕ). let same : is_marked_of n (parked k w) ≡ w.marked = rw yes refl in same in
-    let off = λ (k : ℕ). let same : is_marked_of n (parked k (record w { marked = false })) ≡ false = rw yes refl in same in
-    omega (arith, marked_is n (listed es) t (sym is ∙ h.of n), set_count (is_marked_of n) w.marked false w (record w { marked = false }) es i at own off)
-
-pub tallied_placed : (i : ℕ) (w : Waiter) (b : Bool) (t : Tally) (es : List (ℕ × Waiter)) (ts ts' : List (ℕ × Tally)) → IsTallied es ts → slice_get (values_of es) i ≡ Some w → lookup (nat_eq w.instance.0) ts ≡ Some t → Rewrites ts ts' w.instance.0 (Some (remarked w.marked b t)) → IsTallied (set_value_at es i (record w { marked = b })) ts'
-tallied_placed i w b t es ts ts' h at is r =
-    let n = w.instance.0 in
-    let v : Waiter = record w { marked = b } in
     let own_tally : Some t ≡ tally_of n (listed es) = sym is ∙ h.of n in
-    retallied es (set_value_at es i v) ts ts' n (Some (remarked w.marked b t)) h r
+    retallied es (marked_in c b es) ts ts' n (Some (remarked w.marked b t)) h r
     (own own_tally)
     (λ e off. other e off)
   where
-    own : Some t ≡ tally_of w.instance.0 (listed es) → Some (remarked w.marked b t) ≡ tally_of w.instance.0 (listed (set_value_at es i (record w { marked = b })))
+    own : Some t ≡ tally_of w.instance.0 (listed es) → Some (remarked w.marked b t) ≡ tally_of w.instance.0 (listed (marked_in c b es))
     own has =
         let n = w.instance.0 in
         let yes : eqb n n ≡ true = eq-eqb n n refl in
         let old = λ (k : ℕ). let same : is_marked_of n (parked k w) ≡ w.marked = rw yes refl in same in
         let new = λ (k : ℕ). let same : is_marked_of n (parked k (record w { marked = b })) ≡ b = rw yes refl in same in
-        let count : (t.marked - bit w.marked) + bit b ≡ count_by (is_marked_of n) (listed (set_value_at es i (record w { marked = b }))) =
-        omega (arith, marked_is n (listed es) t has, least_placed i w t es ts h at is, set_count (is_marked_of n) w.marked b w (record w { marked = b }) es i at old new) in
-        let first : Some t.first.0 ≡ first_at n (listed (set_value_at es i (record w { marked = b }))) = sym (first_is n (listed es) t has) ∙ set_first n w (record w { marked = b }) es i at refl in
+        let count : (t.marked - bit w.marked) + bit b ≡ count_by (is_marked_of n) (listed (marked_in c b es)) =
+        omega (arith, marked_is n (listed es) t has, least_marked c w t es ts h at is, mark_count (is_marked_of n) w.marked b c w b es at old new) in
+        let first : Some t.first.0 ≡ first_at n (listed (marked_in c b es)) = sym (first_is n (listed es) t has) ∙ mark_first n c b es in
         λ j. option_map (tally_by (count j)) (first j)
 
-    other : (e : ℕ) → eqb w.instance.0 e ≡ false → tally_of e (listed es) ≡ tally_of e (listed (set_value_at es i (record w { marked = b })))
+    other : (e : ℕ) → eqb w.instance.0 e ≡ false → tally_of e (listed es) ≡ tally_of e (listed (marked_in c b es))
     other e off =
         let old = λ (k : ℕ). let same : is_marked_of e (parked k w) ≡ false = rw off refl in same in
         let new = λ (k : ℕ). let same : is_marked_of e (parked k (record w { marked = b })) ≡ false = rw off refl in same in
-        let count : count_by (is_marked_of e) (listed es) ≡ count_by (is_marked_of e) (listed (set_value_at es i (record w { marked = b }))) =
-        omega (arith, set_count (is_marked_of e) false false w (record w { marked = b }) es i at old new) in
-        let first = set_first e w (record w { marked = b }) es i at refl in
-        λ j. option_map (tally_by (count j)) (first j)
+        let count : count_by (is_marked_of e) (listed es) ≡ count_by (is_marked_of e) (listed (marked_in c b es)) =
+        omega (arith, mark_count (is_marked_of e) false false c w b es at old new) in
+        λ j. option_map (tally_by (count j)) (mark_first e c b es j)

@@ -1,16 +1,22 @@
 -- The list of waiters, read and changed through the map by caller.
-use Rattle.std.proofs.Common.{◌≡◌, ℕ, zero, suc, Bool, true, false, ◌||◌, ◌==◌, ◌+◌, ◌≤◌, nat_lt, length, List, [], ◌∷◌, Option, Some, None, refl, sym, ap, ◌∙◌, inl, inr, ◌⊎◌, map, nat_eq, eqb, slice_get, is_some, arith}
-use Rattle.std.proofs.lemmas.Bool.{ltb-false}
+use Rattle.std.proofs.Common.{◌≡◌, ℕ, suc, Bool, true, false, length, List, [], ◌∷◌, ◌++◌, Option, Some, None, refl, sym, ap, ◌∙◌, inl, inr, ◌⊎◌, map, nat_eq, eqb, is_some, if◌then◌else◌}
+use Rattle.std.proofs.lemmas.Bool.{eq-eqb, eqb-true}
 use Rattle.std.proofs.lemmas.Bool.Decides.{eqb_tells}
-use Rattle.std.specs.List.{find, list_any, position, position_or_len}
-use Rattle.std.specs.Map.{keys_of, lookup, remove_entry, values_of}
+use Rattle.std.proofs.lemmas.Cmp.{nat_eq_equiv}
+use Rattle.std.proofs.lemmas.Map.{lookup-remove_entry}
+use Rattle.std.proofs.lemmas.Map.Keys.{IsDistinct-tail}
+use Rattle.std.specs.List.{IsDistinct, find, list_any}
+use Rattle.std.specs.Map.{keys_of, lookup, remove_entry}
 use Rattle.std.specs.Option.{option_map}
-use Rattle.indexmap.specs.IndexMap.{set_value_at}
 use Rattle.ep_machine.specs.State.{Waiter as Parked}
-use Rattle.ep_park.specs.Changes.{changed_at}
-use Rattle.ep_park.specs.Tallies.{first_at}
-use Rattle.ep_park.specs.Waiters.{is_caller, is_of, listed, parked, without}
+use Rattle.ep_park.specs.Changes.{with_mark_at}
+use Rattle.ep_park.specs.Queue.{marked_in}
+use Rattle.ep_park.specs.Waiters.{is_caller, listed, parked, without}
 use Rattle.ep_park.specs.declared.waiter.Waiter.{Waiter}
+
+pub either : (b : Bool) → (b ≡ true) ⊎ (b ≡ false)
+either true = inl refl
+either false = inr refl
 
 pub swapped : (a b : ℕ) → eqb a b ≡ eqb b a
 swapped a b = elim (eqb_tells a b) [
@@ -49,69 +55,54 @@ none_without c (e ∷ es) none = elim (eqb_tells c e.0) [
       rw q (ap (λ xs. parked e.0 e.1 ∷ xs) (none_without c es rest))
 ]
 
-pub removed : (c : ℕ) (es : List (ℕ × Waiter)) → lookup (nat_eq c) (remove_entry (nat_eq c) es) ≡ None → listed (remove_entry (nat_eq c) es) ≡ without c (listed es)
-removed c [] gone = refl
-removed c (e ∷ es) gone = elim (eqb_tells c e.0) [
+pub lookup_removed : (c k : ℕ) (es : List (ℕ × Waiter)) → IsDistinct nat_eq (keys_of es) → lookup (nat_eq k) (remove_entry (nat_eq c) es) ≡ (if nat_eq c k then None else lookup (nat_eq k) es)
+lookup_removed c k es apart = lookup-remove_entry nat_eq_equiv (nat_eq c) (λ x y t. ap (λ n. nat_eq n y) (eqb-true c x t)) k es apart
+
+pub lookup_last : (c k : ℕ) (w : Waiter) (es : List (ℕ × Waiter)) → lookup (nat_eq c) es ≡ None → lookup (nat_eq k) (es ++ (c, w) ∷ []) ≡ (if nat_eq c k then Some w else lookup (nat_eq k) es)
+lookup_last c k w [] none = rw (swapped c k) refl
+lookup_last c k w (e ∷ es) none = elim (eqb_tells c e.0) [
+  | inl p ↦ let bad : Some e.1 ≡ None = rw p.0 at none in absurd (cc)
+  | inr p ↦
+      let rest : lookup (nat_eq c) es ≡ None = rw p.0 at none in
+      elim (eqb_tells k e.0) [
+        | inl q ↦ let other : eqb c k ≡ false = ap (eqb c) q.1 ∙ p.0 in rw (q.0, other) refl
+        | inr q ↦ rw q.0 (lookup_last c k w es rest)
+      ]
+]
+
+pub removed : (c : ℕ) (es : List (ℕ × Waiter)) → IsDistinct nat_eq (keys_of es) → listed (remove_entry (nat_eq c) es) ≡ without c (listed es)
+removed c [] apart = refl
+removed c (e ∷ es) apart = elim (eqb_tells c e.0) [
   | inl p ↦
       let q : eqb e.0 c ≡ true = swapped e.0 c ∙ p.0 in
-      let rest : lookup (nat_eq c) es ≡ None = rw p.0 at gone in
+      let gone = lookup_removed c c (e ∷ es) apart in
+      let yes : eqb c c ≡ true = eq-eqb c c refl in
+      let rest : lookup (nat_eq c) es ≡ None = rw (p.0, yes) at gone in
       rw (p.0, q) (none_without c es rest)
   | inr p ↦
       let q : eqb e.0 c ≡ false = swapped e.0 c ∙ p.0 in
-      let rest : lookup (nat_eq c) (remove_entry (nat_eq c) es) ≡ None = rw (p.0, p.0) at gone in
-      rw (p.0, q) (ap (λ xs. parked e.0 e.1 ∷ xs) (removed c es rest))
+      rw (p.0, q) (ap (λ xs. parked e.0 e.1 ∷ xs) (removed c es (IsDistinct-tail nat_eq e.0 (keys_of es) apart)))
 ]
 
 pub callers : (es : List (ℕ × Waiter)) → map (λ (w : Parked). w.caller) (listed es) ≡ keys_of es
 callers [] = refl
 callers (e ∷ es) = ap (λ xs. e.0 ∷ xs) (callers es)
 
-pub changed : (f : Parked → Parked) (v w : Waiter) (es : List (ℕ × Waiter)) (i : ℕ) → slice_get (values_of es) i ≡ Some v → ((k : ℕ) → parked k w ≡ f (parked k v)) → listed (set_value_at es i w) ≡ changed_at f i (listed es)
-changed f v w [] i at h = refl
-changed f v w (e ∷ es) zero at h =
-    let is : e.1 ≡ v = cc in
-    ap (λ x. x ∷ listed es) (h e.0 ∙ ap (λ u. f (parked e.0 u)) (sym is))
-changed f v w (e ∷ es) (suc i) at h = ap (λ xs. parked e.0 e.1 ∷ xs) (changed f v w es i at h)
+pub marked_listed : (c : ℕ) (b : Bool) (es : List (ℕ × Waiter)) → listed (marked_in c b es) ≡ with_mark_at c b (listed es)
+marked_listed c b [] = refl
+marked_listed c b (e ∷ es) = elim (eqb_tells c e.0) [
+  | inl p ↦ let q : eqb e.0 c ≡ true = swapped e.0 c ∙ p.0 in rw (p.0, q) refl
+  | inr p ↦ let q : eqb e.0 c ≡ false = swapped e.0 c ∙ p.0 in rw (p.0, q) (ap (λ xs. parked e.0 e.1 ∷ xs) (marked_listed c b es))
+]
+
+-- who is found is among them
+pub found_any : (p : Parked → Bool) (w : Parked) (ws : List Parked) → find p ws ≡ Some w → list_any p ws ≡ true
+found_any p w [] at = absurd (cc)
+found_any p w (x ∷ xs) at = elim (either (p x)) [
+  | inl y ↦ rw y refl
+  | inr n ↦ let rest : find p xs ≡ Some w = rw n at at in rw n (found_any p w xs rest)
+]
 
 pub length_listed : (es : List (ℕ × Waiter)) → length es ≡ length (listed es)
 length_listed [] = refl
 length_listed (e ∷ es) = ap suc (length_listed es)
-
-pub any_listed : (p : ℕ) (es : List (ℕ × Waiter)) → list_any (λ (w : Waiter). w.process.0 == p) (values_of es) ≡ list_any (is_of p) (listed es)
-any_listed p [] = refl
-any_listed p (e ∷ es) = ap (λ b. (e.1.process.0 == p) || b) (any_listed p es)
-
-pub either : (b : Bool) → (b ≡ true) ⊎ (b ≡ false)
-either true = inl refl
-either false = inr refl
-
-first_placed : (n : ℕ) (es : List (ℕ × Waiter)) → first_at n (listed es) ≡ option_map (λ (e : ℕ × Waiter). e.0) (slice_get es (position_or_len (λ (w : Waiter). w.instance.0 == n) (values_of es)))
-first_placed n [] = refl
-first_placed n (e ∷ es) = elim (either (e.1.instance.0 == n)) [
-  | inl y ↦ rw y refl
-  | inr off ↦
-      let next : 1 + position_or_len (λ (w : Waiter). w.instance.0 == n) (values_of es) ≡ suc (position_or_len (λ (w : Waiter). w.instance.0 == n) (values_of es)) = omega arith in
-      rw (off, next) (first_placed n es)
-]
-
-past : (es : List (ℕ × Waiter)) (i : ℕ) → length (values_of es) ≤ i → slice_get es i ≡ None
-past [] i le = refl
-past (e ∷ es) zero le = absurd (omega arith)
-past (e ∷ es) (suc i) le = past es i (omega arith)
-
--- where a search for an instance ends
-pub first_none : (n : ℕ) (es : List (ℕ × Waiter)) → None ≡ position (λ (w : Waiter). w.instance.0 == n) (values_of es) → None ≡ first_at n (listed es)
-first_none n es none =
-    let at = position_or_len (λ (w : Waiter). w.instance.0 == n) (values_of es) in
-    elim (either (nat_lt at (length (values_of es)))) [
-      | inl y ↦ let bad : None ≡ Some at = rw y at none in absurd (cc)
-      | inr off ↦ sym (first_placed n es ∙ ap (option_map (λ (e : ℕ × Waiter). e.0)) (past es at (ltb-false at (length (values_of es)) off)))
-    ]
-
-pub first_some : (n i : ℕ) (es : List (ℕ × Waiter)) → Some i ≡ position (λ (w : Waiter). w.instance.0 == n) (values_of es) → option_map (λ (e : ℕ × Waiter). e.0) (slice_get es i) ≡ first_at n (listed es)
-first_some n i es found =
-    let at = position_or_len (λ (w : Waiter). w.instance.0 == n) (values_of es) in
-    elim (either (nat_lt at (length (values_of es)))) [
-      | inl y ↦ let same : Some i ≡ Some at = rw y at found in let is : i ≡ at = cc in ap (λ k. option_map (λ (e : ℕ × Waiter). e.0) (slice_get es k)) is ∙ sym (first_placed n es)
-      | inr off ↦ let bad : Some i ≡ None = rw off at found in absurd (cc)
-    ]

@@ -1,10 +1,12 @@
 -- The moments that callers wait for.
+use Rattle.std.specs.List.{find}
 use Rattle.std.specs.Map.{lookup}
 use Rattle.std.specs.Option.{option_map}
-use Rattle.std.specs.Prelude.{Bool, IsSome, List, None, Option, Some, if◌then◌else◌, nat_eq, not, slice_get, true, ℕ, ◌&&◌, ◌<◌, ◌≡◌, ◌^◌}
-pub use Rattle.ep_due.specs.DueMap.{HasNoneReached, IsReachedAt, Moments, SameMoments, SetsMoment, moment_of}
+use Rattle.std.specs.Prelude.{Bool, IsSome, List, None, Option, Some, if◌then◌else◌, nat_eq, not, true, ℕ, ◌&&◌, ◌<◌, ◌≡◌, ◌^◌}
+pub use Rattle.ep_due.specs.DueMap.{HasNoMoment, HasNoneReached, HasRoom, IsEarliest, IsReachedAt, Moments, SameMoments, SetsMoment, moment_of}
 use Rattle.ep_machine.specs.State.{Waiter as Parked}
 use Rattle.ep_machine.specs.Waits.{is_due}
+use Rattle.ep_park.specs.Waiters.{is_caller}
 use Rattle.ep_park.specs.declared.waiter.Waiter.{Waiter}
 
 -- each key among them is a caller's
@@ -23,8 +25,8 @@ pub record HasDeadlines (waiters : List (ℕ × Waiter)) (d : Moments) : Type 0 
 abbrev pub awaits_mark : ℕ → Parked → Bool
 awaits_mark now w = not w.marked && is_due now w.deadline
 
--- the one at this place does
-pub record IsAwaitedAt (ws : List Parked) (now i : ℕ) : Type 0 where
+-- a caller's does
+pub record IsAwaitedBy (ws : List Parked) (now caller : ℕ) : Type 0 where
   pub waiter : Parked
-  pub there : slice_get ws i ≡ Some waiter
+  pub there : find (is_caller caller) ws ≡ Some waiter
   pub awaits : awaits_mark now waiter ≡ true

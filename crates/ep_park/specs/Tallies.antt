@@ -43,6 +43,6 @@ abbrev pub left : Bool → Tally → Option CallerId → Option Tally
 left marked t None = None
 left marked t (Some caller) = Some (record { first = caller; marked = t.marked - bit marked })
 
--- one instance's tally is as given, the others stay
-abbrev pub Rewrites : List (ℕ × Tally) → List (ℕ × Tally) → ℕ → Option Tally → Type 0
-Rewrites old new instance t = (e : ℕ) → lookup (nat_eq e) new ≡ (if nat_eq instance e then t else lookup (nat_eq e) old)
+-- what is kept under one key is as given, the others stay
+abbrev pub Rewrites : {X : Type 0} → List (ℕ × X) → List (ℕ × X) → ℕ → Option X → Type 0
+Rewrites old new key x = (e : ℕ) → lookup (nat_eq e) new ≡ (if nat_eq key e then x else lookup (nat_eq e) old)

@@ -1,6 +1,6 @@
 //! The moments that parked callers wait for, the earliest at hand.
-ghost use Rattle.std.specs.Prelude.{◌≡◌, IsSome, MatchOption, None, OnErr, OnOk, Some, ℕ};
-ghost use Rattle.ep_park.specs.Deadlines.{HasNoneReached, IsReachedAt, SameMoments, SetsMoment, moment_of};
+ghost use Rattle.std.specs.Prelude.{◌≡◌, IsSome, MatchOption, None, OnOk, Some, ℕ};
+ghost use Rattle.ep_park.specs.Deadlines.{HasNoMoment, HasNoneReached, HasRoom, IsEarliest, IsReachedAt, SameMoments, SetsMoment, moment_of};
 
 use ep_base::CallerId;
 use ep_due::DueMap;
@@ -8,7 +8,8 @@ use std::alloc::{AllocError, Allocator};
 use std::marker::Model;
 
 /// Callers, each with a moment or none. Contracts see what `moment_of` tells of a caller: nothing for who isn't among them, else the
-/// moment or none. With n callers, `first` takes constant time, and each other call time that grows as log n. Memory comes from `A`.
+/// moment or none. With n callers, `first` and `earliest` take constant time, and each other call time that grows as log n. Memory comes
+/// from `A`.
 #[derive(Drop)]
 pub struct Deadlines<A: Allocator> {
     moments: DueMap<A>,
@@ -36,14 +37,21 @@ impl<A: Allocator> Deadlines<A> {
         }
     }
 
-    /// Adds a caller that isn't among them. `AllocError` where there is no memory, and then nothing has changed. No other call takes
-    /// memory.
-    pub fn add(&mut self, caller: CallerId, moment: Option<u64>) -> Result<(), AllocError>
-        requires { moment_of self.old caller.0 ≡ None }
-        ensures added { OnOk result (SetsMoment self.old self.new caller.0 (Some moment)) }
-        ensures kept { OnErr result (SameMoments self.old self.new) }
+    /// Makes room for one caller more. `AllocError` where there is no memory. This is the one call that takes memory; no moment changes.
+    pub fn reserve(&mut self) -> Result<(), AllocError>
+        ensures room { OnOk result (HasRoom self.new) }
+        ensures kept { SameMoments self.old self.new }
     {
-        self.moments.add(caller.0 as usize, moment)
+        self.moments.reserve()
+    }
+
+    /// Adds a caller that isn't among them, where there is room for it.
+    pub fn add(&mut self, caller: CallerId, moment: Option<u64>)
+        requires none { moment_of self.old caller.0 ≡ None }
+        requires room { HasRoom self.old }
+        ensures { SetsMoment self.old self.new caller.0 (Some moment) }
+    {
+        self.moments.add_reserved(caller.0 as usize, moment);
     }
 
     /// Gives a caller another moment, or none.
@@ -69,5 +77,11 @@ impl<A: Allocator> Deadlines<A> {
     {
         let caller = self.moments.first(now)?;
         Some(CallerId(caller as u32))
+    }
+    /// The least moment of all; `None` exactly where no caller has one.
+    pub fn earliest(&self) -> Option<u64>
+        ensures { MatchOption result (HasNoMoment self.now) (λ m. IsEarliest self.now m) }
+    {
+        self.moments.earliest()
     }
 }

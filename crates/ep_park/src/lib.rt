@@ -4,8 +4,11 @@
 mod deadlines;
 pub mod laws;
 mod park;
-mod scan;
+mod place;
+mod process;
+mod queue;
 mod tally;
+mod turn;
 mod waiter;
 
 pub use crate::park::Park;

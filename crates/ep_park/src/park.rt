@@ -1,19 +1,20 @@
 //! The list of waiters.
 //!
-//! Waiters stand in a map by caller, in order of parking, and each instance that has waiters has a tally: who waits longest there, and
-//! how many are marked. So what is asked of one caller or of one instance costs the same, however many are parked.
-ghost use Rattle.std.specs.Prelude.{◌≡◌, ◌++◌, ◌∷◌, ◌<◌, ℕ, [], MatchOption, OnErr, OnOk, false, filter, length, map, nat_eq, slice_index_or};
-ghost use Rattle.std.specs.List.{IsDistinct, find, list_any, position};
+//! Waiters stand in a queue by caller, in order of parking, and each instance that has waiters has a tally: who waits longest there, and
+//! how many are marked. So what is asked of one caller or of one instance looks at no other waiter.
+ghost use Rattle.std.specs.Prelude.{◌≡◌, ◌++◌, ◌∷◌, ◌<◌, ℕ, [], MatchOption, OnErr, OnOk, false, length, map, nat_eq, slice_index_or, true};
+ghost use Rattle.std.specs.List.{IsDistinct, find, list_any};
 ghost use Rattle.std.specs.Option.{option_map};
 ghost use Rattle.ep_machine.specs.Waits.{is_due, is_marked_at, marked_if_due, unmark, waits_at};
-ghost use Rattle.ep_park.specs.Changes.{changed_at, with_mark_of};
-ghost use Rattle.ep_park.specs.Deadlines.{IsAwaitedAt, awaits_mark};
+ghost use Rattle.ep_park.specs.Changes.{with_mark_at};
+ghost use Rattle.ep_park.specs.Deadlines.{IsAwaitedBy, awaits_mark};
 ghost use Rattle.ep_park.specs.Waiters.{is_caller, is_marked_caller, is_of, longest_marked, parked, without};
 
 use crate::deadlines::Deadlines;
-use crate::scan::{caller_at, first_deadline, first_marked, longest, waits_for};
+use crate::process::{Processes, join, quit};
+use crate::queue::Queue;
 use crate::tally::{Tallies, count, discount, recount};
-use crate::waiter::{Waiter, Waiters, awaited};
+use crate::waiter::{Waiter, awaited};
 use ep_base::{CallerId, DescId, Pid};
 use indexmap::IndexMap;
 use std::alloc::{AllocError, Allocator, Global};
@@ -23,8 +24,9 @@ use std::marker::Model;
 /// key of its instance in the place of the instance's number. Memory comes from `A`.
 #[derive(Drop)]
 pub struct Park<A: Allocator = Global> {
-    waiters: Waiters<A>,
+    queue: Queue<A>,
     tallies: Tallies<A>,
+    processes: Processes<A>,
     // The deadline of each waiter that isn't marked.
     deadlines: Deadlines<A>,
 }
@@ -36,12 +38,14 @@ impl<A: Allocator> Model for Park<A> {
     ghost Value = { List Parked };
 
     ghost use Rattle.ep_park.specs.Deadlines.{HasDeadlines};
+    ghost use Rattle.ep_park.specs.Processes.{IsCounted};
     ghost use Rattle.ep_park.specs.Tallies.{IsTallied};
     ghost use Rattle.ep_park.specs.Waiters.{listed};
 
-    ghost view = { λ p. listed p.waiters.entries };
+    ghost view = { λ p. listed p.queue };
 
-    ghost invariant = { λ p. IsTallied p.waiters.entries p.tallies.entries × HasDeadlines p.waiters.entries p.deadlines };
+    ghost invariant = { λ p. IsTallied p.queue p.tallies.entries × IsCounted p.queue p.processes.entries
+        × HasDeadlines p.queue p.deadlines };
 }
 
 impl<A: Allocator> Park<A> {
@@ -52,45 +56,45 @@ impl<A: Allocator> Park<A> {
         ensures { result ≡ [] }
     {
         Park {
-            waiters: IndexMap::new(alloc),
+            queue: Queue::new(alloc),
             tallies: IndexMap::new(alloc),
+            processes: IndexMap::new(alloc),
             deadlines: Deadlines::new(alloc),
         }
     }
 
     /// Parks a caller that isn't parked behind all others. This is the one call that takes memory; an error says that memory was
-    /// refused, and leaves all as it was. The cost grows as the logarithm of the callers that are parked, but where a table grows.
+    /// refused, or that 2^64 - 1 callers were parked before, and leaves all as it was. The cost grows as the logarithm of the callers that
+    /// are parked, but where a table grows.
     pub fn park(&mut self, caller: CallerId, waiter: Waiter) -> Result<(), AllocError>
+    where
+        A: Clone,
         requires { list_any (is_caller caller.0) self.old ≡ false }
         ensures parked { OnOk result (self.new ≡ self.old ++ parked caller.0 waiter ∷ []) }
         ensures kept { OnErr result (self.new ≡ self.old) }
     {
-        prove!(self.waiters.len() < usize::MAX);
-        self.waiters.reserve(1)?;
-        self.deadlines.add(caller, awaited(waiter))?;
-        match count(&mut self.tallies, caller, waiter) {
-            Ok(()) => {
-                self.waiters.insert(caller.0, waiter).unwrap();
-                Ok(())
-            }
-            Err(refused) => {
-                self.deadlines.remove(caller);
-                Err(refused)
-            }
-        }
+        prove!(self.queue.len() < usize::MAX);
+        self.tallies.reserve(1)?;
+        self.processes.reserve(1)?;
+        self.deadlines.reserve()?;
+        self.queue.push(caller, waiter)?;
+        self.deadlines.add(caller, awaited(waiter));
+        count(&mut self.tallies, caller, waiter);
+        join(&mut self.processes, waiter.process);
+        Ok(())
     }
 
     /// Takes a caller's waiter out and answers it; the rest stay in order. `None` where the caller isn't parked: nothing changes.
-    /// The waiters that were parked later move up by one place, and the search for the next in line at the instance looks at waiters
-    /// up to it: the cost grows with the callers that are parked.
+    /// The cost grows as the logarithm of the callers that are parked.
     pub fn leave(&mut self, caller: CallerId) -> Option<Waiter>
         ensures left { option_map (parked caller.0) result ≡ find (is_caller caller.0) self.old }
         ensures rest { self.new ≡ without caller.0 self.old }
     {
-        let waiter = self.waiters.shift_remove(&caller.0)?;
+        let waiter = self.queue.remove(caller)?;
         self.deadlines.remove(caller);
+        quit(&mut self.processes, waiter.process);
         let tally = self.tallies[&waiter.instance.0];
-        let first = longest(&self.waiters, waiter.instance);
+        let first = self.queue.first_at(waiter.instance);
         discount(&mut self.tallies, tally, waiter, first);
         Some(waiter)
     }
@@ -101,15 +105,14 @@ impl<A: Allocator> Park<A> {
     pub fn mark_longest(&mut self, instance: DescId)
         ensures { self.new ≡ longest_marked instance.0 self.old }
     {
+        let _parked = self.queue.len();
         let Some(tally) = self.tallies.get(&instance.0).copied() else {
             return;
         };
         if tally.marked > 0 {
             return;
         }
-        if let Some(first) = self.waiters.get_index_of(&tally.first.0) {
-            self.set_mark(first, true);
-        }
+        self.set_mark(tally.first, true);
     }
 
     /// Marks exactly the callers whose deadline, in the clock's unit, is at or below `now`; a mark that is there stays. The cost grows
@@ -117,8 +120,8 @@ impl<A: Allocator> Park<A> {
     pub fn mark_due(&mut self, now: u64)
         ensures { self.new ≡ map (marked_if_due now) self.old }
     {
-        while let Some(index) = self.next_due(now) {
-            self.set_mark(index, true);
+        while let Some(caller) = self.next_due(now) {
+            self.set_mark(caller, true);
         }
     }
 
@@ -127,33 +130,32 @@ impl<A: Allocator> Park<A> {
     pub fn unmark(&mut self, caller: CallerId)
         ensures { self.new ≡ map (unmark caller.0) self.old }
     {
-        if let Some(index) = self.waiters.get_index_of(&caller.0) {
-            self.set_mark(index, false);
+        let _parked = self.queue.len();
+        if self.is_parked(caller) {
+            self.set_mark(caller, false);
         }
     }
 
-    /// The place of a waiter that isn't marked and whose deadline is at or below `now`.
-    fn next_due(&self, now: u64) -> Option<usize>
+    /// A caller that isn't marked and whose deadline is at or below `now`.
+    fn next_due(&self, now: u64) -> Option<CallerId>
         ensures { MatchOption result (self.now ≡ map (marked_if_due now) self.now)
-            (λ i. IsAwaitedAt self.now now i) }
+            (λ c. IsAwaitedBy self.now now c.0) }
     {
-        let _parked = self.waiters.len();
-        let caller = self.deadlines.first(now)?;
-        self.waiters.get_index_of(&caller.0)
+        let _parked = self.queue.len();
+        self.deadlines.first(now)
     }
 
-    /// Sets or takes the mark of the waiter at a place.
-    fn set_mark(&mut self, index: usize, marked: bool)
-        requires { index < length self.old }
-        ensures { self.new ≡ changed_at (with_mark_of marked) index self.old }
+    /// Sets or takes a caller's mark.
+    fn set_mark(&mut self, caller: CallerId, marked: bool)
+        requires { list_any (is_caller caller.0) self.old ≡ true }
+        ensures { self.new ≡ with_mark_at caller.0 marked self.old }
     {
-        prove!(index < self.waiters.len());
-        let waiter = self.waiters[index];
+        prove!(self.queue.len() < usize::MAX);
+        let waiter = self.queue.get(caller).unwrap();
         let tally = self.tallies[&waiter.instance.0];
-        let caller = caller_at(&self.waiters, index);
         self.deadlines
             .set(caller, awaited(Waiter { marked, ..waiter }));
-        self.waiters[index].marked = marked;
+        self.queue.set_mark(caller, marked);
         recount(&mut self.tallies, tally, waiter, marked);
     }
 
@@ -161,52 +163,52 @@ impl<A: Allocator> Park<A> {
     pub fn known(&self)
         ensures { IsDistinct nat_eq (map (λ w. w.caller) self.now) }
     {
-        let _count = self.waiters.len();
+        let _count = self.queue.len();
     }
 
-    /// How many callers are parked.
+    /// How many callers are parked. The cost doesn't grow with them.
     pub fn count(&self) -> usize
         ensures { result ≡ length self.now }
     {
-        self.waiters.len()
+        self.queue.len()
     }
 
-    /// The instance that a caller waits at, by its place in the order of parking. The cost doesn't grow with the callers that are parked.
+    /// The instance that a caller waits at, by its place in the order of parking. The cost grows with the callers that are parked.
     pub fn instance_at(&self, index: usize) -> DescId
         requires { index < length self.now }
         ensures { result.0 ≡ slice_index_or (map (λ w. w.instance) self.now) index 0 }
     {
-        prove!(index < self.waiters.len());
-        self.waiters[index].instance
+        self.queue.instance_at(index)
     }
 
-    /// A caller's waiter, or `None` where it isn't parked. The cost doesn't grow with the callers that are parked.
+    /// A caller's waiter, or `None` where it isn't parked. The cost grows as the logarithm of the callers that are parked.
     pub fn waiter(&self, caller: CallerId) -> Option<Waiter>
         ensures { option_map (parked caller.0) result ≡ find (is_caller caller.0) self.now }
     {
-        self.waiters.get(&caller.0).copied()
+        self.queue.get(caller)
     }
 
-    /// Whether a process has a parked caller, which keeps it from exit and exec. The cost grows with the callers that are parked.
+    /// Whether a process has a parked caller, which keeps it from exit and exec. The cost doesn't grow with the callers
+    /// that are parked.
     pub fn any_of(&self, process: Pid) -> bool
         ensures { result ≡ list_any (is_of process.0) self.now }
     {
-        waits_for(&self.waiters, process)
+        self.processes.contains_key(&process.0)
     }
 
-    /// Whether a caller is parked. The cost doesn't grow with the callers that are parked.
+    /// Whether a caller is parked. The cost grows as the logarithm of the callers that are parked.
     pub fn is_parked(&self, caller: CallerId) -> bool
         ensures { result ≡ list_any (is_caller caller.0) self.now }
     {
-        self.waiters.contains_key(&caller.0)
+        self.queue.get(caller).is_some()
     }
 
-    /// Whether a caller is parked and marked. The cost doesn't grow with the callers that are parked.
+    /// Whether a caller is parked and marked. The cost grows as the logarithm of the callers that are parked.
     pub fn is_marked(&self, caller: CallerId) -> bool
         ensures { result ≡ list_any (is_marked_caller caller.0) self.now }
     {
-        match self.waiters.get_index_of(&caller.0) {
-            Some(index) => self.waiters[index].marked,
+        match self.queue.get(caller) {
+            Some(waiter) => waiter.marked,
             None => false,
         }
     }
@@ -217,15 +219,16 @@ impl<A: Allocator> Park<A> {
         ensures { option_map (λ c. c.0) result
             ≡ option_map (λ w. w.caller) (find (λ w. w.marked) self.now) }
     {
-        first_marked(&self.waiters)
+        self.queue.first_marked()
     }
 
     /// The first moment at which the deadline of a caller that isn't marked has come, or `None` where none of them has one. The cost
-    /// grows with the callers that are parked.
+    /// doesn't grow with the callers that are parked.
     pub fn first_deadline(&self) -> Option<u64>
         ensures { (now : ℕ) → is_due now result ≡ list_any (awaits_mark now) self.now }
     {
-        first_deadline(&self.waiters)
+        let _parked = self.queue.len();
+        self.deadlines.earliest()
     }
 
     /// Whether somebody waits at an instance. The cost doesn't grow with the callers that are parked.

@@ -1,12 +1,12 @@
 //! What is kept of each instance that has waiters, so that no question about it looks at other waiters.
-ghost use Rattle.std.specs.Prelude.{◌≡◌, ◌<◌, ◌≤◌, IfSome, OnErr, OnOk, Some, nat_eq};
-ghost use Rattle.indexmap.specs.IndexMap.{ContainsKey, get};
+ghost use Rattle.std.specs.Prelude.{◌≡◌, ◌<◌, ◌≤◌, IfSome, Some, nat_eq};
+ghost use Rattle.indexmap.specs.IndexMap.{ContainsKey, get, spare};
 ghost use Rattle.ep_park.specs.Tallies.{Rewrites, bit, joined, left, remarked};
 
 use crate::waiter::Waiter;
 use ep_base::{CallerId, DescId};
 use indexmap::IndexMap;
-use std::alloc::{AllocError, Allocator};
+use std::alloc::Allocator;
 use std::hash::{BuildHasherDefault, FoldHasher};
 
 /// The caller that waits longest, and how many of the instance's callers are marked.
@@ -19,17 +19,13 @@ pub struct Tally {
 /// Tallies by the key of the instance.
 pub type Tallies<A> = IndexMap<usize, Tally, BuildHasherDefault<FoldHasher>, A>;
 
-/// Counts a waiter that is parked behind all others. An error leaves the tallies as they were.
-pub fn count<A: Allocator>(
-    tallies: &mut Tallies<A>,
-    caller: CallerId,
-    waiter: Waiter,
-) -> Result<(), AllocError>
-    requires { IfSome (get nat_eq tallies.old waiter.instance.0) (λ t. t.marked < usize.MAX) }
-    ensures counted { OnOk result
-        (Rewrites tallies.old.entries tallies.new.entries waiter.instance.0
-        (Some (joined (get nat_eq tallies.old waiter.instance.0) caller.0 waiter.marked))) }
-    ensures kept { OnErr result (tallies.new.entries ≡ tallies.old.entries) }
+/// Counts a waiter that is parked behind all others, where there is room for an instance more.
+pub fn count<A: Allocator>(tallies: &mut Tallies<A>, caller: CallerId, waiter: Waiter)
+    requires room { 0 < spare tallies.old }
+    requires most { IfSome (get nat_eq tallies.old waiter.instance.0)
+        (λ t. t.marked < usize.MAX) }
+    ensures { Rewrites tallies.old.entries tallies.new.entries waiter.instance.0
+        (Some (joined (get nat_eq tallies.old waiter.instance.0) caller.0 waiter.marked)) }
 {
     let marked = usize::from(waiter.marked);
     let tally = match tallies.get(&waiter.instance.0) {
@@ -42,8 +38,7 @@ pub fn count<A: Allocator>(
             marked,
         },
     };
-    tallies.insert(waiter.instance.0, tally)?;
-    Ok(())
+    tallies.insert(waiter.instance.0, tally).unwrap();
 }
 
 /// Counts another mark in the place of a waiter's own.

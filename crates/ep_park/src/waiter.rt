@@ -5,8 +5,6 @@ ghost use Rattle.ep_machine.specs.Waits.{is_due as is_reached};
 ghost use Rattle.ep_park.specs.Deadlines.{awaited as deadline_of};
 
 use ep_base::{DescId, Pid};
-use indexmap::IndexMap;
-use std::hash::{BuildHasherDefault, FoldHasher};
 
 /// A wait that is parked: what epoll_wait(2) was asked for, and whether its caller is marked to go on.
 #[derive(Clone, Copy, Debug, PartialEq, Eq)]
@@ -22,9 +20,6 @@ pub struct Waiter {
     /// Whether the caller's next resumption may end the wait.
     pub marked: bool,
 }
-
-/// Waiters by caller, in order of parking.
-pub type Waiters<A> = IndexMap<u32, Waiter, BuildHasherDefault<FoldHasher>, A>;
 
 /// Whether a waiter's deadline is at or below `now`.
 pub fn is_due(waiter: Waiter, now: u64) -> bool

@@ -46,6 +46,25 @@ fn one_after_the_other(rt: HostRuntime) -> Result<(), Fail> {
     Ok(())
 }
 
+/// Of three callers at one instance the second leaves: the third goes on after the first, and the process stays until the last has left.
+#[test]
+fn past_one_that_left(rt: HostRuntime) -> Result<(), Fail> {
+    let mut waits = Park::new(rt.alloc());
+    for number in 1..4 {
+        if !waits.is_parked(CallerId(number)) {
+            waits.park(CallerId(number), waiting(None))?;
+        }
+    }
+    assert!(rt; waits.leave(CallerId(2)) == Some(waiting(None)));
+    assert!(rt; waits.leave(CallerId(1)) == Some(waiting(None)));
+    waits.mark_longest(INSTANCE);
+    assert!(rt; waits.is_marked(CallerId(3)));
+    assert!(rt; waits.any_of(Pid(1)));
+    waits.leave(CallerId(3));
+    assert!(rt; !waits.any_of(Pid(1)));
+    Ok(())
+}
+
 /// A wait of five milliseconds: at four it isn't marked, at five it is, and again once its mark is taken away.
 #[test]
 fn until_the_deadline(rt: HostRuntime) -> Result<(), Fail> {
@@ -100,10 +119,10 @@ fn is_refused(rt: &(impl Abort + AllocGlobal), bytes: usize) -> Result<bool, All
 /// Over heaps of rising size each request for memory is refused in turn, and none where there is enough.
 #[test]
 fn keeps_the_waiters_where_memory_is_refused(rt: HostRuntime) -> Result<(), Fail> {
-    for units in 2..64 {
+    for units in 2..512 {
         is_refused(&rt, 16 * units)?;
     }
     assert!(rt; is_refused(&rt, 16)?);
-    assert!(rt; !is_refused(&rt, 2_048)?);
+    assert!(rt; !is_refused(&rt, 8_192)?);
     Ok(())
 }

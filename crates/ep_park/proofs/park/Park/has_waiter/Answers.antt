@@ -8,5 +8,5 @@ pub returns : goal.returns
 returns g c =
     c.contains_key.ensures
     ∙ (ap is_some (c.self.invariant.0.of c.args.instance.0)
-    ∙ (any_tally c.args.instance.0 (listed c.self.inside.waiters.entries)
+    ∙ (any_tally c.args.instance.0 (listed c.self.inside.queue)
     ∙ ap (λ ws. waits_at ws c.args.instance.0) c.self.view_is))

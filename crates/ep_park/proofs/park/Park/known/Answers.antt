@@ -7,5 +7,5 @@ use Rattle.ep_park.proofs.park.Park.known.Goals as goal
 pub returns : goal.returns
 returns g c =
     subst (λ (ks : List ℕ). IsDistinct nat_eq ks)
-    (sym (callers c.self.inside.waiters.entries) ∙ ap (map (λ (w : Parked). w.caller)) c.self.view_is)
+    (sym (callers c.self.inside.queue) ∙ ap (map (λ (w : Parked). w.caller)) c.self.view_is)
     c.len-count.ensures.unique

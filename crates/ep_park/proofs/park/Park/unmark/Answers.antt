@@ -1,20 +1,23 @@
 use Rattle.std.proofs.Common.{ap, false, map, sym, ◌∙◌}
-use Rattle.std.specs.Map.{keys_of}
+use Rattle.std.specs.List.{list_any}
 use Rattle.ep_machine.specs.Waits.{unmark}
-use Rattle.ep_park.proofs.MarkLemmas.{kept_absent, no_entry, placed, unmarked_at}
-use Rattle.ep_park.specs.Changes.{changed_at, with_mark_of}
+use Rattle.ep_park.proofs.MarkLemmas.{kept_absent, unmarked_by}
+use Rattle.ep_park.proofs.ViewLemmas.{absent}
+use Rattle.ep_park.specs.Changes.{with_mark_at}
+use Rattle.ep_park.specs.Waiters.{is_caller}
 use Rattle.ep_park.proofs.park.Park.unmark.Goals as goal
 
-pub returns-in-Some : goal.returns-in-Some
-returns-in-Some g c =
-    let es = c.self.inside.waiters.entries in
+pub returns-then-is_parked : goal.returns-then-is_parked
+returns-then-is_parked g c =
+    let k = c.args.caller.0 in
     c.set_mark.ensures
-    ∙ (ap (changed_at (with_mark_of false) c.in-Some.index) (sym c.self.view_is)
-    ∙ (unmarked_at c.args.caller.0 c.in-Some.index es c.get_index_of.ensures.unique (placed c.args.caller.0 c.in-Some.index (keys_of es) c.in-Some.ensures.index)
-    ∙ ap (map (unmark c.args.caller.0)) c.self.view_is))
+    ∙ (ap (with_mark_at k false) (sym c.self.view_is)
+    ∙ (unmarked_by k c.self.inside.queue c.len-parked.ensures.unique ∙ ap (map (unmark k)) c.self.view_is))
 
-pub returns-in_default : goal.returns-in_default
-returns-in_default g c =
+pub returns-else-is_parked : goal.returns-else-is_parked
+returns-else-is_parked g c =
+    let k = c.args.caller.0 in
+    let off = ap (list_any (is_caller k)) c.self.view_is ∙ (sym c.is_parked.ensures ∙ c.if-is_parked.false) in
     sym c.self.view_is
-    ∙ (kept_absent c.args.caller.0 c.self.inside.waiters.entries (no_entry _ c.in_default.ensures.found)
-    ∙ ap (map (unmark c.args.caller.0)) c.self.view_is)
+    ∙ (kept_absent k c.self.inside.queue (absent k c.self.inside.queue off)
+    ∙ ap (map (unmark k)) c.self.view_is)

@@ -7,6 +7,5 @@ use Rattle.ep_park.proofs.park.Park.waiter.Goals as goal
 
 pub returns : goal.returns
 returns g c =
-    ap (option_map (parked c.args.caller.0)) (c.copied.ensures ∙ c.get.ensures.value)
-    ∙ (found c.args.caller.0 c.self.inside.waiters.entries
-    ∙ ap (find (is_caller c.args.caller.0)) c.self.view_is)
+    ap (option_map (parked c.args.caller.0)) c.get.ensures.value
+    ∙ (found c.args.caller.0 c.self.inside.queue ∙ ap (find (is_caller c.args.caller.0)) c.self.view_is)

@@ -1,0 +1,109 @@
+-- Places of one instance, and the first of them.
+use Rattle.std.proofs.Common.{◌≡◌, ℕ, true, false, ◌≤◌, ◌<◌, List, [], ◌∷◌, refl, sym, ap, subst, ◌∙◌, inl, inr, nat_eq, eqb, nat_lt, arith}
+use Rattle.std.proofs.lemmas.Bool.{eq-eqb, ltb-false, ltb-true}
+use Rattle.std.proofs.lemmas.Bool.Decides.{eqb_tells}
+use Rattle.std.proofs.lemmas.Map.Lookups.{exact_unsigned}
+use Rattle.std.specs.BTreeMap.{BTreeMap}
+use Rattle.std.specs.BTreeMap.Range.{IsInRange, IsLeBy}
+use Rattle.std.specs.Ordering.{is_eq, is_gt, nat_cmp, ordering_then}
+use Rattle.std.specs.declared.cmp.Ordering.{Ordering}
+use Rattle.std.specs.declared.cmp.Ordering.TheVariants.{Equal, Greater, Less}
+use Rattle.std.specs.declared.ops.Bound.TheVariants.{Included}
+use Rattle.ep_base.specs.declared.ids.CallerId.{CallerId}
+use Rattle.ep_park.proofs.ViewLemmas.{either}
+use Rattle.ep_park.specs.Queue.{ArePlacesOf, HasNoPlace, IsFirstPlace, caller_under, place_at, place_cmp}
+use Rattle.ep_park.specs.declared.place.Place.{Place}
+
+pub cmp_self : (n : ℕ) → nat_cmp n n ≡ Equal
+cmp_self n =
+    let lt : nat_lt n n ≡ false = elim (either (nat_lt n n)) [ inl y ↦ let l = ltb-true n n y in absurd (omega (arith, l)) | inr off ↦ off ] in
+    let eq : eqb n n ≡ true = eq-eqb n n refl in
+    rw (lt, eq) refl
+
+pub cmp_below : (a b : ℕ) → a < b → nat_cmp b a ≡ Greater
+cmp_below a b l =
+    let lt : nat_lt b a ≡ false = elim (either (nat_lt b a)) [ inl y ↦ let k = ltb-true b a y in absurd (omega (arith, l, k)) | inr off ↦ off ] in
+    let eq : eqb b a ≡ false = elim (eqb_tells b a) [ inl p ↦ let e = p.1 in absurd (omega (arith, l, e)) | inr p ↦ p.0 ] in
+    rw (lt, eq) refl
+
+-- the test of a key is that of the number
+pub key_test : (a b : ℕ) → is_eq (nat_cmp a b) ≡ nat_eq a b
+key_test a b = elim (eqb_tells a b) [
+  | inl p ↦ ap (λ n. is_eq (nat_cmp a n)) (sym p.1) ∙ (ap is_eq (cmp_self a) ∙ sym p.0)
+  | inr p ↦ rw p.0 (elim (either (nat_lt a b)) [ inl y ↦ rw y refl | inr n ↦ rw n refl ])
+]
+
+then_equal : (o p : Ordering) → is_eq (ordering_then o p) ≡ true → (o ≡ Equal) × (p ≡ Equal)
+then_equal Equal Equal e = (refl, refl)
+then_equal Equal Less e = absurd (cc)
+then_equal Equal Greater e = absurd (cc)
+then_equal Less p e = absurd (cc)
+then_equal Greater p e = absurd (cc)
+
+pub same_place : (a b : Place) → is_eq (place_cmp a b) ≡ true → (a.instance ≡ b.instance) × (a.ticket ≡ b.ticket)
+same_place a b e =
+    let both = then_equal (nat_cmp a.instance b.instance) (nat_cmp a.ticket b.ticket) e in
+    (exact_unsigned a.instance b.instance both.0, exact_unsigned a.ticket b.ticket both.1)
+
+pub own_place : (a : Place) → is_eq (place_cmp a a) ≡ true
+own_place a = rw (cmp_self a.instance, cmp_self a.ticket) refl
+
+pub other_place : (a b : Place) → (a.instance ≡ b.instance → a.ticket ≡ b.ticket → ⊥) → is_eq (place_cmp a b) ≡ false
+other_place a b apart = elim (either (is_eq (place_cmp a b))) [
+  | inl y ↦ let s = same_place a b y in absurd (apart s.0 s.1)
+  | inr n ↦ n
+]
+
+not_greater : (a b : ℕ) → a ≤ b → is_gt (nat_cmp a b) ≡ false
+not_greater a b le = elim (either (nat_lt a b)) [
+  | inl y ↦ rw y refl
+  | inr n ↦
+      let ge : b ≤ a = ltb-false a b n in
+      let is : eqb a b ≡ true = eq-eqb a b (omega (arith, le, ge)) in
+      rw (n, is) refl
+]
+
+from_not_greater : (a b : ℕ) → is_gt (nat_cmp a b) ≡ false → a ≤ b
+from_not_greater a b h = elim (either (nat_lt b a)) [
+  | inl y ↦ let l : b < a = ltb-true b a y in let g : is_gt (nat_cmp a b) ≡ true = ap is_gt (cmp_below b a l) in let bad = sym g ∙ h in absurd (cc)
+  | inr n ↦ ltb-false b a n
+]
+
+place_le : (e a b : ℕ) → a ≤ b → IsLeBy place_cmp (place_at e a) (place_at e b)
+place_le e a b le = rw (cmp_self e) (not_greater a b le)
+
+instance_le : (a b : Place) → IsLeBy place_cmp a b → a.instance ≤ b.instance
+instance_le a b h = from_not_greater a.instance b.instance (by (nat_cmp a.instance b.instance) h)
+  where
+    by : (o : Ordering) → is_gt (ordering_then o (nat_cmp a.ticket b.ticket)) ≡ false → is_gt o ≡ false
+    by Equal e = refl
+    by Less e = refl
+    by Greater e = e
+
+ticket_le : (a b : Place) → a.instance ≡ b.instance → IsLeBy place_cmp a b → a.ticket ≤ b.ticket
+ticket_le a b same h =
+    let o : nat_cmp a.instance b.instance ≡ Equal = ap (λ n. nat_cmp a.instance n) (sym same) ∙ cmp_self a.instance in
+    from_not_greater a.ticket b.ticket (rw o at h)
+
+instance_is : (e low high : ℕ) (p : Place) → IsInRange place_cmp (Included (place_at e low)) (Included (place_at e high)) p → p.instance ≡ e
+instance_is e low high p h =
+    let a : e ≤ p.instance = instance_le (place_at e low) p h.0 in
+    let b : p.instance ≤ e = instance_le p (place_at e high) h.1 in
+    omega (arith, a, b)
+
+in_range : (e last t : ℕ) → t ≤ last → IsInRange place_cmp (Included (place_at e 0)) (Included (place_at e last)) (place_at e t)
+in_range e last t le = (place_le e 0 t (omega arith), place_le e t last le)
+
+pub first_from : (m : BTreeMap Place CallerId) (e last : ℕ) (r rest : List (Place × CallerId)) (p : Place × CallerId) → ArePlacesOf m e last r → r ≡ p ∷ rest → IsFirstPlace m.entries e last p.1
+first_from m e last r rest p are is =
+    let h = subst (λ (xs : List (Place × CallerId)). ArePlacesOf m e last xs) is are in
+    let here : p.0.instance ≡ e = instance_is e 0 last p.0 h.1.0 in
+    let same : place_at e p.0.ticket ≡ p.0 = λ j. record { instance = sym here j; ticket = p.0.ticket } in
+    record {
+      ticket = p.0.ticket;
+      its = ap (λ (q : Place). caller_under m.entries q.instance q.ticket) same ∙ h.1.1;
+      least = λ t le some. ticket_le p.0 (place_at e t) here (h.2 (place_at e t) (in_range e last t le) some);
+    }
+
+pub none_from : (m : BTreeMap Place CallerId) (e last : ℕ) (r : List (Place × CallerId)) → ArePlacesOf m e last r → r ≡ [] → HasNoPlace m.entries e last
+none_from m e last r are is = λ t le. are.5 is (place_at e t) (in_range e last t le)
