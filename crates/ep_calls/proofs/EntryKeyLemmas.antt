@@ -16,10 +16,10 @@ id_is r sound id n h = sound.one_key (id_of r n) id n (place_among_is r.keys id.
 same_id : (old new : Registrations) → IsSound old → IsSound new → (id : EntryId) (n : ℕ) → number_under old id ≡ Some n → number_under new id ≡ Some n → id_of old n ≡ id_of new n
 same_id old new was is id n h k = id_is old was id n h ∙ sym (id_is new is id n k)
 
-abbrev IsFound : Registrations → Entry → Type 0
+abbrev pub IsFound : Registrations → Entry → Type 0
 IsFound r x = numbered r.entries x.number ≡ Some x
 
-each_found : (r : Registrations) → IsSound r → All (IsFound r) r.entries
+pub each_found : (r : Registrations) → IsSound r → All (IsFound r) r.entries
 each_found r sound = All-from_recursion (IsFound r) r.entries (each_numbered 0 r.entries sound.rises)
 
 -- the number of each stands under its key

@@ -1,18 +1,18 @@
 -- Links of registrations that are added or deleted.
 use Rattle.std.proofs.Common.{◌≡◌, ◌∙◌, ◌==◌, ◌||◌, ◌++◌, ℕ, All, Bool, true, false, IsSome, List, [], ◌∷◌, None, Option, Some, ap, arith, cond, filter, inl, inr, is_some, map, not, refl, slice_index_or, slice_set, sym, unwrap_or}
-use Rattle.std.proofs.lemmas.Bool.{cases_Bool}
+use Rattle.std.proofs.lemmas.Bool.{cases_Bool, eqb-true}
 use Rattle.std.proofs.lemmas.Bool.Decides.{nat_tests}
 use Rattle.std.proofs.lemmas.List.Elements.{All-filter, All-head, All-map, All-tail, All-weaker}
 use Rattle.ep_base.specs.declared.ids.EntryId.{EntryId}
 use Rattle.ep_base.specs.declared.mask.Mask.{Mask}
-use Rattle.ep_interest.specs.Registrations.{GainsKey, IsSound, Registrations, id_of, is_other, modified, number_under, place_among}
+use Rattle.ep_interest.specs.Registrations.{GainsKey, IsSound, Registrations, id_of, is_other, modified, number_under, numbered, place_among}
 use Rattle.ep_interest.specs.declared.entry.Entry.{Entry}
 use Rattle.ep_interest.proofs.NumberLemmas.{test_apart}
 use Rattle.ep_machine.specs.Lists.{is_among}
 use Rattle.ep_nest.specs.Links.{entries, without}
 use Rattle.ep_nest.specs.declared.link.Link.{Link}
 use Rattle.ep_calls.specs.Climb.{is_nested, link_of}
-use Rattle.ep_calls.proofs.EntryKeyLemmas.{IsKeyed, each_keyed, id_is, ids_gained, ids_left, links_named, none_is_some, removed_was}
+use Rattle.ep_calls.proofs.EntryKeyLemmas.{IsKeyed, each_found, each_keyed, id_is, ids_gained, ids_left, links_named, none_is_some, removed_was}
 use Rattle.ep_calls.proofs.GraphLemmas.{links_filtered, links_mapped, links_pushed}
 use Rattle.ep_calls.proofs.KeyLemmas.{same_tests}
 use Rattle.ep_table.specs.Value.{Seen}
@@ -56,7 +56,7 @@ unlinked (x ∷ xs) l h = elim (cases_Bool (l.entry.0 == x.entry.0)) [
 ]
 
 -- the links without that of a key are those of the registrations without it
-module _ (p : Entry → Bool) (old new : Registrations) (was : IsSound old) (is : IsSound new) (id : EntryId) (there : IsSome (number_under old id)) where
+module _ (p : Entry → Bool) (old : Registrations) (was : IsSound old) (id : EntryId) (there : IsSome (number_under old id)) where
   abbrev number : ℕ
   number = unwrap_or (number_under old id) 0
 
@@ -74,11 +74,45 @@ module _ (p : Entry → Bool) (old new : Registrations) (was : IsSound old) (is 
       let one = same_one x (All-head (IsKeyed old) x xs h) in
       let rest = others_same xs (All-tail (IsKeyed old) x xs h) in λ i. cond (one i) (x ∷ rest i) (rest i)
 
-  pub links_removed : new.entries ≡ filter (is_other number) old.entries → new.keys ≡ slice_set old.keys id.0 None → without id.0 (map (link_of old) (filter p old.entries)) ≡ map (link_of new) (filter p new.entries)
-  links_removed entries keys =
+  links_others : without id.0 (map (link_of old) (filter p old.entries)) ≡ map (link_of old) (filter p (filter (is_other number) old.entries))
+  links_others =
       links_filtered old p (λ l. not (l.entry.0 == id.0)) old.entries
-      ∙ (ap (λ (xs : List Entry). map (link_of old) (filter p xs)) (others_same old.entries (each_keyed old was) ∙ sym entries)
+      ∙ ap (λ (xs : List Entry). map (link_of old) (filter p xs)) (others_same old.entries (each_keyed old was))
+
+  pub links_removed : (new : Registrations) → IsSound new → new.entries ≡ filter (is_other number) old.entries → new.keys ≡ slice_set old.keys id.0 None
+      → without id.0 (map (link_of old) (filter p old.entries)) ≡ map (link_of new) (filter p new.entries)
+  links_removed new is entries keys =
+      links_others
+      ∙ (ap (λ (xs : List Entry). map (link_of old) (filter p xs)) (sym entries)
       ∙ links_named p old new new.entries (ids_left old new was is (λ j n h. removed_was old.keys id.0 j.0 n (ap (λ (ks : List (Option ℕ)). slice_index_or ks j.0 None) (sym keys) ∙ h))))
+
+  -- all of them, where the registration of the key has none
+  module _ (x : Entry) (own : numbered old.entries number ≡ Some x) (apart : p x ≡ false) where
+    abbrev IsListed : Entry → Type 0
+    IsListed y = numbered old.entries y.number ≡ Some y
+
+    left_out : (y : Entry) → IsListed y → (y.number == number) ≡ true → p y ≡ false
+    left_out y listed same =
+        let is : y.number ≡ number = eqb-true y.number number same in
+        let both : Some y ≡ Some x = sym listed ∙ (ap (numbered old.entries) is ∙ own) in
+        let one : y ≡ x = cc in
+        ap p one ∙ apart
+
+    others_pass : (ys : List Entry) → All IsListed ys → filter p (filter (is_other number) ys) ≡ filter p ys
+    others_pass [] h = refl
+    others_pass (y ∷ ys) h =
+        let rest = others_pass ys (All-tail IsListed y ys h) in
+        elim (cases_Bool (y.number == number)) [
+          | inl same ↦
+              ap (λ (b : Bool). filter p (cond (not b) (y ∷ filter (is_other number) ys) (filter (is_other number) ys))) same
+              ∙ (rest ∙ ap (λ (b : Bool). cond b (y ∷ filter p ys) (filter p ys)) (sym (left_out y (All-head IsListed y ys h) same)))
+          | inr other ↦
+              ap (λ (b : Bool). filter p (cond (not b) (y ∷ filter (is_other number) ys) (filter (is_other number) ys))) other
+              ∙ ap (λ (zs : List Entry). cond (p y) (y ∷ zs) zs) rest
+        ]
+
+    pub links_stay : without id.0 (map (link_of old) (filter p old.entries)) ≡ map (link_of old) (filter p old.entries)
+    links_stay = links_others ∙ ap (map (link_of old)) (others_pass old.entries (each_found old was))
 
 -- and with that of an addition, those with it
 pub links_added : (p : Entry → Bool) (old new : Registrations) → IsSound old → IsSound new → (id : EntryId) (x : Entry) → GainsKey old new id x.number → new.entries ≡ old.entries ++ x ∷ []

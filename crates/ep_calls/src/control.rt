@@ -6,7 +6,7 @@ ghost use Rattle.ep_machine.specs.Effect.{first};
 ghost use Rattle.ep_calls.specs.Acts.{is_no_memory};
 ghost use Rattle.ep_machine.specs.State.{Waiter};
 ghost use Rattle.ep_machine.specs.Watches.{is_legal};
-ghost use Rattle.ep_nest.specs.Links.{edges};
+ghost use Rattle.ep_nest.specs.Links.{edges, without};
 ghost use Rattle.ep_calls.specs.Climb.{AreNested, KeepsLinks};
 ghost use Rattle.ep_calls.specs.Control.{Alters, ChangesIf, Controls, EntersAt, IsPlan, Names, addition, code_of, control_call, is_deep_at, is_refused_op, raising_of_ctl, naming_refusals, next_entry, next_link, raising_after};
 ghost use Rattle.ep_interest.specs.Registrations.{GainsKey, has_key, number_under as number_of_entry};
@@ -111,15 +111,32 @@ fn operation_of(args: Control) -> Option<Operation>
     Some(operation)
 }
 
+/// Takes the link of a registration away. Only one of an instance has a link: for any other it looks at no link.
+fn unlink(tables: &Tables, interest: &Interest, graph: &mut Graph, id: EntryId)
+    requires there { IsSome (number_of_entry interest.now id) }
+    requires linked { AreLinked tables.now interest.now }
+    requires nested { AreNested tables.now interest.now graph.old }
+    ensures { graph.new ≡ without id.0 graph.old }
+{
+    interest.known();
+    let entry = interest.entry(id);
+    if tables.object(entry.desc).is_instance() {
+        graph.unlink(id);
+    }
+}
+
 /// Deletes or modifies a registration that is there. EEXIST, and it stays, for an addition.
 fn alter(
+    tables: &Tables,
     interest: &mut Interest,
     graph: &mut Graph,
     id: EntryId,
     operation: Operation,
     args: Control,
 ) -> Answer
-    requires { IsSome (number_of_entry interest.old id) }
+    requires there { IsSome (number_of_entry interest.old id) }
+    requires linked { AreLinked tables.now interest.old }
+    requires nested { AreNested tables.now interest.old graph.old }
     ensures alters { Alters operation (unwrap_or (number_of_entry interest.old id) 0) args.mask
         args.tag interest.old interest.new result }
     ensures nested { KeepsLinks interest.old graph.old interest.new graph.new }
@@ -133,7 +150,7 @@ fn alter(
         Operation::Add => Answer::Refused(Errno::Eexist),
         Operation::Delete => {
             interest.known();
-            graph.unlink(id);
+            unlink(tables, interest, graph, id);
             interest.remove(id);
             interest.known();
             Answer::Done
@@ -330,6 +347,7 @@ impl Parts {
     /// not there, EEXIST for ADD of what is, ELOOP where instances would watch each other in a loop or in a chain of more
     /// than five, and ENOSPC past `watches`.
     /// What is added or modified and reportable at once raises IN at its instance.
+    /// It looks at links between instances only where the target is an instance.
     /// A refusal and an `Err`, which is want of memory and comes of ADD alone, leave the parts.
     pub fn control(&mut self, pid: Pid, args: Control, plan: Plan) -> Result<Outcome, AllocError>
         requires { IsPlan self.old pid.0 args plan }
@@ -344,6 +362,7 @@ impl Parts {
         match plan.found {
             Some(id) => {
                 let answer = alter(
+                    &self.tables,
                     &mut self.interest,
                     &mut self.graph,
                     id,

@@ -11,7 +11,7 @@ returns-in-Delete-clause-nested c = λ tables nested.
     let r = c.args.interest.now in
     c.unlink.ensures
     ∙ (ap (without c.args.id.0) nested
-    ∙ links_removed (is_nested tables) r c.remove.new.self c.known.ensures c.known-in-Delete.ensures c.args.id c.requires c.remove.ensures.entries c.remove.ensures.keys)
+    ∙ links_removed (is_nested tables) r c.known.ensures c.args.id c.requires.there c.remove.new.self c.known-in-Delete.ensures c.remove.ensures.entries c.remove.ensures.keys)
 
 pub returns-in-Modify-clause-nested : goal.returns-in-Modify-clause-nested
 returns-in-Modify-clause-nested c = λ tables nested.

@@ -123,8 +123,8 @@ returns-in_ok-answer-in-None-clause-controls c =
     let e = c.controlled-in-None.ensures in
     rw (← c.self.view_is) (controls_told c.args.plan c.args.args c.controlled-in-None.result c.in_ok-answer-in-None.answer p c.enter.new.interest c.enter.new.graph e.answer e.picked e.raising None c.in-None.is c.in_ok-answer-in-None.ensures.changes)
 
-pub alter-answer-requires : goal.alter-answer-requires
-alter-answer-requires c =
+pub alter-answer-requires-clause-there : goal.alter-answer-requires-clause-there
+alter-answer-requires-clause-there c =
     let k = c.self.inside in
     let p : Parts = record { tables = k.tables; interest = k.interest; graph = k.graph; parked = k.waiters; clock = k.clock } in
     let plan : IsPlan p c.args.pid.0 c.args.args c.args.plan = subst (λ (q : Parts). IsPlan q c.args.pid.0 c.args.args c.args.plan) (sym c.self.view_is) c.requires in
