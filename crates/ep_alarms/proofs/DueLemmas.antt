@@ -177,16 +177,17 @@ module _ (v : Seen) (since now n : ℕ) (old : Registrations) (a : Moments) (mid
         added = added ∙ h.added;
       }
 
+-- no moment that has come
+pub not_come : (now : ℕ) (o : Option (Option ℕ)) → ((m : ℕ) → o ≡ Some (Some m) → now < m) → is_due now o ≡ false
+not_come now None late = refl
+not_come now (Some None) late = refl
+not_come now (Some (Some m)) late = later m now (late m refl)
+
 -- After the last.
 module _ (v : Seen) (since now n : ℕ) (old : Registrations) (a : Moments) (new : Registrations) (h : RaisesDue v since now n old a new) (none : HasNoneReached a now) where
-  off : (o : Option (Option ℕ)) → ((m : ℕ) → o ≡ Some (Some m) → now < m) → is_due now o ≡ false
-  off None late = refl
-  off (Some None) late = refl
-  off (Some (Some m)) late = later m now (late m refl)
-
   each_off : (ids : List DescId) → AllByRecursion (λ id. (left_bits v since now a id).0 ≡ 0) ids
   each_off [] = tt
-  each_off (id ∷ ids) = (ap (λ (t : Bool). (cond t (due_bits v since now id) (bits_of 0)).0) (off (moment_of a id.0) (λ m. none id.0 m)), each_off ids)
+  each_off (id ∷ ids) = (ap (λ (t : Bool). (cond t (due_bits v since now id) (bits_of 0)).0) (not_come now (moment_of a id.0) (λ m. none id.0 m)), each_off ids)
 
   pub due_told : new.entries ≡ raised_each (due_bits v since now) n (live_ids v.keys) old.entries
   due_told = sym (each_none (left_bits v since now a) n (live_ids v.keys) new.entries (each_off (live_ids v.keys))) ∙ h.told
@@ -198,4 +199,4 @@ module _ (v : Seen) (since now n : ℕ) (old : Registrations) (a : Moments) (new
   by_moment (Some t) (Some (Some m)) s late = s late
 
   pub due_set : AreSet v now a
-  due_set k = by_moment (timer_under v k) (moment_of a k) (h.set k) (off (moment_of a k) (λ m. none k m))
+  due_set k = by_moment (timer_under v k) (moment_of a k) (h.set k) (not_come now (moment_of a k) (λ m. none k m))

@@ -1,8 +1,9 @@
 pub mod SetLemmas
 pub mod LeftLemmas
 pub mod DueLemmas
+pub mod EarliestLemmas
 pub mod DropLemmas
 pub mod BurialLemmas
-pub mod KeptLemmas
-pub mod CallLemmas
-pub mod ObjectLemmas
+pub mod AreSetLemmas
+pub mod FilesCallLemmas
+pub mod ObjectEffectLemmas

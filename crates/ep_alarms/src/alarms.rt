@@ -2,11 +2,12 @@
 ghost use Rattle.std.specs.Prelude.{◌≡◌, ◌≤◌, IsSome, MatchOption, None, OnOk, Some, ℕ};
 ghost use Rattle.ep_alarms.specs.Alarms.{AreSet, AreSetBut, IsKept, LosesDying};
 ghost use Rattle.ep_alarms.specs.Timers.{timer_under};
+ghost use Rattle.ep_calls.specs.Arrivals.{TellsArrival};
 ghost use Rattle.ep_calls.specs.Raising.{due_bits, raised_each};
 ghost use Rattle.ep_due.specs.DueMap.{HasNoneReached, HasRoom, IsReachedAt, SameMoments, SetsMoment, moment_of};
 ghost use Rattle.ep_machine.specs.Timer.{last_moment};
 ghost use Rattle.ep_table.specs.Live.{live_ids};
-ghost use Rattle.ep_table.specs.Value.{number_under};
+ghost use Rattle.ep_table.specs.Value.{Seen, Sound, number_under};
 
 use ep_base::DescId;
 use ep_counters::next_arrivals;
@@ -17,8 +18,8 @@ use std::alloc::{AllocError, Global};
 use std::marker::Model;
 
 /// The live timers, each with the moment at which the clock next raises IN at it, or none where it won't. Contracts see what
-/// `moment_of` tells of a description's key: nothing for what isn't among them. Each call but `new` takes time that grows as the
-/// logarithm of the number of timers for each timer that it touches, but where a table grows.
+/// `moment_of` tells of a description's key: nothing for what isn't among them. `new` and `earliest` take constant time, and each
+/// other call time that grows as the logarithm of the number of timers for each timer that it touches, but where a table grows.
 #[derive(Drop)]
 pub struct Alarms {
     moments: DueMap,
@@ -90,6 +91,16 @@ impl Alarms {
         for desc in tables.dying() {
             self.drop_one(desc);
         }
+    }
+
+    /// The first moment at which the clock raises a bit at a live timer, after the moment for which all are set; `None` where it
+    /// raises none.
+    pub fn earliest(&self) -> Option<u64>
+        ensures { (v : Seen) (now : ℕ) → Sound v → AreSet v now self.now
+            → TellsArrival v.files now result }
+    {
+        next_arrivals();
+        self.moments.earliest()
     }
 
     /// A timer whose moment is at or below `now`; `None` exactly where there is none.

@@ -6,6 +6,4 @@ mod alarms;
 mod law;
 
 pub use crate::alarms::Alarms;
-pub use crate::law::{
-    burial_leaves_alarms, calls_leave_alarms, object_calls_leave_timers, table_calls_leave_timers,
-};
+pub use crate::law::burial_leaves_alarms;

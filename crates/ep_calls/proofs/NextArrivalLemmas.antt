@@ -63,6 +63,13 @@ any_live p j (Some n ∷ keys) = ap (λ (b : Bool). p (key_of j) || b) (any_live
 zero_plus : (k : ℕ) → 0 + k ≡ k
 zero_plus k = omega arith
 
+-- a bit arrives at the description under a key
+pub record ArrivesUnder (v : Seen) (since now : ℕ) : Type 0 where
+  pub key : ℕ
+  pub number : ℕ
+  pub is : number_under v (key_of key) ≡ Some number
+  pub arrives : arrives_at v since now (key_of key) ≡ true
+
 module _ (v : Seen) (since now : ℕ) (sound : Sound v) where
   abbrev of_place : ℕ × Place → Bool
   of_place x = nat_lt 0 (clock_bits v.files since now (Some x.1))
@@ -97,6 +104,14 @@ module _ (v : Seen) (since now : ℕ) (sound : Sound v) where
       any_passing of_key 0 key.0.0 one.place v.keys key.1
       (ap (λ (k : ℕ). of_key (k, one.place)) (zero_plus key.0.0)
       ∙ (same_bit key.0 one.place one.thing key.1 at ∙ (ap (λ (k : ℕ). of_place (k, one.thing)) (sym (zero_plus one.place)) ∙ one.passes)))
+
+  pub under_arrives : ArrivesUnder v since now → arrives_by v.files since now ≡ true
+  under_arrives h = to_numbers (any_passing of_key 0 h.key h.number v.keys h.is (ap (λ (k : ℕ). of_key (k, h.number)) (zero_plus h.key) ∙ h.arrives))
+
+  pub arrives_under : arrives_by v.files since now ≡ true → ArrivesUnder v since now
+  arrives_under h =
+      let one = passing of_key 0 v.keys (to_keys h) in
+      record { key = one.place; number = one.thing; is = one.there; arrives = ap (λ (k : ℕ). arrives_at v since now (key_of k)) (sym (zero_plus one.place)) ∙ one.passes }
 
   -- by keys as by numbers
   pub arrives_by_keys : list_any (arrives_at v since now) (live_ids v.keys) ≡ arrives_by v.files since now

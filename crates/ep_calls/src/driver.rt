@@ -1,11 +1,10 @@
 //! What goes on by itself: whoever is marked, and the clock.
-ghost use Rattle.std.specs.Prelude.{◌≡◌, ◌≤◌, ℕ};
+ghost use Rattle.std.specs.Prelude.{◌≡◌, ◌≤◌};
 ghost use Rattle.std.specs.Option.{option_map};
 ghost use Rattle.ep_machine.specs.State.{State};
 ghost use Rattle.ep_machine.specs.Timer.{last_moment};
-ghost use Rattle.ep_machine.specs.Waits.{is_due};
 ghost use Rattle.ep_view.specs.AtRest.{AtRest};
-ghost use Rattle.ep_calls.specs.Arrivals.{arrives_by};
+ghost use Rattle.ep_calls.specs.Arrivals.{TellsArrival};
 ghost use Rattle.ep_calls.specs.Driver.{TellsNext, first_marked};
 ghost use Rattle.ep_calls.specs.Moves.{StandFor};
 
@@ -18,7 +17,7 @@ use ep_table::Tables;
 /// The first moment after now at which the clock raises a bit. It looks at each description that lives.
 fn next_arrival(tables: &Tables, now: u64) -> Option<u64>
     requires { now ≤ last_moment }
-    ensures { (moment : ℕ) → is_due moment result ≡ arrives_by tables.now.files now moment }
+    ensures { TellsArrival tables.now.files now result }
 {
     tables.known();
     next_arrivals();
@@ -31,11 +30,19 @@ fn next_arrival(tables: &Tables, now: u64) -> Option<u64>
 
 impl Parts {
     /// The first moment after now at which a tick to it raises a bit or marks a caller; `None` where no tick does. It looks at
-    /// each description that lives and at each waiter.
+    /// each description that lives.
     pub fn next_moment(&self) -> Option<u64>
         ensures { (s : State) → AtRest s → StandFor self.now s → TellsNext s result }
     {
-        let arrival = next_arrival(&self.tables, self.clock);
+        self.next_moment_with(next_arrival(&self.tables, self.clock))
+    }
+
+    /// What `next_moment` answers, where `arrival` is the first moment after now at which the clock raises a bit, or `None` where it
+    /// raises none. The cost is constant.
+    pub fn next_moment_with(&self, arrival: Option<u64>) -> Option<u64>
+        requires { TellsArrival self.now.tables.files self.now.clock arrival }
+        ensures { (s : State) → AtRest s → StandFor self.now s → TellsNext s result }
+    {
         let moment = earlier(arrival, self.waiters.first_deadline())?;
         if moment > LAST_MOMENT {
             return None;

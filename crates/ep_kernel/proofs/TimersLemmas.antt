@@ -20,12 +20,10 @@ use Rattle.ep_calls.specs.declared.outcome.Outcome.{Outcome}
 use Rattle.ep_interest.specs.Registrations.{has_key}
 use Rattle.ep_machine.specs.Objects.{Object as Content, object_refusals, timer}
 use Rattle.ep_machine.specs.Tables.{create_one, one_free, one_refusals, slot}
-use Rattle.ep_alarms.proofs.CallLemmas.{made_alone, others_left, timer_made}
-use Rattle.ep_alarms.proofs.KeptLemmas.{set_but, set_kept}
-use Rattle.ep_alarms.proofs.ObjectLemmas.{object_calls_leave, own_kept}
+use Rattle.ep_alarms.proofs.AreSetLemmas.{set_but, set_kept, timer_in}
+use Rattle.ep_alarms.proofs.FilesCallLemmas.{HaveObjects, MakesNoTimer, made_alone, others_left, timer_made}
+use Rattle.ep_alarms.proofs.ObjectEffectLemmas.{object_calls_leave, own_kept}
 use Rattle.ep_alarms.specs.Alarms.{AreSet, AreSetBut, IsKept, IsSetFor}
-use Rattle.ep_alarms.specs.Calls.{HaveObjects, MakesNoTimer}
-use Rattle.ep_alarms.specs.Kept.{timer_in}
 use Rattle.ep_alarms.specs.Timers.{timer_at, timer_under}
 use Rattle.ep_base.specs.Limits.{Limits}
 use Rattle.ep_base.specs.declared.answer.Answer.{Answer}

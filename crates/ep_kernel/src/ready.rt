@@ -251,6 +251,7 @@ impl Kernel for ReadyKernel {
     }
 
     fn next_moment(&self) -> Option<u64> {
-        self.parts.next_moment()
+        know(&self.parts);
+        self.parts.next_moment_with(self.alarms.earliest())
     }
 }

@@ -4,3 +4,5 @@
 
 #[cfg(test)]
 mod memory;
+#[cfg(test)]
+mod moments;

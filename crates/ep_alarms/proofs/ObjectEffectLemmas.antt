@@ -6,14 +6,13 @@ use Rattle.ep_base.specs.declared.object.End.{End}
 use Rattle.ep_base.specs.declared.object.End.TheVariants.{First, Second}
 use Rattle.ep_law.proofs.EndLemmas.{set_object}
 use Rattle.ep_law.specs.Laws.{HaveOwnEnds}
-use Rattle.ep_machine.specs.Files.{Files, Place, object_at, object_number, place_of, side_of}
+use Rattle.ep_machine.specs.Files.{Files, Place, is_live, object_at, object_number, place_of, side_of}
 use Rattle.ep_machine.specs.Objects.{Object, counter, gettime, instance, object_effect, pair, pipe, plain, read, settime, shutdown, timer, write}
 use Rattle.ep_machine.specs.Tables.{affected}
 use Rattle.ep_machine.specs.Timer.{Timer}
 use Rattle.ep_object.specs.Law.{object_has}
-use Rattle.ep_alarms.proofs.CallLemmas.{placed_is, timer_placed}
-use Rattle.ep_alarms.specs.Calls.{ObjectCallsLaw}
-use Rattle.ep_alarms.specs.Kept.{timer_in}
+use Rattle.ep_alarms.proofs.AreSetLemmas.{timer_in}
+use Rattle.ep_alarms.proofs.FilesCallLemmas.{placed_is, timer_placed}
 use Rattle.ep_alarms.specs.Timers.{timer_of}
 use Rattle.ep_table.specs.Value.{content_of}
 
@@ -134,7 +133,9 @@ module _ (f : Files) (number now : ℕ) (call : Call) (own : HaveOwnEnds f) (q :
   other_stays : (d : ℕ) → d ≢ number → timer_in g d ≡ timer_in f d
   other_stays d ne = placed_is g (place_of f d) ∙ (by_place d ne (place_of f d) refl ∙ sym (placed_is f (place_of f d)))
 
-pub object_calls_leave : ObjectCallsLaw
+-- a call on an object changes no other timer than that of its description
+pub object_calls_leave : (f : Files) (number now : ℕ) (call : Call) → HaveOwnEnds f → is_live f number ≡ true
+    → (d : ℕ) → d ≢ number → timer_in (affected f number (object_effect (content_of f number) (side_of f number) now call)) d ≡ timer_in f d
 object_calls_leave f number now call own lives d ne = let p = a_place (place_of f number) lives in other_stays f number now call own p.0 p.1 d ne
 
 -- a timer stays one

@@ -1,16 +1,19 @@
 -- The moments of timers over a call that keeps keys.
-use Rattle.std.proofs.Common.{◌≡◌, ◌∙◌, ℕ, false, None, Option, Some, ap, inl, inr, is_some, refl, subst, sym, unwrap_or}
+use Rattle.std.proofs.Common.{◌≡◌, ◌≢◌, ◌∙◌, ℕ, false, None, Option, Some, ap, inl, inr, is_some, refl, subst, sym, unwrap_or}
 use Rattle.std.proofs.lemmas.Bool.{cases_Bool}
 use Rattle.ep_due.specs.DueMap.{Moments, moment_of}
 use Rattle.ep_machine.specs.Files.{Files, Place, is_live, object_at, place_of}
 use Rattle.ep_machine.specs.Objects.{plain}
 use Rattle.ep_machine.specs.Timer.{Timer}
 use Rattle.ep_alarms.proofs.SetLemmas.{some_none}
-use Rattle.ep_alarms.specs.Alarms.{AreSet, IsSetFor}
-use Rattle.ep_alarms.specs.Kept.{ButLaw, KeptLaw, timer_in}
+use Rattle.ep_alarms.specs.Alarms.{AreSet, AreSetBut, IsSetFor}
 use Rattle.ep_alarms.specs.Timers.{timer_at, timer_of, timer_under}
 use Rattle.ep_table.specs.Live.{key_of}
-use Rattle.ep_table.specs.Value.{KeepsKeys, Seen, Sound, number_under}
+use Rattle.ep_table.specs.Value.{KeepsKeys, Seen, Sound, content_of, number_under}
+
+-- the timer of a description, where it is live and one
+abbrev pub timer_in : Files → ℕ → Option Timer
+timer_in f d = timer_of (content_of f d)
 
 no_place : (o : Option Place) → is_some o ≡ false → o ≡ None
 no_place None h = refl
@@ -52,9 +55,12 @@ module _ (v w : Seen) (now : ℕ) (a : Moments) (sound : Sound v) (sound_now : S
   pub kept_at : ((d : ℕ) → number_under w (key_of k) ≡ Some d → timer_in w.files d ≡ timer_in v.files d) → IsSetFor (timer_under w k) now (moment_of a k)
   kept_at same = subst (λ (t : Option Timer). IsSetFor t now (moment_of a k)) (sym (by_new (number_under w (key_of k)) refl same)) (are_set k)
 
-pub set_kept : KeptLaw
+-- where each timer keeps its content
+pub set_kept : (v w : Seen) (now : ℕ) (a : Moments) → Sound v → Sound w → KeepsKeys v w → ((d : ℕ) → timer_in w.files d ≡ timer_in v.files d) → AreSet v now a → AreSet w now a
 set_kept v w now a sound sound_now keeps same are_set = λ k. kept_at v w now a sound sound_now keeps are_set k (λ d is. same d)
 
-pub set_but : ButLaw
+-- where one description's timer was made, set or read
+pub set_but : (v w : Seen) (now : ℕ) (a : Moments) (key number : ℕ) → Sound v → Sound w → KeepsKeys v w → number_under w (key_of key) ≡ Some number
+    → ((d : ℕ) → d ≢ number → timer_in w.files d ≡ timer_in v.files d) → AreSet v now a → AreSetBut w now key a
 set_but v w now a key number sound sound_now keeps its same are_set = λ k ne.
     kept_at v w now a sound sound_now keeps are_set k (λ d is. same d (λ e. ne (sound_now.one (key_of k) (key_of key) number (is ∙ ap (λ (j : ℕ). Some j) e) its)))

@@ -3,19 +3,40 @@ use Rattle.std.proofs.Common.{◌≡◌, ◌≢◌, ◌∙◌, ◌++◌, ◌<◌
 use Rattle.std.proofs.Math.Seq.{get_or-append_seam}
 use Rattle.std.proofs.lemmas.Bool.{cases_eq, cases_lt}
 use Rattle.std.proofs.lemmas.List.{get_or_append_left, get_or_past}
+use Rattle.ep_base.specs.Limits.{Limits}
+use Rattle.ep_base.specs.declared.call.Call.{Call}
 use Rattle.ep_base.specs.declared.call.Call.TheVariants.{Close, Dup, Dup2, EpollCreate, EpollCtl, EpollWait, EventFd, Exec, Exit, Fork, GetTime, Pipe as PipeCall, Plain, Read, SetTime, Shutdown, SocketPair, TimerFd, Write}
 use Rattle.ep_base.specs.declared.object.End.{End}
 use Rattle.ep_base.specs.declared.object.End.TheVariants.{First, Second}
 use Rattle.ep_machine.specs.Files.{Files, Place, named_by, numbers_of, object_at, place_of}
+use Rattle.ep_machine.specs.FilesCalls.{files_call}
 use Rattle.ep_machine.specs.Lists.{place_at}
 use Rattle.ep_machine.specs.Objects.{Object, counter, instance, pair, pipe, plain, timer}
 use Rattle.ep_machine.specs.Tables.{create_one, create_two, describe, dup2, new_object, same_number, slot, with_table}
 use Rattle.ep_machine.specs.Pipe.{new_pipe}
 use Rattle.ep_machine.specs.Sockets.{new_pair}
 use Rattle.ep_machine.specs.Timer.{Timer, new_timer}
-use Rattle.ep_alarms.specs.Calls.{HaveObjects, MadeAloneLaw, MadeLaw, OtherCallsLaw}
-use Rattle.ep_alarms.specs.Kept.{timer_in}
+use Rattle.ep_alarms.proofs.AreSetLemmas.{timer_in}
 use Rattle.ep_alarms.specs.Timers.{timer_of}
+
+-- each description that is there has an object
+abbrev pub HaveObjects : Files → Type 0
+HaveObjects f = (d : ℕ) (p : Place) → place_of f d ≡ Some p → IsSome (slice_index_or f.objects p.object None)
+
+-- a call on the tables alone but timerfd_create
+abbrev pub MakesNoTimer : Call → Type 0
+MakesNoTimer (PipeCall cloexec) = Unit {0}
+MakesNoTimer (EventFd init semaphore cloexec) = Unit {0}
+MakesNoTimer (SocketPair cloexec) = Unit {0}
+MakesNoTimer (Plain cloexec) = Unit {0}
+MakesNoTimer (EpollCreate cloexec) = Unit {0}
+MakesNoTimer (Dup fd) = Unit {0}
+MakesNoTimer (Dup2 fd to) = Unit {0}
+MakesNoTimer (Close fd) = Unit {0}
+MakesNoTimer Fork = Unit {0}
+MakesNoTimer Exec = Unit {0}
+MakesNoTimer Exit = Unit {0}
+MakesNoTimer call = ⊥
 
 within : (xs : List (Option Object)) (k : ℕ) → IsSome (slice_index_or xs k None) → k < length xs
 within xs k h = elim (cases_lt k (length xs)) [
@@ -96,7 +117,8 @@ name_again f p fd (pos k) e d = by_test (same_number fd (pos k)) where
   by_test true = refl
   by_test false = refl
 
-pub others_left : OtherCallsLaw
+-- a call that makes no timer leaves each
+pub others_left : (limits : Limits) (f : Files) (p : ℕ) (busy : Bool) (call : Call) → HaveObjects f → MakesNoTimer call → (d : ℕ) → timer_in (files_call limits f p busy call).after d ≡ timer_in f d
 others_left limits f p busy (PipeCall cloexec) objects is d = two_other f (pipe (new_pipe limits.pipe_bytes)) p cloexec objects refl d
 others_left limits f p busy (SocketPair cloexec) objects is d = two_other f (pair (new_pair limits.sock_bytes)) p cloexec objects refl d
 others_left limits f p busy (EventFd init semaphore cloexec) objects is d = one_other f (counter (record { count = init; is_semaphore = semaphore })) p cloexec objects refl d
@@ -117,8 +139,11 @@ others_left limits f p busy (Shutdown fd) objects is d = absurd is
 others_left limits f p busy (SetTime fd absolute value interval) objects is d = absurd is
 others_left limits f p busy (GetTime fd) objects is d = absurd is
 
-pub timer_made : MadeLaw
+-- a new timer is what the next description shows
+pub timer_made : (limits : Limits) (f : Files) (p : ℕ) (busy : Bool) (clock : ℤ) (cloexec : Bool) → timer_in (files_call limits f p busy (TimerFd clock cloexec)).after (length f.descriptions) ≡ Some new_timer
 timer_made limits f p busy clock cloexec = one_is f (timer new_timer) p cloexec
 
-pub made_alone : MadeAloneLaw
+-- and no other changes
+pub made_alone : (limits : Limits) (f : Files) (p : ℕ) (busy : Bool) (clock : ℤ) (cloexec : Bool) → HaveObjects f
+    → (d : ℕ) → d ≢ length f.descriptions → timer_in (files_call limits f p busy (TimerFd clock cloexec)).after d ≡ timer_in f d
 made_alone limits f p busy clock cloexec objects d ne = one_made f (timer new_timer) p cloexec objects d ne

@@ -1,0 +1,68 @@
+//! The moment at which something happens next, as both kernels tell it while a timer runs and a caller is parked.
+
+use ep_base::Limits;
+use ep_kernel::ReadyKernel;
+use ep_plain::{Kernel, PlainKernel};
+use ep_text::read_line;
+use std::alloc::{AllocError, Global};
+use std::test::Fail;
+
+/// A timer expires once, 5 milliseconds after it was set, and a wait of 3 milliseconds ends before. Set anew it expires after 4
+/// milliseconds and then after each 2, but raises nothing while an expiration is unread; once closed it raises nothing.
+const SCRIPT: &str = "{\"op\":\"timerfd\",\"clock\":1}
+{\"op\":\"epoll\"}
+{\"op\":\"settime\",\"fd\":3,\"value\":5}
+{\"op\":\"wait\",\"by\":1,\"ep\":4,\"max\":1,\"timeout\":3}
+{\"op\":\"tick\",\"n\":3}
+{\"op\":\"resume\",\"by\":1}
+{\"op\":\"tick\",\"n\":2}
+{\"op\":\"settime\",\"fd\":3,\"value\":4,\"interval\":2}
+{\"op\":\"tick\",\"n\":4}
+{\"op\":\"read\",\"fd\":3,\"n\":8}
+{\"op\":\"close\",\"fd\":3}
+";
+
+/// The next moment after each line.
+const MOMENTS: [Option<u64>; 11] = [
+    None,
+    None,
+    Some(5),
+    Some(3),
+    Some(5),
+    Some(5),
+    None,
+    Some(9),
+    None,
+    Some(11),
+    None,
+];
+
+/// The place of the first line after which the kernel tells another moment.
+fn first_wrong<K: Kernel>(alloc: Global, kernel: &mut K) -> Result<Option<usize>, AllocError> {
+    for (place, (line, moment)) in SCRIPT.lines().zip(MOMENTS.iter()).enumerate() {
+        let Some((caller, event)) = read_line(alloc, line.as_bytes())? else {
+            return Ok(Some(place));
+        };
+        let _answer = kernel.step(caller, event);
+        if kernel.next_moment() != *moment {
+            return Ok(Some(place));
+        }
+    }
+    Ok(None)
+}
+
+#[test]
+fn the_scanning_kernel_tells_the_next_moment(rt: HostRuntime) -> Result<(), Fail> {
+    let alloc = rt.alloc();
+    let mut kernel = PlainKernel::new(alloc, Limits::default())?;
+    assert_eq!(rt; first_wrong(alloc, &mut kernel)?, None);
+    Ok(())
+}
+
+#[test]
+fn the_kernel_with_ready_lists_tells_the_next_moment(rt: HostRuntime) -> Result<(), Fail> {
+    let alloc = rt.alloc();
+    let mut kernel = ReadyKernel::new(alloc, Limits::default())?;
+    assert_eq!(rt; first_wrong(alloc, &mut kernel)?, None);
+    Ok(())
+}
