@@ -1,7 +1,7 @@
 -- Which instances an event leaves to be marked: those that it reached, and the one that it attends.
-use Rattle.std.proofs.Common.{◌≡◌, ◌∙◌, ◌+◌, ◌&&◌, ◌||◌, ◌==◌, ◌⊎◌, ◌++◌, ℕ, All, Bool, true, false, IsSome, List, [], ◌∷◌, None, Option, Some, ap, inl, inr, is_some, length, map, refl, slice_index_or, subst, sym, unwrap_or}
+use Rattle.std.proofs.Common.{◌≡◌, ◌∙◌, ◌+◌, ◌&&◌, ◌||◌, ◌==◌, ◌++◌, ℕ, All, Bool, true, false, IsSome, List, [], ◌∷◌, None, Option, Some, ap, inl, inr, is_some, length, map, refl, slice_index_or, subst, sym, unwrap_or}
 use Rattle.std.specs.Int.{bit_at}
-use Rattle.std.specs.List.{find, list_any}
+use Rattle.std.specs.List.{find}
 use Rattle.std.specs.Option.{option_map}
 use Rattle.std.specs.Prelude.{MatchOption}
 use Rattle.std.proofs.lemmas.Bool.{cases_Bool, false≢true}
@@ -59,13 +59,13 @@ use Rattle.ep_machine.specs.Refusal.{refusals}
 use Rattle.ep_machine.specs.Spread.{raised_of}
 use Rattle.ep_machine.specs.State.{Change, State, Waiter}
 use Rattle.ep_machine.specs.Step.{change, next_event, step}
-use Rattle.ep_machine.specs.Waits.{is_due, is_marked_at, marked_if_due, resume, waiter_of, waits_at}
+use Rattle.ep_machine.specs.Waits.{is_due, is_marked_at, marked_if_due, resume, waits_at}
 use Rattle.ep_order.proofs.MarkLemmas.{instance_of_kind, waiter_there}
 use Rattle.ep_order.specs.Event.{ListsGoOn, end_of}
 use Rattle.ep_order.specs.Mark.{ResumesAt, UnmarkedAreReached, is_reached_by}
 use Rattle.ep_park.specs.Waiters.{is_caller}
 use Rattle.ep_ready.specs.ReadyLists.{IsSound as AreSoundLists, Lists}
-use Rattle.ep_table.specs.Value.{KeepsKeys, Seen, Sound as SoundTables, content_of, number_of, number_under as desc_number}
+use Rattle.ep_table.specs.Value.{Seen, Sound as SoundTables, number_of, number_under as desc_number}
 use Rattle.ep_view.proofs.AtRestLemmas.{quiet_begun, quiet_change}
 use Rattle.ep_view.proofs.KernelViewLemmas.{ready_kept}
 use Rattle.ep_view.proofs.SettleLemmas.{settle_changed}

@@ -1,8 +1,7 @@
 -- What watches an instance that a walk reached is fresh.
-use Rattle.std.proofs.Common.{◌≡◌, ◌∙◌, ◌==◌, ◌&&◌, ◌||◌, ◌++◌, ◌<◌, ◌+◌, ℕ, All, Bool, true, false, IsSome, List, [], ◌∷◌, ap, cond, get_or, inl, inr, is_some, length, map, refl, sym, take, unwrap_or}
+use Rattle.std.proofs.Common.{◌≡◌, ◌∙◌, ◌==◌, ◌&&◌, ◌||◌, ◌++◌, ◌<◌, ◌+◌, ℕ, Bool, true, false, List, [], ◌∷◌, ap, get_or, inl, inr, length, map, refl, take, unwrap_or}
 use Rattle.std.proofs.lemmas.List.{map_more}
 use Rattle.ep_base.specs.declared.ids.DescId.{DescId}
-use Rattle.ep_calls.specs.Climb.{Climbs, is_nested_key}
 use Rattle.ep_calls.specs.Stands.{AreLinked, IsLinked, number_at, watch_at}
 use Rattle.ep_interest.specs.Registrations.{Registrations, settled}
 use Rattle.ep_interest.specs.declared.entry.Entry.{Entry}
@@ -15,9 +14,9 @@ use Rattle.ep_machine.specs.Files.{object_of}
 use Rattle.ep_machine.specs.Lists.{is_among}
 use Rattle.ep_machine.specs.Objects.{is_instance, plain}
 use Rattle.ep_plain.proofs.ClimbLemmas.{among_keys, climbs_on}
-use Rattle.ep_plain.specs.Climb.{climbs_to, is_reached_key}
-use Rattle.ep_table.specs.Value.{Seen, number_under}
-use Rattle.ep_view.specs.KernelView.{KernelWatch, climbed, climbed_all, reached_now}
+use Rattle.ep_plain.specs.Climb.{is_reached_key}
+use Rattle.ep_table.specs.Value.{Seen}
+use Rattle.ep_view.specs.KernelView.{climbed, climbed_all, reached_now}
 
 abbrev pub desc_ids : List ℕ → List DescId
 desc_ids ks = map (λ (k : ℕ). record { 0 = k }) ks

@@ -24,6 +24,7 @@ pub mod NextLemmas
 pub mod RunLemmas
 pub mod AreLookedAtLemmas
 pub mod SettledLemmas
+pub mod AskedLemmas
 pub mod ReadinessLemmas
 pub mod MarkLemmas
 pub mod TimersLemmas

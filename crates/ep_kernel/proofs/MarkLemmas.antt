@@ -9,7 +9,9 @@ use Rattle.ep_calls.proofs.HoldLemmas.{held_same, place, placed_same}
 use Rattle.ep_calls.specs.Parking.{ready_key}
 use Rattle.ep_calls.specs.Parts.{AreCoherent, Parts}
 use Rattle.ep_calls.specs.Stands.{ArePlaced, IsPlaced}
+use Rattle.ep_kernel.specs.Asked.{AreTrue}
 use Rattle.ep_kernel.specs.Listed.{IsListed}
+use Rattle.ep_kernel.specs.declared.asked.Asked.{Asked}
 use Rattle.ep_kernel.specs.Mark.{AreLookedAt, attended, marked_where}
 use Rattle.ep_law.proofs.ListLemmas.{among, among_member, filtered_passes, member_filter}
 use Rattle.ep_law.proofs.TestLemmas.{from_test}
@@ -28,6 +30,13 @@ with_parked p ws = record p { parked = ws }
 
 pub listed_marked : (p : Parts) (l : Lists) (ws : List Waiter) → IsListed p l → IsListed (with_parked p ws) l
 listed_marked p l ws h = record { places = h.places; sound = h.sound; complete = h.complete }
+
+-- nor do the answers of instances
+pub true_marked : (p q : Parts) (ws : List Waiter) (a : Asked) → q ≡ with_parked p ws → AreTrue p a → AreTrue q a
+true_marked p q ws a is h = subst (λ (r : Parts). AreTrue r a) (sym is) h
+
+pub true_unmarked : (p q : Parts) (ws : List Waiter) (a : Asked) → q ≡ with_parked p ws → AreTrue q a → AreTrue p a
+true_unmarked p q ws a is h = subst (λ (r : Parts). AreTrue r a) is h
 
 -- Marks leave the rest of a waiter.
 first_places : (e : ℕ) (ws : List Waiter) → map place (first_marked e ws) ≡ map place ws

@@ -1,10 +1,9 @@
 -- What a walk reaches is what IN reaches.
-use Rattle.std.proofs.Common.{◌≡◌, ◌∙◌, ◌==◌, ◌&&◌, ◌⊎◌, ◌↔◌, ℕ, zero, suc, All, Bool, true, false, Contains, IsSome, List, [], ◌∷◌, None, Option, Some, ap, cond, filter, inl, inr, is_some, map, nat_lt, refl, subst, sym, unwrap_or}
+use Rattle.std.proofs.Common.{◌≡◌, ◌∙◌, ◌==◌, ◌&&◌, ◌⊎◌, ◌↔◌, ℕ, zero, suc, All, Bool, true, false, Contains, List, [], ◌∷◌, None, Option, Some, ap, cond, filter, inl, inr, is_some, map, nat_lt, refl, subst, sym}
 use Rattle.std.proofs.lemmas.Bool.{cases_Bool}
 use Rattle.std.proofs.lemmas.List.Elements.{All-contains, All-from_recursion}
 use Rattle.std.specs.Option.{option_map}
 use Rattle.ep_base.specs.declared.ids.DescId.{DescId}
-use Rattle.ep_base.specs.declared.ids.EntryId.{EntryId}
 use Rattle.ep_calls.proofs.EntryKeyLemmas.{each_keyed}
 use Rattle.ep_calls.proofs.FindLemmas.{each_numbered}
 use Rattle.ep_calls.proofs.GraphLemmas.{Lives, number, numbers_apart}
@@ -15,7 +14,7 @@ use Rattle.ep_interest.specs.declared.entry.Entry.{Entry}
 use Rattle.ep_kernel.proofs.EntryLemmas.{holds_under}
 use Rattle.ep_kernel.proofs.ViewLemmas.{entry_views, mapped_from, same_bools, view_member}
 use Rattle.ep_kernel.specs.Listed.{HavePlaces}
-use Rattle.ep_kernel.specs.Reach.{AreHome, AreReached, IsFrom, PassesTo, Walks, open_edges, passed_by}
+use Rattle.ep_kernel.specs.Reach.{AreHome, AreReached, IsFrom, Walks, open_edges, passed_by}
 use Rattle.ep_law.proofs.ListLemmas.{all_member}
 use Rattle.ep_law.proofs.TestLemmas.{both_true}
 use Rattle.ep_law.specs.Laws.{Member}

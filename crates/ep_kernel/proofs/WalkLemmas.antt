@@ -1,13 +1,12 @@
 -- A walk that reaches instances, one after another.
-use Rattle.std.proofs.Common.{◌≡◌, ◌≢◌, ◌<◌, ◌+◌, ◌++◌, ◌||◌, ◌==◌, ◌⊎◌, ◌↔◌, ◌∙◌, ℕ, zero, suc, Bool, true, false, Contains, List, [], ◌∷◌, None, Option, Some, ap, append-nil, arith, cond, get_or, inl, inr, length, map, nat_eq, nat_lt, refl, rules, subst, sym, take}
+use Rattle.std.proofs.Common.{◌≡◌, ◌<◌, ◌+◌, ◌++◌, ◌||◌, ◌==◌, ◌⊎◌, ◌↔◌, ◌∙◌, ℕ, zero, suc, Bool, true, false, List, [], ◌∷◌, None, Option, Some, ap, arith, cond, get_or, inl, inr, length, nat_eq, nat_lt, refl, rules, subst, sym, take}
 use Rattle.std.proofs.lemmas.Bool.{cases_Bool, cases_eq, false≢true}
-use Rattle.std.proofs.lemmas.List.Elements.{All-contains}
 use Rattle.std.specs.List.{All}
 use Rattle.ep_base.specs.declared.ids.DescId.{DescId}
 use Rattle.ep_base.specs.declared.ids.EntryId.{EntryId}
 use Rattle.ep_interest.specs.Passes.{has_id, passes_on}
 use Rattle.ep_interest.specs.declared.entry.Entry.{Entry}
-use Rattle.ep_interest.specs.Registrations.{Registrations, entry_under, lets_in}
+use Rattle.ep_interest.specs.Registrations.{Registrations, entry_under}
 use Rattle.ep_law.proofs.TestLemmas.{from_test, or_left, or_right, same_test}
 use Rattle.ep_machine.specs.Lists.{is_among}
 use Rattle.ep_nest.proofs.ChainLemmas.{joined}

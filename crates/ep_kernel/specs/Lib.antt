@@ -1,6 +1,7 @@
 pub mod ReadyBook
 pub mod Listed
 pub mod Readiness
+pub mod Asked
 pub mod Choose
 pub mod Mark
 pub mod Take

@@ -6,7 +6,7 @@ use Rattle.ep_base.specs.declared.ids.EntryId.{EntryId}
 use Rattle.ep_calls.specs.Climb.{is_nested_key}
 use Rattle.ep_calls.specs.Parts.{Parts}
 use Rattle.ep_interest.specs.Passes.{has_id}
-use Rattle.ep_interest.specs.Registrations.{Registrations, entry_under, ids, is_on, lets_in}
+use Rattle.ep_interest.specs.Registrations.{entry_under, ids, is_on, lets_in}
 use Rattle.ep_interest.specs.declared.entry.Entry.{Entry}
 use Rattle.ep_kernel.specs.Listed.{may_stand}
 use Rattle.ep_machine.specs.Lists.{is_among}

@@ -12,6 +12,7 @@ ghost use Rattle.ep_machine.specs.Files.{table_of};
 ghost use Rattle.ep_park.specs.Waiters.{is_caller};
 ghost use Rattle.ep_ready.specs.ReadyLists.{Same};
 
+use crate::asked::Asked;
 use crate::control::epoll_ctl;
 use crate::wait::{epoll_wait, resume};
 use ep_base::{Call, CallerId, Errno, Event, Pid};
@@ -21,10 +22,10 @@ use std::alloc::AllocError;
 
 /// The number of an event, who makes it, and whether a second record of it is asked for.
 #[derive(Clone, Copy)]
-struct Request {
-    step: u64,
-    caller: CallerId,
-    kept: bool,
+pub struct Request {
+    pub step: u64,
+    pub caller: CallerId,
+    pub kept: bool,
 }
 
 /// A call of a process that is there.
@@ -32,6 +33,7 @@ struct Request {
 fn make_call(
     parts: &mut Parts,
     lists: &mut ReadyLists,
+    asked: &mut Asked,
     request: Request,
     pid: Pid,
     call: &Call,
@@ -70,7 +72,7 @@ fn make_call(
                 mask,
                 tag,
             };
-            epoll_ctl(parts, lists, pid, args)
+            epoll_ctl(parts, lists, asked, pid, args)
         }
         Call::EpollWait { epfd, max, timeout } => {
             let args = Wait {
@@ -80,7 +82,7 @@ fn make_call(
                 timeout,
                 kept: request.kept,
             };
-            epoll_wait(parts, lists, request.step, request.caller, args)
+            epoll_wait(parts, lists, asked, request.step, request.caller, args)
         }
         Call::Read { fd, .. }
         | Call::Write { fd, .. }
@@ -92,29 +94,29 @@ fn make_call(
 }
 
 /// One event: its refusal, ESRCH first for a call, or its change, and what that does to the ready lists before anything
-/// climbs. `kept`: a second record of it is asked for.
+/// climbs.
 /// A refusal and an `Err`, which is want of memory, leave the parts and the lists.
 pub fn act(
     parts: &mut Parts,
     lists: &mut ReadyLists,
-    step: u64,
-    caller: CallerId,
+    asked: &mut Asked,
+    request: Request,
     event: &Event,
-    kept: bool,
 ) -> Result<Outcome, AllocError>
     requires { IsListed parts.old lists.old }
     ensures ok { IfOk result
-        (λ outcome. DoesEventFairly lists.old step caller.0 event.now outcome parts.old parts.new) }
+        (λ outcome. DoesEventFairly lists.old request.step request.caller.0 event.now outcome
+        parts.old parts.new) }
     ensures tables { IfOk result
         (λ outcome. TouchesTables event.now outcome.answer parts.old parts.new) }
     ensures clock { IfOk result
         (λ outcome. MovesClock event.now outcome.raising parts.old.clock parts.new.clock) }
-    ensures kept { IfOk result (λ outcome. KeepsEvent event.now kept outcome) }
+    ensures kept { IfOk result (λ outcome. KeepsEvent event.now request.kept outcome) }
     ensures turns { IfOk result
         (λ outcome. Turns event.now outcome.picked parts.old lists.old parts.new lists.new) }
     ensures order { IfOk result
-        (λ outcome. ReportsInOrder lists.old step caller.0 event.now outcome parts.old parts.new
-        lists.new) }
+        (λ outcome. ReportsInOrder lists.old request.step request.caller.0 event.now outcome
+        parts.old parts.new lists.new) }
     ensures err { OnErr result ((parts.new ≡ parts.old) × Same lists.old lists.new) }
 {
     match event {
@@ -122,13 +124,21 @@ pub fn act(
             if !parts.tables.has_process(*pid) {
                 return Ok(Outcome::refused(parts.alloc, Errno::Esrch));
             }
-            if parts.waiters.is_parked(caller) {
+            if parts.waiters.is_parked(request.caller) {
                 return Ok(Outcome::refused(parts.alloc, Errno::Ebusy));
             }
-            let request = Request { step, caller, kept };
-            make_call(parts, lists, request, *pid, call)
+            make_call(parts, lists, asked, request, *pid, call)
         }
-        Event::Resume => resume(parts, lists, step, caller, kept),
+        Event::Resume => {
+            resume(
+                parts,
+                lists,
+                asked,
+                request.step,
+                request.caller,
+                request.kept,
+            )
+        }
         Event::Tick { n } => Ok(parts.tick(*n)),
     }
 }

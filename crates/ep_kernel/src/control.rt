@@ -11,6 +11,7 @@ ghost use Rattle.ep_kernel.specs.Timers.{LeavesFiles};
 ghost use Rattle.ep_kernel.specs.Turns.{Turns};
 ghost use Rattle.ep_ready.specs.ReadyLists.{Same, instance_at};
 
+use crate::asked::Asked;
 use ep_base::{EntryId, Pid};
 use ep_calls::{Control, Operation, Outcome, Parts, Plan, Raising};
 use ep_interest::Interest;
@@ -63,10 +64,12 @@ fn alter(
     Ok(outcome)
 }
 
-/// Adds a registration that is not there, with its place. An `Err` is want of memory and leaves both.
+/// Adds a registration that is not there, with its place, and makes room for what its instance answers. An `Err` is want of memory
+/// and leaves the parts and the lists.
 fn add(
     parts: &mut Parts,
     lists: &mut ReadyLists,
+    asked: &mut Asked,
     pid: Pid,
     args: Control,
     plan: Plan,
@@ -88,6 +91,7 @@ fn add(
     parts.interest.known();
     lists.known();
     let id = parts.interest.next_key();
+    asked.make_room(plan.named.instance)?;
     lists.make_place(plan.named.instance, id)?;
     let outcome = match parts.control(pid, args, plan) {
         Ok(outcome) => outcome,
@@ -106,6 +110,7 @@ fn add(
 fn enter(
     parts: &mut Parts,
     lists: &mut ReadyLists,
+    asked: &mut Asked,
     pid: Pid,
     args: Control,
     plan: Plan,
@@ -123,7 +128,7 @@ fn enter(
     ensures err { OnErr result ((parts.new ≡ parts.old) × Same lists.old lists.new) }
 {
     match plan.operation {
-        Operation::Add => add(parts, lists, pid, args, plan),
+        Operation::Add => add(parts, lists, asked, pid, args, plan),
         Operation::Delete => parts.control(pid, args, plan),
         Operation::Modify => parts.control(pid, args, plan),
     }
@@ -135,6 +140,7 @@ fn enter(
 pub fn epoll_ctl(
     parts: &mut Parts,
     lists: &mut ReadyLists,
+    asked: &mut Asked,
     pid: Pid,
     args: Control,
 ) -> Result<Outcome, AllocError>
@@ -154,6 +160,6 @@ pub fn epoll_ctl(
     };
     match plan.found {
         Some(id) => alter(parts, lists, pid, args, plan, id),
-        None => enter(parts, lists, pid, args, plan),
+        None => enter(parts, lists, asked, pid, args, plan),
     }
 }

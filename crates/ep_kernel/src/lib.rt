@@ -2,6 +2,7 @@
 #![tactic(auto)]
 
 mod act;
+mod asked;
 mod choose;
 mod climb;
 mod control;

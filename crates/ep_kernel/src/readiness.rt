@@ -1,12 +1,15 @@
-//! What registrations show, looking down along the ready lists of the instances below.
-ghost use Rattle.std.specs.Prelude.{◌≡◌, ◌≤◌, IfSome, IsSome};
+//! What registrations show, looking down along the ready lists of the instances below. Each of these is asked once, and then its
+//! answer is known.
+ghost use Rattle.std.specs.Prelude.{◌≡◌, IfSome, IsSome};
 ghost use Rattle.ep_calls.specs.Parking.{ready_key};
 ghost use Rattle.ep_calls.specs.Readiness.{entry_bits, readiness as readiness_of};
 ghost use Rattle.ep_interest.specs.Registrations.{entry_under};
+ghost use Rattle.ep_kernel.specs.Asked.{AreTrue};
 ghost use Rattle.ep_kernel.specs.Listed.{IsListed};
-ghost use Rattle.ep_kernel.specs.Readiness.{found_shows, is_ready_by, nested_found};
+ghost use Rattle.ep_kernel.specs.Readiness.{EndsWithin, found_shows, nested_found};
 ghost use Rattle.ep_table.specs.Value.{number_under};
 
+use crate::asked::Asked;
 use ep_base::{DescId, EntryId, LONGEST_CHAIN, Mask};
 use ep_calls::{Parts, is_reportable, shown_at};
 use ep_interest::Entry;
@@ -36,50 +39,70 @@ fn shows_over(parts: &Parts, id: EntryId, below: bool) -> bool
     is_reportable(entry, shown_at(&parts.tables, parts.clock, entry, below))
 }
 
-/// Whether something is reportable at an instance, looking down through at most so many instances.
-/// The time grows with what stands on the lists of it and of those below, up to the first that is reportable.
-fn is_ready_within(parts: &Parts, lists: &ReadyLists, instance: DescId, levels: u8) -> bool
+/// Whether something is reportable at an instance from which fewer than so many links lead down in turn, and its answer is noted.
+/// The time grows with what stands on the lists of it and of those below whose answers are not known, on each up to the first that
+/// is reportable.
+fn is_ready_within(
+    parts: &Parts,
+    lists: &ReadyLists,
+    asked: &mut Asked,
+    instance: DescId,
+    links: u8,
+) -> bool
     requires live { IsSome (number_under parts.now.tables instance) }
     requires listed { IsListed parts.now lists.now }
-    requires few { levels ≤ LONGEST_CHAIN }
-    ensures { result ≡ is_ready_by levels parts.now instance }
+    requires ends { EndsWithin links parts.now instance }
+    requires told { AreTrue parts.now asked.old }
+    ensures ready { result ≡ ready_key parts.now.tables parts.now.clock parts.now.interest instance.0 }
+    ensures told { AreTrue parts.now asked.new }
 {
-    if levels == 0 {
-        return false;
+    if let Some(ready) = asked.answer(instance) {
+        return ready;
     }
     parts.known();
     parts.interest.known();
+    parts.graph.known();
     lists.known();
     for id in lists.iter(instance) {
         let below = match watched_instance(parts, id) {
-            Some(inner) => is_ready_within(parts, lists, inner, levels - 1),
+            Some(inner) => is_ready_within(parts, lists, asked, inner, links - 1),
             None => false,
         };
         if shows_over(parts, id, below) {
+            asked.note(instance, true);
             return true;
         }
     }
+    asked.note(instance, false);
     false
 }
 
-/// Whether something is reportable at an instance. Only what stands on its list and on those of the instances below is looked at.
-pub fn is_ready(parts: &Parts, lists: &ReadyLists, instance: DescId) -> bool
+/// Whether something is reportable at an instance, and its answer is noted. Only what stands on its list and on those of the
+/// instances below is looked at, each place at most once, and nothing where its answer is known.
+pub fn is_ready(parts: &Parts, lists: &ReadyLists, asked: &mut Asked, instance: DescId) -> bool
     requires live { IsSome (number_under parts.now.tables instance) }
     requires listed { IsListed parts.now lists.now }
-    ensures { result ≡ ready_key parts.now.tables parts.now.clock parts.now.interest instance.0 }
+    requires told { AreTrue parts.now asked.old }
+    ensures ready { result ≡ ready_key parts.now.tables parts.now.clock parts.now.interest instance.0 }
+    ensures told { AreTrue parts.now asked.new }
 {
-    is_ready_within(parts, lists, instance, LONGEST_CHAIN)
+    parts.graph.known();
+    is_ready_within(parts, lists, asked, instance, LONGEST_CHAIN)
 }
 
-/// The bits that a registration shows. Of the instances below only what stands on their lists is looked at.
-pub fn shown(parts: &Parts, lists: &ReadyLists, entry: &Entry) -> Mask
+/// The bits that a registration shows. Of the instances below only what stands on their lists is looked at, and of those whose
+/// answers are known nothing.
+pub fn shown(parts: &Parts, lists: &ReadyLists, asked: &mut Asked, entry: &Entry) -> Mask
     requires target { IsSome (number_under parts.now.tables entry.now.desc) }
     requires listed { IsListed parts.now lists.now }
-    ensures { result.0 ≡ entry_bits
+    requires told { AreTrue parts.now asked.old }
+    ensures bits { result.0 ≡ entry_bits
         (readiness_of parts.now.tables parts.now.clock parts.now.interest) parts.now.tables
         parts.now.clock entry.now }
+    ensures told { AreTrue parts.now asked.new }
 {
     parts.known();
-    let below = parts.tables.object(entry.desc).is_instance() && is_ready(parts, lists, entry.desc);
+    let below = parts.tables.object(entry.desc).is_instance()
+        && is_ready(parts, lists, asked, entry.desc);
     shown_at(&parts.tables, parts.clock, entry, below)
 }

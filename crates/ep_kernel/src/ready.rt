@@ -8,7 +8,8 @@ ghost use Rattle.ep_machine.specs.Files.{object_of};
 ghost use Rattle.ep_machine.specs.Lists.{are_distinct, is_among};
 ghost use Rattle.ep_view.specs.AtRest.{IsSteady, kind_of};
 
-use crate::act::act;
+use crate::act::{Request, act};
+use crate::asked::Asked;
 use crate::mark::{attend, mark, resumed_at};
 use crate::settle::{know, settle};
 use crate::timers::{follow, make_room};
@@ -29,6 +30,8 @@ pub struct ReadyKernel {
     parts: Parts,
     lists: ReadyLists,
     alarms: Alarms,
+    // The answers of instances in the course of an event. Between two events they say nothing.
+    asked: Asked,
     history: Vec<Record>,
 }
 
@@ -56,6 +59,7 @@ impl ReadyKernel {
             parts: Parts::new(alloc, limits)?,
             lists: ReadyLists::new(alloc),
             alarms: Alarms::new(alloc),
+            asked: Asked::new(alloc),
             history: Vec::new(alloc),
         })
     }
@@ -108,7 +112,14 @@ impl ReadyKernel {
         know(&self.parts);
         self.lists.known();
         let resumed = resumed_at(&self.parts, caller, &event);
-        let outcome = act(&mut self.parts, &mut self.lists, step, caller, &event, kept)?;
+        let request = Request { step, caller, kept };
+        let outcome = act(
+            &mut self.parts,
+            &mut self.lists,
+            &mut self.asked,
+            request,
+            &event,
+        )?;
         follow(&self.parts, &mut self.alarms, &event, &outcome);
         let Outcome {
             answer,
@@ -126,7 +137,8 @@ impl ReadyKernel {
             raising,
         );
         self.lists.known();
-        mark(&mut self.parts, &self.lists, attend(resumed, raising));
+        let attended = attend(resumed, raising);
+        mark(&mut self.parts, &self.lists, &mut self.asked, attended);
         self.history.push_reserved(Record {
             caller,
             event,

@@ -12,6 +12,7 @@ ghost use Rattle.ep_machine.specs.Waits.{is_positive};
 ghost use Rattle.ep_machine.specs.Watches.{number_in};
 ghost use Rattle.ep_park.specs.Waiters.{is_caller};
 
+use crate::asked::Asked;
 use crate::choose::choose;
 use crate::take::take;
 use ep_base::{Answer, CallerId, Errno};
@@ -35,6 +36,7 @@ fn most(max: i32) -> usize
 pub fn epoll_wait(
     parts: &mut Parts,
     lists: &mut ReadyLists,
+    asked: &mut Asked,
     step: u64,
     caller: CallerId,
     args: Wait,
@@ -62,7 +64,7 @@ pub fn epoll_wait(
     parts.known();
     parts.interest.known();
     lists.known();
-    let found = choose(parts, lists, instance, most(args.max))?;
+    let found = choose(parts, lists, asked, instance, most(args.max))?;
     let outcome = parts.wait_with(step, caller, args, instance, &found.reportables)?;
     take(&parts.interest, lists, instance, found.walked, step);
     Ok(outcome)
@@ -76,6 +78,7 @@ pub fn epoll_wait(
 pub fn resume(
     parts: &mut Parts,
     lists: &mut ReadyLists,
+    asked: &mut Asked,
     step: u64,
     caller: CallerId,
     kept: bool,
@@ -102,7 +105,7 @@ pub fn resume(
     parts.known();
     parts.interest.known();
     lists.known();
-    let found = choose(parts, lists, waiter.instance, most(waiter.max))?;
+    let found = choose(parts, lists, asked, waiter.instance, most(waiter.max))?;
     let outcome = parts.resume_with(step, caller, waiter, &found.reportables, kept)?;
     take(&parts.interest, lists, waiter.instance, found.walked, step);
     Ok(outcome)

@@ -6,3 +6,4 @@ mod ready;
 mod walk;
 
 pub use crate::ready::ReadyLists;
+pub use crate::walk::Walk;

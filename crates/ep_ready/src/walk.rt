@@ -1,13 +1,13 @@
 //! Which instances a walk has reached.
 ghost use Rattle.std.specs.Prelude.{◌≡◌, ◌+◌, ◌<◌, ◌≤◌, [], length, not, OnOk, Some, slice_get, true, vec_capacity};
 ghost use Rattle.ep_machine.specs.Lists.{are_distinct, is_among};
-ghost use Rattle.ep_ready.specs.Walk.{IsWalk, with_reached};
+ghost use Rattle.ep_ready.specs.Walk.{IsWalk, with_noted, with_reached};
 
 use std::alloc::{AllocError, Allocator};
 use std::marker::Model;
 
 /// The instances that a walk has reached, by their keys, in the order in which it reached them. Reaching one takes no memory, since
-/// `make_room` took it.
+/// `make_room` took it. Each call but `make_room` and `forget` takes constant time.
 #[derive(Drop)]
 pub struct Walk<A: Allocator> {
     marks: Vec<bool, A>,
@@ -114,6 +114,31 @@ impl<A: Allocator> Walk<A> {
         self.marks[instance] = true;
         self.reached.push_reserved(instance);
         true
+    }
+
+    /// Below which key an instance has room.
+    pub fn room(&self) -> usize
+        ensures { result ≡ self.now.room }
+    {
+        let _reached = &self.reached;
+        self.marks.len()
+    }
+
+    /// Reaches an instance where there is room for it, and else does nothing.
+    pub fn note(&mut self, instance: usize)
+        ensures { self.new ≡ with_noted self.old instance }
+    {
+        if instance < self.room() {
+            self.reach(instance);
+        }
+    }
+
+    /// Whether the walk has reached an instance.
+    pub fn has(&self, instance: usize) -> bool
+        ensures { result ≡ is_among self.now.reached instance }
+    {
+        let _reached = &self.reached;
+        self.marks.get(instance).copied().unwrap_or(false)
     }
 
     /// How many instances the walk has reached.

@@ -36,32 +36,32 @@ returns-then-is_parked-clause-ok c =
     let k = c.parts.inside in
     let p : Parts = record { tables = k.tables; interest = k.interest; graph = k.graph; parked = k.waiters; clock = k.clock } in
     let e = c.refused-then-is_parked.ensures in
-    let caller = c.args.caller.0 in
+    let caller = c.args.request.caller.0 in
     let event : Event = CallOf c.in-Call.pid c.in-Call.call in
     let fair : State → Type 0 = λ s. AreFair s p c.args.lists.now in
     rw (← c.parts.view_is, c.in-Call.is)
-    (event_does_if fair c.args.step caller event c.refused-then-is_parked.result p p
-    (refused_does p c.args.step caller event Ebusy c.refused-then-is_parked.result (busy p caller c.in-Call.pid c.in-Call.call (sym c.has_process.ensures ∙ c.if-not-has_process.false) (sym c.is_parked.ensures ∙ c.if-is_parked.true)) e.answer e.picked e.raising))
+    (event_does_if fair c.args.request.step caller event c.refused-then-is_parked.result p p
+    (refused_does p c.args.request.step caller event Ebusy c.refused-then-is_parked.result (busy p caller c.in-Call.pid c.in-Call.call (sym c.has_process.ensures ∙ c.if-not-has_process.false) (sym c.is_parked.ensures ∙ c.if-is_parked.true)) e.answer e.picked e.raising))
 
 pub returns-else-is_parked-clause-ok : goal.returns-else-is_parked-clause-ok
 returns-else-is_parked-clause-ok c =
     let pid = c.in-Call.pid in
-    let caller = c.args.caller.0 in
+    let caller = c.args.request.caller.0 in
     let p = c.args.parts.now in
     let fair : State → Type 0 = λ s. AreFair s p c.args.lists.now in
     let there = subst (λ (q : Parts). is_some (table_of q.tables.files pid.0) ≡ true) c.parts.view_is (sym c.has_process.ensures ∙ c.if-not-has_process.false) in
     let free = subst (λ (q : Parts). list_any (is_caller caller) q.parked ≡ false) c.parts.view_is (sym c.is_parked.ensures ∙ c.if-is_parked.false) in
-    IfOk-weaker c.make_call.result _ _ (λ outcome does. subst (λ (event : Event). DoesEventIf fair c.args.step caller event outcome p c.make_call.new.parts) (sym c.in-Call.is)
-    (past_does_if p caller pid c.in-Call.call there fair c.args.step c.make_call.new.parts outcome free does)) c.make_call.ensures.ok
+    IfOk-weaker c.make_call.result _ _ (λ outcome does. subst (λ (event : Event). DoesEventIf fair c.args.request.step caller event outcome p c.make_call.new.parts) (sym c.in-Call.is)
+    (past_does_if p caller pid c.in-Call.call there fair c.args.request.step c.make_call.new.parts outcome free does)) c.make_call.ensures.ok
 
 pub returns-in-Tick-clause-ok : goal.returns-in-Tick-clause-ok
 returns-in-Tick-clause-ok c =
     let p = c.args.parts.now in
     let e = c.tick.ensures in
     let fair : State → Type 0 = λ s. AreFair s p c.args.lists.now in
-    event_does_if fair c.args.step c.args.caller.0 c.args.event.now c.tick.result p c.tick.new.self
-    (subst (λ (event : Event). DoesEvent c.args.step c.args.caller.0 event c.tick.result p c.tick.new.self) (sym c.in-Tick.is)
-    (subst (DoesEvent c.args.step c.args.caller.0 (Tick c.in-Tick.n) c.tick.result p) (sym e.others) (tick_does p c.args.step c.args.caller.0 c.in-Tick.n c.tick.result c.tick.new.self.clock e.ticks e.raising e.picked e.moment)))
+    event_does_if fair c.args.request.step c.args.request.caller.0 c.args.event.now c.tick.result p c.tick.new.self
+    (subst (λ (event : Event). DoesEvent c.args.request.step c.args.request.caller.0 event c.tick.result p c.tick.new.self) (sym c.in-Tick.is)
+    (subst (DoesEvent c.args.request.step c.args.request.caller.0 (Tick c.in-Tick.n) c.tick.result p) (sym e.others) (tick_does p c.args.request.step c.args.request.caller.0 c.in-Tick.n c.tick.result c.tick.new.self.clock e.ticks e.raising e.picked e.moment)))
 
 pub returns-in-Tick-clause-turns : goal.returns-in-Tick-clause-turns
 returns-in-Tick-clause-turns c =
@@ -72,23 +72,23 @@ returns-in-Tick-clause-turns c =
     (subst (λ (event : Event). AlteredStand event p q l) (sym c.in-Tick.is) tt)
 
 pub returns-then-not-has_process-clause-order : goal.returns-then-not-has_process-clause-order
-returns-then-not-has_process-clause-order c = refused_reports c.args.lists.now c.args.step c.args.caller.0 c.args.event.now c.refused.result c.args.parts.now c.args.parts.now c.args.lists.now Esrch c.refused.ensures.answer
+returns-then-not-has_process-clause-order c = refused_reports c.args.lists.now c.args.request.step c.args.request.caller.0 c.args.event.now c.refused.result c.args.parts.now c.args.parts.now c.args.lists.now Esrch c.refused.ensures.answer
 
 pub returns-then-is_parked-clause-order : goal.returns-then-is_parked-clause-order
-returns-then-is_parked-clause-order c = refused_reports c.args.lists.now c.args.step c.args.caller.0 c.args.event.now c.refused-then-is_parked.result c.args.parts.now c.args.parts.now c.args.lists.now Ebusy c.refused-then-is_parked.ensures.answer
+returns-then-is_parked-clause-order c = refused_reports c.args.lists.now c.args.request.step c.args.request.caller.0 c.args.event.now c.refused-then-is_parked.result c.args.parts.now c.args.parts.now c.args.lists.now Ebusy c.refused-then-is_parked.ensures.answer
 
 pub returns-else-is_parked-clause-order : goal.returns-else-is_parked-clause-order
 returns-else-is_parked-clause-order c =
     let p = c.args.parts.now in
-    IfOk-weaker c.make_call.result _ _ (λ outcome told. subst (λ (event : Event). ReportsInOrder c.args.lists.now c.args.step c.args.caller.0 event outcome p c.make_call.new.parts c.make_call.new.lists) (sym c.in-Call.is) told) c.make_call.ensures.order
+    IfOk-weaker c.make_call.result _ _ (λ outcome told. subst (λ (event : Event). ReportsInOrder c.args.lists.now c.args.request.step c.args.request.caller.0 event outcome p c.make_call.new.parts c.make_call.new.lists) (sym c.in-Call.is) told) c.make_call.ensures.order
 
 pub returns-in-Tick-clause-order : goal.returns-in-Tick-clause-order
-returns-in-Tick-clause-order c = other_reports c.args.lists.now c.args.step c.args.caller.0 c.args.event.now c.tick.result c.args.parts.now c.tick.new.self c.args.lists.now (ap is_wait c.in-Tick.is)
+returns-in-Tick-clause-order c = other_reports c.args.lists.now c.args.request.step c.args.request.caller.0 c.args.event.now c.tick.result c.args.parts.now c.tick.new.self c.args.lists.now (ap is_wait c.in-Tick.is)
 
 pub returns-in-Resume-clause-order : goal.returns-in-Resume-clause-order
 returns-in-Resume-clause-order c =
     let p = c.args.parts.now in
-    IfOk-weaker c.resume.result _ _ (λ outcome told. subst (λ (event : Event). ReportsInOrder c.args.lists.now c.args.step c.args.caller.0 event outcome p c.resume.new.parts c.resume.new.lists) (sym c.in-Resume.is) told) c.resume.ensures.order
+    IfOk-weaker c.resume.result _ _ (λ outcome told. subst (λ (event : Event). ReportsInOrder c.args.lists.now c.args.request.step c.args.request.caller.0 event outcome p c.resume.new.parts c.resume.new.lists) (sym c.in-Resume.is) told) c.resume.ensures.order
 
 pub returns-then-not-has_process-clause-tables : goal.returns-then-not-has_process-clause-tables
 returns-then-not-has_process-clause-tables c =

@@ -1,21 +1,28 @@
-use Rattle.std.proofs.Common.{◌≡◌, ◌+◌, ◌<◌, ◌∙◌, ℕ, List, ap, arith, length, refl, rules, subst, sym, true}
+use Rattle.std.proofs.Common.{◌≡◌, ◌+◌, ◌<◌, ◌∙◌, List, arith, length, rules, subst, sym, true}
 use Rattle.ep_base.specs.declared.ids.EntryId.{EntryId}
 use Rattle.ep_calls.specs.declared.wait.Reportable.{Reportable}
+use Rattle.ep_calls.specs.Parking.{ready_key}
 use Rattle.ep_kernel.specs.Listed.{key_shows}
-use Rattle.ep_kernel.proofs.ChooseLemmas.{Finds, all_walked, finds_more, finds_none, finds_same, found_is, walked_less}
+use Rattle.ep_kernel.proofs.AskedLemmas.{true_forgotten}
+use Rattle.ep_kernel.proofs.ChooseLemmas.{Finds, finds_more, finds_none, finds_same, walked_less}
 use Rattle.ep_kernel.proofs.choose.choose.Goals as goal
 use Rattle.ep_ready.specs.ReadyLists.{list_at}
 
 pub loop-id-init : goal.loop-id-init
 loop-id-init c =
+    let p = c.args.parts.now in
     let keys = list_at c.args.lists.now c.args.instance.0 in
-    subst (λ (rest : List EntryId). Finds c.args.parts.now keys c.args.most c.new-reportables.result.items 0 rest) (sym (c.into_iter-id-iterator.ensures.into_iter_gives ∙ c.iter-id-items.ensures.exact))
-    (finds_none c.args.parts.now keys c.args.most c.new-reportables.result.items c.new-reportables.ensures.items)
+    record {
+      finds =
+          subst (λ (rest : List EntryId). Finds p keys c.args.most c.new-reportables.result.items 0 rest) (sym (c.into_iter-id-iterator.ensures.into_iter_gives ∙ c.iter-id-items.ensures.exact))
+          (finds_none p keys c.args.most c.new-reportables.result.items c.new-reportables.ensures.items);
+      told = true_forgotten (ready_key p.tables p.clock p.interest) c.forget.new.self c.forget.ensures.ready c.forget.ensures.idle;
+    }
 
 pub overflow_add-walked : goal.overflow_add-walked
 overflow_add-walked c =
     let keys = list_at c.args.lists.now c.args.instance.0 in
-    let f = subst (λ (rest : List EntryId). Finds c.args.parts.now keys c.args.most c.loop-id.reportables.items c.loop-id.walked rest) c.in-Some.ensures.steps c.loop-id.invariant in
+    let f = subst (λ (rest : List EntryId). Finds c.args.parts.now keys c.args.most c.loop-id.reportables.items c.loop-id.walked rest) c.in-Some.ensures.steps c.loop-id.invariant.finds in
     let less = walked_less c.args.parts.now keys c.args.most c.loop-id.reportables.items c.loop-id.walked c.in-Some.id c.next.new.self f in
     let bound : c.len-length.result < 18446744073709551616 = search rules in
     omega (arith, less, c.len-length.ensures, bound)
@@ -27,11 +34,15 @@ loop-id-preserved-in-Continue-1 c =
     let most = c.args.most in
     let found = c.loop-id.reportables.items in
     let n = c.loop-id.walked in
-    let f = subst (λ (rest : List EntryId). Finds p keys most found n rest) c.in-Some.ensures.steps c.loop-id.invariant in
+    let f = subst (λ (rest : List EntryId). Finds p keys most found n rest) c.in-Some.ensures.steps c.loop-id.invariant.finds in
     let room : length found < most = search rules in
     let shows : key_shows p c.in-Some.id.0 ≡ true = search rules in
-    subst (λ (xs : List Reportable). Finds p keys most xs (n + 1) c.next.new.self) (sym c.in_ok-push.ensures.items)
-    (finds_more p keys most found n c.in-Some.id c.next.new.self c.in-Some-reportable_at.x f c.in-Some-reportable_at.ensures.id shows c.in-Some-reportable_at.ensures.keyed room)
+    record {
+      finds =
+          subst (λ (xs : List Reportable). Finds p keys most xs (n + 1) c.next.new.self) (sym c.in_ok-push.ensures.items)
+          (finds_more p keys most found n c.in-Some.id c.next.new.self c.in-Some-reportable_at.x f c.in-Some-reportable_at.ensures.id shows c.in-Some-reportable_at.ensures.keyed room);
+      told = c.reportable_at.ensures.told;
+    }
 
 pub loop-id-preserved : goal.loop-id-preserved
 loop-id-preserved c =
@@ -40,5 +51,5 @@ loop-id-preserved c =
     let most = c.args.most in
     let found = c.loop-id.reportables.items in
     let n = c.loop-id.walked in
-    let f = subst (λ (rest : List EntryId). Finds p keys most found n rest) c.in-Some.ensures.steps c.loop-id.invariant in
-    finds_same p keys most found n c.in-Some.id c.next.new.self f (search rules)
+    let f = subst (λ (rest : List EntryId). Finds p keys most found n rest) c.in-Some.ensures.steps c.loop-id.invariant.finds in
+    record { finds = finds_same p keys most found n c.in-Some.id c.next.new.self f (search rules); told = c.reportable_at.ensures.told }

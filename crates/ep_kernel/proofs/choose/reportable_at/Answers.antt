@@ -18,4 +18,4 @@ returns-clause-keyed c =
     let x = c.in_ok-entry.entry.now in
     let at = subst (λ (p : Parts). entry_under p.interest c.args.id ≡ Some x) c.parts.view_is (sym c.get.ensures ∙ ap option_copied c.in_ok-entry.was) in
     let is = is_under c.args.parts.now.interest c.args.id x at in
-    record { key = is.number; there = is.there; bits = c.shown-bits.ensures }
+    record { key = is.number; there = is.there; bits = c.shown-bits.ensures.bits }

@@ -1,4 +1,4 @@
-use Rattle.std.proofs.Common.{◌∙◌, ℕ, List, ap, subst, sym}
+use Rattle.std.proofs.Common.{◌∙◌, ap, subst, sym}
 use Rattle.ep_calls.specs.Climb.{Climbs}
 use Rattle.ep_calls.specs.Parts.{Parts}
 use Rattle.ep_kernel.proofs.ComesLemmas.{live_of}

@@ -5,8 +5,8 @@ use Rattle.ep_kernel.proofs.mark.mark_at.Goals as goal
 use Rattle.ep_machine.specs.Waits.{waits_at}
 use Rattle.ep_table.specs.Value.{number_under}
 
-pub returns-then-not-has_waiter : goal.returns-then-not-has_waiter
-returns-then-not-has_waiter c =
+pub returns-then-not-has_waiter-clause-marks : goal.returns-then-not-has_waiter-clause-marks
+returns-then-not-has_waiter-clause-marks c =
     let p = c.args.parts.now in
     let e = c.args.instance.0 in
     let none = subst (λ (q : Parts). waits_at q.parked e ≡ false) c.parts.view_is (sym c.has_waiter.ensures ∙ c.if-not-has_waiter.true) in

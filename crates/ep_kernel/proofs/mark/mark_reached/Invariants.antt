@@ -1,5 +1,9 @@
 use Rattle.ep_kernel.proofs.MarkLemmas.{HadTurns}
+use Rattle.ep_kernel.specs.Asked.{AreTrue}
 use Rattle.ep_kernel.proofs.mark.mark_reached.Given as goal
 
 abbrev pub invariant-loop-index : goal.invariant-loop-index
-invariant-loop-index l = HadTurns l.fn.parts l.lists.reached l.index l.parts
+invariant-loop-index l = record {
+  turns : HadTurns l.fn.parts l.lists.reached l.index l.parts;
+  told : AreTrue l.fn.parts l.asked;
+}

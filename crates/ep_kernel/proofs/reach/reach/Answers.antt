@@ -1,4 +1,4 @@
-use Rattle.std.proofs.Common.{◌≡◌, ◌∙◌, ap, subst, sym}
+use Rattle.std.proofs.Common.{◌∙◌, ap, subst, sym}
 use Rattle.ep_calls.specs.Parts.{Parts}
 use Rattle.ep_kernel.proofs.ReachLemmas.{all_home, are_reached}
 use Rattle.ep_kernel.specs.Listed.{HavePlaces}

@@ -10,7 +10,7 @@ pub invariant_of-result : goal.invariant_of-result
 invariant_of-result c =
     let p = c.in_ok-new.field-0 in
     record {
-      runs = subst (λ (rs : List Record). Runs rs p c.new-2.result) (sym c.new-4.ensures.items) (runs_opening c.args.limits p c.new-2.result c.in_ok-new.ensures c.new-2.ensures);
+      runs = subst (λ (rs : List Record). Runs rs p c.new-2.result) (sym c.new-5.ensures.items) (runs_opening c.args.limits p c.new-2.result c.in_ok-new.ensures c.new-2.ensures);
       set = set_opening c.args.limits p c.new-3.result c.in_ok-new.ensures c.new-3.ensures;
     }
 
@@ -19,6 +19,6 @@ pub returns : goal.returns
 returns c =
     let none = no_lists c.in_ok-new.field-0 c.new-2.result c.new-2.ensures in
     λ i. record {
-      book = record { limits = c.in_ok-new.ensures.limits i; past = c.new-4.ensures.items i; capacity = c.new-4.ensures.capacity i };
+      book = record { limits = c.in_ok-new.ensures.limits i; past = c.new-5.ensures.items i; capacity = c.new-5.ensures.capacity i };
       lists = none i;
     }

@@ -18,6 +18,7 @@ use Rattle.ep_kernel.proofs.RunLemmas.{added_on, adds_on, does_fairly, few_on, f
 use Rattle.ep_kernel.proofs.SettledLemmas.{ends_of}
 use Rattle.ep_kernel.proofs.TimersLemmas.{set_same}
 use Rattle.ep_kernel.proofs.ready.ReadyKernel.try_step.Goals as goal
+use Rattle.ep_kernel.proofs.ready.ReadyKernel.try_step.Goals.{After-attend-attended}
 
 -- want of memory changes nothing
 pub invariant_of-self-in_err-outcome : goal.invariant_of-self-in_err-outcome
@@ -54,22 +55,22 @@ of-spare-requires-clause-inline c asked none =
     inline_event k.parts.tables.limits (next_event c.self.invariant.runs.keeps.state) c.args.caller.0 o c.args.kept asked none c.args.event c.act.new.parts does.goes c.in_ok-outcome.ensures.kept
 
 -- where marks are set the lists fit, and no other instance has a caller to mark
-at_step : (c : goal.After-attend) → c.len.result + 1 ≡ length c.self.inside.history.items + 1
+at_step : (c : After-attend-attended) → c.len.result + 1 ≡ length c.self.inside.history.items + 1
 at_step c = omega (arith, c.len.ensures, c.reserve.ensures.len)
 
 pub mark-requires-clause-listed : goal.mark-requires-clause-listed
 mark-requires-clause-listed c =
     let k = c.self.inside in
     listed_climbed c.lists_go_on.ensures.law c.unmarked_are_reached.ensures.law k.history.items k.parts c.act.new.parts c.settle.new.parts k.lists c.act.new.lists c.settle.new.lists c.self.invariant.runs c.know.ensures.coherent c.know.ensures.tables c.know.ensures.interest c.known.ensures c.known-2.ensures
-    c.args.caller c.args.event c.in_ok-outcome.outcome (c.len.result + 1) (at_step c) c.in_ok-outcome.ensures.ok c.in_ok-outcome.ensures.turns c.settle.ensures.settled
+    c.args.caller c.args.event c.in_ok-outcome.outcome (c.len.result + 1) (at_step (goal.at.mark-requires-clause-listed c).After-attend-attended) c.in_ok-outcome.ensures.ok c.in_ok-outcome.ensures.turns c.settle.ensures.settled
 
 pub mark-requires-clause-reached : goal.mark-requires-clause-reached
 mark-requires-clause-reached c =
     let k = c.self.inside in
     let raising = c.in_ok-outcome.outcome.raising in
-    subst (AreLookedAt c.settle.new.parts c.settle.new.lists) (sym (c.attend.ensures ∙ ap (λ (o : Option DescId). attends o raising) c.resumed_at-resumed.ensures))
+    subst (AreLookedAt c.settle.new.parts c.settle.new.lists) (sym (c.attend-attended.ensures ∙ ap (λ (o : Option DescId). attends o raising) c.resumed_at-resumed.ensures))
     (are_looked_at c.lists_go_on.ensures.law c.unmarked_are_reached.ensures.law k.history.items k.parts c.act.new.parts c.settle.new.parts k.lists c.act.new.lists c.settle.new.lists c.self.invariant.runs c.know.ensures.coherent c.know.ensures.tables c.know.ensures.interest c.known.ensures c.known-2.ensures
-    c.args.caller c.args.event c.in_ok-outcome.outcome (c.len.result + 1) (at_step c) c.in_ok-outcome.ensures.ok c.in_ok-outcome.ensures.turns c.settle.ensures.settled)
+    c.args.caller c.args.event c.in_ok-outcome.outcome (c.len.result + 1) (at_step (goal.at.mark-requires-clause-reached c).After-attend-attended) c.in_ok-outcome.ensures.ok c.in_ok-outcome.ensures.turns c.settle.ensures.settled)
 
 -- the number of the event
 number : (c : goal.After-push_reserved) → c.len.result + 1 ≡ length c.self.inside.history.items + 1

@@ -1,0 +1,25 @@
+-- What instances answered to the question whether they are ready.
+use Rattle.std.specs.Prelude.{◌≡◌, Bool, None, Option, Some, false, if◌then◌else◌, true, ℕ}
+use Rattle.ep_calls.specs.Parking.{ready_key}
+use Rattle.ep_calls.specs.Parts.{Parts}
+use Rattle.ep_kernel.specs.declared.asked.Asked.{Asked}
+use Rattle.ep_machine.specs.Lists.{is_among}
+use Rattle.ep_ready.specs.Walk.{with_noted}
+
+-- the answer of an instance, where it is known
+abbrev pub answer_of : Asked → ℕ → Option Bool
+answer_of a i = if is_among a.ready.reached i then Some true else if is_among a.idle.reached i then Some false else None
+
+-- with the answer of one more, where there is room for it
+abbrev pub noted : Asked → ℕ → Bool → Asked
+noted a i true = record a { ready = with_noted a.ready i }
+noted a i false = record a { idle = with_noted a.idle i }
+
+-- each answer is that of a test
+pub record AreOf (test : ℕ → Bool) (a : Asked) : Type 0 where
+  pub ready : (i : ℕ) → is_among a.ready.reached i ≡ true → test i ≡ true
+  pub idle : (i : ℕ) → is_among a.idle.reached i ≡ true → test i ≡ false
+
+-- each answer is true of the parts
+abbrev pub AreTrue : Parts → Asked → Type 0
+AreTrue p a = AreOf (ready_key p.tables p.clock p.interest) a
