@@ -1,5 +1,5 @@
 -- One event over the parts.
-use Rattle.std.proofs.Common.{◌≡◌, ◌∙◌, ◌+◌, ℕ, Bool, List, [], ◌∷◌, None, Option, Some, true, false, ap, arith, is_none, is_some, nat_lt, refl, subst, sym}
+use Rattle.std.proofs.Common.{◌≡◌, ◌∙◌, ◌+◌, ℕ, Bool, List, [], ◌∷◌, None, Option, Some, true, false, ap, is_none, is_some, nat_lt, refl, subst, sym}
 use Rattle.std.specs.Prelude.{MatchOption}
 use Rattle.std.specs.List.{list_any}
 use Rattle.ep_base.specs.declared.answer.Answer.TheVariants.{Done, Refused}

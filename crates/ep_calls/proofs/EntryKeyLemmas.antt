@@ -1,11 +1,10 @@
 -- The keys of registrations that stay where others come or go, and the links that they name.
-use Rattle.std.proofs.Common.{◌≡◌, ◌≢◌, ◌∙◌, ◌==◌, ℕ, zero, suc, All, Bool, true, false, IsSome, List, [], ◌∷◌, None, Option, Some, ap, cond, filter, is_some, map, refl, slice_index_or, slice_set, sym, unwrap_or}
+use Rattle.std.proofs.Common.{◌≡◌, ◌≢◌, ◌∙◌, ℕ, zero, suc, All, Bool, true, false, List, [], ◌∷◌, None, Option, Some, ap, cond, filter, is_some, map, refl, slice_index_or, slice_set, sym}
 use Rattle.std.proofs.lemmas.List.Elements.{All-from_recursion, All-head, All-tail, All-weaker}
 use Rattle.ep_base.specs.declared.ids.EntryId.{EntryId}
-use Rattle.ep_interest.specs.Registrations.{GainsKey, IsSound, Registrations, id_of, left_number, number_under, numbered, place_among}
+use Rattle.ep_interest.specs.Registrations.{GainsKey, IsSound, Registrations, id_of, left_number, number_under, numbered}
 use Rattle.ep_interest.specs.declared.entry.Entry.{Entry}
 use Rattle.ep_interest.proofs.PurgeLemmas.{place_among_is}
-use Rattle.ep_nest.specs.declared.link.Link.{Link}
 use Rattle.ep_calls.specs.Climb.{link_of}
 use Rattle.ep_calls.proofs.FindLemmas.{each_numbered}
 

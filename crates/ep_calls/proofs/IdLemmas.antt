@@ -1,5 +1,5 @@
 -- The keys that deaths leave.
-use Rattle.std.proofs.Common.{◌≡◌, ◌⊎◌, ◌∙◌, Bool, true, false, List, None, Option, Some, ap, cond, inl, inr, is_some, refl, slice_index_or, ℕ}
+use Rattle.std.proofs.Common.{◌≡◌, ◌⊎◌, ◌∙◌, true, false, List, None, Option, Some, ap, cond, inl, inr, is_some, refl, slice_index_or, ℕ}
 use Rattle.ep_base.specs.declared.ids.EntryId.{EntryId}
 use Rattle.ep_interest.specs.Registrations.{Registrations, left_number, number_under, numbered}
 use Rattle.ep_interest.specs.declared.entry.Entry.{Entry}

@@ -1,5 +1,5 @@
 -- What a kernel keeps, at the start and over one event.
-use Rattle.std.proofs.Common.{◌≡◌, ◌+◌, ◌++◌, ◌∙◌, ℕ, List, [], ◌∷◌, Option, Some, ap, arith, length, map, refl, subst, sym, unwrap_or}
+use Rattle.std.proofs.Common.{◌≡◌, ◌+◌, ◌++◌, ◌∙◌, ℕ, List, [], ◌∷◌, Option, Some, ap, length, map, refl, subst, sym, unwrap_or}
 use Rattle.std.proofs.lemmas.List.{length-append}
 use Rattle.ep_base.specs.Limits.{Limits}
 use Rattle.ep_base.specs.declared.call.Event.{Event}
@@ -23,7 +23,6 @@ use Rattle.ep_calls.specs.Parking.{ready_key}
 use Rattle.ep_calls.specs.Raising.{IsRaising, Raises, Stirs}
 use Rattle.ep_calls.specs.Stands.{waiters_at, watch_at}
 use Rattle.ep_calls.specs.declared.raising.Raising.{Raising}
-use Rattle.ep_calls.proofs.RaiseLemmas.{stirs_added}
 use Rattle.ep_calls.specs.Does.{DoesEvent}
 use Rattle.ep_calls.specs.Keeps.{Keeps}
 use Rattle.ep_calls.specs.Parts.{AreCoherent, AreOpening, Parts}

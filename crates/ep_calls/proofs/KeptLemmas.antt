@@ -1,5 +1,5 @@
 -- What an event answers takes no memory to copy, or there is a copy.
-use Rattle.std.proofs.Common.{◌≡◌, ◌≤◌, ℕ, ℤ, Bool, false, true, if◌then◌else◌, List, [], ◌∷◌, Option, None, Some, arith, length, refl, subst, sym}
+use Rattle.std.proofs.Common.{◌≡◌, ◌≤◌, ℕ, ℤ, Bool, false, true, if◌then◌else◌, List, [], ◌∷◌, Option, None, Some, arith, length, subst, sym}
 use Rattle.std.specs.Prelude.{MatchOption}
 use Rattle.ep_base.specs.Answer.{FitsInline}
 use Rattle.ep_base.specs.Limits.{Limits}

@@ -14,6 +14,7 @@ pub mod TickLemmas
 pub mod ObjectCallLemmas
 pub mod CollectLemmas
 pub mod ReadinessLemmas
+pub mod IsBelowLemmas
 pub mod GraphLemmas
 pub mod EntryKeyLemmas
 pub mod LinkLemmas

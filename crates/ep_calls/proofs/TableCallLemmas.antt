@@ -1,5 +1,5 @@
 -- Calls on the tables alone, as the machine makes them whatever is registered.
-use Rattle.std.proofs.Common.{◌≡◌, ℕ, Bool, List, [], Option, Some, arith, refl, subst, sym}
+use Rattle.std.proofs.Common.{◌≡◌, ℕ, Bool, List, [], Option, Some, refl, subst, sym}
 use Rattle.std.specs.List.{list_any}
 use Rattle.ep_base.specs.Limits.{Limits}
 use Rattle.ep_base.specs.declared.call.Call.{Call}

@@ -1,7 +1,7 @@
 -- The refusals of epoll_ctl in three parts: what its arguments name, the operation, and the interest set; and what it does to registrations.
 use Rattle.std.specs.List.{find as first_where, list_any}
 use Rattle.std.specs.Prelude.{◌≡◌, Bool, false, true, if◌then◌else◌, IfSome, IsSome, List, MatchBool, None, Option, Some, []}
-use Rattle.std.specs.Prelude.{filter, is_some, length, map, nat_le, not, pos, slice_set, unwrap_or, ℕ, ℤ, ◌&&◌, ◌++◌, ◌+◌, ◌==◌, ◌||◌, ◌∷◌}
+use Rattle.std.specs.Prelude.{⊤, filter, is_some, length, map, nat_le, not, pos, slice_set, unwrap_or, ℕ, ℤ, ◌&&◌, ◌++◌, ◌+◌, ◌==◌, ◌||◌, ◌∷◌}
 use Rattle.ep_base.specs.declared.answer.Answer.{Answer}
 use Rattle.ep_base.specs.declared.answer.Answer.TheVariants.{Done, Refused}
 use Rattle.ep_base.specs.declared.call.Call.{Call}
@@ -9,6 +9,7 @@ use Rattle.ep_base.specs.declared.call.Call.TheVariants.{EpollCtl}
 use Rattle.ep_base.specs.declared.errno.Errno.{Errno}
 use Rattle.ep_base.specs.declared.errno.Errno.TheVariants.{Ebadf, Eexist, Einval, Eloop, Enoent, Enospc, Eperm}
 use Rattle.ep_base.specs.declared.mask.Mask.{Mask}
+use Rattle.ep_base.specs.declared.ids.DescId.{DescId}
 use Rattle.ep_base.specs.declared.ids.EntryId.{EntryId}
 use Rattle.ep_base.specs.declared.ids.Fd.{Fd}
 use Rattle.ep_interest.specs.Registrations.{GainsKey, Registrations, entry_of, has_key, is_other, modified, numbered, number_under as number_of_entry}
@@ -24,6 +25,7 @@ use Rattle.ep_nest.specs.declared.link.Link.{Link}
 use Rattle.ep_calls.specs.Climb.{is_nested_key}
 use Rattle.ep_calls.specs.Parts.{Parts}
 use Rattle.ep_calls.specs.Readiness.{entry_shows, readiness}
+use Rattle.ep_calls.specs.Stands.{number_at}
 use Rattle.ep_calls.specs.declared.raising.Raising.{Raising}
 use Rattle.ep_calls.specs.declared.raising.Raising.TheVariants.{Instance, Nowhere}
 use Rattle.ep_table.specs.Value.{Seen, number_under}
@@ -131,6 +133,18 @@ pub record IsPlan (p : Parts) (pid : ℕ) (args : Control) (plan : Plan) : Type 
   pub code : args.op ≡ code_of plan.operation
   pub accepted : is_refused_op args.op args.mask.0 ≡ false
   pub found : IsFound p.interest plan.named args.fd plan.found
+
+-- whether the instance that a registration with this key watches is ready
+abbrev pub IsBelow : Bool → Seen → ℕ → Registrations → Named → Fd → Type 0
+IsBelow below tables now r named fd =
+    list_any (has_key named.instance fd named.desc) r.entries ≡ true → is_nested_key tables named.desc ≡ true
+    → below ≡ readiness tables now r (number_at tables.keys named.desc)
+
+-- whether the instance that an ADD or a MOD is about is ready; DEL asks nothing
+abbrev pub TellsBelow : Operation → Bool → Parts → DescId → Type 0
+TellsBelow Delete below p desc = ⊤
+TellsBelow operation below p desc =
+    is_nested_key p.tables desc ≡ true → below ≡ readiness p.tables p.clock p.interest (number_at p.tables.keys desc)
 
 -- what is done to the registration that is there, and to its key; or what is added under the next key
 abbrev pub Changes : Operation → Option EntryId → Named → Control → Registrations → Registrations → Type 0

@@ -8,7 +8,7 @@ ghost use Rattle.ep_machine.specs.State.{Waiter};
 ghost use Rattle.ep_machine.specs.Watches.{is_legal};
 ghost use Rattle.ep_nest.specs.Links.{edges, without};
 ghost use Rattle.ep_calls.specs.Climb.{AreNested, KeepsLinks};
-ghost use Rattle.ep_calls.specs.Control.{Alters, ChangesIf, Controls, EntersAt, IsPlan, Names, addition, code_of, control_call, is_deep_at, is_refused_op, raising_of_ctl, naming_refusals, next_entry, next_link, raising_after};
+ghost use Rattle.ep_calls.specs.Control.{Alters, ChangesIf, Controls, EntersAt, IsBelow, IsPlan, Names, TellsBelow, addition, code_of, control_call, is_deep_at, is_done, is_refused_op, raising_of_ctl, naming_refusals, next_entry, next_link, raising_after};
 ghost use Rattle.ep_interest.specs.Registrations.{GainsKey, has_key, number_under as number_of_entry};
 ghost use Rattle.ep_machine.specs.Timer.{last_moment};
 ghost use Rattle.ep_calls.specs.Does.{DoesCall};
@@ -19,7 +19,7 @@ ghost use Rattle.ep_calls.specs.declared.raising.Raising.TheVariants.{Nowhere};
 ghost use Rattle.ep_table.specs.Value.{number_under};
 
 use crate::raising::Raising;
-use crate::readiness::{is_reportable, shown};
+use crate::readiness::{is_ready_now, is_reportable, shown_at};
 use crate::{Outcome, Parts};
 use bitflags::Flags;
 use ep_base::{Answer, DescId, EntryId, Errno, Fd, Limits, Mask, Pid};
@@ -53,12 +53,18 @@ pub enum Operation {
     Modify,
 }
 
-/// What it is about: what its descriptors name, what it is asked to do, and the registration that is there.
+/// What it is about.
 #[derive(Clone, Copy)]
 pub struct Plan {
+    /// What its descriptors name.
     pub named: Named,
+    /// What it is asked to do.
     pub operation: Operation,
+    /// The registration that is there.
     pub found: Option<EntryId>,
+    /// Whether its target is an instance that is ready, which ADD and MOD want to know. `Parts::plan` leaves it `false`, so that
+    /// a kernel can ask in its own way.
+    pub below: bool,
 }
 
 /// The instance and the description that are named, or the refusal that comes first.
@@ -280,10 +286,19 @@ fn enter(
     Ok(Answer::Done)
 }
 
-/// What it raises that a registration was added or modified: IN at its instance, where it is reportable.
-fn look_at(tables: &Tables, now: u64, interest: &Interest, named: Named, fd: Fd) -> Raising
+/// What it raises that a registration was added or modified: IN at its instance, where it is reportable. `below` says whether its
+/// target is an instance that is ready.
+fn look_at(
+    tables: &Tables,
+    now: u64,
+    interest: &Interest,
+    named: Named,
+    fd: Fd,
+    below: bool,
+) -> Raising
     requires linked { AreLinked tables.now interest.now }
     requires clock { now ≤ last_moment }
+    requires below { IsBelow below tables.now now interest.now named fd }
     ensures { result ≡ raising_of_ctl tables.now now interest.now named fd }
 {
     interest.known();
@@ -291,7 +306,7 @@ fn look_at(tables: &Tables, now: u64, interest: &Interest, named: Named, fd: Fd)
         return Raising::Nowhere;
     };
     let entry = interest.entry(id);
-    if !is_reportable(entry, shown(tables, now, interest, entry)) {
+    if !is_reportable(entry, shown_at(tables, now, entry, below)) {
         return Raising::Nowhere;
     }
     Raising::Instance {
@@ -301,16 +316,26 @@ fn look_at(tables: &Tables, now: u64, interest: &Interest, named: Named, fd: Fd)
 
 impl Parts {
     /// What epoll_ctl comes to with an answer: where it is done, the registration is looked at.
-    fn controlled(&self, named: Named, fd: Fd, answer: Answer) -> Outcome
+    fn controlled(&self, plan: Plan, fd: Fd, answer: Answer) -> Outcome
         requires inline { FitsInline answer }
         requires real { is_no_memory answer ≡ false }
+        requires below { is_done answer ≡ true
+            → IsBelow plan.below self.now.tables self.now.clock self.now.interest plan.named fd }
         ensures answer { result.answer ≡ answer }
         ensures picked { result.picked ≡ [] }
         ensures raising { result.raising
-            ≡ raising_after answer self.now.tables self.now.clock self.now.interest named fd }
+            ≡ raising_after answer self.now.tables self.now.clock self.now.interest plan.named
+            fd }
     {
         let raising = match answer {
-            Answer::Done => look_at(&self.tables, self.clock, &self.interest, named, fd),
+            Answer::Done => look_at(
+                &self.tables,
+                self.clock,
+                &self.interest,
+                plan.named,
+                fd,
+                plan.below,
+            ),
             _ => Raising::Nowhere,
         };
         Outcome::settled(self.alloc, answer, raising)
@@ -319,6 +344,7 @@ impl Parts {
     /// What an epoll_ctl with these arguments is about. Where they alone refuse it, its outcome, by the refusal that comes first:
     /// EBADF where a descriptor names nothing, EPERM for a target that can't be polled, EINVAL where `epfd` is no instance or
     /// both name the same, and EINVAL for an operation or a mask that this version doesn't accept.
+    /// It doesn't ask whether the target is an instance that is ready.
     pub fn plan(&self, pid: Pid, args: Control) -> Result<Plan, Outcome>
         ensures ok { IfOk result (IsPlan self.now pid.0 args) }
         ensures err { IfErr result
@@ -340,17 +366,34 @@ impl Parts {
             named,
             operation,
             found,
+            below: false,
         })
+    }
+
+    /// Whether the instance that an ADD or a MOD is about is ready; `false` for what is no instance. DEL asks nothing. The time grows
+    /// with the registrations of the instance and of those below.
+    fn is_below_ready(&self, operation: Operation, desc: DescId) -> bool
+        requires { IsSome (number_under self.now.tables desc) }
+        ensures { TellsBelow operation result self.now desc }
+    {
+        if let Operation::Delete = operation {
+            return false;
+        }
+        if !self.tables.object(desc).is_instance() {
+            return false;
+        }
+        is_ready_now(&self.tables, self.clock, &self.interest, desc)
     }
 
     /// Does what an epoll_ctl is about, or answers the refusal that comes first, in this order: ENOENT for MOD and DEL of what is
     /// not there, EEXIST for ADD of what is, ELOOP where instances would watch each other in a loop or in a chain of more
     /// than five, and ENOSPC past `watches`.
     /// What is added or modified and reportable at once raises IN at its instance.
-    /// It looks at links between instances only where the target is an instance.
+    /// It looks at links between instances only where the target is an instance, and at no registration of that one.
     /// A refusal and an `Err`, which is want of memory and comes of ADD alone, leave the parts.
     pub fn control(&mut self, pid: Pid, args: Control, plan: Plan) -> Result<Outcome, AllocError>
-        requires { IsPlan self.old pid.0 args plan }
+        requires plan { IsPlan self.old pid.0 args plan }
+        requires below { TellsBelow plan.operation plan.below self.old plan.named.desc }
         ensures ok { IfOk result
             (λ outcome. (n caller : ℕ)
             → DoesCall n caller pid.0 (control_call args) outcome self.old self.new) }
@@ -369,7 +412,8 @@ impl Parts {
                     plan.operation,
                     args,
                 );
-                Ok(self.controlled(plan.named, args.fd, answer))
+                self.graph.known();
+                Ok(self.controlled(plan, args.fd, answer))
             }
             None => {
                 let answer = enter(
@@ -380,7 +424,8 @@ impl Parts {
                     plan.operation,
                     args,
                 )?;
-                Ok(self.controlled(plan.named, args.fd, answer))
+                self.graph.known();
+                Ok(self.controlled(plan, args.fd, answer))
             }
         }
     }
@@ -395,9 +440,11 @@ impl Parts {
             → DoesCall n caller pid.0 (control_call args) outcome self.old self.new) }
         ensures err { OnErr result (self.new ≡ self.old) }
     {
-        match self.plan(pid, args) {
-            Ok(plan) => self.control(pid, args, plan),
-            Err(refused) => Ok(refused),
-        }
+        let mut plan = match self.plan(pid, args) {
+            Ok(plan) => plan,
+            Err(refused) => return Ok(refused),
+        };
+        plan.below = self.is_below_ready(plan.operation, plan.named.desc);
+        self.control(pid, args, plan)
     }
 }

@@ -1,13 +1,13 @@
 -- What is reportable at an instance stands on its list, so looking along the list finds it.
-use Rattle.std.proofs.Common.{◌≡◌, ◌<◌, ◌∙◌, ◌==◌, ◌&&◌, ◌||◌, ◌-◌, ℕ, zero, suc, Bool, true, false, not, Contains, IsSome, List, [], ◌∷◌, None, Option, Some, ap, arith, filter, if◌then◌else◌, inl, inr, map, nat_lt, refl, subst, sym, unwrap_or}
+use Rattle.std.proofs.Common.{◌≡◌, ◌<◌, ◌∙◌, ◌==◌, ◌&&◌, ◌||◌, ◌-◌, ℕ, zero, suc, Bool, true, false, Contains, IsSome, List, [], ◌∷◌, None, Option, Some, ap, arith, if◌then◌else◌, inl, inr, refl, subst, sym, unwrap_or}
 use Rattle.std.specs.List.{list_any}
 use Rattle.std.specs.Option.{option_map}
 use Rattle.std.proofs.lemmas.Bool.{cases_Bool}
 use Rattle.ep_base.specs.declared.ids.DescId.{DescId}
 use Rattle.ep_base.specs.declared.ids.EntryId.{EntryId}
 use Rattle.ep_calls.proofs.KeyLemmas.{same_keys}
-use Rattle.ep_calls.proofs.ReadinessLemmas.{shown_below}
-use Rattle.ep_calls.specs.Climb.{is_nested, link_of}
+use Rattle.ep_calls.proofs.IsBelowLemmas.{any_both, link_there, shows_same}
+use Rattle.ep_calls.specs.Climb.{is_nested}
 use Rattle.ep_calls.specs.Parking.{ready_key}
 use Rattle.ep_calls.specs.Parts.{AreCoherent, Parts}
 use Rattle.ep_calls.specs.Readiness.{entry_shows, readiness, watches_of}
@@ -18,37 +18,17 @@ use Rattle.ep_kernel.proofs.EntryLemmas.{holds_under, is_under}
 use Rattle.ep_kernel.proofs.ViewLemmas.{any_of, entry_views, find_entry, same_bools, view_member, view_of}
 use Rattle.ep_kernel.specs.Listed.{IsListed, key_shows, shows_found}
 use Rattle.ep_kernel.specs.Readiness.{EndsWithin, found_shows, nested_found}
-use Rattle.ep_law.proofs.ListLemmas.{all_member, among, among_member, any_member, member_filter, member_map}
+use Rattle.ep_law.proofs.ListLemmas.{all_member, among, among_member, any_member}
 use Rattle.ep_law.proofs.ReadinessLemmas.{and_same}
 use Rattle.ep_law.proofs.TestLemmas.{both_true, from_test, same_test}
 use Rattle.ep_law.specs.Laws.{Member}
-use Rattle.ep_machine.specs.Bits.{ET, has_bit}
 use Rattle.ep_machine.specs.Lists.{is_among}
 use Rattle.ep_machine.specs.Watches.{is_legal}
-use Rattle.ep_nest.proofs.ElementLemmas.{Contains-cons, Contains-head}
 use Rattle.ep_nest.proofs.LegalityLemmas.{short_from_is_legal}
-use Rattle.ep_nest.specs.Links.{edges, ends_of}
-use Rattle.ep_nest.specs.declared.link.Link.{Link}
-use Rattle.ep_nest.specs.declared.link.Way.TheVariants.{Down}
+use Rattle.ep_nest.specs.Links.{edges}
 use Rattle.ep_ready.specs.ReadyLists.{IsSound as AreSoundLists, Lists, entry_id, ids, instance_at, list_at, stands_by}
-use Rattle.ep_table.specs.Value.{Seen, Sound as SoundTables, number_under as desc_number}
+use Rattle.ep_table.specs.Value.{Sound as SoundTables, number_under as desc_number}
 use Rattle.ep_view.specs.KernelView.{KernelWatch, ready_now, ready_within, shows}
-
-contains : (xs : List (ℕ × ℕ)) (x : ℕ × ℕ) → Member x xs → Contains xs x
-contains [] x m = absurd m
-contains (y ∷ ys) x (inl e) = subst (λ (z : ℕ × ℕ). Contains (y ∷ ys) z) (sym e) (Contains-head y ys)
-contains (y ∷ ys) x (inr m) = Contains-cons y ys x (contains ys x m)
-
-any_both : (keys : List (Option ℕ)) (f g : KernelWatch → Bool) (xs : List Entry) → ((x : Entry) → Member x xs → f (watch_at keys x) ≡ g (watch_at keys x)) → list_any f (map (watch_at keys) xs) ≡ list_any g (map (watch_at keys) xs)
-any_both keys f g [] h = refl
-any_both keys f g (x ∷ xs) h = let one = h x (inl refl) in let rest = any_both keys f g xs (λ y m. h y (inr m)) in λ i. one i || rest i
-
--- what a registration shows depends on nothing but the instance that it watches
-shows_same : (r q : ℕ → Bool) (v : Seen) (now : ℕ) (x : Entry) → (is_nested v x ≡ true → r (number_at v.keys x.desc) ≡ q (number_at v.keys x.desc)) → entry_shows r v now x ≡ entry_shows q v now x
-shows_same r q v now x h =
-    let below = r (number_at v.keys x.desc) in
-    let same = sym (shown_below r v now below x (λ nested. refl)) ∙ shown_below q v now below x h in
-    ap (λ (bits : ℕ). nat_lt 0 bits && (not (has_bit x.mask.0 ET) || x.fresh)) same
 
 -- the instance that a registration watches
 nested_is : (p : Parts) (x : Entry) (inner : DescId) → nested_found p (Some x) ≡ Some inner → (is_nested p.tables x ≡ true) × (x.desc ≡ inner)
@@ -66,13 +46,6 @@ module _ (p : Parts) (coherent : AreCoherent p) (tables : SoundTables p.tables) 
   abbrev ready_by : ℕ → ℕ → Bool
   ready_by levels = ready_within levels p.tables.files p.clock (watches_of p.tables p.interest)
 
-  -- the link of a registration on an instance
-  pub link_there : (x : Entry) → Member x p.interest.entries → is_nested p.tables x ≡ true → Contains (edges p.graph) (x.instance.0, x.desc.0)
-  link_there x m nested =
-      let links = member_map (link_of p.interest) x (filter (is_nested p.tables) p.interest.entries) (member_filter (is_nested p.tables) x p.interest.entries m nested) in
-      let there = subst (λ (ls : List Link). Member (link_of p.interest x) ls) (sym coherent.nested) links in
-      contains (edges p.graph) (x.instance.0, x.desc.0) (member_map (ends_of Down) (link_of p.interest x) p.graph there)
-
   -- from the end of a link fewer lead down
   pub ends_down : (links : ℕ) (i d : DescId) → Contains (edges p.graph) (i.0, d.0) → EndsWithin links p i → EndsWithin (links - 1) p d
   ends_down zero i d there ends = absurd (ends i.0 refl)
@@ -89,7 +62,7 @@ module _ (p : Parts) (coherent : AreCoherent p) (tables : SoundTables p.tables) 
       and_same (number_at p.tables.keys x.instance == e) (entry_shows (ready_by k) p.tables p.clock x) (entry_shows (ready_by (suc k)) p.tables p.clock x) (λ at.
       let home : x.instance.0 ≡ i.0 = from_test x.instance.0 i.0 (sym (same_keys p.tables x.instance i tables link.instance lives) ∙ at) in
       shows_same (ready_by k) (ready_by (suc k)) p.tables p.clock x (λ nested.
-      let there = subst (λ (j : ℕ). Contains (edges p.graph) (j, x.desc.0)) home (link_there x m nested) in
+      let there = subst (λ (j : ℕ). Contains (edges p.graph) (j, x.desc.0)) home (link_there p.tables p.interest p.graph coherent.nested x m nested) in
       enough k x.desc link.desc (λ y leads. ends y (x.desc.0, there, leads)))))
 
 -- The registrations on a list, and those of its instance.
@@ -154,7 +127,7 @@ module _ (p : Parts) (l : Lists) (coherent : AreCoherent p) (tables : SoundTable
         let x = listed_entry i.0 k m in
         let found = nested_is p x.0 inner (sym (ap (nested_found p) x.1) ∙ is) in
         let member = find_entry p.tables.keys p.interest p.interest.entries x.0.number x.0 (is_under p.interest (entry_id k) x.0 x.1).there in
-        let link = subst (λ (j : ℕ). Contains (edges p.graph) (j, x.0.desc.0)) x.2 (link_there p coherent tables x.0 member found.0) in
+        let link = subst (λ (j : ℕ). Contains (edges p.graph) (j, x.0.desc.0)) x.2 (link_there p.tables p.interest p.graph coherent.nested x.0 member found.0) in
         subst (λ (d : DescId). EndsWithin (links - 1) p d) found.1 (ends_down p coherent tables links i x.0.desc link ends)
 
 -- a chain of no links is always there

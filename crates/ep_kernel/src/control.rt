@@ -1,7 +1,7 @@
 //! epoll_ctl: the places that come and go with registrations.
 ghost use Rattle.std.specs.Prelude.{◌≡◌, ℕ, IfOk, IsSome, None, OnErr, Some};
 ghost use Rattle.ep_base.specs.declared.call.Event.TheVariants.{Call as CallOf};
-ghost use Rattle.ep_calls.specs.Control.{IsPlan, control_call};
+ghost use Rattle.ep_calls.specs.Control.{IsPlan, TellsBelow, control_call};
 ghost use Rattle.ep_calls.specs.Does.{DoesCall};
 ghost use Rattle.ep_calls.specs.declared.control.Operation.TheVariants.{Add};
 ghost use Rattle.ep_interest.specs.Registrations.{entry_under};
@@ -10,9 +10,11 @@ ghost use Rattle.ep_kernel.specs.Listed.{IsListed};
 ghost use Rattle.ep_kernel.specs.Timers.{LeavesFiles};
 ghost use Rattle.ep_kernel.specs.Turns.{Turns};
 ghost use Rattle.ep_ready.specs.ReadyLists.{Same, instance_at};
+ghost use Rattle.ep_table.specs.Value.{number_under as desc_number};
 
 use crate::asked::Asked;
-use ep_base::{EntryId, Pid};
+use crate::readiness::is_ready;
+use ep_base::{DescId, EntryId, Pid};
 use ep_calls::{Control, Operation, Outcome, Parts, Plan, Raising};
 use ep_interest::Interest;
 use ep_ready::ReadyLists;
@@ -34,6 +36,30 @@ fn settle(interest: &Interest, lists: &mut ReadyLists, id: EntryId, raising: Rai
     }
 }
 
+/// Whether the instance that an ADD or a MOD is about is ready; `false` for what is no instance. DEL asks nothing. Only what stands
+/// on the lists of the instance and of those below is looked at, each place at most once.
+fn is_below_ready(
+    parts: &Parts,
+    lists: &ReadyLists,
+    asked: &mut Asked,
+    operation: Operation,
+    desc: DescId,
+) -> bool
+    requires live { IsSome (desc_number parts.now.tables desc) }
+    requires listed { IsListed parts.now lists.now }
+    ensures { TellsBelow operation result parts.now desc }
+{
+    if let Operation::Delete = operation {
+        return false;
+    }
+    parts.known();
+    if !parts.tables.object(desc).is_instance() {
+        return false;
+    }
+    asked.forget();
+    is_ready(parts, lists, asked, desc)
+}
+
 /// The call on a registration that is there.
 fn alter(
     parts: &mut Parts,
@@ -44,6 +70,7 @@ fn alter(
     id: EntryId,
 ) -> Result<Outcome, AllocError>
     requires plan { IsPlan parts.old pid.0 args plan }
+    requires below { TellsBelow plan.operation plan.below parts.old plan.named.desc }
     requires found { plan.found ≡ Some id }
     requires listed { IsListed parts.old lists.old }
     ensures ok { IfOk result
@@ -75,6 +102,7 @@ fn add(
     plan: Plan,
 ) -> Result<Outcome, AllocError>
     requires plan { IsPlan parts.old pid.0 args plan }
+    requires below { TellsBelow plan.operation plan.below parts.old plan.named.desc }
     requires adds { plan.operation ≡ Add }
     requires found { plan.found ≡ None }
     requires listed { IsListed parts.old lists.old }
@@ -116,6 +144,7 @@ fn enter(
     plan: Plan,
 ) -> Result<Outcome, AllocError>
     requires plan { IsPlan parts.old pid.0 args plan }
+    requires below { TellsBelow plan.operation plan.below parts.old plan.named.desc }
     requires found { plan.found ≡ None }
     requires listed { IsListed parts.old lists.old }
     ensures ok { IfOk result
@@ -135,7 +164,8 @@ fn enter(
 }
 
 /// epoll_ctl(2), as `Parts::epoll_ctl`, with the ready lists: a registration that is added gets a place, and one that is deleted
-/// loses it; what is added or modified and reportable comes to the end of its list.
+/// loses it; what is added or modified and reportable comes to the end of its list. Of the instances below its target only what
+/// stands on their lists is looked at.
 /// A refusal leaves the parts and the lists, and so does an `Err`, which is want of memory and comes of ADD alone.
 pub fn epoll_ctl(
     parts: &mut Parts,
@@ -154,10 +184,11 @@ pub fn epoll_ctl(
         parts.new lists.new) }
     ensures err { OnErr result ((parts.new ≡ parts.old) × Same lists.old lists.new) }
 {
-    let plan = match parts.plan(pid, args) {
+    let mut plan = match parts.plan(pid, args) {
         Ok(plan) => plan,
         Err(refused) => return Ok(refused),
     };
+    plan.below = is_below_ready(parts, lists, asked, plan.operation, plan.named.desc);
     match plan.found {
         Some(id) => alter(parts, lists, pid, args, plan, id),
         None => enter(parts, lists, asked, pid, args, plan),

@@ -1,4 +1,4 @@
-use Rattle.std.proofs.Common.{◌≡◌, ◌∙◌, ap, filter, map, sym, unwrap_or}
+use Rattle.std.proofs.Common.{◌∙◌, ap, filter, map, sym, unwrap_or}
 use Rattle.ep_interest.specs.Registrations.{number_under}
 use Rattle.ep_nest.specs.Links.{without}
 use Rattle.ep_calls.specs.Climb.{is_nested, link_of}

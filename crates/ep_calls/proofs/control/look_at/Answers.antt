@@ -5,6 +5,7 @@ use Rattle.ep_calls.specs.Readiness.{entry_shows, readiness}
 use Rattle.ep_calls.specs.Stands.{IsLinked}
 use Rattle.ep_calls.specs.declared.raising.Raising.TheVariants.{Instance, Nowhere}
 use Rattle.ep_calls.proofs.AdditionLemmas.{found_passes, none_looked, one_looked}
+use Rattle.ep_calls.proofs.IsBelowLemmas.{shown_named}
 use Rattle.ep_calls.proofs.control.look_at.Goals as goal
 
 pub returns-in_default : goal.returns-in_default
@@ -15,8 +16,8 @@ returns-in_default c =
     ap (λ (b : Bool). if b then Instance n.instance else Nowhere)
     (sym (none_looked (has_key n.instance c.args.fd n.desc) (entry_shows (readiness v c.args.now r) v c.args.now) r.entries (sym c.find.ensures.there ∙ ap (λ o. is_some o) c.in_default.is)))
 
-pub shown-requires-clause-target : goal.shown-requires-clause-target
-shown-requires-clause-target c =
+pub shown_at-requires-clause-target : goal.shown_at-requires-clause-target
+shown_at-requires-clause-target c =
     let r = c.args.interest.now in
     let x = c.entry-entry.result.now in
     (found_passes (IsLinked c.args.tables.now.keys) (λ y. y.number == x.number) x r.entries c.requires.linked c.entry-entry.ensures.entry).desc
@@ -30,9 +31,10 @@ returns-then-not-is_reportable c =
     let k = unwrap_or (number_under r c.in-Some.id) 0 in
     let is : k ≡ x.number = ap (λ (o : Option ℕ). unwrap_or o 0) c.entry-entry.ensures.number in
     let one = one_looked r n.instance c.args.fd n.desc k x (entry_shows (readiness v c.args.now r) v c.args.now) c.known.ensures (sym c.find.ensures.there ∙ ap (λ o. is_some o) c.in-Some.is) c.in-Some.ensures.entry (ap (numbered r.entries) is ∙ c.entry-entry.ensures.entry) in
+    let shown = shown_named v c.args.now r n c.args.fd c.args.below x c.requires.below (sym c.find.ensures.there ∙ ap (λ o. is_some o) c.in-Some.is) (sym c.in-Some.ensures.entry ∙ (ap (numbered r.entries) is ∙ c.entry-entry.ensures.entry)) in
     ap (λ (b : Bool). if b then Instance n.instance else Nowhere)
     (sym (one
-    ∙ (ap (λ (b : ℕ). nat_lt 0 b && (not (has_bit x.mask.0 ET) || x.fresh)) (sym c.shown.ensures) ∙ (sym c.is_reportable.ensures ∙ c.if-not-is_reportable.true))))
+    ∙ (ap (λ (b : ℕ). nat_lt 0 b && (not (has_bit x.mask.0 ET) || x.fresh)) (sym (c.shown_at.ensures ∙ shown)) ∙ (sym c.is_reportable.ensures ∙ c.if-not-is_reportable.true))))
 
 pub returns : goal.returns
 returns c =
@@ -43,6 +45,7 @@ returns c =
     let k = unwrap_or (number_under r c.in-Some.id) 0 in
     let is : k ≡ x.number = ap (λ (o : Option ℕ). unwrap_or o 0) c.entry-entry.ensures.number in
     let one = one_looked r n.instance c.args.fd n.desc k x (entry_shows (readiness v c.args.now r) v c.args.now) c.known.ensures (sym c.find.ensures.there ∙ ap (λ o. is_some o) c.in-Some.is) c.in-Some.ensures.entry (ap (numbered r.entries) is ∙ c.entry-entry.ensures.entry) in
+    let shown = shown_named v c.args.now r n c.args.fd c.args.below x c.requires.below (sym c.find.ensures.there ∙ ap (λ o. is_some o) c.in-Some.is) (sym c.in-Some.ensures.entry ∙ (ap (numbered r.entries) is ∙ c.entry-entry.ensures.entry)) in
     ap (λ (b : Bool). if b then Instance n.instance else Nowhere)
     (sym (one
-    ∙ (ap (λ (b : ℕ). nat_lt 0 b && (not (has_bit x.mask.0 ET) || x.fresh)) (sym c.shown.ensures) ∙ (sym c.is_reportable.ensures ∙ c.if-not-is_reportable.false))))
+    ∙ (ap (λ (b : ℕ). nat_lt 0 b && (not (has_bit x.mask.0 ET) || x.fresh)) (sym (c.shown_at.ensures ∙ shown)) ∙ (sym c.is_reportable.ensures ∙ c.if-not-is_reportable.false))))

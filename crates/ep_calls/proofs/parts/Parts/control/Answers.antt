@@ -1,10 +1,10 @@
 use Rattle.std.proofs.Common.{None, Some, ℕ, Bool, if◌then◌else◌, true, false, cond, refl, subst, sym, unwrap_or}
 use Rattle.std.specs.List.{list_any}
-use Rattle.std.specs.Prelude.{filter, IsSome}
+use Rattle.std.specs.Prelude.{◌≡◌, filter, IsSome, MatchBool}
 use Rattle.ep_base.specs.declared.ids.Fd.{Fd}
 use Rattle.ep_interest.specs.Registrations.{Registrations, has_key, number_under}
 use Rattle.ep_calls.specs.Parts.{Parts}
-use Rattle.ep_calls.specs.Control.{IsPlan, is_deep_at, is_done, raising_of_ctl}
+use Rattle.ep_calls.specs.Control.{Changes, IsPlan, TellsBelow, is_deep_at, is_done, raising_of_ctl}
 use Rattle.ep_calls.specs.Raising.{IsRaising}
 use Rattle.ep_calls.specs.Readiness.{entry_shows, readiness}
 use Rattle.ep_calls.specs.declared.control.Named.{Named}
@@ -12,6 +12,7 @@ use Rattle.ep_calls.specs.declared.raising.Raising.{Raising}
 use Rattle.ep_calls.specs.declared.raising.Raising.TheVariants.{Instance, Nowhere}
 use Rattle.ep_calls.proofs.EpollCtlLemmas.{deep_is_at, goes_altered, goes_entered, is_deep, linked_altered, linked_entered}
 use Rattle.ep_calls.proofs.FindLemmas.{has_number}
+use Rattle.ep_calls.proofs.IsBelowLemmas.{told_below}
 use Rattle.ep_table.specs.Value.{Seen, number_under as number_of_key}
 use Rattle.ep_calls.proofs.ControlLemmas.{controls_told, ctl_does, found_as, watched_altered, watched_entered}
 use Rattle.ep_calls.proofs.parts.Parts.control.Goals as goal
@@ -24,7 +25,7 @@ pub invariant_of-self : goal.invariant_of-self
 invariant_of-self c =
     let k = c.self.inside in
     let p : Parts = record { tables = k.tables; interest = k.interest; graph = k.graph; parked = k.waiters; clock = k.clock } in
-    let plan : IsPlan p c.args.pid.0 c.args.args c.args.plan = subst (λ (q : Parts). IsPlan q c.args.pid.0 c.args.args c.args.plan) (sym c.self.view_is) c.requires in
+    let plan : IsPlan p c.args.pid.0 c.args.args c.args.plan = subst (λ (q : Parts). IsPlan q c.args.pid.0 c.args.args c.args.plan) (sym c.self.view_is) c.requires.plan in
     let v = k.tables in
     let r = k.interest in
     let h = c.self.invariant in
@@ -46,7 +47,7 @@ pub returns-in-Some-clause-ok : goal.returns-in-Some-clause-ok
 returns-in-Some-clause-ok c = λ n caller.
     let k = c.self.inside in
     let p : Parts = record { tables = k.tables; interest = k.interest; graph = k.graph; parked = k.waiters; clock = k.clock } in
-    let plan : IsPlan p c.args.pid.0 c.args.args c.args.plan = subst (λ (q : Parts). IsPlan q c.args.pid.0 c.args.args c.args.plan) (sym c.self.view_is) c.requires in
+    let plan : IsPlan p c.args.pid.0 c.args.args c.args.plan = subst (λ (q : Parts). IsPlan q c.args.pid.0 c.args.args c.args.plan) (sym c.self.view_is) c.requires.plan in
     let v = k.tables in
     let r = k.interest in
     let h = c.self.invariant in
@@ -68,7 +69,7 @@ pub invariant_of-self-in-None : goal.invariant_of-self-in-None
 invariant_of-self-in-None c =
     let k = c.self.inside in
     let p : Parts = record { tables = k.tables; interest = k.interest; graph = k.graph; parked = k.waiters; clock = k.clock } in
-    let plan : IsPlan p c.args.pid.0 c.args.args c.args.plan = subst (λ (q : Parts). IsPlan q c.args.pid.0 c.args.args c.args.plan) (sym c.self.view_is) c.requires in
+    let plan : IsPlan p c.args.pid.0 c.args.args c.args.plan = subst (λ (q : Parts). IsPlan q c.args.pid.0 c.args.args c.args.plan) (sym c.self.view_is) c.requires.plan in
     let v = k.tables in
     let r = k.interest in
     let h = c.self.invariant in
@@ -91,7 +92,7 @@ pub returns-in_ok-answer-in-None-clause-ok : goal.returns-in_ok-answer-in-None-c
 returns-in_ok-answer-in-None-clause-ok c = λ n caller.
     let k = c.self.inside in
     let p : Parts = record { tables = k.tables; interest = k.interest; graph = k.graph; parked = k.waiters; clock = k.clock } in
-    let plan : IsPlan p c.args.pid.0 c.args.args c.args.plan = subst (λ (q : Parts). IsPlan q c.args.pid.0 c.args.args c.args.plan) (sym c.self.view_is) c.requires in
+    let plan : IsPlan p c.args.pid.0 c.args.args c.args.plan = subst (λ (q : Parts). IsPlan q c.args.pid.0 c.args.args c.args.plan) (sym c.self.view_is) c.requires.plan in
     let v = k.tables in
     let r = k.interest in
     let h = c.self.invariant in
@@ -127,19 +128,58 @@ pub alter-answer-requires-clause-there : goal.alter-answer-requires-clause-there
 alter-answer-requires-clause-there c =
     let k = c.self.inside in
     let p : Parts = record { tables = k.tables; interest = k.interest; graph = k.graph; parked = k.waiters; clock = k.clock } in
-    let plan : IsPlan p c.args.pid.0 c.args.args c.args.plan = subst (λ (q : Parts). IsPlan q c.args.pid.0 c.args.args c.args.plan) (sym c.self.view_is) c.requires in
+    let plan : IsPlan p c.args.pid.0 c.args.args c.args.plan = subst (λ (q : Parts). IsPlan q c.args.pid.0 c.args.args c.args.plan) (sym c.self.view_is) c.requires.plan in
     (found_as k.interest c.args.plan.named c.args.args.fd c.args.plan.found (Some c.in-Some.id) plan.found c.in-Some.is).key
 
 pub enter-requires-clause-desc : goal.enter-requires-clause-desc
 enter-requires-clause-desc c =
     let k = c.self.inside in
     let p : Parts = record { tables = k.tables; interest = k.interest; graph = k.graph; parked = k.waiters; clock = k.clock } in
-    let plan : IsPlan p c.args.pid.0 c.args.args c.args.plan = subst (λ (q : Parts). IsPlan q c.args.pid.0 c.args.args c.args.plan) (sym c.self.view_is) c.requires in
+    let plan : IsPlan p c.args.pid.0 c.args.args c.args.plan = subst (λ (q : Parts). IsPlan q c.args.pid.0 c.args.args c.args.plan) (sym c.self.view_is) c.requires.plan in
     plan.names.desc_lives
 
 pub enter-requires-clause-absent : goal.enter-requires-clause-absent
 enter-requires-clause-absent c =
     let k = c.self.inside in
     let p : Parts = record { tables = k.tables; interest = k.interest; graph = k.graph; parked = k.waiters; clock = k.clock } in
-    let plan : IsPlan p c.args.pid.0 c.args.args c.args.plan = subst (λ (q : Parts). IsPlan q c.args.pid.0 c.args.args c.args.plan) (sym c.self.view_is) c.requires in
+    let plan : IsPlan p c.args.pid.0 c.args.args c.args.plan = subst (λ (q : Parts). IsPlan q c.args.pid.0 c.args.args c.args.plan) (sym c.self.view_is) c.requires.plan in
     sym (found_as k.interest c.args.plan.named c.args.args.fd c.args.plan.found None plan.found c.in-None.is).there
+
+pub controlled-requires-clause-below : goal.controlled-requires-clause-below
+controlled-requires-clause-below c = λ done.
+    let k = c.self.inside in
+    let p : Parts = record { tables = k.tables; interest = k.interest; graph = k.graph; parked = k.waiters; clock = k.clock } in
+    let plan : IsPlan p c.args.pid.0 c.args.args c.args.plan = subst (λ (q : Parts). IsPlan q c.args.pid.0 c.args.args c.args.plan) (sym c.self.view_is) c.requires.plan in
+    let told : TellsBelow c.args.plan.operation c.args.plan.below p c.args.plan.named.desc = subst (λ (q : Parts). TellsBelow c.args.plan.operation c.args.plan.below q c.args.plan.named.desc) (sym c.self.view_is) c.requires.below in
+    let v = k.tables in
+    let r = k.interest in
+    let h = c.self.invariant in
+    let a = c.args.args in
+    let named = c.args.plan.named in
+    let operation = c.args.plan.operation in
+    let e = c.alter-answer.ensures in
+    let new = c.alter-answer.new.interest in
+    let linked = linked_altered v r c.args.pid.0 a named plan.names h.linked (unwrap_or (number_under r c.in-Some.id) 0) operation new c.alter-answer.result e.alters in
+    let found = found_as r named a.fd c.args.plan.found (Some c.in-Some.id) plan.found c.in-Some.is in
+    let changes = subst (λ (b : Bool). MatchBool b (Changes operation (Some c.in-Some.id) named a r new) (new ≡ r)) done (e.changes named) in
+    told_below p new c.alter-answer.new.graph named a c.args.plan.below c.known.ensures c.known-2.ensures linked (e.nested v h.nested) c.known-in-Some.ensures.legal plan.names.instance_lives plan.names.desc_lives operation (Some c.in-Some.id) found changes told
+
+pub controlled-requires-in-None-clause-below : goal.controlled-requires-in-None-clause-below
+controlled-requires-in-None-clause-below c = λ done.
+    let k = c.self.inside in
+    let p : Parts = record { tables = k.tables; interest = k.interest; graph = k.graph; parked = k.waiters; clock = k.clock } in
+    let plan : IsPlan p c.args.pid.0 c.args.args c.args.plan = subst (λ (q : Parts). IsPlan q c.args.pid.0 c.args.args c.args.plan) (sym c.self.view_is) c.requires.plan in
+    let told : TellsBelow c.args.plan.operation c.args.plan.below p c.args.plan.named.desc = subst (λ (q : Parts). TellsBelow c.args.plan.operation c.args.plan.below q c.args.plan.named.desc) (sym c.self.view_is) c.requires.below in
+    let v = k.tables in
+    let r = k.interest in
+    let h = c.self.invariant in
+    let a = c.args.args in
+    let named = c.args.plan.named in
+    let operation = c.args.plan.operation in
+    let e = c.in_ok-answer-in-None.ensures in
+    let new = c.enter.new.interest in
+    let answer = c.in_ok-answer-in-None.answer in
+    let linked = linked_entered v r c.args.pid.0 a named plan.names h.linked (is_deep_at v k.graph named) v.limits.watches operation new answer e.ok in
+    let found = found_as r named a.fd c.args.plan.found None plan.found c.in-None.is in
+    let changes = subst (λ (b : Bool). MatchBool b (Changes operation None named a r new) (new ≡ r)) done e.changes in
+    told_below p new c.enter.new.graph named a c.args.plan.below c.known.ensures c.known-2.ensures linked e.nested c.known-in-None.ensures.legal plan.names.instance_lives plan.names.desc_lives operation None found changes told
