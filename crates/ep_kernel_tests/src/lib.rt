@@ -3,6 +3,8 @@
 #![tactic(auto)]
 
 #[cfg(test)]
+mod kernels;
+#[cfg(test)]
 mod memory;
 #[cfg(test)]
 mod moments;

@@ -1,9 +1,9 @@
 //! A run of each kernel in which any request for memory may be refused: what is answered ENOMEM leaves the kernel as it
 //! was, and is asked again. The gate refuses none; `rt try --test --fail-alloc N` refuses the Nth.
 
-use ep_base::{Answer, CallerId, Errno, Limits};
-use ep_kernel::ReadyKernel;
-use ep_plain::{Kernel, PlainKernel};
+use crate::kernels::{Script, on_ready_kernel, on_scanning_kernel};
+use ep_base::{Answer, CallerId, Errno};
+use ep_plain::Kernel;
 use ep_text::{push_answer, read_line};
 use std::alloc::{AllocError, Global};
 use std::test::Fail;
@@ -99,23 +99,34 @@ fn is_answered<K: Kernel>(alloc: Global, kernel: &mut K, line: &str, wanted: &st
     }
 }
 
-/// The place of the first line that the kernel does not answer so.
-fn first_wrong<K: Kernel>(alloc: Global, kernel: &mut K) -> Option<usize> {
-    let lines = SCRIPT.lines().zip(ANSWERS.split_inclusive('\n'));
-    for (place, (line, wanted)) in lines.enumerate() {
-        if !is_answered(alloc, kernel, line, wanted) {
-            return Some(place);
+/// The script above.
+struct Refusals;
+
+impl Script for Refusals {
+    fn first_wrong<K: Kernel>(
+        &self,
+        alloc: Global,
+        kernel: &mut K,
+    ) -> Result<Option<usize>, AllocError> {
+        let lines = SCRIPT.lines().zip(ANSWERS.split_inclusive('\n'));
+        for (place, (line, wanted)) in lines.enumerate() {
+            if !is_answered(alloc, kernel, line, wanted) {
+                return Ok(Some(place));
+            }
         }
+        Ok(None)
     }
-    None
 }
+
+// Where memory for the kernel itself is refused, it is asked for again.
 
 #[test]
 fn the_scanning_kernel_goes_on_where_memory_is_refused(rt: HostRuntime) -> Result<(), Fail> {
-    let alloc = rt.alloc();
-    let again = |_| PlainKernel::new(alloc, Limits::default());
-    let mut kernel = PlainKernel::new(alloc, Limits::default()).or_else(again)?;
-    assert_eq!(rt; first_wrong(alloc, &mut kernel), None);
+    let wrong = match on_scanning_kernel(rt.alloc(), &Refusals) {
+        Ok(wrong) => wrong,
+        Err(AllocError) => on_scanning_kernel(rt.alloc(), &Refusals)?,
+    };
+    assert_eq!(rt; wrong, None);
     Ok(())
 }
 
@@ -123,9 +134,10 @@ fn the_scanning_kernel_goes_on_where_memory_is_refused(rt: HostRuntime) -> Resul
 fn the_kernel_with_ready_lists_goes_on_where_memory_is_refused(
     rt: HostRuntime,
 ) -> Result<(), Fail> {
-    let alloc = rt.alloc();
-    let again = |_| ReadyKernel::new(alloc, Limits::default());
-    let mut kernel = ReadyKernel::new(alloc, Limits::default()).or_else(again)?;
-    assert_eq!(rt; first_wrong(alloc, &mut kernel), None);
+    let wrong = match on_ready_kernel(rt.alloc(), &Refusals) {
+        Ok(wrong) => wrong,
+        Err(AllocError) => on_ready_kernel(rt.alloc(), &Refusals)?,
+    };
+    assert_eq!(rt; wrong, None);
     Ok(())
 }

@@ -1,8 +1,7 @@
 //! The moment at which something happens next, as both kernels tell it while a timer runs and a caller is parked.
 
-use ep_base::Limits;
-use ep_kernel::ReadyKernel;
-use ep_plain::{Kernel, PlainKernel};
+use crate::kernels::{Script, on_ready_kernel, on_scanning_kernel};
+use ep_plain::Kernel;
 use ep_text::read_line;
 use std::alloc::{AllocError, Global};
 use std::test::Fail;
@@ -37,32 +36,36 @@ const MOMENTS: [Option<u64>; 11] = [
     None,
 ];
 
-/// The place of the first line after which the kernel tells another moment.
-fn first_wrong<K: Kernel>(alloc: Global, kernel: &mut K) -> Result<Option<usize>, AllocError> {
-    for (place, (line, moment)) in SCRIPT.lines().zip(MOMENTS.iter()).enumerate() {
-        let Some((caller, event)) = read_line(alloc, line.as_bytes())? else {
-            return Ok(Some(place));
-        };
-        let _answer = kernel.step(caller, event);
-        if kernel.next_moment() != *moment {
-            return Ok(Some(place));
+/// The script above, with the next moment after each line.
+struct Moments;
+
+impl Script for Moments {
+    fn first_wrong<K: Kernel>(
+        &self,
+        alloc: Global,
+        kernel: &mut K,
+    ) -> Result<Option<usize>, AllocError> {
+        for (place, (line, moment)) in SCRIPT.lines().zip(MOMENTS.iter()).enumerate() {
+            let Some((caller, event)) = read_line(alloc, line.as_bytes())? else {
+                return Ok(Some(place));
+            };
+            let _answer = kernel.step(caller, event);
+            if kernel.next_moment() != *moment {
+                return Ok(Some(place));
+            }
         }
+        Ok(None)
     }
-    Ok(None)
 }
 
 #[test]
 fn the_scanning_kernel_tells_the_next_moment(rt: HostRuntime) -> Result<(), Fail> {
-    let alloc = rt.alloc();
-    let mut kernel = PlainKernel::new(alloc, Limits::default())?;
-    assert_eq!(rt; first_wrong(alloc, &mut kernel)?, None);
+    assert_eq!(rt; on_scanning_kernel(rt.alloc(), &Moments)?, None);
     Ok(())
 }
 
 #[test]
 fn the_kernel_with_ready_lists_tells_the_next_moment(rt: HostRuntime) -> Result<(), Fail> {
-    let alloc = rt.alloc();
-    let mut kernel = ReadyKernel::new(alloc, Limits::default())?;
-    assert_eq!(rt; first_wrong(alloc, &mut kernel)?, None);
+    assert_eq!(rt; on_ready_kernel(rt.alloc(), &Moments)?, None);
     Ok(())
 }
