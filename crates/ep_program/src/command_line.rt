@@ -7,8 +7,8 @@ use clap::parser::ValueSource;
 use clap::{Arg, ArgAction, Command, Error};
 use std::alloc::{AllocError, Global};
 
-/// The version of the program, and the line of the toolchain that it was proved with, as `rt version` prints it.
-const VERSION: &str = "1.0.0\nproved with rattle-kit-13f logic dac8208d650f15bf";
+/// The version of the program, and the logic that it was proved in, as the second half of what `rt version` prints.
+const VERSION: &str = "1.0.0\nproved in logic dac8208d650f15bf";
 
 /// What is said below the options.
 const EXAMPLE: &str =
