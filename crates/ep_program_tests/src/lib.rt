@@ -1,4 +1,4 @@
-//! The tests of the program, in a crate of their own: the gate proves a crate that has tests twice.
+//! The tests of both programs, in a crate of their own: the gate proves a crate that has tests twice.
 #![tactic(auto)]
 
 #[cfg(test)]
@@ -7,3 +7,5 @@ mod history;
 mod kernels;
 #[cfg(test)]
 mod program;
+#[cfg(test)]
+mod verdicts;

@@ -1,4 +1,4 @@
-//! What is written for a history, and the status.
+//! What `epaudit` writes for a history, and its status.
 
 use ep_audit_program::run_with;
 use std::alloc::Global;

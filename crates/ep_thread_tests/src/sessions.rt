@@ -12,9 +12,9 @@ use std::sync::Wait;
 use std::sync::ledger::{Blank, Ledger};
 use std::test::*;
 
-const PROCESS: Pid = Pid(1);
+pub(crate) const PROCESS: Pid = Pid(1);
 
-fn check(holds: bool) -> Result<(), Fail> {
+pub(crate) fn check(holds: bool) -> Result<(), Fail> {
     if holds { Ok(()) } else { Err(Fail::new("no")) }
 }
 

@@ -2,8 +2,9 @@
 ghost use Rattle.std.specs.Prelude.{◌≡◌};
 
 use crate::gates::{BothHere, Shut};
+use crate::sessions::{PROCESS, check};
 use ep_audit::audit;
-use ep_base::{Answer, Buffer, Call, CallerId, Fd, Limits, Mask, Pid, Record};
+use ep_base::{Answer, Buffer, Call, CallerId, Fd, Limits, Mask, Record};
 use ep_plain::PlainKernel;
 use ep_pool::{Gate, Job, PoolReport, Step, run_sessions};
 use ep_shared::{History, Session, Shared};
@@ -14,14 +15,8 @@ use std::sync::ledger::{Blank, Ledger};
 use std::test::*;
 use std::thread::Threads;
 
-const PROCESS: Pid = Pid(1);
-
 /// How often the test of two threads is run.
 const TIMES: u32 = 100;
-
-fn check(holds: bool) -> Result<(), Fail> {
-    if holds { Ok(()) } else { Err(Fail::new("no")) }
-}
 
 /// An eventfd with 0.
 fn counter() -> Call {
