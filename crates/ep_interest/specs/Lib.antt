@@ -4,4 +4,5 @@ pub mod Listed
 pub mod Places
 pub mod Registrations
 pub mod Passes
+pub mod Touched
 pub mod View

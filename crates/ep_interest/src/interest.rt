@@ -1,5 +1,6 @@
 //! All interest sets together.
 ghost use Rattle.std.specs.Prelude.{nat_eq, nat_lt, not, vec_capacity, ◌≤◌, ◌≡◌, ◌&&◌, ◌+◌, [], ◌∷◌, ◌++◌, false, IfOk, IfNone, IfSome, OnErr, IsSome, Some, is_some, All, filter, length, map, slice_index_or, slice_set, None, option_copied, unwrap_or};
+ghost use Rattle.std.specs.Bool.{OnFalse};
 ghost use Rattle.std.specs.Map.Iter.{ShowsInOrder};
 ghost use Rattle.std.specs.Option.{option_map};
 ghost use Rattle.ep_base.specs.declared.ids.EntryId.{EntryId};
@@ -16,6 +17,7 @@ use crate::entries::{Entries, Watchers};
 use crate::entry::Entry;
 use crate::passes::Passes;
 use crate::place::{Place, places_of};
+use crate::touched::Touched;
 use bitflags::Flags;
 use ep_base::{DescId, EntryId, Fd, Mask};
 use indexmap::IndexMap;
@@ -205,6 +207,7 @@ pub struct Interest<A: Allocator = Global> {
     by_instance: BTreeMap<Place, EntryId, A>,
     by_target: BTreeMap<Place, EntryId, A>,
     passes: Passes<A>,
+    touched: Touched<A>,
     added: u64,
 }
 
@@ -222,7 +225,7 @@ impl<A: Allocator> Model for Interest<A> {
 
 impl<A: Allocator> Interest<A> {
     /// No registrations, which takes no memory.
-    #[tactic(auto, using(crate::proofs::PassesLemmas::passing_none))]
+    #[tactic(auto, using(crate::proofs::PassesLemmas::passing_none, crate::proofs::TouchedLemmas::touched_none))]
     pub fn new(alloc: A) -> Interest<A>
     where
         A: Copy,
@@ -237,6 +240,7 @@ impl<A: Allocator> Interest<A> {
             by_instance: BTreeMap::new(alloc),
             by_target: BTreeMap::new(alloc),
             passes: Passes::new(alloc),
+            touched: Touched::new(alloc),
             added: 0,
         }
     }
@@ -295,6 +299,8 @@ impl<A: Allocator> Interest<A> {
         self.slots.reserve(1)?;
         self.by_key.reserve(1)?;
         self.passes.reserve(self.slots.capacity())?;
+        self.touched.note(addition.instance)?;
+        self.touched.note(addition.desc)?;
         let id = EntryId(self.slots.vacant_key());
         let number = self.added + 1;
         let of_instance = Place::new(addition.instance, number);
@@ -480,7 +486,8 @@ impl<A: Allocator> Interest<A> {
     }
 
     /// Takes away every registration in the set of a description and every one on it, as where the description dies.
-    /// Only these are visited, and each costs what `remove` does.
+    /// Only these are visited, and each costs what `remove` does. The cost is constant where no registration was in its set
+    /// or on it since it was last purged.
     pub fn purge(&mut self, desc: DescId)
         ensures entries { self.new.entries ≡ filter (is_apart_from desc) self.old.entries }
         ensures keys { (id : EntryId)
@@ -488,9 +495,29 @@ impl<A: Allocator> Interest<A> {
         ensures added { self.new.added ≡ self.old.added }
     {
         self.known();
+        if !self.may_touch(desc) {
+            return;
+        }
         while let Some(id) = self.first_touching(desc) {
             self.remove(id);
         }
+        self.forget(desc);
+    }
+
+    /// Whether a registration may be in the set of a description or on it.
+    fn may_touch(&self, desc: DescId) -> bool
+        ensures { OnFalse result
+            (filter (is_apart_from desc) self.now.entries ≡ self.now.entries) }
+    {
+        self.touched.has(desc)
+    }
+
+    /// Notes that no registration is in the set of a description or on it.
+    fn forget(&mut self, desc: DescId)
+        requires { filter (is_apart_from desc) self.old.entries ≡ self.old.entries }
+        ensures { self.new ≡ self.old }
+    {
+        self.touched.forget(desc);
     }
 
     /// The key of a registration in the set of a description or on it, `None` where there is none.

@@ -7,6 +7,7 @@ mod entry;
 mod interest;
 mod passes;
 mod place;
+mod touched;
 
 pub use crate::addition::Addition;
 pub use crate::entries::{Entries, Watchers};

@@ -16,6 +16,7 @@ use Rattle.ep_interest.proofs.AddLemmas.{Inserted, put_back, same_place_exact, e
 use Rattle.ep_interest.proofs.IndexLemmas.{index_same}
 use Rattle.ep_interest.proofs.KeyLemmas.{find_none}
 use Rattle.ep_interest.proofs.PassesLemmas.{passing_more, passing_same}
+use Rattle.ep_interest.proofs.TouchedLemmas.{touched_kept, touched_more}
 use Rattle.ep_interest.proofs.interest.Interest.add.Given.{Over}
 use Rattle.ep_interest.proofs.interest.Interest.add.Goals as goal
 
@@ -59,6 +60,7 @@ invariant_of-self-2 g c = record {
   by_target = by_target g c;
   passing = let k = c.self.inside in let s = in_slots g c in passing_more k.slots.slots c.insert_reserved.new.self.slots k.passes.keys.items c.reserve-3.new.self.keys.items c.reserve-3.ensures.keys c.vacant_key.result (one g c) s.was s.here refl s.others c.self.invariant.passing;
   room = omega (arith, c.capacity-room.ensures.slots, c.capacity-room.ensures.value, c.insert_reserved.ensures.capacity, c.capacity.ensures.value, c.in_ok-reserve-3.ensures.room);
+  touched = touched_more c.self.inside.slots.slots c.insert_reserved.new.self.slots c.vacant_key.result (one g c) (in_slots g c) c.self.inside.touched.numbers.keys c.note-2.new.self.numbers.keys (λ n h. c.note-2.ensures.kept n (c.note.ensures.kept n h)) (c.note-2.ensures.kept c.args.addition.instance.0 c.in_ok-note.ensures.noted) c.in_ok-note-2.ensures.noted c.self.invariant.touched;
 }
 
 pub returns-clause-entries : goal.returns-clause-entries
@@ -66,7 +68,7 @@ returns-clause-entries g c = subst (λ (r : Registrations). in_order c.insert_re
     (entries_more c.self.inside.slots.slots c.insert_reserved.new.self.slots c.vacant_key.result (one g c) (in_slots g c) c.self.inside.added refl c.self.invariant.numbered)
 
 pub returns-clause-keys : goal.returns-clause-keys
-returns-clause-keys g c = subst (λ (r : Registrations). GainsKey r (registrations {A = g.row.A.Denot} (record { slots = c.insert_reserved.new.self; by_key = c.insert-3.new.self; by_instance = c.insert.new.self; by_target = c.insert-2.new.self; passes = c.reserve-3.new.self; added = c.self.inside.added + 1 })) (record { 0 = c.vacant_key.result }) (r.added + 1)) c.self.view_is
+returns-clause-keys g c = subst (λ (r : Registrations). GainsKey r (registrations {A = g.row.A.Denot} (record { slots = c.insert_reserved.new.self; by_key = c.insert-3.new.self; by_instance = c.insert.new.self; by_target = c.insert-2.new.self; passes = c.reserve-3.new.self; touched = c.note-2.new.self; added = c.self.inside.added + 1 })) (record { 0 = c.vacant_key.result }) (r.added + 1)) c.self.view_is
     (keys_more c.self.inside.slots.slots c.insert_reserved.new.self.slots c.vacant_key.result (one g c) (in_slots g c) c.self.inside.added refl c.self.invariant.numbered c.self.inside.slots.vacant_key c.insert_reserved.new.self.vacant_key)
 
 -- what was put at one place and taken away leaves no trace
@@ -84,4 +86,5 @@ invariant_of-self-in-Err g c =
       by_target = index_same (place_of target_of) k.slots.slots c.reserve.new.self.slots slots (tree.get place_cmp k.by_target) (tree.get place_cmp c.insert-2.new.self) (λ q. λ i. lookup (λ e. is_eq (place_cmp q e)) (c.in-Err.ensures.err i)) c.self.invariant.by_target;
       passing = passing_same k.slots.slots c.reserve.new.self.slots k.passes.keys.items c.reserve-3.new.self.keys.items c.reserve-3.ensures.keys (λ j. ap (λ (xs : List (Option Entry)). passes_on (get_or xs j None)) (sym slots)) c.self.invariant.passing;
       room = subst (λ (xs : List (Option Entry)). length xs ≤ vec_capacity c.reserve-3.new.self.keys) slots (omega (arith, c.self.invariant.room, c.reserve-3.ensures.kept));
+      touched = touched_kept k.slots.slots c.reserve.new.self.slots k.touched.numbers.keys c.note-2.new.self.numbers.keys (sym slots) (λ n h. c.note-2.ensures.kept n (c.note.ensures.kept n h)) c.self.invariant.touched;
     }

@@ -11,6 +11,7 @@ use Rattle.ep_interest.proofs.InOrderLemmas.{held_next, numbered_next}
 use Rattle.ep_interest.proofs.IndexLemmas.{index_next}
 use Rattle.ep_interest.proofs.ReplaceLemmas.{Replaced, keys_same, number_is, replaced, reported_other, reported_this}
 use Rattle.ep_interest.proofs.PassesLemmas.{passing_replaced}
+use Rattle.ep_interest.proofs.TouchedLemmas.{touched_next}
 use Rattle.ep_interest.proofs.interest.Interest.report.Given.{Over}
 use Rattle.ep_interest.proofs.interest.Interest.report.Goals as goal
 
@@ -31,6 +32,7 @@ invariant_of-self g c =
       by_target = index_next (place_of target_of) k.slots.slots after c.args.id.0 x (next g c) s.was s.here s.others refl (tree.get place_cmp k.by_target) c.self.invariant.by_target;
       passing = passing_replaced k.slots.slots after k.passes.keys.items c.args.id.0 x (next g c) s refl c.self.invariant.passing;
       room = rw (length-set k.slots.slots c.args.id.0 (Some (next g c))) c.self.invariant.room;
+      touched = touched_next k.slots.slots after k.touched.numbers.keys c.args.id.0 x (next g c) s refl refl c.self.invariant.touched;
     }
 
 pub returns-clause-entries : goal.returns-clause-entries
