@@ -53,20 +53,25 @@ fn is_above(graph: &mut Graph, inner: usize, entries: &[usize], wanted: &[usize]
 
 /// A chain of five instances takes no sixth, at either end, and no loop.
 #[test]
-fn nests_five_deep(rt: HostRuntime) -> Result<(), Fail> {
+fn nests_five_deep(rt: HostRuntime) {
     let mut graph = Graph::new(rt.alloc());
     add_chain(&rt, &mut graph, &[3, 4, 5, 6, 7]);
-    assert_eq!(rt; add(&rt, &mut graph, 8, 3, 20), Err(Errno::Eloop));
-    assert_eq!(rt; add(&rt, &mut graph, 7, 8, 20), Err(Errno::Eloop));
-    assert_eq!(rt; add(&rt, &mut graph, 7, 3, 20), Err(Errno::Eloop));
-    assert_eq!(rt; add(&rt, &mut graph, 9, 9, 20), Err(Errno::Eloop));
-    assert_eq!(rt; add(&rt, &mut graph, 4, 3, 20), Err(Errno::Eloop));
+    refuses_a_sixth(&rt, &mut graph);
     // The link of 5 and 6 goes, and both ends have room again.
     graph.unlink(EntryId(6));
+    has_room_at_both_ends(&rt, &mut graph);
+}
+
+fn refuses_a_sixth(rt: &impl Abort, graph: &mut Graph) {
+    for (outer, inner) in [(8, 3), (7, 8), (7, 3), (9, 9), (4, 3)] {
+        assert_eq!(rt; add(rt, graph, outer, inner, 20), Err(Errno::Eloop));
+    }
+}
+
+fn has_room_at_both_ends(rt: &impl Abort, graph: &mut Graph) {
     assert!(rt; !graph.is_linked(EntryId(6)));
-    assert_eq!(rt; add(&rt, &mut graph, 8, 3, 20), Ok(()));
-    assert_eq!(rt; add(&rt, &mut graph, 7, 9, 21), Ok(()));
-    Ok(())
+    assert_eq!(rt; add(rt, graph, 8, 3, 20), Ok(()));
+    assert_eq!(rt; add(rt, graph, 7, 9, 21), Ok(()));
 }
 
 /// What stands above and what stands below count together.
@@ -91,16 +96,20 @@ fn finds_above(rt: HostRuntime) {
     for (outer, inner, entry) in [(3, 5, 1), (4, 5, 2), (2, 3, 3), (2, 4, 4)] {
         assert_eq!(rt; add(&rt, &mut graph, outer, inner, entry), Ok(()));
     }
-    assert!(rt; is_above(&mut graph, 5, &[1, 2, 3, 4], &[2, 3, 4]));
-    assert!(rt; is_above(&mut graph, 5, &[1, 3], &[2, 3]));
-    assert!(rt; is_above(&mut graph, 5, &[1, 4], &[3]));
-    assert!(rt; is_above(&mut graph, 5, &[3, 4], &[]));
-    assert!(rt; is_above(&mut graph, 3, &[1, 2, 3, 4], &[2]));
-    assert!(rt; is_above(&mut graph, 2, &[1, 2, 3, 4], &[]));
-    assert!(rt; is_above(&mut graph, 99, &[1, 2, 3, 4], &[]));
-    assert_eq!(rt; above_past(&mut graph, DescId(5), 1).len(), 2);
+    finds_each_once(&rt, &mut graph);
     graph.unlink(EntryId(2));
     assert!(rt; is_above(&mut graph, 5, &[1, 2, 3, 4], &[2, 3]));
+}
+
+fn finds_each_once(rt: &impl Abort, graph: &mut Graph) {
+    assert!(rt; is_above(graph, 5, &[1, 2, 3, 4], &[2, 3, 4]));
+    assert!(rt; is_above(graph, 5, &[1, 3], &[2, 3]));
+    assert!(rt; is_above(graph, 5, &[1, 4], &[3]));
+    assert!(rt; is_above(graph, 5, &[3, 4], &[]));
+    assert!(rt; is_above(graph, 3, &[1, 2, 3, 4], &[2]));
+    assert!(rt; is_above(graph, 2, &[1, 2, 3, 4], &[]));
+    assert!(rt; is_above(graph, 99, &[1, 2, 3, 4], &[]));
+    assert_eq!(rt; above_past(graph, DescId(5), 1).len(), 2);
 }
 
 /// The links from an instance and to it go, and the others stay in their order; what is left has room again.

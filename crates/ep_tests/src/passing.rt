@@ -3,6 +3,7 @@
 use ep_base::{DescId, EntryId, Fd, Mask};
 use ep_interest::{Addition, Interest};
 use std::alloc::AllocError;
+use std::process::Abort;
 use std::test::Fail;
 
 const IN: Mask = Mask(1);
@@ -40,12 +41,17 @@ fn raised(sets: &mut Interest, desc: usize) -> usize {
 #[test]
 fn passes_on_until_the_event_ends(rt: HostRuntime) -> Result<(), Fail> {
     let mut sets = Interest::new(rt.alloc());
-    let first = key(&mut sets, 3, 9, IN)?;
-    key(&mut sets, 4, 9, IN)?;
-    let other = key(&mut sets, 4, 8, OUT)?;
+    two_pass_in_on(&rt, &mut sets)?;
+    Ok(())
+}
+
+fn two_pass_in_on(rt: &impl Abort, sets: &mut Interest) -> Result<(), AllocError> {
+    let first = key(sets, 3, 9, IN)?;
+    key(sets, 4, 9, IN)?;
+    let other = key(sets, 4, 8, OUT)?;
     assert!(rt; sets.lets_by(first) && !sets.lets_by(other));
-    assert!(rt; raised(&mut sets, 9) == 2);
-    assert!(rt; raised(&mut sets, 8) == 2);
+    assert!(rt; raised(sets, 9) == 2);
+    assert!(rt; raised(sets, 8) == 2);
     sets.purge(DescId(3));
     assert!(rt; sets.get(first).is_none());
     assert!(rt; sets.passing().len() == 1);

@@ -1,12 +1,12 @@
 //! The registrations: found, in order, used again, removed with what they touch, and refused memory.
-ghost use Rattle.std.specs.Prelude.{◌≡◌, IfOk, IsSome, filter};
+ghost use Rattle.std.specs.Prelude.{◌≡◌, [], IfOk, IsSome, filter};
 ghost use Rattle.ep_interest.specs.Registrations.{is_of, number_under};
 
 use self::Op::{Add, Look, Modify, Purge, Remove, Report};
 use ep_base::{DescId, EntryId, Fd, Mask};
 use ep_interest::{Addition, Entry, Interest};
 use linked_list_allocator::LocalHeap;
-use std::alloc::{AllocError, Global};
+use std::alloc::{AllocError, Allocator, Global};
 use std::process::Abort;
 use std::test::Fail;
 
@@ -114,10 +114,14 @@ fn last_report(sets: &Interest, key: Key) -> Option<(bool, bool, u64)> {
 /// Instance 3 watches 9 twice and 8 once, in this order, and instance 4 watches 9.
 fn four(alloc: Global) -> Result<Interest, AllocError> {
     let mut sets = Interest::new(alloc);
-    put(&mut sets, (3, 5, 9), 70)?;
-    put(&mut sets, (4, 5, 9), 71)?;
-    put(&mut sets, (3, 6, 9), 72)?;
-    put(&mut sets, (3, 5, 8), 73)?;
+    for (key, tag) in [
+        ((3, 5, 9), 70),
+        ((4, 5, 9), 71),
+        ((3, 6, 9), 72),
+        ((3, 5, 8), 73),
+    ] {
+        put(&mut sets, key, tag)?;
+    }
     Ok(sets)
 }
 
@@ -186,10 +190,14 @@ const DEATH: [Step; 3] = [
 fn a_report_disarms_a_one_shot(rt: HostRuntime) -> Result<(), Fail> {
     let mut sets = four(rt.alloc())?;
     expect(&rt, first_wrong(&mut sets, &REPORTED));
-    assert!(rt; last_report(&sets, (3, 5, 9)) == Some((false, false, 6)));
-    assert!(rt; last_report(&sets, (3, 6, 9)) == Some((true, false, 7)));
-    assert!(rt; last_report(&sets, (3, 5, 8)) == Some((true, true, 0)));
+    assert!(rt; are_reported(&sets));
     Ok(())
+}
+
+fn are_reported(sets: &Interest) -> bool {
+    last_report(sets, (3, 5, 9)) == Some((false, false, 6))
+        && last_report(sets, (3, 6, 9)) == Some((true, false, 7))
+        && last_report(sets, (3, 5, 8)) == Some((true, true, 0))
 }
 
 const REPORTED: [Step; 3] = [
@@ -215,29 +223,56 @@ const CHANGED: [Step; 3] = [
 #[test]
 fn the_registrations_of_an_instance_stand_in_order(rt: HostRuntime) -> Result<(), Fail> {
     let sets = four(rt.alloc())?;
-    let third = armed(rt.alloc(), &sets, DescId(3))?;
-    assert!(rt; matches!(third.as_slice(), [a, b, c] if a.tag == 70 && b.tag == 72 && c.tag == 73));
-    assert!(rt; armed(rt.alloc(), &sets, DescId(4))?.len() == 1);
-    assert!(rt; armed(rt.alloc(), &sets, DescId(9))?.is_empty());
+    let found = all_have_tags(&rt, &sets);
+    drop(sets);
+    Ok(found?)
+}
+
+fn all_have_tags(rt: &(impl Abort + AllocGlobal), sets: &Interest) -> Result<(), AllocError> {
+    assert!(rt; has_tags(rt.alloc(), sets, DescId(3), &[70, 72, 73])?);
+    assert!(rt; has_tags(rt.alloc(), sets, DescId(4), &[71])?);
+    assert!(rt; has_tags(rt.alloc(), sets, DescId(9), &[])?);
     Ok(())
+}
+
+/// Whether the armed registrations of an instance have these data, in order.
+fn has_tags(
+    alloc: Global,
+    sets: &Interest,
+    instance: DescId,
+    tags: &[u64],
+) -> Result<bool, AllocError> {
+    let found = armed(alloc, sets, instance)?;
+    Ok(found.iter().map(|entry| entry.tag).eq(tags.iter().copied()))
 }
 
 #[test]
 fn the_watchers_of_a_description_stand_in_order(rt: HostRuntime) -> Result<(), Fail> {
     let sets = four(rt.alloc())?;
+    three_watch_9(&rt, &sets);
+    Ok(())
+}
+
+fn three_watch_9(rt: &impl Abort, sets: &Interest) {
     let mut found = sets.watchers(DescId(9));
     for (instance, fd) in [(3, 5), (4, 5), (3, 6)] {
         assert!(rt; found.next() == sets.find(DescId(instance), Fd(fd), DescId(9)));
     }
     assert!(rt; found.next().is_none());
     assert!(rt; sets.watchers(DescId(3)).next().is_none());
-    Ok(())
 }
 
-/// Whether a registration is refused over a heap of so many bytes. A refused one leaves the sets empty.
+/// Whether a registration is refused over a heap of so many bytes.
 fn is_refused(rt: &(impl Abort + AllocGlobal), bytes: usize) -> Result<bool, AllocError> {
     let heap = LocalHeap::new(rt.alloc(), bytes)?;
     let mut sets = Interest::new(&heap);
+    Ok(adds(rt, &mut sets).is_none())
+}
+
+/// The key of a registration, the first of these sets. A refused one leaves them empty.
+fn adds<A: Allocator + Clone>(rt: &impl Abort, sets: &mut Interest<A>) -> Option<EntryId>
+    requires { sets.old.entries ≡ [] }
+{
     let next = sets.next_key();
     let added = sets.add(addition((3, 5, 9), 70)).ok();
     assert!(rt; added.is_none() || added == Some(next));
@@ -245,7 +280,7 @@ fn is_refused(rt: &(impl Abort + AllocGlobal), bytes: usize) -> Result<bool, All
     assert!(rt; sets.find(DescId(3), Fd(5), DescId(9)) == added);
     assert!(rt; sets.entries(DescId(3)).next().is_some() == added.is_some());
     assert!(rt; sets.watchers(DescId(9)).next() == added);
-    Ok(added.is_none())
+    added
 }
 
 /// Over heaps of rising size each request for memory is refused in turn, and none where there is enough.

@@ -1,8 +1,12 @@
-//! What no clause says: that a call succeeds where there is memory, and the marks of whole runs of waits.
+//! What no clause says: that a call succeeds where there is memory, and the marks of whole runs of waits. Each test owns the
+//! waits and hands them on, since the proof of a function grows with all that it owns at each of its calls.
+ghost use Rattle.std.specs.Prelude.{◌≡◌, []};
+
 use ep_base::{CallerId, DescId, Pid};
 use ep_park::{Park, Waiter};
 use linked_list_allocator::LocalHeap;
-use std::alloc::AllocError;
+use std::alloc::{AllocError, Allocator};
+use std::ops::Range;
 use std::process::Abort;
 use std::test::Fail;
 
@@ -19,15 +23,33 @@ fn waiting(deadline: Option<u64>) -> Waiter {
     }
 }
 
+/// Parks each of these callers that isn't parked.
+fn park_each(
+    waits: &mut Park,
+    callers: Range<u32>,
+    deadline: Option<u64>,
+) -> Result<(), AllocError> {
+    for number in callers {
+        if !waits.is_parked(CallerId(number)) {
+            waits.park(CallerId(number), waiting(deadline))?;
+        }
+    }
+    Ok(())
+}
+
 /// Two callers wait for one instance: the first is marked and goes on, then the second.
 #[test]
 fn one_after_the_other(rt: HostRuntime) -> Result<(), Fail> {
     let mut waits = Park::new(rt.alloc());
+    let parked = second_goes_on_after_the_first(&rt, &mut waits);
+    drop(waits);
+    Ok(parked?)
+}
+
+fn second_goes_on_after_the_first(rt: &impl Abort, waits: &mut Park) -> Result<(), AllocError> {
+    park_each(waits, 1..3, None)?;
     let first = CallerId(1);
     let second = CallerId(2);
-    waits.park(first, waiting(None))?;
-    assert!(rt; !waits.is_parked(second));
-    waits.park(second, waiting(None))?;
     waits.mark_longest(INSTANCE);
     waits.mark_longest(INSTANCE);
     assert!(rt; !waits.is_marked(second));
@@ -50,11 +72,13 @@ fn one_after_the_other(rt: HostRuntime) -> Result<(), Fail> {
 #[test]
 fn past_one_that_left(rt: HostRuntime) -> Result<(), Fail> {
     let mut waits = Park::new(rt.alloc());
-    for number in 1..4 {
-        if !waits.is_parked(CallerId(number)) {
-            waits.park(CallerId(number), waiting(None))?;
-        }
-    }
+    let parked = third_goes_on_after_the_first(&rt, &mut waits);
+    drop(waits);
+    Ok(parked?)
+}
+
+fn third_goes_on_after_the_first(rt: &impl Abort, waits: &mut Park) -> Result<(), AllocError> {
+    park_each(waits, 1..4, None)?;
     assert!(rt; waits.leave(CallerId(2)) == Some(waiting(None)));
     assert!(rt; waits.leave(CallerId(1)) == Some(waiting(None)));
     waits.mark_longest(INSTANCE);
@@ -69,8 +93,14 @@ fn past_one_that_left(rt: HostRuntime) -> Result<(), Fail> {
 #[test]
 fn until_the_deadline(rt: HostRuntime) -> Result<(), Fail> {
     let mut waits = Park::new(rt.alloc());
+    let parked = is_marked_at_five(&rt, &mut waits);
+    drop(waits);
+    Ok(parked?)
+}
+
+fn is_marked_at_five(rt: &impl Abort, waits: &mut Park) -> Result<(), AllocError> {
+    park_each(waits, 1..2, Some(5))?;
     let caller = CallerId(1);
-    waits.park(caller, waiting(Some(5)))?;
     assert!(rt; waits.any_of(Pid(1)));
     waits.mark_due(4);
     assert!(rt; !waits.is_marked(caller));
@@ -90,11 +120,13 @@ fn until_the_deadline(rt: HostRuntime) -> Result<(), Fail> {
 #[test]
 fn a_thousand_in_turn(rt: HostRuntime) -> Result<(), Fail> {
     let mut waits = Park::new(rt.alloc());
-    for number in 0..1_000 {
-        if !waits.is_parked(CallerId(number)) {
-            waits.park(CallerId(number), waiting(None))?;
-        }
-    }
+    let parked = a_thousand_go_on(&rt, &mut waits);
+    drop(waits);
+    Ok(parked?)
+}
+
+fn a_thousand_go_on(rt: &impl Abort, waits: &mut Park) -> Result<(), AllocError> {
+    park_each(waits, 0..1_000, None)?;
     for number in 0..1_000 {
         waits.mark_longest(INSTANCE);
         assert!(rt; waits.is_marked(CallerId(number)));
@@ -104,16 +136,23 @@ fn a_thousand_in_turn(rt: HostRuntime) -> Result<(), Fail> {
     Ok(())
 }
 
-/// Whether parking is refused over a heap of so many bytes. A refused caller isn't parked, and nobody waits.
+/// Whether a caller is parked where memory is not refused. A refused one isn't parked, and nobody waits.
+fn parks<A: Allocator + Clone>(rt: &impl Abort, waits: &mut Park<A>) -> bool
+    requires { waits.old ≡ [] }
+{
+    let caller = CallerId(1);
+    let is_parked = waits.park(caller, waiting(None)).is_ok();
+    assert!(rt; waits.is_parked(caller) == is_parked);
+    assert!(rt; waits.has_waiter(INSTANCE) == is_parked);
+    assert!(rt; waits.any_of(Pid(1)) == is_parked);
+    is_parked
+}
+
+/// Whether parking is refused over a heap of so many bytes.
 fn is_refused(rt: &(impl Abort + AllocGlobal), bytes: usize) -> Result<bool, AllocError> {
     let heap = LocalHeap::new(rt.alloc(), bytes)?;
     let mut waits = Park::new(&heap);
-    let caller = CallerId(1);
-    let is_refused = waits.park(caller, waiting(None)).is_err();
-    assert!(rt; waits.is_parked(caller) != is_refused);
-    assert!(rt; waits.has_waiter(INSTANCE) != is_refused);
-    assert!(rt; waits.any_of(Pid(1)) != is_refused);
-    Ok(is_refused)
+    Ok(!parks(rt, &mut waits))
 }
 
 /// Over heaps of rising size each request for memory is refused in turn, and none where there is enough.

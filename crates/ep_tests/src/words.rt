@@ -34,25 +34,36 @@ fn copies_of_events(rt: HostRuntime) -> Result<(), Fail> {
 #[test]
 fn copies_of_bytes(rt: HostRuntime) -> Result<(), Fail> {
     let long = SmallVec::from_slice(rt.alloc(), [7; 17].as_slice())?;
-    let Answer::Bytes(bytes) = Answer::Bytes(Bytes::new(long)).copy()? else {
-        return Err(Fail::from("another answer"));
-    };
-    assert_eq!(rt; bytes.as_slice(), [7; 17].as_slice());
+    let answer = Answer::Bytes(Bytes::new(long));
+    assert!(rt; are_sevens(&answer.copy()?));
     Ok(())
+}
+
+fn are_sevens(answer: &Answer) -> bool {
+    match answer {
+        Answer::Bytes(bytes) => bytes.as_slice() == [7; 17].as_slice(),
+        _ => false,
+    }
 }
 
 #[test]
 fn copies_of_reports(rt: HostRuntime) -> Result<(), Fail> {
-    let report = Report {
-        bits: Mask::IN,
-        tag: 3,
-    };
-    let reports = SmallVec::from_slice(rt.alloc(), [report; 5].as_slice())?;
-    let Answer::Events(reports) = Answer::Events(Reports::new(reports)).copy()? else {
-        return Err(Fail::from("another answer"));
-    };
-    assert_eq!(rt; reports.as_slice(), [report; 5].as_slice());
+    let reports = SmallVec::from_slice(rt.alloc(), [IN_OF_3; 5].as_slice())?;
+    let answer = Answer::Events(Reports::new(reports));
+    assert!(rt; are_of_3(&answer.copy()?));
     Ok(())
+}
+
+const IN_OF_3: Report = Report {
+    bits: Mask::IN,
+    tag: 3,
+};
+
+fn are_of_3(answer: &Answer) -> bool {
+    match answer {
+        Answer::Events(reports) => reports.as_slice() == [IN_OF_3; 5].as_slice(),
+        _ => false,
+    }
 }
 
 #[test]
