@@ -61,3 +61,6 @@ loop-entry-preserved c =
       within = All-tail (λ (y : Entry). y.number ≤ r.added) x rest (subst (λ (xs : List Entry). All (λ (y : Entry). y.number ≤ r.added) xs) here c.loop-entry.invariant.within);
       length = length-set since x.number c.date_of.result ∙ c.loop-entry.invariant.length;
     }
+
+pub offset_bounds-since-entry : goal.offset_bounds-since-entry
+offset_bounds-since-entry c = omega (arith, bounds-since-entry c, c.slice_known-1.given, c.loop-entry.invariant.length)
