@@ -1,4 +1,5 @@
-//! What is asked of each kernel. A function that owns a kernel is dear to prove, so there is one for each of them.
+//! What is asked of each kernel. The proof of a function that owns a kernel grows with the parts that it knows of it, so
+//! one function owns a kernel of any kind.
 
 use ep_base::Limits;
 use ep_kernel::ReadyKernel;
@@ -15,17 +16,27 @@ pub trait Script {
     ) -> Result<Option<usize>, AllocError>;
 }
 
+/// Runs a script on a kernel that it owns, as one of any kind, where there was memory to make it.
+fn on_made<S: Script, K: Kernel + Drop>(
+    alloc: Global,
+    script: &S,
+    made: Result<K, AllocError>,
+) -> Result<Option<usize>, AllocError> {
+    let Ok(mut kernel) = made else {
+        return Err(AllocError);
+    };
+    script.first_wrong(alloc, &mut kernel)
+}
+
 /// Runs a script on the kernel that scans.
 pub fn on_scanning_kernel<S: Script>(
     alloc: Global,
     script: &S,
 ) -> Result<Option<usize>, AllocError> {
-    let mut kernel = PlainKernel::new(alloc, Limits::default())?;
-    script.first_wrong(alloc, &mut kernel)
+    on_made(alloc, script, PlainKernel::new(alloc, Limits::default()))
 }
 
 /// Runs a script on the kernel with ready lists.
 pub fn on_ready_kernel<S: Script>(alloc: Global, script: &S) -> Result<Option<usize>, AllocError> {
-    let mut kernel = ReadyKernel::new(alloc, Limits::default())?;
-    script.first_wrong(alloc, &mut kernel)
+    on_made(alloc, script, ReadyKernel::new(alloc, Limits::default()))
 }

@@ -17,7 +17,7 @@ use ep_plain::{Kernel, PlainKernel};
 use ep_script::{
     RecordedFault, ScriptFault, Summary, Watched, parse_limits, run_recorded, run_script,
 };
-use std::alloc::Global;
+use std::alloc::{AllocError, Global};
 use std::io::{self, ErrorKind as IoKind, Read, Write};
 
 /// The end of the input was reached, or help or the version was asked for.
@@ -166,31 +166,17 @@ fn run_over<K: Kernel, R: Read + Drop, W: Write + Drop, E: Write + Drop, H: Writ
     }
 }
 
-/// Runs the script on a new kernel with ready lists.
-fn run_ready<R: Read + Drop, W: Write + Drop, E: Write + Drop, H: Write + Drop>(
+/// Runs the script on a kernel, where there was memory to make it. It owns the kernel as one of any kind, since the proof of
+/// a function that owns what it knows the parts of grows with them.
+fn run_made<K: Kernel + Drop, R: Read + Drop, W: Write + Drop, E: Write + Drop, H: Write + Drop>(
     alloc: Global,
-    limits: Limits,
+    made: Result<K, AllocError>,
     reader: R,
     output: W,
     explain_to: Option<E>,
     history: Option<H>,
 ) -> Result<Summary, RecordedFault> {
-    let Ok(mut kernel) = ReadyKernel::new(alloc, limits) else {
-        return Err(RecordedFault::Memory);
-    };
-    run_over(alloc, &mut kernel, reader, output, explain_to, history)
-}
-
-/// Runs the script on a new kernel that scans.
-fn run_plain<R: Read + Drop, W: Write + Drop, E: Write + Drop, H: Write + Drop>(
-    alloc: Global,
-    limits: Limits,
-    reader: R,
-    output: W,
-    explain_to: Option<E>,
-    history: Option<H>,
-) -> Result<Summary, RecordedFault> {
-    let Ok(mut kernel) = PlainKernel::new(alloc, limits) else {
+    let Ok(mut kernel) = made else {
         return Err(RecordedFault::Memory);
     };
     run_over(alloc, &mut kernel, reader, output, explain_to, history)
@@ -207,9 +193,11 @@ fn run<R: Read + Drop, W: Write + Drop, E: Write + Drop, H: Write + Drop>(
 ) -> Result<Summary, RecordedFault> {
     let Choice { plain, limits } = choice;
     if plain {
-        run_plain(alloc, limits, reader, output, explain_to, history)
+        let made = PlainKernel::new(alloc, limits);
+        run_made(alloc, made, reader, output, explain_to, history)
     } else {
-        run_ready(alloc, limits, reader, output, explain_to, history)
+        let made = ReadyKernel::new(alloc, limits);
+        run_made(alloc, made, reader, output, explain_to, history)
     }
 }
 

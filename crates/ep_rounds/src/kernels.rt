@@ -8,7 +8,7 @@ use crate::words::Asked;
 use ep_base::{CallerId, Event};
 use ep_kernel::ReadyKernel;
 use ep_plain::{Kernel, PlainKernel};
-use std::alloc::Global;
+use std::alloc::{AllocError, Global};
 
 /// How many calls were made.
 #[derive(Clone, Copy)]
@@ -52,15 +52,13 @@ fn run_on<K: Kernel>(
     Ok(Counts { calls, refused })
 }
 
-fn run_plain(alloc: Global, asked: Asked, events: &[(CallerId, Event)]) -> Result<Counts, Fault> {
-    let Ok(mut kernel) = PlainKernel::new(alloc, asked.limits) else {
-        return Err(Fault::Memory);
-    };
-    run_on(&mut kernel, asked, events)
-}
-
-fn run_ready(alloc: Global, asked: Asked, events: &[(CallerId, Event)]) -> Result<Counts, Fault> {
-    let Ok(mut kernel) = ReadyKernel::new(alloc, asked.limits) else {
+/// The same on a kernel that it owns, as one of any kind, where there was memory to make it.
+fn run_made<K: Kernel + Drop>(
+    made: Result<K, AllocError>,
+    asked: Asked,
+    events: &[(CallerId, Event)],
+) -> Result<Counts, Fault> {
+    let Ok(mut kernel) = made else {
         return Err(Fault::Memory);
     };
     run_on(&mut kernel, asked, events)
@@ -73,8 +71,8 @@ pub(crate) fn run_lines(
     events: &[(CallerId, Event)],
 ) -> Result<Counts, Fault> {
     if asked.plain {
-        run_plain(alloc, asked, events)
+        run_made(PlainKernel::new(alloc, asked.limits), asked, events)
     } else {
-        run_ready(alloc, asked, events)
+        run_made(ReadyKernel::new(alloc, asked.limits), asked, events)
     }
 }
