@@ -110,9 +110,14 @@ fn act_out<K: Kernel>(rt: &HostRuntime, kernel: &mut K) -> io::Result<()> {
     )
 }
 
+/// Acts all of it out on one kernel.
+fn act_all<K: Kernel>(rt: &HostRuntime, kernel: &mut K) -> io::Result<()> {
+    print_room(rt, kernel)?;
+    act_out(rt, kernel)?;
+    let_end(rt, kernel)
+}
+
 fn main(rt: HostRuntime) -> io::Result<()> {
     let mut kernel = PlainKernel::new(rt.alloc(), Limits::default())?;
-    print_room(&rt, &mut kernel)?;
-    act_out(&rt, &mut kernel)?;
-    let_end(&rt, &mut kernel)
+    act_all(&rt, &mut kernel)
 }
