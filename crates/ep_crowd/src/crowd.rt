@@ -1,8 +1,8 @@
 //! Who does what.
-ghost use Rattle.std.specs.Prelude.{◌≡◌, ◌<◌};
+ghost use Rattle.std.specs.Prelude.{◌≡◌, []};
 
-use ep_base::{Answer, Buffer, Call, CallerId, Fd, Limits, Mask, Pid, Record};
-use ep_plain::PlainKernel;
+use ep_base::{Answer, Buffer, Call, CallerId, Fd, Mask, Pid, Record};
+use ep_calls::Kernel;
 use ep_pool::{Gate, Job, PoolReport, Step, run_sessions};
 use ep_shared::{Session, Shared};
 use std::alloc::{AllocError, Global};
@@ -57,7 +57,11 @@ fn call(call: Call) -> Step {
 }
 
 /// The descriptors: eventfd 3 and instance 4 that watches it, pipe 5 and 6 and instance 7 that watches its read end.
-fn opens<L: Ledger>(rt: &impl Wait, shared: &Shared<PlainKernel, L>, session: &mut Session<L>) {
+fn opens<K: Kernel + Drop, L: Ledger>(
+    rt: &impl Wait,
+    shared: &Shared<K, L>,
+    session: &mut Session<L>,
+) {
     let calls = [
         Call::EventFd {
             init: 0,
@@ -167,26 +171,11 @@ fn tally_of(records: &[Record]) -> Tally {
     }
 }
 
-/// Sessions that share a kernel with default limits.
-pub fn share<L: Ledger>(
-    alloc: Global,
-    blank: Blank,
-    sessions: u32,
-) -> Option<(Shared<PlainKernel, L>, Vec<Session<L>>)>
-    requires name { blank.name ≡ L.name }
-    requires parts { blank.parts ≡ L.parts }
-    requires each { blank.parts ≡ sessions }
-    requires some { 0 < sessions }
-{
-    let kernel = PlainKernel::new(alloc, Limits::default()).ok()?;
-    Shared::<PlainKernel, L>::start(alloc, blank, kernel, sessions).ok()
-}
-
 /// Runs all jobs, and gives their sessions back where none stopped.
-fn run_all<L: Ledger + Send + Sync, R: Threads + Wait + Sync>(
+fn run_all<K: Kernel + Drop + Send, L: Ledger + Send + Sync, R: Threads + Wait + Sync>(
     rt: &R,
     alloc: Global,
-    shared: &Shared<PlainKernel, L>,
+    shared: &Shared<K, L>,
     sessions: Vec<Session<L>>,
 ) -> Option<Vec<Session<L>>> {
     let jobs = jobs_of(alloc, sessions).ok()?;
@@ -199,17 +188,19 @@ fn run_all<L: Ledger + Send + Sync, R: Threads + Wait + Sync>(
     stopped.is_empty().then_some(sessions)
 }
 
-/// Runs the four, and tells what came of it where all came to their end.
-pub fn crowd<L: Ledger + Send + Sync, R: Threads + Wait + Sync>(
+/// Runs the four on a kernel without a history, and tells what came of it where all came to their end.
+pub fn crowd<K: Kernel + Drop + Send, L: Ledger + Send + Sync, R: Threads + Wait + Sync>(
     rt: &R,
     alloc: Global,
     blank: Blank,
+    kernel: K,
 ) -> Option<Tally>
     requires name { blank.name ≡ L.name }
     requires parts { blank.parts ≡ L.parts }
     requires four { blank.parts ≡ 4 }
+    requires empty { K.past kernel ≡ [] }
 {
-    let (shared, mut sessions) = share::<L>(alloc, blank, 4)?;
+    let (shared, mut sessions) = Shared::<K, L>::start(alloc, blank, kernel, 4).ok()?;
     opens(rt, &shared, sessions.first_mut()?);
     let back = run_all(rt, alloc, &shared, sessions)?;
     let history = shared.finish(back).ok()?;

@@ -9,6 +9,8 @@ mod rate;
 
 use crate::crowd::{Tally, crowd};
 use crate::rate::make_calls;
+use ep_base::Limits;
+use ep_plain::PlainKernel;
 use std::env::{self, Env};
 use std::io;
 use std::marker::Brand;
@@ -25,12 +27,13 @@ fn read_words(rt: &(impl Env + AllocGlobal)) -> io::Result<Option<(u32, u32)>> {
 }
 
 fn main(rt: HostRuntime) -> io::Result<()> {
-    if let Some((threads, calls)) = read_words(&rt)? {
-        let made = make_calls(&rt, rt.alloc(), threads, calls);
-        println!(rt; "{made} calls in {threads} threads")?;
-        return Ok(());
+    let asked = read_words(&rt)?;
+    let kernel = PlainKernel::new(rt.alloc(), Limits::default())?;
+    if let Some((threads, calls)) = asked {
+        let made = make_calls(&rt, rt.alloc(), kernel, threads, calls);
+        return println!(rt; "{made} calls in {threads} threads");
     }
-    match crowd::<Brand, _>(&rt, rt.alloc(), Blank::new(4)) {
+    match crowd::<PlainKernel, Brand, _>(&rt, rt.alloc(), Blank::new(4), kernel) {
         Some(
             Tally {
                 records,

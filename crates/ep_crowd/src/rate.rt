@@ -1,10 +1,8 @@
 //! Many calls, for timing.
-ghost use Rattle.std.specs.Prelude.{◌≡◌, ◌<◌};
+ghost use Rattle.std.specs.Prelude.{◌≡◌, ◌<◌, []};
 
-use crate::crowd::share;
-use ep_base::{Call, CallerId, Event, Fd, Limits, Pid};
+use ep_base::{Call, CallerId, Event, Fd, Pid};
 use ep_calls::Kernel;
-use ep_plain::PlainKernel;
 use ep_shared::{Session, Shared};
 use std::alloc::Global;
 use std::marker::Brand;
@@ -17,8 +15,9 @@ fn question() -> Call {
     Call::Read { fd: Fd(0), n: 1 }
 }
 
-/// The calls on the kernel alone.
-fn call_often(kernel: &mut PlainKernel, calls: u32) {
+/// The calls on the kernel alone, and how many were made.
+fn calls_alone<K: Kernel + Drop>(kernel: K, calls: u32) -> usize {
+    let mut kernel = kernel;
     for _ in 0..calls {
         let _ = kernel.step(
             CallerId(1),
@@ -28,19 +27,13 @@ fn call_often(kernel: &mut PlainKernel, calls: u32) {
             },
         );
     }
-}
-
-/// The calls on a kernel of their own.
-fn calls_alone(alloc: Global, calls: u32) -> Option<usize> {
-    let mut kernel = PlainKernel::new(alloc, Limits::default()).ok()?;
-    call_often(&mut kernel, calls);
-    Some(kernel.history().len())
+    kernel.history().len()
 }
 
 /// The calls of one thread.
-fn calls_of<L: Ledger, R: Wait>(
+fn calls_of<K: Kernel + Drop, L: Ledger, R: Wait>(
     rt: &R,
-    shared: &Shared<PlainKernel, L>,
+    shared: &Shared<K, L>,
     session: Session<L>,
     calls: u32,
 ) -> Session<L> {
@@ -51,11 +44,21 @@ fn calls_of<L: Ledger, R: Wait>(
     session
 }
 
-/// The calls in so many threads, the same number in each.
-fn calls_shared<L: Ledger + Send + Sync, R: Threads + Wait + Sync>(
+/// How many records the sessions have together.
+fn records_of<L: Ledger>(sessions: &[Session<L>]) -> usize {
+    let mut records: usize = 0;
+    for session in sessions {
+        records = records.saturating_add(session.answered());
+    }
+    records
+}
+
+/// The calls in so many threads, the same number in each, on a kernel without a history, and how many were made.
+fn calls_shared<K: Kernel + Drop + Send, L: Ledger + Send + Sync, R: Threads + Wait + Sync>(
     rt: &R,
     alloc: Global,
     blank: Blank,
+    kernel: K,
     threads: u32,
     calls: u32,
 ) -> Option<usize>
@@ -63,24 +66,28 @@ fn calls_shared<L: Ledger + Send + Sync, R: Threads + Wait + Sync>(
     requires parts { blank.parts ≡ L.parts }
     requires each { blank.parts ≡ threads }
     requires some { 0 < threads }
+    requires empty { K.past kernel ≡ [] }
 {
-    let (shared, sessions) = share::<L>(alloc, blank, threads)?;
+    let (shared, sessions) = Shared::<K, L>::start(alloc, blank, kernel, threads).ok()?;
     let work = |session: Session<L>| calls_of(rt, &shared, session, calls / threads);
     let back = thread::map_vec(rt, sessions, &work).ok()?;
-    let history = shared.finish(back).ok()?;
-    Some(history.records.len())
+    Some(records_of(&back))
 }
 
-/// Makes so many calls in so many threads, or on the kernel alone for 0 threads, and tells how many were made.
-pub fn make_calls<R: Threads + Wait + Sync>(
+/// Makes so many calls on a kernel without a history, in so many threads, or on the kernel alone for 0 threads, and tells how
+/// many were made.
+pub fn make_calls<K: Kernel + Drop + Send, R: Threads + Wait + Sync>(
     rt: &R,
     alloc: Global,
+    kernel: K,
     threads: u32,
     calls: u32,
-) -> usize {
-    let made = match threads {
-        0 => calls_alone(alloc, calls),
-        _ => calls_shared::<Brand, R>(rt, alloc, Blank::new(u64::from(threads)), threads, calls),
-    };
-    made.unwrap_or(0)
+) -> usize
+    requires { K.past kernel ≡ [] }
+{
+    if threads == 0 {
+        return calls_alone(kernel, calls);
+    }
+    let blank = Blank::new(u64::from(threads));
+    calls_shared::<K, Brand, R>(rt, alloc, blank, kernel, threads, calls).unwrap_or(0)
 }
