@@ -39,11 +39,11 @@ pub fn end_apart(alloc: Global, count: u32, calls: u32) -> Result<(usize, bool),
     for number in 0..count {
         watch(&mut graph, number as usize + 1)?;
     }
-    let most = graph.links().len();
+    let most = graph.links().count();
     for _call in 0..calls {
         graph.purge(DescId(count as usize + 1));
     }
-    Ok((most, graph.links().len() != most))
+    Ok((most, graph.links().count() != most))
 }
 
 /// Parks a caller whose deadline never comes, where it isn't parked.

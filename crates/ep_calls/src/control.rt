@@ -1,5 +1,5 @@
 //! epoll_ctl.
-ghost use Rattle.std.specs.Prelude.{All, ◌≡◌, ◌==◌, ◌+◌, ◌++◌, ◌∷◌, ◌≤◌, ℕ, [], if◌then◌else◌, IfErr, IfNone, IfOk, IfSome, IsSome, List, MatchResult, None, OnErr, Some, false, true, unwrap_or};
+ghost use Rattle.std.specs.Prelude.{All, ◌≡◌, ◌==◌, ◌+◌, ◌++◌, ◌∷◌, ◌≤◌, ◌||◌, ℕ, [], if◌then◌else◌, IfErr, IfNone, IfOk, IfSome, IsSome, List, MatchResult, None, OnErr, Some, false, not, true, unwrap_or};
 ghost use Rattle.std.specs.List.{list_any};
 ghost use Rattle.ep_base.specs.Answer.{FitsInline};
 ghost use Rattle.ep_machine.specs.Effect.{first};
@@ -245,6 +245,15 @@ fn add(
     Ok(())
 }
 
+/// Whether the instance may watch its target, which any may that is no instance. It changes nothing.
+fn may_watch(graph: &mut Graph, named: Named, is_nested: bool) -> bool
+    ensures stays { graph.new ≡ graph.old }
+    ensures exact { result
+        ≡ (not is_nested || is_legal ((named.instance.0, named.desc.0) ∷ edges graph.old)) }
+{
+    !is_nested || graph.may_add(named.instance, named.desc).is_ok()
+}
+
 /// Adds a registration that is not there. ENOENT for any other operation, ELOOP where instances would watch each other
 /// in a loop or in too long a chain, and ENOSPC past `watches`.
 /// A refusal and an `Err`, which is want of memory, leave the registrations.
@@ -275,7 +284,7 @@ fn enter(
     };
     interest.known();
     let is_nested = tables.object(named.desc).is_instance();
-    if is_nested && graph.may_add(named.instance, named.desc).is_err() {
+    if !may_watch(graph, named, is_nested) {
         return Ok(Answer::Refused(Errno::Eloop));
     }
     if tables.limits().watches() as usize <= interest.count() {

@@ -11,9 +11,6 @@ pub record Fits (es : List (ℕ × ℕ)) (outer inner above below : ℕ) : Type 
   pub shallow : above + below < 4
 
 module _ (es : List (ℕ × ℕ)) (outer inner above below : ℕ) where
-  with_link : List (ℕ × ℕ)
-  with_link = (outer, inner) ∷ es
-
   -- an old chain from the inner instance to the outer one is refused
   no_way_back : Fits es outer inner above below → ((n x : ℕ) → LeadsBy es n x outer → n ≤ above) → ((n y : ℕ) → LeadsBy es n inner y → n ≤ below) → (n : ℕ) → LeadsBy es n inner outer → ⊥
   no_way_back f up down zero p = f.apart (sym p)

@@ -5,29 +5,18 @@ use Rattle.ep_machine.specs.Lists.{are_distinct, is_among}
 use Rattle.ep_nest.proofs.AdmitLemmas.{same_kept}
 use Rattle.ep_nest.proofs.ChainLemmas.{included, legal_from_short}
 use Rattle.ep_nest.proofs.ElementLemmas.{Contains-cons_cases, Contains-nil, Contains-filter, Contains-from_filter, Contains-from_map, Contains-map, among, from_among}
-use Rattle.ep_nest.proofs.NoteLemmas.{among_end}
-use Rattle.ep_nest.proofs.ScratchLemmas.{kept_edge}
-use Rattle.ep_nest.specs.Ascent.{Finds, IsMet, is_to, outers}
+use Rattle.ep_nest.proofs.NoteLemmas.{among_end, or_turned}
+use Rattle.ep_nest.proofs.KeptLemmas.{kept_edge}
+use Rattle.ep_nest.specs.Ascent.{Finds, IsMet}
 use Rattle.ep_nest.specs.Chains.{IsAbove, IsShort}
-use Rattle.ep_nest.specs.Links.{admitted_by, edges, ends_of, entries, keys}
+use Rattle.ep_nest.specs.Links.{admitted_by, edges, ends_of, entries, keys, outers, starts_at}
 use Rattle.ep_nest.specs.declared.link.Link.{Link}
-use Rattle.ep_nest.specs.declared.link.Way.TheVariants.{Down}
+use Rattle.ep_nest.specs.declared.link.Way.TheVariants.{Down, Up}
 use Rattle.std.proofs.Common.{Bool, Contains, List, [], ap, arith, cond, eq-eqb, false, filter, get_or, inl, inr, length, not, refl, subst, suc, sym, take, take_all, true, zero, ℕ, ◌+◌, ◌++◌, ◌<◌, ◌≤◌, ◌∙◌, ◌∷◌, ◌↔◌, ◌≡◌, ◌⊎◌, ◌==◌, ◌||◌}
-use Rattle.std.proofs.lemmas.Bool.{and_parts, cases_Bool, eqb-true, ne_eqb, not-true, or_cases}
+use Rattle.std.proofs.lemmas.Bool.{and_parts, cases_Bool, eqb-true, ne_eqb, not-true, or_cases, or_left, or_parts, or_right}
 use Rattle.std.proofs.lemmas.List.{get_or-map, length-map, map-append}
 use Rattle.std.proofs.lemmas.List.Elements.{All-contains, All-weaker, Contains-get_or}
 use Rattle.std.specs.List.{All}
-
-pub or_right : (a b : Bool) → b ≡ true → (a || b) ≡ true
-or_right true b h = refl
-or_right false b h = h
-
-or_left : (a b : Bool) → a ≡ true → (a || b) ≡ true
-or_left a b h = ap (λ (t : Bool). t || b) h
-
-neither : (a b : Bool) → (a || b) ≡ false → (a ≡ false) × (b ≡ false)
-neither true b h = absurd (let bad : true ≡ false = h in cc)
-neither false b h = (refl, h)
 
 module _ (P : EntryId → Bool → Type 0) (ls : List Link) (to : ℕ) where
   -- what the filter answers, by the key of the inner instance and of the registration
@@ -40,7 +29,7 @@ module _ (P : EntryId → Bool → Type 0) (ls : List Link) (to : ℕ) where
   -- these are reached, once the links to what was seen were followed
   pub record Ascends (seen : ℕ → Bool) (ks : List ℕ) : Type 0 where
     pub answers : ℕ → ℕ → Bool
-    pub asked : (k : ℕ) → seen k ≡ true → All (λ l. P l.entry (answers k l.entry.0)) (filter (is_to k) ls)
+    pub asked : (k : ℕ) → seen k ≡ true → All (λ l. P l.entry (answers k l.entry.0)) (filter (starts_at Up k) ls)
     pub quiet : (k e : ℕ) → seen k ≡ false → answers k e ≡ false
     pub sound : (x : ℕ) → is_among ks x ≡ true → IsAbove (open_edges answers) x to
     pub complete : (l : Link) → Contains ls l → admits_at answers l ≡ true → is_among ks l.outer.0 ≡ true
@@ -64,8 +53,8 @@ module _ (P : EntryId → Bool → Type 0) (ls : List Link) (to : ℕ) where
   link_open answers l m h = Contains-map (ends_of Down) (filter (admits_at answers) ls) l (Contains-filter (admits_at answers) ls l h m)
 
   module _ (seen now : ℕ → Bool) (ks more : List ℕ) (k : ℕ) (admits : ℕ → Bool) (before : Ascends seen ks) (unseen : seen k ≡ false) (why : (k ≡ to) ⊎ (is_among ks k ≡ true))
-      (told : All (λ l. P l.entry (admits l.entry.0)) (filter (is_to k) ls))
-      (exact : (x : ℕ) → is_among more x ≡ (is_among (outers (admitted_by admits (filter (is_to k) ls))) x || is_among ks x))
+      (told : All (λ l. P l.entry (admits l.entry.0)) (filter (starts_at Up k) ls))
+      (exact : (x : ℕ) → is_among more x ≡ (is_among (outers (admitted_by admits (filter (starts_at Up k) ls))) x || is_among ks x))
       (sees : (x : ℕ) → now x ≡ ((x == k) || seen x)) where
     abbrev next_answers : ℕ → ℕ → Bool
     next_answers j e = cond (j == k) (admits e) (before.answers j e)
@@ -76,19 +65,19 @@ module _ (P : EntryId → Bool → Type 0) (ls : List Link) (to : ℕ) where
     there : (j e : ℕ) → (j == k) ≡ false → next_answers j e ≡ before.answers j e
     there j e f = ap (λ (b : Bool). cond b (admits e) (before.answers j e)) f
 
-    asked_next : (j : ℕ) → now j ≡ true → All (λ l. P l.entry (next_answers j l.entry.0)) (filter (is_to j) ls)
+    asked_next : (j : ℕ) → now j ≡ true → All (λ l. P l.entry (next_answers j l.entry.0)) (filter (starts_at Up j) ls)
     asked_next j h = elim (cases_Bool (j == k)) [
       | inl t ↦
-          All-weaker (λ (l : Link). P l.entry (admits l.entry.0)) (λ (l : Link). P l.entry (next_answers j l.entry.0)) (λ l p. subst (P l.entry) (sym (here j l.entry.0 t)) p) (filter (is_to j) ls)
-          (subst (λ (m : ℕ). All (λ l. P l.entry (admits l.entry.0)) (filter (is_to m) ls)) (sym (eqb-true j k t)) told)
+          All-weaker (λ (l : Link). P l.entry (admits l.entry.0)) (λ (l : Link). P l.entry (next_answers j l.entry.0)) (λ l p. subst (P l.entry) (sym (here j l.entry.0 t)) p) (filter (starts_at Up j) ls)
+          (subst (λ (m : ℕ). All (λ l. P l.entry (admits l.entry.0)) (filter (starts_at Up m) ls)) (sym (eqb-true j k t)) told)
       | inr f ↦
-          All-weaker (λ (l : Link). P l.entry (before.answers j l.entry.0)) (λ (l : Link). P l.entry (next_answers j l.entry.0)) (λ l p. subst (P l.entry) (sym (there j l.entry.0 f)) p) (filter (is_to j) ls)
+          All-weaker (λ (l : Link). P l.entry (before.answers j l.entry.0)) (λ (l : Link). P l.entry (next_answers j l.entry.0)) (λ l p. subst (P l.entry) (sym (there j l.entry.0 f)) p) (filter (starts_at Up j) ls)
           (before.asked j (sym (sees j ∙ ap (λ (b : Bool). b || seen j) f) ∙ h))
     ]
 
     quiet_next : (j e : ℕ) → now j ≡ false → next_answers j e ≡ false
     quiet_next j e h =
-        let parts = neither (j == k) (seen j) (sym (sees j) ∙ h) in there j e parts.0 ∙ before.quiet j e parts.1
+        let parts = or_parts (j == k) (seen j) (sym (sees j) ∙ h) in there j e parts.0 ∙ before.quiet j e parts.1
 
     stays_open : (l : Link) → admits_at before.answers l ≡ true → admits_at next_answers l ≡ true
     stays_open l h = elim (cases_Bool (l.inner.0 == k)) [
@@ -110,16 +99,16 @@ module _ (P : EntryId → Bool → Type 0) (ls : List Link) (to : ℕ) where
       | inr m ↦ let rest = above_stays k (before.sound k m) in (suc rest.0, (k, link, rest.1))
     ]
 
-    new_link : (x : ℕ) → is_among (outers (admitted_by admits (filter (is_to k) ls))) x ≡ true → Contains (open_edges next_answers) (x, k)
+    new_link : (x : ℕ) → is_among (outers (admitted_by admits (filter (starts_at Up k) ls))) x ≡ true → Contains (open_edges next_answers) (x, k)
     new_link x h =
-        let from = Contains-from_map (λ (l : Link). l.outer.0) (admitted_by admits (filter (is_to k) ls)) x (from_among (outers (admitted_by admits (filter (is_to k) ls))) x h) in
-        let asked = Contains-from_filter (λ (l : Link). admits l.entry.0) (filter (is_to k) ls) from.0 from.1 in
-        let to_k = Contains-from_filter (is_to k) ls from.0 asked.0 in
+        let from = Contains-from_map (λ (l : Link). l.outer.0) (admitted_by admits (filter (starts_at Up k) ls)) x (from_among (outers (admitted_by admits (filter (starts_at Up k) ls))) x h) in
+        let asked = Contains-from_filter (λ (l : Link). admits l.entry.0) (filter (starts_at Up k) ls) from.0 from.1 in
+        let to_k = Contains-from_filter (starts_at Up k) ls from.0 asked.0 in
         let inner = eqb-true from.0.inner.0 k to_k.1 in
         subst (λ (e : ℕ × ℕ). Contains (open_edges next_answers) e) (λ i. (from.2 i, inner i)) (link_open next_answers from.0 to_k.0 (here from.0.inner.0 from.0.entry.0 to_k.1 ∙ asked.1))
 
     sound_next : (x : ℕ) → is_among more x ≡ true → IsAbove (open_edges next_answers) x to
-    sound_next x h = elim (or_cases (is_among (outers (admitted_by admits (filter (is_to k) ls))) x) (is_among ks x) (sym (exact x) ∙ h)) [
+    sound_next x h = elim (or_cases (is_among (outers (admitted_by admits (filter (starts_at Up k) ls))) x) (is_among ks x) (sym (exact x) ∙ h)) [
       | inl new ↦ step_up x (new_link x new)
       | inr old ↦ above_stays x (before.sound x old)
     ]
@@ -127,12 +116,12 @@ module _ (P : EntryId → Bool → Type 0) (ls : List Link) (to : ℕ) where
     complete_next : (l : Link) → Contains ls l → admits_at next_answers l ≡ true → is_among more l.outer.0 ≡ true
     complete_next l m h = elim (cases_Bool (l.inner.0 == k)) [
       | inl t ↦
-          let xs = admitted_by admits (filter (is_to k) ls) in
-          let link = Contains-filter (λ (l : Link). admits l.entry.0) (filter (is_to k) ls) l (sym (here l.inner.0 l.entry.0 t) ∙ h) (Contains-filter (is_to k) ls l t m) in
+          let xs = admitted_by admits (filter (starts_at Up k) ls) in
+          let link = Contains-filter (λ (l : Link). admits l.entry.0) (filter (starts_at Up k) ls) l (sym (here l.inner.0 l.entry.0 t) ∙ h) (Contains-filter (starts_at Up k) ls l t m) in
           exact l.outer.0 ∙ or_left (is_among (outers xs) l.outer.0) (is_among ks l.outer.0) (among (outers xs) l.outer.0 (Contains-map (λ (l : Link). l.outer.0) xs l link))
       | inr f ↦
           exact l.outer.0
-          ∙ or_right (is_among (outers (admitted_by admits (filter (is_to k) ls))) l.outer.0) (is_among ks l.outer.0) (before.complete l m (sym (there l.inner.0 l.entry.0 f) ∙ h))
+          ∙ or_right (is_among (outers (admitted_by admits (filter (starts_at Up k) ls))) l.outer.0) (is_among ks l.outer.0) (before.complete l m (sym (there l.inner.0 l.entry.0 f) ∙ h))
     ]
 
     -- the links to one instance more were followed
@@ -188,8 +177,8 @@ module _ (P : EntryId → Bool → Type 0) (ls : List Link) (to : ℕ) where
         let l = get_or ls k d in
         let there = Contains-get_or ls k d lt in
         let one =
-        All-contains (λ (m : Link). P m.entry (h.answers l.inner.0 m.entry.0)) (filter (is_to l.inner.0) ls) l (h.asked l.inner.0 (all l.inner.0 met))
-        (Contains-filter (is_to l.inner.0) ls l (eq-eqb l.inner.0 l.inner.0 refl) there) in
+        All-contains (λ (m : Link). P m.entry (h.answers l.inner.0 m.entry.0)) (filter (starts_at Up l.inner.0) ls) l (h.asked l.inner.0 (all l.inner.0 met))
+        (Contains-filter (starts_at Up l.inner.0) ls l (eq-eqb l.inner.0 l.inner.0 refl) there) in
         subst (λ (j : ℕ). P l.entry (h.answers j l.entry.0)) (sym (inner_is ls distinct l there)) one
 
   -- where the graph has no loop, the one below isn't among them
@@ -211,12 +200,6 @@ take_suc (k ∷ ks) more (suc i) d lt = ap (λ (xs : List ℕ). k ∷ xs) (take_
 
 take_more : (ks more : List ℕ) (i d : ℕ) → i < length ks → take (i + 1) (ks ++ more) ≡ take i ks ++ get_or ks i d ∷ []
 take_more ks more i d lt = let e : i + 1 ≡ suc i = omega arith in ap (λ (n : ℕ). take n (ks ++ more)) e ∙ take_suc ks more i d lt
-
-or_turned : (a b c : Bool) → (a || (b || c)) ≡ (b || (a || c))
-or_turned true true c = refl
-or_turned true false c = refl
-or_turned false true c = refl
-or_turned false false c = refl
 
 pub sees_more : (to : ℕ) (ks more : List ℕ) (i d : ℕ) → i < length ks → (x : ℕ) → seen_to to (ks ++ more) (i + 1) x ≡ ((x == get_or ks i d) || seen_to to ks i x)
 sees_more to ks more i d lt x =
@@ -253,7 +236,7 @@ take_none (k ∷ ks) = refl
 
 module _ (P : EntryId → Bool → Type 0) (ls : List Link) (to : ℕ) where
   -- the links to the instance below were followed
-  pub starts : (links : List Link) (ks : List ℕ) (admits : ℕ → Bool) → links ≡ filter (is_to to) ls → All (λ l. P l.entry (admits l.entry.0)) links → ((x : ℕ) → is_among ks x ≡ (is_among (outers (admitted_by admits links)) x || false)) → Ascends P ls to (seen_to to ks 0) ks
+  pub starts : (links : List Link) (ks : List ℕ) (admits : ℕ → Bool) → links ≡ filter (starts_at Up to) ls → All (λ l. P l.entry (admits l.entry.0)) links → ((x : ℕ) → is_among ks x ≡ (is_among (outers (admitted_by admits links)) x || false)) → Ascends P ls to (seen_to to ks 0) ks
   starts links ks admits listed told exact =
       goes_on P ls to (λ k. false) (seen_to to ks 0) [] ks to admits (begins P ls to) refl (inl refl)
       (subst (λ (ms : List Link). All (λ l. P l.entry (admits l.entry.0)) ms) listed told)
@@ -266,7 +249,7 @@ module _ (P : EntryId → Bool → Type 0) (ls : List Link) (to : ℕ) where
       → i < length ds
       → are_distinct (keys ds) ≡ true
       → IsShort (edges ls)
-      → links ≡ filter (is_to (get_or ds i d).0) ls
+      → links ≡ filter (starts_at Up (get_or ds i d).0) ls
       → All (λ l. P l.entry (admits l.entry.0)) links
       → ((x : ℕ) → is_among (keys end) x ≡ (is_among (outers (admitted_by admits links)) x || is_among (keys ds) x))
       → (more : List DescId) × (end ≡ ds ++ more)
@@ -278,7 +261,7 @@ module _ (P : EntryId → Bool → Type 0) (ls : List Link) (to : ℕ) where
       let same : get_or ks i d.0 ≡ (get_or ds i d).0 = get_or-map (λ (d : DescId). d.0) ds i d d.0 lt in
       let k = get_or ks i d.0 in
       let there : is_among ks k ≡ true = among ks k (Contains-get_or ks i d.0 within) in
-      let at : links ≡ filter (is_to k) ls = listed ∙ ap (λ (k : ℕ). filter (is_to k) ls) (sym same) in
+      let at : links ≡ filter (starts_at Up k) ls = listed ∙ ap (λ (k : ℕ). filter (starts_at Up k) ls) (sym same) in
       let longer : keys end ≡ ks ++ keys grown.0 = ap (λ (ds : List DescId). keys ds) grown.1 ∙ map-append (λ (d : DescId). d.0) ds grown.0 in
       goes_on P ls to (seen_to to ks i) (seen_to to (keys end) (i + 1)) ks (keys end) k admits before
       (unseen_next to ks i d.0 within once (not_below P ls to (seen_to to ks i) ks before short k there)) (inr there)

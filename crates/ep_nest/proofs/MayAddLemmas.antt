@@ -1,21 +1,18 @@
--- What the tables say of a link that may be added.
-use Rattle.ep_machine.specs.Lists.{is_among}
+-- What the longest chains say of a link that may be added.
 use Rattle.ep_machine.specs.Watches.{is_legal}
-use Rattle.std.proofs.lemmas.Bool.Decides.{nat_tests}
 use Rattle.ep_nest.proofs.AdditionLemmas.{Fits, fits_from_short, stays_short}
 use Rattle.ep_nest.proofs.ChainLemmas.{legal_from_short, short_from_legal}
-use Rattle.ep_nest.proofs.ScratchLemmas.{chain_down, chain_up}
+use Rattle.ep_nest.proofs.ElementLemmas.{Contains-cons, Contains-cons_cases, Contains-head, Contains-nil}
+use Rattle.ep_nest.proofs.KeptLemmas.{chain_down, chain_up}
 use Rattle.ep_nest.proofs.LegalityLemmas.{is_legal_from_short, short_from_is_legal}
-use Rattle.ep_nest.specs.Chains.{IsLegalGraph, LeadsBy}
-use Rattle.ep_nest.specs.Links.{edges, ends_of, entries, is_between, is_of}
-use Rattle.ep_nest.specs.Scratch.{IsKept}
+use Rattle.ep_nest.specs.Chains.{IsLegalGraph}
+use Rattle.ep_nest.specs.Lengths.{IsLongest}
+use Rattle.ep_nest.specs.Links.{along, edges, ends_of, is_between, starting_at}
 use Rattle.ep_nest.specs.declared.link.Link.{Link}
-use Rattle.ep_nest.specs.declared.link.Way.TheVariants.{Down}
-use Rattle.ep_nest.specs.declared.scratch.Scratch.{Scratch}
-use Rattle.std.proofs.Common.{Contains, List, [], arith, eq-eqb, eqb, false, inl, inr, slice_index, subst, sym, true, ℕ, ◌∙◌, ◌∷◌, ◌≡◌, ◌≤◌, refl}
+use Rattle.ep_nest.specs.declared.link.Way.TheVariants.{Down, Up}
+use Rattle.std.proofs.Common.{Bool, Contains, List, [], ap, eq-eqb, eqb, false, inl, inr, refl, subst, sym, true, ℕ, ◌==◌, ◌∙◌, ◌∷◌, ◌≡◌, ◌||◌}
 use Rattle.std.proofs.lemmas.Bool.{and_from, and_parts, cases_Bool, eqb-true, or_cases}
 use Rattle.std.specs.List.{list_any}
-use Rattle.ep_nest.proofs.ElementLemmas.{Contains-cons, Contains-cons_cases, Contains-head, Contains-nil}
 
 -- the test of a link against the link itself
 pub between : (ls : List Link) (a b : ℕ) → list_any (is_between a b) ls ≡ true → Contains (edges ls) (a, b)
@@ -45,26 +42,25 @@ not_between (l ∷ ls) a b h c = elim (cases_Bool (is_between a b l)) [
   ]
 ]
 
--- the test of an entry against the entries
-pub of_entry : (ls : List Link) (entry : ℕ) → list_any (is_of entry) ls ≡ is_among (entries ls) entry
-of_entry [] entry = refl
-of_entry (l ∷ ls) entry =
-    let here : is_of entry l ≡ eqb entry l.entry.0 = grind (arith, nat_tests) in
-    let rest = of_entry ls entry in
-    rw (here, rest) refl
+-- the same among the links of the one that watches
+pub between_starting : (ls : List Link) (a b : ℕ) → list_any (λ l. l.inner.0 == b) (starting_at Down a ls) ≡ list_any (is_between a b) ls
+between_starting [] a b = refl
+between_starting (l ∷ ls) a b =
+    let rest = between_starting ls a b in
+    elim (cases_Bool (l.outer.0 == a)) [
+      | inl is ↦ rw is (ap (λ (t : Bool). (l.inner.0 == b) || t) rest)
+      | inr off ↦ rw off rest
+    ]
 
-module _ {A : Type 0} (ls : List Link) (s : Scratch A) (kept : IsKept ls s) (outer inner : ℕ) where
-  pub legal_if_fits : Fits (edges ls) outer inner (slice_index s.heights.items outer) (slice_index s.depths.items inner) → is_legal ((outer, inner) ∷ edges ls) ≡ true
+module _ (ls : List Link) (legal : is_legal (edges ls) ≡ true) (outer inner above below : ℕ) (up : IsLongest (along Up ls) outer above) (down : IsLongest (along Down ls) inner below) where
+  pub legal_if_fits : Fits (edges ls) outer inner above below → is_legal ((outer, inner) ∷ edges ls) ≡ true
   legal_if_fits fits =
-      let up : (n x : ℕ) → LeadsBy (edges ls) n x outer → n ≤ slice_index s.heights.items outer = λ n x p. kept.heights.longest n n x outer (omega arith) p in
-      let down : (n y : ℕ) → LeadsBy (edges ls) n inner y → n ≤ slice_index s.depths.items inner = λ n y p. kept.depths.longest n n y inner (omega arith) (chain_up ls n inner y p) in
-      is_legal_from_short ((outer, inner) ∷ edges ls) (stays_short (edges ls) outer inner (slice_index s.heights.items outer) (slice_index s.depths.items inner) (short_from_is_legal (edges ls) kept.legal) fits up down)
+      is_legal_from_short ((outer, inner) ∷ edges ls) (stays_short (edges ls) outer inner above below (short_from_is_legal (edges ls) legal) fits
+      (λ n x p. up.longest n x (chain_up ls n x outer p)) (λ n y p. down.longest n y p))
 
-  pub fits_if_legal : is_legal ((outer, inner) ∷ edges ls) ≡ true → Fits (edges ls) outer inner (slice_index s.heights.items outer) (slice_index s.depths.items inner)
-  fits_if_legal legal =
-      let top = kept.heights.chains outer in
-      let bottom = kept.depths.chains inner in
-      fits_from_short (edges ls) outer inner (slice_index s.heights.items outer) (slice_index s.depths.items inner) (short_from_is_legal ((outer, inner) ∷ edges ls) legal) top.0 bottom.0 top.1 (chain_down ls (slice_index s.depths.items inner) bottom.0 inner bottom.1)
+  pub fits_if_legal : is_legal ((outer, inner) ∷ edges ls) ≡ true → Fits (edges ls) outer inner above below
+  fits_if_legal more =
+      fits_from_short (edges ls) outer inner above below (short_from_is_legal ((outer, inner) ∷ edges ls) more) up.chain.0 down.chain.0 (chain_down ls above outer up.chain.0 up.chain.1) down.chain.1
 
 pub words_from_machine : (es : List (ℕ × ℕ)) → is_legal es ≡ true → IsLegalGraph es
 words_from_machine es h = legal_from_short es (short_from_is_legal es h)

@@ -1,18 +1,14 @@
 -- Instances that are noted once each.
 use Rattle.ep_machine.specs.Lists.{are_distinct, is_among}
 use Rattle.ep_nest.proofs.GatherLemmas.{distinct_push}
-use Rattle.ep_nest.specs.Ascent.{AreNoted}
+use Rattle.ep_nest.specs.Marks.{AreNoted}
 use Rattle.std.proofs.Common.{Bool, List, [], ap, arith, eq-eqb, eqb, false, get_or, inl, inr, length, not, refl, set, subst, suc, sym, true, zero, ℕ, ◌+◌, ◌++◌, ◌<◌, ◌≤◌, ◌∙◌, ◌∷◌, ◌≡◌, ◌||◌, ◌==◌}
 use Rattle.std.proofs.lemmas.Bool.{and_parts, cases_Bool, and_from, cases_eq, eqb-true, ne_eqb, not-true, or_cases}
 use Rattle.std.proofs.lemmas.List.{get_or-set_other, get_or-set_same}
 use Rattle.std.proofs.lemmas.Map.Steps.{length-le_from_distinct_below}
 use Rattle.std.specs.List.{AllByRecursion, IsDistinct, list_any}
 
-or_false : (b : Bool) → (b || false) ≡ b
-or_false true = refl
-or_false false = refl
-
-or_turned : (a b c : Bool) → (a || (b || c)) ≡ (b || (a || c))
+pub or_turned : (a b c : Bool) → (a || (b || c)) ≡ (b || (a || c))
 or_turned true true c = refl
 or_turned true false c = refl
 or_turned false true c = refl
@@ -68,20 +64,9 @@ module _ (ms : List Bool) (ks : List ℕ) (k : ℕ) (noted : AreNoted ms ks) (lt
     once = distinct_push ks k noted.once fresh;
   }
 
--- what is noted stays so
-pub noted_still : (ms : List Bool) (ks : List ℕ) (k : ℕ) → AreNoted ms ks → get_or ms k false ≡ true → (x : ℕ) → is_among ks x ≡ ((x == k) || is_among ks x)
-noted_still ms ks k noted on x = elim (cases_eq x k) [
-  | inl same ↦ subst (λ (y : ℕ). is_among ks y ≡ ((y == k) || is_among ks y)) (sym same) (let there = sym (noted.each k) ∙ on in there ∙ sym (ap (λ (b : Bool). b || is_among ks k) (eq-eqb k k refl)))
-  | inr apart ↦ sym (ap (λ (b : Bool). b || is_among ks x) (ne_eqb x k apart))
-]
-
--- one link more
-pub outers_end : (ls : List ℕ) (k : ℕ) (ks : List ℕ) (now then' : List ℕ) → ((x : ℕ) → is_among now x ≡ (is_among ls x || is_among ks x)) → ((x : ℕ) → is_among then' x ≡ ((x == k) || is_among now x)) → (x : ℕ) → is_among then' x ≡ (is_among (ls ++ k ∷ []) x || is_among ks x)
-outers_end ls k ks now then' h g x =
-    g x ∙ (ap (λ (b : Bool). (x == k) || b) (h x) ∙ (or_joined (x == k) (is_among ls x) (is_among ks x) ∙ sym (ap (λ (b : Bool). b || is_among ks x) (among_end ls k x)))) where
-      or_joined : (a b c : Bool) → (a || (b || c)) ≡ ((a || b) || c)
-      or_joined true b c = refl
-      or_joined false b c = refl
+-- where no mark is left, none is noted
+pub none_noted : (ms : List Bool) → ((x : ℕ) → get_or ms x false ≡ false) → AreNoted ms []
+none_noted ms clear = record { each = clear; once = refl }
 
 -- no more are noted than there are marks
 pub few_noted : (ms : List Bool) (ks : List ℕ) → AreNoted ms ks → length ks ≤ length ms

@@ -2,6 +2,8 @@ pub mod Links
 pub mod Chains
 pub mod Lengths
 pub mod Marks
-pub mod Scratch
+pub mod Adjacent
+pub mod Storage
+pub mod Walk
+pub mod Graph
 pub mod Ascent
-pub mod Removal

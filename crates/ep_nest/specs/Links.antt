@@ -13,6 +13,21 @@ ends_of Up l = (l.inner.0, l.outer.0)
 abbrev pub along : Way → List Link → List (ℕ × ℕ)
 along way ls = map (ends_of way) ls
 
+-- it starts at an instance
+abbrev pub starts_at : Way → ℕ → Link → Bool
+starts_at way k l = (ends_of way l).0 == k
+
+abbrev pub starting_at : Way → ℕ → List Link → List Link
+starting_at way k ls = filter (starts_at way k) ls
+
+-- where these links lead to
+abbrev pub ends : Way → List Link → List ℕ
+ends way ls = map (λ l. (ends_of way l).1) ls
+
+-- and where they come from, upwards
+abbrev pub outers : List Link → List ℕ
+outers ls = ends Up ls
+
 -- the pairs of which the machine's is_legal speaks
 abbrev pub edges : List Link → List (ℕ × ℕ)
 edges ls = along Down ls

@@ -1,42 +1,75 @@
 //! The graph.
-ghost use Rattle.std.specs.Prelude.{◌≡◌, ◌++◌, ◌∷◌, ◌↔◌, [], IfErr, IsOk, OnErr, OnOk, false, filter, true, ⊤};
+ghost use Rattle.std.specs.Prelude.{◌≡◌, ◌==◌, ◌++◌, ◌∷◌, ◌↔◌, [], IfErr, IsOk, OnErr, OnOk, false, filter, not, true, ⊤};
 ghost use Rattle.std.specs.Borrow.{follows_so, sem};
+ghost use Rattle.std.specs.List.{list_any};
+ghost use Rattle.std.specs.Map.Iter.{ShowsInOrder, deref};
 ghost use mathlib.Core.Option.{none};
 ghost use Rattle.ep_machine.specs.Lists.{are_distinct, is_among};
 ghost use Rattle.ep_machine.specs.Watches.{is_legal};
 ghost use Rattle.ep_nest.specs.Ascent.{Finds};
 ghost use Rattle.ep_nest.specs.Chains.{IsLegalGraph};
-ghost use Rattle.ep_nest.specs.Links.{edges, entries, is_apart_from, keys, without};
+ghost use Rattle.ep_nest.specs.Graph.{IsKept};
+ghost use Rattle.ep_nest.specs.Links.{edges, entries, is_apart_from, is_between, keys, starts_at, without};
 ghost use Rattle.ep_nest.specs.contracts.graph.Graph.{the_row};
+ghost use Rattle.ep_nest.specs.declared.link.Link.{Link as Tie};
 
 use crate::ascend::ascend;
-use crate::lengths::{LONGEST, length_at};
-use crate::link::{Link, Removal, has_link, watches};
-use crate::scratch::Scratch;
-use crate::walk::put;
+use crate::link::{Link, Way};
+use crate::links::Links;
+use crate::longest::{LONGEST, longest};
+use crate::walk::Walk;
 use ep_base::{DescId, EntryId, Errno};
 use std::alloc::{AllocError, Allocator, Global};
+use std::collections::btree_map::Values;
 use std::marker::Model;
 
 /// Which instances watch which, by which registrations, as epoll(7) lets instances be nested.
 /// Contracts see the links in the order in which they were made.
-/// The graph is legal at any time, and no two links are of one registration. Memory comes from `A`.
+/// The graph is legal at any time, and no two links are of one registration. No call but `links` looks at a link that it needn't: with n
+/// links, those that change the graph take time that grows as log n for each link that they add or take away. Memory comes from `A`.
 #[derive(Drop)]
 pub struct Graph<A: Allocator = Global> {
-    links: Vec<Link, A>,
-    scratch: Scratch<A>,
+    links: Links<A>,
+    walk: Walk<A>,
 }
 
 impl<A: Allocator> Model for Graph<A> {
     ghost use Rattle.std.specs.Prelude.{List};
-    ghost use Rattle.ep_nest.specs.declared.link.Link.{Link};
-    ghost use Rattle.ep_nest.specs.Scratch.{IsKept};
+    ghost use Rattle.ep_nest.specs.declared.link.Link.{Link as Tie};
+    ghost use Rattle.ep_nest.specs.Graph.{IsKept};
 
-    ghost Value = { List Link };
+    ghost Value = { List Tie };
 
-    ghost view = { λ g. g.links.items };
+    ghost view = { λ g. g.links };
 
-    ghost invariant = { λ g. IsKept g.links.items g.scratch };
+    ghost invariant = { λ g. IsKept g.links g.walk };
+}
+
+/// Whether one of these links leads down to an instance.
+fn leads_to(links: &[Link], inner: DescId) -> bool
+    ensures { result ≡ list_any (λ l. l.inner.0 == inner.0) links.now }
+{
+    links.iter().any(|link| link.inner == inner)
+}
+
+/// Whether an instance watches another. It looks at the links of the one that watches.
+fn watches<A: Allocator>(links: &Links<A>, outer: DescId, inner: DescId, walk: &mut Walk<A>) -> bool
+    requires kept { IsKept links.now walk.old }
+    ensures exact { result ≡ list_any (is_between outer.0 inner.0) links.now }
+    ensures kept { IsKept links.now walk.new }
+{
+    links.gather(Way::Down, outer, &mut walk.gathered);
+    leads_to(&walk.gathered, inner)
+}
+
+/// Takes all links away that start at an instance.
+fn cut<A: Allocator>(links: &mut Links<A>, way: Way, instance: DescId)
+    ensures { links.new ≡ filter (λ l. not (starts_at way instance.0 l)) links.old }
+{
+    while let Some(link) = links.first(way, instance) {
+        links.known();
+        links.remove(link.entry);
+    }
 }
 
 impl<A: Allocator> Graph<A> {
@@ -47,8 +80,8 @@ impl<A: Allocator> Graph<A> {
         ensures { result ≡ [] }
     {
         Graph {
-            links: Vec::new(alloc),
-            scratch: Scratch::new(alloc),
+            links: Links::new(alloc),
+            walk: Walk::new(alloc),
         }
     }
 
@@ -57,44 +90,48 @@ impl<A: Allocator> Graph<A> {
         ensures legal { is_legal (edges self.now) ≡ true }
         ensures one_each { are_distinct (entries self.now) ≡ true }
     {
-        let _links = &self.links;
+        self.links.known();
     }
 
     /// The links, in the order in which they were made. It takes no memory.
-    pub fn links(&self) -> &[Link]
-        ensures { result.now ≡ self.now }
+    pub fn links(&self) -> Values<'_, u64, Link>
+        ensures exact { result ≡ self.now }
+        ensures runs { ShowsInOrder (deref {X = Tie}) }
     {
-        &self.links
+        let _marks = &self.walk.marks;
+        self.links.iter()
     }
 
-    /// Whether an entry has a link. Its cost grows as the number of links.
+    /// Whether an entry has a link. It takes constant time.
     pub fn is_linked(&self, entry: EntryId) -> bool
         ensures { result ≡ is_among (entries self.now) entry.0 }
     {
-        has_link(&self.links, entry)
+        let _marks = &self.walk.marks;
+        self.links.has(entry)
     }
 
     /// Whether an instance may begin to watch another, as epoll_ctl(2) has it: `Eloop` exactly where
     /// the graph would have a loop, an instance that watches itself included, or a chain of more than
     /// five instances, both ends counted, above and below taken together.
-    /// It takes no memory, and its cost grows as the number of links.
-    pub fn may_add(&self, outer: DescId, inner: DescId) -> Result<(), Errno>
-        ensures machine { IsOk result ↔ (is_legal ((outer.0, inner.0) ∷ edges self.now) ≡ true) }
-        ensures legal { IsOk result ↔ IsLegalGraph ((outer.0, inner.0) ∷ edges self.now) }
+    /// It takes no memory, changes nothing, and looks at the links above the one and below the other, at each five times at most.
+    pub fn may_add(&mut self, outer: DescId, inner: DescId) -> Result<(), Errno>
+        ensures stays { self.new ≡ self.old }
+        ensures machine { IsOk result ↔ (is_legal ((outer.0, inner.0) ∷ edges self.old) ≡ true) }
+        ensures legal { IsOk result ↔ IsLegalGraph ((outer.0, inner.0) ∷ edges self.old) }
         ensures eloop { IfErr result (λ e. e ≡ Errno.Eloop) }
     {
-        let above = length_at(&self.scratch.heights, outer);
-        let below = length_at(&self.scratch.depths, inner);
+        let above = longest(&self.links, Way::Up, outer, &mut self.walk);
+        let below = longest(&self.links, Way::Down, inner, &mut self.walk);
         let is_too_deep = u32::from(above) + u32::from(below) >= u32::from(LONGEST);
-        if outer == inner || is_too_deep || watches(&self.links, inner, outer) {
+        if outer == inner || is_too_deep || watches(&self.links, inner, outer, &mut self.walk) {
             return Err(Errno::Eloop);
         }
         Ok(())
     }
 
     /// Adds the link of an entry that has none, between instances that `may_add` allows.
-    /// It takes all room that `above` needs, and is the only growth. An error leaves the graph as it was.
-    /// Its cost grows as the number of links and, where a key is new, as the key.
+    /// It takes all room that `above` needs, and is the only growth. `AllocError` where memory was refused, or after 2^64 - 1 links, and
+    /// then the graph is as it was. Its cost grows as the logarithm of the number of links, but where a table grows.
     pub fn link(&mut self, outer: DescId, inner: DescId, entry: EntryId) -> Result<(), AllocError>
     where
         A: Copy,
@@ -105,44 +142,30 @@ impl<A: Allocator> Graph<A> {
         ensures kept { OnErr result (self.new ≡ self.old) }
     {
         let many = self.links.len() + 1;
-        self.scratch.make_room(outer.0.max(inner.0), many)?;
-        self.links.reserve(1)?;
-        let link = Link {
+        self.walk.make_room(outer.0.max(inner.0), many)?;
+        self.links.push(Link {
             outer,
             inner,
             entry,
-        };
-        self.scratch.list(link)?;
-        put(&mut self.links, link);
-        self.scratch.measure(&self.links);
+        })?;
         Ok(())
     }
 
-    /// Takes the link of an entry away, where it has one; the others stay. It looks at each link once, and
-    /// again only where the entry has one.
+    /// Takes the link of an entry away, where it has one; the others stay.
     pub fn unlink(&mut self, entry: EntryId)
         ensures { self.new ≡ without entry.0 self.old }
     {
-        if !has_link(&self.links, entry) {
-            return;
-        }
-        self.links.retain(|link| link.entry != entry);
-        self.scratch.part(Removal::Entry(entry));
-        self.scratch.measure(&self.links);
+        let _marks = &self.walk.marks;
+        self.links.remove(entry);
     }
 
-    /// Takes the links from or to an instance away, as its death does; the others stay.
-    /// Its cost grows as the number of links where the instance has one, and is constant where it has none.
+    /// Takes the links from or to an instance away, as its death does; the others stay. It takes constant time where there is none.
     pub fn purge(&mut self, instance: DescId)
         ensures { self.new ≡ filter (is_apart_from instance.0) self.old }
     {
-        if self.scratch.is_apart(instance) {
-            return;
-        }
-        self.links
-            .retain(|link| link.outer != instance && link.inner != instance);
-        self.scratch.part(Removal::Instance(instance));
-        self.scratch.measure(&self.links);
+        let _marks = &self.walk.marks;
+        cut(&mut self.links, Way::Down, instance);
+        cut(&mut self.links, Way::Up, instance);
     }
 
     /// The instances, each once, from which a chain of links that `passes` admits leads down to one.
@@ -155,15 +178,7 @@ impl<A: Allocator> Graph<A> {
         ensures exact { Finds (λ e b. F.post passes.now e b) self.old inner.0 (keys result.now) }
         ensures once { are_distinct (keys result.now) ≡ true }
     {
-        let scratch = &mut self.scratch;
-        ascend(
-            &scratch.lists,
-            inner,
-            passes,
-            &mut scratch.admitted,
-            &mut scratch.marks,
-            &mut scratch.reached,
-        );
-        &self.scratch.reached
+        ascend(&self.links, inner, passes, &mut self.walk);
+        &self.walk.reached
     }
 }

@@ -1,12 +1,14 @@
 //! The watch graph: which instances watch which, as epoll_ctl(2) limits it.
 #![tactic(auto)]
 
+mod adjacent;
 mod ascend;
 mod graph;
-mod lengths;
 mod link;
-mod lists;
-mod scratch;
+mod links;
+mod longest;
+mod put;
+mod reach;
 mod walk;
 
 pub use crate::graph::Graph;

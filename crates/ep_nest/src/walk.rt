@@ -1,41 +1,68 @@
-//! The steps of a walk up the graph.
-ghost use Rattle.std.specs.Prelude.{◌≡◌, ◌<◌, ◌≤◌, ◌++◌, ◌∷◌, ◌+◌, [], Bool, length, true, vec_capacity, vec_len, ℕ};
-ghost use Rattle.std.specs.List.{All};
-ghost use Rattle.ep_machine.specs.Lists.{are_distinct};
-ghost use Rattle.ep_nest.specs.Links.{admitted_by, entries};
+//! The room of walks through the graph.
+ghost use Rattle.std.specs.Prelude.{◌≡◌, ◌++◌, ◌≤◌, ◌<◌, OnOk, [], false, length, replicate, vec_len, ℕ};
+ghost use Rattle.ep_nest.specs.Walk.{HasGrown, HasPlace};
 
 use crate::link::Link;
-use ep_base::EntryId;
-use std::alloc::Allocator;
+use ep_base::DescId;
+use std::alloc::{AllocError, Allocator};
 
-/// Takes the links that a filter admits, which it asks about each link once.
-pub fn admit<F: Fn(EntryId) -> bool, A: Allocator>(
-    links: &[Link],
-    passes: &F,
-    admitted: &mut Vec<Link, A>,
-)
-    requires callable { F.IsAlwaysCallable passes.now }
-    requires distinct { are_distinct (entries links.now) ≡ true }
-    requires fits { length links.now ≤ vec_capacity admitted.old }
-    ensures asked { (admits : ℕ → Bool)
-        × All (λ l. F.post passes.now l.entry (admits l.entry.0)) links.now
-        × (admitted.new.items ≡ admitted_by admits links.now) }
-    ensures room { vec_capacity admitted.old ≤ vec_capacity admitted.new }
-{
-    admitted.clear();
-    for link in links {
-        if passes(link.entry) {
-            put(admitted, *link);
-        }
-    }
+/// A mark for each instance, and lists that a walk fills.
+#[derive(Drop)]
+pub struct Walk<A: Allocator> {
+    /// Whether the walk has reached the instance; between walks none is marked.
+    pub marks: Vec<bool, A>,
+    /// The links that start at one instance.
+    pub gathered: Vec<Link, A>,
+    /// Those of them that a walk follows.
+    pub admitted: Vec<Link, A>,
+    /// The instances that a walk found.
+    pub reached: Vec<DescId, A>,
+    /// The instances from which a walk goes on.
+    pub level: Vec<DescId, A>,
 }
 
-/// Puts a value at the end, in room that is there.
-pub fn put<T: Copy + Drop, A: Allocator>(values: &mut Vec<T, A>, value: T)
-    requires { vec_len values.old < vec_capacity values.old }
-    ensures items { values.new.items ≡ values.old.items ++ value ∷ [] }
-    ensures len { vec_len values.new ≡ vec_len values.old + 1 }
-    ensures room { vec_capacity values.old ≤ vec_capacity values.new }
+/// Gives an instance its mark, which may add some marks also where memory ends.
+fn widen<A: Allocator>(marks: &mut Vec<bool, A>, key: usize) -> Result<(), AllocError>
+    ensures grown { (n : ℕ) × (marks.new.items ≡ marks.old.items ++ replicate n false) }
+    ensures placed { OnOk result (key < vec_len marks.new) }
+    ensures few { (n : ℕ) → key < n → length marks.old.items ≤ n → length marks.new.items ≤ n }
 {
-    let _done = values.push(value);
+    while marks.len() <= key {
+        marks.push(false)?;
+    }
+    Ok(())
+}
+
+impl<A: Allocator> Walk<A> {
+    /// No marks and no room, which takes no memory.
+    pub fn new(alloc: A) -> Walk<A>
+    where
+        A: Copy,
+        ensures { result.marks.items ≡ [] }
+    {
+        Walk {
+            marks: Vec::new(alloc),
+            gathered: Vec::new(alloc),
+            admitted: Vec::new(alloc),
+            reached: Vec::new(alloc),
+            level: Vec::new(alloc),
+        }
+    }
+
+    /// Takes the room of walks that reach an instance, over so many links. An error may leave some of it taken.
+    pub fn make_room(&mut self, key: usize, many: usize) -> Result<(), AllocError>
+        ensures grown { HasGrown self.old self.new }
+        ensures room { OnOk result (HasPlace self.new key many) }
+    {
+        self.gathered.clear();
+        self.gathered.reserve(many)?;
+        self.admitted.clear();
+        self.admitted.reserve(many)?;
+        let most = key.checked_add(1).ok_or(AllocError)?.max(self.marks.len());
+        self.reached.clear();
+        self.reached.reserve(most)?;
+        self.level.clear();
+        self.level.reserve(most)?;
+        widen(&mut self.marks, key)
+    }
 }

@@ -131,7 +131,7 @@ fn purges_an_instance(rt: HostRuntime) {
             entry: EntryId(7),
         },
     ];
-    assert!(rt; graph.links() == left.as_slice());
+    assert!(rt; graph.links().eq(&left));
     assert_eq!(rt; add(&rt, &mut graph, 7, 3, 20), Ok(()));
 }
 
@@ -148,10 +148,10 @@ fn is_refused(rt: &(impl Abort + AllocGlobal), bytes: usize) -> Result<bool, All
 /// Over heaps of rising size each request for memory is refused in turn, and none where there is enough.
 #[test]
 fn keeps_the_graph_where_memory_is_refused(rt: HostRuntime) -> Result<(), Fail> {
-    for units in 2..32 {
-        is_refused(&rt, 16 * units)?;
+    for units in 2..128 {
+        is_refused(&rt, 32 * units)?;
     }
     assert!(rt; is_refused(&rt, 16)?);
-    assert!(rt; !is_refused(&rt, 1_024)?);
+    assert!(rt; !is_refused(&rt, 4_096)?);
     Ok(())
 }

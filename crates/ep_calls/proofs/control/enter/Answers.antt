@@ -8,7 +8,7 @@ use Rattle.ep_calls.proofs.control.enter.Goals as goal
 pub add-requires-clause-named : goal.add-requires-clause-named
 add-requires-clause-named c =
     let r = c.args.interest.now in
-    subst (All (IsNamed r)) (sym c.requires.nested) (links_are_named r (is_nested c.args.tables.now) c.known.ensures)
+    subst (All (IsNamed r)) (sym (c.may_watch.ensures.stays ∙ c.requires.nested)) (links_are_named r (is_nested c.args.tables.now) c.known.ensures)
 
 pub returns-clause-nested : goal.returns-clause-nested
 returns-clause-nested c =
@@ -19,5 +19,5 @@ returns-clause-nested c =
     let is : is_nested_key tables named.desc ≡ c.is_instance-is_nested.result = search rules in
     let x : Entry = next_entry old named c.args.args in
     c.in_ok-add.ensures.linked
-    ∙ ((λ i. c.requires.nested i ++ cond (sym is i) (next_link old named ∷ []) [])
+    ∙ ((λ i. (c.may_watch.ensures.stays ∙ c.requires.nested) i ++ cond (sym is i) (next_link old named ∷ []) [])
     ∙ links_added (is_nested tables) old new c.known.ensures c.known-2.ensures (record { 0 = old.next }) x c.in_ok-add.ensures.keys c.in_ok-add.ensures.entries)

@@ -1,58 +1,10 @@
-use Rattle.std.specs.List.{list_any}
-use Rattle.std.proofs.Common.{Bool, List, ap, filter, length, not, rules, subst, sym, ℕ, ◌∙◌, ◌≡◌}
-use Rattle.std.proofs.lemmas.Fn.{filter_same}
-use Rattle.ep_nest.proofs.ScratchLemmas.{kept_left, legal_left, places_down, places_left, unlinked_stays}
-use Rattle.ep_nest.specs.Ascent.{list_to}
-use Rattle.ep_nest.specs.Lengths.{HasPlaces}
-use Rattle.ep_nest.specs.Links.{edges, is_of, without}
-use Rattle.ep_nest.specs.Scratch.{IsKept}
-use Rattle.ep_nest.specs.declared.link.Link.{Link}
+use Rattle.std.proofs.Common.{ap, not, ◌∙◌}
+use Rattle.ep_nest.proofs.KeptLemmas.{kept_left}
+use Rattle.ep_nest.specs.Links.{is_of, without}
 use Rattle.ep_nest.proofs.graph.Graph.unlink.Goals as goal
 
-pub returns-then-not-has_link : goal.returns-then-not-has_link
-returns-then-not-has_link g c =
-    let none = ap (λ (ls : List Link). list_any (is_of c.args.entry.0) ls) (sym c.deref.ensures.value) ∙ (sym c.has_link.ensures ∙ c.if-not-has_link.true) in
-    let stays = unlinked_stays c.args.entry.0 c.self.inside.links.items none in
-    sym c.self.view_is ∙ (stays ∙ ap (λ (ls : List Link). without c.args.entry.0 ls) c.self.view_is)
-
-pub measure-requires-clause-legal : goal.measure-requires-clause-legal
-measure-requires-clause-legal g c =
-    let ls = c.self.inside.links.items in
-    let test : Link → Bool = λ l. not (is_of c.args.entry.0 l) in
-    let left : c.retain.new.self.items ≡ filter test ls = filter_same _ test _ (λ x b f' k. search rules) _ _ c.retain.ensures.filtered in
-    legal_left test ls c.deref-2.result.now (c.deref-2.ensures.value ∙ left) c.self.invariant.legal
-
-pub measure-requires-clause-heights_fit : goal.measure-requires-clause-heights_fit
-measure-requires-clause-heights_fit g c =
-    let ls = c.self.inside.links.items in
-    let test : Link → Bool = λ l. not (is_of c.args.entry.0 l) in
-    let left : c.retain.new.self.items ≡ filter test ls = filter_same _ test _ (λ x b f' k. search rules) _ _ c.retain.ensures.filtered in
-    let same : length c.self.inside.scratch.heights.items ≡ length c.part.new.self.heights.items = ap (λ (xs : List ℕ). length xs) (sym c.part.ensures.tables.heights) in
-    subst (λ (n : ℕ). HasPlaces (edges c.deref-2.result.now) n) same (places_left test ls c.deref-2.result.now (c.deref-2.ensures.value ∙ left) (length c.self.inside.scratch.heights.items) c.self.invariant.heights.places)
-
-pub measure-requires-clause-depths_fit : goal.measure-requires-clause-depths_fit
-measure-requires-clause-depths_fit g c =
-    let ls = c.self.inside.links.items in
-    let test : Link → Bool = λ l. not (is_of c.args.entry.0 l) in
-    let left : c.retain.new.self.items ≡ filter test ls = filter_same _ test _ (λ x b f' k. search rules) _ _ c.retain.ensures.filtered in
-    let room = length c.self.inside.scratch.depths.items in
-    let same : room ≡ length c.part.new.self.depths.items = ap (λ (xs : List ℕ). length xs) (sym c.part.ensures.tables.depths) in
-    subst (λ (n : ℕ). HasPlaces (edges c.deref-2.result.now) n) same (places_left test ls c.deref-2.result.now (c.deref-2.ensures.value ∙ left) room (places_down ls room c.self.invariant.depths.places))
-
 pub invariant_of-self : goal.invariant_of-self
-invariant_of-self g c =
-    let ls = c.self.inside.links.items in
-    let test : Link → Bool = λ l. not (is_of c.args.entry.0 l) in
-    let left : c.retain.new.self.items ≡ filter test ls = filter_same _ test _ (λ x b f' k. search rules) _ _ c.retain.ensures.filtered in
-    let told = c.measure.ensures in
-    let same = c.part.ensures.tables in
-    let new = c.measure.new.self in
-    let kept = kept_left test ls c.deref-2.result.now (c.deref-2.ensures.value ∙ left) c.self.inside.scratch new c.self.invariant told.heights told.depths (told.marks ∙ same.marks) (told.admitted ∙ same.admitted) (told.reached ∙ same.reached) (λ k. ap (λ lists. list_to lists.items k) told.lists ∙ c.part.ensures.parted k) in
-    subst (λ (ls : List Link). IsKept ls new) c.deref-2.ensures.value kept
+invariant_of-self g c = kept_left (λ m. not (is_of c.args.entry.0 m)) c.self.inside.links c.remove.new.self c.self.inside.walk c.remove.ensures c.self.invariant
 
 pub returns : goal.returns
-returns g c =
-    let ls = c.self.inside.links.items in
-    let test : Link → Bool = λ l. not (is_of c.args.entry.0 l) in
-    let left : c.retain.new.self.items ≡ filter test ls = filter_same _ test _ (λ x b f' k. search rules) _ _ c.retain.ensures.filtered in
-    left ∙ ap (λ (ls : List Link). filter test ls) c.self.view_is
+returns g c = c.remove.ensures ∙ ap (without c.args.entry.0) c.self.view_is

@@ -1,0 +1,13 @@
+-- What a graph keeps.
+use Rattle.ep_machine.specs.Watches.{is_legal}
+use Rattle.ep_nest.specs.Links.{edges}
+use Rattle.ep_nest.specs.Walk.{HasRoom, IsClear}
+use Rattle.ep_nest.specs.declared.link.Link.{Link}
+use Rattle.ep_nest.specs.declared.walk.Walk.{Walk}
+use Rattle.std.specs.Prelude.{List, true, ◌≡◌}
+
+-- the links are legal, and a walk over them has its room, with no mark left
+pub record IsKept {A : Type 0} (ls : List Link) (w : Walk A) : Type 0 where
+  pub legal : is_legal (edges ls) ≡ true
+  pub room : HasRoom ls w
+  pub clear : IsClear w
