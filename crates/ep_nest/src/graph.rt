@@ -113,7 +113,7 @@ impl<A: Allocator> Graph<A> {
     /// Whether an instance may begin to watch another, as epoll_ctl(2) has it: `Eloop` exactly where
     /// the graph would have a loop, an instance that watches itself included, or a chain of more than
     /// five instances, both ends counted, above and below taken together.
-    /// It takes no memory, changes nothing, and looks at the links above the one and below the other, at each five times at most.
+    /// It takes no memory, changes nothing, and looks at the links above the one and below the other, at each four times at most.
     pub fn may_add(&mut self, outer: DescId, inner: DescId) -> Result<(), Errno>
         ensures stays { self.new ≡ self.old }
         ensures machine { IsOk result ↔ (is_legal ((outer.0, inner.0) ∷ edges self.old) ≡ true) }
