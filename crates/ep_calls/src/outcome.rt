@@ -1,14 +1,14 @@
 //! What an event came to.
-ghost use Rattle.std.specs.Prelude.{◌≡◌, [], None, false};
+ghost use Rattle.std.specs.Prelude.{◌≡◌, [], None, false, true};
 ghost use Rattle.ep_base.specs.Answer.{FitsInline};
 ghost use Rattle.ep_base.specs.declared.answer.Answer.TheVariants.{Refused as refused};
 ghost use Rattle.ep_calls.specs.Acts.{is_no_memory};
-ghost use Rattle.ep_calls.specs.KeptRecords.{IsCopied, IsInline};
+ghost use Rattle.ep_calls.specs.KeptRecords.{HasCopy, IsCopied, IsInline};
 ghost use Rattle.ep_calls.specs.declared.raising.Raising.TheVariants.{Nowhere};
 
 use crate::raising::Raising;
 use crate::spare::Spare;
-use ep_base::{Answer, Errno, Picked};
+use ep_base::{Answer, CallerId, Errno, Event, Picked, Record};
 use std::alloc::Global;
 
 /// What an event came to: its answer, which is never want of memory, once for the caller and once for the history,
@@ -107,5 +107,40 @@ impl Outcome {
             spare,
             raising: Raising::Nowhere,
         }
+    }
+
+    /// The answer, what a second record of the event is made of where one is asked for, and the event's record.
+    pub fn into_record(
+        self,
+        caller: CallerId,
+        event: Event,
+        kept: bool,
+    ) -> (Answer, Option<Spare>, Record)
+        requires { kept ≡ true → self.spare ≡ None → IsInline self.answer self.picked }
+        ensures answer { result.0 ≡ self.answer }
+        ensures spare { kept ≡ true → HasCopy result.1 self.answer self.picked }
+        ensures record { result.2
+            ≡ record {
+              caller = caller;
+              event = event;
+              answer = self.answer;
+              picked = self.picked;
+            } }
+    {
+        let Outcome {
+            answer,
+            recorded,
+            picked,
+            spare,
+            ..
+        } = self;
+        let spare = Spare::of(kept, spare, &answer, &picked);
+        let record = Record {
+            caller,
+            event,
+            answer: recorded,
+            picked,
+        };
+        (answer, spare, record)
     }
 }

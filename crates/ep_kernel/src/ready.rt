@@ -15,7 +15,7 @@ use crate::settle::{know, settle};
 use crate::timers::{follow, make_room};
 use ep_alarms::Alarms;
 use ep_base::{Answer, CallerId, Errno, Event, Limits, Record};
-use ep_calls::{Kernel, Outcome, Parts, Spare};
+use ep_calls::{Kernel, Parts, Spare};
 use ep_law::laws::ends_are_apart;
 use ep_order::{lists_go_on, unmarked_are_reached};
 use ep_ready::ReadyLists;
@@ -121,14 +121,8 @@ impl ReadyKernel {
             &event,
         )?;
         follow(&self.parts, &mut self.alarms, &event, &outcome);
-        let Outcome {
-            answer,
-            recorded,
-            picked,
-            spare,
-            raising,
-        } = outcome;
-        let spare = Spare::of(kept, spare, &answer, &picked);
+        let raising = outcome.raising;
+        let (answer, spare, record) = outcome.into_record(caller, event, kept);
         settle(
             &mut self.parts,
             &mut self.lists,
@@ -139,12 +133,7 @@ impl ReadyKernel {
         self.lists.known();
         let attended = attend(resumed, raising);
         mark(&mut self.parts, &self.lists, &mut self.asked, attended);
-        self.history.push_reserved(Record {
-            caller,
-            event,
-            answer: recorded,
-            picked,
-        });
+        self.history.push_reserved(record);
         Ok((answer, spare))
     }
 

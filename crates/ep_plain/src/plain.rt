@@ -10,7 +10,7 @@ use crate::settle::settle;
 use crate::since::date;
 use crate::these::{act_with, allows};
 use ep_base::{Answer, CallerId, Errno, Event, Limits, Record};
-use ep_calls::{Kernel, Outcome, Parts, Spare};
+use ep_calls::{Kernel, Parts, Spare};
 use std::alloc::{AllocError, Global};
 use std::marker::Model;
 
@@ -78,23 +78,13 @@ impl PlainKernel {
         self.history.reserve(1)?;
         self.since.reserve(1)?;
         let step = self.history.len() as u64 + 1;
-        let Outcome {
-            answer,
-            recorded,
-            picked,
-            spare,
-            raising,
-        } = act_with(&mut self.parts, step, caller, &event, picks, kept)?;
-        let spare = Spare::of(kept, spare, &answer, &picked);
+        let outcome = act_with(&mut self.parts, step, caller, &event, picks, kept)?;
+        let raising = outcome.raising;
+        let (answer, spare, record) = outcome.into_record(caller, event, kept);
         settle(&mut self.parts, step, raising);
         self.since.push_reserved(0);
         date(&self.parts, step, &mut self.since);
-        self.history.push_reserved(Record {
-            caller,
-            event,
-            answer: recorded,
-            picked,
-        });
+        self.history.push_reserved(record);
         Ok((answer, spare))
     }
 

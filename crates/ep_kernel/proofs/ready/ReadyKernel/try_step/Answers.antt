@@ -1,5 +1,6 @@
 use Rattle.std.proofs.Common.{◌≡◌, ◌+◌, ◌++◌, [], ◌∷◌, Err, List, Ok, OnErr, Option, Result, ap, length, ◌∙◌, arith, subst, sym, vec_capacity}
 use Rattle.ep_alarms.specs.Alarms.{AreSet}
+use Rattle.ep_base.specs.declared.answer.Answer.{Answer}
 use Rattle.ep_base.specs.declared.ids.DescId.{DescId}
 use Rattle.ep_base.specs.declared.record.Record.{Record}
 use Rattle.ep_machine.specs.Step.{next_event}
@@ -46,8 +47,8 @@ returns-in_err-outcome-clause-err_lists c =
     (ap (λ (p : Parts). lists_of p c.act.new.lists) same.0 ∙ same_lists k.parts k.lists c.act.new.lists same.1))
 
 -- where a second record is asked for, there is a copy, or none is needed
-pub of-spare-requires-clause-inline : goal.of-spare-requires-clause-inline
-of-spare-requires-clause-inline c asked none =
+pub into_record-answer-requires : goal.into_record-answer-requires
+into_record-answer-requires c asked none =
     let k = c.self.inside in
     let o = c.in_ok-outcome.outcome in
     let n : c.len.result + 1 ≡ length k.history.items + 1 = omega (arith, c.len.ensures, c.reserve.ensures.len) in
@@ -79,9 +80,7 @@ number c = omega (arith, c.len.ensures, c.reserve.ensures.len)
 -- the history has its record
 records : (c : goal.After-push_reserved) → c.push_reserved.new.self.items ≡ c.self.inside.history.items ++ record_of c.args.caller c.args.event c.in_ok-outcome.outcome ∷ []
 records c =
-    let outcome = c.in_ok-outcome.outcome in
-    c.push_reserved.ensures.items
-    ∙ (λ i. c.reserve.ensures.items i ++ record { caller = c.args.caller; event = c.args.event; answer = outcome.same i; picked = outcome.picked } ∷ [])
+    c.push_reserved.ensures.items ∙ (λ i. c.reserve.ensures.items i ++ c.into_record-answer.ensures.record i ∷ [])
 
 -- what follows the change
 ends : (c : goal.After-push_reserved) → Ends (c.len.result + 1) c.in_ok-outcome.outcome.raising c.act.new.parts c.act.new.lists c.mark.new.parts c.settle.new.lists
@@ -106,8 +105,10 @@ returns-clause-ok c =
     let adds =
     adds_on c.lists_go_on.ensures.law k.history.items k.parts c.act.new.parts c.mark.new.parts k.lists c.act.new.lists c.settle.new.lists c.self.invariant.runs c.know.ensures.coherent c.know.ensures.tables c.know.ensures.interest c.known.ensures c.known-2.ensures
     c.args.caller c.args.event outcome (c.len.result + 1) (number c) c.in_ok-outcome.ensures.ok c.in_ok-outcome.ensures.turns (ends c) in
-    subst (λ (b : ReadyBook). Adds b.book.limits c.args.caller c.args.event outcome.answer (state_of b.book) (state_of new) b.book.past new.past) c.self.view_is
-    (subst (λ (rs : List Record). Adds k.parts.tables.limits c.args.caller c.args.event outcome.answer (state_of (book_of k).book) (state_of (record new { past = rs })) k.history.items rs) (sym (records c)) adds)
+    let old = c.args.self.now.book in
+    subst (λ (a : Answer). Adds old.limits c.args.caller c.args.event a (state_of old) (state_of new) old.past new.past) (sym c.into_record-answer.ensures.answer)
+    (subst (λ (b : ReadyBook). Adds b.book.limits c.args.caller c.args.event outcome.answer (state_of b.book) (state_of new) b.book.past new.past) c.self.view_is
+    (subst (λ (rs : List Record). Adds k.parts.tables.limits c.args.caller c.args.event outcome.answer (state_of (book_of k).book) (state_of (record new { past = rs })) k.history.items rs) (sym (records c)) adds))
 
 pub returns-clause-lists : goal.returns-clause-lists
 returns-clause-lists c =
@@ -124,7 +125,8 @@ returns-clause-lists c =
     let added =
     added_on c.lists_go_on.ensures.law k.history.items k.parts c.act.new.parts c.mark.new.parts k.lists c.act.new.lists c.settle.new.lists c.self.invariant.runs c.know.ensures.coherent c.know.ensures.tables c.know.ensures.interest c.known.ensures c.known-2.ensures
     c.args.caller c.args.event outcome (c.len.result + 1) (number c) c.in_ok-outcome.ensures.ok c.in_ok-outcome.ensures.turns (ends c) in
-    subst (λ (b : ReadyBook). TurnsLists c.args.caller c.args.event outcome.answer b new) c.self.view_is
+    subst (λ (a : Answer). TurnsLists c.args.caller c.args.event a c.args.self.now new) (sym c.into_record-answer.ensures.answer)
+    (subst (λ (b : ReadyBook). TurnsLists c.args.caller c.args.event outcome.answer b new) c.self.view_is
     (record {
       picked = outcome.picked;
       added = records c;
@@ -132,4 +134,4 @@ returns-clause-lists c =
       few = subst (λ (rs : List Record). LeavesReportable (state_of (book_of k).book) (state_of (record book { past = rs })) c.args.caller.0 c.args.event outcome.answer (listed new)) (sym (records c)) few;
       arrives =
           subst (λ (rs : List Record). AreAdded k.parts.tables.limits c.args.caller.0 c.args.event outcome.picked (state_of (book_of k).book) (state_of (record book { past = rs })) (list_of (lists_of k.parts k.lists)) (listed new)) (sym (records c)) added;
-    })
+    }))

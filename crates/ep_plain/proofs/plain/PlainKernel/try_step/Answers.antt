@@ -1,4 +1,5 @@
 use Rattle.std.proofs.Common.{◌≡◌, ◌<◌, ◌+◌, ◌++◌, [], ◌∷◌, List, ℕ, ap, length, ◌∙◌, arith, option_copied, subst, sym, vec_capacity}
+use Rattle.ep_base.specs.declared.answer.Answer.{Answer}
 use Rattle.ep_base.specs.declared.record.Record.{Record}
 use Rattle.ep_machine.specs.Step.{next_event}
 use Rattle.ep_calls.specs.Book.{Book, state_of}
@@ -25,32 +26,30 @@ may c =
     (subst (λ (b : Book). HasStep b.limits (state_of b) c.args.caller c.args.event (option_copied c.args.picks)) (sym c.self.view_is) c.requires.there)
 
 -- what the event did
-does : (c : goal.After-push_reserved-2) → DoesAt (next_event c.self.invariant.keeps.state) c.args.caller.0 c.args.event c.in_ok-answer.field-0 c.self.inside.parts c.act_with.new.parts
+does : (c : goal.After-push_reserved-2) → DoesAt (next_event c.self.invariant.keeps.state) c.args.caller.0 c.args.event c.in_ok-outcome.outcome c.self.inside.parts c.act_with.new.parts
 does c =
     let k = c.self.inside in
-    does_with k.history.items k.parts c.self.invariant.keeps (c.len.result + 1) (number c) (MayReport k.parts c.args.caller.0 c.args.event (option_copied c.args.picks)) c.args.caller.0 c.args.event c.in_ok-answer.field-0 c.act_with.new.parts
-    c.in_ok-answer.ensures.ok (may c)
+    does_with k.history.items k.parts c.self.invariant.keeps (c.len.result + 1) (number c) (MayReport k.parts c.args.caller.0 c.args.event (option_copied c.args.picks)) c.args.caller.0 c.args.event c.in_ok-outcome.outcome c.act_with.new.parts
+    c.in_ok-outcome.ensures.ok (may c)
 
 -- where a second record is asked for, there is a copy, or none is needed
-pub of-spare-requires-clause-inline : goal.of-spare-requires-clause-inline
-of-spare-requires-clause-inline c asked none =
+pub into_record-answer-requires : goal.into_record-answer-requires
+into_record-answer-requires c asked none =
     let k = c.self.inside in
-    let o = c.in_ok-answer.field-0 in
+    let o = c.in_ok-outcome.outcome in
     let n : c.len.result + 1 ≡ length k.history.items + 1 = omega (arith, c.len.ensures, c.reserve.ensures.len) in
     let go =
     may_report k.history.items k.parts c.self.invariant.keeps c.args.caller c.args.event (option_copied c.args.picks)
     (subst (λ (b : Book). HasStep b.limits (state_of b) c.args.caller c.args.event (option_copied c.args.picks)) (sym c.self.view_is) c.requires.there) in
     let done =
-    does_with k.history.items k.parts c.self.invariant.keeps (c.len.result + 1) n (MayReport k.parts c.args.caller.0 c.args.event (option_copied c.args.picks)) c.args.caller.0 c.args.event o c.act_with.new.parts c.in_ok-answer.ensures.ok go in
-    let keeps : KeepsEvent c.args.event c.args.kept o = kept_of (option_copied c.args.picks) c.args.kept c.requires.kept asked c.in_ok-answer.ensures.kept in
+    does_with k.history.items k.parts c.self.invariant.keeps (c.len.result + 1) n (MayReport k.parts c.args.caller.0 c.args.event (option_copied c.args.picks)) c.args.caller.0 c.args.event o c.act_with.new.parts c.in_ok-outcome.ensures.ok go in
+    let keeps : KeepsEvent c.args.event c.args.kept o = kept_of (option_copied c.args.picks) c.args.kept c.requires.kept asked c.in_ok-outcome.ensures.kept in
     inline_event k.parts.tables.limits (next_event c.self.invariant.keeps.state) c.args.caller.0 o c.args.kept asked none c.args.event c.act_with.new.parts done.goes keeps
 
 -- the history has its record
-records : (c : goal.After-push_reserved-2) → c.push_reserved-2.new.self.items ≡ c.self.inside.history.items ++ record_of c.args.caller c.args.event c.in_ok-answer.field-0 ∷ []
+records : (c : goal.After-push_reserved-2) → c.push_reserved-2.new.self.items ≡ c.self.inside.history.items ++ record_of c.args.caller c.args.event c.in_ok-outcome.outcome ∷ []
 records c =
-    let outcome = c.in_ok-answer.field-0 in
-    c.push_reserved-2.ensures.items
-    ∙ (λ i. c.reserve.ensures.items i ++ record { caller = c.args.caller; event = c.args.event; answer = outcome.same i; picked = outcome.picked } ∷ [])
+    c.push_reserved-2.ensures.items ∙ (λ i. c.reserve.ensures.items i ++ c.into_record-answer.ensures.record i ∷ [])
 
 pub date-requires : goal.date-requires
 date-requires c =
@@ -60,10 +59,10 @@ date-requires c =
     may_report k.history.items k.parts c.self.invariant.keeps c.args.caller c.args.event (option_copied c.args.picks)
     (subst (λ (b : Book). HasStep b.limits (state_of b) c.args.caller c.args.event (option_copied c.args.picks)) (sym c.self.view_is) c.requires.there) in
     let done =
-    does_with k.history.items k.parts c.self.invariant.keeps (c.len.result + 1) n (MayReport k.parts c.args.caller.0 c.args.event (option_copied c.args.picks)) c.args.caller.0 c.args.event c.in_ok-answer.field-0 c.act_with.new.parts c.in_ok-answer.ensures.ok go in
+    does_with k.history.items k.parts c.self.invariant.keeps (c.len.result + 1) n (MayReport k.parts c.args.caller.0 c.args.event (option_copied c.args.picks)) c.args.caller.0 c.args.event c.in_ok-outcome.outcome c.act_with.new.parts c.in_ok-outcome.ensures.ok go in
     let since = c.push_reserved.ensures.items ∙ ap (λ (xs : List ℕ). xs ++ 0 ∷ []) c.reserve-2.ensures.items in
     subst (λ (xs : List ℕ). c.settle.new.parts.interest.added < length xs) (sym since)
-    (room k.history.items k.parts c.act_with.new.parts c.settle.new.parts k.since.items c.self.invariant c.args.caller c.args.event c.in_ok-answer.field-0 (c.len.result + 1) n done c.settle.ensures)
+    (room k.history.items k.parts c.act_with.new.parts c.settle.new.parts k.since.items c.self.invariant c.args.caller c.args.event c.in_ok-outcome.outcome (c.len.result + 1) n done c.settle.ensures)
 
 -- registrations are dated
 dated : (c : goal.After-push_reserved-2) → Dates (entry_shows (readiness c.settle.new.parts.tables c.settle.new.parts.clock c.settle.new.parts.interest) c.settle.new.parts.tables c.settle.new.parts.clock) (c.len.result + 1) c.settle.new.parts.interest (c.self.inside.since.items ++ 0 ∷ []) c.date.new.since.items
@@ -76,16 +75,18 @@ pub invariant_of-self-2 : goal.invariant_of-self-2
 invariant_of-self-2 c =
     let k = c.self.inside in
     subst (λ (rs : List Record). Standing rs c.settle.new.parts c.date.new.since.items) (sym (records c))
-    (standing_next k.history.items k.parts c.act_with.new.parts c.settle.new.parts k.since.items c.self.invariant c.args.caller c.args.event c.in_ok-answer.field-0 (c.len.result + 1) (number c) (does c) c.settle.ensures c.date.new.since.items (dated c))
+    (standing_next k.history.items k.parts c.act_with.new.parts c.settle.new.parts k.since.items c.self.invariant c.args.caller c.args.event c.in_ok-outcome.outcome (c.len.result + 1) (number c) (does c) c.settle.ensures c.date.new.since.items (dated c))
 
 pub returns-clause-ok : goal.returns-clause-ok
 returns-clause-ok c =
     let k = c.self.inside in
-    let outcome = c.in_ok-answer.field-0 in
+    let outcome = c.in_ok-outcome.outcome in
     let given = option_copied c.args.picks in
     let new : Book = record { limits = c.settle.new.parts.tables.limits; past = c.push_reserved-2.new.self.items; capacity = vec_capacity c.push_reserved-2.new.self } in
-    let told = reports k.history.items k.parts c.self.invariant.keeps c.args.caller c.args.event (c.len.result + 1) (number c) given outcome.picked (may c) c.in_ok-answer.ensures.picked in
+    let told = reports k.history.items k.parts c.self.invariant.keeps c.args.caller c.args.event (c.len.result + 1) (number c) given outcome.picked (may c) c.in_ok-outcome.ensures.picked in
     let adds =
     adds_by k.history.items k.parts c.act_with.new.parts c.settle.new.parts k.since.items c.self.invariant c.args.caller c.args.event outcome (c.len.result + 1) (number c) (does c) c.settle.ensures given told in
-    subst (λ (b : Book). AddsBy b.limits c.args.caller c.args.event given outcome.answer (state_of b) (state_of new) b.past new.past) c.self.view_is
-    (subst (λ (rs : List Record). AddsBy k.parts.tables.limits c.args.caller c.args.event given outcome.answer (state_of (book_of k)) (state_of (record new { past = rs })) k.history.items rs) (sym (records c)) adds)
+    let old = c.args.self.now in
+    subst (λ (a : Answer). AddsBy old.limits c.args.caller c.args.event given a (state_of old) (state_of new) old.past new.past) (sym c.into_record-answer.ensures.answer)
+    (subst (λ (b : Book). AddsBy b.limits c.args.caller c.args.event given outcome.answer (state_of b) (state_of new) b.past new.past) c.self.view_is
+    (subst (λ (rs : List Record). AddsBy k.parts.tables.limits c.args.caller c.args.event given outcome.answer (state_of (book_of k)) (state_of (record new { past = rs })) k.history.items rs) (sym (records c)) adds))
