@@ -8,6 +8,7 @@
 #ifndef NIPPERSAGE_H
 #define NIPPERSAGE_H
 
+#include <fcntl.h>
 #include <inttypes.h>
 #include <stddef.h>
 #include <stdio.h>
@@ -64,12 +65,14 @@ struct nippersage_report {
 };
 
 /* Starts the program at this path, with six numbers as `--limits` takes them, or the limits by
- * default where they are NULL. 0, or -1 with errno. */
+ * default if they are NULL. 0, or -1 with errno. Start kernels from one thread at a time. */
 static inline int nippersage_start(struct nippersage *kernel, const char *path, const char *limits) {
     int ends[2];
     memset(kernel, 0, sizeof *kernel);
     kernel->pid = 1;
     if (socketpair(AF_UNIX, SOCK_STREAM, 0, ends) < 0) return -1;
+    /* Else the program of a later kernel would keep this one's input open. */
+    fcntl(ends[0], F_SETFD, FD_CLOEXEC);
     kernel->program = fork();
     if (kernel->program == 0) {
         close(ends[0]);

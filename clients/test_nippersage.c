@@ -106,8 +106,21 @@ static void no_answer_of_the_kernel(const char *path) {
     EXPECT(WEXITSTATUS(nippersage_end(&kernel)) == 2);
 }
 
+/* The first of two kernels ends while the second one lives. */
+static void two_kernels(const char *path) {
+    struct nippersage first, second;
+    int ends[2];
+    EXPECT(nippersage_start(&first, path, NULL) == 0 && nippersage_start(&second, path, NULL) == 0);
+    EXPECT(nippersage_pipe(&first, 0, ends) == 0 && ends[0] == 3 && ends[1] == 4);
+    EXPECT(nippersage_end(&first) == 0);
+    EXPECT(nippersage_epoll(&second, 0) == 3);
+    EXPECT(nippersage_end(&second) == 0);
+}
+
 int main(int count, char **words) {
     if (count != 2) return 2;
+    alarm(300); /* a kernel that doesn't end is a failure, too */
+    two_kernels(words[1]);
     level_triggered(words[1]);
     parked_callers(words[1]);
     processes(words[1]);
