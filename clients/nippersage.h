@@ -42,6 +42,10 @@ enum { NIPPERSAGE_ADD = 1, NIPPERSAGE_DEL = 2, NIPPERSAGE_MOD = 3 };
 #define NIPPERSAGE_PARKED (-100005)
 /* The client itself found no memory; nothing was sent. */
 #define NIPPERSAGE_MEMORY (-100006)
+/* A history has a record that the model doesn't allow. */
+#define NIPPERSAGE_ILLEGAL (-100007)
+/* There is no verdict on a history: a line is no record, or the file can't be read. */
+#define NIPPERSAGE_UNJUDGED (-100008)
 
 #define NIPPERSAGE_MOST_CALLS 100000
 #define NIPPERSAGE_LONGEST_LINE 65536
@@ -64,9 +68,27 @@ struct nippersage_report {
     uint64_t data;
 };
 
+/* Becomes the program at this path, with these options; those that are NULL are left out. */
+static inline void nippersage_become(const char *path, const char *limits, const char *history) {
+    const char *words[6] = {path};
+    int count = 1;
+    if (limits) {
+        words[count++] = "--limits";
+        words[count++] = limits;
+    }
+    if (history) {
+        words[count++] = "--history";
+        words[count++] = history;
+    }
+    execvp(path, (char *const *)words);
+    _exit(127);
+}
+
 /* Starts the program at this path, with six numbers as `--limits` takes them, or the limits by
- * default if they are NULL. 0, or -1 with errno. Start kernels from one thread at a time. */
-static inline int nippersage_start(struct nippersage *kernel, const char *path, const char *limits) {
+ * default if they are NULL. It writes the history to the file `history`, which is made anew, a line
+ * for each event, or to none if that is NULL. 0, or -1 with errno. If the file can't be made or
+ * written, the program ends and says so on standard error. Start kernels from one thread at a time. */
+static inline int nippersage_start_recording(struct nippersage *kernel, const char *path, const char *limits, const char *history) {
     int ends[2];
     memset(kernel, 0, sizeof *kernel);
     kernel->pid = 1;
@@ -78,9 +100,7 @@ static inline int nippersage_start(struct nippersage *kernel, const char *path, 
         close(ends[0]);
         if (dup2(ends[1], 0) < 0 || dup2(ends[1], 1) < 0) _exit(127);
         if (ends[1] > 1) close(ends[1]);
-        if (limits) execlp(path, path, "--limits", limits, (char *)NULL);
-        else execlp(path, path, (char *)NULL);
-        _exit(127);
+        nippersage_become(path, limits, history);
     }
     close(ends[1]);
     kernel->channel = ends[0];
@@ -93,6 +113,11 @@ static inline int nippersage_start(struct nippersage *kernel, const char *path, 
     return 0;
 }
 
+/* The same without a history. */
+static inline int nippersage_start(struct nippersage *kernel, const char *path, const char *limits) {
+    return nippersage_start_recording(kernel, path, limits, NULL);
+}
+
 /* Ends the program, and gives its status as waitpid does. */
 static inline int nippersage_end(struct nippersage *kernel) {
     int status = -1;
@@ -100,6 +125,45 @@ static inline int nippersage_end(struct nippersage *kernel) {
     free(kernel->answer);
     waitpid(kernel->program, &status, 0);
     return status;
+}
+
+/* Starts the auditor at this path on this input. `told` is what it writes. Its number, or -1. */
+static inline pid_t nippersage_start_audit(const char *path, const char *limits, int input, FILE **told) {
+    int ends[2];
+    pid_t auditor;
+    if (pipe(ends) < 0) return -1;
+    auditor = fork();
+    if (auditor == 0) {
+        if (dup2(input, 0) < 0 || dup2(ends[1], 1) < 0) _exit(127);
+        nippersage_become(path, limits, NULL);
+    }
+    close(ends[1]);
+    *told = auditor < 0 ? NULL : fdopen(ends[0], "r");
+    if (*told) return auditor;
+    close(ends[0]);
+    if (auditor > 0) waitpid(auditor, NULL, 0);
+    return -1;
+}
+
+/* Has the program epaudit at this path check the history in a file, under the limits of the kernel
+ * that made it. How many records it has if the model allows all of them; NIPPERSAGE_ILLEGAL, and
+ * `record` is the place of the first that it doesn't allow, counted from 0; or NIPPERSAGE_UNJUDGED.
+ * Call it once nippersage_end has given 0: before that the last record may be missing. */
+static inline int64_t nippersage_audit(const char *path, const char *limits, const char *history, int64_t *record) {
+    int64_t count, verdict = NIPPERSAGE_UNJUDGED;
+    FILE *told;
+    pid_t auditor;
+    int input = open(history, O_RDONLY);
+    if (input < 0) return NIPPERSAGE_UNJUDGED;
+    auditor = nippersage_start_audit(path, limits, input, &told);
+    close(input);
+    if (auditor < 0) return NIPPERSAGE_UNJUDGED;
+    if (fscanf(told, "ok %" SCNd64 " records", &count) == 1) verdict = count;
+    else if (fscanf(told, "illegal at record %" SCNd64, record) == 1) verdict = NIPPERSAGE_ILLEGAL;
+    while (fgetc(told) != EOF) continue;
+    fclose(told);
+    waitpid(auditor, NULL, 0);
+    return verdict;
 }
 
 /* Sends all of it; a program that ended is no signal. */

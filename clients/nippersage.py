@@ -10,11 +10,13 @@
         assert kernel.wait(instance) == [(IN, 3)]
 
 Every method takes `by`, the number of the caller, and those of a process's calls take `pid`, its
-number. docs/calls.md says what each call answers and refuses; docs/clients.md what is promised.
+number. `Kernel(history=PATH)` writes down what happens, and `audit(PATH)` has it checked.
+docs/calls.md says what each call answers and refuses; docs/clients.md what is promised.
 """
 
 import json
 import os
+import re
 import subprocess
 
 IN, PRI, OUT, ERR, HUP, RDHUP = 1, 2, 4, 8, 16, 8192
@@ -25,25 +27,61 @@ MOST_CALLS = 100_000
 #: The most bytes of a line, without the byte that ends it.
 LONGEST_LINE = 65_536
 
-PROGRAM = os.path.join(os.path.dirname(os.path.abspath(__file__)), os.pardir, "epsim")
+_TOP = os.path.join(os.path.dirname(os.path.abspath(__file__)), os.pardir)
+#: The programs: `epsim` and `epaudit` beside this folder, or those that these variables name.
+PROGRAM = os.environ.get("NIPPERSAGE_EPSIM") or os.path.join(_TOP, "epsim")
+AUDITOR = os.environ.get("NIPPERSAGE_EPAUDIT") or os.path.join(_TOP, "epaudit")
 
 
 class Ended(Exception):
     """The program runs no more, or may be asked no more. It is no answer of the kernel."""
 
 
+class Illegal(Exception):
+    """A history has a record that the model doesn't allow. `record` is its place, counted from 0."""
+
+    def __init__(self, record, text):
+        super().__init__(f"illegal at record {record}: {text}")
+        self.record = record
+
+
+def audit(history, limits=None, program=None):
+    """How many records the history in this file has, all of which the model allows. Else `Illegal`.
+
+    `limits` are those of the kernel that made it. `Ended` if there is no verdict, since a line is
+    no record or the file can't be read; standard error says which. Call it once the kernel's `end`
+    has given 0: before that the last record may be missing.
+    """
+    words = [program or AUDITOR] + _limits_words(limits)
+    with open(history, "rb") as records:
+        told = subprocess.run(words, stdin=records, stdout=subprocess.PIPE)
+    verdict, _, text = told.stdout.decode().partition("\n")
+    place = re.fullmatch(r"ok (\d+) records|illegal at record (\d+): .*", verdict)
+    if place is None:
+        raise Ended(f"the audit gave no verdict, and ended with status {told.returncode}")
+    if place[2] is not None:
+        raise Illegal(int(place[2]), text.strip())
+    return int(place[1])
+
+
+def _limits_words(limits):
+    return [] if limits is None else ["--limits", ",".join(map(str, limits))]
+
+
 class Kernel:
     """A kernel in its opening state, in a process of its own.
 
     `limits` are six numbers: descriptors, files, processes, watches, pipe bytes, socket bytes.
-    `program` is the program's path; where none is given it is `epsim` beside this folder, which
-    proves and builds the program where that is not done yet.
+    `program` is the program's path. If none is given it is `PROGRAM`, `epsim` beside this folder,
+    which proves and builds the program if that is not done yet.
+    `history` is the path of a file, made anew, that gets a line for each event. If it can't be
+    made or written, the program ends and says so on standard error.
     """
 
-    def __init__(self, limits=None, program=None):
-        words = [program or PROGRAM]
-        if limits is not None:
-            words += ["--limits", ",".join(map(str, limits))]
+    def __init__(self, limits=None, program=None, history=None):
+        words = [program or PROGRAM] + _limits_words(limits)
+        if history is not None:
+            words += ["--history", os.path.abspath(history)]
         self.calls = 0
         self._program = subprocess.Popen(words, stdin=subprocess.PIPE, stdout=subprocess.PIPE)
 

@@ -117,9 +117,48 @@ static void two_kernels(const char *path) {
     EXPECT(nippersage_end(&second) == 0);
 }
 
+/* A file with all of a history but the record at this place, counted from 0. */
+static void write_without(const char *history, const char *shorter, int place) {
+    FILE *from = fopen(history, "r"), *to = fopen(shorter, "w");
+    int byte, line = 0;
+    EXPECT(from && to);
+    while ((byte = fgetc(from)) != EOF) {
+        if (line != place) fputc(byte, to);
+        line += byte == '\n';
+    }
+    fclose(from);
+    EXPECT(fclose(to) == 0);
+}
+
+/* The history of examples/level.jsonl up to its first report, and the same without its write. */
+static void histories(const char *path, const char *auditor) {
+    const char *small = "16,16,2,1,4096,4096", *none = "16,16,2,0,4096,4096";
+    struct nippersage kernel;
+    struct nippersage_report reports[8];
+    int64_t record = -1;
+    int ends[2];
+    EXPECT(nippersage_start_recording(&kernel, path, small, "kept.history") == 0);
+    EXPECT(nippersage_pipe(&kernel, 0, ends) == 0 && nippersage_epoll(&kernel, 0) == 5);
+    EXPECT(nippersage_ctl(&kernel, 5, NIPPERSAGE_ADD, 3, NIPPERSAGE_IN, 3) == 0);
+    EXPECT(nippersage_write(&kernel, 4, "abc", 3) == 3);
+    EXPECT(nippersage_wait(&kernel, 5, reports, 8, 0) == 1);
+    EXPECT(nippersage_end(&kernel) == 0);
+    EXPECT(nippersage_audit(auditor, small, "kept.history", &record) == 5);
+    EXPECT(nippersage_audit(auditor, none, "kept.history", &record) == NIPPERSAGE_ILLEGAL && record == 2);
+    write_without("kept.history", "shorter.history", 3);
+    EXPECT(nippersage_audit(auditor, small, "shorter.history", &record) == NIPPERSAGE_ILLEGAL && record == 3);
+    EXPECT(nippersage_audit(auditor, small, "missing.history", &record) == NIPPERSAGE_UNJUDGED);
+    EXPECT(nippersage_audit(auditor, "no limits", "kept.history", &record) == NIPPERSAGE_UNJUDGED);
+    EXPECT(nippersage_start_recording(&kernel, path, NULL, "missing/kept.history") == 0);
+    EXPECT(nippersage_tick(&kernel, 0) == NIPPERSAGE_ENDED);
+    EXPECT(WEXITSTATUS(nippersage_end(&kernel)) == 1);
+}
+
+/* The words are the programs epsim and epaudit. Histories are written to the folder in which it runs. */
 int main(int count, char **words) {
-    if (count != 2) return 2;
+    if (count != 3) return 2;
     alarm(300); /* a kernel that doesn't end is a failure, too */
+    histories(words[1], words[2]);
     two_kernels(words[1]);
     level_triggered(words[1]);
     parked_callers(words[1]);

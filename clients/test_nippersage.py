@@ -1,12 +1,17 @@
 """What the Python client hands on. The expected answers are those of examples/ and docs/calls.md."""
 
 import errno
+import os
 import sys
+import tempfile
 import unittest
 
 sys.dont_write_bytecode = True
 
-from nippersage import ET, HUP, IN, MOST_CALLS, OUT, Ended, Kernel
+from nippersage import ET, HUP, IN, MOST_CALLS, OUT, Ended, Illegal, Kernel, audit
+
+#: 16 descriptors, 16 files, 2 processes, a registration, and the least room of pipes and sockets.
+SMALL = (16, 16, 2, 1, 4_096, 4_096)
 
 
 class Client(unittest.TestCase):
@@ -96,6 +101,55 @@ class Client(unittest.TestCase):
                 kernel.dup(0)
                 kernel.dup(0)
             self.assertEqual(kernel.end(), 2)
+
+
+class Histories(unittest.TestCase):
+    """The history of examples/level.jsonl up to its first report, and what an audit says of it."""
+
+    def setUp(self):
+        room = tempfile.TemporaryDirectory()
+        self.addCleanup(room.cleanup)
+        self.path = os.path.join(room.name, "kept.history")
+        with Kernel(limits=SMALL, history=self.path) as kernel:
+            reader, writer = kernel.pipe()
+            instance = kernel.epoll()
+            kernel.add(instance, reader, IN, data=3)
+            kernel.write(writer, b"abc")
+            self.assertEqual(kernel.wait(instance), [(IN, 3)])
+            self.assertEqual(kernel.end(), 0)
+
+    def expect_illegal(self, place, limits):
+        with self.assertRaises(Illegal) as caught:
+            audit(self.path, limits=limits)
+        self.assertEqual(caught.exception.record, place)
+
+    def test_a_history_of_a_kernel(self):
+        self.assertEqual(audit(self.path, limits=SMALL), 5)
+
+    def test_a_history_without_its_write(self):
+        with open(self.path) as kept:
+            records = kept.readlines()
+        self.assertIn('"hex":"616263"', records[3])
+        with open(self.path, "w") as shorter:
+            shorter.writelines(records[:3] + records[4:])
+        self.expect_illegal(3, SMALL)
+
+    def test_other_limits(self):
+        self.expect_illegal(2, (16, 16, 2, 0, 4_096, 4_096))
+
+    def test_a_history_without_a_verdict(self):
+        with open(self.path, "a") as longer:
+            longer.write("no record\n")
+        with self.assertRaises(Ended):
+            audit(self.path, limits=SMALL)
+        with self.assertRaises(OSError):
+            audit(self.path + ".missing")
+
+    def test_a_file_that_cannot_be_made(self):
+        with Kernel(history=os.path.join(self.path, "below.history")) as kernel:
+            with self.assertRaises(Ended):
+                kernel.tick(0)
+            self.assertEqual(kernel.end(), 1)
 
 
 if __name__ == "__main__":
