@@ -1,6 +1,6 @@
 /* Drives Nippersage's program from C: one function for each call.
  *
- * A function answers 0 or more where its call is done, and a refusal as minus its error number, as
+ * A function answers 0 or more if its call is done, and a refusal as minus its error number, as
  * -EAGAIN. What is no refusal is one of the NIPPERSAGE_.. numbers below, which are less than that
  * of any error. docs/calls.md says what each call answers and refuses; docs/clients.md what is
  * promised. Needs no library but C's, in POSIX.1-2008: compile as GNU C, or define _POSIX_C_SOURCE
@@ -200,7 +200,7 @@ static inline int nippersage_ask(struct nippersage *kernel, const char *op, int 
     return 0;
 }
 
-/* The same, where the answer is one number. */
+/* The same for an answer of one number. */
 static inline int64_t nippersage_number(struct nippersage *kernel, const char *op, const char *rest) {
     int64_t number = 0;
     int status = nippersage_ask(kernel, op, 1, rest);
@@ -208,7 +208,7 @@ static inline int64_t nippersage_number(struct nippersage *kernel, const char *o
     return sscanf(kernel->answer, "{\"num\":%" SCNd64, &number) == 1 ? number : NIPPERSAGE_ENDED;
 }
 
-/* The same, where the answer is two numbers under this key. */
+/* The same for an answer of two numbers. */
 static inline int nippersage_two(struct nippersage *kernel, const char *op, const char *rest, uint64_t two[2]) {
     const char *list;
     int status = nippersage_ask(kernel, op, 1, rest);
@@ -296,7 +296,7 @@ static inline int nippersage_wait(struct nippersage *kernel, int ep, struct nipp
     return status < 0 ? status : nippersage_reports(kernel, reports, max);
 }
 
-/* What the parked wait of the caller reports, or NIPPERSAGE_PARKED where it is still parked.
+/* What the parked wait of the caller reports, or NIPPERSAGE_PARKED if it is still parked.
  * `max` is that of its wait, or more. */
 static inline int nippersage_resume(struct nippersage *kernel, struct nippersage_report *reports, int max) {
     int status = nippersage_ask(kernel, "resume", 0, "");
@@ -342,7 +342,7 @@ static inline int64_t nippersage_fill(struct nippersage *kernel, int fd, unsigne
     return nippersage_number(kernel, "write", rest);
 }
 
-/* A call that has a descriptor alone and answers that it is done. */
+/* A call that has only a descriptor, and answers that it is done. */
 static inline int nippersage_of_fd(struct nippersage *kernel, const char *op, int fd) {
     char rest[32];
     snprintf(rest, sizeof rest, ",\"fd\":%d", fd);
@@ -367,7 +367,7 @@ static inline int nippersage_settime(struct nippersage *kernel, int fd, int abso
     return nippersage_two(kernel, "settime", rest, before);
 }
 
-/* `now` gets the time until the next expiration, 0 where none comes, and the interval. */
+/* `now` gets the time until the next expiration, 0 if there is no next one, and the interval. */
 static inline int nippersage_gettime(struct nippersage *kernel, int fd, uint64_t now[2]) {
     char rest[32];
     snprintf(rest, sizeof rest, ",\"fd\":%d", fd);

@@ -166,13 +166,13 @@ class Kernel:
         self._call("ctl", ep=ep, act="del", fd=fd, by=by, pid=pid)
 
     def wait(self, ep, max=8, timeout=0, *, by=0, pid=1):
-        """A list of (bits, data), at most `max`, or None where the caller is parked.
+        """A list of (bits, data), at most `max`, or None if the caller is parked.
 
         `timeout` is in milliseconds: 0 never parks, less than 0 parks without a deadline."""
         return self._reports(self._call("wait", ep=ep, max=max, timeout=timeout, by=by, pid=pid))
 
     def resume(self, *, by=0):
-        """What the parked wait of the caller reports, or None where it is still parked."""
+        """What the parked wait of the caller reports, or None if it is still parked."""
         return self._reports(self._call("resume", by=by))
 
     @staticmethod
@@ -180,7 +180,7 @@ class Kernel:
         return [tuple(report) for report in answer["events"]] if "events" in answer else None
 
     def read(self, fd, n, *, by=0, pid=1):
-        """At most n bytes; none at the end of a stream."""
+        """At most n bytes; b"" at the end of a stream."""
         return bytes.fromhex(self._call("read", fd=fd, n=n, by=by, pid=pid)["bytes"])
 
     def write(self, fd, data, *, by=0, pid=1):
@@ -201,7 +201,7 @@ class Kernel:
         return tuple(self._call("settime", fd=fd, by=by, pid=pid, **keys)["time"])
 
     def gettime(self, fd, *, by=0, pid=1):
-        """The time until the next expiration, 0 where none comes, and the interval."""
+        """The time until the next expiration, 0 if there is no next one, and the interval."""
         return tuple(self._call("gettime", fd=fd, by=by, pid=pid)["time"])
 
     def dup(self, fd, *, by=0, pid=1):
