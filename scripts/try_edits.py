@@ -1,5 +1,5 @@
-"""How ./check-edits tries edits, by the kit's rt, which is loaded as a module: where an edit is, which edits can be tried in
-one check, and what each comes to. The head of ./check-edits says what counts as refused."""
+"""How ./check-edits tries edits, by the kit's rt, which is loaded as a module: where an edit is, which edits can be tried
+in one check, and what each comes to. The head of ./check-edits says what counts as refused."""
 import collections
 import importlib.machinery
 import importlib.util
@@ -16,7 +16,7 @@ OF_ANOTHER = re.compile(r"has no field|is not in scope|has no `|was not admitted
 # How many edits are tried in one check at most: more save little, and leave processors idle.
 MOST = 12
 
-# A function of src/: its file, its first line, the lines that hold the braces of its body, counted from 0, and its name.
+# A function of src/: its file, its first line and those with the braces of its body, counted from 0, and its name.
 Function = collections.namedtuple("Function", "file start first last name")
 
 
@@ -26,7 +26,7 @@ def lines_of(path):
 
 
 class Edit:
-    """An edit: its file, the texts that it makes of the crate's files, or why there are none, and the function that it is in."""
+    """An edit: its file, the texts that it makes of the crate's files or why it can't, and the function that it is in."""
 
     def __init__(self, rt, crate, path):
         self.crate, self.path = crate, path
@@ -48,8 +48,8 @@ def owner_of(line):
 
 
 def functions(path, lines):
-    """Gives the functions of a file of src/, which is laid out as rt fmt does it, but those by whose body more than their own
-    goals may change: constant ones, those whose answer's type only the body says, and those that call one another."""
+    """Gives the functions of a file of src/, which is laid out as rt fmt does it, but those by whose body more than their
+    own goals may change: constant ones, those whose answer's type only the body says, and those that call one another."""
     module = [it for it in path[len("src/") : -len(".rt")].split("/") if it not in ("lib", "main", "mod")]
     owner = ""
     for number, line in enumerate(lines):
@@ -64,7 +64,8 @@ def functions(path, lines):
             opens += [it for it in range(number, last) if lines[it].endswith("{")]
             has_type = "-> impl" not in "".join(lines[number : opens[0] + 1]) if opens else False
             if has_type and not any("#[cycle" in it for it in lines):
-                yield Function(path, number, opens[0], last, "::".join([*module, *([owner] if owner else []), found[2]]))
+                name = "::".join([*module, *([owner] if owner else []), found[2]])
+                yield Function(path, number, opens[0], last, name)
 
 
 def function_of(folder, texts):
@@ -119,7 +120,8 @@ def is_at(function, line):
 
 
 def refused_in(edits, lines):
-    """Returns those of the edits that what one check said of them all shows to be refused: none if a goal failed elsewhere."""
+    """Returns those of the edits that one check of them all, with these lines, shows to be refused: none if a goal failed
+    anywhere else."""
     failed = [it for it in lines if FAILED.match(it) and not OF_ANOTHER.search(it)]
     if not all(any(is_at(edit.function, it) for edit in edits) for it in failed):
         return []
@@ -135,7 +137,8 @@ def refused_together(rt, room, edits):
     crate, texts = edits[0].crate, merged(edits[0].crate.folder, edits)
     ran = over_seed(rt, room, lambda kept: rt.checked(crate, texts, ["--jobs", "1"], kept))
     lines = ran.stdout.rstrip("\n").split("\n")
-    is_read = ran.returncode == 1 and lines[-1].startswith("logic=not-proved") and not any(rt.unread(it, texts) for it in lines)
+    is_judged = ran.returncode == 1 and lines[-1].startswith("logic=not-proved")
+    is_read = is_judged and not any(rt.unread(it, texts) for it in lines)
     refused = refused_in(edits, lines) if is_read else []
     if refused:
         return refused
@@ -179,8 +182,9 @@ def grouped(edits):
     """Returns the edits in groups to be tried together: in each one edit of a function, and any other alone."""
     groups = []
     for edit in edits:
-        is_free = lambda it: len(it) < MOST and edit.function and all(other.function not in (None, edit.function) for other in it)
-        group = next(filter(is_free, groups), None)
+        taken = (None, edit.function)
+        is_free = lambda it: len(it) < MOST and all(other.function not in taken for other in it)
+        group = next(filter(is_free, groups), None) if edit.function else None
         if group is None:
             group = []
             groups.append(group)
@@ -221,7 +225,8 @@ class Tries:
 
 
 def begin(rt, crate):
-    """Has the crate begin with what rt check kept, and builds the libraries below it that aren't built; returns whether all were."""
+    """Has the crate begin with what rt check kept, builds the libraries below it that aren't built, and returns whether
+    all could be."""
     crate.out = sys.stderr
     for below in crate.below():
         below.out = sys.stderr
