@@ -1,5 +1,5 @@
-"""How ./check-edits tries edits, by the kit's rt, which is loaded as a module: where an edit is, which edits can be tried
-in one check, and what each comes to. The head of ./check-edits says what counts as refused."""
+"""How ./check-edits tries edits, by the kit's rt, which is loaded as a module: where an edit is, which edits are
+tried in one check, and what each comes to. The head of ./check-edits says what counts as refused."""
 import collections
 import importlib.machinery
 import importlib.util
@@ -26,7 +26,7 @@ def lines_of(path):
 
 
 class Edit:
-    """An edit: its file, the texts that it makes of the crate's files or why it can't, and the function that it is in."""
+    """An edit: its file, what it makes of the crate's files or why it can't, and the function that it is in."""
 
     def __init__(self, rt, crate, path):
         self.crate, self.path = crate, path
@@ -48,8 +48,8 @@ def owner_of(line):
 
 
 def functions(path, lines):
-    """Gives the functions of a file of src/, which is laid out as rt fmt does it, but those by whose body more than their
-    own goals may change: constant ones, those whose answer's type only the body says, and those that call one another."""
+    """Gives the functions of a file of src/, which is laid out as rt fmt does it, but those by whose body more than
+    their own goals may change: constant ones, those whose answer has a type that only the body says, and cycles."""
     module = [it for it in path[len("src/") : -len(".rt")].split("/") if it not in ("lib", "main", "mod")]
     owner = ""
     for number, line in enumerate(lines):
@@ -120,11 +120,11 @@ def is_at(function, line):
 
 
 def refused_in(edits, lines):
-    """Returns those of the edits that one check of them all, with these lines, shows to be refused: none if a goal failed
-    anywhere else."""
+    """Returns those of the edits that one check of them all, with these lines, shows to be refused, or None if a goal
+    failed anywhere else."""
     failed = [it for it in lines if FAILED.match(it) and not OF_ANOTHER.search(it)]
     if not all(any(is_at(edit.function, it) for edit in edits) for it in failed):
-        return []
+        return None
     unproved = {found[1] for it in lines for found in [re.match(r"fn (\S+): (?:no proof|not proved)", it)] if found}
     is_open = lambda edit: f"{edit.crate.name}::{edit.function.name}" in unproved
     return [edit for edit in edits if is_open(edit) and any(is_at(edit.function, it) for it in failed)]
@@ -137,12 +137,11 @@ def refused_together(rt, room, edits):
     crate, texts = edits[0].crate, merged(edits[0].crate.folder, edits)
     ran = over_seed(rt, room, lambda kept: rt.checked(crate, texts, ["--jobs", "1"], kept))
     lines = ran.stdout.rstrip("\n").split("\n")
-    is_judged = ran.returncode == 1 and lines[-1].startswith("logic=not-proved")
-    is_read = is_judged and not any(rt.unread(it, texts) for it in lines)
-    refused = refused_in(edits, lines) if is_read else []
-    if refused:
+    is_judged = re.match(r"logic=(not-)?proved", lines[-1]) and not any(rt.unread(it, texts) for it in lines)
+    refused = refused_in(edits, lines) if is_judged else None
+    if refused is not None:
         return refused
-    # one of them can't be compiled, say
+    # One of them can't be compiled, say.
     half = len(edits) // 2
     return [*refused_together(rt, room, edits[:half]), *refused_together(rt, room, edits[half:])]
 
