@@ -41,3 +41,4 @@ pub mod IdLemmas
 pub mod NextArrivalLemmas
 pub mod NextMomentLemmas
 pub mod FirstMarkedLemmas
+pub mod SparedLemmas

@@ -8,7 +8,7 @@ use Rattle.ep_machine.specs.State.{State, opening}
 pub record Book : Type 0 where
   pub limits : Limits
   pub past : List Record
-  pub capacity : ℕ  -- how many records fit before the history asks for memory
+  pub capacity : ℕ  -- how many records may stand there before a step asks for memory for its own
 
 abbrev pub state_of : Book → State
 state_of b = unwrap_or (run b.limits opening b.past) opening

@@ -22,3 +22,4 @@ pub mod TableCall
 pub mod Ids
 pub mod Arrivals
 pub mod Driver
+pub mod Spared

@@ -1,11 +1,11 @@
 //! epoll_ctl.
-ghost use Rattle.std.specs.Prelude.{All, ◌≡◌, ◌==◌, ◌+◌, ◌++◌, ◌∷◌, ◌≤◌, ◌||◌, ℕ, [], if◌then◌else◌, IfErr, IfNone, IfOk, IfSome, IsSome, List, MatchResult, None, OnErr, Some, false, not, true, unwrap_or};
+ghost use Rattle.std.specs.Prelude.{All, ◌≡◌, ◌≢◌, ◌==◌, ◌+◌, ◌++◌, ◌∷◌, ◌≤◌, ◌||◌, ℕ, [], if◌then◌else◌, IfErr, IfNone, IfOk, IfSome, IsOk, IsSome, List, MatchResult, None, OnErr, Some, false, not, true, unwrap_or};
 ghost use Rattle.std.specs.List.{list_any};
 ghost use Rattle.ep_base.specs.Answer.{FitsInline};
 ghost use Rattle.ep_machine.specs.Effect.{first};
 ghost use Rattle.ep_calls.specs.Acts.{is_no_memory};
 ghost use Rattle.ep_machine.specs.State.{Waiter};
-ghost use Rattle.ep_machine.specs.Watches.{is_legal};
+ghost use Rattle.ep_machine.specs.Watches.{is_add, is_legal};
 ghost use Rattle.ep_nest.specs.Links.{edges, without};
 ghost use Rattle.ep_calls.specs.Climb.{AreNested, KeepsLinks};
 ghost use Rattle.ep_calls.specs.Control.{Alters, ChangesIf, Controls, EntersAt, IsBelow, IsPlan, Names, TellsBelow, addition, code_of, control_call, is_deep_at, is_done, is_refused_op, raising_of_ctl, naming_refusals, next_entry, next_link, raising_after};
@@ -15,6 +15,7 @@ ghost use Rattle.ep_calls.specs.Does.{DoesCall};
 ghost use Rattle.ep_calls.specs.Raising.{IsRaising};
 ghost use Rattle.ep_calls.specs.Stands.{AreLinked};
 ghost use Rattle.ep_calls.specs.declared.control.Named.{Named};
+ghost use Rattle.ep_calls.specs.declared.control.Operation.TheVariants.{Add};
 ghost use Rattle.ep_calls.specs.declared.raising.Raising.TheVariants.{Nowhere};
 ghost use Rattle.ep_table.specs.Value.{number_under};
 
@@ -256,7 +257,7 @@ fn may_watch(graph: &mut Graph, named: Named, is_nested: bool) -> bool
 
 /// Adds a registration that is not there. ENOENT for any other operation, ELOOP where instances would watch each other
 /// in a loop or in too long a chain, and ENOSPC past `watches`.
-/// A refusal and an `Err`, which is want of memory, leave the registrations.
+/// A refusal and an `Err`, which is want of memory and comes only of ADD, leave the registrations.
 fn enter(
     tables: &Tables,
     interest: &mut Interest,
@@ -277,6 +278,7 @@ fn enter(
     ensures nested { AreNested tables.now interest.new graph.new }
     ensures inline { IfOk result FitsInline }
     ensures real { IfOk result (λ answer. is_no_memory answer ≡ false) }
+    ensures spared { operation ≢ Add → IsOk result }
     ensures err { OnErr result ((interest.new ≡ interest.old) × (graph.new ≡ graph.old)) }
 {
     let Operation::Add = operation else {
@@ -399,7 +401,7 @@ impl Parts {
     /// than five, and ENOSPC past `watches`.
     /// What is added or modified and reportable at once raises IN at its instance.
     /// It looks at links between instances only where the target is an instance, and at no registration of that one.
-    /// A refusal and an `Err`, which is want of memory and comes of ADD alone, leave the parts.
+    /// A refusal and an `Err`, which is want of memory and comes only of ADD, leave the parts.
     pub fn control(&mut self, pid: Pid, args: Control, plan: Plan) -> Result<Outcome, AllocError>
         requires plan { IsPlan self.old pid.0 args plan }
         requires below { TellsBelow plan.operation plan.below self.old plan.named.desc }
@@ -407,6 +409,7 @@ impl Parts {
             (λ outcome. (n caller : ℕ)
             → DoesCall n caller pid.0 (control_call args) outcome self.old self.new) }
         ensures controls { IfOk result (λ outcome. Controls plan args outcome self.old self.new) }
+        ensures spared { plan.operation ≢ Add → IsOk result }
         ensures err { OnErr result (self.new ≡ self.old) }
     {
         self.tables.known();
@@ -442,11 +445,12 @@ impl Parts {
     /// epoll_ctl(2): adds, modifies or deletes a registration, or answers the refusal that comes first: those of `plan`, and then
     /// those of `control`.
     /// What is added or modified and reportable at once raises IN at its instance.
-    /// A refusal and an `Err`, which is want of memory and comes of ADD alone, leave the parts.
+    /// A refusal and an `Err`, which is want of memory and comes only of ADD, leave the parts.
     pub fn epoll_ctl(&mut self, pid: Pid, args: Control) -> Result<Outcome, AllocError>
         ensures ok { IfOk result
             (λ outcome. (n caller : ℕ)
             → DoesCall n caller pid.0 (control_call args) outcome self.old self.new) }
+        ensures spared { is_add args.op ≡ false → IsOk result }
         ensures err { OnErr result (self.new ≡ self.old) }
     {
         let mut plan = match self.plan(pid, args) {

@@ -1,14 +1,15 @@
 //! What every kernel promises.
-ghost use Rattle.std.specs.Prelude.{◌≡◌, ◌+◌, ◌≤◌, ℕ, List, OnOk, Some, length};
+ghost use Rattle.std.specs.Prelude.{◌≡◌, ◌+◌, ◌<◌, ◌≤◌, ℕ, List, OnOk, Some, false, length};
 ghost use Rattle.std.specs.Option.{option_map};
 ghost use Rattle.ep_base.specs.Limits.{Limits as Numbers};
 ghost use Rattle.ep_base.specs.declared.record.Record.{Record as Entry};
 ghost use Rattle.ep_machine.specs.Run.{run};
 ghost use Rattle.ep_machine.specs.Waits.{is_marked, is_parked};
 ghost use Rattle.ep_machine.specs.State.{State, opening};
-ghost use Rattle.ep_calls.specs.Acts.{Acts};
+ghost use Rattle.ep_calls.specs.Acts.{Acts, is_no_memory};
 ghost use Rattle.ep_calls.specs.Driver.{TellsNext, first_marked};
 ghost use Rattle.ep_calls.specs.KeptRecords.{KeepsRecord};
+ghost use Rattle.ep_calls.specs.Spared.{IsSpared};
 
 use ep_base::{Answer, CallerId, Event, Limits, Record};
 use std::alloc::AllocError;
@@ -25,21 +26,30 @@ pub trait Kernel {
     /// The limits that it was made with.
     ghost bounds: { Self → Numbers };
 
-    /// How many records fit before the history asks for memory. A kernel that tells nothing of it has room for none.
+    /// How many records the history may have before a step asks for memory for its record. A kernel that tells nothing of
+    /// it has room for none.
     ghost capacity: { Self → ℕ } = { λ _. 0 };
 
     /// One event. The answer is one that the machine allows here, a refusal too, and the history gains its record.
-    /// ENOMEM is want of memory: nothing changes, and there is no record.
-    /// Room for records is never given back.
+    /// ENOMEM is want of memory: nothing changes, and there is no record. Room for records is never given back.
+    ///
+    /// While there is room for one, as after a `reserve` that answered Ok and fewer records than it was for, these events
+    /// are not answered ENOMEM: a tick, close, exec, exit, DEL and MOD of epoll_ctl, write, shutdown, timerfd_settime,
+    /// timerfd_gettime, and a read of at most 16 bytes, or where no more wait. What they need beside their record was taken
+    /// by what made, added or parked. All others may be: creations, dup, dup2, fork, ADD, longer reads, waits and
+    /// resumptions.
     fn step(&mut self, caller: CallerId, event: Event) -> Answer
         ensures limits { bounds self.new ≡ bounds self.old }
         ensures capacity { capacity self.old ≤ capacity self.new }
+        ensures spared { IsSpared (state self.old).files event
+            → length (past self.old) < capacity self.old → is_no_memory result ≡ false }
         ensures acts { Acts (bounds self.old) caller event result (state self.old) (state self.new)
             (past self.old) (past self.new) };
 
     /// A step whose record is put at the end of a list of the caller's too.
     /// ENOMEM is want of memory, for the history or for that list: then the list too is as before, but that it may have
-    /// more room.
+    /// more room. It may come of any event, while the history has room too: that list and a copy of the event want memory of
+    /// their own.
     fn step_kept(&mut self, caller: CallerId, event: Event, kept: &mut Vec<Record>) -> Answer
         ensures limits { bounds self.new ≡ bounds self.old }
         ensures capacity { capacity self.old ≤ capacity self.new }
@@ -48,7 +58,8 @@ pub trait Kernel {
         ensures kept { KeepsRecord result (past self.old) (past self.new) kept.old.items
             kept.new.items };
 
-    /// Makes room for this many further records, or fails where memory is refused. State and history stay in both cases.
+    /// Makes room for this many further records, so that `step` is not answered ENOMEM for the events that it names until
+    /// there are that many more; or fails where memory is refused. State and history stay in both cases.
     fn reserve(&mut self, additional: usize) -> Result<(), AllocError>
         ensures room { OnOk result (length (past self.new) + additional ≤ capacity self.new) }
         ensures capacity { capacity self.old ≤ capacity self.new }

@@ -1,5 +1,5 @@
 //! Calls on the object that a descriptor names: read, write, shutdown, settime and gettime.
-ghost use Rattle.std.specs.Prelude.{ℕ, Some, ◌≡◌, ◌≤◌, [], ◌∷◌, IfOk, IsSome, MatchOption, OnErr, OnOk, false, min, true};
+ghost use Rattle.std.specs.Prelude.{ℕ, Some, ◌≡◌, ◌≤◌, [], ◌∷◌, IfOk, IsOk, IsSome, MatchOption, OnErr, OnOk, false, min, true};
 ghost use Rattle.ep_base.specs.declared.errno.Errno.{Errno as AnErrno};
 ghost use Rattle.ep_machine.specs.Files.{names_nothing, object_under, side_of, side_under, named_by};
 ghost use Rattle.ep_machine.specs.Objects.{object_refusals};
@@ -13,6 +13,7 @@ ghost use Rattle.ep_calls.specs.Kept.{IsKept};
 ghost use Rattle.ep_calls.specs.ObjectCall.{CallsObject, FitsRoom, fd_of, waiting_at};
 ghost use Rattle.ep_calls.specs.Acts.{is_no_memory};
 ghost use Rattle.ep_calls.specs.Raising.{IsRaising, RaisesByCall};
+ghost use Rattle.ep_calls.specs.Spared.{waiting_under};
 ghost use Rattle.ep_table.specs.Value.{content_of, number_of, number_under};
 ghost use Rattle.smallvec.specs.SmallVec.{HasRoomFor};
 
@@ -23,7 +24,8 @@ use ep_table::Tables;
 use smallvec::SmallVec;
 use std::alloc::{AllocError, Global};
 
-/// Room for the bytes that a call gives, before it takes them from the object, where it is wanted.
+/// Room for the bytes that a call gives, before it takes them from the object, where it is wanted. It takes no memory for
+/// 16 bytes or fewer.
 fn room_for_copy(
     alloc: Global,
     tables: &Tables,
@@ -37,6 +39,7 @@ fn room_for_copy(
     ensures room { IfOk result
         (λ room. wanted ≡ true
         → HasRoomFor room (min (asked_of call.now) (waiting_at tables.now desc))) }
+    ensures short { min (asked_of call.now) (waiting_at tables.now desc) ≤ 16 → IsOk result }
 {
     let mut room = SmallVec::new(alloc);
     if !wanted {
@@ -113,7 +116,7 @@ impl Parts {
     /// read(2), write(2), shutdown(2), timerfd_settime(2) or timerfd_gettime(2) of what a descriptor names, at the end
     /// that it names: EBADF where it names nothing, else what the object answers. `kept`: a second record of it is
     /// asked for.
-    /// An `Err` is want of memory and leaves the parts.
+    /// An `Err` is want of memory and leaves the parts. It comes only of a read of more than 16 bytes where more wait.
     pub fn object_call(
         &mut self,
         pid: Pid,
@@ -133,6 +136,8 @@ impl Parts {
             (λ outcome. (n caller : ℕ)
             → DoesCall n caller pid.0 call.now outcome self.old self.new) }
         ensures kept { IfOk result (λ outcome. IsKept kept outcome) }
+        ensures short { min (asked_of call.now) (waiting_under self.old.tables.files pid.0 fd.0)
+            ≤ 16 → IsOk result }
         ensures err { OnErr result (self.new ≡ self.old) }
     {
         let Some(desc) = self.tables.lookup(pid, fd) else {

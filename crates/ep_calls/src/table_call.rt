@@ -1,11 +1,12 @@
 //! Calls on the tables alone: those that open descriptors of a new object, and those on descriptors and processes.
 ghost use Rattle.std.specs.List.{list_any};
-ghost use Rattle.std.specs.Prelude.{ℕ, ◌≡◌, [], IfOk, IsSome, OnErr, is_some, true};
+ghost use Rattle.std.specs.Prelude.{ℕ, ◌≡◌, [], IfOk, IsOk, IsSome, OnErr, is_some, true};
 ghost use Rattle.ep_machine.specs.Files.{table_of};
 ghost use Rattle.ep_machine.specs.FilesCalls.{exec_of, exit_of, timerfd_of};
 ghost use Rattle.ep_park.specs.Waiters.{is_of};
 ghost use Rattle.ep_calls.specs.Clock.{ClockStays};
 ghost use Rattle.ep_calls.specs.Does.{DoesCall};
+ghost use Rattle.ep_calls.specs.Spared.{Frees};
 ghost use Rattle.ep_calls.specs.TableCall.{IsTableCall, called};
 ghost use Rattle.ep_table.specs.Value.{Does};
 
@@ -65,7 +66,8 @@ fn exit(tables: &mut Tables, waiters: &Park, pid: Pid) -> Answer
 }
 
 /// What a call on the tables alone is answered, which asks who is parked only for exec and exit.
-/// An `Err`, which comes for want of memory or of a number for what is made, leaves the tables.
+/// An `Err`, which comes for want of memory or of a number for what is made, leaves the tables. It comes of no close, exec
+/// or exit.
 fn answer_of(
     alloc: Global,
     tables: &mut Tables,
@@ -78,6 +80,7 @@ fn answer_of(
     ensures ok { IfOk result
         (λ answer. Does (called tables.old waiters.now pid.0 call.now) answer tables.old
         tables.new) }
+    ensures frees { Frees call.now → IsOk result }
     ensures err { OnErr result (tables.new ≡ tables.old) }
 {
     match *call {
@@ -106,7 +109,8 @@ fn answer_of(
 
 impl Parts {
     /// A call that opens descriptors of a new object, or one on descriptors or the process.
-    /// An `Err`, which comes for want of memory or of a number for what is made, leaves the parts.
+    /// An `Err`, which comes for want of memory or of a number for what is made, leaves the parts. It comes of no close,
+    /// exec or exit.
     pub fn table_call(&mut self, pid: Pid, call: &Call) -> Result<Outcome, AllocError>
         requires call { IsTableCall call.now }
         requires process { is_some (table_of self.old.tables.files pid.0) ≡ true }
@@ -120,6 +124,7 @@ impl Parts {
         ensures ok { IfOk result
             (λ outcome. (n caller : ℕ)
             → DoesCall n caller pid.0 call.now outcome self.old self.new) }
+        ensures frees { Frees call.now → IsOk result }
         ensures err { OnErr result (self.new ≡ self.old) }
     {
         let answer = answer_of(self.alloc, &mut self.tables, &self.waiters, pid, call)?;

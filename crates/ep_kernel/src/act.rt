@@ -1,9 +1,10 @@
 //! One event, with the ready lists.
-ghost use Rattle.std.specs.Prelude.{◌≡◌, IfOk, OnErr, false, is_some, true};
+ghost use Rattle.std.specs.Prelude.{◌≡◌, IfOk, IsOk, OnErr, false, is_some, true};
 ghost use Rattle.std.specs.List.{list_any};
 ghost use Rattle.ep_base.specs.declared.call.Event.TheVariants.{Call as CallOf};
 ghost use Rattle.ep_calls.specs.Clock.{ClockStays};
 ghost use Rattle.ep_calls.specs.Kept.{KeepsCall, KeepsEvent};
+ghost use Rattle.ep_calls.specs.Spared.{IsSpared, TakesNoMemory};
 ghost use Rattle.ep_kernel.specs.Listed.{IsListed};
 ghost use Rattle.ep_kernel.specs.Timers.{CallsTables, MovesClock, TouchesTables};
 ghost use Rattle.ep_kernel.specs.Turns.{Turns};
@@ -29,7 +30,8 @@ pub struct Request {
 }
 
 /// A call of a process that is there.
-/// A refusal and an `Err`, which is want of memory, leave the parts and the lists.
+/// A refusal and an `Err`, which is want of memory, leave the parts and the lists. No `Err` comes of a call that
+/// `TakesNoMemory` names.
 fn make_call(
     parts: &mut Parts,
     lists: &mut ReadyLists,
@@ -49,6 +51,7 @@ fn make_call(
     ensures clock { IfOk result
         (λ outcome. ClockStays outcome.raising parts.old.clock parts.new.clock) }
     ensures kept { IfOk result (λ outcome. KeepsCall call.now request.kept outcome) }
+    ensures spared { TakesNoMemory parts.old.tables.files pid.0 call.now → IsOk result }
     ensures turns { IfOk result
         (λ outcome. Turns (CallOf pid call.now) outcome.picked parts.old lists.old parts.new
         lists.new) }
@@ -95,7 +98,8 @@ fn make_call(
 
 /// One event: its refusal, ESRCH first for a call, or its change, and what that does to the ready lists before anything
 /// climbs.
-/// A refusal and an `Err`, which is want of memory, leave the parts and the lists.
+/// A refusal and an `Err`, which is want of memory, leave the parts and the lists. No `Err` comes of an event that
+/// `IsSpared` names.
 pub fn act(
     parts: &mut Parts,
     lists: &mut ReadyLists,
@@ -112,6 +116,7 @@ pub fn act(
     ensures clock { IfOk result
         (λ outcome. MovesClock event.now outcome.raising parts.old.clock parts.new.clock) }
     ensures kept { IfOk result (λ outcome. KeepsEvent event.now request.kept outcome) }
+    ensures spared { IsSpared parts.old.tables.files event.now → IsOk result }
     ensures turns { IfOk result
         (λ outcome. Turns event.now outcome.picked parts.old lists.old parts.new lists.new) }
     ensures order { IfOk result

@@ -1,5 +1,5 @@
 //! epoll_ctl: the places that come and go with registrations.
-ghost use Rattle.std.specs.Prelude.{◌≡◌, ℕ, IfOk, IsSome, None, OnErr, Some};
+ghost use Rattle.std.specs.Prelude.{◌≡◌, ◌≢◌, ℕ, IfOk, IsOk, IsSome, None, OnErr, Some, false};
 ghost use Rattle.ep_base.specs.declared.call.Event.TheVariants.{Call as CallOf};
 ghost use Rattle.ep_calls.specs.Control.{IsPlan, TellsBelow, control_call};
 ghost use Rattle.ep_calls.specs.Does.{DoesCall};
@@ -9,6 +9,7 @@ ghost use Rattle.ep_kernel.specs.Control.{Settles};
 ghost use Rattle.ep_kernel.specs.Listed.{IsListed};
 ghost use Rattle.ep_kernel.specs.Timers.{LeavesFiles};
 ghost use Rattle.ep_kernel.specs.Turns.{Turns};
+ghost use Rattle.ep_machine.specs.Watches.{is_add};
 ghost use Rattle.ep_ready.specs.ReadyLists.{Same, instance_at};
 ghost use Rattle.ep_table.specs.Value.{number_under as desc_number};
 
@@ -80,6 +81,7 @@ fn alter(
     ensures turns { IfOk result
         (λ outcome. Turns (CallOf pid (control_call args)) outcome.picked parts.old lists.old
         parts.new lists.new) }
+    ensures spared { plan.operation ≢ Add → IsOk result }
     ensures err { OnErr result ((parts.new ≡ parts.old) × Same lists.old lists.new) }
 {
     parts.known();
@@ -154,6 +156,7 @@ fn enter(
     ensures turns { IfOk result
         (λ outcome. Turns (CallOf pid (control_call args)) outcome.picked parts.old lists.old
         parts.new lists.new) }
+    ensures spared { plan.operation ≢ Add → IsOk result }
     ensures err { OnErr result ((parts.new ≡ parts.old) × Same lists.old lists.new) }
 {
     match plan.operation {
@@ -166,7 +169,7 @@ fn enter(
 /// epoll_ctl(2), as `Parts::epoll_ctl`, with the ready lists: a registration that is added gets a place, and one that is deleted
 /// loses it; what is added or modified and reportable comes to the end of its list. Of the instances below its target only what
 /// stands on their lists is looked at.
-/// A refusal leaves the parts and the lists, and so does an `Err`, which is want of memory and comes of ADD alone.
+/// A refusal leaves the parts and the lists, and so does an `Err`, which is want of memory and comes only of ADD.
 pub fn epoll_ctl(
     parts: &mut Parts,
     lists: &mut ReadyLists,
@@ -182,6 +185,7 @@ pub fn epoll_ctl(
     ensures turns { IfOk result
         (λ outcome. Turns (CallOf pid (control_call args)) outcome.picked parts.old lists.old
         parts.new lists.new) }
+    ensures spared { is_add args.op ≡ false → IsOk result }
     ensures err { OnErr result ((parts.new ≡ parts.old) × Same lists.old lists.new) }
 {
     let mut plan = match parts.plan(pid, args) {

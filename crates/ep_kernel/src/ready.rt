@@ -1,7 +1,8 @@
 //! The kernel with ready lists.
-ghost use Rattle.std.specs.Prelude.{◌≡◌, ◌≤◌, [], All, IfOk, OnErr, false, true, ℕ};
+ghost use Rattle.std.specs.Prelude.{◌≡◌, ◌<◌, ◌≤◌, [], All, IfOk, IsOk, OnErr, false, length, true, ℕ};
 ghost use Rattle.ep_calls.specs.Acts.{Acts, Adds, is_no_memory};
 ghost use Rattle.ep_calls.specs.KeptRecords.{Gains, HasRecord, KeepsRecord};
+ghost use Rattle.ep_calls.specs.Spared.{IsSpared};
 ghost use Rattle.ep_kernel.specs.ReadyBook.{ActsOnLists, MayBeListed, TurnsLists, listed, state_of};
 ghost use Rattle.ep_law.specs.Laws.{is_reportable_in};
 ghost use Rattle.ep_machine.specs.Files.{object_of};
@@ -99,6 +100,8 @@ impl ReadyKernel {
         ensures real { IfOk result (λ r. is_no_memory r.0 ≡ false) }
         ensures spare { IfOk result
             (λ r. kept ≡ true → HasRecord caller event r.1 self.old.book.past self.new.book.past) }
+        ensures spared { IsSpared (state_of self.old).files event
+            → length self.old.book.past < self.old.book.capacity → IsOk result }
         ensures err { OnErr result
             (self.new.book ≡ record self.old.book { capacity = self.new.book.capacity }) }
         ensures err_lists { OnErr result (self.new.lists ≡ self.old.lists) }
@@ -196,6 +199,8 @@ impl Kernel for ReadyKernel {
     fn step(&mut self, caller: CallerId, event: Event) -> Answer
         ensures limits { self.new.book.limits ≡ self.old.book.limits }
         ensures capacity { self.old.book.capacity ≤ self.new.book.capacity }
+        ensures spared { IsSpared (state_of self.old).files event
+            → length self.old.book.past < self.old.book.capacity → is_no_memory result ≡ false }
         ensures acts { Acts self.old.book.limits caller event result (state_of self.old)
             (state_of self.new) self.old.book.past self.new.book.past }
         ensures lists { ActsOnLists caller event result self.old self.new }

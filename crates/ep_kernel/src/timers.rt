@@ -1,8 +1,10 @@
 //! The moments of timers over an event: of the one that it creates, sets or reads, and of those that the clock reaches.
-ghost use Rattle.std.specs.Prelude.{◌≡◌, ◌≤◌, OnOk};
+ghost use Rattle.std.specs.Prelude.{◌≡◌, ◌≤◌, IsOk, OnOk};
 ghost use Rattle.ep_alarms.specs.Alarms.{AreSet};
 ghost use Rattle.ep_calls.specs.Raising.{IsRaising, Stirs};
+ghost use Rattle.ep_calls.specs.Spared.{IsSpared};
 ghost use Rattle.ep_due.specs.DueMap.{HasRoom, SameMoments};
+ghost use Rattle.ep_machine.specs.Files.{Files};
 ghost use Rattle.ep_kernel.specs.Timers.{AreSetBeside, AreSetSince, CreatesTimer, MayCreate, WereSet};
 
 use ep_alarms::Alarms;
@@ -11,10 +13,12 @@ use ep_calls::{Outcome, Parts, Raising};
 use ep_table::Tables;
 use std::alloc::AllocError;
 
-/// Makes room for the timer that an event may create. `AllocError` where there is no memory; no moment changes.
+/// Makes room for the timer that an event may create, and for nothing else. `AllocError` where there is no memory; no moment
+/// changes.
 pub fn make_room(alarms: &mut Alarms, event: &Event) -> Result<(), AllocError>
     ensures room { OnOk result (MayCreate event.now → HasRoom alarms.new) }
     ensures kept { SameMoments alarms.old alarms.new }
+    ensures spared { (files : Files) → IsSpared files event.now → IsOk result }
 {
     match event {
         Event::Call {

@@ -1,5 +1,5 @@
 -- What contracts see of the kernel, and what holds of it.
-use Rattle.std.specs.Prelude.{List, vec_capacity, ℕ}
+use Rattle.std.specs.Prelude.{List, length, min, vec_capacity, ℕ, ◌+◌, ◌-◌}
 use Rattle.ep_base.specs.declared.record.Record.{Record}
 use Rattle.ep_calls.specs.Book.{Book}
 use Rattle.ep_calls.specs.Keeps.{Keeps}
@@ -7,8 +7,12 @@ use Rattle.ep_calls.specs.Parts.{Parts}
 use Rattle.ep_plain.specs.Since.{IsDated}
 use Rattle.ep_plain.specs.declared.plain.PlainKernel.TheInside.{Inside}
 
+-- for how many records beside these there is room, among the records and among the dates
+abbrev pub room_in : Inside → ℕ
+room_in k = min (vec_capacity k.history - length k.history.items) (vec_capacity k.since - length k.since.items)
+
 abbrev pub book_of : Inside → Book
-book_of k = record { limits = k.parts.tables.limits; past = k.history.items; capacity = vec_capacity k.history }
+book_of k = record { limits = k.parts.tables.limits; past = k.history.items; capacity = length k.history.items + room_in k }
 
 -- the history leads to a state for which the parts stand, and for which registrations are dated
 pub record Standing (past : List Record) (p : Parts) (since : List ℕ) : Type 0 where

@@ -1,10 +1,11 @@
 //! One event.
-ghost use Rattle.std.specs.Prelude.{◌≡◌, IfOk, OnErr, false, is_some, true};
+ghost use Rattle.std.specs.Prelude.{◌≡◌, IfOk, IsOk, OnErr, false, is_some, true};
 ghost use Rattle.std.specs.List.{list_any};
 ghost use Rattle.ep_machine.specs.Files.{table_of};
 ghost use Rattle.ep_park.specs.Waiters.{is_caller};
 ghost use Rattle.ep_calls.specs.Does.{DoesCall, DoesEvent};
 ghost use Rattle.ep_calls.specs.Kept.{KeepsCall, KeepsEvent};
+ghost use Rattle.ep_calls.specs.Spared.{IsSpared, TakesNoMemory};
 
 use crate::wait::{epoll_wait, resume};
 use ep_base::{Call, CallerId, Errno, Event, Pid};
@@ -25,6 +26,7 @@ fn make_call(
     ensures ok { IfOk result
         (λ outcome. DoesCall step caller.0 pid.0 call.now outcome parts.old parts.new) }
     ensures kept { IfOk result (λ outcome. KeepsCall call.now kept outcome) }
+    ensures spared { TakesNoMemory parts.old.tables.files pid.0 call.now → IsOk result }
     ensures err { OnErr result (parts.new ≡ parts.old) }
 {
     match *call {
@@ -64,7 +66,7 @@ fn make_call(
 }
 
 /// One event: its refusal, ESRCH first for a call, or its change. `kept`: a second record of it is asked for.
-/// An `Err` is want of memory and leaves the parts.
+/// An `Err` is want of memory and leaves the parts. It comes of no event that `IsSpared` names.
 pub fn act(
     parts: &mut Parts,
     step: u64,
@@ -75,6 +77,7 @@ pub fn act(
     ensures ok { IfOk result
         (λ outcome. DoesEvent step caller.0 event.now outcome parts.old parts.new) }
     ensures kept { IfOk result (λ outcome. KeepsEvent event.now kept outcome) }
+    ensures spared { IsSpared parts.old.tables.files event.now → IsOk result }
     ensures err { OnErr result (parts.new ≡ parts.old) }
 {
     match event {

@@ -1,8 +1,9 @@
 //! The kernel that scans.
-ghost use Rattle.std.specs.Prelude.{◌≡◌, ◌≤◌, [], IfOk, IfSome, OnErr, false, is_some, option_copied, true};
+ghost use Rattle.std.specs.Prelude.{◌≡◌, ◌<◌, ◌≤◌, [], IfOk, IfSome, IsOk, None, OnErr, false, is_some, length, option_copied, true};
 ghost use Rattle.ep_calls.specs.Acts.{Adds, is_no_memory};
 ghost use Rattle.ep_calls.specs.Book.{state_of};
 ghost use Rattle.ep_calls.specs.KeptRecords.{Gains, HasRecord};
+ghost use Rattle.ep_calls.specs.Spared.{IsSpared};
 ghost use Rattle.ep_machine.specs.Step.{step as step_of};
 ghost use Rattle.ep_plain.specs.StepWith.{AddsBy, HasStep, StepsWith};
 
@@ -73,6 +74,9 @@ impl PlainKernel {
         ensures real { IfOk result (λ r. is_no_memory r.0 ≡ false) }
         ensures spare { IfOk result
             (λ r. kept ≡ true → HasRecord caller event r.1 self.old.past self.new.past) }
+        ensures spared { option_copied picks.entry ≡ None
+            → IsSpared (state_of self.old).files event
+            → length self.old.past < self.old.capacity → IsOk result }
         ensures err { OnErr result (self.new ≡ record self.old { capacity = self.new.capacity }) }
     {
         self.history.reserve(1)?;
@@ -99,7 +103,8 @@ impl PlainKernel {
     /// The step of an event whose report is of the registrations of these numbers, in this order; of none for an event
     /// that makes no report. `None` exactly where the machine has no such step, and then nothing changes.
     /// ENOMEM is want of memory: nothing changes, and there is such a step. In both cases there may be more room for
-    /// records. The time grows as the product of how many are given and how many registrations the instance has.
+    /// records. It may come of any event, while there is room for records too: `step` alone says of which it doesn't.
+    /// The time grows as the product of how many are given and how many registrations the instance has.
     pub fn step_with(&mut self, caller: CallerId, event: Event, picks: &[u64]) -> Option<Answer>
         ensures limits { self.new.limits ≡ self.old.limits }
         ensures capacity { self.old.capacity ≤ self.new.capacity }
@@ -180,7 +185,8 @@ impl Kernel for PlainKernel {
     }
 
     fn reserve(&mut self, additional: usize) -> Result<(), AllocError> {
-        self.history.reserve(additional)
+        self.history.reserve(additional)?;
+        self.since.reserve(additional)
     }
 
     fn history(&self) -> &[Record] {

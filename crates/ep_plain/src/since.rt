@@ -1,5 +1,5 @@
 //! Since which event each registration is reportable.
-ghost use Rattle.std.specs.Prelude.{◌≡◌, ◌<◌, ◌≤◌, filter, length};
+ghost use Rattle.std.specs.Prelude.{◌≡◌, ◌<◌, ◌≤◌, filter, length, vec_capacity};
 ghost use Rattle.ep_calls.specs.Readiness.{entry_shows, readiness};
 ghost use Rattle.ep_calls.specs.Stands.{AreLinked};
 ghost use Rattle.ep_interest.specs.Registrations.{is_of};
@@ -76,7 +76,8 @@ fn date_each(tables: &Tables, now: u64, interest: &Interest, step: u64, since: &
 /// Dates each registration at the end of a step: it looks at each description that lives, and at each registration.
 pub fn date(parts: &Parts, step: u64, since: &mut Vec<u64>)
     requires { parts.now.interest.added < length since.old.items }
-    ensures { Dates (entry_shows (readiness parts.now.tables parts.now.clock parts.now.interest)
+    ensures room { vec_capacity since.new ≡ vec_capacity since.old }
+    ensures dates { Dates (entry_shows (readiness parts.now.tables parts.now.clock parts.now.interest)
         parts.now.tables parts.now.clock) step parts.now.interest since.old.items since.new.items }
 {
     date_each(&parts.tables, parts.clock, &parts.interest, step, since);

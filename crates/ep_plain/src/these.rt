@@ -1,6 +1,6 @@
 //! Waits that report given registrations.
 ghost use Rattle.std.specs.List.{filter_map, find, list_any};
-ghost use Rattle.std.specs.Prelude.{◌≡◌, ◌==◌, ◌≤◌, IfNone, IfOk, OnErr, Some, false, map, option_copied, true};
+ghost use Rattle.std.specs.Prelude.{◌≡◌, ◌==◌, ◌≤◌, IfNone, IfOk, IsOk, OnErr, None, Some, false, map, option_copied, true};
 ghost use Rattle.ep_base.specs.declared.call.Event.TheVariants.{Resume};
 ghost use Rattle.ep_interest.specs.Registrations.{numbered};
 ghost use Rattle.ep_law.specs.Sound.{Sound};
@@ -9,6 +9,7 @@ ghost use Rattle.ep_machine.specs.Watches.{number_in};
 ghost use Rattle.ep_park.specs.Waiters.{is_caller, parked};
 ghost use Rattle.ep_calls.specs.Does.{DoesCallIf, DoesEventIf};
 ghost use Rattle.ep_calls.specs.Kept.{KeepsEvent};
+ghost use Rattle.ep_calls.specs.Spared.{IsSpared};
 ghost use Rattle.ep_calls.specs.Stands.{AreLinked};
 ghost use Rattle.ep_calls.specs.Wait.{AreKeyed, Waits, wait_call};
 ghost use Rattle.ep_plain.specs.Choose.{reportables_at};
@@ -170,7 +171,8 @@ fn act_these(
 }
 
 /// One event whose report is of these registrations, in this order, and of the longest unreported where none are given:
-/// then `kept` asks for what a second record of it is made of. An `Err` is want of memory and leaves the parts.
+/// then `kept` asks for what a second record of it is made of. An `Err` is want of memory and leaves the parts; where none
+/// are given, it comes of no event that `IsSpared` names.
 pub fn act_with(
     parts: &mut Parts,
     step: u64,
@@ -187,6 +189,8 @@ pub fn act_with(
         outcome.picked) }
     ensures kept { IfOk result
         (λ outcome. IfNone (option_copied picks.entry) (KeepsEvent event.now kept outcome)) }
+    ensures spared { option_copied picks.entry ≡ None → IsSpared parts.old.tables.files event.now
+        → IsOk result }
     ensures err { OnErr result (parts.new ≡ parts.old) }
 {
     match picks {

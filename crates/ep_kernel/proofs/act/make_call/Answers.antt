@@ -6,6 +6,7 @@ use Rattle.ep_base.specs.declared.call.Call.{Call}
 use Rattle.ep_base.specs.declared.call.Call.TheVariants.{EpollCtl, EpollWait}
 use Rattle.ep_base.specs.declared.call.Event.TheVariants.{Call as CallOf}
 use Rattle.ep_calls.proofs.KeptLemmas.{table_call_kept}
+use Rattle.ep_calls.proofs.SparedLemmas.{table_call_frees}
 use Rattle.ep_calls.specs.Does.{DoesCallIf}
 use Rattle.ep_calls.specs.ObjectCall.{fd_of}
 use Rattle.ep_calls.specs.TableCall.{IsTableCall}
@@ -33,6 +34,7 @@ returns-in_default c =
       clock = c.table_call.ensures.clock;
       turns = IfOk-weaker c.table_call.result _ _ (λ outcome none. same_turns (CallOf c.args.pid call) outcome.picked p c.table_call.new.self l c.requires.listed c.table_call.ensures.interest none (table_altered c.args.pid call p c.table_call.new.self l on_tables)) c.table_call.ensures.picked;
       order = IfOk-weaker c.table_call.result _ _ (λ outcome none. other_reports l c.args.request.step c.args.request.caller.0 (CallOf c.args.pid call) outcome p c.table_call.new.self l (table_waits c.args.pid call on_tables)) c.table_call.ensures.picked;
+      spared = λ h. c.table_call.ensures.frees (table_call_frees p.tables.files c.args.pid.0 call on_tables h);
       err = on_err_weaker c.table_call.result (λ same. (same, same_lists l)) c.table_call.ensures.err;
     }
 

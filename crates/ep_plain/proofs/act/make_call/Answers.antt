@@ -8,6 +8,7 @@ use Rattle.ep_calls.specs.Does.{DoesCall}
 use Rattle.ep_calls.specs.Kept.{KeepsCall}
 use Rattle.ep_calls.specs.TableCall.{IsTableCall}
 use Rattle.ep_calls.proofs.KeptLemmas.{any_call, table_call_kept}
+use Rattle.ep_calls.proofs.SparedLemmas.{table_call_frees}
 use Rattle.ep_plain.proofs.act.make_call.Goals as goal
 
 pub returns-in_default : goal.returns-in_default
@@ -16,6 +17,7 @@ returns-in_default c =
     record {
       ok = IfOk-weaker c.table_call.result _ _ (λ outcome h. h c.args.step c.args.caller.0) c.table_call.ensures.ok;
       kept = IfOk-weaker c.table_call.result _ _ (λ outcome h. table_call_kept c.args.call.now c.args.kept outcome on_tables) c.table_call.ensures.ok;
+      spared = λ h. c.table_call.ensures.frees (table_call_frees c.args.parts.now.tables.files c.args.pid.0 c.args.call.now on_tables h);
       err = c.table_call.ensures.err;
     }
 

@@ -1,4 +1,6 @@
 use Rattle.std.proofs.Common.{◌≡◌, ◌+◌, ◌++◌, [], ◌∷◌, Err, List, Ok, OnErr, Option, Result, ap, length, ◌∙◌, arith, subst, sym, vec_capacity}
+use Rattle.std.proofs.lemmas.Bool.{false≢true}
+use Rattle.std.specs.Prelude.{is_ok}
 use Rattle.ep_alarms.specs.Alarms.{AreSet}
 use Rattle.ep_base.specs.declared.answer.Answer.{Answer}
 use Rattle.ep_base.specs.declared.ids.DescId.{DescId}
@@ -135,3 +137,9 @@ returns-clause-lists c =
       arrives =
           subst (λ (rs : List Record). AreAdded k.parts.tables.limits c.args.caller.0 c.args.event outcome.picked (state_of (book_of k).book) (state_of (record book { past = rs })) (list_of (lists_of k.parts k.lists)) (listed new)) (sym (records c)) added;
     }))
+
+-- no timer is created
+pub returns-in_err-make_room-clause-spared : goal.returns-in_err-make_room-clause-spared
+returns-in_err-make_room-clause-spared c spared room =
+    let ok = c.make_room.ensures.spared (state_of c.args.self.now.book).files spared in
+    absurd (false≢true (sym (ap is_ok c.in_err-make_room.was) ∙ ok))

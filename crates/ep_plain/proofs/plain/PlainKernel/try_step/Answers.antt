@@ -69,7 +69,7 @@ dated : (c : goal.After-push_reserved-2) → Dates (entry_shows (readiness c.set
 dated c =
     let q = c.settle.new.parts in
     let since = c.push_reserved.ensures.items ∙ ap (λ (xs : List ℕ). xs ++ 0 ∷ []) c.reserve-2.ensures.items in
-    subst (λ (xs : List ℕ). Dates (entry_shows (readiness q.tables q.clock q.interest) q.tables q.clock) (c.len.result + 1) q.interest xs c.date.new.since.items) since c.date.ensures
+    subst (λ (xs : List ℕ). Dates (entry_shows (readiness q.tables q.clock q.interest) q.tables q.clock) (c.len.result + 1) q.interest xs c.date.new.since.items) since c.date.ensures.dates
 
 pub invariant_of-self-2 : goal.invariant_of-self-2
 invariant_of-self-2 c =

@@ -1,0 +1,37 @@
+-- Which events are not answered ENOMEM while there is room for their record.
+use Rattle.std.specs.Prelude.{◌≡◌, ◌≤◌, false, min, ℕ, ℤ}
+use Rattle.ep_base.specs.declared.call.Call.{Call}
+use Rattle.ep_base.specs.declared.call.Call.TheVariants.{Close, EpollCtl, Exec, Exit, GetTime, Read, SetTime, Shutdown, Write}
+use Rattle.ep_base.specs.declared.call.Event.{Event}
+use Rattle.ep_base.specs.declared.call.Event.TheVariants.{Call as CallOf, Resume, Tick}
+use Rattle.ep_machine.specs.Files.{Files, object_under, side_under}
+use Rattle.ep_machine.specs.Watches.{is_add}
+use Rattle.ep_object.specs.Memory.{object_waiting}
+
+-- how many bytes wait to be read at what a descriptor number names; 0 where it names nothing
+abbrev pub waiting_under : Files → ℕ → ℤ → ℕ
+waiting_under files p fd = object_waiting (object_under files p fd) (side_under files p fd)
+
+-- a call that closes descriptors and opens none
+abbrev pub Frees : Call → Type 0
+Frees (Close fd) = Unit {0}
+Frees Exec = Unit {0}
+Frees Exit = Unit {0}
+Frees call = ⊥
+
+-- a call of a process that needs no memory but for its record: what was made, added or parked took the room for its end, and 16 bytes
+-- that are read stand in the answer itself
+abbrev pub TakesNoMemory : Files → ℕ → Call → Type 0
+TakesNoMemory files p (EpollCtl epfd op fd mask tag) = is_add op ≡ false
+TakesNoMemory files p (Read fd n) = min n (waiting_under files p fd.0) ≤ 16
+TakesNoMemory files p (Write fd bytes) = Unit {0}
+TakesNoMemory files p (Shutdown fd) = Unit {0}
+TakesNoMemory files p (SetTime fd absolute value interval) = Unit {0}
+TakesNoMemory files p (GetTime fd) = Unit {0}
+TakesNoMemory files p call = Frees call
+
+-- an event that is spared ENOMEM, with these files before it: it needs no memory but for its record
+abbrev pub IsSpared : Files → Event → Type 0
+IsSpared files (CallOf pid call) = TakesNoMemory files pid.0 call
+IsSpared files Resume = ⊥
+IsSpared files (Tick n) = Unit {0}
