@@ -272,6 +272,7 @@ module _ (law : ListsGoOn) (past : List Record) (n : ℕ) (event : Event) (outco
         let is = watch_is n event outcome old mid noted buried climbed new l0 l1 l2 l3 follows before after runs.keeps.stands (stands_after law past n event outcome old mid noted buried climbed new l0 l1 l2 l3 follows caller at runs does) runs.listed i e here (keeps_after law past n event outcome old mid noted buried climbed new l0 l1 l2 l3 follows caller at runs does).sound k come x may.there may.number in
         record {
           may = may;
+          accepted = allowed;
           made = c;
           is = m.is;
           cause = elim come.cause [

@@ -1,5 +1,5 @@
 -- What contracts see of the kernel with ready lists.
-use Rattle.std.specs.Prelude.{◌≡◌, ◌⊎◌, ◌<◌, ◌++◌, ◌==◌, List, [], ◌∷◌, MatchBool, Some, filter, if◌then◌else◌, length, take, false, true, ℕ}
+use Rattle.std.specs.Prelude.{◌≡◌, ◌⊎◌, ◌<◌, ◌++◌, ◌==◌, List, [], ◌∷◌, MatchBool, None, Some, filter, if◌then◌else◌, length, take, false, true, ℕ}
 use Rattle.ep_base.specs.Limits.{Limits}
 use Rattle.ep_base.specs.declared.answer.Answer.{Answer}
 use Rattle.ep_base.specs.declared.answer.Answer.TheVariants.{Events}
@@ -12,9 +12,11 @@ use Rattle.ep_calls.specs.Acts.{is_no_memory}
 use Rattle.ep_calls.specs.Book.{Book, state_of as state_in}
 use Rattle.ep_law.specs.Laws.{Member, is_reportable_in, passes_on_of}
 use Rattle.ep_machine.specs.Bits.{ET, has_bit}
+use Rattle.ep_machine.specs.Effect.{first}
 use Rattle.ep_machine.specs.Files.{is_live, named_by}
 use Rattle.ep_machine.specs.Lists.{is_among}
 use Rattle.ep_machine.specs.Readiness.{is_fresh}
+use Rattle.ep_machine.specs.Refusal.{refusals}
 use Rattle.ep_machine.specs.State.{Change, State, Waiter, Watch}
 use Rattle.ep_machine.specs.Step.{change, next_event}
 use Rattle.ep_machine.specs.Waits.{waiter_of}
@@ -69,10 +71,11 @@ LeavesReportable s t caller event answer list = (e most : ℕ) (reports : List R
     → WaitsAt s caller event e most → length reports < most → is_live t.files e ≡ true
     → (k : ℕ) → is_among (list e) k ≡ true → is_reportable_in t e k ≡ true
 
--- what an event adds to the list of instance e: a registration k through which something of the event's spread passes on, or one
--- that an ADD or MOD altered and left reportable
+-- what an event that is not refused adds to the list of instance e: a registration k through which something of the event's spread
+-- passes on, or one that an ADD or MOD altered and left reportable. A refused event adds nothing.
 pub record IsAdded (limits : Limits) (caller : ℕ) (event : Event) (picked : List ℕ) (s t : State) (e k : ℕ) : Type 0 where
   pub may : MayBeListed t e k
+  pub accepted : first (refusals limits (next_event s) caller event) ≡ None
   pub made : Change
   pub is : change limits (next_event s) caller event picked ≡ Some made
   pub cause : (passes_on_of made may.x ≡ true) ⊎ (IsAltered s event may.x × (is_reportable_in made.1 e k ≡ true))

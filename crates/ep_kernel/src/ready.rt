@@ -195,7 +195,8 @@ impl Kernel for ReadyKernel {
 
     /// One event, as the trait has it. A wait reports the first reportable registrations of the ready list of its
     /// instance, in its order; where it reports fewer than it asked for, what it leaves there is reportable. What comes to a
-    /// list was reached by the event's spread, or left reportable by an ADD or MOD. ENOMEM leaves the lists.
+    /// list comes by an event that was not refused: its spread reached it, or it is an ADD or MOD that left it reportable.
+    /// So a refusal adds nothing to a list, and ENOMEM leaves the lists.
     fn step(&mut self, caller: CallerId, event: Event) -> Answer
         ensures limits { self.new.book.limits ≡ self.old.book.limits }
         ensures capacity { self.old.book.capacity ≤ self.new.book.capacity }
