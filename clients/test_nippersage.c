@@ -154,11 +154,12 @@ static void histories(const char *path, const char *auditor) {
     EXPECT(WEXITSTATUS(nippersage_end(&kernel)) == 1);
 }
 
-/* The words are the programs epsim and epaudit. Histories are written to the folder in which it runs. */
+/* The words are the programs epsim and epaudit, without which histories are not tested. They are written to the folder in
+ * which it runs. */
 int main(int count, char **words) {
-    if (count != 3) return 2;
+    if (count != 2 && count != 3) return 2;
     alarm(300); /* a kernel that doesn't end is a failure, too */
-    histories(words[1], words[2]);
+    if (count == 3) histories(words[1], words[2]);
     two_kernels(words[1]);
     level_triggered(words[1]);
     parked_callers(words[1]);

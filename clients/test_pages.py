@@ -1,7 +1,8 @@
 """Runs the programs that README.md and docs/clients.md show: each block that begins with ```python or ```c.
 
-Each is a whole program of assertions but for the C ones, which get their headers and `main`. They run in an empty folder
-with the clients beside them and `./epsim` and `./epaudit` in it, as they would at the top of the repository."""
+Each is a whole program of assertions but for the C ones, which get their headers and `main`. They run
+in an empty folder with `./epsim` and `./epaudit` in it, as they would at the top of the repository.
+"""
 
 import os
 import re
@@ -16,8 +17,15 @@ sys.dont_write_bytecode = True
 from nippersage import AUDITOR, PROGRAM
 
 HERE = os.path.dirname(os.path.abspath(__file__))
-PAGES = [os.path.join(HERE, os.pardir, "README.md"), os.path.join(HERE, os.pardir, "docs", "clients.md")]
-AROUND = '#define _GNU_SOURCE\n#include "nippersage.h"\n#include <assert.h>\n#include <errno.h>\nint main(void) {\n%s\nreturn 0;\n}\n'
+AROUND = """#define _GNU_SOURCE
+#include "nippersage.h"
+#include <assert.h>
+#include <errno.h>
+int main(void) {
+%s
+return 0;
+}
+"""
 
 
 def blocks(page, language):
@@ -26,7 +34,9 @@ def blocks(page, language):
         return re.findall(rf"^```{language}\n(.*?)^```$", text.read(), re.M | re.S)
 
 
-class Pages(unittest.TestCase):
+class Page:
+    """The tests of one page, `page`, which its subclass names."""
+
     def setUp(self):
         room = tempfile.TemporaryDirectory()
         self.addCleanup(room.cleanup)
@@ -41,27 +51,30 @@ class Pages(unittest.TestCase):
         told = subprocess.run(words, cwd=self.room, env={**os.environ, "PYTHONPATH": HERE})
         self.assertEqual(told.returncode, 0)
 
+    def programs(self, language):
+        found = blocks(os.path.join(HERE, os.pardir, self.page), language)
+        self.assertTrue(found)
+        return found
+
     def test_python(self):
-        for page in PAGES:
-            programs = blocks(page, "python")
-            self.assertTrue(programs, page)
-            for program in programs:
-                with self.subTest(page=page, program=program):
-                    self.run_words(sys.executable, "-B", "-c", program)
+        for program in self.programs("python"):
+            self.run_words(sys.executable, "-B", "-c", program)
 
     def test_c(self):
-        for page in PAGES:
-            programs = blocks(page, "c")
-            self.assertTrue(programs, page)
-            for program in programs:
-                with self.subTest(page=page, program=program):
-                    source = os.path.join(self.room, "page.c")
-                    with open(source, "w") as text:
-                        text.write(AROUND % program)
-                    compiler = os.environ.get("CC", "cc")
-                    words = ["-std=c11", "-Wall", "-Wextra", "-Werror", "-I", HERE, "-o", "page", "page.c"]
-                    self.run_words(compiler, *words)
-                    self.run_words("./page")
+        for program in self.programs("c"):
+            with open(os.path.join(self.room, "page.c"), "w") as text:
+                text.write(AROUND % program)
+            words = ["-std=c11", "-Wall", "-Wextra", "-Werror", "-I", HERE, "-o", "page", "page.c"]
+            self.run_words(os.environ.get("CC", "cc"), *words)
+            self.run_words("./page")
+
+
+class Readme(Page, unittest.TestCase):
+    page = "README.md"
+
+
+class ClientsPage(Page, unittest.TestCase):
+    page = os.path.join("docs", "clients.md")
 
 
 if __name__ == "__main__":
