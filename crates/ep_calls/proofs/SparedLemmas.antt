@@ -6,7 +6,7 @@ use Rattle.ep_machine.specs.Files.{Files}
 use Rattle.ep_calls.specs.Spared.{Frees, TakesNoMemory}
 use Rattle.ep_calls.specs.TableCall.{IsTableCall}
 
--- of the calls on the tables alone those that free
+-- a call on the tables alone that takes none closes descriptors
 pub table_call_frees : (files : Files) (p : ℕ) (call : Call) → IsTableCall call → TakesNoMemory files p call → Frees call
 table_call_frees files p (EpollCtl epfd op fd mask tag) on h = absurd on
 table_call_frees files p (Read fd n) on h = absurd on

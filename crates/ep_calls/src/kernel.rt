@@ -33,11 +33,11 @@ pub trait Kernel {
     /// One event. The answer is one that the machine allows here, a refusal too, and the history gains its record.
     /// ENOMEM is want of memory: nothing changes, and there is no record. Room for records is never given back.
     ///
-    /// While there is room for one, as after a `reserve` that answered Ok and fewer records than it was for, these events
-    /// are not answered ENOMEM: a tick, close, exec, exit, DEL and MOD of epoll_ctl, write, shutdown, timerfd_settime,
-    /// timerfd_gettime, and a read of at most 16 bytes, or where no more wait. What they need beside their record was taken
-    /// by what made, added or parked. All others may be: creations, dup, dup2, fork, ADD, longer reads, waits and
-    /// resumptions.
+    /// While there is room for a record, these events are not answered ENOMEM: a tick, close, exec, exit, DEL and MOD of
+    /// epoll_ctl, write, shutdown, timerfd_settime, timerfd_gettime, and a read of at most 16 bytes, or where no more wait.
+    /// Once `reserve(n)` has answered Ok, there is room until there are n further records. What else these events need was
+    /// taken by what made, added or parked. All others may be answered ENOMEM: creations, dup, dup2, fork, ADD, longer
+    /// reads, waits and resumptions.
     fn step(&mut self, caller: CallerId, event: Event) -> Answer
         ensures limits { bounds self.new ≡ bounds self.old }
         ensures capacity { capacity self.old ≤ capacity self.new }
@@ -48,8 +48,8 @@ pub trait Kernel {
 
     /// A step whose record is put at the end of a list of the caller's too.
     /// ENOMEM is want of memory, for the history or for that list: then the list too is as before, but that it may have
-    /// more room. It may come of any event, while the history has room too: that list and a copy of the event want memory of
-    /// their own.
+    /// more room. It may come of any event, also while the history has room: that list and a copy of the event want memory
+    /// of their own.
     fn step_kept(&mut self, caller: CallerId, event: Event, kept: &mut Vec<Record>) -> Answer
         ensures limits { bounds self.new ≡ bounds self.old }
         ensures capacity { capacity self.old ≤ capacity self.new }
