@@ -8,7 +8,8 @@ use Rattle.ep_machine.specs.Timer.{Timer}
 use Rattle.ep_alarms.specs.Timers.{timer_under}
 use Rattle.ep_table.specs.Value.{Seen, number_under}
 
--- a timer has the first moment after now at which IN arrives, or none where there is none; what is no timer isn't among them
+-- a timer has the first moment after now at which IN arrives, or none where there is none; what is no timer isn't
+-- among them
 abbrev pub IsSetFor : Option Timer → ℕ → Option (Option ℕ) → Type 0
 IsSetFor None now moment = moment ≡ None
 IsSetFor (Some t) now None = ⊥

@@ -17,9 +17,10 @@ use ep_table::Tables;
 use std::alloc::{AllocError, Global};
 use std::marker::Model;
 
-/// The live timers, each with the moment at which the clock next raises IN at it, or none where it won't. Contracts see what
-/// `moment_of` tells of a description's key: nothing for what isn't among them. `new` and `earliest` take constant time, and each
-/// other call time that grows as the logarithm of the number of timers for each timer that it touches, but where a table grows.
+/// The live timers, each with the moment at which the clock next raises IN at it, or none where it won't. Contracts
+/// see what `moment_of` tells of a description's key: nothing for what isn't among them. `new` and `earliest` take
+/// constant time, and each other call time that grows as the logarithm of the number of timers for each timer that it
+/// touches, but where a table grows.
 #[derive(Drop)]
 pub struct Alarms {
     moments: DueMap,
@@ -43,7 +44,8 @@ impl Alarms {
         }
     }
 
-    /// Makes room for one timer more. `AllocError` where there is no memory. No other call takes memory, and no moment changes.
+    /// Makes room for one timer more. `AllocError` where there is no memory. No other call takes memory, and no
+    /// moment changes.
     pub fn reserve(&mut self) -> Result<(), AllocError>
         ensures room { OnOk result (HasRoom self.new) }
         ensures kept { SameMoments self.old self.new }
@@ -62,7 +64,8 @@ impl Alarms {
         self.moments.add_reserved(desc.0, tables.next(desc, now));
     }
 
-    /// Gives a timer another moment once it was set or read: where the others are set, all are. Any description may be asked for.
+    /// Gives a timer another moment once it was set or read: where the others are set, all are. Any description may
+    /// be asked for.
     pub fn set(&mut self, tables: &Tables, desc: DescId, now: u64)
         requires live { IsSome (number_under tables.now desc) }
         requires clock { now ≤ last_moment }
@@ -93,8 +96,8 @@ impl Alarms {
         }
     }
 
-    /// The first moment at which the clock raises a bit at a live timer, after the moment for which all are set; `None` where it
-    /// raises none.
+    /// The first moment at which the clock raises a bit at a live timer, after the moment for which all are set;
+    /// `None` where it raises none.
     pub fn earliest(&self) -> Option<u64>
         ensures { (v : Seen) (now : ℕ) → Sound v → AreSet v now self.now
             → TellsArrival v.files now result }
@@ -112,8 +115,8 @@ impl Alarms {
         Some(DescId(key))
     }
 
-    /// Raises what timers raise by the clock going on from one moment to another, and gives them their next moments: only those
-    /// whose moment has come are looked at.
+    /// Raises what timers raise by the clock going on from one moment to another, and gives them their next moments:
+    /// only those whose moment has come are looked at.
     pub fn raise_due(
         &mut self,
         tables: &Tables,

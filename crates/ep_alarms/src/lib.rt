@@ -1,5 +1,5 @@
-//! When the clock next raises IN at each live timer, the earliest at hand, so that the clock's going on touches the timers alone
-//! whose moment has come.
+//! When the clock next raises IN at each live timer, the earliest at hand, so that the clock's going on touches the
+//! timers alone whose moment has come.
 #![tactic(auto)]
 
 mod alarms;

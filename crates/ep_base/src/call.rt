@@ -69,8 +69,8 @@ pub enum Call {
         timeout: i64,
     },
     /// read(2) of at most `n` bytes, answered by `Answer::Bytes`: none at the end of a pipe or socket whose writer is
-    /// gone. An eventfd or a timer gives 8 bytes, the lowest first, and answers EINVAL where `n` is below 8.
-    /// EBADF where `fd` names nothing or the write end of a pipe, EINVAL for an instance, EAGAIN where nothing is there.
+    /// gone. An eventfd or a timer gives 8 bytes, the lowest first, and answers EINVAL where `n` is below 8. EBADF
+    /// where `fd` names nothing or the write end of a pipe, EINVAL for an instance, EAGAIN where nothing is there.
     Read {
         fd: Fd,
         n: u32,

@@ -1,4 +1,5 @@
--- What contracts see of a kernel: its limits, its history, and room for it. Its state is the one to which the history leads.
+-- What contracts see of a kernel: its limits, its history, and room for it. Its state is the one to which the history
+-- leads.
 use Rattle.std.specs.Prelude.{List, unwrap_or, ℕ}
 use Rattle.ep_base.specs.Limits.{Limits}
 use Rattle.ep_base.specs.declared.record.Record.{Record}

@@ -1,4 +1,5 @@
--- The refusals of epoll_ctl in three parts: what its arguments name, the operation, and the interest set; and what it does to registrations.
+-- The refusals of epoll_ctl in three parts: what its arguments name, the operation, and the interest set; and what it
+-- does to registrations.
 use Rattle.std.specs.List.{find as first_where, list_any}
 use Rattle.std.specs.Prelude.{◌≡◌, Bool, false, true, if◌then◌else◌, IfSome, IsSome, List, MatchBool, None, Option, Some, []}
 use Rattle.std.specs.Prelude.{⊤, filter, is_some, length, map, nat_le, not, pos, slice_set, unwrap_or, ℕ, ℤ, ◌&&◌, ◌++◌, ◌+◌, ◌==◌, ◌||◌, ◌∷◌}

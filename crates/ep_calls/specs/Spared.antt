@@ -19,8 +19,8 @@ Frees Exec = Unit {0}
 Frees Exit = Unit {0}
 Frees call = ⊥
 
--- a call of a process that needs no memory but for its record: what was made, added or parked took the room for its end, and 16 bytes
--- that are read stand in the answer itself
+-- a call of a process that needs no memory but for its record: what was made, added or parked took the room for its
+-- end, and 16 bytes that are read stand in the answer itself
 abbrev pub TakesNoMemory : Files → ℕ → Call → Type 0
 TakesNoMemory files p (EpollCtl epfd op fd mask tag) = is_add op ≡ false
 TakesNoMemory files p (Read fd n) = min n (waiting_under files p fd.0) ≤ 16

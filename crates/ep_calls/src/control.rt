@@ -32,17 +32,24 @@ use std::alloc::{AllocError, Global};
 /// The arguments of an epoll_ctl.
 #[derive(Clone, Copy)]
 pub struct Control {
+    /// The descriptor of the instance.
     pub epfd: Fd,
+    /// What to do: 1 adds, 2 deletes, 3 modifies; any other number is refused.
     pub op: i32,
+    /// The descriptor that is watched.
     pub fd: Fd,
+    /// The bits that are asked for, as the caller gave them.
     pub mask: Mask,
+    /// The data that a report of the registration carries.
     pub tag: u64,
 }
 
 /// What its two descriptors name.
 #[derive(Clone, Copy)]
 pub struct Named {
+    /// The description that the first names, an instance.
     pub instance: DescId,
+    /// The description that the second names, which is watched.
     pub desc: DescId,
 }
 
@@ -63,8 +70,8 @@ pub struct Plan {
     pub operation: Operation,
     /// The registration that is there.
     pub found: Option<EntryId>,
-    /// Whether its target is an instance that is ready, which ADD and MOD want to know. `Parts::plan` leaves it `false`, so that
-    /// a kernel can ask in its own way.
+    /// Whether its target is an instance that is ready, which ADD and MOD want to know. `Parts::plan` leaves it
+    /// `false`, so that a kernel can ask in its own way.
     pub below: bool,
 }
 
@@ -297,8 +304,8 @@ fn enter(
     Ok(Answer::Done)
 }
 
-/// What it raises that a registration was added or modified: IN at its instance, where it is reportable. `below` says whether its
-/// target is an instance that is ready.
+/// What it raises that a registration was added or modified: IN at its instance, where it is reportable. `below` says
+/// whether its target is an instance that is ready.
 fn look_at(
     tables: &Tables,
     now: u64,
@@ -352,10 +359,10 @@ impl Parts {
         Outcome::settled(self.alloc, answer, raising)
     }
 
-    /// What an epoll_ctl with these arguments is about. Where they alone refuse it, its outcome, by the refusal that comes first:
-    /// EBADF where a descriptor names nothing, EPERM for a target that can't be polled, EINVAL where `epfd` is no instance or
-    /// both name the same, and EINVAL for an operation or a mask that this version doesn't accept.
-    /// It doesn't ask whether the target is an instance that is ready.
+    /// What an epoll_ctl with these arguments is about. Where they alone refuse it, its outcome, by the refusal that
+    /// comes first: EBADF where a descriptor names nothing, EPERM for a target that can't be polled, EINVAL where
+    /// `epfd` is no instance or both name the same, and EINVAL for an operation or a mask that this version doesn't
+    /// accept. It doesn't ask whether the target is an instance that is ready.
     pub fn plan(&self, pid: Pid, args: Control) -> Result<Plan, Outcome>
         ensures ok { IfOk result (IsPlan self.now pid.0 args) }
         ensures err { IfErr result
@@ -381,8 +388,8 @@ impl Parts {
         })
     }
 
-    /// Whether the instance that an ADD or a MOD is about is ready; `false` for what is no instance. DEL asks nothing. The time grows
-    /// with the registrations of the instance and of those below.
+    /// Whether the instance that an ADD or a MOD is about is ready; `false` for what is no instance. DEL asks
+    /// nothing. The time grows with the registrations of the instance and of those below.
     fn is_below_ready(&self, operation: Operation, desc: DescId) -> bool
         requires { IsSome (number_under self.now.tables desc) }
         ensures { TellsBelow operation result self.now desc }
@@ -396,12 +403,12 @@ impl Parts {
         is_ready_now(&self.tables, self.clock, &self.interest, desc)
     }
 
-    /// Does what an epoll_ctl is about, or answers the refusal that comes first, in this order: ENOENT for MOD and DEL of what is
-    /// not there, EEXIST for ADD of what is, ELOOP where instances would watch each other in a loop or in a chain of more
-    /// than five, and ENOSPC past `watches`.
-    /// What is added or modified and reportable at once raises IN at its instance.
-    /// It looks at links between instances only where the target is an instance, and at no registration of that one.
-    /// A refusal and an `Err`, which is want of memory and comes only of ADD, leave the parts.
+    /// Does what an epoll_ctl is about, or answers the refusal that comes first, in this order: ENOENT for MOD and
+    /// DEL of what is not there, EEXIST for ADD of what is, ELOOP where instances would watch each other in a loop or
+    /// in a chain of more than five, and ENOSPC past `watches`. What is added or modified and reportable at once
+    /// raises IN at its instance. It looks at links between instances only where the target is an instance, and at no
+    /// registration of that one. A refusal and an `Err`, which is want of memory and comes only of ADD, leave the
+    /// parts.
     pub fn control(&mut self, pid: Pid, args: Control, plan: Plan) -> Result<Outcome, AllocError>
         requires plan { IsPlan self.old pid.0 args plan }
         requires below { TellsBelow plan.operation plan.below self.old plan.named.desc }
@@ -442,10 +449,9 @@ impl Parts {
         }
     }
 
-    /// epoll_ctl(2): adds, modifies or deletes a registration, or answers the refusal that comes first: those of `plan`, and then
-    /// those of `control`.
-    /// What is added or modified and reportable at once raises IN at its instance.
-    /// A refusal and an `Err`, which is want of memory and comes only of ADD, leave the parts.
+    /// epoll_ctl(2): adds, modifies or deletes a registration, or answers the refusal that comes first: those of
+    /// `plan`, and then those of `control`. What is added or modified and reportable at once raises IN at its
+    /// instance. A refusal and an `Err`, which is want of memory and comes only of ADD, leave the parts.
     pub fn epoll_ctl(&mut self, pid: Pid, args: Control) -> Result<Outcome, AllocError>
         ensures ok { IfOk result
             (λ outcome. (n caller : ℕ)

@@ -29,16 +29,16 @@ fn next_arrival(tables: &Tables, now: u64) -> Option<u64>
 }
 
 impl Parts {
-    /// The first moment after now at which a tick to it raises a bit or marks a caller; `None` where no tick does. It looks at
-    /// each description that lives.
+    /// The first moment after now at which a tick to it raises a bit or marks a caller; `None` where no tick does. It
+    /// looks at each description that lives.
     pub fn next_moment(&self) -> Option<u64>
         ensures { (s : State) → AtRest s → StandFor self.now s → TellsNext s result }
     {
         self.next_moment_with(next_arrival(&self.tables, self.clock))
     }
 
-    /// What `next_moment` answers, where `arrival` is the first moment after now at which the clock raises a bit, or `None` where it
-    /// raises none. The cost is constant.
+    /// What `next_moment` answers, where `arrival` is the first moment after now at which the clock raises a bit, or
+    /// `None` where it raises none. The cost is constant.
     pub fn next_moment_with(&self, arrival: Option<u64>) -> Option<u64>
         requires { TellsArrival self.now.tables.files self.now.clock arrival }
         ensures { (s : State) → AtRest s → StandFor self.now s → TellsNext s result }
@@ -50,7 +50,8 @@ impl Parts {
         Some(moment)
     }
 
-    /// Of the marked callers the one that was parked first; `None` where none is marked. It looks at waiters up to that one.
+    /// Of the marked callers the one that was parked first; `None` where none is marked. It looks at waiters up to
+    /// that one.
     pub fn first_marked(&self) -> Option<CallerId>
         ensures { (s : State) → StandFor self.now s
             → option_map (λ c. c.0) result ≡ first_marked s }

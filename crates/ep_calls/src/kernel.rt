@@ -26,18 +26,18 @@ pub trait Kernel {
     /// The limits that it was made with.
     ghost bounds: { Self → Numbers };
 
-    /// How many records the history may have before a step asks for memory for its record. A kernel that tells nothing of
-    /// it has room for none.
+    /// How many records the history may have before a step asks for memory for its record. A kernel that tells
+    /// nothing of it has room for none.
     ghost capacity: { Self → ℕ } = { λ _. 0 };
 
     /// One event. The answer is one that the machine allows here, a refusal too, and the history gains its record.
     /// ENOMEM is want of memory: nothing changes, and there is no record. Room for records is never given back.
     ///
-    /// While there is room for a record, these events are not answered ENOMEM: a tick, close, exec, exit, DEL and MOD of
-    /// epoll_ctl, write, shutdown, timerfd_settime, timerfd_gettime, and a read of at most 16 bytes, or where no more wait.
-    /// Once `reserve(n)` has answered Ok, there is room until there are n further records. What else these events need was
-    /// taken by what made, added or parked. All others may be answered ENOMEM: creations, dup, dup2, fork, ADD, longer
-    /// reads, waits and resumptions.
+    /// While there is room for a record, these events are not answered ENOMEM: a tick, close, exec, exit, DEL and MOD
+    /// of epoll_ctl, write, shutdown, timerfd_settime, timerfd_gettime, and a read of at most 16 bytes, or where no
+    /// more wait. Once `reserve(n)` has answered Ok, there is room until there are n further records. What else these
+    /// events need was taken by what made, added or parked. All others may be answered ENOMEM: creations, dup, dup2,
+    /// fork, ADD, longer reads, waits and resumptions.
     fn step(&mut self, caller: CallerId, event: Event) -> Answer
         ensures limits { bounds self.new ≡ bounds self.old }
         ensures capacity { capacity self.old ≤ capacity self.new }
@@ -46,10 +46,9 @@ pub trait Kernel {
         ensures acts { Acts (bounds self.old) caller event result (state self.old) (state self.new)
             (past self.old) (past self.new) };
 
-    /// A step whose record is put at the end of a list of the caller's too.
-    /// ENOMEM is want of memory, for the history or for that list: then the list too is as before, but that it may have
-    /// more room. It may come of any event, also while the history has room: that list and a copy of the event want memory
-    /// of their own.
+    /// A step whose record is put at the end of a list of the caller's too. ENOMEM is want of memory, for the history
+    /// or for that list: then the list too is as before, but that it may have more room. It may come of any event,
+    /// also while the history has room: that list and a copy of the event want memory of their own.
     fn step_kept(&mut self, caller: CallerId, event: Event, kept: &mut Vec<Record>) -> Answer
         ensures limits { bounds self.new ≡ bounds self.old }
         ensures capacity { capacity self.old ≤ capacity self.new }
@@ -58,8 +57,8 @@ pub trait Kernel {
         ensures kept { KeepsRecord result (past self.old) (past self.new) kept.old.items
             kept.new.items };
 
-    /// Makes room for this many further records, so that `step` is not answered ENOMEM for the events that it names until
-    /// there are that many more; or fails where memory is refused. State and history stay in both cases.
+    /// Makes room for this many further records, so that `step` is not answered ENOMEM for the events that it names
+    /// until there are that many more; or fails where memory is refused. State and history stay in both cases.
     fn reserve(&mut self, additional: usize) -> Result<(), AllocError>
         ensures room { OnOk result (length (past self.new) + additional ≤ capacity self.new) }
         ensures capacity { capacity self.old ≤ capacity self.new }
@@ -84,8 +83,8 @@ pub trait Kernel {
     fn is_parked(&self, caller: CallerId) -> bool
         ensures { result ≡ is_parked (state self.now) caller.0 };
 
-    /// Whether a caller is parked and marked: its next resumption looks at its instance, and ends the wait where something
-    /// is reportable or its deadline has come. At each ready instance that has waiters one is marked.
+    /// Whether a caller is parked and marked: its next resumption looks at its instance, and ends the wait where
+    /// something is reportable or its deadline has come. At each ready instance that has waiters one is marked.
     fn is_marked(&self, caller: CallerId) -> bool
         ensures { result ≡ is_marked (state self.now) caller.0 };
 
@@ -93,8 +92,8 @@ pub trait Kernel {
     fn first_marked(&self) -> Option<CallerId>
         ensures { option_map (λ c. c.0) result ≡ first_marked (state self.now) };
 
-    /// The first moment after now to which a tick raises a bit or marks a caller; a shorter tick does neither. `None` exactly
-    /// where no tick does: then nothing ends a wait but a call, or the resumption of whoever is marked.
+    /// The first moment after now to which a tick raises a bit or marks a caller; a shorter tick does neither. `None`
+    /// exactly where no tick does: then nothing ends a wait but a call, or the resumption of whoever is marked.
     fn next_moment(&self) -> Option<u64>
         ensures { TellsNext (state self.now) result };
 }

@@ -24,8 +24,8 @@ use ep_table::Tables;
 use smallvec::SmallVec;
 use std::alloc::{AllocError, Global};
 
-/// Room for the bytes that a call gives, before it takes them from the object, where it is wanted. It takes no memory for
-/// 16 bytes or fewer.
+/// Room for the bytes that a call gives, before it takes them from the object, where it is wanted. It takes no memory
+/// for 16 bytes or fewer.
 fn room_for_copy(
     alloc: Global,
     tables: &Tables,

@@ -15,6 +15,7 @@ use std::alloc::Global;
 /// the registrations that it reports, and what it raised.
 #[derive(Drop)]
 pub struct Outcome {
+    /// The answer for the caller.
     pub answer: Answer,
     /// The same answer for the history.
     pub recorded: Answer,
@@ -22,6 +23,7 @@ pub struct Outcome {
     pub picked: Picked,
     /// Both once more, for a second record, where one was asked for and they take memory to copy.
     pub spare: Option<Spare>,
+    /// What the event raised, at which descriptions.
     pub raising: Raising,
     ghost same: { recorded ≡ answer },
     ghost copied: { IsCopied spare answer picked },

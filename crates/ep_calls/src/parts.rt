@@ -14,11 +14,17 @@ use std::marker::Model;
 /// What a kernel keeps but its history. Contracts see it as the record `Parts`.
 #[derive(Drop)]
 pub struct Parts {
+    /// What memory is asked of.
     pub alloc: Global,
+    /// The processes' descriptor tables, the descriptions and the objects.
     pub tables: Tables,
+    /// The registrations of all instances.
     pub interest: Interest,
+    /// Which instances watch each other.
     pub graph: Graph,
+    /// The parked callers.
     pub waiters: Park,
+    /// The present moment, in milliseconds since the clock began.
     pub clock: u64,
 }
 

@@ -25,7 +25,8 @@ fn present(tables: &Tables, now: u64, desc: DescId, below: bool) -> Mask
     if below { Mask::IN } else { Mask::empty() }
 }
 
-/// The bits that a registration shows: where it is armed, those of its target that its mask asks for, ERR and HUP unasked.
+/// The bits that a registration shows: where it is armed, those of its target that its mask asks for, ERR and HUP
+/// unasked.
 pub fn shown_at(tables: &Tables, now: u64, entry: &Entry, below: bool) -> Mask
     requires target { IsSome (number_under tables.now entry.now.desc) }
     requires clock { now ≤ last_moment }

@@ -7,7 +7,9 @@ use ep_base::{Answer, Picked};
 /// What a second record of one event is made of, beside its caller and the event.
 #[derive(Drop)]
 pub struct Spare {
+    /// A copy of the answer.
     pub answer: Answer,
+    /// A copy of the numbers of the registrations that it reports.
     pub picked: Picked,
 }
 

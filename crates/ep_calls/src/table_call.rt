@@ -65,9 +65,8 @@ fn exit(tables: &mut Tables, waiters: &Park, pid: Pid) -> Answer
     Answer::Done
 }
 
-/// What a call on the tables alone is answered, which asks who is parked only for exec and exit.
-/// An `Err`, which comes for want of memory or of a number for what is made, leaves the tables. It comes of no close, exec
-/// or exit.
+/// What a call on the tables alone is answered, which asks who is parked only for exec and exit. An `Err`, which
+/// comes for want of memory or of a number for what is made, leaves the tables. It comes of no close, exec or exit.
 fn answer_of(
     alloc: Global,
     tables: &mut Tables,
@@ -108,9 +107,8 @@ fn answer_of(
 }
 
 impl Parts {
-    /// A call that opens descriptors of a new object, or one on descriptors or the process.
-    /// An `Err`, which comes for want of memory or of a number for what is made, leaves the parts. It comes of no close,
-    /// exec or exit.
+    /// A call that opens descriptors of a new object, or one on descriptors or the process. An `Err`, which comes for
+    /// want of memory or of a number for what is made, leaves the parts. It comes of no close, exec or exit.
     pub fn table_call(&mut self, pid: Pid, call: &Call) -> Result<Outcome, AllocError>
         requires call { IsTableCall call.now }
         requires process { is_some (table_of self.old.tables.files pid.0) ≡ true }

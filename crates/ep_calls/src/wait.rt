@@ -22,9 +22,13 @@ use std::alloc::AllocError;
 /// The arguments of an epoll_wait, and the process that calls.
 #[derive(Clone, Copy)]
 pub struct Wait {
+    /// The process that calls.
     pub pid: Pid,
+    /// The descriptor of the instance.
     pub epfd: Fd,
+    /// The most reports that it takes; 0 and less are refused.
     pub max: i32,
+    /// How long it waits, in milliseconds: 0 not at all, less than 0 for ever.
     pub timeout: i64,
     /// Whether a second record of it is asked for.
     pub kept: bool,
@@ -33,8 +37,11 @@ pub struct Wait {
 /// A registration that is reportable, with its key and what it shows.
 #[derive(Clone, Copy)]
 pub struct Reportable {
+    /// The key of the registration.
     pub id: EntryId,
+    /// The registration.
     pub entry: Entry,
+    /// The bits that it shows.
     pub bits: Mask,
 }
 

@@ -10,9 +10,9 @@ use std::marker::Model;
 #[derive(Clone, Copy)]
 pub struct DuePlace(pub usize);
 
-/// Places, each of which has a moment, in microseconds, or none. Contracts see a list with an item for each number: nothing, or a
-/// place's moment or none. With n places, `first_due` takes constant time, and `set`, `clear` and `drop_place` take time that grows as
-/// log n. Memory comes from `A`.
+/// Places, each of which has a moment, in microseconds, or none. Contracts see a list with an item for each number:
+/// nothing, or a place's moment or none. With n places, `first_due` takes constant time, and `set`, `clear` and
+/// `drop_place` take time that grows as log n. Memory comes from `A`.
 #[derive(Drop)]
 pub struct DueQueue<A: Allocator = Global> {
     heap: Vec<Item, A>,
@@ -47,8 +47,8 @@ impl<A: Allocator> DueQueue<A> {
         }
     }
 
-    /// Makes a place that has no moment. `AllocError` where there is no memory, and then nothing has changed; where a place was
-    /// dropped, its number is used again, without memory. No other call takes memory.
+    /// Makes a place that has no moment. `AllocError` where there is no memory, and then nothing has changed; where a
+    /// place was dropped, its number is used again, without memory. No other call takes memory.
     pub fn make_place(&mut self) -> Result<DuePlace, AllocError>
         ensures made { IfOk result (λ p. GainsPlace self.old self.new p.0) }
         ensures again { HasFreePlace self.old → IsOk result }
@@ -106,7 +106,8 @@ impl<A: Allocator> DueQueue<A> {
         put(&mut self.heap, &mut self.places, self.live, place.0, None);
     }
 
-    /// A place whose moment is at or below `now`, none of the others having a smaller one; `None` exactly where there is none.
+    /// A place whose moment is at or below `now`, none of the others having a smaller one; `None` exactly where there
+    /// is none.
     pub fn first_due(&self, now: u64) -> Option<DuePlace>
         ensures { MatchOption result (HasNoneDue self.now now) (λ p. IsLeastDue self.now now p.0) }
     {

@@ -9,9 +9,9 @@ use std::alloc::{AllocError, Allocator, Global};
 use std::hash::{BuildHasherDefault, FoldHasher};
 use std::marker::Model;
 
-/// Keys, each with a moment or none. Contracts see what `moment_of` tells of a key: nothing for what isn't among them, else the
-/// moment or none. With n keys, `first`, `earliest` and `has` take constant time, and each other call time that grows as log n,
-/// but where a table grows. Memory comes from `A`.
+/// Keys, each with a moment or none. Contracts see what `moment_of` tells of a key: nothing for what isn't among
+/// them, else the moment or none. With n keys, `first`, `earliest` and `has` take constant time, and each other call
+/// time that grows as log n, but where a table grows. Memory comes from `A`.
 #[derive(Drop)]
 pub struct DueMap<A: Allocator = Global> {
     queue: DueQueue<A>,
@@ -45,8 +45,8 @@ impl<A: Allocator> DueMap<A> {
         }
     }
 
-    /// Makes room for one key more. `AllocError` where there is no memory. This is the one call, beside `add`, that takes memory;
-    /// no moment changes.
+    /// Makes room for one key more. `AllocError` where there is no memory. This is the one call, beside `add`, that
+    /// takes memory; no moment changes.
     pub fn reserve(&mut self) -> Result<(), AllocError>
         ensures room { OnOk result (HasRoom self.new) }
         ensures kept { SameMoments self.old self.new }

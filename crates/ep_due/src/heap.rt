@@ -9,7 +9,9 @@ use std::alloc::Allocator;
 /// A moment or none, and the place that it belongs to.
 #[derive(Clone, Copy)]
 pub struct Item {
+    /// When it is due, if it is.
     pub moment: Option<u64>,
+    /// The place that has this moment.
     pub place: usize,
 }
 

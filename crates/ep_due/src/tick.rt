@@ -6,8 +6,9 @@ ghost use Rattle.ep_due.specs.Tick.{TakesDue, due_weight, times_taken};
 use crate::due::{DuePlace, DueQueue};
 use std::alloc::{AllocError, Allocator};
 
-/// Takes each place whose moment is at or below `now`, once, puts it at the end of `taken`, and leaves it with the moment `next` or
-/// with none. `AllocError` where `taken` can't grow: then the places that were taken are in `taken`, and the rest is as it was.
+/// Takes each place whose moment is at or below `now`, once, puts it at the end of `taken`, and leaves it with the
+/// moment `next` or with none. `AllocError` where `taken` can't grow: then the places that were taken are in `taken`,
+/// and the rest is as it was.
 pub fn take_due<A: Allocator, B: Allocator>(
     queue: &mut DueQueue<A>,
     now: u64,

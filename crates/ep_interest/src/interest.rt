@@ -197,9 +197,9 @@ fn rest_each<A: Allocator>(slots: &mut Slab<Entry, A>, ids: &[EntryId])
     }
 }
 
-/// The registrations of every instance. Contracts see them in order of registration, the number under each key, and how many
-/// were ever added. Adding n of them and removing them again takes time that grows as n log n, however they are spread over
-/// instances and descriptions. Memory comes from `A`.
+/// The registrations of every instance. Contracts see them in order of registration, the number under each key, and
+/// how many were ever added. Adding n of them and removing them again takes time that grows as n log n, however they
+/// are spread over instances and descriptions. Memory comes from `A`.
 #[derive(Drop)]
 pub struct Interest<A: Allocator = Global> {
     slots: Slab<Entry, A>,
@@ -245,8 +245,8 @@ impl<A: Allocator> Interest<A> {
         }
     }
 
-    /// The registrations of an instance with their keys, in order of registration. Only these are visited; the cost of finding the
-    /// first grows as the logarithm of the number of registrations.
+    /// The registrations of an instance with their keys, in order of registration. Only these are visited; the cost
+    /// of finding the first grows as the logarithm of the number of registrations.
     pub fn entries(&self, instance: DescId) -> Entries<'_, A>
         ensures entries { map (λ p. p.1) result ≡ filter (is_of instance) self.now.entries }
         ensures keys { All (λ p. number_under self.now p.0 ≡ Some p.1.number) result }
@@ -259,8 +259,8 @@ impl<A: Allocator> Interest<A> {
         }
     }
 
-    /// The keys of the registrations on a description, in order of registration. Only these are visited; the cost of finding the
-    /// first grows as the logarithm of the number of registrations.
+    /// The keys of the registrations on a description, in order of registration. Only these are visited; the cost of
+    /// finding the first grows as the logarithm of the number of registrations.
     pub fn watchers(&self, desc: DescId) -> Watchers<'_>
         ensures exact { result ≡ ids self.now (filter (is_on desc) self.now.entries) }
         ensures runs { ShowsInOrder (λ (id : EntryId). id) }
@@ -277,9 +277,10 @@ impl<A: Allocator> Interest<A> {
         self.slots.len()
     }
 
-    /// Adds a registration with the next number, armed and never reported, as ADD of epoll_ctl(2) does, and answers its key.
-    /// `AllocError` where there is no memory, or no number is left after 2^64 - 1 additions, and then nothing has changed. No other call of this type takes memory. The cost grows as
-    /// the logarithm of the number of registrations, but where a table grows.
+    /// Adds a registration with the next number, armed and never reported, as ADD of epoll_ctl(2) does, and answers
+    /// its key. `AllocError` where there is no memory, or no number is left after 2^64 - 1 additions, and then
+    /// nothing has changed. No other call of this type takes memory. The cost grows as the logarithm of the number of
+    /// registrations, but where a table grows.
     pub fn add(&mut self, addition: Addition) -> Result<EntryId, AllocError>
     where
         A: Clone,
@@ -322,7 +323,8 @@ impl<A: Allocator> Interest<A> {
         Ok(id)
     }
 
-    /// The key that the next addition gets, under which nothing stands now. The cost doesn't grow with the registrations.
+    /// The key that the next addition gets, under which nothing stands now. The cost doesn't grow with the
+    /// registrations.
     pub fn next_key(&self) -> EntryId
         ensures next { result.0 ≡ self.now.next }
         ensures vacant { number_under self.now result ≡ None }
@@ -330,8 +332,8 @@ impl<A: Allocator> Interest<A> {
         EntryId(self.slots.vacant_key())
     }
 
-    /// The key of the registration with this instance, descriptor number and description, by a look-up of its hash; `None`
-    /// where there is none. The cost doesn't grow with the registrations.
+    /// The key of the registration with this instance, descriptor number and description, by a look-up of its hash;
+    /// `None` where there is none. The cost doesn't grow with the registrations.
     pub fn find(&self, instance: DescId, fd: Fd, desc: DescId) -> Option<EntryId>
         ensures exact { result ≡ option_map
             (λ x. id_of self.now x.number)
@@ -361,8 +363,8 @@ impl<A: Allocator> Interest<A> {
         self.slots.get(id.0)
     }
 
-    /// Whether IN that reaches the description of the registration under a key goes on to its instance: it is armed and asks for
-    /// IN. `false` where there is none. The cost doesn't grow with the registrations.
+    /// Whether IN that reaches the description of the registration under a key goes on to its instance: it is armed
+    /// and asks for IN. `false` where there is none. The cost doesn't grow with the registrations.
     pub fn lets_by(&self, id: EntryId) -> bool
         ensures { result ≡ lets_in (entry_under self.now id) }
     {
@@ -372,8 +374,8 @@ impl<A: Allocator> Interest<A> {
         }
     }
 
-    /// Notes that an event reports the registration under a key, as epoll_wait(2) does: nothing arrived since, and a one-shot
-    /// is disarmed. The cost doesn't grow with the registrations.
+    /// Notes that an event reports the registration under a key, as epoll_wait(2) does: nothing arrived since, and a
+    /// one-shot is disarmed. The cost doesn't grow with the registrations.
     pub fn report(&mut self, id: EntryId, event: u64)
         requires { IsSome (number_under self.old id) }
         ensures entries { self.new.entries
@@ -391,8 +393,8 @@ impl<A: Allocator> Interest<A> {
         };
     }
 
-    /// What MOD of epoll_ctl(2) does with the registration under a key: it gets this mask and this data, is armed again, and
-    /// is fresh. The event of its last report stays. The cost doesn't grow with the registrations.
+    /// What MOD of epoll_ctl(2) does with the registration under a key: it gets this mask and this data, is armed
+    /// again, and is fresh. The event of its last report stays. The cost doesn't grow with the registrations.
     pub fn modify(&mut self, id: EntryId, mask: Mask, tag: u64)
         requires { IsSome (number_under self.old id) }
         ensures entries { self.new.entries
@@ -411,9 +413,9 @@ impl<A: Allocator> Interest<A> {
         };
     }
 
-    /// Notes that an event raised these bits at a description. Each registration on it whose mask asks for one of them, ERR
-    /// and HUP unasked, is fresh; one that is armed passes them on in this event. Only those on it are visited; the cost of finding
-    /// the first grows as the logarithm of the number of registrations.
+    /// Notes that an event raised these bits at a description. Each registration on it whose mask asks for one of
+    /// them, ERR and HUP unasked, is fresh; one that is armed passes them on in this event. Only those on it are
+    /// visited; the cost of finding the first grows as the logarithm of the number of registrations.
     pub fn raise(&mut self, desc: DescId, bits: Mask, event: u64)
         ensures entries { self.new.entries ≡ map (raised_on desc bits event) self.old.entries }
         ensures keys { self.new.keys ≡ self.old.keys }
@@ -432,8 +434,8 @@ impl<A: Allocator> Interest<A> {
         );
     }
 
-    /// The same of what reached a description from below, where nothing is left to pass on: each registration on it whose mask
-    /// asks for one of these bits is fresh. Only those on it are visited, as by `raise`.
+    /// The same of what reached a description from below, where nothing is left to pass on: each registration on it
+    /// whose mask asks for one of these bits is fresh. Only those on it are visited, as by `raise`.
     pub fn freshen(&mut self, desc: DescId, bits: Mask)
         ensures entries { self.new.entries ≡ map (freshened_on desc bits) self.old.entries }
         ensures keys { self.new.keys ≡ self.old.keys }
@@ -445,7 +447,8 @@ impl<A: Allocator> Interest<A> {
         freshen_each(&mut self.slots, watchers, desc, bits);
     }
 
-    /// Ends an event: no registration passes anything on. Only those are visited that passed something on since the last call.
+    /// Ends an event: no registration passes anything on. Only those are visited that passed something on since the
+    /// last call.
     pub fn settle(&mut self)
         ensures entries { self.new.entries ≡ map settled self.old.entries }
         ensures keys { self.new.keys ≡ self.old.keys }
@@ -465,8 +468,8 @@ impl<A: Allocator> Interest<A> {
         &self.passes.keys
     }
 
-    /// Takes away the registration under a key, as DEL of epoll_ctl(2) does. The key may be given out again, the number is not.
-    /// The cost grows as the logarithm of the number of registrations.
+    /// Takes away the registration under a key, as DEL of epoll_ctl(2) does. The key may be given out again, the
+    /// number is not. The cost grows as the logarithm of the number of registrations.
     pub fn remove(&mut self, id: EntryId)
         requires { IsSome (number_under self.old id) }
         ensures entries { self.new.entries
@@ -486,8 +489,8 @@ impl<A: Allocator> Interest<A> {
     }
 
     /// Takes away every registration in the set of a description and every one on it, as where the description dies.
-    /// Only these are visited, and each costs what `remove` does. The cost is constant where no registration was in its set
-    /// or on it since it was last purged.
+    /// Only these are visited, and each costs what `remove` does. The cost is constant where no registration was in
+    /// its set or on it since it was last purged.
     pub fn purge(&mut self, desc: DescId)
         ensures entries { self.new.entries ≡ filter (is_apart_from desc) self.old.entries }
         ensures keys { (id : EntryId)
@@ -534,8 +537,9 @@ impl<A: Allocator> Interest<A> {
         }
     }
 
-    /// Does nothing. Its clause says what holds of every value: numbers rise and none is above the number of additions, keys and
-    /// registrations go one to one, and no two registrations share instance, descriptor number and description.
+    /// Does nothing. Its clause says what holds of every value: numbers rise and none is above the number of
+    /// additions, keys and registrations go one to one, and no two registrations share instance, descriptor number
+    /// and description.
     pub fn known(&self)
         ensures { IsSound self.now }
     {

@@ -100,8 +100,8 @@ impl<A: Allocator> Passes<A> {
         }
     }
 
-    /// Notes whether the registration under a key passes something on, which it did or didn't before. Takes no memory, and
-    /// constant time.
+    /// Notes whether the registration under a key passes something on, which it did or didn't before. Takes no
+    /// memory, and constant time.
     pub(crate) fn follow(&mut self, id: EntryId, before: bool, after: bool)
         requires once { IsDistinct nat_eq (key_numbers self.old.keys.items) }
         requires noted { has_id self.old.keys.items id.0 ≡ before }

@@ -7,8 +7,8 @@ use indexmap::IndexSet;
 use std::alloc::{AllocError, Allocator, Global};
 use std::hash::{BuildHasherDefault, FoldHasher};
 
-/// The numbers of the descriptions that may be the instance or the target of a registration. One whose last registration was
-/// removed stays until it is forgotten, so that a removal needn't ask what else touches it.
+/// The numbers of the descriptions that may be the instance or the target of a registration. One whose last
+/// registration was removed stays until it is forgotten, so that a removal needn't ask what else touches it.
 #[derive(Drop)]
 pub(crate) struct Touched<A: Allocator = Global> {
     pub(crate) numbers: IndexSet<usize, BuildHasherDefault<FoldHasher>, A>,

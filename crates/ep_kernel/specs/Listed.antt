@@ -48,7 +48,8 @@ pub record IsListed (p : Parts) (l : Lists) : Type 0 where
 abbrev pub order_at : Registrations → Lists → ℕ → List ℕ
 order_at r l i = map (λ k. unwrap_or (number_under r (entry_id k)) 0) (list_at l i)
 
--- at a state of the machine: whoever stands before a reportable one was not reported since that one came to be reportable
+-- at a state of the machine: whoever stands before a reportable one was not reported since that one came to be
+-- reportable
 abbrev pub AreFair : State → Parts → Lists → Type 0
 AreFair s p l = (i : ℕ) → IsFairOrder (turns_of s (number_at p.tables.keys (record { 0 = i }))) (order_at p.interest l i)
 

@@ -35,8 +35,8 @@ abbrev pub attended : Option DescId → List ℕ
 attended None = []
 attended (Some desc) = desc.0 ∷ []
 
--- a ready instance at which somebody waits, and none is marked once the due ones are, is among the reached ones, or it is the
--- attended one
+-- a ready instance at which somebody waits, and none is marked once the due ones are, is among the reached ones, or
+-- it is the attended one
 abbrev pub AreLookedAt : Parts → Lists → Option DescId → Type 0
 AreLookedAt p l attend = (e : ℕ) → waits_at p.parked e ≡ true
     → is_marked_at (map (marked_if_due p.clock) p.parked) e ≡ false

@@ -53,26 +53,28 @@ pub record MayBeListed (s : State) (e k : ℕ) : Type 0 where
   pub armed : x.armed ≡ true
   pub fresh : has_bit x.mask ET ≡ true → is_fresh s x ≡ true
 
--- the event is a wait at instance e for so many reports at most, or a resumption of a caller that is parked in such a wait
+-- the event is a wait at instance e for so many reports at most, or a resumption of a caller that is parked in such a
+-- wait
 abbrev pub WaitsAt : State → ℕ → Event → ℕ → ℕ → Type 0
 WaitsAt s caller (CallOf p (EpollWait epfd max timeout)) e most = (named_by s.files p.0 epfd.0 ≡ e) × (number_in max ≡ most)
 WaitsAt s caller Resume e most = (w : Waiter) × (waiter_of s caller ≡ Some w) × (w.instance ≡ e) × (w.most ≡ most)
 WaitsAt s caller event e most = ⊥
 
--- a wait at instance e that is answered with reports reports the first reportable registrations of its list, in its order
+-- a wait at instance e that is answered with reports reports the first reportable registrations of its list, in its
+-- order
 abbrev pub ReportsFirst : State → ℕ → Event → Answer → List ℕ → (ℕ → List ℕ) → Type 0
 ReportsFirst s caller event answer picked list = (e most : ℕ) (reports : List Report) → answer ≡ Events reports
     → WaitsAt s caller event e most → picked ≡ take most (filter (is_reportable_in s e) (list e))
 
--- where a wait at instance e is answered with fewer reports than it asked for, what is left on the list of e is reportable, if e
--- lives on
+-- where a wait at instance e is answered with fewer reports than it asked for, what is left on the list of e is
+-- reportable, if e lives on
 abbrev pub LeavesReportable : State → State → ℕ → Event → Answer → (ℕ → List ℕ) → Type 0
 LeavesReportable s t caller event answer list = (e most : ℕ) (reports : List Report) → answer ≡ Events reports
     → WaitsAt s caller event e most → length reports < most → is_live t.files e ≡ true
     → (k : ℕ) → is_among (list e) k ≡ true → is_reportable_in t e k ≡ true
 
--- what an event that is not refused adds to the list of instance e: a registration k through which something of the event's spread
--- passes on, or one that an ADD or MOD altered and left reportable. A refused event adds nothing.
+-- what an event that is not refused adds to the list of instance e: a registration k through which something of the
+-- event's spread passes on, or one that an ADD or MOD altered and left reportable. A refused event adds nothing.
 pub record IsAdded (limits : Limits) (caller : ℕ) (event : Event) (picked : List ℕ) (s t : State) (e k : ℕ) : Type 0 where
   pub may : MayBeListed t e k
   pub accepted : first (refusals limits (next_event s) caller event) ≡ None

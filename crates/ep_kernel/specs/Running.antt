@@ -21,8 +21,8 @@ use Rattle.ep_machine.specs.Marks.{marked_by}
 use Rattle.ep_ready.specs.ReadyLists.{Lists}
 use Rattle.ep_table.specs.Value.{Sound as SoundTables}
 
--- the history leads to a state for which the parts stand, each reportable registration stands on its list, and the lists are in a
--- fair order
+-- the history leads to a state for which the parts stand, each reportable registration stands on its list, and the
+-- lists are in a fair order
 pub record Runs (past : List Record) (p : Parts) (l : Lists) : Type 0 where
   pub keeps : Keeps past p
   pub listed : IsListed p l
@@ -39,8 +39,9 @@ pub record IsRunning (k : Inside) : Type 0 where
   pub runs : Runs k.history.items k.parts k.lists
   pub set : AreSet k.parts.tables k.parts.clock k.alarms
 
--- what follows the change of event n up to its marks: what it raised is noted, the dead go with their places, what passes something
--- on comes to the end of its list, and what was raised climbs; the lists have the instances that IN reached as reached
+-- what follows the change of event n up to its marks: what it raised is noted, the dead go with their places, what
+-- passes something on comes to the end of its list, and what was raised climbs; the lists have the instances that IN
+-- reached as reached
 pub record Settled (n : ℕ) (raising : Raising) (mid : Parts) (l : Lists) (climbed : Parts) (m : Lists) : Type 0 where
   pub noted : Parts
   pub buried : Parts

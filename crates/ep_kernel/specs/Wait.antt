@@ -28,15 +28,15 @@ abbrev pub DoesEventFairly : Lists → ℕ → ℕ → Event → Outcome → Par
 DoesEventFairly l n caller event outcome old new =
     DoesEventIf (λ s. AreFair s old l) n caller event outcome old new
 
--- a wait in event n that reports fewer than it asked for leaves on the list of its instance what stays after its report, and nothing
--- else
+-- a wait in event n that reports fewer than it asked for leaves on the list of its instance what stays after its
+-- report, and nothing else
 abbrev pub LeavesStaying : State → ℕ → ℕ → Event → Outcome → Seen → Registrations → Lists → Type 0
 LeavesStaying s n caller event outcome tables r l = (e most : ℕ) (reports : List Report) → outcome.answer ≡ Events reports
     → WaitsAt s caller event e most → length outcome.picked < most
     → (i : DescId) → number_under tables i ≡ Some e → (k : ℕ) → is_among (list_at l i.0) k ≡ true → key_stays n r k ≡ true
 
--- event n, from every state of the machine for which the old parts stand: a wait reports in the order of these lists, and where it
--- finds few, what it leaves on its list stays after its report
+-- event n, from every state of the machine for which the old parts stand: a wait reports in the order of these lists,
+-- and where it finds few, what it leaves on its list stays after its report
 abbrev pub ReportsInOrder : Lists → ℕ → ℕ → Event → Outcome → Parts → Parts → Lists → Type 0
 ReportsInOrder l n caller event outcome old new m =
     MovesBy n old (λ s. ReportsFirst s caller event outcome.answer outcome.picked (list_of (lists_of old l))

@@ -24,8 +24,11 @@ use std::alloc::AllocError;
 /// The number of an event, who makes it, and whether a second record of it is asked for.
 #[derive(Clone, Copy)]
 pub struct Request {
+    /// The number of the event.
     pub step: u64,
+    /// Who makes it.
     pub caller: CallerId,
+    /// Whether a second record of it is asked for.
     pub kept: bool,
 }
 

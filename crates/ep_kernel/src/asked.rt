@@ -27,8 +27,8 @@ impl Asked {
         }
     }
 
-    /// Makes room for the answer of an instance, in constant time where there is room. An `Err` is want of memory. The answers
-    /// stay.
+    /// Makes room for the answer of an instance, in constant time where there is room. An `Err` is want of memory.
+    /// The answers stay.
     pub fn make_room(&mut self, instance: DescId) -> Result<(), AllocError>
         ensures ready { self.new.ready.reached ≡ self.old.ready.reached }
         ensures idle { self.new.idle.reached ≡ self.old.idle.reached }

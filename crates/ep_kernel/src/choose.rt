@@ -16,7 +16,9 @@ use std::alloc::AllocError;
 /// What a wait finds on a ready list: what it reports, and how many places it looked at.
 #[derive(Drop)]
 pub struct Found {
+    /// What the wait reports, in the order of the list.
     pub reportables: Vec<Reportable>,
+    /// How many places of the list it looked at.
     pub walked: usize,
 }
 
@@ -49,10 +51,10 @@ fn reportable_at(
     })
 }
 
-/// The first reportable registrations on the list of an instance, at most so many.
-/// An `Err` is want of memory. Only the places up to the last of them are looked at, and where one watches an instance, the
-/// places on the lists of the instances below up to the first that is reportable. Each of these instances is asked once, under
-/// however many numbers it is watched, since its answer is noted.
+/// The first reportable registrations on the list of an instance, at most so many. An `Err` is want of memory. Only
+/// the places up to the last of them are looked at, and where one watches an instance, the places on the lists of the
+/// instances below up to the first that is reportable. Each of these instances is asked once, under however many
+/// numbers it is watched, since its answer is noted.
 pub fn choose(
     parts: &Parts,
     lists: &ReadyLists,

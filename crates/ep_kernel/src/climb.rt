@@ -58,9 +58,9 @@ fn freshen(parts: &mut Parts, lists: &ReadyLists)
     freshen_reached(&parts.tables, &mut parts.interest, lists);
 }
 
-/// Puts each registration at the end of its list, if it does not stand there, that passes something of an event on, and makes
-/// what watches an instance that IN reaches fresh. The lists have those instances as reached afterwards. The time grows with what
-/// passes something on, and with the registrations on what is reached.
+/// Puts each registration at the end of its list, if it does not stand there, that passes something of an event on,
+/// and makes what watches an instance that IN reaches fresh. The lists have those instances as reached afterwards.
+/// The time grows with what passes something on, and with the registrations on what is reached.
 pub fn climb(parts: &mut Parts, lists: &mut ReadyLists, step: u64)
     requires step { 0 < step }
     requires places { HavePlaces parts.old.interest lists.old }

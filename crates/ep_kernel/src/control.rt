@@ -21,8 +21,8 @@ use ep_interest::Interest;
 use ep_ready::ReadyLists;
 use std::alloc::AllocError;
 
-/// Takes a place away whose registration is gone. One that is left comes to the end of its list, if it does not stand there, where
-/// IN was raised at its instance.
+/// Takes a place away whose registration is gone. One that is left comes to the end of its list, if it does not stand
+/// there, where IN was raised at its instance.
 fn settle(interest: &Interest, lists: &mut ReadyLists, id: EntryId, raising: Raising)
     requires { IsSome (instance_at lists.old id) }
     ensures { Settles id (entry_under interest.now id) raising lists.old lists.new }
@@ -37,8 +37,8 @@ fn settle(interest: &Interest, lists: &mut ReadyLists, id: EntryId, raising: Rai
     }
 }
 
-/// Whether the instance that an ADD or a MOD is about is ready; `false` for what is no instance. DEL asks nothing. Only what stands
-/// on the lists of the instance and of those below is looked at, each place at most once.
+/// Whether the instance that an ADD or a MOD is about is ready; `false` for what is no instance. DEL asks nothing.
+/// Only what stands on the lists of the instance and of those below is looked at, each place at most once.
 fn is_below_ready(
     parts: &Parts,
     lists: &ReadyLists,
@@ -93,8 +93,8 @@ fn alter(
     Ok(outcome)
 }
 
-/// Adds a registration that is not there, with its place, and makes room for what its instance answers. An `Err` is want of memory
-/// and leaves the parts and the lists.
+/// Adds a registration that is not there, with its place, and makes room for what its instance answers. An `Err` is
+/// want of memory and leaves the parts and the lists.
 fn add(
     parts: &mut Parts,
     lists: &mut ReadyLists,
@@ -166,10 +166,10 @@ fn enter(
     }
 }
 
-/// epoll_ctl(2), as `Parts::epoll_ctl`, with the ready lists: a registration that is added gets a place, and one that is deleted
-/// loses it; what is added or modified and reportable comes to the end of its list. Of the instances below its target only what
-/// stands on their lists is looked at.
-/// A refusal leaves the parts and the lists, and so does an `Err`, which is want of memory and comes only of ADD.
+/// epoll_ctl(2), as `Parts::epoll_ctl`, with the ready lists: a registration that is added gets a place, and one that
+/// is deleted loses it; what is added or modified and reportable comes to the end of its list. Of the instances below
+/// its target only what stands on their lists is looked at. A refusal leaves the parts and the lists, and so does an
+/// `Err`, which is want of memory and comes only of ADD.
 pub fn epoll_ctl(
     parts: &mut Parts,
     lists: &mut ReadyLists,

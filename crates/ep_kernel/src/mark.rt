@@ -25,8 +25,8 @@ pub fn resumed_at(parts: &Parts, caller: CallerId, event: &Event) -> Option<Desc
     }
 }
 
-/// The instance that an event attends beside those that it reaches: the one at which a caller waited that it resumed, or the one
-/// at which it raised IN. `None` where it did neither.
+/// The instance that an event attends beside those that it reaches: the one at which a caller waited that it resumed,
+/// or the one at which it raised IN. `None` where it did neither.
 pub fn attend(resumed: Option<DescId>, raising: Raising) -> Option<DescId>
     ensures { result ≡ attends resumed raising }
 {
@@ -47,8 +47,8 @@ fn mark_due(parts: &mut Parts)
     parts.waiters.mark_due(parts.clock);
 }
 
-/// Marks the caller that waits longest at an instance, where that is ready and none is marked there. Nothing is looked at where
-/// nobody waits or one is marked.
+/// Marks the caller that waits longest at an instance, where that is ready and none is marked there. Nothing is
+/// looked at where nobody waits or one is marked.
 fn mark_at(parts: &mut Parts, lists: &ReadyLists, asked: &mut Asked, instance: DescId)
     requires listed { IsListed parts.old lists.now }
     requires told { AreTrue parts.old asked.old }
@@ -71,7 +71,8 @@ fn mark_at(parts: &mut Parts, lists: &ReadyLists, asked: &mut Asked, instance: D
     }
 }
 
-/// Marks the caller that waits longest at each instance that the event reached, where that is ready and none is marked there.
+/// Marks the caller that waits longest at each instance that the event reached, where that is ready and none is
+/// marked there.
 fn mark_reached(parts: &mut Parts, lists: &ReadyLists, asked: &mut Asked)
     requires listed { IsListed parts.old lists.now }
     requires told { AreTrue parts.old asked.old }
@@ -104,9 +105,10 @@ fn mark_attended(parts: &mut Parts, lists: &ReadyLists, asked: &mut Asked, atten
     }
 }
 
-/// Sets marks at the end of an event: whoever is due, and of those that wait at a ready instance the longest waiting one, where
-/// none is marked there. `attend` is the instance at which an epoll_ctl raised IN, or at which a caller that was resumed waited.
-/// Only the instances that the event reached and that one are looked at, and each instance below them is asked once.
+/// Sets marks at the end of an event: whoever is due, and of those that wait at a ready instance the longest waiting
+/// one, where none is marked there. `attend` is the instance at which an epoll_ctl raised IN, or at which a caller
+/// that was resumed waited. Only the instances that the event reached and that one are looked at, and each instance
+/// below them is asked once.
 pub fn mark(parts: &mut Parts, lists: &ReadyLists, asked: &mut Asked, attend: Option<DescId>)
     requires listed { IsListed parts.old lists.now }
     requires reached { AreLookedAt parts.old lists.now attend }

@@ -102,8 +102,8 @@ fn push_nested(parts: &Parts, lists: &mut ReadyLists)
     }
 }
 
-/// Puts each registration at the end of its list, if it does not stand there, that passes something of an event on, where
-/// the walk has reached what the event reaches. A list that it stands on already stays.
+/// Puts each registration at the end of its list, if it does not stand there, that passes something of an event on,
+/// where the walk has reached what the event reaches. A list that it stands on already stays.
 pub fn push(parts: &Parts, lists: &mut ReadyLists)
     requires places { HavePlaces parts.now.interest lists.old }
     requires live { AreLive parts.now.tables lists.old.reached }

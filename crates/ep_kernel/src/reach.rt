@@ -68,8 +68,8 @@ fn ascend_from(
     }
 }
 
-/// Reaches the instance of each registration that passes something on which this event raised at its target, and those above it
-/// to which IN goes on from there.
+/// Reaches the instance of each registration that passes something on which this event raised at its target, and
+/// those above it to which IN goes on from there.
 fn walk(interest: &Interest, graph: &mut Graph, lists: &mut ReadyLists, step: u64)
     requires step { 0 < step }
     requires none { lists.old.reached ≡ [] }
@@ -83,8 +83,9 @@ fn walk(interest: &Interest, graph: &mut Graph, lists: &mut ReadyLists, step: u6
     }
 }
 
-/// Reaches exactly the instances that IN reaches from below in an event; what was reached before is forgotten. It visits the
-/// registrations that pass something on which the event raised at their targets, and the links to what it reaches.
+/// Reaches exactly the instances that IN reaches from below in an event; what was reached before is forgotten. It
+/// visits the registrations that pass something on which the event raised at their targets, and the links to what it
+/// reaches.
 pub fn reach(parts: &mut Parts, lists: &mut ReadyLists, step: u64)
     requires step { 0 < step }
     requires places { HavePlaces parts.old.interest lists.old }

@@ -1,5 +1,5 @@
-//! What registrations show, looking down along the ready lists of the instances below. Each of these is asked once, and then its
-//! answer is known.
+//! What registrations show, looking down along the ready lists of the instances below. Each of these is asked once,
+//! and then its answer is known.
 ghost use Rattle.std.specs.Prelude.{◌≡◌, IfSome, IsSome};
 ghost use Rattle.ep_calls.specs.Parking.{ready_key};
 ghost use Rattle.ep_calls.specs.Readiness.{entry_bits, readiness as readiness_of};
@@ -28,7 +28,8 @@ fn watched_instance(parts: &Parts, id: EntryId) -> Option<DescId>
     Some(entry.desc)
 }
 
-/// Whether the registration under a key is reportable, where `below` says whether the instance that it watches is ready.
+/// Whether the registration under a key is reportable, where `below` says whether the instance that it watches is
+/// ready.
 fn shows_over(parts: &Parts, id: EntryId, below: bool) -> bool
     ensures { result ≡ found_shows (λ d. below) parts.now (entry_under parts.now.interest id) }
 {
@@ -39,9 +40,9 @@ fn shows_over(parts: &Parts, id: EntryId, below: bool) -> bool
     is_reportable(entry, shown_at(&parts.tables, parts.clock, entry, below))
 }
 
-/// Whether something is reportable at an instance from which fewer than so many links lead down in turn, and its answer is noted.
-/// The time grows with what stands on the lists of it and of those below whose answers are not known, on each up to the first that
-/// is reportable.
+/// Whether something is reportable at an instance from which fewer than so many links lead down in turn, and its
+/// answer is noted. The time grows with what stands on the lists of it and of those below whose answers are not
+/// known, on each up to the first that is reportable.
 fn is_ready_within(
     parts: &Parts,
     lists: &ReadyLists,
@@ -77,8 +78,8 @@ fn is_ready_within(
     false
 }
 
-/// Whether something is reportable at an instance, and its answer is noted. Only what stands on its list and on those of the
-/// instances below is looked at, each place at most once, and nothing where its answer is known.
+/// Whether something is reportable at an instance, and its answer is noted. Only what stands on its list and on those
+/// of the instances below is looked at, each place at most once, and nothing where its answer is known.
 pub fn is_ready(parts: &Parts, lists: &ReadyLists, asked: &mut Asked, instance: DescId) -> bool
     requires live { IsSome (number_under parts.now.tables instance) }
     requires listed { IsListed parts.now lists.now }
@@ -90,8 +91,8 @@ pub fn is_ready(parts: &Parts, lists: &ReadyLists, asked: &mut Asked, instance: 
     is_ready_within(parts, lists, asked, instance, LONGEST_CHAIN)
 }
 
-/// The bits that a registration shows. Of the instances below only what stands on their lists is looked at, and of those whose
-/// answers are known nothing.
+/// The bits that a registration shows. Of the instances below only what stands on their lists is looked at, and of
+/// those whose answers are known nothing.
 pub fn shown(parts: &Parts, lists: &ReadyLists, asked: &mut Asked, entry: &Entry) -> Mask
     requires target { IsSome (number_under parts.now.tables entry.now.desc) }
     requires listed { IsListed parts.now lists.now }

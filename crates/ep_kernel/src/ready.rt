@@ -65,9 +65,10 @@ impl ReadyKernel {
         })
     }
 
-    /// Does nothing. What holds of the ready lists between two events; a fact for proofs: each reportable registration is
-    /// on the list of its instance, what is on one is armed, and fresh where it is edge-triggered, and none is on one twice.
-    /// The instance and the target of each registration live, and each waiter waits at an instance.
+    /// Does nothing. What holds of the ready lists between two events; a fact for proofs: each reportable
+    /// registration is on the list of its instance, what is on one is armed, and fresh where it is edge-triggered,
+    /// and none is on one twice. The instance and the target of each registration live, and each waiter waits at an
+    /// instance.
     pub fn known(&self)
         ensures complete { (e k : ℕ) → is_reportable_in (state_of self.now) e k ≡ true
             → is_among (listed self.now e) k ≡ true }
@@ -194,9 +195,9 @@ impl Kernel for ReadyKernel {
     ghost capacity = { λ kernel. kernel.book.capacity };
 
     /// One event, as the trait has it. A wait reports the first reportable registrations of the ready list of its
-    /// instance, in its order; where it reports fewer than it asked for, what it leaves there is reportable. What comes to a
-    /// list comes by an event that was not refused: its spread reached it, or it is an ADD or MOD that left it reportable.
-    /// So a refusal adds nothing to a list, and ENOMEM leaves the lists.
+    /// instance, in its order; where it reports fewer than it asked for, what it leaves there is reportable. What
+    /// comes to a list comes by an event that was not refused: its spread reached it, or it is an ADD or MOD that
+    /// left it reportable. So a refusal adds nothing to a list, and ENOMEM leaves the lists.
     fn step(&mut self, caller: CallerId, event: Event) -> Answer
         ensures limits { self.new.book.limits ≡ self.old.book.limits }
         ensures capacity { self.old.book.capacity ≤ self.new.book.capacity }
@@ -212,8 +213,8 @@ impl Kernel for ReadyKernel {
         }
     }
 
-    /// A step whose record is put at the end of a list of the caller's too, as the trait has it, with the ready lists as
-    /// in `step`.
+    /// A step whose record is put at the end of a list of the caller's too, as the trait has it, with the ready lists
+    /// as in `step`.
     fn step_kept(&mut self, caller: CallerId, event: Event, kept: &mut Vec<Record>) -> Answer
         ensures limits { self.new.book.limits ≡ self.old.book.limits }
         ensures capacity { self.old.book.capacity ≤ self.new.book.capacity }

@@ -26,9 +26,9 @@ pub fn know(parts: &Parts)
     parts.interest.known();
 }
 
-/// Notes what an event raised, takes the dead away with their places and moments, puts what passes something on at the end of its
-/// list, and lets what was raised climb. The lists have the instances that IN reached as reached afterwards. Marks are still to be
-/// set.
+/// Notes what an event raised, takes the dead away with their places and moments, puts what passes something on at
+/// the end of its list, and lets what was raised climb. The lists have the instances that IN reached as reached
+/// afterwards. Marks are still to be set.
 pub fn settle(
     parts: &mut Parts,
     lists: &mut ReadyLists,

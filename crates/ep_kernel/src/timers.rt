@@ -13,8 +13,8 @@ use ep_calls::{Outcome, Parts, Raising};
 use ep_table::Tables;
 use std::alloc::AllocError;
 
-/// Makes room for the timer that an event may create, and for nothing else. `AllocError` where there is no memory; no moment
-/// changes.
+/// Makes room for the timer that an event may create, and for nothing else. `AllocError` where there is no memory; no
+/// moment changes.
 pub fn make_room(alarms: &mut Alarms, event: &Event) -> Result<(), AllocError>
     ensures room { OnOk result (MayCreate event.now → HasRoom alarms.new) }
     ensures kept { SameMoments alarms.old alarms.new }
@@ -82,8 +82,8 @@ pub fn follow(parts: &Parts, alarms: &mut Alarms, event: &Event, outcome: &Outco
     }
 }
 
-/// Notes in registrations what an event raised. Of timers those alone are looked at whose moment has come, and they get their next
-/// one.
+/// Notes in registrations what an event raised. Of timers those alone are looked at whose moment has come, and they
+/// get their next one.
 pub fn raise(parts: &mut Parts, alarms: &mut Alarms, step: u64, raising: Raising)
     requires raises { IsRaising raising parts.old.tables }
     requires set { AreSetSince raising parts.old.tables parts.old.clock alarms.old }

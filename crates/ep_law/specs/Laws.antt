@@ -155,8 +155,8 @@ pub record Kept (u : State) (x : Watch) : Type 0 where
 abbrev pub passes_on_of : Change → Watch → Bool
 passes_on_of c x = let left = buried c.1 c.2 in passes_on left.0 (raised_alive left.0 left.1) x
 
--- why y is reportable at the end of an event that began at state b: what the change left of it was reportable, or passes on
--- something; where it was there before, the same of how it was then
+-- why y is reportable at the end of an event that began at state b: what the change left of it was reportable, or
+-- passes on something; where it was there before, the same of how it was then
 pub record HasCause (b : State) (c : Change) (y : Watch) : Type 0 where
   pub x : Watch
   pub left : Member x (buried c.1 c.2).0.watches

@@ -11,9 +11,9 @@ use std::alloc::{AllocError, Allocator};
 use std::collections::BTreeMap;
 use std::marker::Model;
 
-/// For each instance its links along one way, by ticket, so in the order in which they were made. Contracts see the tickets and the
-/// links of each instance, by its key. With n links of the instance, `take` and `add` take time that grows as log n, but where a table
-/// grows. Memory comes from `A`.
+/// For each instance its links along one way, by ticket, so in the order in which they were made. Contracts see the
+/// tickets and the links of each instance, by its key. With n links of the instance, `take` and `add` take time that
+/// grows as log n, but where a table grows. Memory comes from `A`.
 #[derive(Drop)]
 pub struct Adjacent<A: Allocator> {
     maps: Vec<BTreeMap<u64, Link, A>, A>,
@@ -55,8 +55,8 @@ impl<A: Allocator> Adjacent<A> {
         }
     }
 
-    /// Gives an instance one link more, under a ticket above those that it has. `AllocError` where there is no memory, and then each
-    /// instance has the links that it had.
+    /// Gives an instance one link more, under a ticket above those that it has. `AllocError` where there is no
+    /// memory, and then each instance has the links that it had.
     pub fn add(&mut self, instance: DescId, ticket: u64, link: Link) -> Result<(), AllocError>
     where
         A: Copy,

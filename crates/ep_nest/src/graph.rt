@@ -23,10 +23,10 @@ use std::alloc::{AllocError, Allocator, Global};
 use std::collections::btree_map::Values;
 use std::marker::Model;
 
-/// Which instances watch which, by which registrations, as epoll(7) lets instances be nested.
-/// Contracts see the links in the order in which they were made.
-/// The graph is legal at any time, and no two links are of one registration. No call but `links` looks at a link that it needn't: with n
-/// links, those that change the graph take time that grows as log n for each link that they add or take away. Memory comes from `A`.
+/// Which instances watch which, by which registrations, as epoll(7) lets instances be nested. Contracts see the links
+/// in the order in which they were made. The graph is legal at any time, and no two links are of one registration. No
+/// call but `links` looks at a link that it needn't: with n links, those that change the graph take time that grows
+/// as log n for each link that they add or take away. Memory comes from `A`.
 #[derive(Drop)]
 pub struct Graph<A: Allocator = Global> {
     links: Links<A>,
@@ -110,10 +110,10 @@ impl<A: Allocator> Graph<A> {
         self.links.has(entry)
     }
 
-    /// Whether an instance may begin to watch another, as epoll_ctl(2) has it: `Eloop` exactly where
-    /// the graph would have a loop, an instance that watches itself included, or a chain of more than
-    /// five instances, both ends counted, above and below taken together.
-    /// It takes no memory, changes nothing, and looks at the links above the one and below the other, at each four times at most.
+    /// Whether an instance may begin to watch another, as epoll_ctl(2) has it: `Eloop` exactly where the graph would
+    /// have a loop, an instance that watches itself included, or a chain of more than five instances, both ends
+    /// counted, above and below taken together. It takes no memory, changes nothing, and looks at the links above the
+    /// one and below the other, at each four times at most.
     pub fn may_add(&mut self, outer: DescId, inner: DescId) -> Result<(), Errno>
         ensures stays { self.new ≡ self.old }
         ensures machine { IsOk result ↔ (is_legal ((outer.0, inner.0) ∷ edges self.old) ≡ true) }
@@ -129,8 +129,8 @@ impl<A: Allocator> Graph<A> {
         Ok(())
     }
 
-    /// Adds the link of an entry that has none, between instances that `may_add` allows.
-    /// It takes all room that `above` needs, and is the only growth. `AllocError` where memory was refused, or after 2^64 - 1 links, and
+    /// Adds the link of an entry that has none, between instances that `may_add` allows. It takes all room that
+    /// `above` needs, and is the only growth. `AllocError` where memory was refused, or after 2^64 - 1 links, and
     /// then the graph is as it was. Its cost grows as the logarithm of the number of links, but where a table grows.
     pub fn link(&mut self, outer: DescId, inner: DescId, entry: EntryId) -> Result<(), AllocError>
     where
@@ -159,7 +159,8 @@ impl<A: Allocator> Graph<A> {
         self.links.remove(entry);
     }
 
-    /// Takes the links from or to an instance away, as its death does; the others stay. It takes constant time where there is none.
+    /// Takes the links from or to an instance away, as its death does; the others stay. It takes constant time where
+    /// there is none.
     pub fn purge(&mut self, instance: DescId)
         ensures { self.new ≡ filter (is_apart_from instance.0) self.old }
     {

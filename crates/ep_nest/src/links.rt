@@ -19,8 +19,9 @@ use std::collections::btree_map::Values;
 use std::hash::{BuildHasherDefault, FoldHasher};
 use std::marker::Model;
 
-/// Links of different registrations, in the order in which they were made. Contracts see the list of them. With n links, `push` and
-/// `remove` take time that grows as log n, but where a table grows, and look at no other link. Memory comes from `A`.
+/// Links of different registrations, in the order in which they were made. Contracts see the list of them. With n
+/// links, `push` and `remove` take time that grows as log n, but where a table grows, and look at no other link.
+/// Memory comes from `A`.
 #[derive(Drop)]
 pub struct Links<A: Allocator> {
     // By ticket. Tickets rise with each link, so this is the order in which the links were made.
@@ -120,8 +121,8 @@ impl<A: Allocator> Links<A> {
         self.tickets.contains_key(&entry.0)
     }
 
-    /// Puts the link of a registration that has none behind all others. `AllocError` where there is no memory, or after 2^64 - 1 links,
-    /// and then the links are what they were. No other call takes memory.
+    /// Puts the link of a registration that has none behind all others. `AllocError` where there is no memory, or
+    /// after 2^64 - 1 links, and then the links are what they were. No other call takes memory.
     pub fn push(&mut self, link: Link) -> Result<(), AllocError>
     where
         A: Copy,
@@ -169,7 +170,8 @@ impl<A: Allocator> Links<A> {
         }
     }
 
-    /// Fills a list with the links that start at an instance, in order, where there is room for them. It looks at no other link.
+    /// Fills a list with the links that start at an instance, in order, where there is room for them. It looks at no
+    /// other link.
     pub fn gather<B: Allocator>(&self, way: Way, instance: DescId, gathered: &mut Vec<Link, B>)
         requires { length (starting_at way instance.0 self.now) ≤ vec_capacity gathered.old }
         ensures links { gathered.new.items ≡ starting_at way instance.0 self.now }

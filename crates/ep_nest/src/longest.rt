@@ -53,8 +53,8 @@ fn go_on<A: Allocator>(links: &Links<A>, way: Way, walk: &mut Walk<A>)
     }
 }
 
-/// How many links the longest chain has that starts at an instance. It looks at the links of what it reaches, at those of one instance
-/// once in each level, and there are as many levels as links in a chain.
+/// How many links the longest chain has that starts at an instance. It looks at the links of what it reaches, at
+/// those of one instance once in each level, and there are as many levels as links in a chain.
 pub fn longest<A: Allocator>(links: &Links<A>, way: Way, start: DescId, walk: &mut Walk<A>) -> u8
     requires short { IsShort (edges links.now) }
     requires room { HasRoom links.now walk.old }

@@ -25,8 +25,8 @@ ResumesAt s caller event e = ⊥
 abbrev pub is_reached_by : Change → ℕ → Bool
 is_reached_by c e = let left = buried c.1 c.2 in is_reached left.0 (raised_alive left.0 left.1) e
 
--- an instance that is ready after an event, with waiters and none marked before marks are set, is reached from below, or the event
--- raised IN at it, or resumed a caller that waits there
+-- an instance that is ready after an event, with waiters and none marked before marks are set, is reached from below,
+-- or the event raised IN at it, or resumed a caller that waits there
 abbrev pub UnmarkedAreReached : Type 0
 UnmarkedAreReached = (limits : Limits) (past : List Record) (s : State) (caller : ℕ) (event : Event) (picked : List ℕ) (c : Change) (e : ℕ)
     → run limits opening past ≡ Some s → first (refusals limits (next_event s) caller event) ≡ None

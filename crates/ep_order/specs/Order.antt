@@ -14,7 +14,8 @@ abbrev pub IsFairOrder : Turns → List ℕ → Type 0
 IsFairOrder t [] = Unit {0}
 IsFairOrder t (x ∷ xs) = ((y : ℕ) → Member y xs → t.ready y ≡ true → t.rep x ≤ t.from y) × IsFairOrder t xs
 
--- of one that stays where it stood: it is not reported in event n (or is gone), and came to be reportable in n if it did
+-- of one that stays where it stood: it is not reported in event n (or is gone), and came to be reportable in n if it
+-- did
 pub record Stays (n : ℕ) (s t : Turns) (k : ℕ) : Type 0 where
   pub rep : t.rep k ≤ s.rep k
   pub from : t.ready k ≡ true → ((s.ready k ≡ true) × (t.from k ≡ s.from k)) ⊎ (t.from k ≡ n)

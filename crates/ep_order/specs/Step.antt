@@ -26,8 +26,8 @@ pub record IsNew (b : State) (x : Watch) : Type 0 where
 abbrev pub Source : State → List ℕ → Watch → Type 0
 Source b picked x = WasThere b picked x ⊎ IsNew b x
 
--- of one of state t, at the end of the event: where it comes from, and that it is reportable since before exactly where it was
--- at the beginning, and else since this event
+-- of one of state t, at the end of the event: where it comes from, and that it is reportable since before exactly
+-- where it was at the beginning, and else since this event
 pub record HasTurn (b t : State) (picked : List ℕ) (y : Watch) : Type 0 where
   pub x : Watch
   pub source : Source b picked x

@@ -6,19 +6,20 @@ ghost use Rattle.ep_order.specs.Pick.{FirstArePick};
 ghost use Rattle.ep_order.specs.Reach.{ReachedIsAbove};
 ghost use Rattle.ep_order.specs.Step.{StepAddsOne, StepKeepsTurns};
 
-/// A list stays in a fair order over an event, where what stays keeps its order and what comes, comes behind. Does nothing.
+/// A list stays in a fair order over an event, where what stays keeps its order and what comes, comes behind. Does
+/// nothing.
 pub fn stays_fair()
     ensures law { StaysFair }
 {}
 
-/// A list that has each reportable registration has each after an event, too, where those that come to be reportable come to
-/// it. Does nothing.
+/// A list that has each reportable registration has each after an event, too, where those that come to be reportable
+/// come to it. Does nothing.
 pub fn stays_complete()
     ensures law { StaysComplete }
 {}
 
-/// The first reportable registrations of a list in a fair order were not reported since any other came to be reportable. Does
-/// nothing.
+/// The first reportable registrations of a list in a fair order were not reported since any other came to be
+/// reportable. Does nothing.
 pub fn first_are_fair()
     ensures law { FirstAreFair }
 {}
@@ -43,9 +44,9 @@ pub fn reached_is_above()
     ensures law { ReachedIsAbove }
 {}
 
-/// An instance that is ready after an event and has waiters, none of them marked before marks are set, is one that IN reaches
-/// from below, or the event raised IN at it, or resumed a caller that waits there. So no other instance needs a look when marks
-/// are set. Does nothing.
+/// An instance that is ready after an event and has waiters, none of them marked before marks are set, is one that IN
+/// reaches from below, or the event raised IN at it, or resumed a caller that waits there. So no other instance needs
+/// a look when marks are set. Does nothing.
 pub fn unmarked_are_reached()
     ensures law { UnmarkedAreReached }
 {
@@ -57,16 +58,16 @@ pub fn beginning_keeps_turns()
     ensures law { BeginningKeepsTurns }
 {}
 
-/// A complete list in a fair order is one after each event that is not refused, where it goes on as `Relists` says. Does
-/// nothing.
+/// A complete list in a fair order is one after each event that is not refused, where it goes on as `Relists` says.
+/// Does nothing.
 pub fn lists_go_on()
     ensures law { ListsGoOn }
 {
     ep_object::arrivals_are_raised();
 }
 
-/// Nothing is reportable at an instance that does not live. So an empty list is complete where an event makes the instance.
-/// Does nothing.
+/// Nothing is reportable at an instance that does not live. So an empty list is complete where an event makes the
+/// instance. Does nothing.
 pub fn dead_lists_are_empty()
     ensures law { DeadListsAreEmpty }
 {}

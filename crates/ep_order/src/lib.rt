@@ -1,4 +1,5 @@
-//! Laws of the machine on lists of registrations in the order in which they are reported, for kernels that keep such lists.
+//! Laws of the machine on lists of registrations in the order in which they are reported, for kernels that keep such
+//! lists.
 #![tactic(auto)]
 
 mod law;

@@ -7,9 +7,9 @@ use ep_due::DueMap;
 use std::alloc::{AllocError, Allocator};
 use std::marker::Model;
 
-/// Callers, each with a moment or none. Contracts see what `moment_of` tells of a caller: nothing for who isn't among them, else the
-/// moment or none. With n callers, `first` and `earliest` take constant time, and each other call time that grows as log n. Memory comes
-/// from `A`.
+/// Callers, each with a moment or none. Contracts see what `moment_of` tells of a caller: nothing for who isn't among
+/// them, else the moment or none. With n callers, `first` and `earliest` take constant time, and each other call time
+/// that grows as log n. Memory comes from `A`.
 #[derive(Drop)]
 pub struct Deadlines<A: Allocator> {
     moments: DueMap<A>,
@@ -37,7 +37,8 @@ impl<A: Allocator> Deadlines<A> {
         }
     }
 
-    /// Makes room for one caller more. `AllocError` where there is no memory. This is the one call that takes memory; no moment changes.
+    /// Makes room for one caller more. `AllocError` where there is no memory. This is the one call that takes memory;
+    /// no moment changes.
     pub fn reserve(&mut self) -> Result<(), AllocError>
         ensures room { OnOk result (HasRoom self.new) }
         ensures kept { SameMoments self.old self.new }

@@ -1,7 +1,8 @@
 //! The list of waiters.
 //!
-//! Waiters stand in a queue by caller, in order of parking, and each instance that has waiters has a tally: who waits longest there, and
-//! how many are marked. So what is asked of one caller or of one instance looks at no other waiter.
+//! Waiters stand in a queue by caller, in order of parking, and each instance that has waiters has a tally: who waits
+//! longest there, and how many are marked. So what is asked of one caller or of one instance looks at no other
+//! waiter.
 ghost use Rattle.std.specs.Prelude.{◌≡◌, ◌++◌, ◌∷◌, ◌<◌, ℕ, [], MatchOption, OnErr, OnOk, false, length, map, nat_eq, slice_index_or, true};
 ghost use Rattle.std.specs.List.{IsDistinct, find, list_any};
 ghost use Rattle.std.specs.Option.{option_map};
@@ -20,8 +21,8 @@ use indexmap::IndexMap;
 use std::alloc::{AllocError, Allocator, Global};
 use std::marker::Model;
 
-/// The callers that are parked in epoll_wait(2). Contracts see the list of them in order of parking, each as the machine's waiter with the
-/// key of its instance in the place of the instance's number. Memory comes from `A`.
+/// The callers that are parked in epoll_wait(2). Contracts see the list of them in order of parking, each as the
+/// machine's waiter with the key of its instance in the place of the instance's number. Memory comes from `A`.
 #[derive(Drop)]
 pub struct Park<A: Allocator = Global> {
     queue: Queue<A>,
@@ -63,9 +64,9 @@ impl<A: Allocator> Park<A> {
         }
     }
 
-    /// Parks a caller that isn't parked behind all others. This is the one call that takes memory; an error says that memory was
-    /// refused, or that 2^64 - 1 callers were parked before, and leaves all as it was. The cost grows as the logarithm of the callers that
-    /// are parked, but where a table grows.
+    /// Parks a caller that isn't parked behind all others. This is the one call that takes memory; an error says that
+    /// memory was refused, or that 2^64 - 1 callers were parked before, and leaves all as it was. The cost grows as
+    /// the logarithm of the callers that are parked, but where a table grows.
     pub fn park(&mut self, caller: CallerId, waiter: Waiter) -> Result<(), AllocError>
     where
         A: Clone,
@@ -84,8 +85,8 @@ impl<A: Allocator> Park<A> {
         Ok(())
     }
 
-    /// Takes a caller's waiter out and answers it; the rest stay in order. `None` where the caller isn't parked: nothing changes.
-    /// The cost grows as the logarithm of the callers that are parked.
+    /// Takes a caller's waiter out and answers it; the rest stay in order. `None` where the caller isn't parked:
+    /// nothing changes. The cost grows as the logarithm of the callers that are parked.
     pub fn leave(&mut self, caller: CallerId) -> Option<Waiter>
         ensures left { option_map (parked caller.0) result ≡ find (is_caller caller.0) self.old }
         ensures rest { self.new ≡ without caller.0 self.old }
@@ -99,9 +100,9 @@ impl<A: Allocator> Park<A> {
         Some(waiter)
     }
 
-    /// Marks the caller that waits longest at an instance, where none of that instance is marked, else changes nothing. That the longest
-    /// waiting one goes on is a rule of this kernel's own. The cost grows as the
-    /// logarithm of the callers that are parked.
+    /// Marks the caller that waits longest at an instance, where none of that instance is marked, else changes
+    /// nothing. That the longest waiting one goes on is a rule of this kernel's own. The cost grows as the logarithm
+    /// of the callers that are parked.
     pub fn mark_longest(&mut self, instance: DescId)
         ensures { self.new ≡ longest_marked instance.0 self.old }
     {
@@ -115,8 +116,9 @@ impl<A: Allocator> Park<A> {
         self.set_mark(tally.first, true);
     }
 
-    /// Marks exactly the callers whose deadline, in the clock's unit, is at or below `now`; a mark that is there stays. The cost grows
-    /// with the callers that this marks, each time the logarithm of those that are parked, and not with others.
+    /// Marks exactly the callers whose deadline, in the clock's unit, is at or below `now`; a mark that is there
+    /// stays. The cost grows with the callers that this marks, each time the logarithm of those that are parked, and
+    /// not with others.
     pub fn mark_due(&mut self, now: u64)
         ensures { self.new ≡ map (marked_if_due now) self.old }
     {
@@ -125,8 +127,8 @@ impl<A: Allocator> Park<A> {
         }
     }
 
-    /// Takes a caller's mark away; nothing changes where it isn't parked or not marked. The cost grows as the logarithm of the callers
-    /// that are parked.
+    /// Takes a caller's mark away; nothing changes where it isn't parked or not marked. The cost grows as the
+    /// logarithm of the callers that are parked.
     pub fn unmark(&mut self, caller: CallerId)
         ensures { self.new ≡ map (unmark caller.0) self.old }
     {
@@ -173,7 +175,8 @@ impl<A: Allocator> Park<A> {
         self.queue.len()
     }
 
-    /// The instance that a caller waits at, by its place in the order of parking. The cost grows with the callers that are parked.
+    /// The instance that a caller waits at, by its place in the order of parking. The cost grows with the callers
+    /// that are parked.
     pub fn instance_at(&self, index: usize) -> DescId
         requires { index < length self.now }
         ensures { result.0 ≡ slice_index_or (map (λ w. w.instance) self.now) index 0 }
@@ -181,7 +184,8 @@ impl<A: Allocator> Park<A> {
         self.queue.instance_at(index)
     }
 
-    /// A caller's waiter, or `None` where it isn't parked. The cost grows as the logarithm of the callers that are parked.
+    /// A caller's waiter, or `None` where it isn't parked. The cost grows as the logarithm of the callers that are
+    /// parked.
     pub fn waiter(&self, caller: CallerId) -> Option<Waiter>
         ensures { option_map (parked caller.0) result ≡ find (is_caller caller.0) self.now }
     {
@@ -213,8 +217,8 @@ impl<A: Allocator> Park<A> {
         }
     }
 
-    /// Of the marked callers the one that was parked first, or `None` where none is marked. The cost grows with the callers that are
-    /// parked.
+    /// Of the marked callers the one that was parked first, or `None` where none is marked. The cost grows with the
+    /// callers that are parked.
     pub fn first_marked(&self) -> Option<CallerId>
         ensures { option_map (λ c. c.0) result
             ≡ option_map (λ w. w.caller) (find (λ w. w.marked) self.now) }
@@ -222,8 +226,8 @@ impl<A: Allocator> Park<A> {
         self.queue.first_marked()
     }
 
-    /// The first moment at which the deadline of a caller that isn't marked has come, or `None` where none of them has one. The cost
-    /// doesn't grow with the callers that are parked.
+    /// The first moment at which the deadline of a caller that isn't marked has come, or `None` where none of them
+    /// has one. The cost doesn't grow with the callers that are parked.
     pub fn first_deadline(&self) -> Option<u64>
         ensures { (now : ℕ) → is_due now result ≡ list_any (awaits_mark now) self.now }
     {

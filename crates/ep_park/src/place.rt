@@ -10,7 +10,9 @@ use std::collections::btree_map::Range;
 /// A caller's place among those that wait at one instance: tickets rise in order of parking.
 #[derive(Clone, Copy, PartialEq, Eq, PartialOrd, Ord)]
 pub struct Place {
+    /// The key of the instance.
     pub instance: usize,
+    /// The caller's ticket, by the order of parking.
     pub ticket: u64,
 }
 
@@ -41,7 +43,8 @@ fn places_of<A: Allocator>(
     places.range(first..=end)
 }
 
-/// The caller with the smallest ticket at an instance, of those up to `last`. The cost grows as the logarithm of the places.
+/// The caller with the smallest ticket at an instance, of those up to `last`. The cost grows as the logarithm of the
+/// places.
 pub fn first_place<A: Allocator>(
     places: &Places<A>,
     instance: DescId,

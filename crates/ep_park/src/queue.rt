@@ -19,8 +19,8 @@ use std::collections::BTreeMap;
 use std::hash::{BuildHasherDefault, FoldHasher};
 use std::marker::Model;
 
-/// Callers with their waiters, in order of parking. Contracts see the list of them. With n callers, each call takes time that grows as
-/// log n, unless its comment says otherwise, and but where a table grows. Memory comes from `A`.
+/// Callers with their waiters, in order of parking. Contracts see the list of them. With n callers, each call takes
+/// time that grows as log n, unless its comment says otherwise, and but where a table grows. Memory comes from `A`.
 #[derive(Drop)]
 pub struct Queue<A: Allocator> {
     // By ticket. Tickets rise with each parking, so this is the order of parking.
@@ -61,8 +61,8 @@ impl<A: Allocator> Queue<A> {
         }
     }
 
-    /// Puts a caller that isn't among them behind all others. `AllocError` where there is no memory, or no ticket is left after
-    /// 2^64 - 1 of them, and then nothing has changed. No other call takes memory.
+    /// Puts a caller that isn't among them behind all others. `AllocError` where there is no memory, or no ticket is
+    /// left after 2^64 - 1 of them, and then nothing has changed. No other call takes memory.
     pub fn push(&mut self, caller: CallerId, waiter: Waiter) -> Result<(), AllocError>
     where
         A: Clone,

@@ -12,7 +12,9 @@ use std::hash::{BuildHasherDefault, FoldHasher};
 /// The caller that waits longest, and how many of the instance's callers are marked.
 #[derive(Clone, Copy)]
 pub struct Tally {
+    /// The caller that waits longest.
     pub first: CallerId,
+    /// How many of the callers are marked.
     pub marked: usize,
 }
 

@@ -7,7 +7,8 @@ use Rattle.ep_interest.specs.declared.entry.Entry.{Entry}
 use Rattle.ep_machine.specs.Lists.{are_distinct, is_among}
 use Rattle.ep_plain.specs.Since.{event_at}
 
--- a registration that is reportable: its number, the event of its last report, and the event since which it is reportable
+-- a registration that is reportable: its number, the event of its last report, and the event since which it is
+-- reportable
 pub record Turn : Type 0 where
   pub number : ℕ
   pub rep : ℕ

@@ -24,7 +24,8 @@ pub record Declines (limits : Limits) (caller : CallerId) (event : Event) (picks
   pub none : step limits s caller.0 event picks ≡ None
   pub stays : Stays s t past now
 
--- no answer where the machine has no such step; want of memory changes nothing, and any other answer is that of the step
+-- no answer where the machine has no such step; want of memory changes nothing, and any other answer is that of the
+-- step
 abbrev pub StepsWith : Limits → CallerId → Event → List ℕ → Option Answer → State → State → List Record → List Record → Type 0
 StepsWith limits caller event picks result s t past now =
     MatchOption result (Declines limits caller event picks s t past now)

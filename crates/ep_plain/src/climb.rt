@@ -38,7 +38,8 @@ impl EntryTest for PassesOnIn {
     }
 }
 
-/// Whether IN reaches an instance from below in this step. The time grows with the registrations of it and of those below.
+/// Whether IN reaches an instance from below in this step. The time grows with the registrations of it and of those
+/// below.
 fn is_reached(tables: &Tables, interest: &Interest, instance: DescId, step: u64) -> bool
     requires live { IsSome (number_under tables.now instance) }
     requires linked { AreLinked tables.now interest.now }

@@ -12,7 +12,8 @@ use ep_park::Park;
 use ep_park::laws::marks_in_turn;
 use ep_table::Tables;
 
-/// Marks the caller that waits longest at the instance of the one at a place, where that is ready and none is marked there.
+/// Marks the caller that waits longest at the instance of the one at a place, where that is ready and none is marked
+/// there.
 fn mark_at(tables: &Tables, now: u64, interest: &Interest, waiters: &mut Park, index: usize)
     requires index { index < length waiters.old }
     requires linked { AreLinked tables.now interest.now }
@@ -26,8 +27,8 @@ fn mark_at(tables: &Tables, now: u64, interest: &Interest, waiters: &mut Park, i
     }
 }
 
-/// Sets marks at the end of an event: whoever is due, and of those that wait at a ready instance the longest waiting one,
-/// where none is marked there.
+/// Sets marks at the end of an event: whoever is due, and of those that wait at a ready instance the longest waiting
+/// one, where none is marked there.
 fn mark_each(tables: &Tables, now: u64, interest: &Interest, waiters: &mut Park)
     requires linked { AreLinked tables.now interest.now }
     requires placed { ArePlaced tables.now waiters.old }

@@ -129,8 +129,8 @@ fn are_late(
     true
 }
 
-/// Whether a report at an instance that takes `most` at most may be of these registrations, in this order. It takes no memory;
-/// the time grows as the product of their number and that of the instance's registrations.
+/// Whether a report at an instance that takes `most` at most may be of these registrations, in this order. It takes
+/// no memory; the time grows as the product of their number and that of the instance's registrations.
 pub fn is_pick(
     interest: &Interest,
     since: &[u64],

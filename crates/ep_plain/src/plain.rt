@@ -100,11 +100,11 @@ impl PlainKernel {
         allows(&self.parts, &self.since, caller, event, picks)
     }
 
-    /// The step of an event whose report is of the registrations of these numbers, in this order; of none for an event
-    /// that makes no report. `None` exactly where the machine has no such step, and then nothing changes.
+    /// The step of an event whose report is of the registrations of these numbers, in this order; of none for an
+    /// event that makes no report. `None` exactly where the machine has no such step, and then nothing changes.
     /// ENOMEM is want of memory: nothing changes, and there is such a step. In both cases there may be more room for
-    /// records. ENOMEM may come of any event, also while there is room for records: only `step` says of which it doesn't.
-    /// The time grows as the product of how many are given and how many registrations the instance has.
+    /// records. ENOMEM may come of any event, also while there is room for records: only `step` says of which it
+    /// doesn't. The time grows as the product of how many are given and how many registrations the instance has.
     pub fn step_with(&mut self, caller: CallerId, event: Event, picks: &[u64]) -> Option<Answer>
         ensures limits { self.new.limits ≡ self.old.limits }
         ensures capacity { self.old.capacity ≤ self.new.capacity }

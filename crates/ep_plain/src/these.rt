@@ -170,9 +170,9 @@ fn act_these(
     }
 }
 
-/// One event whose report is of these registrations, in this order, and of the longest unreported where none are given:
-/// then `kept` asks for what a second record of it is made of. An `Err` is want of memory and leaves the parts; where none
-/// are given, it comes of no event that `IsSpared` names.
+/// One event whose report is of these registrations, in this order, and of the longest unreported where none are
+/// given: then `kept` asks for what a second record of it is made of. An `Err` is want of memory and leaves the
+/// parts; where none are given, it comes of no event that `IsSpared` names.
 pub fn act_with(
     parts: &mut Parts,
     step: u64,

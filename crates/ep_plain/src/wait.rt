@@ -13,10 +13,10 @@ use ep_calls::{Outcome, Parts, Raising, Wait, find_instance};
 use std::alloc::AllocError;
 
 /// epoll_wait(2): at most `max` reports of what is reportable at an instance now, the longest unreported first. Where
-/// nothing is, no report with a timeout of 0, and else the caller is parked until it is marked, `timeout` milliseconds at
-/// most, and without end where that is negative.
-/// Refused with EINVAL for a `max` below 1 or no instance, and with EBADF where `epfd` names nothing.
-/// A refusal and an `Err`, which is want of memory, leave the parts.
+/// nothing is, no report with a timeout of 0, and else the caller is parked until it is marked, `timeout`
+/// milliseconds at most, and without end where that is negative. Refused with EINVAL for a `max` below 1 or no
+/// instance, and with EBADF where `epfd` names nothing. A refusal and an `Err`, which is want of memory, leave the
+/// parts.
 pub fn epoll_wait(
     parts: &mut Parts,
     step: u64,
@@ -47,9 +47,9 @@ pub fn epoll_wait(
     Ok(outcome)
 }
 
-/// A parked caller asks whether it may go on: EINVAL where it is not parked, `Still` where it isn't marked. A marked one
-/// gets at most as many reports as it asked for and is no longer parked; where nothing is reportable, it gets none at its
-/// deadline, and before that loses its mark and stays parked. `kept`: a second record of it is asked for.
+/// A parked caller asks whether it may go on: EINVAL where it is not parked, `Still` where it isn't marked. A marked
+/// one gets at most as many reports as it asked for and is no longer parked; where nothing is reportable, it gets
+/// none at its deadline, and before that loses its mark and stays parked. `kept`: a second record of it is asked for.
 /// A refusal and an `Err`, which is want of memory, leave the parts.
 pub fn resume(
     parts: &mut Parts,

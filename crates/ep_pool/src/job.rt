@@ -42,14 +42,18 @@ pub enum Step {
 /// The steps of one session, in order.
 #[derive(Drop)]
 pub struct Job<L: Ledger> {
+    /// The session that makes the steps.
     pub session: Session<L>,
+    /// The steps, the first one first.
     pub steps: Vec<Step>,
 }
 
 /// The session of a job that has run, and how many steps it had made where it stopped before its end.
 #[derive(Drop)]
 pub struct Ran<L: Ledger> {
+    /// The session, with what it gained.
     pub session: Session<L>,
+    /// How many steps it had made when it stopped; `None` if it made all.
     pub stopped: Option<usize>,
 }
 

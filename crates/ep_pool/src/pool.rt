@@ -19,7 +19,9 @@ use std::thread::{Promise, Threads};
 /// with how many steps each had made before.
 #[derive(Drop)]
 pub struct PoolReport<L: Ledger> {
+    /// The sessions, in the order of their jobs.
     pub sessions: Vec<Session<L>>,
+    /// Of each job that stopped its caller, and how many steps it had made.
     pub stopped: Vec<(CallerId, usize)>,
 }
 
@@ -148,9 +150,9 @@ fn report<L: Ledger>(alloc: Global, ran: Vec<Ran<L>>) -> Result<PoolReport<L>, A
     Ok(PoolReport { sessions, stopped })
 }
 
-/// Runs each job in a thread of its own, and gives back its session. Before each step the thread asks the gate, yielding
-/// between, at most `turns` times; after that, at a step that is answered ENOMEM, or where there is no memory to see who
-/// is parked, the job stops. After a fault sessions may be missing.
+/// Runs each job in a thread of its own, and gives back its session. Before each step the thread asks the gate,
+/// yielding between, at most `turns` times; after that, at a step that is answered ENOMEM, or where there is no
+/// memory to see who is parked, the job stops. After a fault sessions may be missing.
 pub fn run_sessions<
     K: Kernel + Drop + Send,
     L: Ledger + Send + Sync,

@@ -101,9 +101,9 @@ fn command<'a>(alloc: Global) -> Result<Command<'a>, AllocError>
         .arg(history_argument(alloc))
 }
 
-/// Reads the words of the command line, the program's name first: `--limits TEXT`, `--plain`,
-/// `--explain` and `--history FILE`, each at most once and all at will. What `--help` and `--version` print is an `Err`,
-/// too, each with a kind of its own.
+/// Reads the words of the command line, the program's name first: `--limits TEXT`, `--plain`, `--explain` and
+/// `--history FILE`, each at most once and all at will. What `--help` and `--version` print is an `Err`, too, each
+/// with a kind of its own.
 pub fn options<'a>(alloc: Global, words: &'a [String]) -> Result<Settings<'a>, Error>
     ensures limits { IfOk result
         (λ s. option_map (λ t. t.now) s.limits

@@ -166,8 +166,8 @@ fn run_over<K: Kernel, R: Read + Drop, W: Write + Drop, E: Write + Drop, H: Writ
     }
 }
 
-/// Runs the script on a kernel, where there was memory to make it. It owns the kernel as one of any kind, since the proof of
-/// a function that owns what it knows the parts of grows with them.
+/// Runs the script on a kernel, where there was memory to make it. It owns the kernel as one of any kind, since the
+/// proof of a function that owns what it knows the parts of grows with them.
 fn run_made<K: Kernel + Drop, R: Read + Drop, W: Write + Drop, E: Write + Drop, H: Write + Drop>(
     alloc: Global,
     made: Result<K, AllocError>,

@@ -83,15 +83,16 @@ pub record GainsPlace (old new : Lists) (instance : ℕ) (entry : EntryId) : Typ
   pub lists : (i : ℕ) → list_at new i ≡ list_at old i
   pub reached : new.reached ≡ old.reached
 
--- the registration has no place and stands on no list, and each other place, what else is listed and the walk are what they were
+-- the registration has no place and stands on no list, and each other place, what else is listed and the walk are
+-- what they were
 pub record LosesPlace (old new : Lists) (entry : EntryId) : Type 0 where
   pub gone : instance_at new entry ≡ None
   pub others : (id : EntryId) → id.0 ≢ entry.0 → instance_at new id ≡ instance_at old id
   pub lists : (i : ℕ) → list_at new i ≡ filter (λ x. not (x == entry.0)) (list_at old i)
   pub reached : new.reached ≡ old.reached
 
--- no list has a registration twice, what stands on a list has a place of its instance, the instance of a place has a list, and
--- no instance is reached twice
+-- no list has a registration twice, what stands on a list has a place of its instance, the instance of a place has a
+-- list, and no instance is reached twice
 pub record IsSound (l : Lists) : Type 0 where
   pub once : (i : ℕ) → are_distinct (list_at l i) ≡ true
   pub own : (i : ℕ) (id : EntryId) → is_among (list_at l i) id.0 ≡ true → instance_at l id ≡ Some i

@@ -11,9 +11,9 @@ use ep_rings::{Iter, PlaceId, Rings};
 use std::alloc::{AllocError, Allocator, Global};
 use std::marker::Model;
 
-/// One list of registrations for each instance. A registration with a place stands on its instance's list or on none. Beside them
-/// stand the instances that a walk has reached. Each call but `make_place`, `forget_reached` and a walk of `iter` takes constant
-/// time. Memory comes from `A`.
+/// One list of registrations for each instance. A registration with a place stands on its instance's list or on none.
+/// Beside them stand the instances that a walk has reached. Each call but `make_place`, `forget_reached` and a walk
+/// of `iter` takes constant time. Memory comes from `A`.
 #[derive(Drop)]
 pub struct ReadyLists<A: Allocator = Global> {
     rings: Rings<A>,
@@ -62,8 +62,8 @@ impl<A: Allocator> ReadyLists<A> {
         }
     }
 
-    /// What holds of all ready lists: none has a registration twice, what stands on one has a place of its instance, the
-    /// instance of a place has a list, and no instance is reached twice.
+    /// What holds of all ready lists: none has a registration twice, what stands on one has a place of its instance,
+    /// the instance of a place has a list, and no instance is reached twice.
     pub fn known(&self)
         ensures { IsSound self.now }
     {
@@ -95,8 +95,9 @@ impl<A: Allocator> ReadyLists<A> {
         }
     }
 
-    /// Gives a registration a place that stands on no list, and the walk room for its instance. `AllocError` where there is no memory,
-    /// and then each place, each list and the walk are what they were. No other call takes memory.
+    /// Gives a registration a place that stands on no list, and the walk room for its instance. `AllocError` where
+    /// there is no memory, and then each place, each list and the walk are what they were. No other call takes
+    /// memory.
     pub fn make_place(&mut self, instance: DescId, entry: EntryId) -> Result<(), AllocError>
         requires free { instance_at self.old entry ≡ None }
         ensures made { OnOk result (GainsPlace self.old self.new instance.0 entry) }
@@ -174,7 +175,8 @@ impl<A: Allocator> ReadyLists<A> {
         self.rings.iter(instance)
     }
 
-    /// Whether the walk had not reached an instance yet, which it has now. The instance is one of a registration that has a place.
+    /// Whether the walk had not reached an instance yet, which it has now. The instance is one of a registration that
+    /// has a place.
     pub fn reach(&mut self, instance: DescId) -> bool
         requires { HasPlace self.old instance.0 }
         ensures answer { result ≡ not (is_among self.old.reached instance.0) }

@@ -6,8 +6,8 @@ ghost use Rattle.ep_ready.specs.Walk.{IsWalk, with_noted, with_reached};
 use std::alloc::{AllocError, Allocator};
 use std::marker::Model;
 
-/// The instances that a walk has reached, by their keys, in the order in which it reached them. Reaching one takes no memory, since
-/// `make_room` took it. Each call but `make_room` and `forget` takes constant time.
+/// The instances that a walk has reached, by their keys, in the order in which it reached them. Reaching one takes no
+/// memory, since `make_room` took it. Each call but `make_room` and `forget` takes constant time.
 #[derive(Drop)]
 pub struct Walk<A: Allocator> {
     marks: Vec<bool, A>,

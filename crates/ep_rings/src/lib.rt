@@ -1,5 +1,5 @@
-//! For each owner a list of registrations, linked through places. A place is made once, and then its registration joins the end
-//! of the list and leaves it in constant time and without memory.
+//! For each owner a list of registrations, linked through places. A place is made once, and then its registration
+//! joins the end of the list and leaves it in constant time and without memory.
 #![tactic(auto)]
 
 mod growth;

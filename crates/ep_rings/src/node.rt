@@ -9,8 +9,11 @@ use std::alloc::Allocator;
 /// The head of an owner's ring, or a place.
 #[derive(Clone, Copy)]
 pub struct Node {
+    /// The key of the node behind it.
     pub next: usize,
+    /// The key of the node before it.
     pub prev: usize,
+    /// What it stands for.
     pub role: Role,
 }
 
@@ -30,7 +33,9 @@ pub enum Role {
 /// The ring of one owner: the key of its head, and how many places stand on it.
 #[derive(Clone, Copy)]
 pub struct Ring {
+    /// The key of its head.
     pub head: usize,
+    /// How many places stand on it.
     pub len: usize,
 }
 

@@ -17,9 +17,9 @@ use std::marker::Model;
 #[derive(Clone, Copy)]
 pub struct PlaceId(pub usize);
 
-/// For each owner a list of registrations, linked in a ring through their places. Contracts see the owner and the registration of
-/// each place, and for each owner the keys of the places on its list, in order. Each call but `make_place` and a walk of `iter`
-/// takes constant time. Memory comes from `A`.
+/// For each owner a list of registrations, linked in a ring through their places. Contracts see the owner and the
+/// registration of each place, and for each owner the keys of the places on its list, in order. Each call but
+/// `make_place` and a walk of `iter` takes constant time. Memory comes from `A`.
 #[derive(Drop)]
 pub struct Rings<A: Allocator = Global> {
     nodes: Slab<Node, A>,
@@ -57,9 +57,9 @@ impl<A: Allocator> Rings<A> {
         let _owners = self.rings.len();
     }
 
-    /// Makes a place for a registration, which then stands on no list, and answers its key. `AllocError` where there is no
-    /// memory, and then each place and each list is what it was. No other call takes memory. The first place of an owner costs as
-    /// many steps as owners with smaller keys had none yet.
+    /// Makes a place for a registration, which then stands on no list, and answers its key. `AllocError` where there
+    /// is no memory, and then each place and each list is what it was. No other call takes memory. The first place of
+    /// an owner costs as many steps as owners with smaller keys had none yet.
     pub fn make_place(&mut self, owner: DescId, entry: EntryId) -> Result<PlaceId, AllocError>
         ensures made { IfOk result (λ place. GainsPlace self.old self.new place.0 owner.0 entry.0) }
         ensures refused { OnErr result (SameLists self.old self.new) }

@@ -27,7 +27,8 @@ pub fn full_pipe()
     ensures no_run { is_run default_limits (full_pipe_run (Num 4095)) ≡ false }
 {}
 
-/// epoll_wait(2): of three ready descriptors waits for one event report each once before any again, and then in the same order.
+/// epoll_wait(2): of three ready descriptors waits for one event report each once before any again, and then in the
+/// same order.
 pub fn fair()
     ensures run { is_run default_limits (fair_run (1 ∷ 2 ∷ 3 ∷ 1 ∷ 2 ∷ 3 ∷ [])) ≡ true }
     ensures other_run { is_run default_limits (fair_run (2 ∷ 3 ∷ 1 ∷ 2 ∷ 3 ∷ 1 ∷ [])) ≡ true }

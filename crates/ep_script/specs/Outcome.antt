@@ -1,5 +1,5 @@
--- How the run of a script ends, and what then stands written and in the history. What the writer had before and has then
--- is known only where it tells its bytes; all else is said of every writer.
+-- How the run of a script ends, and what then stands written and in the history. What the writer had before and has
+-- then is known only where it tells its bytes; all else is said of every writer.
 use Rattle.std.specs.Io.KnownBytes.{Appends}
 use Rattle.std.specs.Prelude.{List, Option, [], length, map, ℕ, ◌+◌, ◌++◌, ◌<◌, ◌≡◌, ◌≤◌, ◌⊎◌, ◌∷◌}
 use Rattle.ep_base.specs.declared.record.Record.{Record}

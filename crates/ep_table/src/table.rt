@@ -12,7 +12,9 @@ use std::alloc::{AllocError, Allocator};
 /// Descriptors by number. No number below `low` is free.
 #[derive(Drop)]
 pub struct Table<A: Allocator> {
+    /// What each number names, by number.
     pub slots: Vec<Option<Descriptor>, A>,
+    /// A number below which none is free.
     pub low: usize,
     pub ghost is_low: { IsLow low slots.items },
 }

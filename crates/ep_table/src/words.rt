@@ -7,7 +7,9 @@ use ep_object::Object;
 /// What a descriptor number names: the key of a description, and the close-on-exec flag.
 #[derive(Clone, Copy)]
 pub struct Descriptor {
+    /// The key of the description.
     pub description: DescId,
+    /// Whether exec closes the number.
     pub cloexec: bool,
 }
 
@@ -15,11 +17,17 @@ pub struct Descriptor {
 /// it, how many descriptors name it and how many waiters hold it.
 #[derive(Clone, Copy)]
 pub struct Description {
+    /// Its number, which no other description has or had.
     pub number: u64,
+    /// The number of its object.
     pub object_number: u64,
+    /// The key of its object.
     pub object: usize,
+    /// Which end of the object it is.
     pub end: End,
+    /// How many descriptors name it.
     pub names: usize,
+    /// How many parked waiters hold it.
     pub holds: usize,
 }
 
@@ -35,16 +43,22 @@ impl Description {
 /// An object, its number, and the keys of the live descriptions of its ends.
 #[derive(Drop)]
 pub struct Shared {
+    /// Its number, which no other object has or had.
     pub number: u64,
+    /// The object.
     pub object: Object,
+    /// The living description of its first end.
     pub first: Option<DescId>,
+    /// The living description of its second end.
     pub second: Option<DescId>,
 }
 
 /// A live description that nothing names or holds: its key and its number.
 #[derive(Clone, Copy)]
 pub struct Dying {
+    /// Its key.
     pub key: DescId,
+    /// Its number.
     pub number: u64,
 }
 
@@ -52,8 +66,12 @@ pub struct Dying {
 /// living description of the other end, and what closing its end raised at the ends of the object.
 #[derive(Clone, Copy)]
 pub struct Dead {
+    /// The key that it had, which is free again.
     pub desc: DescId,
+    /// The end of the object that it was.
     pub end: End,
+    /// The living description of the other end.
     pub other: Option<DescId>,
+    /// What closing the end raised, at each end.
     pub raised: Raised,
 }

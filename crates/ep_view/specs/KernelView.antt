@@ -54,8 +54,8 @@ is_at e fd d x = x.instance == e && x.fd == fd && x.target == d
 abbrev pub kernel_modified : ℕ → ℕ → ℕ → ℕ → ℕ → KernelWatch → KernelWatch
 kernel_modified e fd d mask tag x = if is_at e fd d x then record x { mask = mask; tag = tag; armed = true; fresh = true } else x
 
--- Looking down: a registration of an instance passes a test, which asks of the instances below whether they have one that
--- passes. The longest chain of instances has five.
+-- Looking down: a registration of an instance passes a test, which asks of the instances below whether they have one
+-- that passes. The longest chain of instances has five.
 abbrev pub any_within : ((ℕ → Bool) → KernelWatch → Bool) → ℕ → List KernelWatch → ℕ → Bool
 any_within test zero xs e = false
 any_within test (suc levels) xs e = list_any (λ x. x.instance == e && test (any_within test levels xs) x) xs
@@ -92,7 +92,8 @@ kernel_reported n ks x = if is_among ks x.number then record x { armed = x.armed
 abbrev pub stirred : ℕ → Bool → Bool → KernelWatch → KernelWatch
 stirred n arrives passes x = record x { fresh = arrives || x.fresh; passes_in = if passes then n else x.passes_in }
 
--- where these bits are raised at its target in event n: something that it asks for arrives, and an armed one passes it on
+-- where these bits are raised at its target in event n: something that it asks for arrives, and an armed one passes
+-- it on
 abbrev pub freshened_by : ℕ → (ℕ → ℕ) → KernelWatch → KernelWatch
 freshened_by n bits x = stirred n (brings x.mask (bits x.target)) (x.armed && nat_lt 0 (asked x.mask (bits x.target))) x
 
