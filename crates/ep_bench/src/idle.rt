@@ -10,8 +10,8 @@ use std::alloc::{AllocError, Global};
 /// The instance that all others wait for or watch.
 const INSTANCE: DescId = DescId(0);
 
-/// With so many registrations, each on a description of its own, ends a description without registrations in each call. The answer
-/// is how many registrations there are, and whether one is missing.
+/// With so many registrations, each on a description of its own, ends a description without registrations in each call.
+/// The answer is how many registrations there are, and whether one is missing.
 pub fn end_unwatched(alloc: Global, count: u32, calls: u32) -> Result<(usize, bool), AllocError> {
     let mut sets = Interest::new(alloc);
     for number in 0..count {
@@ -24,7 +24,7 @@ pub fn end_unwatched(alloc: Global, count: u32, calls: u32) -> Result<(usize, bo
     Ok((most, sets.count() != most))
 }
 
-/// Lets the instance watch another, where the graph allows it.
+/// Lets the instance watch another, if the graph allows it.
 fn watch(graph: &mut Graph, inner: usize) -> Result<(), AllocError> {
     if graph.may_add(INSTANCE, DescId(inner)).is_ok() && !graph.is_linked(EntryId(inner)) {
         graph.link(INSTANCE, DescId(inner), EntryId(inner))?;
@@ -32,8 +32,8 @@ fn watch(graph: &mut Graph, inner: usize) -> Result<(), AllocError> {
     Ok(())
 }
 
-/// With so many links, ends an instance without links in each call. The answer is how many links there are, and whether one is
-/// missing.
+/// With so many links, ends an instance without links in each call. The answer is how many links there are, and whether
+/// one is missing.
 pub fn end_apart(alloc: Global, count: u32, calls: u32) -> Result<(usize, bool), AllocError> {
     let mut graph = Graph::new(alloc);
     for number in 0..count {
@@ -46,7 +46,7 @@ pub fn end_apart(alloc: Global, count: u32, calls: u32) -> Result<(usize, bool),
     Ok((most, graph.links().count() != most))
 }
 
-/// Parks a caller whose deadline never comes, where it isn't parked.
+/// Parks a caller whose deadline never comes, if it isn't parked.
 fn park(waits: &mut Park, caller: CallerId) -> Result<(), AllocError> {
     if waits.is_parked(caller) {
         return Ok(());
@@ -61,8 +61,8 @@ fn park(waits: &mut Park, caller: CallerId) -> Result<(), AllocError> {
     waits.park(caller, waiter)
 }
 
-/// With so many callers that are parked, marks those that are due, of which there are none, in each call. The answer is how many
-/// are parked, and whether one is marked.
+/// With so many callers that are parked, marks those that are due, of which there are none, in each call. The answer is
+/// how many are parked, and whether one is marked.
 pub fn tick(alloc: Global, count: u32, calls: u32) -> Result<(usize, bool), AllocError> {
     let mut waits = Park::new(alloc);
     for number in 0..count {

@@ -7,7 +7,7 @@ use std::alloc::{AllocError, Global};
 /// The instance whose list it is.
 const INSTANCE: DescId = DescId(0);
 
-/// Puts a registration at the end of the list, where it stands on none.
+/// Puts a registration at the end of the list, if it stands on none.
 fn push(lists: &mut ReadyLists, entry: EntryId) -> Result<(), AllocError> {
     if !lists.has_place(entry) {
         lists.make_place(INSTANCE, entry)?;
@@ -26,8 +26,8 @@ fn take(lists: &mut ReadyLists, entry: EntryId) {
     }
 }
 
-/// Puts so many registrations on one list, and takes them off in the order of their joining while the list turns. The answer
-/// is how many there were, and how many are left.
+/// Puts so many registrations on one list, and takes them off in the order of their joining while the list turns. The
+/// answer is how many there were, and how many are left.
 pub fn push_and_remove(alloc: Global, count: u32) -> Result<(usize, usize), AllocError> {
     let mut lists = ReadyLists::new(alloc);
     for number in 0..count {

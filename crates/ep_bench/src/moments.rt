@@ -10,7 +10,7 @@ fn add(queue: &mut DueQueue, moment: u64) -> Result<(), AllocError> {
     Ok(())
 }
 
-/// Takes the moment of the place that is due first away. `false` where none is due.
+/// Takes the moment of the place that is due first away. `false` if none is due.
 fn take(queue: &mut DueQueue, now: u64) -> bool {
     let Some(place) = queue.first_due(now) else {
         return false;
@@ -19,8 +19,8 @@ fn take(queue: &mut DueQueue, now: u64) -> bool {
     true
 }
 
-/// Gives so many places a moment, the latest first, and takes the earliest away until none is due. The answer is how many
-/// were taken, and how many are left.
+/// Gives so many places a moment, the latest first, and takes the earliest away until none is due. The answer is how
+/// many were taken, and how many are left.
 pub fn set_and_take(alloc: Global, count: u32) -> Result<(u32, u32), AllocError> {
     let mut queue = DueQueue::new(alloc);
     for number in 0..count {

@@ -17,8 +17,8 @@ fn raise(sets: &mut Interest, desc: DescId, event: u64) -> usize {
     passing
 }
 
-/// With so many registrations, each on a description of its own, lets bits arrive at the first of them, in so many events. The
-/// answer is how many registrations there are, and whether an arrival was not passed on.
+/// With so many registrations, each on a description of its own, lets bits arrive at the first of them, in so many
+/// events. The answer is how many registrations there are, and whether an arrival was not passed on.
 pub fn raise_at_one(alloc: Global, count: u32, events: u32) -> Result<(usize, bool), AllocError> {
     let mut sets = Interest::new(alloc);
     for number in 0..count {

@@ -30,9 +30,8 @@ fn take(sets: &mut Interest, desc: DescId, by_key: bool) {
     }
 }
 
-/// Adds so many registrations, each on a description of its own. Every other one is removed by its key, the rest die with their
-/// descriptions. The answer is how many there were, and how many are
-/// left.
+/// Adds so many registrations, each on a description of its own. Every other one is removed by its key, the rest die
+/// with their descriptions. The answer is how many there were, and how many are left.
 pub fn add_and_remove(alloc: Global, count: u32) -> Result<(usize, usize), AllocError> {
     let mut sets = Interest::new(alloc);
     for number in 0..count {
