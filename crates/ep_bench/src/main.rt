@@ -1,169 +1,123 @@
-//! Makes calls of the parts of a kernel, as many of each kind as the command line asks for; the word of a kind, as
-//! `registrations`, asks for that alone. The first number is how many there are of each kind, the second how many calls are made
-//! where their cost mustn't grow with these. `bench/parts_growth` times each for two counts.
+//! Times calls, and shows threads on one kernel. The first word says what:
+//!
+//! - `parts [PART] COUNT [CALLS]`: calls of the parts of a kernel, which `bench/parts_growth` times
+//! - `rounds [--plain] [--limits TEXT] SETUP ROUNDS`: calls on a kernel, some of them again and again, which
+//!   `bench/kernel_rounds` times
+//! - `shared THREADS CALLS`: calls through the lock, which `bench/shared_calls` times
+//! - `records COUNT` and `audit COUNT`: records that are made, and audited too, which `bench/audit` times
+//! - `crowd`: four sessions with a thread each on one kernel, which `docs/threads.md` shows
+//! - `each`: all of these in small, which the gate runs
 #![tactic(auto)]
 
+mod crowd;
 mod descriptors;
+mod fault;
 mod idle;
+mod kernels;
+mod lines;
 mod lists;
 mod moments;
+mod parts;
 mod raises;
+mod records;
 mod registrations;
+mod rounds;
+mod shared;
 
-use crate::descriptors::open_and_close;
-use crate::idle::{end_apart, end_unwatched, tick};
-use crate::lists::push_and_remove;
-use crate::moments::set_and_take;
-use crate::raises::raise_at_one;
-use crate::registrations::add_and_remove;
+use crate::crowd::print_crowd;
+use crate::fault::Fault;
+use crate::kernels::print_rounds;
+use crate::parts::print_parts;
+use crate::records::{print_audit, print_records};
+use crate::shared::print_shared;
 use std::alloc::{AllocError, Global};
 use std::env::{self, Env};
 use std::io;
+use std::process::ExitCode;
+use std::sync::Wait;
+use std::thread::Threads;
 
-/// What is timed.
-#[derive(Clone, Copy, PartialEq, Eq)]
-enum Part {
-    Registrations,
-    Descriptors,
-    Raises,
-    Lists,
-    Moments,
-    Deaths,
-    Nests,
-    Ticks,
-}
+/// The words are no good, or what they ask for was not done, or not all of it.
+const FAILED: u8 = 2;
 
-/// The parts in the order in which they are timed.
-const PARTS: [Part; 8] = [
-    Part::Registrations,
-    Part::Descriptors,
-    Part::Raises,
-    Part::Lists,
-    Part::Moments,
-    Part::Deaths,
-    Part::Nests,
-    Part::Ticks,
+/// What `each` does, in turn.
+const EACH: [&[&str]; 6] = [
+    &["parts", "1000", "100000"],
+    &["rounds", "3", "100"],
+    &["shared", "2", "1000"],
+    &["records", "300"],
+    &["audit", "300"],
+    &["crowd"],
 ];
 
-/// How many calls are made where no number is given.
-const CALLS: u32 = 5_000_000;
-
-/// The word that asks for a part.
-fn word_of(part: Part) -> &'static str {
-    match part {
-        Part::Registrations => "registrations",
-        Part::Descriptors => "descriptors",
-        Part::Raises => "raises",
-        Part::Lists => "lists",
-        Part::Moments => "moments",
-        Part::Deaths => "deaths",
-        Part::Nests => "nests",
-        Part::Ticks => "ticks",
-    }
-}
-
-/// What the command line asks for.
-#[derive(Clone, Copy)]
-struct Asked {
-    part: Option<Part>,
-    /// How many there are of what stands there.
-    count: Option<u32>,
-    /// How many calls are made of a part whose calls mustn't grow with the count.
-    calls: Option<u32>,
-}
-
-impl Asked {
-    /// Adds a number: the first is the count, the second says how many calls are made.
-    fn add(&mut self, number: Option<u32>) {
-        if self.count.is_none() {
-            self.count = number;
-        } else {
-            self.calls = number;
-        }
-    }
-}
-
-/// The part that a word names.
-fn part_named(word: &str) -> Option<Part> {
-    match word {
-        "registrations" => Some(Part::Registrations),
-        "descriptors" => Some(Part::Descriptors),
-        "raises" => Some(Part::Raises),
-        "lists" => Some(Part::Lists),
-        "moments" => Some(Part::Moments),
-        "deaths" => Some(Part::Deaths),
-        "nests" => Some(Part::Nests),
-        "ticks" => Some(Part::Ticks),
-        _ => None,
-    }
-}
-
-/// Every part where none is named.
-fn read_words(rt: &(impl Env + AllocGlobal)) -> io::Result<Asked> {
-    let mut asked = Asked {
-        part: None,
-        count: None,
-        calls: None,
+/// Does what the words ask for.
+fn run<R: Threads + Wait + Sync + Input + Print + AllocGlobal>(
+    rt: &R,
+    words: &[&str],
+) -> Result<(), Fault> {
+    let [word, rest @ ..] = words else {
+        return Err(Fault::Words);
     };
-    for word in env::args(rt)? {
-        match part_named(word.as_str()) {
-            Some(part) => asked.part = Some(part),
-            None => asked.add(word.as_str().parse().ok()),
-        }
-    }
-    Ok(asked)
-}
-
-/// Does one part with so many. The answer is how many there were, and how many are left.
-fn measure(alloc: Global, part: Part, count: u32, calls: u32) -> Result<(u64, u64), AllocError> {
-    match part {
-        Part::Registrations => {
-            let (most, left) = add_and_remove(alloc, count)?;
-            Ok((most as u64, left as u64))
-        }
-        Part::Descriptors => {
-            let (most, left) = open_and_close(alloc, count)?;
-            Ok((u64::from(most), left))
-        }
-        Part::Lists => {
-            let (most, left) = push_and_remove(alloc, count)?;
-            Ok((most as u64, left as u64))
-        }
-        Part::Moments => {
-            let (taken, left) = set_and_take(alloc, count)?;
-            Ok((u64::from(taken), u64::from(left)))
-        }
-        _ => measure_calls(alloc, part, count, calls),
+    match *word {
+        "parts" => print_parts(rt, rest),
+        "rounds" => print_rounds(rt, rest),
+        "shared" => print_shared(rt, rest),
+        "records" => print_records(rt, rest),
+        "audit" => print_audit(rt, rest),
+        "crowd" => print_crowd(rt, rest),
+        _ => Err(Fault::Words),
     }
 }
 
-/// Makes so many calls of a part, whose cost mustn't grow with what stands beside. The answer is how many stand there, and
-/// whether a call did what it mustn't.
-fn measure_calls(
-    alloc: Global,
-    part: Part,
-    count: u32,
-    calls: u32,
-) -> Result<(u64, u64), AllocError> {
-    let (most, is_changed) = match part {
-        Part::Deaths => end_unwatched(alloc, count, calls)?,
-        Part::Nests => end_apart(alloc, count, calls)?,
-        Part::Ticks => tick(alloc, count, calls)?,
-        _ => raise_at_one(alloc, count, calls)?,
-    };
-    Ok((most as u64, u64::from(is_changed)))
-}
-
-fn main(rt: HostRuntime) -> io::Result<()> {
-    let asked = read_words(&rt)?;
-    let count = asked.count.unwrap_or(0);
-    let calls = asked.calls.unwrap_or(CALLS);
-    for part in PARTS {
-        if asked.part.is_none() || asked.part == Some(part) {
-            let (most, left) = measure(rt.alloc(), part, count, calls)?;
-            let word = word_of(part);
-            println!(rt; "{most} {word}, {left} left")?;
-        }
+/// The same, and all that words can ask for in turn if the only word is `each`.
+fn run_words<R: Threads + Wait + Sync + Input + Print + AllocGlobal>(
+    rt: &R,
+    words: &[&str],
+) -> Result<(), Fault> {
+    if !matches!(words, ["each"]) {
+        return run(rt, words);
+    }
+    for words in EACH {
+        run(rt, words)?;
     }
     Ok(())
+}
+
+/// The words of the command line, the program's name first.
+fn words_of(rt: &(impl Env + AllocGlobal)) -> io::Result<Vec<String>> {
+    Ok(env::args(rt)?.collect(rt.alloc())?)
+}
+
+/// The words as they are looked at.
+fn views_of(alloc: Global, words: &[String]) -> Result<Vec<&str>, AllocError> {
+    let mut views = Vec::new(alloc);
+    for word in words {
+        views.push(word.as_str())?;
+    }
+    Ok(views)
+}
+
+/// Does what the command line asks for.
+fn run_asked<R: Threads + Wait + Sync + Input + Print + Env + AllocGlobal>(
+    rt: &R,
+) -> Result<(), Fault> {
+    let Ok(words) = words_of(rt) else {
+        return Err(Fault::Words);
+    };
+    let views = views_of(rt.alloc(), &words)?;
+    match views.as_slice() {
+        [_, words @ ..] => run_words(rt, words),
+        [] => Err(Fault::Words),
+    }
+}
+
+fn main(rt: HostRuntime) -> ExitCode {
+    match run_asked(&rt) {
+        Ok(()) => ExitCode::SUCCESS,
+        Err(fault) => {
+            // Where this can't be written either, the status tells of it.
+            let _ = eprintln!(rt; "ep_bench: {fault}");
+            ExitCode::from(FAILED)
+        }
+    }
 }
