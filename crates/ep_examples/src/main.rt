@@ -1,8 +1,7 @@
 //! Runs the examples of the folder that it is run in, over the kernel that scans and over the one with ready lists, each
 //! over a new one, and names those whose answers are not the ones of the file beside them, or whose history the audit
 //! finds illegal.
-//! With the word `records` or `audit` and a number it makes so many calls, and audits their records for the second:
-//! `bench/audit` times that.
+//! It has to be run in a folder with examples, as `data/`: where there are none, it says so and its status is 2.
 #![tactic(auto)]
 
 mod cuts;
@@ -11,17 +10,19 @@ mod example;
 mod files;
 mod forged;
 mod make;
-mod rate;
 mod script;
 mod waiters;
 
 use crate::example::differs;
 use crate::files::names;
 use crate::make::Make;
-use crate::rate::{make_records, read_words};
 use ep_kernel::ReadyKernel;
 use ep_plain::PlainKernel;
 use std::io;
+use std::process::ExitCode;
+
+/// The status where the folder has no examples.
+const NO_EXAMPLES: u8 = 2;
 
 /// Names the examples that differ over kernels of this type, and says how many do.
 fn print_differing<K: Make>(rt: &HostRuntime, names: &[String], kernel: &str) -> io::Result<()> {
@@ -35,12 +36,21 @@ fn print_differing<K: Make>(rt: &HostRuntime, names: &[String], kernel: &str) ->
     println!(rt; "{kernel}: {} examples, {differing} differ", names.len())
 }
 
-fn main(rt: HostRuntime) -> io::Result<()> {
-    if let Some(rate) = read_words(&rt)? {
-        let (records, legal) = make_records(rt.alloc(), &rate)?;
-        return println!(rt; "{records} records, legal: {legal}");
+/// Compares each example of this folder over both kernels. False where there are none.
+fn compare(rt: &HostRuntime) -> io::Result<bool> {
+    let names = names(rt)?;
+    if names.is_empty() {
+        return Ok(false);
     }
-    let names = names(&rt)?;
-    print_differing::<PlainKernel>(&rt, &names, "PlainKernel")?;
-    print_differing::<ReadyKernel>(&rt, &names, "ReadyKernel")
+    print_differing::<PlainKernel>(rt, &names, "PlainKernel")?;
+    print_differing::<ReadyKernel>(rt, &names, "ReadyKernel")?;
+    Ok(true)
+}
+
+fn main(rt: HostRuntime) -> io::Result<ExitCode> {
+    if compare(&rt)? {
+        return Ok(ExitCode::SUCCESS);
+    }
+    eprintln!(rt; "ep_examples: this folder has no examples: run it in crates/ep_examples/data")?;
+    Ok(ExitCode::from(NO_EXAMPLES))
 }
