@@ -2,3 +2,4 @@ mod Pigeon
 mod SameParts
 mod PartLemmas
 mod ParkedLemmas
+mod MayLemmas

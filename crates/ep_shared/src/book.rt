@@ -164,6 +164,7 @@ impl<K: Kernel + Drop, L: Ledger> Book<K, L> {
 
     /// One event by the session's caller, whose record is put at the end of the session's too.
     /// ENOMEM is want of memory, for the kernel or for the session's list: then neither changes.
+    #[tactic(auto, using(crate::proofs::MayLemmas::acts_may))]
     pub fn act(&mut self, session: &mut Session<L>, event: Event) -> Answer
         ensures limits { K.bounds self.new.kernel ≡ K.bounds self.old.kernel }
         ensures acts { Acts (K.bounds self.old.kernel) (record { 0 = session.old.name.number })

@@ -8,7 +8,7 @@ ghost use Rattle.ep_machine.specs.Waits.{is_parked};
 ghost use Rattle.ep_shared.specs.Closes.{Finishes};
 ghost use Rattle.ep_shared.specs.Parts.{IsBetween};
 ghost use Rattle.ep_shared.specs.Sessions.{caller_of, records_of};
-ghost use Rattle.ep_shared.specs.Told.{Adds, ResumeAdds, WaitAdds, ends_wait, may_answer, wait_event};
+ghost use Rattle.ep_shared.specs.Told.{Adds, ResumeAdds, WaitAdds, ends_parked, ends_wait, may_answer, wait_event};
 
 use crate::book::{Book, Count, FinishFault, History, Session};
 use ep_base::{Answer, Call, CallerId, Event, Fd, Limits, Pid};
@@ -98,7 +98,8 @@ impl<K: Kernel + Drop, L: Ledger> Shared<K, L> {
     }
 
     /// epoll_wait(2) that waits: where it parks, the lock is given up until the caller is marked, and then it resumes.
-    /// It is answered neither `Parked` nor `Still`. After ENOMEM the caller may be parked: `resume_wait` goes on.
+    /// It is answered its reports or a refusal, and neither `Parked` nor `Still`: any refusal of epoll_wait(2) where it didn't
+    /// park, else ENOMEM, or EINVAL as `resume_wait` has it. After ENOMEM the caller may be parked: `resume_wait` goes on.
     pub fn wait(&self, rt: &impl Wait, session: &mut Session<L>, asked: WaitCall) -> Answer
         ensures adds { WaitAdds (caller_of session.old) (wait_event asked) result
             (records_of session.old) (records_of session.new) }
@@ -119,12 +120,13 @@ impl<K: Kernel + Drop, L: Ledger> Shared<K, L> {
         }
     }
 
-    /// Goes on with the wait of a caller that is parked, as `wait` does. EINVAL where it is not parked.
+    /// Goes on with the wait of a caller that is parked, as `wait` does. It is answered the reports of the wait, EINVAL where
+    /// the caller is not parked, or ENOMEM, which leaves the caller parked.
     pub fn resume_wait(&self, rt: &impl Wait, session: &mut Session<L>) -> Answer
         ensures adds { ResumeAdds (caller_of session.old) result (records_of session.old)
             (records_of session.new) }
         ensures caller { caller_of session.new ≡ caller_of session.old }
-        ensures ends { ends_wait result ≡ true }
+        ensures ends { ends_parked result ≡ true }
     {
         for _ in rt.forever() {
             let answer = self.resume(rt, session);

@@ -13,6 +13,7 @@ returns-in-Parked-clause-adds g c =
       mid = mid;
       parks = rw (to_z-of_z w32 c.args.asked.max max, to_z-of_z w64 c.args.asked.timeout timeout) at c.in-Parked.ensures.adds;
       resumes = subst (λ (n : ℕ). ResumeAdds n c.resume_wait.result mid (records_of c.resume_wait.new.session)) c.act-answer.ensures.caller c.resume_wait.ensures.adds;
+      ended = c.resume_wait.ensures.ends;
     })
 
 pub returns-in_default-clause-adds : goal.returns-in_default-clause-adds
