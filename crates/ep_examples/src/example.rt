@@ -13,8 +13,8 @@ use std::rt::Files;
 /// The script that is run cut after each of its bytes, too.
 const CUT: &str = "level";
 
-/// Whether the answers of a new kernel, who is parked and marked after the lines, or what the audit says of forgeries of
-/// the history, are not what the files say, or the history is no run of the machine.
+/// Whether the answers of a new kernel, who is parked and marked after the lines, or what the audit says of forgeries
+/// of the history, are not what the files say, or the history is no run of the machine.
 pub(crate) fn differs<K: Make>(rt: &(impl Files + AllocGlobal), name: &str) -> io::Result<bool> {
     if has(rt, name, ".lines")? {
         return lines_differ::<K>(rt, name);

@@ -1,7 +1,7 @@
-//! Runs the examples of the folder that it is run in, over the kernel that scans and over the one with ready lists, each
-//! over a new one, and names those whose answers are not the ones of the file beside them, or whose history the audit
-//! finds illegal.
-//! It has to be run in a folder with examples, as `data/`: where there are none, it says so and its status is 2.
+//! Runs the examples of the folder that it is run in, over the kernel that scans and over the one with ready lists,
+//! each over a new one, and names those whose answers are not the ones of the file beside them, or whose history the
+//! audit finds illegal. It has to be run in a folder with examples, as `data/`: where there are none, it says so and
+//! its status is 2.
 #![tactic(auto)]
 
 mod cuts;

@@ -40,7 +40,8 @@ pub record ResumeAdds (caller : ℕ) (answer : Answer) (old new : List Record) :
   pub vain : Vain caller old mid
   pub ends : Adds caller Resume answer mid new
 
--- an answer that ends a wait that parked: its reports, EINVAL where its caller isn't parked, or ENOMEM for want of memory
+-- an answer that ends a wait that parked: its reports, EINVAL where its caller isn't parked, or ENOMEM for want of
+-- memory
 abbrev pub ends_parked : Answer → Bool
 ends_parked (Events reports) = true
 ends_parked (Refused Einval) = true

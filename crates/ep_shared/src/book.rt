@@ -127,8 +127,8 @@ impl<L: Ledger> Session<L> {
 }
 
 impl<K: Kernel + Drop, L: Ledger> Book<K, L> {
-    /// A book of this kernel, whose history is empty, and a session without records for each caller from 1 to `sessions`.
-    /// An `Err` is want of memory.
+    /// A book of this kernel, whose history is empty, and a session without records for each caller from 1 to
+    /// `sessions`. An `Err` is want of memory.
     pub fn open(
         alloc: Global,
         blank: Blank,

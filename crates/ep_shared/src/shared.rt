@@ -20,9 +20,13 @@ use std::sync::{Condvar, Mutex, Wait};
 /// What a process asks of epoll_wait(2), whose fields are those of `Call::EpollWait`.
 #[derive(Clone, Copy)]
 pub struct WaitCall {
+    /// The process that calls.
     pub pid: Pid,
+    /// The descriptor of the instance.
     pub epfd: Fd,
+    /// The most reports that it takes; 0 and less are refused.
     pub max: i32,
+    /// How long it waits, in milliseconds: 0 not at all, less than 0 for ever.
     pub timeout: i64,
 }
 
@@ -97,9 +101,10 @@ impl<K: Kernel + Drop, L: Ledger> Shared<K, L> {
         self.act(rt, session, Event::Tick { n })
     }
 
-    /// epoll_wait(2) that waits: where it parks, the lock is given up until the caller is marked, and then it resumes.
-    /// It is answered its reports or a refusal, and neither `Parked` nor `Still`: any refusal of epoll_wait(2) where it didn't
-    /// park, else ENOMEM, or EINVAL as `resume_wait` has it. After ENOMEM the caller may be parked: `resume_wait` goes on.
+    /// epoll_wait(2) that waits: where it parks, the lock is given up until the caller is marked, and then it
+    /// resumes. It is answered its reports or a refusal, and neither `Parked` nor `Still`: any refusal of
+    /// epoll_wait(2) where it didn't park, else ENOMEM, or EINVAL as `resume_wait` has it. After ENOMEM the caller
+    /// may be parked: `resume_wait` goes on.
     pub fn wait(&self, rt: &impl Wait, session: &mut Session<L>, asked: WaitCall) -> Answer
         ensures adds { WaitAdds (caller_of session.old) (wait_event asked) result
             (records_of session.old) (records_of session.new) }
@@ -120,8 +125,8 @@ impl<K: Kernel + Drop, L: Ledger> Shared<K, L> {
         }
     }
 
-    /// Goes on with the wait of a caller that is parked, as `wait` does. It is answered the reports of the wait, EINVAL where
-    /// the caller is not parked, or ENOMEM, which leaves the caller parked.
+    /// Goes on with the wait of a caller that is parked, as `wait` does. It is answered the reports of the wait,
+    /// EINVAL where the caller is not parked, or ENOMEM, which leaves the caller parked.
     pub fn resume_wait(&self, rt: &impl Wait, session: &mut Session<L>) -> Answer
         ensures adds { ResumeAdds (caller_of session.old) result (records_of session.old)
             (records_of session.new) }

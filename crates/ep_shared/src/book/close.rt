@@ -16,7 +16,9 @@ use std::sync::ledger::Ledger;
 /// All that was asked of a kernel and answered, and the limits that it was made with.
 #[derive(Drop)]
 pub struct History {
+    /// The limits that the kernel was made with.
     pub limits: Limits,
+    /// The records of all events, in order.
     pub records: Vec<Record>,
 }
 
@@ -57,9 +59,9 @@ fn copies_of(alloc: Global, records: &[Record]) -> Result<Vec<Record>, AllocErro
 }
 
 impl<K: Kernel + Drop, L: Ledger> Book<K, L> {
-    /// The whole history, where each caller from 1 to `sessions` has a session here, the kernel has these limits, and the
-    /// records of each caller are those of its session; else the first fault, in the order of `FinishFault`.
-    /// The time grows with the records times the sessions.
+    /// The whole history, where each caller from 1 to `sessions` has a session here, the kernel has these limits, and
+    /// the records of each caller are those of its session; else the first fault, in the order of `FinishFault`. The
+    /// time grows with the records times the sessions.
     pub fn close(
         self,
         limits: &Limits,
