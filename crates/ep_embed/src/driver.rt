@@ -5,8 +5,8 @@ ghost use Rattle.ep_calls.specs.Driver.{HasNoEffect, first_marked};
 use ep_base::{CallerId, Event};
 use ep_plain::Kernel;
 
-/// Resumes whoever is marked, of several the one that was parked first; where nobody is, moves the clock to the next moment.
-/// False, and nothing is done, where there is neither.
+/// Resumes a marked caller, the one that was parked first. If nobody is marked, it moves the clock to the next moment.
+/// False if there is neither; then nothing is done.
 fn turn<K: Kernel>(kernel: &mut K, clock: CallerId) -> bool
     ensures marked { result ≡ false → first_marked (K.state kernel.new) ≡ None }
     ensures effect { result ≡ false → HasNoEffect (K.state kernel.new) }
@@ -23,8 +23,8 @@ fn turn<K: Kernel>(kernel: &mut K, clock: CallerId) -> bool
     true
 }
 
-/// Takes such turns until there is none to take, and so many at most. Where there is none, nobody is marked, and no tick
-/// raises a bit or marks a caller: whoever is parked then stays so until somebody makes a call.
+/// Takes such turns until there is none left, or until so many are taken. True if none is left. Then nobody is marked,
+/// and no tick raises a bit or marks a caller: who is parked stays so until somebody makes a call.
 pub fn drive<K: Kernel>(kernel: &mut K, clock: CallerId, turns: usize) -> bool
     ensures marked { result ≡ true → first_marked (K.state kernel.new) ≡ None }
     ensures effect { result ≡ true → HasNoEffect (K.state kernel.new) }

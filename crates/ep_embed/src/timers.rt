@@ -7,7 +7,8 @@ use ep_plain::{Kernel, run};
 use std::alloc::{AllocError, Global};
 use std::io;
 
-/// Opens a timer, 6, that expires in 30 milliseconds, an instance, 7, that watches it, and one, 8, that watches nothing.
+/// Opens a timer, 6, that expires in 30 milliseconds, an instance, 7, that watches it, and another, 8, that watches
+/// nothing.
 fn open_timer<K: Kernel>(alloc: Global, kernel: &mut K) -> Result<Vec<Answer>, AllocError> {
     let timer = Call::TimerFd {
         clock: 1,
