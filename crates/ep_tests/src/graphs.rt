@@ -1,11 +1,11 @@
-//! The graph of nested instances: worked runs, the limits of epoll_ctl(2), and refused memory.
+//! The graph of nested instances: each call once, and refused memory.
 ghost use Rattle.std.specs.Prelude.{◌≡◌, ◌↔◌, nat_lt, true, ℕ};
 ghost use Rattle.ep_machine.specs.Lists.{is_among};
 ghost use Rattle.ep_nest.specs.Chains.{IsAbove};
 ghost use Rattle.ep_nest.specs.Links.{admitted_by, edges, keys};
 
 use ep_base::{DescId, EntryId, Errno};
-use ep_nest::{Graph, Link};
+use ep_nest::Graph;
 use linked_list_allocator::LocalHeap;
 use std::alloc::AllocError;
 use std::process::Abort;
@@ -28,15 +28,6 @@ fn add(
     Ok(())
 }
 
-/// Adds a chain of links, from its outermost instance inward; each entry has the key of its inner instance.
-fn add_chain(rt: &impl Abort, graph: &mut Graph, chain: &[usize]) {
-    for pair in chain.windows(2) {
-        if let [outer, inner] = pair {
-            assert_eq!(rt; add(rt, graph, *outer, *inner, *inner), Ok(()));
-        }
-    }
-}
-
 /// A caller whose filter follows a rule: the instances above one through entries past a bound.
 fn above_past<'a>(graph: &'a mut Graph, inner: DescId, bound: usize) -> &'a [DescId]
     ensures { (x : ℕ) → (is_among (keys result.now) x ≡ true) ↔ IsAbove
@@ -45,94 +36,22 @@ fn above_past<'a>(graph: &'a mut Graph, inner: DescId, bound: usize) -> &'a [Des
     graph.above(inner, &|entry: EntryId| entry.0 > bound)
 }
 
-/// Whether exactly these instances are above one, each once, through the entries of a list.
-fn is_above(graph: &mut Graph, inner: usize, entries: &[usize], wanted: &[usize]) -> bool {
-    let found = graph.above(DescId(inner), &|entry: EntryId| entries.contains(&entry.0));
-    found.len() == wanted.len() && wanted.iter().all(|key| found.contains(&DescId(*key)))
-}
-
-/// A chain of five instances takes no sixth, at either end, and no loop.
+/// 3 watches 4, which watches 5: 5 may not watch 3. Above 5 stand both, and what is taken away is above no more.
 #[test]
-fn nests_five_deep(rt: HostRuntime) {
+fn instances_stand_above(rt: HostRuntime) {
     let mut graph = Graph::new(rt.alloc());
-    add_chain(&rt, &mut graph, &[3, 4, 5, 6, 7]);
-    refuses_a_sixth(&rt, &mut graph);
-    // The link of 5 and 6 goes, and both ends have room again.
-    graph.unlink(EntryId(6));
-    has_room_at_both_ends(&rt, &mut graph);
+    stands_above(&rt, &mut graph);
 }
 
-fn refuses_a_sixth(rt: &impl Abort, graph: &mut Graph) {
-    for (outer, inner) in [(8, 3), (7, 8), (7, 3), (9, 9), (4, 3)] {
-        assert_eq!(rt; add(rt, graph, outer, inner, 20), Err(Errno::Eloop));
-    }
-}
-
-fn has_room_at_both_ends(rt: &impl Abort, graph: &mut Graph) {
-    assert!(rt; !graph.is_linked(EntryId(6)));
-    assert_eq!(rt; add(rt, graph, 8, 3, 20), Ok(()));
-    assert_eq!(rt; add(rt, graph, 7, 9, 21), Ok(()));
-}
-
-/// What stands above and what stands below count together.
-#[test]
-fn joins_chains(rt: HostRuntime) {
-    let mut graph = Graph::new(rt.alloc());
-    add_chain(&rt, &mut graph, &[1, 2, 3]);
-    add_chain(&rt, &mut graph, &[4, 5]);
-    add_chain(&rt, &mut graph, &[6, 7, 8]);
-    assert_eq!(rt; graph.may_add(DescId(3), DescId(6)), Err(Errno::Eloop));
-    assert_eq!(rt; graph.may_add(DescId(3), DescId(4)), Ok(()));
-    assert_eq!(rt; graph.may_add(DescId(2), DescId(6)), Ok(()));
-    assert_eq!(rt; graph.may_add(DescId(3), DescId(1)), Err(Errno::Eloop));
-}
-
-/// Only chains of admitted links count, and each instance is found once.
-#[test]
-fn finds_above(rt: HostRuntime) {
-    let mut graph = Graph::new(rt.alloc());
-    assert!(rt; is_above(&mut graph, 5, &[1, 2], &[]));
-    // 2 watches 3 and 4, and both watch 5.
-    for (outer, inner, entry) in [(3, 5, 1), (4, 5, 2), (2, 3, 3), (2, 4, 4)] {
-        assert_eq!(rt; add(&rt, &mut graph, outer, inner, entry), Ok(()));
-    }
-    finds_each_once(&rt, &mut graph);
-    graph.unlink(EntryId(2));
-    assert!(rt; is_above(&mut graph, 5, &[1, 2, 3, 4], &[2, 3]));
-}
-
-fn finds_each_once(rt: &impl Abort, graph: &mut Graph) {
-    assert!(rt; is_above(graph, 5, &[1, 2, 3, 4], &[2, 3, 4]));
-    assert!(rt; is_above(graph, 5, &[1, 3], &[2, 3]));
-    assert!(rt; is_above(graph, 5, &[1, 4], &[3]));
-    assert!(rt; is_above(graph, 5, &[3, 4], &[]));
-    assert!(rt; is_above(graph, 3, &[1, 2, 3, 4], &[2]));
-    assert!(rt; is_above(graph, 2, &[1, 2, 3, 4], &[]));
-    assert!(rt; is_above(graph, 99, &[1, 2, 3, 4], &[]));
-    assert_eq!(rt; above_past(graph, DescId(5), 1).len(), 2);
-}
-
-/// The links from an instance and to it go, and the others stay in their order; what is left has room again.
-#[test]
-fn purges_an_instance(rt: HostRuntime) {
-    let mut graph = Graph::new(rt.alloc());
-    add_chain(&rt, &mut graph, &[3, 4, 5, 6, 7]);
-    assert_eq!(rt; graph.may_add(DescId(7), DescId(8)), Err(Errno::Eloop));
+fn stands_above(rt: &impl Abort, graph: &mut Graph) {
+    assert!(rt; add(rt, graph, 3, 4, 1) == Ok(()) && add(rt, graph, 4, 5, 2) == Ok(()));
+    assert!(rt; graph.may_add(DescId(5), DescId(3)) == Err(Errno::Eloop));
+    assert!(rt; graph.above(DescId(5), &|_entry: EntryId| true).len() == 2);
+    assert!(rt; above_past(graph, DescId(5), 1) == [DescId(4)].as_slice());
+    graph.unlink(EntryId(1));
+    assert!(rt; graph.links().next().is_some());
     graph.purge(DescId(5));
-    let left = [
-        Link {
-            outer: DescId(3),
-            inner: DescId(4),
-            entry: EntryId(4),
-        },
-        Link {
-            outer: DescId(6),
-            inner: DescId(7),
-            entry: EntryId(7),
-        },
-    ];
-    assert!(rt; graph.links().eq(&left));
-    assert_eq!(rt; add(&rt, &mut graph, 7, 3, 20), Ok(()));
+    assert!(rt; graph.links().next().is_none());
 }
 
 /// Whether a link is refused over a heap of so many bytes. A refused link leaves the graph as it was.

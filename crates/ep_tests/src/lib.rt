@@ -1,14 +1,25 @@
-//! The tests of the words and the parts, in a crate of their own: the gate proves a crate that has tests twice.
+//! The tests of what stands below the kernels, in a crate of their own, since the gate proves a crate that has tests twice:
+//! the words and the parts, the lists and queues, the lines of scripts and histories.
 #![tactic(auto)]
 
 #[cfg(test)]
 mod counters;
 #[cfg(test)]
+mod due;
+#[cfg(test)]
 mod graphs;
+#[cfg(test)]
+mod histories;
+#[cfg(test)]
+mod limits;
+#[cfg(test)]
+mod lines;
 #[cfg(test)]
 mod objects;
 #[cfg(test)]
-mod passing;
+mod ready;
+#[cfg(test)]
+mod reasons;
 #[cfg(test)]
 mod refused;
 #[cfg(test)]
