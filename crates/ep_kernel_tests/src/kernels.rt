@@ -1,42 +1,60 @@
 //! What is asked of each kernel. The proof of a function that owns a kernel grows with the parts that it knows of it, so
 //! one function owns a kernel of any kind.
+ghost use Rattle.std.specs.Prelude.{◌≡◌, [], IfOk};
 
 use ep_base::Limits;
 use ep_kernel::ReadyKernel;
 use ep_plain::{Kernel, PlainKernel};
-use std::alloc::{AllocError, Global};
+use std::alloc::AllocError;
+use std::process::Abort;
+use std::sync::Wait;
 
-/// A script that is run on a kernel.
+/// What is asked of a new kernel.
 pub trait Script {
-    /// The place of the first line that a new kernel does not answer as the script says.
-    fn first_wrong<K: Kernel>(
+    /// Asks it, and ends the process at an answer that is not the one that the script says. An `Err` is want of memory.
+    fn run<K: Kernel + Drop, R: Abort + AllocGlobal + Wait>(
         &self,
-        alloc: Global,
-        kernel: &mut K,
-    ) -> Result<Option<usize>, AllocError>;
+        rt: &R,
+        kernel: K,
+    ) -> Result<(), AllocError>
+        requires empty { K.past kernel ≡ [] };
 }
 
-/// Runs a script on a kernel that it owns, as one of any kind, where there was memory to make it.
-fn on_made<S: Script, K: Kernel + Drop>(
-    alloc: Global,
+/// Asks a kernel, as one of any kind, where there was memory to make it.
+fn on_made<S: Script, K: Kernel + Drop, R: Abort + AllocGlobal + Wait>(
+    rt: &R,
     script: &S,
     made: Result<K, AllocError>,
-) -> Result<Option<usize>, AllocError> {
-    let Ok(mut kernel) = made else {
-        return Err(AllocError);
-    };
-    script.first_wrong(alloc, &mut kernel)
+) -> Result<(), AllocError>
+    requires empty { IfOk made (λ kernel. K.past kernel ≡ []) }
+{
+    match made {
+        Ok(kernel) => script.run(rt, kernel),
+        Err(_) => Err(AllocError),
+    }
 }
 
-/// Runs a script on the kernel that scans.
-pub fn on_scanning_kernel<S: Script>(
-    alloc: Global,
+/// Asks the kernel that scans.
+pub fn on_scanning_kernel<S: Script, R: Abort + AllocGlobal + Wait>(
+    rt: &R,
     script: &S,
-) -> Result<Option<usize>, AllocError> {
-    on_made(alloc, script, PlainKernel::new(alloc, Limits::default()))
+) -> Result<(), AllocError> {
+    on_made(rt, script, PlainKernel::new(rt.alloc(), Limits::default()))
 }
 
-/// Runs a script on the kernel with ready lists.
-pub fn on_ready_kernel<S: Script>(alloc: Global, script: &S) -> Result<Option<usize>, AllocError> {
-    on_made(alloc, script, ReadyKernel::new(alloc, Limits::default()))
+/// Asks the kernel with ready lists.
+pub fn on_ready_kernel<S: Script, R: Abort + AllocGlobal + Wait>(
+    rt: &R,
+    script: &S,
+) -> Result<(), AllocError> {
+    on_made(rt, script, ReadyKernel::new(rt.alloc(), Limits::default()))
+}
+
+/// Asks both kernels.
+pub fn on_both_kernels<S: Script, R: Abort + AllocGlobal + Wait>(
+    rt: &R,
+    script: &S,
+) -> Result<(), AllocError> {
+    on_scanning_kernel(rt, script)?;
+    on_ready_kernel(rt, script)
 }

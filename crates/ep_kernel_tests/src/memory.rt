@@ -6,6 +6,8 @@ use ep_base::{Answer, CallerId, Errno};
 use ep_plain::Kernel;
 use ep_text::{push_answer, read_line};
 use std::alloc::{AllocError, Global};
+use std::process::Abort;
+use std::sync::Wait;
 use std::test::Fail;
 
 /// Each event that takes memory: what is created, registered, parked and copied.
@@ -103,41 +105,30 @@ fn is_answered<K: Kernel>(alloc: Global, kernel: &mut K, line: &str, wanted: &st
 struct Refusals;
 
 impl Script for Refusals {
-    fn first_wrong<K: Kernel>(
+    fn run<K: Kernel + Drop, R: Abort + AllocGlobal + Wait>(
         &self,
-        alloc: Global,
-        kernel: &mut K,
-    ) -> Result<Option<usize>, AllocError> {
+        rt: &R,
+        mut kernel: K,
+    ) -> Result<(), AllocError> {
         let lines = SCRIPT.lines().zip(ANSWERS.split_inclusive('\n'));
         for (place, (line, wanted)) in lines.enumerate() {
-            if !is_answered(alloc, kernel, line, wanted) {
-                return Ok(Some(place));
-            }
+            assert!(rt;
+                is_answered(rt.alloc(), &mut kernel, line, wanted),
+                "at line {place}"
+            );
         }
-        Ok(None)
+        Ok(())
     }
 }
 
 // Where memory for the kernel itself is refused, it is asked for again.
-
 #[test]
-fn the_scanning_kernel_goes_on_where_memory_is_refused(rt: HostRuntime) -> Result<(), Fail> {
-    let wrong = match on_scanning_kernel(rt.alloc(), &Refusals) {
-        Ok(wrong) => wrong,
-        Err(AllocError) => on_scanning_kernel(rt.alloc(), &Refusals)?,
-    };
-    assert_eq!(rt; wrong, None);
-    Ok(())
-}
-
-#[test]
-fn the_kernel_with_ready_lists_goes_on_where_memory_is_refused(
-    rt: HostRuntime,
-) -> Result<(), Fail> {
-    let wrong = match on_ready_kernel(rt.alloc(), &Refusals) {
-        Ok(wrong) => wrong,
-        Err(AllocError) => on_ready_kernel(rt.alloc(), &Refusals)?,
-    };
-    assert_eq!(rt; wrong, None);
+fn each_kernel_goes_on_where_memory_is_refused(rt: HostRuntime) -> Result<(), Fail> {
+    if on_scanning_kernel(&rt, &Refusals).is_err() {
+        on_scanning_kernel(&rt, &Refusals)?;
+    }
+    if on_ready_kernel(&rt, &Refusals).is_err() {
+        on_ready_kernel(&rt, &Refusals)?;
+    }
     Ok(())
 }

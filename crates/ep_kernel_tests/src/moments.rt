@@ -1,9 +1,11 @@
 //! The moment at which something happens next, as both kernels tell it while a timer runs and a caller is parked.
 
-use crate::kernels::{Script, on_ready_kernel, on_scanning_kernel};
+use crate::kernels::{Script, on_both_kernels};
 use ep_plain::Kernel;
 use ep_text::read_line;
-use std::alloc::{AllocError, Global};
+use std::alloc::AllocError;
+use std::process::Abort;
+use std::sync::Wait;
 use std::test::Fail;
 
 /// A timer expires once, 5 milliseconds after it was set, and a wait of 3 milliseconds ends before. Set anew it expires after 4
@@ -40,32 +42,24 @@ const MOMENTS: [Option<u64>; 11] = [
 struct Moments;
 
 impl Script for Moments {
-    fn first_wrong<K: Kernel>(
+    fn run<K: Kernel + Drop, R: Abort + AllocGlobal + Wait>(
         &self,
-        alloc: Global,
-        kernel: &mut K,
-    ) -> Result<Option<usize>, AllocError> {
+        rt: &R,
+        mut kernel: K,
+    ) -> Result<(), AllocError> {
         for (place, (line, moment)) in SCRIPT.lines().zip(MOMENTS.iter()).enumerate() {
-            let Some((caller, event)) = read_line(alloc, line.as_bytes())? else {
-                return Ok(Some(place));
-            };
-            let _answer = kernel.step(caller, event);
-            if kernel.next_moment() != *moment {
-                return Ok(Some(place));
+            let command = read_line(rt.alloc(), line.as_bytes())?;
+            assert!(rt; command.is_some(), "at line {place}");
+            if let Some((caller, event)) = command {
+                let _answer = kernel.step(caller, event);
             }
+            assert!(rt; kernel.next_moment() == *moment, "at line {place}");
         }
-        Ok(None)
+        Ok(())
     }
 }
 
 #[test]
-fn the_scanning_kernel_tells_the_next_moment(rt: HostRuntime) -> Result<(), Fail> {
-    assert_eq!(rt; on_scanning_kernel(rt.alloc(), &Moments)?, None);
-    Ok(())
-}
-
-#[test]
-fn the_kernel_with_ready_lists_tells_the_next_moment(rt: HostRuntime) -> Result<(), Fail> {
-    assert_eq!(rt; on_ready_kernel(rt.alloc(), &Moments)?, None);
-    Ok(())
+fn each_kernel_tells_the_next_moment(rt: HostRuntime) -> Result<(), Fail> {
+    Ok(on_both_kernels(&rt, &Moments)?)
 }

@@ -3,7 +3,8 @@
 use crate::stand_ins::{Narrow, NoMemory, Pieces, Unflushed};
 use ep_base::Limits;
 use ep_script::{ScriptFault, Summary, Watched, run_script};
-use std::alloc::Global;
+use std::alloc::{AllocError, Global};
+use std::process::Abort;
 use std::test::Fail;
 
 const NO_MEMORY: &[u8] = b"{\"err\":[12,\"ENOMEM\"]}\n";
@@ -97,6 +98,16 @@ fn reads_and_writes_single_bytes(rt: HostRuntime) {
     assert_eq!(rt; ran.written.as_slice(), ANSWERS);
 }
 
+fn newlines(text: &[u8]) -> usize {
+    let mut count = 0_usize;
+    for byte in text {
+        if *byte == b'\n' {
+            count = count.saturating_add(1);
+        }
+    }
+    count
+}
+
 #[test]
 fn ends_at_a_failed_read(rt: HostRuntime) {
     for count in 0..=SCRIPT.len() {
@@ -109,8 +120,7 @@ fn ends_at_a_failed_read(rt: HostRuntime) {
         let ran = run(rt.alloc(), reader, wide(rt.alloc()));
         assert_eq!(rt; ran.outcome, Err(ScriptFault::Read), "after {count} bytes");
         assert!(rt; ran.reader_failed && !ran.writer_failed);
-        let lines = text.iter().filter(|byte| **byte == b'\n').count();
-        let end = ANSWER_ENDS.get(lines).copied().unwrap_or(0);
+        let end = ANSWER_ENDS.get(newlines(text)).copied().unwrap_or(0);
         assert_eq!(rt;
             Some(ran.written.as_slice()),
             ANSWERS.get(..end),
@@ -158,37 +168,49 @@ fn ends_at_a_failed_flush(rt: HostRuntime) {
     assert_eq!(rt; writer.into_inner().taken.as_slice(), NO_MEMORY);
 }
 
+/// What a run over these bytes and then so many others comes to, and what it writes.
+fn expect_long(
+    rt: &(impl AllocGlobal + Abort),
+    before: &[u8],
+    count: usize,
+    outcome: Result<Summary, ScriptFault>,
+    written: &[u8],
+) -> Result<(), AllocError> {
+    let mut text = Vec::from_slice(rt.alloc(), before)?;
+    text.extend_from_slice(&vec![in rt.alloc(); b'x'; count]?)?;
+    let ran = run(rt.alloc(), whole(text.as_slice()), wide(rt.alloc()));
+    assert_eq!(rt; ran.outcome, outcome);
+    assert_eq!(rt; ran.written.as_slice(), written);
+    Ok(())
+}
+
 #[test]
 fn limits_the_bytes_of_a_line(rt: HostRuntime) -> Result<(), Fail> {
-    let alloc = rt.alloc();
-    let longest = vec![in alloc; b'x'; 65_536]?;
-    let ran = run(alloc, whole(longest.as_slice()), wide(alloc));
-    assert_eq!(rt; ran.outcome, summary(1, 1));
-    assert_eq!(rt; ran.written.as_slice(), b"{\"bad\":1}\n".as_slice());
-    let longer = vec![in alloc; b'x'; 65_537]?;
-    let ran = run(alloc, whole(longer.as_slice()), wide(alloc));
-    assert_eq!(rt; ran.outcome, Err(ScriptFault::Line(1)));
-    assert!(rt; ran.written.is_empty());
-    let mut second = Vec::from_slice(alloc, b"{\"op\":\"pipe\"}\n")?;
-    second.extend_from_slice(longer.as_slice())?;
-    let ran = run(alloc, whole(second.as_slice()), wide(alloc));
-    assert_eq!(rt; ran.outcome, Err(ScriptFault::Line(2)));
-    assert_eq!(rt; ran.written.as_slice(), NO_MEMORY);
+    expect_long(&rt, b"", 65_536, summary(1, 1), b"{\"bad\":1}\n")?;
+    expect_long(&rt, b"", 65_537, Err(ScriptFault::Line(1)), b"")?;
+    let pipe = b"{\"op\":\"pipe\"}\n";
+    expect_long(&rt, pipe, 65_537, Err(ScriptFault::Line(2)), NO_MEMORY)?;
+    Ok(())
+}
+
+/// What a run over 100,000 empty lines and then these bytes comes to. All of the lines are answered.
+fn expect_many(
+    rt: &(impl AllocGlobal + Abort),
+    last: &[u8],
+    outcome: Result<Summary, ScriptFault>,
+) -> Result<(), AllocError> {
+    let mut text = vec![in rt.alloc(); b'\n'; 100_000]?;
+    text.extend_from_slice(last)?;
+    let ran = run(rt.alloc(), whole(text.as_slice()), wide(rt.alloc()));
+    assert_eq!(rt; ran.outcome, outcome);
+    assert!(rt; ran.written.ends_with(b"{\"bad\":100000}\n"));
     Ok(())
 }
 
 #[test]
 fn limits_the_number_of_lines(rt: HostRuntime) -> Result<(), Fail> {
-    let alloc = rt.alloc();
-    let mut text = vec![in alloc; b'\n'; 100_000]?;
-    let ran = run(alloc, whole(text.as_slice()), wide(alloc));
-    assert_eq!(rt; ran.outcome, summary(100_000, 100_000));
-    let all = ran.written.len();
-    assert!(rt; ran.written.ends_with(b"{\"bad\":100000}\n"));
-    text.push(b'x')?;
-    let ran = run(alloc, whole(text.as_slice()), wide(alloc));
-    assert_eq!(rt; ran.outcome, Err(ScriptFault::Lines));
-    assert_eq!(rt; ran.written.len(), all);
+    expect_many(&rt, b"", summary(100_000, 100_000))?;
+    expect_many(&rt, b"x", Err(ScriptFault::Lines))?;
     Ok(())
 }
 

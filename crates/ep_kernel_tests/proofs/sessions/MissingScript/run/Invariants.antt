@@ -1,4 +1,4 @@
-use Rattle.ep_thread_tests.proofs.sessions.a_session_is_missing.Given as goal
+use Rattle.ep_kernel_tests.proofs.sessions.MissingScript.run.Given as goal
 
 abbrev pub ghosts-one_is_missing : goal.ghosts-one_is_missing
 ghosts-one_is_missing g a = record { name = a.blank.name; parts = a.blank.parts }

@@ -68,7 +68,7 @@ fn expect_end<C: Create>(
     let alloc = rt.alloc();
     let mut written = Vec::new(alloc);
     let mut errors = Vec::new(alloc);
-    let line = words(alloc, &["--history", "h.jsonl"])?;
+    let line = words(alloc, "epsim", &["--history", "h.jsonl"])?;
     let found = run_with_files(alloc, line, SCRIPT, &mut written, &mut errors, files);
     assert_eq!(rt; found, status);
     assert_eq!(rt; written.as_slice(), output);
@@ -101,7 +101,7 @@ fn reads_no_script_without_the_file(rt: HostRuntime) -> Result<(), Fail> {
     let alloc: Global = rt.alloc();
     let mut written = Vec::new(alloc);
     let mut errors = Vec::new(alloc);
-    let line = words(alloc, &["--history", "h.jsonl"])?;
+    let line = words(alloc, "epsim", &["--history", "h.jsonl"])?;
     let status = run_with(alloc, line, SCRIPT, &mut written, &mut errors);
     assert_eq!(rt; status, 1);
     assert!(rt; written.is_empty());

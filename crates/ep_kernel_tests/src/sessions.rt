@@ -1,25 +1,23 @@
-//! Two sessions of one kernel, in one thread.
-ghost use Rattle.std.specs.Prelude.{◌≡◌};
+//! Two sessions of one kernel, in one thread, over both kernels.
+ghost use Rattle.std.specs.Prelude.{◌≡◌, []};
 
+use crate::kernels::{Script, on_both_kernels};
 use ep_audit::audit;
 use ep_base::{Answer, Buffer, Call, CallerId, Errno, Fd, Limits, Mask, Pid, Record};
-use ep_plain::PlainKernel;
+use ep_plain::Kernel;
 use ep_shared::laws::same_parts;
 use ep_shared::{Book, FinishFault, History, Session, Shared};
 use std::alloc::{AllocError, Global};
 use std::marker::Brand;
+use std::process::Abort;
 use std::sync::Wait;
 use std::sync::ledger::{Blank, Ledger};
-use std::test::*;
+use std::test::Fail;
 
 pub(crate) const PROCESS: Pid = Pid(1);
 
-pub(crate) fn check(holds: bool) -> Result<(), Fail> {
-    if holds { Ok(()) } else { Err(Fail::new("no")) }
-}
-
 /// An eventfd 3 that instance 4 watches, at which the caller parks.
-fn parks<L: Ledger>(rt: &impl Wait, shared: &Shared<PlainKernel, L>, one: &mut Session<L>) {
+fn parks<K: Kernel + Drop, L: Ledger>(rt: &impl Wait, shared: &Shared<K, L>, one: &mut Session<L>) {
     let calls = [
         Call::EventFd {
             init: 0,
@@ -46,10 +44,10 @@ fn parks<L: Ledger>(rt: &impl Wait, shared: &Shared<PlainKernel, L>, one: &mut S
 }
 
 /// A write of 1 to the eventfd 3.
-fn writes<L: Ledger>(
+fn writes<K: Kernel + Drop, L: Ledger>(
     rt: &impl Wait,
     alloc: Global,
-    shared: &Shared<PlainKernel, L>,
+    shared: &Shared<K, L>,
     two: &mut Session<L>,
 ) -> Result<(), AllocError> {
     let bytes = Buffer::new(vec![in alloc; 1, 0, 0, 0, 0, 0, 0, 0]?);
@@ -59,9 +57,9 @@ fn writes<L: Ledger>(
 }
 
 /// Whether these callers are parked.
-fn parked_are<L: Ledger>(
+fn parked_are<K: Kernel + Drop, L: Ledger>(
     rt: &impl Wait,
-    shared: &Shared<PlainKernel, L>,
+    shared: &Shared<K, L>,
     wanted: &[CallerId],
 ) -> bool {
     match shared.parked(rt) {
@@ -71,10 +69,10 @@ fn parked_are<L: Ledger>(
 }
 
 /// All that both sessions are asked, and whether those were parked that should be.
-fn both_ask<L: Ledger>(
+fn both_ask<K: Kernel + Drop, L: Ledger>(
     rt: &impl Wait,
     alloc: Global,
-    shared: &Shared<PlainKernel, L>,
+    shared: &Shared<K, L>,
     one: &mut Session<L>,
     two: &mut Session<L>,
 ) -> Result<bool, AllocError> {
@@ -156,34 +154,24 @@ fn differs_without_the_last<L: Ledger>(alloc: Global, sessions: &[Session<L>]) -
     are_same && matches!(same_parts(&records, sessions), Err(CallerId(2)))
 }
 
-/// A kernel with default limits that two sessions share.
-fn two_sessions<L: Ledger>(
-    alloc: Global,
-    blank: Blank,
-) -> Result<(Shared<PlainKernel, L>, Vec<Session<L>>), AllocError>
-    requires name { blank.name ≡ L.name }
-    requires parts { blank.parts ≡ L.parts }
-    requires two { blank.parts ≡ 2 }
-{
-    let kernel = PlainKernel::new(alloc, Limits::default())?;
-    Shared::<PlainKernel, L>::start(alloc, blank, kernel, 2)
-}
-
-/// Two sessions that were asked all that.
-fn sessions_that_asked<L: Ledger, R: Wait>(
+/// Two sessions of this kernel that were asked all that.
+fn sessions_that_asked<K: Kernel + Drop, L: Ledger, R: Abort + AllocGlobal + Wait>(
     rt: &R,
-    alloc: Global,
     blank: Blank,
-) -> Result<(Shared<PlainKernel, L>, Vec<Session<L>>), Fail>
+    kernel: K,
+) -> Result<(Shared<K, L>, Vec<Session<L>>), AllocError>
     requires name { blank.name ≡ L.name }
     requires parts { blank.parts ≡ L.parts }
     requires two { blank.parts ≡ 2 }
+    requires empty { K.past kernel ≡ [] }
 {
-    let (shared, mut sessions) = two_sessions::<L>(alloc, blank)?;
+    let (shared, mut sessions) = Shared::<K, L>::start(rt.alloc(), blank, kernel, 2)?;
     let [one, two] = sessions.as_mut_slice() else {
-        return Err(Fail::new("missing"));
+        assert!(rt; false, "no two sessions");
+        return Err(AllocError);
     };
-    check(both_ask(rt, alloc, &shared, one, two)?)?;
+    let is_parked = both_ask(rt, rt.alloc(), &shared, one, two)?;
+    assert!(rt; is_parked);
     Ok((shared, sessions))
 }
 
@@ -206,42 +194,42 @@ fn is_whole(alloc: Global, finished: &Result<History, FinishFault>) -> bool {
     }
 }
 
-fn all_come_back<L: Ledger, R: Wait>(rt: &R, alloc: Global, blank: Blank) -> Result<(), Fail>
+fn all_come_back<K: Kernel + Drop, L: Ledger, R: Abort + AllocGlobal + Wait>(
+    rt: &R,
+    blank: Blank,
+    kernel: K,
+) -> Result<(), AllocError>
     requires name { blank.name ≡ L.name }
     requires parts { blank.parts ≡ L.parts }
     requires two { blank.parts ≡ 2 }
+    requires empty { K.past kernel ≡ [] }
 {
-    let (shared, sessions) = sessions_that_asked::<L, R>(rt, alloc, blank)?;
-    let are_right = are_told(&sessions) && differs_without_the_last(alloc, &sessions);
-    check(is_whole(alloc, &shared.finish(sessions)) && are_right)
+    let (shared, sessions) = sessions_that_asked::<K, L, R>(rt, blank, kernel)?;
+    assert!(rt; are_told(&sessions));
+    assert!(rt; differs_without_the_last(rt.alloc(), &sessions));
+    assert!(rt; is_whole(rt.alloc(), &shared.finish(sessions)));
+    Ok(())
 }
 
-fn one_is_missing<L: Ledger, R: Wait>(rt: &R, alloc: Global, blank: Blank) -> Result<(), Fail>
+fn one_is_missing<K: Kernel + Drop, L: Ledger, R: Abort + AllocGlobal + Wait>(
+    rt: &R,
+    blank: Blank,
+    kernel: K,
+) -> Result<(), AllocError>
     requires name { blank.name ≡ L.name }
     requires parts { blank.parts ≡ L.parts }
     requires two { blank.parts ≡ 2 }
+    requires empty { K.past kernel ≡ [] }
 {
-    let (shared, mut sessions) = sessions_that_asked::<L, R>(rt, alloc, blank)?;
+    let (shared, mut sessions) = sessions_that_asked::<K, L, R>(rt, blank, kernel)?;
     let _ = sessions.pop();
     let fault = shared.finish(sessions);
-    check(matches!(fault, Err(FinishFault::Missing(CallerId(2)))))
-}
-
-/// A book of a kernel with default limits, and two sessions.
-fn two_of_a_book<L: Ledger>(
-    alloc: Global,
-    blank: Blank,
-) -> Result<(Book<PlainKernel, L>, Vec<Session<L>>), AllocError>
-    requires name { blank.name ≡ L.name }
-    requires parts { blank.parts ≡ L.parts }
-    requires two { blank.parts ≡ 2 }
-{
-    let kernel = PlainKernel::new(alloc, Limits::default())?;
-    Book::<PlainKernel, L>::open(alloc, blank, kernel, 2)
+    assert!(rt; matches!(fault, Err(FinishFault::Missing(CallerId(2)))));
+    Ok(())
 }
 
 /// Whether no caller is parked.
-fn nobody_is_parked<L: Ledger>(book: &Book<PlainKernel, L>) -> bool {
+fn nobody_is_parked<K: Kernel + Drop, L: Ledger>(book: &Book<K, L>) -> bool {
     match book.parked(2) {
         Ok(parked) => parked.is_empty(),
         Err(_) => false,
@@ -249,8 +237,8 @@ fn nobody_is_parked<L: Ledger>(book: &Book<PlainKernel, L>) -> bool {
 }
 
 /// Whether it is not closed for the limits.
-fn is_refused<L: Ledger>(
-    book: Book<PlainKernel, L>,
+fn is_refused<K: Kernel + Drop, L: Ledger>(
+    book: Book<K, L>,
     limits: &Limits,
     sessions: Vec<Session<L>>,
 ) -> bool
@@ -259,28 +247,74 @@ fn is_refused<L: Ledger>(
     matches!(book.close(limits, 2, sessions), Err(FinishFault::Limits))
 }
 
-fn limits_differ<L: Ledger>(alloc: Global, blank: Blank) -> Result<(), Fail>
+fn limits_differ<K: Kernel + Drop, L: Ledger, R: Abort + AllocGlobal>(
+    rt: &R,
+    blank: Blank,
+    kernel: K,
+) -> Result<(), AllocError>
     requires name { blank.name ≡ L.name }
     requires parts { blank.parts ≡ L.parts }
     requires two { blank.parts ≡ 2 }
+    requires empty { K.past kernel ≡ [] }
 {
-    let limits = Limits::new(6, 5, 2, 8, 4096, 1).ok_or("out of range")?;
-    let (book, sessions) = two_of_a_book::<L>(alloc, blank)?;
-    let is_free = nobody_is_parked(&book);
-    check(is_refused(book, &limits, sessions) && is_free)
+    let (book, sessions) = Book::<K, L>::open(rt.alloc(), blank, kernel, 2)?;
+    assert!(rt; nobody_is_parked(&book));
+    if let Some(limits) = Limits::new(6, 5, 2, 8, 4096, 1) {
+        assert!(rt; is_refused(book, &limits, sessions));
+    }
+    Ok(())
+}
+
+/// All sessions are handed in.
+struct Whole;
+
+impl Script for Whole {
+    fn run<K: Kernel + Drop, R: Abort + AllocGlobal + Wait>(
+        &self,
+        rt: &R,
+        kernel: K,
+    ) -> Result<(), AllocError> {
+        all_come_back::<K, Brand, R>(rt, Blank::new(2), kernel)
+    }
+}
+
+/// The session of caller 2 is kept back.
+struct Missing;
+
+impl Script for Missing {
+    fn run<K: Kernel + Drop, R: Abort + AllocGlobal + Wait>(
+        &self,
+        rt: &R,
+        kernel: K,
+    ) -> Result<(), AllocError> {
+        one_is_missing::<K, Brand, R>(rt, Blank::new(2), kernel)
+    }
+}
+
+/// A book is closed with limits that are not its kernel's.
+struct OtherLimits;
+
+impl Script for OtherLimits {
+    fn run<K: Kernel + Drop, R: Abort + AllocGlobal + Wait>(
+        &self,
+        rt: &R,
+        kernel: K,
+    ) -> Result<(), AllocError> {
+        limits_differ::<K, Brand, R>(rt, Blank::new(2), kernel)
+    }
 }
 
 #[test]
 fn two_sessions_agree(rt: HostRuntime) -> Result<(), Fail> {
-    all_come_back::<Brand, _>(&rt, rt.alloc(), Blank::new(2))
+    Ok(on_both_kernels(&rt, &Whole)?)
 }
 
 #[test]
 fn a_session_is_missing(rt: HostRuntime) -> Result<(), Fail> {
-    one_is_missing::<Brand, _>(&rt, rt.alloc(), Blank::new(2))
+    Ok(on_both_kernels(&rt, &Missing)?)
 }
 
 #[test]
 fn other_limits(rt: HostRuntime) -> Result<(), Fail> {
-    limits_differ::<Brand>(rt.alloc(), Blank::new(2))
+    Ok(on_both_kernels(&rt, &OtherLimits)?)
 }

@@ -1,22 +1,27 @@
-//! Two jobs of one kernel.
-ghost use Rattle.std.specs.Prelude.{◌≡◌};
+//! Two jobs of one kernel, in threads of their own, over both kernels.
+ghost use Rattle.std.specs.Prelude.{◌≡◌, [], IfOk};
 
 use crate::gates::{BothHere, Shut};
-use crate::sessions::{PROCESS, check};
+use crate::sessions::PROCESS;
 use ep_audit::audit;
 use ep_base::{Answer, Buffer, Call, CallerId, Fd, Limits, Mask, Record};
-use ep_plain::PlainKernel;
+use ep_kernel::ReadyKernel;
+use ep_plain::{Kernel, PlainKernel};
 use ep_pool::{Gate, Job, PoolReport, Step, run_sessions};
 use ep_shared::{History, Session, Shared};
 use std::alloc::{AllocError, Global};
 use std::marker::Brand;
 use std::sync::Wait;
 use std::sync::ledger::{Blank, Ledger};
-use std::test::*;
+use std::test::Fail;
 use std::thread::Threads;
 
 /// How often the test of two threads is run.
 const TIMES: u32 = 100;
+
+fn check(holds: bool) -> Result<(), Fail> {
+    if holds { Ok(()) } else { Err(Fail::new("no")) }
+}
 
 /// An eventfd with 0.
 fn counter() -> Call {
@@ -28,7 +33,7 @@ fn counter() -> Call {
 }
 
 /// Eventfd 3, instance 4 that watches it, and eventfd 5.
-fn opens<L: Ledger>(rt: &impl Wait, shared: &Shared<PlainKernel, L>, one: &mut Session<L>) {
+fn opens<K: Kernel + Drop, L: Ledger>(rt: &impl Wait, shared: &Shared<K, L>, one: &mut Session<L>) {
     let add = Call::EpollCtl {
         epfd: Fd(4),
         op: 1,
@@ -136,24 +141,11 @@ fn are_told<L: Ledger>(back: &[Session<L>]) -> bool {
         && is_told(back[1].records())
 }
 
-/// Two sessions of a kernel with default limits.
-fn two_sessions<L: Ledger>(
-    alloc: Global,
-    blank: Blank,
-) -> Result<(Shared<PlainKernel, L>, Vec<Session<L>>), Fail>
-    requires name { blank.name ≡ L.name }
-    requires parts { blank.parts ≡ L.parts }
-    requires two { blank.parts ≡ 2 }
-{
-    let kernel = PlainKernel::new(alloc, Limits::default())?;
-    Ok(Shared::<PlainKernel, L>::start(alloc, blank, kernel, 2)?)
-}
-
 /// Runs both jobs, and gives their sessions back where none stopped.
-fn run_both<L: Ledger + Send + Sync, R: Threads + Wait + Sync>(
+fn run_both<K: Kernel + Drop + Send, L: Ledger + Send + Sync, R: Threads + Wait + Sync>(
     rt: &R,
     alloc: Global,
-    shared: &Shared<PlainKernel, L>,
+    shared: &Shared<K, L>,
     jobs: Vec<Job<L>>,
 ) -> Result<Vec<Session<L>>, Fail> {
     let gate = BothHere::new();
@@ -171,16 +163,18 @@ fn is_whole(alloc: Global, history: &History) -> bool {
     records.len() == 9 && audit(alloc, &history.limits, records).is_ok()
 }
 
-fn one_wakes_the_other<L: Ledger + Send + Sync, R: Threads + Wait + Sync>(
+fn one_wakes_the_other<K: Kernel + Drop + Send, L: Ledger + Send + Sync, R: Threads + Wait + Sync>(
     rt: &R,
     alloc: Global,
     blank: Blank,
+    kernel: K,
 ) -> Result<(), Fail>
     requires name { blank.name ≡ L.name }
     requires parts { blank.parts ≡ L.parts }
     requires two { blank.parts ≡ 2 }
+    requires empty { K.past kernel ≡ [] }
 {
-    let (shared, mut sessions) = two_sessions::<L>(alloc, blank)?;
+    let (shared, mut sessions) = Shared::<K, L>::start(alloc, blank, kernel, 2)?;
     let two = sessions.pop().ok_or("missing")?;
     let mut one = sessions.pop().ok_or("missing")?;
     opens(rt, &shared, &mut one);
@@ -199,10 +193,10 @@ fn one_step<L: Ledger>(alloc: Global, session: Session<L>) -> Result<Job<L>, All
 }
 
 /// Runs jobs of which none makes a step, and gives their sessions back.
-fn run_none<L: Ledger + Send + Sync, R: Threads + Wait + Sync>(
+fn run_none<K: Kernel + Drop + Send, L: Ledger + Send + Sync, R: Threads + Wait + Sync>(
     rt: &R,
     alloc: Global,
-    shared: &Shared<PlainKernel, L>,
+    shared: &Shared<K, L>,
     jobs: Vec<Job<L>>,
 ) -> Result<Vec<Session<L>>, Fail> {
     let Ok(report) = run_sessions(rt, alloc, shared, jobs, &Shut, 3) else {
@@ -214,16 +208,18 @@ fn run_none<L: Ledger + Send + Sync, R: Threads + Wait + Sync>(
     Ok(sessions)
 }
 
-fn nobody_goes<L: Ledger + Send + Sync, R: Threads + Wait + Sync>(
+fn nobody_goes<K: Kernel + Drop + Send, L: Ledger + Send + Sync, R: Threads + Wait + Sync>(
     rt: &R,
     alloc: Global,
     blank: Blank,
+    kernel: K,
 ) -> Result<(), Fail>
     requires name { blank.name ≡ L.name }
     requires parts { blank.parts ≡ L.parts }
     requires two { blank.parts ≡ 2 }
+    requires empty { K.past kernel ≡ [] }
 {
-    let (shared, mut sessions) = two_sessions::<L>(alloc, blank)?;
+    let (shared, mut sessions) = Shared::<K, L>::start(alloc, blank, kernel, 2)?;
     let two = sessions.pop().ok_or("missing")?;
     let one = sessions.pop().ok_or("missing")?;
     let jobs = vec![in alloc; one_step(alloc, one)?, one_step(alloc, two)?]?;
@@ -234,15 +230,48 @@ fn nobody_goes<L: Ledger + Send + Sync, R: Threads + Wait + Sync>(
     }
 }
 
+/// What the threads are to do.
+#[derive(Clone, Copy)]
+enum Task {
+    /// One job waits, and the other writes.
+    Wake,
+    /// No job is let go.
+    Stay,
+}
+
+/// Runs a task on a kernel of any kind, where there was memory to make it.
+fn run_on<K: Kernel + Drop + Send, R: Threads + Wait + Sync>(
+    rt: &R,
+    alloc: Global,
+    task: Task,
+    made: Result<K, AllocError>,
+) -> Result<(), Fail>
+    requires empty { IfOk made (λ kernel. K.past kernel ≡ []) }
+{
+    let Ok(kernel) = made else {
+        return Err(Fail::new("no kernel"));
+    };
+    match task {
+        Task::Wake => one_wakes_the_other::<K, Brand, R>(rt, alloc, Blank::new(2), kernel),
+        Task::Stay => nobody_goes::<K, Brand, R>(rt, alloc, Blank::new(2), kernel),
+    }
+}
+
+/// Runs a task on both kernels.
+fn run_on_both<R: Threads + Wait + Sync>(rt: &R, alloc: Global, task: Task) -> Result<(), Fail> {
+    run_on(rt, alloc, task, PlainKernel::new(alloc, Limits::default()))?;
+    run_on(rt, alloc, task, ReadyKernel::new(alloc, Limits::default()))
+}
+
 #[test]
 fn two_threads(rt: HostRuntime) -> Result<(), Fail> {
     for _ in 0..TIMES {
-        one_wakes_the_other::<Brand, _>(&rt, rt.alloc(), Blank::new(2))?;
+        run_on_both(&rt, rt.alloc(), Task::Wake)?;
     }
     Ok(())
 }
 
 #[test]
 fn shut_gate(rt: HostRuntime) -> Result<(), Fail> {
-    nobody_goes::<Brand, _>(&rt, rt.alloc(), Blank::new(2))
+    run_on_both(&rt, rt.alloc(), Task::Stay)
 }

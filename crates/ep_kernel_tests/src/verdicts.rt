@@ -1,0 +1,78 @@
+//! What `epaudit` writes for a history, and its status.
+
+use crate::program::{Failing, words};
+use ep_audit_program::run_with;
+use std::io::Read;
+use std::process::Abort;
+use std::test::Fail;
+
+/// A pipe is answered 3 and 4.
+const PIPE: &str =
+    "{\"answer\":{\"two\":[3,4]},\"caller\":0,\"event\":{\"call\":{\"cloexec\":false,\"op\":\"pipe\"},\"pid\":1},\"picked\":[]}\n";
+
+/// The next one is answered 3 and 5.
+const WRONG: &str =
+    "{\"answer\":{\"two\":[3,4]},\"caller\":0,\"event\":{\"call\":{\"cloexec\":false,\"op\":\"pipe\"},\"pid\":1},\"picked\":[]}
+{\"answer\":{\"two\":[3,5]},\"caller\":0,\"event\":{\"call\":{\"cloexec\":false,\"op\":\"pipe\"},\"pid\":1},\"picked\":[]}
+";
+
+const ILLEGAL_AT_1: &str = "illegal at record 1: the machine does not allow this answer here
+{\"answer\":{\"two\":[3,5]},\"caller\":0,\"event\":{\"call\":{\"cloexec\":false,\"op\":\"pipe\"},\"pid\":1},\"picked\":[]}
+";
+
+const ILLEGAL_AT_0: &str = "illegal at record 0: the machine does not allow this answer here
+{\"answer\":{\"two\":[3,4]},\"caller\":0,\"event\":{\"call\":{\"cloexec\":false,\"op\":\"pipe\"},\"pid\":1},\"picked\":[]}
+";
+
+/// A record, and a line that is none.
+const CUT: &str =
+    "{\"answer\":{\"two\":[3,5]},\"caller\":0,\"event\":{\"call\":{\"cloexec\":false,\"op\":\"pipe\"},\"pid\":1},\"picked\":[]}
+{\"answer\":";
+
+/// Words, a history, the status, what is written, and what is written of a fault.
+const VERDICTS: [(&[&str], &str, u8, &str, &str); 6] = [
+    (&[], "", 0, "ok 0 records\n", ""),
+    (&[], PIPE, 0, "ok 1 records\n", ""),
+    (&[], WRONG, 1, ILLEGAL_AT_1, ""),
+    (&["--limits", "4,9,2,8,4096,1"], PIPE, 1, ILLEGAL_AT_0, ""),
+    (&[], "\n", 2, "", "epaudit: line 1 is no record\n"),
+    (&[], CUT, 2, "", "epaudit: line 2 is no record\n"),
+];
+
+fn expect_verdict<R: Read + Drop>(
+    rt: &(impl AllocGlobal + Abort),
+    given: &[&str],
+    reader: R,
+    status: u8,
+    output: &str,
+    error: &str,
+) -> Result<(), Fail> {
+    let alloc = rt.alloc();
+    let mut written = Vec::new(alloc);
+    let mut errors = Vec::new(alloc);
+    let line = words(alloc, "epaudit", given)?;
+    let found = run_with(alloc, line, reader, &mut written, &mut errors);
+    assert_eq!(rt; found, status);
+    assert_eq!(rt; written.as_slice(), output.as_bytes());
+    assert_eq!(rt; errors.as_slice(), error.as_bytes());
+    Ok(())
+}
+
+#[test]
+fn judges_histories(rt: HostRuntime) -> Result<(), Fail> {
+    for (given, history, status, output, error) in VERDICTS {
+        expect_verdict(&rt, given, history.as_bytes(), status, output, error)?;
+    }
+    Ok(())
+}
+
+#[test]
+fn has_no_verdict(rt: HostRuntime) -> Result<(), Fail> {
+    let limits = ["--limits", "2,5,2,8,4096,1"];
+    expect_verdict(&rt, &limits, Failing, 2, "", "epaudit: bad limits\n")?;
+    let error = "epaudit: cannot read the history\n";
+    expect_verdict(&rt, &[], Failing, 2, "", error)?;
+    let long = vec![in rt.alloc(); b' '; 65_537]?;
+    let error = "epaudit: line 1 is longer than 65536 bytes\n";
+    expect_verdict(&rt, &[], long.as_slice(), 2, "", error)
+}
