@@ -8,8 +8,8 @@ use std::thread;
 /// How long a question waits for the other job's first question.
 const TURNS: u32 = 10_000_000;
 
-/// A job's first question is answered only once the other job's first question has come in: one thread that asks in turn
-/// for both jobs is answered false each time. The first step of caller 2 goes once caller 1 is parked.
+/// A job's first question is answered only once the other job's first question has come in: one thread that asks in
+/// turn for both jobs is answered false each time. The first step of caller 2 goes once caller 1 is parked.
 #[derive(Drop)]
 pub(crate) struct BothHere {
     pub(crate) first: AtomicU64,

@@ -1,5 +1,5 @@
-//! What is asked of each kernel. The proof of a function that owns a kernel grows with the parts that it knows of it, so
-//! one function owns a kernel of any kind.
+//! What is asked of each kernel. The proof of a function that owns a kernel grows with the parts that it knows of it,
+//! so one function owns a kernel of any kind.
 ghost use Rattle.std.specs.Prelude.{◌≡◌, [], IfOk};
 
 use ep_base::Limits;

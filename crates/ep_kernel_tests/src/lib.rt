@@ -1,6 +1,6 @@
-//! The tests of both kernels and of what runs on them, in a crate of their own, since the gate proves a crate that has tests
-//! twice: sessions and threads, scripts over readers and writers that fail, and both programs. What a kernel answers is in the
-//! scripts of `ep_examples`.
+//! The tests of both kernels and of what runs on them, in a crate of their own, since the gate proves a crate that
+//! has tests twice: sessions and threads, scripts over readers and writers that fail, and both programs. What a
+//! kernel answers is in the scripts of `ep_examples`.
 #![tactic(auto)]
 
 #[cfg(test)]

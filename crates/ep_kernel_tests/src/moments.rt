@@ -8,8 +8,9 @@ use std::process::Abort;
 use std::sync::Wait;
 use std::test::Fail;
 
-/// A timer expires once, 5 milliseconds after it was set, and a wait of 3 milliseconds ends before. Set anew it expires after 4
-/// milliseconds and then after each 2, but raises nothing while an expiration is unread; once closed it raises nothing.
+/// A timer expires once, 5 milliseconds after it was set, and a wait of 3 milliseconds ends before. Set anew it
+/// expires after 4 milliseconds and then after each 2, but raises nothing while an expiration is unread; once closed
+/// it raises nothing.
 const SCRIPT: &str = "{\"op\":\"timerfd\",\"clock\":1}
 {\"op\":\"epoll\"}
 {\"op\":\"settime\",\"fd\":3,\"value\":5}

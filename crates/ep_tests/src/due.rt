@@ -71,8 +71,8 @@ fn keeps_the_queue_where_memory_is_refused(rt: HostRuntime) -> Result<(), Fail> 
     Ok(())
 }
 
-// Whether a tick over a list that grows on a heap of so many bytes is refused, and then has taken the earliest places and left
-// the others.
+// Whether a tick over a list that grows on a heap of so many bytes is refused, and then has taken the earliest places
+// and left the others.
 fn is_tick_refused(rt: &(impl Abort + AllocGlobal), bytes: usize) -> Result<bool, AllocError> {
     let heap = LocalHeap::new(rt.alloc(), bytes)?;
     let mut queue = DueQueue::new(rt.alloc());

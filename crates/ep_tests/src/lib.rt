@@ -1,5 +1,5 @@
-//! The tests of what stands below the kernels, in a crate of their own, since the gate proves a crate that has tests twice:
-//! the words and the parts, the lists and queues, the lines of scripts and histories.
+//! The tests of what stands below the kernels, in a crate of their own, since the gate proves a crate that has tests
+//! twice: the words and the parts, the lists and queues, the lines of scripts and histories.
 #![tactic(auto)]
 
 #[cfg(test)]

@@ -1,5 +1,5 @@
-//! Lines of scripts and lines of answers: tables of lines, which one function looks at in turn. What a line is read as is told
-//! by the line of a record that has it.
+//! Lines of scripts and lines of answers: tables of lines, which one function looks at in turn. What a line is read
+//! as is told by the line of a record that has it.
 
 use ep_base::{Answer, Picked, Record};
 use ep_history::{print_record, read_record};
@@ -10,7 +10,11 @@ use std::test::Fail;
 
 /// Lines of scripts, and the caller and the event of each, as a record has it.
 const COMMANDS: [(&str, u32, &str); 33] = [
-    ("{\"op\":\"pipe\"}", 0, "{\"call\":{\"cloexec\":false,\"op\":\"pipe\"},\"pid\":1}"),
+    (
+        "{\"op\":\"pipe\"}",
+        0,
+        "{\"call\":{\"cloexec\":false,\"op\":\"pipe\"},\"pid\":1}",
+    ),
     (
         "{\"cloexec\":true,\"by\":4294967295,\"op\":\"epoll\",\"pid\":18446744073709551615}",
         4_294_967_295,
@@ -66,7 +70,11 @@ const COMMANDS: [(&str, u32, &str); 33] = [
         0,
         "{\"call\":{\"fd\":-2147483648,\"op\":\"shutdown\"},\"pid\":1}",
     ),
-    ("{\"op\":\"gettime\",\"fd\":4}", 0, "{\"call\":{\"fd\":4,\"op\":\"gettime\"},\"pid\":1}"),
+    (
+        "{\"op\":\"gettime\",\"fd\":4}",
+        0,
+        "{\"call\":{\"fd\":4,\"op\":\"gettime\"},\"pid\":1}",
+    ),
     (
         "{\"op\":\"settime\",\"fd\":4,\"value\":3}",
         0,
@@ -77,16 +85,36 @@ const COMMANDS: [(&str, u32, &str); 33] = [
         0,
         "{\"call\":{\"abs\":true,\"fd\":4,\"interval\":18446744073709551615,\"op\":\"settime\",\"value\":0},\"pid\":1}",
     ),
-    ("{\"op\":\"dup\",\"fd\":-1}", 0, "{\"call\":{\"fd\":-1,\"op\":\"dup\"},\"pid\":1}"),
+    (
+        "{\"op\":\"dup\",\"fd\":-1}",
+        0,
+        "{\"call\":{\"fd\":-1,\"op\":\"dup\"},\"pid\":1}",
+    ),
     (
         "{\"op\":\"dup2\",\"to\":7,\"fd\":3}",
         0,
         "{\"call\":{\"fd\":3,\"op\":\"dup2\",\"to\":7},\"pid\":1}",
     ),
-    ("{\"op\":\"close\",\"fd\":3}", 0, "{\"call\":{\"fd\":3,\"op\":\"close\"},\"pid\":1}"),
-    ("{\"op\":\"fork\"}", 0, "{\"call\":{\"op\":\"fork\"},\"pid\":1}"),
-    ("{\"op\":\"exec\"}", 0, "{\"call\":{\"op\":\"exec\"},\"pid\":1}"),
-    ("{\"op\":\"exit\"}", 0, "{\"call\":{\"op\":\"exit\"},\"pid\":1}"),
+    (
+        "{\"op\":\"close\",\"fd\":3}",
+        0,
+        "{\"call\":{\"fd\":3,\"op\":\"close\"},\"pid\":1}",
+    ),
+    (
+        "{\"op\":\"fork\"}",
+        0,
+        "{\"call\":{\"op\":\"fork\"},\"pid\":1}",
+    ),
+    (
+        "{\"op\":\"exec\"}",
+        0,
+        "{\"call\":{\"op\":\"exec\"},\"pid\":1}",
+    ),
+    (
+        "{\"op\":\"exit\"}",
+        0,
+        "{\"call\":{\"op\":\"exit\"},\"pid\":1}",
+    ),
     (
         "{\"op\":\"wait\",\"by\":2,\"ep\":5,\"max\":1,\"timeout\":9223372036854775807}",
         2,
@@ -133,8 +161,16 @@ const COMMANDS: [(&str, u32, &str); 33] = [
         "{\"call\":{\"act\":2,\"data\":0,\"ep\":5,\"fd\":3,\"mask\":1610612766,\"op\":\"ctl\"},\"pid\":1}",
     ),
     ("{\"op\":\"resume\"}", 0, "{\"resume\":true}"),
-    ("{\"by\":4294967295,\"op\":\"resume\"}", 4294967295, "{\"resume\":true}"),
-    ("{\"op\":\"tick\",\"n\":18446744073709551615,\"by\":7}", 7, "{\"tick\":18446744073709551615}"),
+    (
+        "{\"by\":4294967295,\"op\":\"resume\"}",
+        4294967295,
+        "{\"resume\":true}",
+    ),
+    (
+        "{\"op\":\"tick\",\"n\":18446744073709551615,\"by\":7}",
+        7,
+        "{\"tick\":18446744073709551615}",
+    ),
 ];
 
 fn expect_command(
@@ -157,7 +193,11 @@ fn expect_command(
     let text = format!(in alloc;
         "{{\"answer\":{{\"done\":true}},\"caller\":{caller},\"event\":{wanted},\"picked\":[]}}"
     )?;
-    assert_eq!(rt; std::str::from_utf8(found.as_slice()), Ok(text.as_str()), "at {line}");
+    assert_eq!(rt;
+        std::str::from_utf8(found.as_slice()),
+        Ok(text.as_str()),
+        "at {line}"
+    );
     Ok(())
 }
 

@@ -20,8 +20,8 @@ fn read(n: u32) -> Call {
     Call::Read { fd: Fd(3), n }
 }
 
-/// Bytes that are written at the second end are read at the first; then the second is closed, which raises these bits there,
-/// and those hold then.
+/// Bytes that are written at the second end are read at the first; then the second is closed, which raises these bits
+/// there, and those hold then.
 fn carries(
     rt: &(impl Abort + AllocGlobal),
     made: Result<Object, AllocError>,

@@ -1,5 +1,5 @@
-//! A pipe and a pair: each call once, with reads that are too long to be kept inline. Their bounds are in the scripts of
-//! `ep_examples`.
+//! A pipe and a pair: each call once, with reads that are too long to be kept inline. Their bounds are in the scripts
+//! of `ep_examples`.
 
 use ep_base::End::{First, Second};
 use ep_base::{Answer, Mask, Raised};
@@ -41,8 +41,9 @@ fn goes_through(rt: &impl Abort, pipe: &mut Pipe) -> Result<(), AllocError> {
     Ok(())
 }
 
-/// Bytes go through a pair; then their writer shuts it, which raises IN and RDHUP (8,193) at the reader. Once the reader shuts
-/// it too, HUP is raised at both, at the writer with IN and RDHUP (8,209). The close of an end raises all three at the other.
+/// Bytes go through a pair; then their writer shuts it, which raises IN and RDHUP (8,193) at the reader. Once the
+/// reader shuts it too, HUP is raised at both, at the writer with IN and RDHUP (8,209). The close of an end raises
+/// all three at the other.
 #[test]
 fn a_pair_carries_bytes(rt: HostRuntime) -> Result<(), Fail> {
     let mut pair = SockPair::new(rt.alloc(), 64)?;

@@ -1,5 +1,5 @@
-//! The tables: each call once. What tables answer at their limits is in the scripts of `ep_examples`, and `refused` has each
-//! growth with memory and without.
+//! The tables: each call once. What tables answer at their limits is in the scripts of `ep_examples`, and `refused`
+//! has each growth with memory and without.
 ghost use Rattle.std.specs.Prelude.{IsSome};
 ghost use Rattle.ep_table.specs.Value.{number_under};
 
@@ -41,7 +41,8 @@ fn child_comes_and_goes(
     Ok(())
 }
 
-/// A socket pair has two numbers and a second name for one of them; as its last name is closed, its end is closed and taken.
+/// A socket pair has two numbers and a second name for one of them; as its last name is closed, its end is closed and
+/// taken.
 #[test]
 fn an_end_is_closed_with_its_last_name(rt: HostRuntime) -> Result<(), Fail> {
     let mut tables = Tables::new(rt.alloc(), Limits::default())?;
@@ -68,7 +69,9 @@ fn names_go(rt: &impl Abort, tables: &mut Tables) {
     }
     assert!(rt; tables.dying().next().is_some());
     let dead = tables.take_dead();
-    assert!(rt; matches!(dead, Some(dead) if dead.end == End::Second && dead.raised.first == Mask(8_209)));
+    assert!(rt;
+        matches!(dead, Some(dead) if dead.end == End::Second && dead.raised.first == Mask(8_209))
+    );
     assert!(rt; tables.take_dead().is_none());
 }
 

@@ -1,5 +1,5 @@
-//! Parked waits: each call once, and refused memory. The test owns the waits and hands them on, since the proof of a function
-//! grows with all that it owns at each of its calls.
+//! Parked waits: each call once, and refused memory. The test owns the waits and hands them on, since the proof of a
+//! function grows with all that it owns at each of its calls.
 ghost use Rattle.std.specs.Prelude.{◌≡◌, []};
 
 use ep_base::{CallerId, DescId, Pid};
