@@ -1,5 +1,5 @@
 -- What a history gains by one line.
-use Rattle.std.proofs.Common.{Bool, List, None, Option, Some, [], append-nil, arith, false, if◌then◌else◌, length, map, refl, sym, true, ℕ, MatchBool, ◌++◌, ◌≡◌, ◌≤◌, ◌∷◌, ◌∙◌}
+use Rattle.std.proofs.Common.{Bool, Err, List, None, Ok, OnErr, Option, Result, Some, [], append-nil, arith, false, if◌then◌else◌, length, map, refl, sym, true, ℕ, MatchBool, ◌++◌, ◌≡◌, ◌≤◌, ◌∷◌, ◌∙◌}
 use Rattle.ep_base.specs.Limits.{Limits}
 use Rattle.ep_base.specs.declared.answer.Answer.{Answer}
 use Rattle.ep_base.specs.declared.call.Event.{Event}
@@ -31,6 +31,12 @@ pub may_gain_by_step : (limits : Limits) (caller : CallerId) (event : Event) (an
 may_gain_by_step limits caller event answer s t past now a =
     let r = by_step (is_no_memory answer) limits (record { caller = caller; event = event; answer = answer }) s t past now a in
     (r.0, r.1, r.3)
+
+-- where the answer to a step found no memory, its record may be there
+pub may_gain_unanswered : {A E : Type 0} (r : Result A E) (limits : Limits) (caller : CallerId) (event : Event) (answer : Answer) (s t : State) (past now : List Record)
+    → Acts limits caller event answer s t past now → OnErr r (MayGain past now)
+may_gain_unanswered (Ok x) limits caller event answer s t past now a = tt
+may_gain_unanswered (Err e) limits caller event answer s t past now a = may_gain_by_step limits caller event answer s t past now a
 
 pub gains_nothing : (h k : List Record) → k ≡ h → MayGain h k
 gains_nothing h k e = ([], e ∙ sym (append-nil h), omega arith)
