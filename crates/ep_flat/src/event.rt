@@ -1,0 +1,120 @@
+//! The event that a request asks for.
+ghost use Rattle.std.specs.Prelude.{◌≡◌, ◌<◌, ◌≤◌, ◌⊎◌, IfOk, MatchOption};
+ghost use Rattle.ep_flat.specs.Flat.{Asks, AsksCall, AsksNothing, lacks_room};
+
+use crate::flat::FlatRequest;
+use ep_base::{Buffer, Call, Event, Fd, Mask, Pid};
+use std::alloc::{AllocError, Global};
+
+/// The flags of a request.
+const CLOEXEC: u32 = 1;
+
+const SEMAPHORE: u32 = 2;
+
+const ABSOLUTE: u32 = 4;
+
+/// The bytes once more, as a write has them.
+fn buffer_of(alloc: Global, bytes: &[u8]) -> Result<Buffer, AllocError>
+    ensures { IfOk result (λ buffer. buffer ≡ bytes.now) }
+{
+    let mut values = Vec::new(alloc);
+    values.extend_from_slice(bytes)?;
+    Ok(Buffer::new(values))
+}
+
+/// The call that is asked for, or `None` exactly where the number is that of no call.
+fn call_of(alloc: Global, request: &FlatRequest, bytes: &[u8]) -> Result<Option<Call>, AllocError>
+    ensures { IfOk result
+        (λ asked. MatchOption asked ((request.now.event < 1) ⊎ (20 ≤ request.now.event))
+        (λ call. AsksCall request.now bytes.now call)) }
+{
+    let cloexec = request.flags & CLOEXEC != 0;
+    let fd = Fd(request.fd);
+    Ok(Some(match request.event {
+        1 => Call::Pipe { cloexec },
+        2 => Call::EventFd {
+            init: request.count,
+            semaphore: request.flags & SEMAPHORE != 0,
+            cloexec,
+        },
+        3 => Call::TimerFd {
+            clock: request.number,
+            cloexec,
+        },
+        4 => Call::SocketPair { cloexec },
+        5 => Call::Plain { cloexec },
+        6 => Call::EpollCreate { cloexec },
+        7 => Call::EpollCtl {
+            epfd: fd,
+            op: request.number,
+            fd: Fd(request.target),
+            mask: Mask(request.count),
+            tag: request.value,
+        },
+        8 => Call::EpollWait {
+            epfd: fd,
+            max: request.number,
+            timeout: request.timeout,
+        },
+        9 => Call::Read {
+            fd,
+            n: request.count,
+        },
+        10 => Call::Write {
+            fd,
+            bytes: buffer_of(alloc, bytes)?,
+        },
+        11 => Call::Shutdown { fd },
+        12 => Call::SetTime {
+            fd,
+            absolute: request.flags & ABSOLUTE != 0,
+            value: request.value,
+            interval: request.interval,
+        },
+        13 => Call::GetTime { fd },
+        14 => Call::Dup { fd },
+        15 => Call::Dup2 {
+            fd,
+            to: Fd(request.target),
+        },
+        16 => Call::Close { fd },
+        17 => Call::Fork,
+        18 => Call::Exec,
+        19 => Call::Exit,
+        _ => return Ok(None),
+    }))
+}
+
+/// The event that is asked for, a write with these bytes, or `None` exactly where the number is that of no event.
+/// `AllocError` is want of memory for the bytes.
+pub fn event_of(
+    alloc: Global,
+    request: &FlatRequest,
+    bytes: &[u8],
+) -> Result<Option<Event>, AllocError>
+    ensures { IfOk result (λ asked. MatchOption asked (AsksNothing request.now)
+        (λ event. Asks request.now bytes.now event)) }
+{
+    Ok(match request.event {
+        20 => Some(Event::Resume),
+        21 => Some(Event::Tick { n: request.value }),
+        _ => match call_of(alloc, request, bytes)? {
+            Some(call) => Some(Event::Call {
+                pid: Pid(request.pid),
+                call,
+            }),
+            None => None,
+        },
+    })
+}
+
+/// Whether a read asks for more bytes, or a wait for more reports, than there is room for.
+pub fn lacks_room(request: &FlatRequest, bytes: usize, reports: usize) -> bool
+    ensures { result ≡ lacks_room request.now bytes reports }
+{
+    match request.event {
+        9 => bytes < request.count as usize,
+        8 => request.number > 0 && reports < request.number as usize,
+        _ => false,
+    }
+}

@@ -1,0 +1,95 @@
+//! The structs that cross to C. None of them holds a pointer.
+
+/// The limits of a kernel, each in its range as `ep_base::Limits::new` has them.
+#[repr(C)]
+#[derive(Clone, Copy, Debug)]
+pub struct FlatLimits {
+    /// Descriptor numbers of a process: 3 to 65,536.
+    pub descriptors: u32,
+    /// Living open file descriptions: 1 to 1,000,000.
+    pub files: u32,
+    /// Living processes: 1 to 10,000.
+    pub processes: u32,
+    /// Registrations: 0 to 1,000,000.
+    pub watches: u32,
+    /// The capacity of a pipe, in bytes: 4,096 to 1,048,576.
+    pub pipe_bytes: u32,
+    /// The bytes that may wait in one direction of a socket pair: 1 to 1,048,576.
+    pub sock_bytes: u32,
+}
+
+/// An event that is asked for, by its number:
+///
+/// | number | event | fields beside `caller` and `pid` |
+/// |---|---|---|
+/// | 1 | pipe2 | flags |
+/// | 2 | eventfd2 | count (where it starts), flags |
+/// | 3 | timerfd_create | number (the clock), flags |
+/// | 4 | socketpair | flags |
+/// | 5 | a file that can't be polled | flags |
+/// | 6 | epoll_create1 | flags |
+/// | 7 | epoll_ctl | fd (the instance), number (the operation), target, count (the mask), value (the data) |
+/// | 8 | epoll_wait | fd, number (the most reports), timeout |
+/// | 9 | read | fd, count (the most bytes) |
+/// | 10 | write | fd, and the bytes beside the request |
+/// | 11 | shutdown | fd |
+/// | 12 | timerfd_settime | fd, flags, value, interval |
+/// | 13 | timerfd_gettime | fd |
+/// | 14 | dup | fd |
+/// | 15 | dup2 | fd, target |
+/// | 16 | close | fd |
+/// | 17 | fork | |
+/// | 18 | execve | |
+/// | 19 | exit | |
+/// | 20 | a resumption | no `pid` |
+/// | 21 | a tick | value (how long), no `pid` |
+///
+/// Fields that an event doesn't name are not looked at. Times are in milliseconds.
+#[repr(C)]
+#[derive(Clone, Copy, Debug)]
+pub struct FlatRequest {
+    /// The process of a call.
+    pub pid: u64,
+    pub value: u64,
+    pub interval: u64,
+    pub timeout: i64,
+    /// The number of the event.
+    pub event: u32,
+    /// Who makes it.
+    pub caller: u32,
+    pub fd: i32,
+    pub target: i32,
+    pub number: i32,
+    pub count: u32,
+    /// 1: close-on-exec; 2: an eventfd as a semaphore; 4: a timer's moment is absolute.
+    pub flags: u32,
+}
+
+/// What an event is answered.
+#[repr(C)]
+#[derive(Clone, Copy, Debug)]
+pub struct FlatReply {
+    /// A descriptor, a process, how many bytes or reports there are, or 0 where a call is done and answers no number;
+    /// minus the error number where it is refused; -4096 where its caller is parked, or after a resumption is parked still.
+    pub result: i64,
+    /// The lower one of two descriptors that a call made.
+    pub first: i32,
+    /// The other one.
+    pub second: i32,
+    /// Of a timer the milliseconds until its next expiration, 0 where none comes.
+    pub value: u64,
+    /// Of a timer the milliseconds between two expirations, 0 where there is one alone.
+    pub interval: u64,
+    /// The simulated clock after the event, in milliseconds.
+    pub now: u64,
+}
+
+/// One report of a wait. It is laid out as C lays out such a struct, and so not as Linux does `struct epoll_event`.
+#[repr(C)]
+#[derive(Clone, Copy, Debug)]
+pub struct FlatReport {
+    /// The bits that hold.
+    pub events: u32,
+    /// The data of the registration.
+    pub tag: u64,
+}
