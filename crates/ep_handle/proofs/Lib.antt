@@ -1,0 +1,3 @@
+pub mod BoxCalls
+pub mod SlotBox
+pub mod Steps

@@ -1,0 +1,30 @@
+-- `of` moves the pointer and the allocator, and what they own goes with them.
+use Rattle.ep_handle.proofs.Steps.{refl, List, [], ◌∷◌, ◌++◌, Val, WpFn, emp, id⊢, ftrue, fsep, ‵, raw, ◌⊛◌, prop, ◌$◌, ◌∵◌, !, qed, move, drop, use1, join, split, regoal, fsplit, fjoin, suffices, done, whole, sub, agg, stop, fld, no_more, and_then, of_opd, returns, enter, alloc_all, pass_all, free_all, look_at, get, get_in, sets, tables, yes, nothing, says, Stays, stay_dropped, walk_of, ends_at, Goes-dropped, proved_at}
+use Rattle.std.specs.Prelude.{Some}
+use Rattle.std_alloc.proofs.BoxSteps.Form.{D, B, word, box_typed}
+use Rattle.std_alloc.proofs.BoxSteps.Steps.{box_out, box_in}
+use Rattle.ep_handle.proofs.SlotBox.{E, from_bare}
+use Rattle.ep_handle.specs.contracts.slot.Slot as Slots
+use Rattle.ep_handle.specs.contracts.slot.Slot.of as F
+use Rattle.ep_handle.proofs.slot.Slot.of.Statement.{statement}
+use Rattle.ep_handle.proofs.slot.Slot.of.Code as code
+
+abbrev stayed : Stays F.ended.signature.params F.ended.kept
+stayed = (stay_dropped from_bare yes, tt)
+
+pub of_spec : {M : Type 1} → statement M
+of_spec 𝓤 𝓛 𝓜 𝓡 wired =
+    let c = F.clauses 𝓛 𝓜.mem 𝓡.returns in let W = walk_of 𝓛 F.ended stayed c in let 𝓣 = tables 𝓤 𝓛.H 𝓜 𝓡 𝓡.env in
+    proved_at 𝓛 F.ended stayed c 𝓜 𝓡 (Goes-dropped 𝓛 0 from_bare yes (λ κs x f. refl), tt) F.Key.name code.function (code.unfolded 𝓤 𝓛.H 𝓜 𝓡 wired) (λ z are.
+    let bare = z.0.3.0 in let box : D E = record { ptr = bare.at; alloc = bare.alloc; value = bare.held } in
+    let made : Slots.the_row.Denot = record { at = bare.at; alloc = bare.alloc; kernel = Some bare.held } in
+    qed 𝓛 ((‵ ftrue ⊛ ‵ (fsep ((B E).own_val box z.0.4.0) ftrue)) ∷ raw (emp 𝓤) ∷ []) ∵ split ! $ drop ! $ fsplit ! $ move ! (1 ∷ 2 ∷ []) $ drop ! $ drop ! $
+    box_out E ! box z.0.4.0 (λ b o h at is fits. box_in E ! box b o box.value at refl $ use1 𝓛 (‵ (Slots.the_row.own_val made (word E h b o ∷ []))) (id⊢ 𝓤 _) $
+    regoal ! (λ (us : List Val). prop (WpFn 𝓤 𝓛.H 𝓣.C 𝓣.Λ code.function (us ++ []) (W.post z))) is refl $
+    let typed = box_typed E h b o fits in
+    enter ! _ _ _ _ _ $ alloc_all ! (λ l. pass_all ! refl (typed, tt) $
+    sets ! (of_opd ! (get_in ! (fld ! refl (stop !)) (sub ! 0 refl (whole !)))) refl (tt, tt) $ sets ! (of_opd ! (get_in ! (fld ! refl (stop !)) (sub ! 1 refl (whole !)))) refl fits $
+    sets ! (of_opd ! (get ! refl)) refl (tt, tt) $ sets ! (agg ! (and_then ! (get ! refl) (and_then ! (get ! refl) (no_more !)))) refl typed $
+    returns ! (look_at ! 0 refl) $ free_all ! refl $
+    suffices ! _ (ends_at 𝓛 F.ended stayed c z (word E h b o) made (tt, tt) (tt, tt)) $ says ! refl $
+    nothing ! $ nothing ! $ fjoin ! $ join ! $ nothing ! $ join ! $ done !)))
