@@ -1,0 +1,5 @@
+pub mod Status
+pub mod Keeping
+pub mod Events
+pub mod Asking
+pub mod Records

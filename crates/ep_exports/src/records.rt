@@ -1,0 +1,124 @@
+//! The history.
+ghost use Rattle.std.specs.Prelude.{◌≡◌};
+ghost use Rattle.ep_history.specs.Records.{record_line};
+ghost use Rattle.ep_exports.specs.Records.{AskedRecords, Checked, IsPrinted, Printed, Recorded};
+
+use crate::status::{EBADF, EBADMSG, EINVAL, EMSGSIZE, ENOMEM};
+use ep_audit::{AuditFault, audit};
+use ep_base::Record;
+use ep_calls::Kernel;
+use ep_flat::{FlatReply, FlatReport, put_answer, put_bytes};
+use ep_handle::Handle;
+use ep_history::print_record;
+use std::alloc::Global;
+
+/// How many records the history has, one for each event that wasn't answered ENOMEM: 0 and the count, or -EBADF.
+#[unsafe(no_mangle)]
+pub extern "C" fn ep_records(alloc: Global, handle: &mut Handle, count: &mut usize) -> i32
+    ensures { AskedRecords handle.old.state.kernel handle.new.state.kernel count.old count.new
+        result }
+{
+    match handle.take(alloc) {
+        None => -EBADF,
+        Some(kernel) => {
+            *count = kernel.history().len();
+            handle.put(kernel);
+            0
+        }
+    }
+}
+
+/// Lays out the answer of a record once more, counted from 0, as `ep_call` did, but at the present moment; what doesn't fit
+/// is cut. 0, or with nothing changed -EBADF, or -EINVAL where the history has no such record.
+#[unsafe(no_mangle)]
+pub extern "C" fn ep_recorded(
+    alloc: Global,
+    handle: &mut Handle,
+    place: usize,
+    reply: &mut FlatReply,
+    bytes: &mut [u8],
+    reports: &mut [FlatReport],
+) -> i32
+    ensures { Recorded handle.old.state.kernel place handle.new.state.kernel
+        (record { reply = reply.old; bytes = bytes.old; reports = reports.old })
+        (record { reply = reply.new; bytes = bytes.new; reports = reports.new }) result }
+{
+    match handle.take(alloc) {
+        None => -EBADF,
+        Some(kernel) => {
+            let result = match kernel.history().get(place) {
+                None => -EINVAL,
+                Some(entry) => {
+                    put_answer(&entry.answer, kernel.now(), reply, bytes, reports);
+                    0
+                }
+            };
+            handle.put(kernel);
+            result
+        }
+    }
+}
+
+/// Puts the line of a record into the room, as `ep_line` says.
+fn put_line(alloc: Global, entry: &Record, line: &mut [u8], size: &mut usize) -> i32
+    ensures { IsPrinted (record_line entry.now) line.old size.old line.new size.new result }
+{
+    match print_record(alloc, entry) {
+        Err(_) => -ENOMEM,
+        Ok(text) => {
+            *size = text.len();
+            if line.len() < text.len() {
+                return -EMSGSIZE;
+            }
+            put_bytes(text.as_slice(), line);
+            0
+        }
+    }
+}
+
+/// The line of a record, counted from 0, as `epaudit` reads it, without the byte 10 that ends it: 0, and it stands at the
+/// beginning of `line`, `size` bytes of it. -EMSGSIZE where `line` is too short: then `size` tells what it takes, and `line`
+/// stays. With nothing changed -EBADF, -EINVAL where the history has no such record, -ENOMEM.
+#[unsafe(no_mangle)]
+pub extern "C" fn ep_line(
+    alloc: Global,
+    handle: &mut Handle,
+    place: usize,
+    line: &mut [u8],
+    size: &mut usize,
+) -> i32
+    ensures { Printed handle.old.state.kernel place handle.new.state.kernel line.old size.old
+        line.new size.new result }
+{
+    match handle.take(alloc) {
+        None => -EBADF,
+        Some(kernel) => {
+            let result = match kernel.history().get(place) {
+                None => -EINVAL,
+                Some(entry) => put_line(alloc, entry, line, size),
+            };
+            handle.put(kernel);
+            result
+        }
+    }
+}
+
+/// Makes each record of the history again on a kernel that scans: 0 where the machine allows them all, or -EBADF, or -ENOMEM,
+/// or -EBADMSG where it doesn't, which the contract of the kernel rules out. The kernel stays.
+#[unsafe(no_mangle)]
+pub extern "C" fn ep_check(alloc: Global, handle: &mut Handle) -> i32
+    ensures { Checked handle.old.state.kernel handle.new.state.kernel result }
+{
+    match handle.take(alloc) {
+        None => -EBADF,
+        Some(kernel) => {
+            let result = match audit(alloc, kernel.limits(), kernel.history()) {
+                Ok(()) => 0,
+                Err(AuditFault::Memory) => -ENOMEM,
+                Err(AuditFault::Illegal(_)) => -EBADMSG,
+            };
+            handle.put(kernel);
+            result
+        }
+    }
+}
