@@ -1,0 +1,645 @@
+/* nippersage.h over the functions of the crate ep_exports. A kernel has a lock, which each call takes once; a wait
+ * that moves the clock by itself sleeps on the condition variable beside it. */
+#define _GNU_SOURCE
+#include "nippersage.h"
+#include "exports.h"
+
+#include <errno.h>
+#include <fcntl.h>
+#include <limits.h>
+#include <pthread.h>
+#include <stdatomic.h>
+#include <stdlib.h>
+#include <string.h>
+#include <sys/eventfd.h>
+#include <sys/socket.h>
+#include <unistd.h>
+
+/* Linux's MAX_RW_COUNT: no read or write moves more. */
+#define MOST_BYTES ((size_t)0x7ffff000)
+/* No read gives more: the largest capacity of a pipe or socket. */
+#define MOST_READ ((size_t)1048576)
+#define MOST_VECTORS 1024
+
+/* A parked caller, and the most reports of its wait. */
+struct parked {
+    uint32_t caller;
+    int most;
+};
+
+/* A thread that sleeps in a wait. It lies on that thread's stack, and is read and changed under the lock. */
+struct sleeper {
+    uint32_t caller;
+    int status; /* what its wait answers if it is to end without its caller's: -EDEADLK */
+    struct sleeper *next;
+};
+
+_Static_assert(NIPPERSAGE_PARKED == EP_PARKED, "a wait by hand hands the answer of the export on");
+
+struct nippersage_kernel {
+    pthread_mutex_t lock;
+    pthread_cond_t changed;
+    struct ep_handle handle;
+    atomic_uint inside; /* threads inside calls, also those that wait for the lock */
+    unsigned int asleep;
+    int tasks; /* threads that take part, also between two calls; 0 or more */
+    struct sleeper *sleepers;
+    struct parked *parked;
+    size_t parked_count, parked_room;
+    struct ep_report *reports; /* the room of each wait, one at a time */
+    int most_reports;
+};
+
+/* What goes to the kernel and what comes back, beside numbers. */
+struct exchange {
+    struct ep_request request;
+    struct ep_reply reply;
+    const void *given;
+    size_t given_length;
+    void *bytes;
+    size_t bytes_length;
+    size_t reports;
+};
+
+static void enter(struct nippersage_kernel *kernel) {
+    atomic_fetch_add(&kernel->inside, 1);
+    pthread_mutex_lock(&kernel->lock);
+}
+
+static void leave(struct nippersage_kernel *kernel) {
+    atomic_fetch_sub(&kernel->inside, 1);
+    if (kernel->asleep > 0) pthread_cond_broadcast(&kernel->changed);
+    pthread_mutex_unlock(&kernel->lock);
+}
+
+/* One event, under the lock. */
+static int64_t make(struct nippersage_task task, struct exchange *x) {
+    static const uint8_t nothing;
+    uint8_t none;
+    int32_t status;
+    x->request.caller = task.caller;
+    x->request.pid = task.pid;
+    status = ep_call(&task.kernel->handle, &x->request, x->given ? x->given : &nothing, x->given_length, &x->reply,
+                     x->bytes ? x->bytes : &none, x->bytes_length, task.kernel->reports, x->reports);
+    return status < 0 ? status : x->reply.result;
+}
+
+/* One event. */
+static int64_t ask(struct nippersage_task task, struct exchange *x) {
+    int64_t result;
+    if (!task.kernel) return -EINVAL;
+    enter(task.kernel);
+    result = make(task, x);
+    leave(task.kernel);
+    return result;
+}
+
+#define ASK(task, ...) ask(task, &(struct exchange){.request = {__VA_ARGS__}})
+
+static uint32_t cloexec(int set) { return set ? EP_CLOEXEC : 0; }
+
+/* ---- times ---- */
+
+/* In milliseconds, rounded up, or -1 where it is none. What is above the largest number is that. */
+static int64_t milliseconds(const struct timespec *time) {
+    if (time->tv_sec < 0 || time->tv_nsec < 0 || time->tv_nsec >= 1000000000) return -1;
+    if (time->tv_sec > INT64_MAX / 1000 - 1) return INT64_MAX;
+    return (int64_t)time->tv_sec * 1000 + (time->tv_nsec + 999999) / 1000000;
+}
+
+static struct timespec timespec_of(uint64_t moment) {
+    struct timespec time = {.tv_sec = (time_t)(moment / 1000), .tv_nsec = (long)(moment % 1000) * 1000000};
+    return time;
+}
+
+static void put_setting(const struct ep_reply *reply, struct itimerspec *setting) {
+    setting->it_value = timespec_of(reply->value);
+    setting->it_interval = timespec_of(reply->interval);
+}
+
+/* ---- a kernel ---- */
+
+static const struct nippersage_limits default_limits = {1024, 4096, 64, 4096, 65536, 65536};
+
+static struct nippersage_kernel *new_kernel(uint32_t watches) {
+    struct nippersage_kernel *kernel = calloc(1, sizeof *kernel);
+    if (!kernel) return NULL;
+    kernel->most_reports = watches > 0 ? (int)watches : 1;
+    kernel->reports = calloc((size_t)kernel->most_reports, sizeof *kernel->reports);
+    if (!kernel->reports || pthread_mutex_init(&kernel->lock, NULL) != 0) {
+        free(kernel->reports);
+        free(kernel);
+        return NULL;
+    }
+    if (pthread_cond_init(&kernel->changed, NULL) != 0) {
+        pthread_mutex_destroy(&kernel->lock);
+        free(kernel->reports);
+        free(kernel);
+        return NULL;
+    }
+    return kernel;
+}
+
+int nippersage_open(const struct nippersage_limits *limits, struct nippersage_kernel **kernel) {
+    struct nippersage_kernel *made;
+    struct ep_limits flat;
+    int32_t status;
+    if (!kernel) return -EFAULT;
+    if (!limits) limits = &default_limits;
+    if (limits->watches > 1000000) return -EINVAL;
+    made = new_kernel(limits->watches);
+    if (!made) return -ENOMEM;
+    flat = (struct ep_limits){limits->descriptors, limits->files, limits->processes, limits->watches, limits->pipe_bytes,
+                              limits->sock_bytes};
+    status = ep_open(&flat, &made->handle);
+    if (status < 0) {
+        nippersage_free(made);
+        return status;
+    }
+    *kernel = made;
+    return 0;
+}
+
+void nippersage_free(struct nippersage_kernel *kernel) {
+    if (!kernel) return;
+    ep_close(&kernel->handle);
+    pthread_cond_destroy(&kernel->changed);
+    pthread_mutex_destroy(&kernel->lock);
+    free(kernel->parked);
+    free(kernel->reports);
+    free(kernel);
+}
+
+/* ---- files ---- */
+
+static int ends_of(struct nippersage_task task, uint32_t event, uint32_t flags, int ends[2]) {
+    struct exchange x = {.request = {.event = event, .flags = flags}};
+    int64_t result;
+    if (!ends) return -EFAULT;
+    result = ask(task, &x);
+    if (result == 0) {
+        ends[0] = x.reply.first;
+        ends[1] = x.reply.second;
+    }
+    return (int)result;
+}
+
+int nippersage_pipe2(struct nippersage_task task, int ends[2], int flags) {
+    if (flags & ~(O_CLOEXEC | O_NONBLOCK)) return -EINVAL;
+    return ends_of(task, EP_PIPE, cloexec(flags & O_CLOEXEC), ends);
+}
+
+int nippersage_socketpair(struct nippersage_task task, int domain, int type, int protocol, int ends[2]) {
+    if (domain != AF_UNIX) return -EAFNOSUPPORT;
+    if ((type & ~(SOCK_CLOEXEC | SOCK_NONBLOCK)) != SOCK_STREAM) return -ESOCKTNOSUPPORT;
+    if (protocol != 0) return -EPROTONOSUPPORT;
+    return ends_of(task, EP_SOCKETPAIR, cloexec(type & SOCK_CLOEXEC), ends);
+}
+
+int nippersage_eventfd(struct nippersage_task task, unsigned int initval, int flags) {
+    uint32_t bits = cloexec(flags & EFD_CLOEXEC) | (flags & EFD_SEMAPHORE ? EP_SEMAPHORE : 0);
+    if (flags & ~(EFD_CLOEXEC | EFD_NONBLOCK | EFD_SEMAPHORE)) return -EINVAL;
+    return (int)ASK(task, .event = EP_EVENTFD, .count = initval, .flags = bits);
+}
+
+int nippersage_timerfd_create(struct nippersage_task task, int clockid, int flags) {
+    if (flags & ~(TFD_CLOEXEC | TFD_NONBLOCK)) return -EINVAL;
+    return (int)ASK(task, .event = EP_TIMERFD, .number = clockid, .flags = cloexec(flags & TFD_CLOEXEC));
+}
+
+int nippersage_timerfd_settime(struct nippersage_task task, int fd, int flags, const struct itimerspec *value,
+                               struct itimerspec *before) {
+    uint32_t bits = flags & TFD_TIMER_ABSTIME ? EP_ABSOLUTE : 0;
+    struct exchange x = {.request = {.event = EP_SETTIME, .fd = fd, .flags = bits}};
+    int64_t first, interval, result;
+    if (!value) return -EFAULT;
+    first = milliseconds(&value->it_value);
+    interval = milliseconds(&value->it_interval);
+    if (flags & ~TFD_TIMER_ABSTIME || first < 0 || interval < 0) return -EINVAL;
+    x.request.value = (uint64_t)first;
+    x.request.interval = (uint64_t)interval;
+    result = ask(task, &x);
+    if (result == 0 && before) put_setting(&x.reply, before);
+    return (int)result;
+}
+
+int nippersage_timerfd_gettime(struct nippersage_task task, int fd, struct itimerspec *now) {
+    struct exchange x = {.request = {.event = EP_GETTIME, .fd = fd}};
+    int64_t result;
+    if (!now) return -EFAULT;
+    result = ask(task, &x);
+    if (result == 0) put_setting(&x.reply, now);
+    return (int)result;
+}
+
+int nippersage_plain(struct nippersage_task task, int flags) {
+    if (flags & ~O_CLOEXEC) return -EINVAL;
+    return (int)ASK(task, .event = EP_PLAIN, .flags = cloexec(flags & O_CLOEXEC));
+}
+
+int nippersage_shutdown(struct nippersage_task task, int fd, int how) {
+    if (how == SHUT_RD || how == SHUT_RDWR) return -EOPNOTSUPP;
+    if (how != SHUT_WR) return -EINVAL;
+    return (int)ASK(task, .event = EP_SHUTDOWN, .fd = fd);
+}
+
+int nippersage_dup(struct nippersage_task task, int fd) { return (int)ASK(task, .event = EP_DUP, .fd = fd); }
+
+int nippersage_dup2(struct nippersage_task task, int fd, int to) {
+    return (int)ASK(task, .event = EP_DUP2, .fd = fd, .target = to);
+}
+
+int nippersage_dup3(struct nippersage_task task, int fd, int to, int flags) {
+    if (flags == O_CLOEXEC) return -EOPNOTSUPP;
+    if (flags != 0 || fd == to) return -EINVAL;
+    return nippersage_dup2(task, fd, to);
+}
+
+int nippersage_close(struct nippersage_task task, int fd) { return (int)ASK(task, .event = EP_CLOSE, .fd = fd); }
+
+/* ---- bytes ---- */
+
+ssize_t nippersage_read(struct nippersage_task task, int fd, void *bytes, size_t count) {
+    struct exchange x = {.request = {.event = EP_READ, .fd = fd}, .bytes = bytes};
+    if (!bytes && count > 0) return -EFAULT;
+    if (count > MOST_BYTES) count = MOST_BYTES;
+    x.request.count = (uint32_t)count;
+    x.bytes_length = count;
+    return (ssize_t)ask(task, &x);
+}
+
+ssize_t nippersage_write(struct nippersage_task task, int fd, const void *bytes, size_t count) {
+    struct exchange x = {.request = {.event = EP_WRITE, .fd = fd}, .given = bytes, .given_length = count};
+    if (!bytes && count > 0) return -EFAULT;
+    if (count > MOST_BYTES) x.given_length = MOST_BYTES;
+    return (ssize_t)ask(task, &x);
+}
+
+/* How many bytes vectors have, at most MOST_BYTES, or minus an error number. */
+static ssize_t bytes_in(const struct iovec *vectors, int count) {
+    size_t sum = 0;
+    if (count < 0 || count > MOST_VECTORS) return -EINVAL;
+    if (!vectors && count > 0) return -EFAULT;
+    for (int i = 0; i < count; i++) {
+        if (vectors[i].iov_len > (size_t)SSIZE_MAX - sum) return -EINVAL;
+        if (!vectors[i].iov_base && vectors[i].iov_len > 0) return -EFAULT;
+        sum += vectors[i].iov_len;
+    }
+    return (ssize_t)(sum < MOST_BYTES ? sum : MOST_BYTES);
+}
+
+ssize_t nippersage_readv(struct nippersage_task task, int fd, const struct iovec *vectors, int count) {
+    ssize_t most = bytes_in(vectors, count), got, done = 0;
+    unsigned char *bytes;
+    if (most < 0) return most;
+    if ((size_t)most > MOST_READ) most = MOST_READ;
+    bytes = malloc(most > 0 ? (size_t)most : 1);
+    if (!bytes) return -ENOMEM;
+    got = nippersage_read(task, fd, bytes, (size_t)most);
+    for (int i = 0; done < got; i++) {
+        size_t part = (size_t)(got - done) < vectors[i].iov_len ? (size_t)(got - done) : vectors[i].iov_len;
+        if (part > 0) memcpy(vectors[i].iov_base, bytes + done, part);
+        done += (ssize_t)part;
+    }
+    free(bytes);
+    return got;
+}
+
+ssize_t nippersage_writev(struct nippersage_task task, int fd, const struct iovec *vectors, int count) {
+    ssize_t most = bytes_in(vectors, count), taken;
+    size_t done = 0;
+    unsigned char *bytes;
+    if (most < 0) return most;
+    bytes = malloc(most > 0 ? (size_t)most : 1);
+    if (!bytes) return -ENOMEM;
+    for (int i = 0; done < (size_t)most; i++) {
+        size_t part = (size_t)most - done < vectors[i].iov_len ? (size_t)most - done : vectors[i].iov_len;
+        if (part > 0) memcpy(bytes + done, vectors[i].iov_base, part);
+        done += part;
+    }
+    taken = nippersage_write(task, fd, bytes, (size_t)most);
+    free(bytes);
+    return taken;
+}
+
+/* ---- processes ---- */
+
+int64_t nippersage_fork(struct nippersage_task task) { return ASK(task, .event = EP_FORK); }
+
+int nippersage_execve(struct nippersage_task task) { return (int)ASK(task, .event = EP_EXEC); }
+
+int nippersage_exit(struct nippersage_task task) { return (int)ASK(task, .event = EP_EXIT); }
+
+/* ---- epoll ---- */
+
+int nippersage_epoll_create1(struct nippersage_task task, int flags) {
+    if (flags & ~EPOLL_CLOEXEC) return -EINVAL;
+    return (int)ASK(task, .event = EP_CREATE, .flags = cloexec(flags & EPOLL_CLOEXEC));
+}
+
+int nippersage_epoll_ctl(struct nippersage_task task, int epfd, int op, int fd, const struct epoll_event *event) {
+    struct exchange x = {.request = {.event = EP_CTL, .fd = epfd, .number = op, .target = fd}};
+    if (op != EPOLL_CTL_DEL) {
+        if (!event) return -EFAULT;
+        x.request.count = event->events;
+        x.request.value = event->data.u64;
+    }
+    return (int)ask(task, &x);
+}
+
+static struct parked *parked_of(struct nippersage_kernel *kernel, uint32_t caller) {
+    for (size_t i = 0; i < kernel->parked_count; i++)
+        if (kernel->parked[i].caller == caller) return &kernel->parked[i];
+    return NULL;
+}
+
+/* Whether one more caller can be noted as parked. */
+static int has_room(struct nippersage_kernel *kernel) {
+    size_t room = kernel->parked_room > 0 ? 2 * kernel->parked_room : 8;
+    struct parked *more;
+    if (kernel->parked_count < kernel->parked_room) return 1;
+    more = realloc(kernel->parked, room * sizeof *more);
+    if (!more) return 0;
+    kernel->parked = more;
+    kernel->parked_room = room;
+    return 1;
+}
+
+static void put_events(const struct nippersage_kernel *kernel, int64_t count, struct epoll_event *events) {
+    for (int64_t i = 0; i < count; i++) {
+        events[i].events = kernel->reports[i].events;
+        events[i].data.u64 = kernel->reports[i].tag;
+    }
+}
+
+/* Begins a wait, under the lock. */
+static int start(struct nippersage_task task, int epfd, struct epoll_event *events, int maxevents, int64_t timeout) {
+    struct nippersage_kernel *kernel = task.kernel;
+    int most = maxevents < kernel->most_reports ? maxevents : kernel->most_reports;
+    struct exchange x = {.request = {.event = EP_WAIT, .fd = epfd, .number = most, .timeout = timeout}};
+    int64_t result;
+    if (!events && maxevents > 0) return -EFAULT;
+    if (!has_room(kernel)) return -ENOMEM;
+    x.reports = most > 0 ? (size_t)most : 0;
+    result = make(task, &x);
+    if (result == EP_PARKED) kernel->parked[kernel->parked_count++] = (struct parked){task.caller, most};
+    put_events(kernel, result, events);
+    return (int)result;
+}
+
+/* Asks whether a wait has ended, under the lock. */
+static int resume(struct nippersage_task task, struct epoll_event *events, int maxevents) {
+    struct nippersage_kernel *kernel = task.kernel;
+    struct parked *parked = parked_of(kernel, task.caller);
+    struct exchange x = {.request = {.event = EP_RESUME}};
+    int64_t result;
+    if (parked && maxevents < parked->most) return -EMSGSIZE;
+    if (parked && !events) return -EFAULT;
+    x.reports = parked ? (size_t)parked->most : 0;
+    result = make(task, &x);
+    if (parked && result >= 0) {
+        put_events(kernel, result, events);
+        *parked = kernel->parked[--kernel->parked_count];
+    }
+    return (int)result;
+}
+
+int nippersage_wait_start(struct nippersage_task task, int epfd, struct epoll_event *events, int maxevents,
+                          int timeout) {
+    int result;
+    if (!task.kernel) return -EINVAL;
+    enter(task.kernel);
+    result = start(task, epfd, events, maxevents, timeout);
+    leave(task.kernel);
+    return result;
+}
+
+int nippersage_resume(struct nippersage_task task, struct epoll_event *events, int maxevents) {
+    int result;
+    if (!task.kernel) return -EINVAL;
+    enter(task.kernel);
+    result = resume(task, events, maxevents);
+    leave(task.kernel);
+    return result;
+}
+
+/* ---- waits that move the clock ---- */
+
+/* Whether nothing but the clock can end a wait of those that sleep: nobody else is inside a call, so many sleep as
+ * take part, and none of them is about to wake. */
+static int is_still(struct nippersage_kernel *kernel) {
+    if (atomic_load(&kernel->inside) != kernel->asleep || kernel->asleep < (unsigned int)kernel->tasks) return 0;
+    for (const struct sleeper *s = kernel->sleepers; s; s = s->next)
+        if (s->status != 0 || ep_is_marked(&kernel->handle, s->caller) == 1) return 0;
+    return 1;
+}
+
+/* Moves the clock to the next moment; where there is none, each wait that sleeps is to end with -EDEADLK. */
+static int go_on(struct nippersage_task task) {
+    struct nippersage_kernel *kernel = task.kernel;
+    struct exchange x = {.request = {.event = EP_TICK}};
+    uint64_t moment = 0, now = 0;
+    int64_t result = 0;
+    if (ep_next_moment(&kernel->handle, &moment) == 1) {
+        ep_now(&kernel->handle, &now);
+        x.request.value = moment - now;
+        result = make(task, &x);
+    } else {
+        for (struct sleeper *s = kernel->sleepers; s; s = s->next) s->status = -EDEADLK;
+    }
+    pthread_cond_broadcast(&kernel->changed);
+    return (int)result;
+}
+
+static void forget_sleeper(struct nippersage_kernel *kernel, const struct sleeper *gone) {
+    struct sleeper **link = &kernel->sleepers;
+    while (*link != gone) link = &(*link)->next;
+    *link = gone->next;
+}
+
+/* Sleeps until the wait of this caller, which is parked, has ended. */
+static int sleep_in_wait(struct nippersage_task task, struct epoll_event *events, int maxevents) {
+    struct nippersage_kernel *kernel = task.kernel;
+    struct sleeper self = {task.caller, 0, kernel->sleepers};
+    int result = EP_PARKED;
+    kernel->sleepers = &self;
+    kernel->asleep++;
+    while (result == EP_PARKED) {
+        if (self.status != 0) {
+            result = self.status;
+        } else if (ep_is_marked(&kernel->handle, task.caller) == 1) {
+            result = resume(task, events, maxevents);
+        } else if (is_still(kernel)) {
+            int moved = go_on(task);
+            if (moved < 0) result = moved;
+        } else {
+            pthread_cond_wait(&kernel->changed, &kernel->lock);
+        }
+    }
+    kernel->asleep--;
+    forget_sleeper(kernel, &self);
+    return result;
+}
+
+static int wait_for(struct nippersage_task task, int epfd, struct epoll_event *events, int maxevents, int64_t timeout) {
+    int result;
+    if (!task.kernel) return -EINVAL;
+    enter(task.kernel);
+    result = start(task, epfd, events, maxevents, timeout);
+    if (result == EP_PARKED) result = sleep_in_wait(task, events, maxevents);
+    leave(task.kernel);
+    return result;
+}
+
+int nippersage_epoll_wait(struct nippersage_task task, int epfd, struct epoll_event *events, int maxevents,
+                          int timeout) {
+    return wait_for(task, epfd, events, maxevents, timeout);
+}
+
+int nippersage_epoll_pwait2(struct nippersage_task task, int epfd, struct epoll_event *events, int maxevents,
+                            const struct timespec *timeout) {
+    int64_t most = timeout ? milliseconds(timeout) : -1;
+    if (timeout && most < 0) return -EINVAL;
+    return wait_for(task, epfd, events, maxevents, most);
+}
+
+int nippersage_tasks(struct nippersage_kernel *kernel, int more) {
+    int result = 0;
+    if (!kernel) return -EINVAL;
+    enter(kernel);
+    if (more > INT_MAX - kernel->tasks || more < -kernel->tasks) {
+        result = -EINVAL;
+    } else {
+        kernel->tasks += more;
+    }
+    leave(kernel);
+    return result;
+}
+
+/* ---- the clock and questions ---- */
+
+int nippersage_tick(struct nippersage_task task, uint64_t milliseconds) {
+    return (int)ASK(task, .event = EP_TICK, .value = milliseconds);
+}
+
+int nippersage_now(struct nippersage_kernel *kernel, uint64_t *moment) {
+    int result;
+    if (!kernel) return -EINVAL;
+    if (!moment) return -EFAULT;
+    enter(kernel);
+    result = ep_now(&kernel->handle, moment);
+    leave(kernel);
+    return result;
+}
+
+int nippersage_next_moment(struct nippersage_kernel *kernel, uint64_t *moment) {
+    int result;
+    if (!kernel) return -EINVAL;
+    if (!moment) return -EFAULT;
+    enter(kernel);
+    result = ep_next_moment(&kernel->handle, moment);
+    leave(kernel);
+    return result;
+}
+
+int nippersage_first_marked(struct nippersage_kernel *kernel, uint32_t *caller) {
+    int result;
+    if (!kernel) return -EINVAL;
+    if (!caller) return -EFAULT;
+    enter(kernel);
+    result = ep_first_marked(&kernel->handle, caller);
+    leave(kernel);
+    return result;
+}
+
+int nippersage_is_parked(struct nippersage_kernel *kernel, uint32_t caller) {
+    int result;
+    if (!kernel) return -EINVAL;
+    enter(kernel);
+    result = ep_is_parked(&kernel->handle, caller);
+    leave(kernel);
+    return result;
+}
+
+int nippersage_is_marked(struct nippersage_kernel *kernel, uint32_t caller) {
+    int result;
+    if (!kernel) return -EINVAL;
+    enter(kernel);
+    result = ep_is_marked(&kernel->handle, caller);
+    leave(kernel);
+    return result;
+}
+
+/* ---- the history ---- */
+
+int nippersage_reserve(struct nippersage_kernel *kernel, size_t events) {
+    int result;
+    if (!kernel) return -EINVAL;
+    enter(kernel);
+    result = ep_reserve(&kernel->handle, events);
+    leave(kernel);
+    return result;
+}
+
+int nippersage_check(struct nippersage_kernel *kernel) {
+    int result;
+    if (!kernel) return -EINVAL;
+    enter(kernel);
+    result = ep_check(&kernel->handle);
+    leave(kernel);
+    return result;
+}
+
+static int write_all(int fd, const unsigned char *bytes, size_t count) {
+    while (count > 0) {
+        ssize_t taken = write(fd, bytes, count);
+        if (taken < 0 && errno == EINTR) continue;
+        if (taken < 0) return -errno;
+        if (taken == 0) return -EIO;
+        bytes += taken;
+        count -= (size_t)taken;
+    }
+    return 0;
+}
+
+/* A line, with room that grows. */
+struct line {
+    unsigned char *bytes;
+    size_t room;
+};
+
+/* Writes one record and the byte 10 behind it. */
+static int write_record(struct nippersage_kernel *kernel, size_t place, struct line *line, int fd) {
+    size_t size = 0;
+    int32_t status = ep_line(&kernel->handle, place, line->bytes, line->room - 1, &size);
+    while (status == -EMSGSIZE) {
+        unsigned char *more = realloc(line->bytes, size + 1);
+        if (!more) return -ENOMEM;
+        line->bytes = more;
+        line->room = size + 1;
+        status = ep_line(&kernel->handle, place, line->bytes, line->room - 1, &size);
+    }
+    if (status < 0) return status;
+    line->bytes[size] = '\n';
+    return write_all(fd, line->bytes, size + 1);
+}
+
+static int write_records(struct nippersage_kernel *kernel, int fd) {
+    struct line line = {malloc(1024), 1024};
+    size_t count = 0;
+    int status = ep_records(&kernel->handle, &count);
+    if (!line.bytes) return -ENOMEM;
+    for (size_t place = 0; place < count && status == 0; place++) status = write_record(kernel, place, &line, fd);
+    free(line.bytes);
+    return status;
+}
+
+int nippersage_history(struct nippersage_kernel *kernel, int fd) {
+    int saved = errno, status;
+    if (!kernel) return -EINVAL;
+    enter(kernel);
+    status = write_records(kernel, fd);
+    leave(kernel);
+    errno = saved;
+    return status;
+}

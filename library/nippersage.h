@@ -1,0 +1,192 @@
+/* Nippersage: a simulated Linux kernel for pipes, socket pairs, eventfds, timers and epoll, in the process that
+ * uses it.
+ *
+ *     struct nippersage_kernel *kernel;
+ *     nippersage_open(NULL, &kernel);                                    // limits as by default
+ *     struct nippersage_task task = {kernel, 1, 1};                      // caller 1, in process 1
+ *     int ends[2], ep = nippersage_epoll_create1(task, 0);
+ *     struct epoll_event event = {.events = EPOLLIN, .data.u64 = 7};
+ *     nippersage_pipe2(task, ends, 0);
+ *     nippersage_epoll_ctl(task, ep, EPOLL_CTL_ADD, ends[0], &event);
+ *     nippersage_write(task, ends[1], "abc", 3);                         // 3
+ *     nippersage_epoll_wait(task, ep, &event, 1, -1);                    // 1, and event is {EPOLLIN, 7}
+ *     nippersage_free(kernel);
+ *
+ * There is a function for each system call, with Linux's own types, flags and constants. It answers what the call
+ * does, 0 or more, or MINUS THE ERROR NUMBER; errno stays. Each file behaves as with O_NONBLOCK, whether the flag
+ * is given or not. No real descriptor is touched.
+ *
+ * WHO CALLS is a task: a caller, which is a number of your choice, one for each thread that you act out, and the
+ * number of its process. A kernel begins with process 1, whose descriptors 0, 1 and 2 name one file that can't be
+ * polled. nippersage_fork makes further ones. Threads may use one kernel at a time as they like; each needs a
+ * caller of its own.
+ *
+ * TIME stands still until a call moves it. A wait by nippersage_epoll_wait moves it by itself: see there. Times
+ * that are finer than a millisecond, which is the kernel's unit, are rounded up.
+ *
+ * WHAT IS PROVED. The answers are made by a kernel whose every answer a machine-checked proof shows to be one that
+ * an abstract machine allows, and the functions that this library calls of it are proved, too. This header and the
+ * C behind it are NOT: that a function here asks for the event that its name says, the lock, the waits that move
+ * the clock by themselves. They are tested.
+ *
+ * Errors of every function that takes a task, beside its system call's: -ESRCH where the process isn't there,
+ * -EBUSY while the caller is parked, -EINVAL where the kernel is NULL, -EFAULT for a NULL where something has to
+ * be, -ENOMEM for want of memory, which changes nothing. An error changes nothing but the history. */
+#ifndef NIPPERSAGE_H
+#define NIPPERSAGE_H
+
+#include <stddef.h>
+#include <stdint.h>
+#include <sys/epoll.h>
+#include <sys/timerfd.h>
+#include <sys/types.h>
+#include <sys/uio.h>
+#include <time.h>
+
+#ifdef __cplusplus
+extern "C" {
+#endif
+
+/* How much of each thing a kernel allows. */
+struct nippersage_limits {
+    uint32_t descriptors; /* numbers of a process, 3 to 65,536; by default 1,024 */
+    uint32_t files;       /* open file descriptions, 1 to 1,000,000; 4,096 */
+    uint32_t processes;   /* 1 to 10,000; 64 */
+    uint32_t watches;     /* registrations, 0 to 1,000,000; 4,096 */
+    uint32_t pipe_bytes;  /* in a pipe, 4,096 to 1,048,576; 65,536 */
+    uint32_t sock_bytes;  /* in one direction of a socket pair, 1 to 1,048,576; 65,536 */
+};
+
+struct nippersage_kernel;
+
+struct nippersage_task {
+    struct nippersage_kernel *kernel;
+    uint32_t caller;
+    uint64_t pid;
+};
+
+/* What a wait by hand answers while its caller is parked. It is no error number. */
+#define NIPPERSAGE_PARKED (-4096)
+
+/* A new kernel. NULL limits are those by default. -EINVAL where a limit is out of its range, -ENOMEM; then *kernel
+ * stays. */
+int nippersage_open(const struct nippersage_limits *limits, struct nippersage_kernel **kernel);
+
+/* Ends a kernel, while no call on it runs. NULL is let be. */
+void nippersage_free(struct nippersage_kernel *kernel);
+
+/* pipe2(2). Flags: O_CLOEXEC, O_NONBLOCK. -EMFILE, -ENFILE. */
+int nippersage_pipe2(struct nippersage_task task, int ends[2], int flags);
+
+/* socketpair(2). AF_UNIX (else -EAFNOSUPPORT) and SOCK_STREAM (else -ESOCKTNOSUPPORT) with SOCK_CLOEXEC and
+ * SOCK_NONBLOCK, protocol 0 (else -EPROTONOSUPPORT). -EMFILE, -ENFILE. */
+int nippersage_socketpair(struct nippersage_task task, int domain, int type, int protocol, int ends[2]);
+
+/* eventfd(2). Flags: EFD_CLOEXEC, EFD_NONBLOCK, EFD_SEMAPHORE. -EMFILE, -ENFILE. */
+int nippersage_eventfd(struct nippersage_task task, unsigned int initval, int flags);
+
+/* timerfd_create(2). CLOCK_REALTIME and CLOCK_MONOTONIC are both the one simulated clock. Flags: TFD_CLOEXEC,
+ * TFD_NONBLOCK. -EMFILE, -ENFILE. */
+int nippersage_timerfd_create(struct nippersage_task task, int clockid, int flags);
+
+/* timerfd_settime(2). Flags: TFD_TIMER_ABSTIME. `before`, if it isn't NULL, is told the setting before.
+ * -EINVAL for a time that is none or above 1,000,000,000 seconds. */
+int nippersage_timerfd_settime(struct nippersage_task task, int fd, int flags, const struct itimerspec *value,
+                               struct itimerspec *before);
+
+/* timerfd_gettime(2). */
+int nippersage_timerfd_gettime(struct nippersage_task task, int fd, struct itimerspec *now);
+
+/* A file that can't be polled, as /dev/null. Flags: O_CLOEXEC. Its descriptor. -EMFILE, -ENFILE. */
+int nippersage_plain(struct nippersage_task task, int flags);
+
+/* epoll_create1(2). Flags: EPOLL_CLOEXEC. -EMFILE, -ENFILE. */
+int nippersage_epoll_create1(struct nippersage_task task, int flags);
+
+/* epoll_ctl(2). A mask with EPOLLEXCLUSIVE is -EINVAL. */
+int nippersage_epoll_ctl(struct nippersage_task task, int epfd, int op, int fd, const struct epoll_event *event);
+
+/* epoll_wait(2), by itself: where nothing is reportable and timeout, in milliseconds, isn't 0, the call parks its
+ * caller and comes back when its wait has ended. Meanwhile other threads may use the kernel. As soon as each thread
+ * that is inside a call of this kernel is in such a wait, and none of them is about to end, the clock goes on by
+ * itself to the next moment at which something happens. So a wait for an hour comes back at once if no other thread
+ * does anything. -EDEADLK where there is no such moment: then every such wait answers it. Its caller is still
+ * parked, as after -ENOMEM, and ends its wait by nippersage_resume. A thread that is between two calls counts only
+ * by nippersage_tasks. maxevents above `watches` is taken as that. */
+int nippersage_epoll_wait(struct nippersage_task task, int epfd, struct epoll_event *events, int maxevents,
+                          int timeout);
+
+/* epoll_pwait2(2) without a mask of signals: as nippersage_epoll_wait, NULL for a wait without end. */
+int nippersage_epoll_pwait2(struct nippersage_task task, int epfd, struct epoll_event *events, int maxevents,
+                            const struct timespec *timeout);
+
+/* So many threads more take part, or fewer, if it is negative; at the beginning 0 do. The clock goes on by itself,
+ * and -EDEADLK is answered, only while at least so many sleep in waits. So a program of eight threads says 8 before
+ * they start, and each says -1 when it ends. -EINVAL for fewer than 0. */
+int nippersage_tasks(struct nippersage_kernel *kernel, int more);
+
+/* A wait by hand: as nippersage_epoll_wait, but answers NIPPERSAGE_PARKED in place of sleeping. The caller then
+ * asks by nippersage_resume, best when nippersage_is_marked says that there may be something. */
+int nippersage_wait_start(struct nippersage_task task, int epfd, struct epoll_event *events, int maxevents,
+                          int timeout);
+
+/* Whether a parked caller's wait has ended: its reports, 0 where its time has passed, or NIPPERSAGE_PARKED.
+ * -EINVAL where the caller isn't parked, -EMSGSIZE where maxevents is less than that of its wait. */
+int nippersage_resume(struct nippersage_task task, struct epoll_event *events, int maxevents);
+
+/* Moves the clock on by so many milliseconds. -EINVAL past 1,000,000,000,000. */
+int nippersage_tick(struct nippersage_task task, uint64_t milliseconds);
+
+/* The simulated clock, in milliseconds since it began. */
+int nippersage_now(struct nippersage_kernel *kernel, uint64_t *moment);
+
+/* 1 and the first moment to which a tick has an effect, or 0 where no tick has one. */
+int nippersage_next_moment(struct nippersage_kernel *kernel, uint64_t *moment);
+
+/* 1 and of the marked callers the one that was parked first, or 0 where nobody is marked. */
+int nippersage_first_marked(struct nippersage_kernel *kernel, uint32_t *caller);
+
+/* Whether a caller is parked; whether it is parked and marked: 1 or 0. */
+int nippersage_is_parked(struct nippersage_kernel *kernel, uint32_t caller);
+int nippersage_is_marked(struct nippersage_kernel *kernel, uint32_t caller);
+
+/* read(2), write(2), readv(2), writev(2). At most 0x7ffff000 bytes go in one call, as on Linux. -EAGAIN, -EPIPE; no
+ * signal. */
+ssize_t nippersage_read(struct nippersage_task task, int fd, void *bytes, size_t count);
+ssize_t nippersage_write(struct nippersage_task task, int fd, const void *bytes, size_t count);
+ssize_t nippersage_readv(struct nippersage_task task, int fd, const struct iovec *vectors, int count);
+ssize_t nippersage_writev(struct nippersage_task task, int fd, const struct iovec *vectors, int count);
+
+/* shutdown(2). SHUT_WR; -EOPNOTSUPP for SHUT_RD and SHUT_RDWR, which the kernel hasn't. */
+int nippersage_shutdown(struct nippersage_task task, int fd, int how);
+
+/* dup(2), dup2(2), dup3(2). O_CLOEXEC in dup3 is -EOPNOTSUPP, which the kernel hasn't. */
+int nippersage_dup(struct nippersage_task task, int fd);
+int nippersage_dup2(struct nippersage_task task, int fd, int to);
+int nippersage_dup3(struct nippersage_task task, int fd, int to, int flags);
+
+/* close(2). */
+int nippersage_close(struct nippersage_task task, int fd);
+
+/* fork(2): the number of a new process with a copy of the descriptors. -EAGAIN where there are `processes`. */
+int64_t nippersage_fork(struct nippersage_task task);
+
+/* execve(2), as far as it closes descriptors with close-on-exec; _exit(2). -EBUSY while a caller of the process is
+ * parked. */
+int nippersage_execve(struct nippersage_task task);
+int nippersage_exit(struct nippersage_task task);
+
+/* Makes room for so many events more in the history, so that none asks for memory for its record. -ENOMEM. */
+int nippersage_reserve(struct nippersage_kernel *kernel, size_t events);
+
+/* Writes the history to a real descriptor, a record a line, as the program epaudit reads it. Minus the error of
+ * write(2), and what stood before it has been written. Nothing else runs on the kernel meanwhile. */
+int nippersage_history(struct nippersage_kernel *kernel, int fd);
+
+/* Makes every event of the history again and compares: 0, or -ENOMEM; -EBADMSG can't come, as the proof has it. */
+int nippersage_check(struct nippersage_kernel *kernel);
+
+#ifdef __cplusplus
+}
+#endif
+#endif

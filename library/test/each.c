@@ -1,0 +1,286 @@
+/* Each function of nippersage.h: what it does, and an error of each. Answers are those of the manual pages. */
+#include "check.h"
+
+static struct nippersage_kernel *kernel;
+static struct nippersage_task one, two;
+
+static void opening(void) {
+    struct nippersage_limits limits = {2, 4096, 64, 4096, 65536, 65536};
+    struct nippersage_kernel *none = NULL;
+    IS(nippersage_open(&limits, &none), -EINVAL);
+    limits.descriptors = 3;
+    limits.watches = 1000001;
+    IS(nippersage_open(&limits, &none), -EINVAL);
+    IS(none == NULL, 1);
+    IS(nippersage_open(NULL, NULL), -EFAULT);
+    IS(nippersage_open(NULL, &kernel), 0);
+    one = (struct nippersage_task){kernel, 1, 1};
+    two = (struct nippersage_task){kernel, 2, 1};
+    nippersage_free(NULL);
+}
+
+static void pipes(void) {
+    struct nippersage_task nobody = {NULL, 1, 1};
+    char bytes[8];
+    int ends[2];
+    IS(nippersage_pipe2(one, ends, O_CLOEXEC | O_NONBLOCK), 0);
+    IS(ends[0], 3);
+    IS(ends[1], 4);
+    IS(nippersage_pipe2(one, ends, O_APPEND), -EINVAL);
+    IS(nippersage_pipe2(one, NULL, 0), -EFAULT);
+    IS(nippersage_pipe2(nobody, ends, 0), -EINVAL);
+    IS(nippersage_read(one, 3, bytes, 8), -EAGAIN);
+    IS(nippersage_write(one, 4, "abcde", 5), 5);
+    IS(nippersage_write(one, 3, "x", 1), -EBADF);
+    IS(nippersage_write(one, 4, NULL, 1), -EFAULT);
+    IS(nippersage_read(one, 3, NULL, 1), -EFAULT);
+    IS(nippersage_read(one, 3, bytes, 3), 3);
+    IS(memcmp(bytes, "abc", 3), 0);
+    IS(nippersage_read(one, 3, bytes, 8), 2);
+    IS(memcmp(bytes, "de", 2), 0);
+    IS(nippersage_close(one, 3), 0);
+    IS(nippersage_close(one, 3), -EBADF);
+    IS(nippersage_write(one, 4, "x", 1), -EPIPE);
+    IS(nippersage_close(one, 4), 0);
+}
+
+static void vectors(void) {
+    char first[2], second[4];
+    struct iovec in[3] = {{first, 2}, {NULL, 0}, {second, 4}};
+    struct iovec out[2] = {{"ab", 2}, {"cde", 3}};
+    int ends[2];
+    IS(nippersage_socketpair(one, AF_UNIX, SOCK_STREAM | SOCK_CLOEXEC | SOCK_NONBLOCK, 0, ends), 0);
+    IS(nippersage_socketpair(one, AF_INET, SOCK_STREAM, 0, ends), -EAFNOSUPPORT);
+    IS(nippersage_socketpair(one, AF_UNIX, SOCK_DGRAM, 0, ends), -ESOCKTNOSUPPORT);
+    IS(nippersage_socketpair(one, AF_UNIX, SOCK_STREAM, 7, ends), -EPROTONOSUPPORT);
+    IS(nippersage_writev(one, ends[0], out, 2), 5);
+    IS(nippersage_readv(one, ends[1], in, 3), 5);
+    IS(memcmp(first, "ab", 2), 0);
+    IS(memcmp(second, "cde", 3), 0);
+    IS(nippersage_readv(one, ends[1], in, 3), -EAGAIN);
+    IS(nippersage_readv(one, ends[1], in, -1), -EINVAL);
+    IS(nippersage_writev(one, ends[0], NULL, 1), -EFAULT);
+    IS(nippersage_writev(one, ends[0], out, 1025), -EINVAL);
+    IS(nippersage_shutdown(one, ends[0], SHUT_WR), 0);
+    IS(nippersage_shutdown(one, ends[0], SHUT_RD), -EOPNOTSUPP);
+    IS(nippersage_shutdown(one, ends[0], 9), -EINVAL);
+    IS(nippersage_shutdown(one, 0, SHUT_WR), -ENOTSOCK);
+    IS(nippersage_readv(one, ends[1], in, 3), 0);
+    IS(nippersage_close(one, ends[0]), 0);
+    IS(nippersage_close(one, ends[1]), 0);
+}
+
+static void counters(void) {
+    uint64_t count = 0;
+    int fd = nippersage_eventfd(one, 3, EFD_SEMAPHORE | EFD_CLOEXEC | EFD_NONBLOCK);
+    IS(fd, 3);
+    IS(nippersage_eventfd(one, 0, 4), -EINVAL);
+    IS(nippersage_read(one, fd, &count, 8), 8);
+    IS(count, 1);
+    IS(nippersage_read(one, fd, &count, 7), -EINVAL);
+    IS(nippersage_close(one, fd), 0);
+}
+
+static void timers(void) {
+    struct itimerspec set = {.it_value = {1, 1}, .it_interval = {0, 2000000}}, before, now;
+    uint64_t moment = 7;
+    int fd = nippersage_timerfd_create(one, CLOCK_MONOTONIC, TFD_CLOEXEC | TFD_NONBLOCK);
+    IS(fd, 3);
+    IS(nippersage_timerfd_create(one, 9, 0), -EINVAL);
+    IS(nippersage_timerfd_create(one, CLOCK_MONOTONIC, 1), -EINVAL);
+    IS(nippersage_timerfd_settime(one, fd, 0, &set, &before), 0);
+    IS(before.it_value.tv_sec + before.it_value.tv_nsec + before.it_interval.tv_sec + before.it_interval.tv_nsec, 0);
+    IS(nippersage_timerfd_gettime(one, fd, &now), 0);
+    IS(now.it_value.tv_sec, 1);
+    IS(now.it_value.tv_nsec, 1000000); /* one nanosecond, rounded up */
+    IS(now.it_interval.tv_nsec, 2000000);
+    IS(nippersage_next_moment(kernel, &moment), 1);
+    IS(moment, 1001);
+    set.it_value = (struct timespec){0, 5000000};
+    IS(nippersage_timerfd_settime(one, fd, TFD_TIMER_ABSTIME, &set, NULL), 0);
+    IS(nippersage_next_moment(kernel, &moment), 1);
+    IS(moment, 5);
+    set.it_value.tv_nsec = 1000000000;
+    IS(nippersage_timerfd_settime(one, fd, 0, &set, NULL), -EINVAL);
+    IS(nippersage_timerfd_settime(one, fd, 2, &set, NULL), -EINVAL);
+    IS(nippersage_timerfd_settime(one, fd, 0, NULL, NULL), -EFAULT);
+    IS(nippersage_timerfd_gettime(one, fd, NULL), -EFAULT);
+    IS(nippersage_timerfd_gettime(one, 0, &now), -EINVAL);
+    IS(nippersage_close(one, fd), 0);
+    IS(nippersage_next_moment(kernel, &moment), 0);
+}
+
+static void numbers(void) {
+    int fd = nippersage_plain(one, O_CLOEXEC);
+    IS(fd, 3);
+    IS(nippersage_plain(one, O_APPEND), -EINVAL);
+    IS(nippersage_dup(one, fd), 4);
+    IS(nippersage_dup(one, 99), -EBADF);
+    IS(nippersage_dup2(one, fd, 9), 9);
+    IS(nippersage_dup3(one, fd, 8, 0), 8);
+    IS(nippersage_dup3(one, fd, fd, 0), -EINVAL);
+    IS(nippersage_dup3(one, fd, 8, O_CLOEXEC), -EOPNOTSUPP);
+    IS(nippersage_dup3(one, fd, 8, 1), -EINVAL);
+    IS(nippersage_execve(one), 0); /* closes 3, which has close-on-exec; its copies haven't */
+    IS(nippersage_close(one, 3), -EBADF);
+    IS(nippersage_close(one, 4), 0);
+    IS(nippersage_close(one, 8), 0);
+    IS(nippersage_close(one, 9), 0);
+}
+
+static void processes(void) {
+    struct nippersage_task child = {kernel, 3, 0};
+    child.pid = (uint64_t)nippersage_fork(one);
+    IS(child.pid, 2);
+    IS(nippersage_dup(child, 0), 3);
+    IS(nippersage_close(one, 3), -EBADF);
+    IS(nippersage_exit(child), 0);
+    IS(nippersage_dup(child, 0), -ESRCH);
+}
+
+/* A wait by hand, from its start to its end. */
+static void by_hand(void) {
+    struct epoll_event event = {.events = EPOLLIN, .data.u64 = 7}, found[2];
+    uint32_t caller = 9;
+    uint64_t moment;
+    int ends[2], ep = nippersage_epoll_create1(one, EPOLL_CLOEXEC);
+    IS(ep, 3);
+    IS(nippersage_epoll_create1(one, 1), -EINVAL);
+    IS(nippersage_pipe2(one, ends, 0), 0);
+    IS(nippersage_epoll_ctl(one, ep, EPOLL_CTL_ADD, ends[0], &event), 0);
+    IS(nippersage_epoll_ctl(one, ep, EPOLL_CTL_ADD, ends[0], &event), -EEXIST);
+    IS(nippersage_epoll_ctl(one, ep, EPOLL_CTL_MOD, ends[1], &event), -ENOENT);
+    IS(nippersage_epoll_ctl(one, ep, EPOLL_CTL_ADD, 0, &event), -EPERM);
+    IS(nippersage_epoll_ctl(one, ep, EPOLL_CTL_ADD, ends[1], NULL), -EFAULT);
+    IS(nippersage_wait_start(one, ep, found, 0, 0), -EINVAL);
+    IS(nippersage_wait_start(one, ep, NULL, 2, 0), -EFAULT);
+    IS(nippersage_wait_start(one, ep, found, 2, 0), 0);
+    IS(nippersage_resume(one, found, 2), -EINVAL);
+    IS(nippersage_wait_start(one, ep, found, 2, 20), NIPPERSAGE_PARKED);
+    IS(nippersage_is_parked(kernel, 1), 1);
+    IS(nippersage_is_marked(kernel, 1), 0);
+    IS(nippersage_first_marked(kernel, &caller), 0);
+    IS(caller, 9);
+    IS(nippersage_close(one, 0), -EBUSY);
+    IS(nippersage_resume(one, found, 1), -EMSGSIZE);
+    IS(nippersage_resume(one, NULL, 2), -EFAULT);
+    IS(nippersage_resume(one, found, 2), NIPPERSAGE_PARKED);
+    IS(nippersage_write(two, ends[1], "abc", 3), 3);
+    IS(nippersage_is_marked(kernel, 1), 1);
+    IS(nippersage_first_marked(kernel, &caller), 1);
+    IS(caller, 1);
+    IS(nippersage_resume(one, found, 2), 1);
+    IS(found[0].events, EPOLLIN);
+    IS(found[0].data.u64, 7);
+    IS(nippersage_is_parked(kernel, 1), 0);
+    IS(nippersage_epoll_ctl(one, ep, EPOLL_CTL_DEL, ends[0], NULL), 0);
+    IS(nippersage_wait_start(one, ep, found, 2, 20), NIPPERSAGE_PARKED);
+    IS(nippersage_next_moment(kernel, &moment), 1);
+    IS(moment, 20);
+    IS(nippersage_tick(two, 20), 0);
+    IS(nippersage_now(kernel, &moment), 0);
+    IS(moment, 20);
+    IS(nippersage_resume(one, found, 2), 0);
+    IS(nippersage_tick(two, 1000000000000), -EINVAL);
+    IS(nippersage_now(kernel, NULL), -EFAULT);
+    IS(nippersage_close(one, ep), 0);
+    IS(nippersage_close(one, ends[0]), 0);
+    IS(nippersage_close(one, ends[1]), 0);
+}
+
+/* Waits that move the clock by themselves. */
+static void by_itself(void) {
+    struct epoll_event event = {.events = EPOLLIN, .data.u64 = 9}, found;
+    struct itimerspec hour = {.it_value = {3600, 0}};
+    struct timespec most = {0, 1};
+    uint64_t before, moment;
+    int ep = nippersage_epoll_create1(one, 0), fd = nippersage_timerfd_create(one, CLOCK_REALTIME, 0);
+    IS(nippersage_now(kernel, &before), 0);
+    IS(nippersage_epoll_ctl(one, ep, EPOLL_CTL_ADD, fd, &event), 0);
+    IS(nippersage_timerfd_settime(one, fd, 0, &hour, NULL), 0);
+    IS(nippersage_epoll_wait(one, ep, &found, 1, -1), 1);
+    IS(found.events, EPOLLIN);
+    IS(found.data.u64, 9);
+    IS(nippersage_now(kernel, &moment), 0);
+    IS(moment, before + 3600000);
+    IS(nippersage_read(one, fd, &moment, 8), 8);
+    IS(moment, 1);
+    IS(nippersage_epoll_wait(one, ep, &found, 1, 0), 0);
+    IS(nippersage_epoll_wait(one, ep, &found, 1, 250), 0);
+    IS(nippersage_epoll_pwait2(one, ep, &found, 1, &most), 0);
+    IS(nippersage_now(kernel, &moment), 0);
+    IS(moment, before + 3600251);
+    most.tv_nsec = -1;
+    IS(nippersage_epoll_pwait2(one, ep, &found, 1, &most), -EINVAL);
+    IS(nippersage_epoll_pwait2(one, ep, &found, 1, NULL), -EDEADLK);
+    IS(nippersage_is_parked(kernel, 1), 1);
+    IS(nippersage_timerfd_settime(two, fd, 0, &hour, NULL), 0);
+    IS(nippersage_tick(two, 3600000), 0);
+    IS(nippersage_resume(one, &found, 1), 1);
+    IS(nippersage_epoll_wait(one, fd, &found, 1, 0), -EINVAL);
+    IS(nippersage_tasks(kernel, 2), 0);
+    IS(nippersage_tasks(kernel, -3), -EINVAL);
+    IS(nippersage_tasks(kernel, -2), 0);
+    IS(nippersage_tasks(NULL, 0), -EINVAL);
+}
+
+/* No report is lost where there are more than one asks for. */
+static void many(void) {
+    struct nippersage_limits limits = {64, 64, 4, 2, 4096, 4096};
+    struct nippersage_kernel *small;
+    struct nippersage_task task = {NULL, 1, 1};
+    struct epoll_event event = {.events = EPOLLOUT}, found[64];
+    int ep;
+    IS(nippersage_open(&limits, &small), 0);
+    task.kernel = small;
+    ep = nippersage_epoll_create1(task, 0);
+    for (int i = 0; i < 2; i++) {
+        IS(nippersage_epoll_ctl(task, ep, EPOLL_CTL_ADD, nippersage_eventfd(task, 0, 0), &event), 0);
+    }
+    IS(nippersage_epoll_ctl(task, ep, EPOLL_CTL_ADD, nippersage_eventfd(task, 0, 0), &event), -ENOSPC);
+    IS(nippersage_epoll_wait(task, ep, found, 64, -1), 2); /* 64 is above the limit of registrations */
+    IS(nippersage_epoll_wait(task, ep, found, 1, -1), 1);
+    nippersage_free(small);
+}
+
+static void history(void) {
+    static const char first[] = "{\"answer\":{\"two\":[3,4]},\"caller\":1,\"event\":{\"call\":{\"cloexec\":true,\"op\":\"pipe\"},"
+                                "\"pid\":1},\"picked\":[]}\n";
+    char line[512];
+    FILE *file = tmpfile();
+    int count = 0;
+    IS(file != NULL, 1);
+    IS(nippersage_reserve(kernel, 100), 0);
+    IS(nippersage_reserve(kernel, SIZE_MAX), -ENOMEM);
+    IS(nippersage_check(kernel), 0);
+    IS(nippersage_history(kernel, fileno(file)), 0);
+    IS(nippersage_history(kernel, -1), -EBADF);
+    rewind(file);
+    while (fgets(line, sizeof line, file)) {
+        if (count == 0) IS(strcmp(line, first), 0);
+        count++;
+    }
+    IS(count > 50, 1);
+    fclose(file);
+}
+
+int main(int argc, char **argv) {
+    opening();
+    pipes();
+    vectors();
+    counters();
+    timers();
+    numbers();
+    processes();
+    by_hand();
+    by_itself();
+    many();
+    history();
+    if (argc > 1) {
+        int fd = open(argv[1], O_CREAT | O_TRUNC | O_WRONLY, 0600);
+        IS(nippersage_history(kernel, fd), 0);
+        close(fd);
+    }
+    nippersage_free(kernel);
+    return 0;
+}
