@@ -3,7 +3,6 @@ use Rattle.ep_handle.proofs.Steps.{◌≡◌, refl, sym, subst, ap, ◌∙◌, L
 use mir.Raw.{raw as bare_type}
 use mir.Syntax.{Dict}
 use base.Logic.{ex, guard, sep}
-use base.Fml.{Share}
 use contract.Lifetimes.{Lfts, Shares}
 use contract.Monad.{Fun}
 use prog.Memory.{Memory}

@@ -1,13 +1,11 @@
 -- `into_box` makes a box of the pointer and the allocator that it has.
 use Rattle.ep_handle.proofs.Steps.{refl, List, [], ◌∷◌, ◌++◌, Val, vptr, WpFn, id⊢, ftrue, fsep, ‵, raw, ◌⊛◌, prop, at_ret, ◌$◌, ◌∵◌, !, qed, move, drop, use1, join, split, split3, pick, learn, regoal, fsplit, fjoin, feq_i, suffices, await, done, whole, sub, stop, fld, no_more, and_then, of_opd, returns, enter, first, blocks, exec, alloc_all, pass_all, free_all, look_at, get, get_in, sets, lands_last, env, fact, tables, no, plain, nothing, calls_at_last, framed, says, Stays, stay_dropped, walk_of, ends_at, proved_at}
-use mir.Syntax.{a_type, dcons, dnil}
 use mir.MapTy.{inst_fn}
 use contract.BorrowLft.{◌⊑◌}
-use denote.RawPtr.{block_ptr}
 use denote.Triple.Clauses.{Ended}
 use Rattle.std.proofs.VecSteps.Shapes.{after}
 use Rattle.std.proofs.alloc.Calls.{Goes-blank}
-use Rattle.std_alloc.proofs.BoxSteps.Form.{Bx, D, B, args, word, box_typed}
+use Rattle.std_alloc.proofs.BoxSteps.Form.{Bx, D, B, args, box_typed}
 use Rattle.std_alloc.proofs.BoxSteps.Steps.{box_out}
 use Rattle.std_alloc.proofs.boxed.Box.from_raw.Met as closing
 use Rattle.ep_handle.proofs.BoxCalls.{Apart, Closes, at_closing, closed, closing_gives, lasting}

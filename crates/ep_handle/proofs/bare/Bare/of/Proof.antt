@@ -1,5 +1,5 @@
 -- `of` asks a box for its pointer and its allocator, and keeps both.
-use Rattle.ep_handle.proofs.Steps.{refl, List, [], ◌∷◌, ◌++◌, Val, WpFn, id⊢, ftrue, fsep, ‵, raw, ◌⊛◌, prop, ◌$◌, ◌∵◌, !, qed, move, drop, use1, join, split, pick, learn, regoal, fsplit, fjoin, suffices, await, done, whole, sub, agg, stop, fld, no_more, and_then, of_opd, returns, enter, alloc_all, pass_all, free_all, look_at, get, get_in, sets, lands_as, tables, no, plain, nothing, calls_at, framed, says, Stays, stay_dropped, walk_of, ends_at, proved_at}
+use Rattle.ep_handle.proofs.Steps.{refl, List, [], ◌∷◌, ◌++◌, Val, WpFn, id⊢, ftrue, fsep, ‵, raw, ◌⊛◌, prop, ◌$◌, ◌∵◌, !, qed, move, use1, join, split, pick, learn, regoal, fsplit, fjoin, suffices, await, done, whole, sub, agg, stop, fld, no_more, and_then, of_opd, returns, enter, alloc_all, pass_all, free_all, look_at, get, get_in, sets, lands_as, tables, no, plain, nothing, calls_at, framed, says, Stays, stay_dropped, walk_of, ends_at, proved_at}
 use mir.Syntax.{Args, Dict, a_type, dcons, dnil}
 use mir.MapTy.{inst_fn}
 use denote.Param.{bounded}
