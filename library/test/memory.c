@@ -1,0 +1,73 @@
+/* Each allocation fails in turn: a call answers -ENOMEM, and asked again what it would have answered; nothing is lost.
+   Linked with --wrap for malloc, calloc and realloc. */
+#include "check.h"
+
+void *__real_malloc(size_t size);
+void *__real_calloc(size_t count, size_t size);
+void *__real_realloc(void *block, size_t size);
+
+static long left = -1; /* allocations until one fails; none where it is below 0 */
+static long failed;
+
+static int fails(void) {
+    if (left < 0 || left-- > 0) return 0;
+    failed++;
+    return 1;
+}
+void *__wrap_malloc(size_t size) { return fails() ? NULL : __real_malloc(size); }
+void *__wrap_calloc(size_t count, size_t size) { return fails() ? NULL : __real_calloc(count, size); }
+void *__wrap_realloc(void *block, size_t size) { return fails() ? NULL : __real_realloc(block, size); }
+
+/* Asks until there is memory, once more at most, and compares. */
+#define AGAIN(call, wanted)                           \
+    do {                                              \
+        long long answer = (call);                    \
+        if (answer == -ENOMEM) answer = (call);       \
+        IS(answer, wanted);                           \
+    } while (0)
+
+static void calls(struct nippersage_kernel *kernel) {
+    struct nippersage_task one = {kernel, 1, 1}, two = {kernel, 2, 1};
+    struct epoll_event event = {.events = EPOLLIN, .data.u64 = 7}, found[8];
+    struct itimerspec second = {.it_value = {1, 0}};
+    char bytes[64] = "0123456789012345678901234567890123456789";
+    struct iovec vectors[2] = {{bytes, 20}, {bytes + 20, 20}};
+    int ends[2], sink;
+    uint64_t moment;
+    AGAIN(nippersage_pipe2(one, ends, 0), 0);
+    AGAIN(nippersage_epoll_create1(one, 0), 5);
+    AGAIN(nippersage_epoll_ctl(one, 5, EPOLL_CTL_ADD, 3, &event), 0);
+    AGAIN(nippersage_wait_start(one, 5, found, 8, -1), NIPPERSAGE_PARKED);
+    AGAIN(nippersage_writev(two, 4, vectors, 2), 40);
+    AGAIN(nippersage_resume(one, found, 8), 1);
+    AGAIN(nippersage_readv(one, 3, vectors, 2), 40);
+    AGAIN(nippersage_timerfd_create(one, CLOCK_MONOTONIC, 0), 6);
+    AGAIN(nippersage_epoll_ctl(one, 5, EPOLL_CTL_ADD, 6, &event), 0);
+    AGAIN(nippersage_timerfd_settime(one, 6, 0, &second, NULL), 0);
+    AGAIN(nippersage_wait_start(one, 5, found, 8, -1), NIPPERSAGE_PARKED);
+    AGAIN(nippersage_next_moment(kernel, &moment), 1);
+    AGAIN(nippersage_tick(two, 1000), 0);
+    AGAIN(nippersage_resume(one, found, 8), 1);
+    AGAIN(nippersage_fork(one), 2);
+    AGAIN(nippersage_dup(one, 3), 7);
+    AGAIN(nippersage_close(one, 3), 0);
+    AGAIN(nippersage_check(kernel), 0);
+    sink = open("/dev/null", O_WRONLY);
+    AGAIN(nippersage_history(kernel, sink), 0);
+    close(sink);
+}
+
+int main(void) {
+    long turn = 0;
+    do {
+        struct nippersage_kernel *kernel;
+        failed = 0;
+        left = turn++;
+        AGAIN(nippersage_open(NULL, &kernel), 0);
+        calls(kernel);
+        left = -1;
+        nippersage_free(kernel);
+    } while (failed > 0);
+    IS(turn > 20, 1);
+    return 0;
+}
