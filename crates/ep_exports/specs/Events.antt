@@ -24,8 +24,8 @@ pub record IsLaidOut (answer : Answer) (now : ℕ) (before after : Room) : Type 
   pub bytes : after.bytes ≡ overlaid before.bytes (bytes_of answer)
   pub reports : after.reports ≡ overlaid before.reports (map flat_report (reports_of answer))
 
--- nothing of it is cut where there is room for so many bytes and reports; of a resumption, where there is room for the most reports
--- of its wait
+-- nothing of it is cut where there is room for so many bytes and reports; of a resumption, where there is room for
+-- the most reports of its wait
 pub record Fits (s : State) (request : FlatRequest) (answer : Answer) (bytes reports : ℕ) : Type 0 where
   pub read : request.event ≡ 9 → length (bytes_of answer) ≤ bytes
   pub wait : request.event ≡ 8 → length (reports_of answer) ≤ reports

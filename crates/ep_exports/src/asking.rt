@@ -76,8 +76,8 @@ pub extern "C" fn ep_first_marked(alloc: Global, handle: &mut Handle, caller: &m
     }
 }
 
-/// The first moment after now to which a tick raises a bit or marks a caller: 1 and the moment, or 0 where no tick does,
-/// or -EBADF.
+/// The first moment after now to which a tick raises a bit or marks a caller: 1 and the moment, or 0 where no tick
+/// does, or -EBADF.
 #[unsafe(no_mangle)]
 pub extern "C" fn ep_next_moment(alloc: Global, handle: &mut Handle, moment: &mut u64) -> i32
     ensures { AskedMoment handle.old.state.kernel handle.new.state.kernel moment.old moment.new

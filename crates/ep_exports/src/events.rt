@@ -9,13 +9,16 @@ use ep_flat::{FlatReply, FlatReport, FlatRequest, event_of, lacks_room, put_answ
 use ep_handle::Handle;
 use std::alloc::Global;
 
-/// Makes one event, a write with the bytes of `given`, and lays out its answer: 0, and `reply` has it. A refusal is an answer,
-/// too. The bytes of a read go to the beginning of `bytes` and reports to that of `reports`; `reply.result` tells how many.
+/// Makes one event, a write with the bytes of `given`, and lays out its answer: 0, and `reply` has it. A refusal is
+/// an answer, too. The bytes of a read go to the beginning of `bytes` and reports to that of `reports`;
+/// `reply.result` tells how many.
 ///
-/// With nothing changed: -EBADF, -EMSGSIZE where `bytes` is shorter than what a read asks for or `reports` than the most
-/// reports of a wait, -ENOSYS where the number of the event is none, -ENOMEM where there is no memory for the bytes of a write.
+/// With nothing changed: -EBADF, -EMSGSIZE where `bytes` is shorter than what a read asks for or `reports` than the
+/// most reports of a wait, -ENOSYS where the number of the event is none, -ENOMEM where there is no memory for the
+/// bytes of a write.
 ///
-/// A resumption has at most as many reports as its wait asked for, and what doesn't fit is cut: `ep_recorded` has all of them.
+/// A resumption has at most as many reports as its wait asked for, and what doesn't fit is cut: `ep_recorded` has all
+/// of them.
 #[tactic(auto, using(crate::proofs::Fits::fits))]
 #[unsafe(no_mangle)]
 pub extern "C" fn ep_call(

@@ -50,16 +50,23 @@ pub struct FlatLimits {
 pub struct FlatRequest {
     /// The process of a call.
     pub pid: u64,
+    /// The data of a registration, how long a tick is, or the first expiration of a timer, in milliseconds.
     pub value: u64,
+    /// Of a timer the milliseconds between two expirations, 0 for one alone.
     pub interval: u64,
+    /// Of a wait the milliseconds at most, below 0 for a wait without end.
     pub timeout: i64,
     /// The number of the event.
     pub event: u32,
     /// Who makes it.
     pub caller: u32,
+    /// The descriptor that the event is about.
     pub fd: i32,
+    /// The descriptor that is registered, or of dup2 the new one.
     pub target: i32,
+    /// A clock, the operation of an epoll_ctl, or the most reports of a wait.
     pub number: i32,
+    /// Where an eventfd starts, the mask of a registration, or the most bytes of a read.
     pub count: u32,
     /// 1: close-on-exec; 2: an eventfd as a semaphore; 4: a timer's moment is absolute.
     pub flags: u32,
@@ -70,7 +77,8 @@ pub struct FlatRequest {
 #[derive(Clone, Copy, Debug)]
 pub struct FlatReply {
     /// A descriptor, a process, how many bytes or reports there are, or 0 where a call is done and answers no number;
-    /// minus the error number where it is refused; -4096 where its caller is parked, or after a resumption is parked still.
+    /// minus the error number where it is refused; -4096 where its caller is parked, or after a resumption is parked
+    /// still.
     pub result: i64,
     /// The lower one of two descriptors that a call made.
     pub first: i32,

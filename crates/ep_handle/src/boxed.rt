@@ -1,4 +1,5 @@
-//! The making of a kernel on the heap and its end, in functions of their own: a function that does either takes long to prove.
+//! The making of a kernel on the heap and its end, in functions of their own: a function that does either takes long
+//! to prove.
 ghost use Rattle.std.specs.Prelude.{◌≡◌, [], IfOk};
 
 use ep_base::Limits;

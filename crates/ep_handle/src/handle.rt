@@ -10,8 +10,8 @@ use std::mem::replace;
 /// The first word of a handle that has a kernel. A handle with any other is empty, so C makes an empty one of zeros.
 const OPEN: u64 = 0x6e65706f_72746320;
 
-/// A kernel that C keeps, or nothing. C neither reads nor changes its words, and hands each handle to one call at a time.
-/// A copy of a handle is no handle: both would free the kernel.
+/// A kernel that C keeps, or nothing. C neither reads nor changes its words, and hands each handle to one call at a
+/// time. A copy of a handle is no handle: both would free the kernel.
 #[repr(C)]
 pub struct Handle {
     mark: u64,

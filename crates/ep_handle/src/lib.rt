@@ -1,4 +1,5 @@
-//! A kernel behind a handle that C can keep: a struct of a number and a pointer, in which contracts see the kernel's value.
+//! A kernel behind a handle that C can keep: a struct of a number and a pointer, in which contracts see the kernel's
+//! value.
 #![tactic(auto)]
 
 mod bare;

@@ -9,8 +9,8 @@ use std::alloc::Global;
 use std::marker::Model;
 use std::ptr::null_mut;
 
-/// A pointer to a kernel that it owns, or to nothing. It isn't `Drop`: where it goes out of use its kernel is taken out, or
-/// it is shown to have none, so no kernel is left behind.
+/// A pointer to a kernel that it owns, or to nothing. It isn't `Drop`: where it goes out of use its kernel is taken
+/// out, or it is shown to have none, so no kernel is left behind.
 #[repr(C)]
 pub struct Slot {
     at: *mut u8,
