@@ -23,7 +23,7 @@ abbrev pub Opened : Option ReadyBook → FlatLimits → Option ReadyBook → ℤ
 Opened None limits new result =
     ((result ≡ fine) × AreInRange (limits_in limits) × (new ≡ Some (opened (limits_in limits))))
     ⊎ ((result ≡ no_memory) × AreInRange (limits_in limits) × (new ≡ None))
-    ⊎ ((result ≡ invalid) × (new ≡ None))
+    ⊎ ((result ≡ invalid) × (AreInRange (limits_in limits) → ⊥) × (new ≡ None))
 Opened (Some kernel) limits new result = (result ≡ has_kernel) × (new ≡ Some kernel)
 
 abbrev pub Closed : Option ReadyBook → Option ReadyBook → ℤ → Type 0
