@@ -1,0 +1,211 @@
+//! A kernel, and what is asked of it rather than of one of its tasks.
+
+use crate::errno::checked;
+use crate::{ffi, time, Errno, Pid, Task};
+use std::io::{self, Write};
+use std::os::fd::{AsFd, AsRawFd};
+use std::os::unix::net::UnixStream;
+use std::ptr::{self, NonNull};
+use std::thread;
+use std::time::Duration;
+
+/// How much of each thing a kernel allows.
+///
+/// ```
+/// use nippersage::{Kernel, Limits};
+///
+/// let kernel = Kernel::with_limits(&Limits { pipe_bytes: 4_096, ..Limits::default() })?;
+/// # Ok::<(), nippersage::Errno>(())
+/// ```
+#[repr(C)]
+#[derive(Clone, Copy, Debug, PartialEq, Eq)]
+pub struct Limits {
+    /// Numbers of a process, 3 to 65,536. By default 1,024.
+    pub descriptors: u32,
+    /// Open file descriptions, 1 to 1,000,000. By default 4,096.
+    pub files: u32,
+    /// Processes that live, 1 to 10,000. By default 64.
+    pub processes: u32,
+    /// Registrations, 0 to 1,000,000. By default 4,096.
+    pub watches: u32,
+    /// Bytes in a pipe, 4,096 to 1,048,576. By default 65,536.
+    pub pipe_bytes: u32,
+    /// Bytes in one direction of a socket pair, 1 to 1,048,576. By default 65,536.
+    pub sock_bytes: u32,
+}
+
+impl Default for Limits {
+    fn default() -> Limits {
+        Limits {
+            descriptors: 1_024,
+            files: 4_096,
+            processes: 64,
+            watches: 4_096,
+            pipe_bytes: 65_536,
+            sock_bytes: 65_536,
+        }
+    }
+}
+
+/// A simulated kernel. Any thread may use it; the library has a lock, which each call takes once.
+///
+/// A kernel begins with one process, [`Pid::FIRST`], whose descriptors 0, 1 and 2 name one file
+/// that can't be polled. Its clock stands at zero. Its history has a record for each call and is
+/// never cut, so a kernel is meant to live as long as one test.
+#[derive(Debug)]
+pub struct Kernel {
+    raw: NonNull<ffi::Kernel>,
+}
+
+// SAFETY: each function of the library takes the kernel's lock, and no kernel belongs to a thread.
+unsafe impl Send for Kernel {}
+unsafe impl Sync for Kernel {}
+
+impl Kernel {
+    /// A new kernel, with the limits by default. ENOMEM.
+    pub fn new() -> Result<Kernel, Errno> {
+        Kernel::with_limits(&Limits::default())
+    }
+
+    /// A new kernel. EINVAL if a limit is out of its range, ENOMEM.
+    pub fn with_limits(limits: &Limits) -> Result<Kernel, Errno> {
+        let mut raw = ptr::null_mut();
+        // SAFETY: both pointers are to live values of their types.
+        checked(unsafe { ffi::nippersage_open(limits, &mut raw) })?;
+        Ok(Kernel {
+            raw: NonNull::new(raw).ok_or(Errno::ENOMEM)?,
+        })
+    }
+
+    /// The task of this caller in the first process. The number is yours to choose, one for each
+    /// thread that you act out.
+    pub fn task(&self, caller: u32) -> Task<'_> {
+        Task::new(self, caller, Pid::FIRST)
+    }
+
+    /// The simulated clock: the time since the kernel began.
+    pub fn now(&self) -> Duration {
+        let mut moment = 0;
+        // SAFETY: the kernel lives, and the pointer is to a live number. So it can't be refused.
+        unsafe { ffi::nippersage_now(self.raw(), &mut moment) };
+        time::of_units(moment)
+    }
+
+    /// The first moment of the clock to which a tick has an effect, if there is one.
+    pub fn next_moment(&self) -> Option<Duration> {
+        let mut moment = 0;
+        // SAFETY: as in `now`.
+        let found = unsafe { ffi::nippersage_next_moment(self.raw(), &mut moment) };
+        (found == 1).then(|| time::of_units(moment))
+    }
+
+    /// Of the callers that are marked, the one that was parked first.
+    pub fn first_marked(&self) -> Option<u32> {
+        let mut caller = 0;
+        // SAFETY: as in `now`.
+        let found = unsafe { ffi::nippersage_first_marked(self.raw(), &mut caller) };
+        (found == 1).then_some(caller)
+    }
+
+    /// Whether this caller is parked in a wait.
+    pub fn is_parked(&self, caller: u32) -> bool {
+        // SAFETY: the kernel lives.
+        unsafe { ffi::nippersage_is_parked(self.raw(), caller) == 1 }
+    }
+
+    /// Whether this caller is parked and marked: its wait may have ended, and `resume` tells.
+    pub fn is_marked(&self, caller: u32) -> bool {
+        // SAFETY: the kernel lives.
+        unsafe { ffi::nippersage_is_marked(self.raw(), caller) == 1 }
+    }
+
+    /// Says that one thread more takes part, until what comes back is dropped.
+    ///
+    /// While at least so many threads as take part aren't asleep in [`Task::epoll_wait`], the clock
+    /// stands. So a thread that is between two calls is waited for. Make one for each thread before
+    /// the first one starts, and let the thread keep it.
+    pub fn take_part(&self) -> Result<Part<'_>, Errno> {
+        // SAFETY: the kernel lives.
+        checked(unsafe { ffi::nippersage_tasks(self.raw(), 1) })?;
+        Ok(Part { kernel: self })
+    }
+
+    /// Makes room in the history for so many events more, so that none of them asks for memory for
+    /// its record. ENOMEM.
+    pub fn reserve(&self, events: usize) -> Result<(), Errno> {
+        // SAFETY: the kernel lives.
+        checked(unsafe { ffi::nippersage_reserve(self.raw(), events) }).map(drop)
+    }
+
+    /// Makes each event of the history again, and compares. ENOMEM. EBADMSG would say that the
+    /// reference model doesn't allow the history, which the proof of the kernel rules out.
+    pub fn check(&self) -> Result<(), Errno> {
+        // SAFETY: the kernel lives.
+        checked(unsafe { ffi::nippersage_check(self.raw()) }).map(drop)
+    }
+
+    /// Writes the history, a record a line, as the program `epaudit` reads it.
+    ///
+    /// No other call runs meanwhile, so a writer that uses the kernel would wait for good. After an
+    /// error of the writer a part of the history has been written. The writing takes a second
+    /// thread and a pair of sockets for a while, and [`Kernel::save_history`] doesn't.
+    ///
+    /// ```
+    /// use nippersage::{Flags, Kernel};
+    ///
+    /// let kernel = Kernel::new()?;
+    /// kernel.task(0).eventfd(0, Flags::CLOEXEC)?;
+    /// let mut lines = Vec::new();
+    /// kernel.history(&mut lines)?;
+    /// assert_eq!(lines.iter().filter(|byte| **byte == b'\n').count(), 1);
+    /// # Ok::<(), Box<dyn std::error::Error>>(())
+    /// ```
+    pub fn history(&self, writer: &mut impl Write) -> io::Result<()> {
+        let (mut from, to) = UnixStream::pair()?;
+        thread::scope(|scope| {
+            let written =
+                thread::Builder::new().spawn_scoped(scope, move || self.save_history(&to))?;
+            let copied = io::copy(&mut from, writer);
+            if copied.is_err() {
+                // The other thread has to come to its end.
+                io::copy(&mut from, &mut io::sink())?;
+            }
+            written
+                .join()
+                .expect("the writing of a history doesn't panic")?;
+            copied.map(drop)
+        })
+    }
+
+    /// Writes the history to a file of the system, as [`Kernel::history`] does to a writer.
+    pub fn save_history(&self, file: &impl AsFd) -> io::Result<()> {
+        let fd = file.as_fd().as_raw_fd();
+        // SAFETY: the kernel lives, and the descriptor is open.
+        checked(unsafe { ffi::nippersage_history(self.raw(), fd) })?;
+        Ok(())
+    }
+
+    pub(crate) fn raw(&self) -> *mut ffi::Kernel {
+        self.raw.as_ptr()
+    }
+}
+
+impl Drop for Kernel {
+    fn drop(&mut self) {
+        // SAFETY: nobody borrows the kernel any more, so no call on it runs.
+        unsafe { ffi::nippersage_free(self.raw()) }
+    }
+}
+
+/// A thread that takes part, as [`Kernel::take_part`] says.
+#[derive(Debug)]
+pub struct Part<'k> {
+    kernel: &'k Kernel,
+}
+
+impl Drop for Part<'_> {
+    fn drop(&mut self) {
+        // SAFETY: the kernel lives. It can't be refused, since this part was counted.
+        unsafe { ffi::nippersage_tasks(self.kernel.raw(), -1) };
+    }
+}

@@ -1,0 +1,357 @@
+//! Each call once as it is meant to be, and once refused. Answers are those of the manual pages and of docs/calls.md.
+
+use nippersage::{Clock, Errno, Event, Events, Fd, Flags, Kernel, Limits, Pid, Setting};
+use std::io::{self, IoSlice, IoSliceMut, Write};
+use std::net::Shutdown;
+use std::task::Poll;
+use std::time::Duration;
+
+/// So many milliseconds.
+const fn ms(count: u64) -> Duration {
+    Duration::from_millis(count)
+}
+
+#[test]
+fn limits() {
+    let small = Limits {
+        descriptors: 6,
+        ..Limits::default()
+    };
+    let kernel = Kernel::with_limits(&small).unwrap();
+    let task = kernel.task(0);
+    assert_eq!(task.pipe2(Flags::NONE), Ok((Fd(3), Fd(4))));
+    assert_eq!(task.pipe2(Flags::NONE), Err(Errno::EMFILE));
+    assert_eq!(task.socketpair(Flags::NONE), Err(Errno::EMFILE));
+    task.plain(Flags::NONE).unwrap();
+    assert_eq!(task.eventfd(0, Flags::NONE), Err(Errno::EMFILE));
+    assert_eq!(task.semaphore(0, Flags::NONE), Err(Errno::EMFILE));
+    assert_eq!(
+        task.timerfd_create(Clock::Realtime, Flags::NONE),
+        Err(Errno::EMFILE)
+    );
+    let none = Limits {
+        descriptors: 2,
+        ..small
+    };
+    assert_eq!(Kernel::with_limits(&none).map(drop), Err(Errno::EINVAL));
+}
+
+#[test]
+fn pipes() {
+    let kernel = Kernel::new().unwrap();
+    let task = kernel.task(0);
+    let (reader, writer) = task.pipe2(Flags::CLOEXEC | Flags::NONBLOCK).unwrap();
+    let mut bytes = [0; 8];
+    assert_eq!(task.read(reader, &mut bytes), Err(Errno::EAGAIN));
+    assert_eq!(task.write(writer, b"abcde"), Ok(5));
+    assert_eq!(task.read(reader, &mut bytes[..3]), Ok(3));
+    assert_eq!(&bytes[..3], b"abc");
+    assert_eq!(task.write(reader, b"a"), Err(Errno::EBADF));
+    assert_eq!(task.read(reader, &mut bytes), Ok(2));
+    task.close(writer).unwrap();
+    assert_eq!(task.read(reader, &mut bytes), Ok(0));
+    assert_eq!(task.close(writer), Err(Errno::EBADF));
+}
+
+#[test]
+fn sockets() {
+    let kernel = Kernel::new().unwrap();
+    let task = kernel.task(0);
+    let (left, right) = task.socketpair(Flags::CLOEXEC).unwrap();
+    let (mut first, mut second) = ([0; 2], [0; 4]);
+    assert_eq!(
+        task.writev(left, &[IoSlice::new(b"ab"), IoSlice::new(b"cde")]),
+        Ok(5)
+    );
+    let mut parts = [IoSliceMut::new(&mut first), IoSliceMut::new(&mut second)];
+    assert_eq!(task.readv(right, &mut parts), Ok(5));
+    assert_eq!((first, second), (*b"ab", *b"cde\0"));
+    assert_eq!(
+        task.readv(right, &mut [IoSliceMut::new(&mut first)]),
+        Err(Errno::EAGAIN)
+    );
+    task.shutdown(left, Shutdown::Write).unwrap();
+    assert_eq!(task.shutdown(left, Shutdown::Both), Err(Errno::EOPNOTSUPP));
+    assert_eq!(task.shutdown(0, Shutdown::Write), Err(Errno::ENOTSOCK));
+    assert_eq!(task.writev(left, &[IoSlice::new(b"a")]), Err(Errno::EPIPE));
+    assert_eq!(task.read(right, &mut second), Ok(0));
+}
+
+#[test]
+fn counters() {
+    let kernel = Kernel::new().unwrap();
+    let task = kernel.task(0);
+    let counter = task.semaphore(2, Flags::CLOEXEC).unwrap();
+    let mut bytes = [0; 8];
+    assert_eq!(task.read(counter, &mut bytes), Ok(8));
+    assert_eq!(u64::from_ne_bytes(bytes), 1);
+    assert_eq!(task.read(counter, &mut bytes[..7]), Err(Errno::EINVAL));
+    assert_eq!(
+        task.write(counter, &u64::MAX.to_ne_bytes()),
+        Err(Errno::EINVAL)
+    );
+}
+
+#[test]
+fn timers() {
+    let kernel = Kernel::new().unwrap();
+    let task = kernel.task(0);
+    let timer = task
+        .timerfd_create(Clock::Monotonic, Flags::CLOEXEC)
+        .unwrap();
+    let set = Setting {
+        value: Duration::new(1, 1),
+        interval: ms(2),
+    };
+    assert_eq!(task.timerfd_settime(timer, set), Ok(Setting::default()));
+    assert_eq!(
+        task.timerfd_gettime(timer),
+        Ok(Setting {
+            value: ms(1_001),
+            interval: ms(2)
+        })
+    );
+    assert_eq!(kernel.next_moment(), Some(ms(1_001)));
+    task.tick(ms(1_002)).unwrap();
+    assert_eq!(
+        task.timerfd_gettime(timer),
+        Ok(Setting {
+            value: ms(1),
+            interval: ms(2)
+        })
+    );
+    let mut count = [0; 8];
+    task.tick(ms(1)).unwrap();
+    assert_eq!(task.read(timer, &mut count), Ok(8));
+    assert_eq!(u64::from_ne_bytes(count), 2);
+    task.timerfd_settime_at(timer, Setting::once(ms(1_010)))
+        .unwrap();
+    assert_eq!(kernel.next_moment(), Some(ms(1_010)));
+    assert_eq!(task.timerfd_settime(0, set), Err(Errno::EINVAL));
+    assert_eq!(
+        task.timerfd_settime(timer, Setting::every(Duration::MAX)),
+        Err(Errno::EINVAL)
+    );
+    assert_eq!(task.timerfd_gettime(99), Err(Errno::EBADF));
+}
+
+#[test]
+fn numbers() {
+    let kernel = Kernel::new().unwrap();
+    let task = kernel.task(0);
+    let plain = task.plain(Flags::CLOEXEC).unwrap();
+    assert_eq!(plain, Fd(3));
+    assert_eq!(task.dup(plain), Ok(Fd(4)));
+    assert_eq!(task.dup(99), Err(Errno::EBADF));
+    assert_eq!(task.dup2(plain, 9), Ok(Fd(9)));
+    assert_eq!(task.dup2(plain, 99_999), Err(Errno::EBADF));
+    assert_eq!(task.dup3(plain, 8, Flags::NONE), Ok(Fd(8)));
+    assert_eq!(task.dup3(plain, plain, Flags::NONE), Err(Errno::EINVAL));
+    assert_eq!(task.dup3(plain, 8, Flags::CLOEXEC), Err(Errno::EOPNOTSUPP));
+    task.execve().unwrap(); // the copies stay: they haven't close-on-exec
+    assert_eq!(task.close(plain), Err(Errno::EBADF));
+    assert_eq!(task.close(9), Ok(()));
+    assert_eq!(task.plain(Flags::NONBLOCK), Err(Errno::EINVAL));
+}
+
+#[test]
+fn processes() {
+    let kernel = Kernel::with_limits(&Limits {
+        processes: 2,
+        ..Limits::default()
+    })
+    .unwrap();
+    let task = kernel.task(0);
+    assert_eq!(task.fork(), Ok(Pid(2)));
+    assert_eq!(task.fork(), Err(Errno::EAGAIN));
+    let child = task.in_process(Pid(2));
+    assert_eq!((child.pid(), child.caller()), (Pid(2), 0));
+    assert_eq!(child.dup(0), Ok(Fd(3)));
+    assert_eq!(task.close(3), Err(Errno::EBADF));
+    child.exit().unwrap();
+    assert_eq!(child.exit(), Err(Errno::ESRCH));
+    assert_eq!(child.execve(), Err(Errno::ESRCH));
+}
+
+#[test]
+fn waits_by_hand() {
+    let kernel = Kernel::new().unwrap();
+    let (test, thread) = (kernel.task(0), kernel.task(1));
+    let (reader, writer) = test.pipe2(Flags::NONE).unwrap();
+    let instance = test.epoll_create1(Flags::CLOEXEC).unwrap();
+    let mut events = [Event::default(); 2];
+    test.epoll_add(instance, reader, Events::IN, 7).unwrap();
+    assert_eq!(
+        test.epoll_add(instance, reader, Events::IN, 7),
+        Err(Errno::EEXIST)
+    );
+    assert_eq!(
+        thread.wait_start(instance, &mut [], None),
+        Err(Errno::EINVAL)
+    );
+    assert_eq!(
+        thread.wait_start(instance, &mut events, Some(ms(0))),
+        Ok(Poll::Ready(0))
+    );
+    assert_eq!(thread.resume(&mut events), Err(Errno::EINVAL));
+    assert_eq!(
+        thread.wait_start(instance, &mut events, None),
+        Ok(Poll::Pending)
+    );
+    assert!(kernel.is_parked(1) && !kernel.is_marked(1) && !kernel.is_parked(0));
+    assert_eq!(kernel.first_marked(), None);
+    assert_eq!(thread.close(reader), Err(Errno::EBUSY));
+    assert_eq!(thread.resume(&mut events[..1]), Err(Errno::EMSGSIZE));
+    assert_eq!(thread.resume(&mut events), Ok(Poll::Pending));
+    test.write(writer, b"abc").unwrap();
+    assert!(kernel.is_marked(1));
+    assert_eq!(kernel.first_marked(), Some(1));
+    assert_eq!(thread.resume(&mut events), Ok(Poll::Ready(1)));
+    assert_eq!(events[0], Event::new(Events::IN, 7));
+    test.epoll_mod(instance, reader, Events::ET, 8).unwrap();
+    assert_eq!(
+        thread.wait_start(instance, &mut events, Some(ms(20))),
+        Ok(Poll::Pending)
+    );
+    assert_eq!(kernel.next_moment(), Some(ms(20)));
+    test.tick(Duration::from_micros(19_001)).unwrap();
+    assert_eq!(kernel.now(), ms(20));
+    assert_eq!(thread.resume(&mut events), Ok(Poll::Ready(0)));
+    test.epoll_del(instance, reader).unwrap();
+    assert_eq!(test.epoll_del(instance, reader), Err(Errno::ENOENT));
+    assert_eq!(
+        test.epoll_mod(instance, 0, Events::IN, 8),
+        Err(Errno::EPERM)
+    );
+    assert_eq!(test.epoll_create1(Flags::NONBLOCK), Err(Errno::EINVAL));
+    assert_eq!(test.tick(Duration::MAX), Err(Errno::EINVAL));
+    let long = Duration::from_secs(3_000_000);
+    assert_eq!(
+        thread.wait_start(instance, &mut events, Some(long)),
+        Err(Errno::EINVAL)
+    );
+}
+
+#[test]
+fn waits_by_themselves() {
+    let kernel = Kernel::new().unwrap();
+    let task = kernel.task(0);
+    let timer = task.timerfd_create(Clock::Monotonic, Flags::NONE).unwrap();
+    let instance = task.epoll_create1(Flags::NONE).unwrap();
+    let mut events = [Event::default(); 2];
+    task.epoll_add(instance, timer, Events::IN, u64::MAX)
+        .unwrap();
+    assert_eq!(
+        task.epoll_wait(instance, &mut events, Some(Duration::from_nanos(1))),
+        Ok(0)
+    );
+    assert_eq!(kernel.now(), ms(1));
+    task.timerfd_settime(timer, Setting::once(ms(3_600_000)))
+        .unwrap();
+    assert_eq!(task.epoll_wait(instance, &mut events, None), Ok(1));
+    assert_eq!(events[0], Event::new(Events::IN, u64::MAX));
+    assert_eq!(kernel.now(), ms(3_600_001));
+    task.close(timer).unwrap();
+    assert_eq!(
+        task.epoll_wait(instance, &mut events, None),
+        Err(Errno::EDEADLK)
+    );
+    assert!(kernel.is_parked(0));
+    assert_eq!(task.resume(&mut events), Ok(Poll::Pending));
+    assert_eq!(
+        kernel.task(1).epoll_wait(timer, &mut events, None),
+        Err(Errno::EBADF)
+    );
+}
+
+#[test]
+fn owned_descriptors() {
+    let kernel = Kernel::new().unwrap();
+    let task = kernel.task(0);
+    let first = task.own(task.eventfd(0, Flags::NONE).unwrap());
+    let second = task.own(task.eventfd(0, Flags::NONE).unwrap());
+    assert_eq!((first.fd(), second.fd()), (Fd(3), Fd(4)));
+    drop(first);
+    assert_eq!(task.close(3), Err(Errno::EBADF));
+    assert_eq!(second.into_fd(), Fd(4));
+    let third = task.own(Fd(4));
+    assert_eq!(third.close(), Ok(()));
+    assert_eq!(task.own(Fd(4)).close(), Err(Errno::EBADF));
+}
+
+#[test]
+fn histories() {
+    let kernel = Kernel::new().unwrap();
+    kernel.reserve(100).unwrap();
+    assert_eq!(kernel.reserve(usize::MAX), Err(Errno::ENOMEM));
+    kernel.task(0).pipe2(Flags::NONE).unwrap();
+    let _ = kernel.task(7).in_process(Pid(1)).close(99);
+    let mut lines = Vec::new();
+    kernel.history(&mut lines).unwrap();
+    let expected = concat!(
+        r#"{"answer":{"two":[3,4]},"caller":0,"#,
+        r#""event":{"call":{"cloexec":false,"op":"pipe"},"pid":1},"picked":[]}"#,
+        "\n",
+        r#"{"answer":{"err":[9,"EBADF"]},"caller":7,"#,
+        r#""event":{"call":{"fd":99,"op":"close"},"pid":1},"picked":[]}"#,
+        "\n",
+    );
+    assert_eq!(String::from_utf8(lines).unwrap(), expected);
+    assert_eq!(kernel.check(), Ok(()));
+}
+
+/// Takes so many bytes, and then no more.
+struct Full(usize);
+
+impl Write for Full {
+    fn write(&mut self, bytes: &[u8]) -> io::Result<usize> {
+        let taken = bytes.len().min(self.0);
+        self.0 -= taken;
+        if taken == 0 {
+            Err(io::ErrorKind::OutOfMemory.into())
+        } else {
+            Ok(taken)
+        }
+    }
+
+    fn flush(&mut self) -> io::Result<()> {
+        Ok(())
+    }
+}
+
+#[test]
+fn a_history_without_room() {
+    let kernel = Kernel::new().unwrap();
+    for _ in 0..10_000 {
+        let _ = kernel.task(0).close(99);
+    }
+    let error = kernel.history(&mut Full(100)).unwrap_err();
+    assert_eq!(error.kind(), io::ErrorKind::OutOfMemory);
+    let mut lines = Vec::new();
+    kernel.history(&mut lines).unwrap();
+    assert_eq!(lines.iter().filter(|byte| **byte == b'\n').count(), 10_000);
+    let closed = std::fs::File::open("/dev/null").unwrap();
+    assert_eq!(
+        kernel.save_history(&closed).unwrap_err().raw_os_error(),
+        Some(9)
+    );
+}
+
+#[test]
+fn what_is_printed() {
+    assert_eq!(format!("{:?}", Errno::EDEADLK), "EDEADLK(35)");
+    assert_eq!(
+        format!("{} {}", Errno::new(5), Errno::new(5).name()),
+        "error number 5 E?"
+    );
+    assert_eq!(
+        io::Error::from(Errno::EAGAIN).kind(),
+        io::ErrorKind::WouldBlock
+    );
+    assert_eq!(
+        format!("{:?}", Event::new(Events::HUP | Events::from_bits(64), 1)),
+        "Event(HUP | 0x40, 1)"
+    );
+    assert_eq!(format!("{:?}", Events::empty()), "0x0");
+    assert!((Events::IN | Events::OUT) & Events::OUT == Events::OUT);
+}
