@@ -1,0 +1,34 @@
+"""A simulated Linux kernel for pipes, socket pairs, eventfds, timers and epoll, to test event loops.
+
+    from nippersage import IN, Kernel
+
+    with Kernel() as kernel:
+        reader, writer = kernel.pipe()
+        instance = kernel.epoll()
+        kernel.add(instance, reader, IN, data=7)
+        assert kernel.wait(instance, timeout=-1, by=1) is None  # caller 1 waits
+        kernel.write(writer, b"abc")
+        assert kernel.resume(by=1) == [(IN, 7)]                 # and has been woken
+
+A kernel runs in this process, by the library libnippersage. If there is none it is the program epsim, in a
+process of its own. Both answer alike; what needs the library says so.
+
+A call says who makes it by `by` and `pid`; a `Task` has both. Refusals are OSError with Linux's numbers. Times are
+in seconds, and rounded up to the kernel's unit, a millisecond. docs/calls.md says what each call answers and
+refuses.
+"""
+
+from ._kernel import Kernel, Part, Task
+from ._library import LIBRARY
+from ._numbers import (
+    ERR, ET, EXCLUSIVE, HUP, IN, ONESHOT, OUT, PRI, RDHUP, WAKEUP, Ended, Illegal, Limits, Report,
+)
+from ._program import AUDITOR, LONGEST_LINE, MOST_CALLS, PROGRAM, audit
+
+__version__ = "0.1.0"
+
+__all__ = [
+    "IN", "PRI", "OUT", "ERR", "HUP", "RDHUP", "EXCLUSIVE", "WAKEUP", "ONESHOT", "ET",
+    "Kernel", "Task", "Part", "Limits", "Report", "Ended", "Illegal", "audit",
+    "LIBRARY", "PROGRAM", "AUDITOR", "MOST_CALLS", "LONGEST_LINE",
+]

@@ -1,0 +1,291 @@
+"""Tasks, which make the calls, and the kernel."""
+
+from __future__ import annotations
+
+from types import TracebackType
+from typing import Any, List, Optional, Sequence, Tuple, Type, Union
+
+from . import _library
+from ._library import Library
+from ._numbers import Report, long, number, seconds, units, unsigned, within
+from ._program import Program
+
+_ADD, _DEL, _MOD = 1, 2, 3
+#: The most bytes that `fill` writes at once.
+_MOST_FILLED = 1_048_576
+
+
+class Task:
+    """Who calls: the caller `by` in the process `pid`. Each method is one system call, and one record of the history.
+
+    A method may be told another caller or process for one call. A refusal is an OSError with Linux's number, and
+    changes nothing but the history. Each file behaves as with O_NONBLOCK. A number out of its range is a ValueError,
+    and makes no call.
+    """
+
+    def __init__(self, backend: Union[Library, Program], by: int, pid: int) -> None:
+        self._backend: Any = backend
+        self.by = unsigned("by", by)
+        self.pid = long("pid", pid)
+        self._self = self._backend.who(by, pid)
+
+    def _who(self, by: Optional[int], pid: Optional[int]) -> Any:
+        if by is None and pid is None:
+            return self._self
+        caller = self.by if by is None else unsigned("by", by)
+        return self._backend.who(caller, self.pid if pid is None else long("pid", pid))
+
+    def task(self, by: int, pid: Optional[int] = None) -> Task:
+        """Another task of the same kernel. Its process is this one's if none is told."""
+        return Task(self._backend, by, self.pid if pid is None else pid)
+
+    def pipe(self, cloexec: bool = False, *, by: Optional[int] = None, pid: Optional[int] = None) -> Tuple[int, int]:
+        """The read end and the write end of a new pipe."""
+        return self._backend.pipe(self._who(by, pid), bool(cloexec))
+
+    def socketpair(
+        self, cloexec: bool = False, *, by: Optional[int] = None, pid: Optional[int] = None,
+    ) -> Tuple[int, int]:
+        """The two ends of a new pair of Unix stream sockets."""
+        return self._backend.socketpair(self._who(by, pid), bool(cloexec))
+
+    def eventfd(
+        self, init: int = 0, semaphore: bool = False, cloexec: bool = False,
+        *, by: Optional[int] = None, pid: Optional[int] = None,
+    ) -> int:
+        """A new counter that starts at `init`; its values are 8 bytes, the lowest first."""
+        return self._backend.eventfd(self._who(by, pid), unsigned("init", init), bool(semaphore), bool(cloexec))
+
+    def timerfd(
+        self, clock: int = 1, cloexec: bool = False, *, by: Optional[int] = None, pid: Optional[int] = None,
+    ) -> int:
+        """A new timer, disarmed. Clocks 0 and 1 are the one simulated clock."""
+        return self._backend.timerfd(self._who(by, pid), number("clock", clock), bool(cloexec))
+
+    def plain(self, cloexec: bool = False, *, by: Optional[int] = None, pid: Optional[int] = None) -> int:
+        """A file that can't be polled."""
+        return self._backend.plain(self._who(by, pid), bool(cloexec))
+
+    def epoll(self, cloexec: bool = False, *, by: Optional[int] = None, pid: Optional[int] = None) -> int:
+        """A new instance."""
+        return self._backend.epoll(self._who(by, pid), bool(cloexec))
+
+    def add(
+        self, ep: int, fd: int, mask: int, data: int = 0, *, by: Optional[int] = None, pid: Optional[int] = None,
+    ) -> None:
+        """Registers what fd names in the instance ep. `data` comes back in reports, 0 to 2^64 - 1."""
+        self._ctl(ep, _ADD, fd, mask, data, by, pid)
+
+    def mod(
+        self, ep: int, fd: int, mask: int, data: int = 0, *, by: Optional[int] = None, pid: Optional[int] = None,
+    ) -> None:
+        """Gives a registration another mask and other data, and arms it again."""
+        self._ctl(ep, _MOD, fd, mask, data, by, pid)
+
+    def delete(self, ep: int, fd: int, *, by: Optional[int] = None, pid: Optional[int] = None) -> None:
+        """Takes a registration out."""
+        self._ctl(ep, _DEL, fd, 0, 0, by, pid)
+
+    def _ctl(
+        self, ep: int, act: int, fd: int, mask: int, data: int, by: Optional[int], pid: Optional[int],
+    ) -> None:
+        who, mask, data = self._who(by, pid), unsigned("mask", mask), long("data", data)
+        self._backend.ctl(who, number("ep", ep), act, number("fd", fd), mask, data)
+
+    def wait(
+        self, ep: int, max: int = 8, timeout: Optional[float] = 0,
+        *, by: Optional[int] = None, pid: Optional[int] = None,
+    ) -> Optional[List[Report]]:
+        """A wait by hand: at most `max` reports, each a tuple (bits, data), or None if the caller is parked.
+
+        `timeout` is in seconds: 0 never parks, less than 0 or None parks without an end. A caller that is parked
+        makes no call but `resume`.
+        """
+        who = self._who(by, pid)
+        return self._backend.wait(who, number("ep", ep), number("max", max), _timeout(timeout))
+
+    def resume(self, *, by: Optional[int] = None) -> Optional[List[Report]]:
+        """What the parked wait of the caller reports, or None if it is still parked."""
+        return self._backend.resume(self._who(by, None))
+
+    def epoll_wait(
+        self, ep: int, max: int = 8, timeout: Optional[float] = None,
+        *, by: Optional[int] = None, pid: Optional[int] = None,
+    ) -> List[Report]:
+        """A wait by itself, which comes back when it has ended: at most `max` reports.
+
+        Other threads may use the kernel meanwhile. As soon as all that are inside of a call sleep in such waits, the
+        clock goes on to the next moment at which something happens. So a wait for an hour comes back at once if nobody
+        does anything. EDEADLK if nothing can end it: then the caller is still parked. A thread that is between two
+        calls is waited for if it takes part (`Kernel.take_part`). It needs the library.
+        """
+        who = self._who(by, pid)
+        return self._backend.epoll_wait(who, number("ep", ep), number("max", max), _timeout(timeout))
+
+    def read(self, fd: int, n: int, *, by: Optional[int] = None, pid: Optional[int] = None) -> bytes:
+        """At most n bytes; b"" at the end of a stream."""
+        return self._backend.read(self._who(by, pid), number("fd", fd), unsigned("n", n))
+
+    def write(self, fd: int, data: bytes, *, by: Optional[int] = None, pid: Optional[int] = None) -> int:
+        """How many of the bytes were taken. A kernel that is a program takes some 32,000 bytes at once: see `fill`."""
+        return self._backend.write(self._who(by, pid), number("fd", fd), bytes(data))
+
+    def fill(self, fd: int, byte: int, count: int, *, by: Optional[int] = None, pid: Optional[int] = None) -> int:
+        """Writes a byte so many times, at most 1,048,576."""
+        byte, count = within("byte", byte, 0, 255), within("count", count, 0, _MOST_FILLED)
+        return self._backend.fill(self._who(by, pid), number("fd", fd), byte, count)
+
+    def shutdown(self, fd: int, *, by: Optional[int] = None, pid: Optional[int] = None) -> None:
+        """Shuts the writing of a socket."""
+        self._backend.shutdown(self._who(by, pid), number("fd", fd))
+
+    def settime(
+        self, fd: int, value: float, interval: float = 0, absolute: bool = False,
+        *, by: Optional[int] = None, pid: Optional[int] = None,
+    ) -> Tuple[float, float]:
+        """Sets a timer to `value` seconds from now, or to that moment, and gives the value and interval before."""
+        who, first, further = self._who(by, pid), units("value", value), units("interval", interval)
+        return _setting(self._backend.settime(who, number("fd", fd), first, further, bool(absolute)))
+
+    def gettime(self, fd: int, *, by: Optional[int] = None, pid: Optional[int] = None) -> Tuple[float, float]:
+        """The time until the next expiration, 0 if there is no next one, and the interval."""
+        return _setting(self._backend.gettime(self._who(by, pid), number("fd", fd)))
+
+    def dup(self, fd: int, *, by: Optional[int] = None, pid: Optional[int] = None) -> int:
+        """Another descriptor of the same description."""
+        return self._backend.dup(self._who(by, pid), number("fd", fd))
+
+    def dup2(self, fd: int, to: int, *, by: Optional[int] = None, pid: Optional[int] = None) -> int:
+        """The same under the number `to`, which is closed first."""
+        return self._backend.dup2(self._who(by, pid), number("fd", fd), number("to", to))
+
+    def close(self, fd: int, *, by: Optional[int] = None, pid: Optional[int] = None) -> None:
+        """Closes a descriptor."""
+        self._backend.close(self._who(by, pid), number("fd", fd))
+
+    def fork(self, *, by: Optional[int] = None, pid: Optional[int] = None) -> int:
+        """The number of the new process."""
+        return self._backend.fork(self._who(by, pid))
+
+    def exec(self, *, by: Optional[int] = None, pid: Optional[int] = None) -> None:
+        """Closes the descriptors of the process that have close-on-exec."""
+        self._backend.exec(self._who(by, pid))
+
+    def exit(self, *, by: Optional[int] = None, pid: Optional[int] = None) -> None:
+        """Ends the process."""
+        self._backend.exit(self._who(by, pid))
+
+    def tick(self, time: float, *, by: Optional[int] = None) -> None:
+        """The clock goes on by so many seconds."""
+        self._backend.tick(self._who(by, None), long("time", units("time", time)))
+
+
+class Kernel(Task):
+    """A kernel in its opening state, and of its tasks the one of caller 0 in process 1.
+
+    `limits` are `Limits`, or six numbers. `history` is the path of a file, made anew, that gets the history, a line
+    for each event: from the library at the end, from a program as it goes.
+
+    It runs in this process by the library, `LIBRARY`. If there is none, or a `program` is named, it is a program in a
+    process of its own, by default `PROGRAM`. Then one thread at a time may use it, and it answers `MOST_CALLS` calls at
+    most. Any number of threads may use one in this process, each with a caller of its own.
+    """
+
+    def __init__(
+        self, limits: Optional[Sequence[int]] = None, program: Optional[str] = None, history: Optional[str] = None,
+    ) -> None:
+        is_program = program is not None or _library.LIBRARY is None
+        super().__init__(Program(limits, program, history) if is_program else Library(limits, history), 0, 1)
+
+    def __enter__(self) -> Kernel:
+        return self
+
+    def __exit__(
+        self, kind: Optional[Type[BaseException]], error: Optional[BaseException], trace: Optional[TracebackType],
+    ) -> None:
+        self.end()
+
+    def end(self) -> int:
+        """Ends the kernel, and writes the history that is still to be written. The program's status, else 0."""
+        return self._backend.end()
+
+    def now(self) -> float:
+        """The simulated clock, in seconds since the kernel began."""
+        return seconds(self._backend.now())
+
+    def next_moment(self) -> Optional[float]:
+        """The first moment of the clock to which a tick has an effect, or None.
+
+        It needs the library, and so do the methods that follow.
+        """
+        moment = self._backend.next_moment()
+        return None if moment is None else seconds(moment)
+
+    def first_marked(self) -> Optional[int]:
+        """Of the marked callers the one that was parked first, or None."""
+        return self._backend.first_marked()
+
+    def is_parked(self, by: int) -> bool:
+        """Whether this caller is parked in a wait."""
+        return self._backend.is_parked(unsigned("by", by))
+
+    def is_marked(self, by: int) -> bool:
+        """Whether this caller is parked and marked: its wait may have ended, and `resume` tells."""
+        return self._backend.is_marked(unsigned("by", by))
+
+    def take_part(self) -> Part:
+        """Says that one thread more takes part, until what comes back has ended.
+
+        While at least so many threads as take part aren't asleep in `epoll_wait`, the clock stands. So a thread that is
+        between two calls is waited for. Make one for each thread before the first one starts, and `with part:` in it.
+        """
+        return Part(self._backend)
+
+    def reserve(self, events: int) -> None:
+        """Makes room in the history for so many events more, so that none of them asks for memory for its record."""
+        self._backend.reserve(long("events", events))
+
+    def history(self) -> str:
+        """The history, a record a line, as the program epaudit reads it."""
+        return self._backend.history()
+
+    def check(self) -> None:
+        """Makes each event of the history again, and compares.
+
+        OSError with EBADMSG would say that the model doesn't allow it, which the proof of the kernel rules out.
+        """
+        self._backend.check()
+
+
+class Part:
+    """A thread that takes part: `Kernel.take_part`."""
+
+    def __init__(self, backend: Any) -> None:
+        backend.tasks(1)
+        self._backend: Any = backend
+
+    def __enter__(self) -> Part:
+        return self
+
+    def __exit__(
+        self, kind: Optional[Type[BaseException]], error: Optional[BaseException], trace: Optional[TracebackType],
+    ) -> None:
+        self.end()
+
+    def end(self) -> None:
+        """It takes part no more. A second end does nothing."""
+        backend, self._backend = self._backend, None
+        if backend is not None:
+            backend.tasks(-1)
+
+
+def _timeout(timeout: Optional[float]) -> int:
+    """A timeout in units, or -1 for none."""
+    if timeout is None or timeout < 0 or timeout == float("inf"):
+        return -1
+    return within("timeout", units("timeout", timeout), 0, (1 << 63) - 1)
+
+
+def _setting(times: Tuple[int, int]) -> Tuple[float, float]:
+    value, interval = times
+    return seconds(value), seconds(interval)

@@ -1,0 +1,348 @@
+"""The library libnippersage as a kernel, by ctypes."""
+
+from __future__ import annotations
+
+import ctypes
+import os
+import struct
+import tempfile
+from ctypes import POINTER, byref, c_char_p, c_int, c_int64, c_long, c_size_t, c_ssize_t, c_uint32, c_uint64, c_void_p
+from itertools import starmap
+from typing import Any, Dict, List, Optional, Sequence, Tuple
+
+from ._numbers import UNITS, Ended, Limits, Report, number, refusal
+
+_HERE = os.path.dirname(os.path.abspath(__file__))
+
+_PARKED = -4096
+_EINVAL = 22
+_CLOEXEC, _SEMAPHORE, _ABSTIME = 0o2000000, 1, 1
+_AF_UNIX, _SOCK_STREAM, _SHUT_WR = 1, 1, 1
+#: No read gives more bytes: the largest capacity of a pipe or socket.
+_MOST_READ = 1_048_576
+#: `struct epoll_event`, which Linux packs on x86-64.
+_EVENT = struct.Struct("=IQ")
+
+
+def _find() -> Optional[str]:
+    """The library that NIPPERSAGE_LIB names, itself or its folder. If it isn't set, that of the release or repository
+    that this folder lies in, or else what the loader finds. None if there is none, or the variable is empty."""
+    named = os.environ.get("NIPPERSAGE_LIB")
+    if named is not None:
+        return os.path.join(named, "libnippersage.so") if os.path.isdir(named) else named or None
+    up = os.pardir
+    for folder in (_HERE, os.path.join(_HERE, up, up, "lib"), os.path.join(_HERE, up, up, "out")):
+        path = os.path.normpath(os.path.join(folder, "libnippersage.so"))
+        if os.path.isfile(path):
+            return path
+    try:
+        ctypes.CDLL("libnippersage.so.1")
+    except OSError:
+        return None
+    return "libnippersage.so.1"
+
+
+#: The library's path, or None: then a kernel is a program.
+LIBRARY = _find()
+
+
+class _Limits(ctypes.Structure):
+    _fields_ = [(name, c_uint32) for name in Limits._fields]
+
+
+class Who(ctypes.Structure):
+    """`struct nippersage_task`. It keeps what holds the kernel, so no kernel is freed while a call on it runs."""
+
+    _fields_ = [("kernel", c_void_p), ("caller", c_uint32), ("pid", c_uint64)]
+    holder: "_Holder"
+
+
+class _Timespec(ctypes.Structure):
+    _fields_ = [("seconds", c_int64), ("nanoseconds", c_long)]
+
+
+class _Itimerspec(ctypes.Structure):
+    _fields_ = [("interval", _Timespec), ("value", _Timespec)]
+
+
+#: What each function takes; all but the last few answer an int.
+_TAKEN: Dict[str, Tuple[Any, ...]] = {
+    "open": (POINTER(_Limits), POINTER(c_void_p)),
+    "pipe2": (Who, c_void_p, c_int),
+    "socketpair": (Who, c_int, c_int, c_int, c_void_p),
+    "eventfd": (Who, c_uint32, c_int),
+    "timerfd_create": (Who, c_int, c_int),
+    "timerfd_settime": (Who, c_int, c_int, POINTER(_Itimerspec), POINTER(_Itimerspec)),
+    "timerfd_gettime": (Who, c_int, POINTER(_Itimerspec)),
+    "plain": (Who, c_int),
+    "epoll_create1": (Who, c_int),
+    "epoll_ctl": (Who, c_int, c_int, c_int, c_char_p),
+    "epoll_pwait2": (Who, c_int, c_void_p, c_int, POINTER(_Timespec)),
+    "wait_start": (Who, c_int, c_void_p, c_int, c_int),
+    "resume": (Who, c_void_p, c_int),
+    "tasks": (c_void_p, c_int),
+    "tick": (Who, c_uint64),
+    "now": (c_void_p, POINTER(c_uint64)),
+    "next_moment": (c_void_p, POINTER(c_uint64)),
+    "first_marked": (c_void_p, POINTER(c_uint32)),
+    "is_parked": (c_void_p, c_uint32),
+    "is_marked": (c_void_p, c_uint32),
+    "shutdown": (Who, c_int, c_int),
+    "dup": (Who, c_int),
+    "dup2": (Who, c_int, c_int),
+    "close": (Who, c_int),
+    "execve": (Who,),
+    "exit": (Who,),
+    "reserve": (c_void_p, c_size_t),
+    "history": (c_void_p, c_int),
+    "check": (c_void_p,),
+    "read": (Who, c_int, c_void_p, c_size_t),
+    "write": (Who, c_int, c_char_p, c_size_t),
+    "fork": (Who,),
+    "free": (c_void_p,),
+}
+_ANSWERED = {"read": c_ssize_t, "write": c_ssize_t, "fork": c_int64, "free": None}
+
+
+class _Functions:
+    """The functions of the library, by their names without `nippersage_`."""
+
+    def __init__(self, path: str) -> None:
+        library = ctypes.CDLL(path)
+        for name, taken in _TAKEN.items():
+            function = getattr(library, "nippersage_" + name)
+            function.argtypes = taken
+            function.restype = _ANSWERED.get(name, c_int)
+            setattr(self, name, function)
+
+    def __getattr__(self, name: str) -> Any:
+        raise AttributeError(name)
+
+
+_loaded: Dict[str, _Functions] = {}
+
+
+def _load(path: str) -> _Functions:
+    if path not in _loaded:
+        _loaded[path] = _Functions(path)
+    return _loaded[path]
+
+
+class _Holder:
+    """Frees the kernel when nothing refers to it any more."""
+
+    def __init__(self, functions: _Functions, pointer: int) -> None:
+        self.pointer = pointer
+        self._free = functions.free
+
+    def __del__(self) -> None:
+        self._free(self.pointer)
+
+
+class Library:
+    """A kernel in this process. Any thread may call; a call holds no lock of Python's."""
+
+    def __init__(self, limits: Optional[Sequence[int]], history: Optional[str]) -> None:
+        assert LIBRARY is not None
+        f = self._f = _load(LIBRARY)
+        own = Limits(*limits) if limits is not None else Limits()
+        pointer = c_void_p()
+        status = f.open(byref(_limits(own)), byref(pointer))
+        if status < 0:
+            raise refusal(-status)
+        self._holder = _Holder(f, pointer.value or 0)
+        self._most = max(own.watches, 1)
+        self._whos: Dict[Tuple[int, int], Who] = {}
+        self._rooms: Dict[int, int] = {}
+        self._ended = False
+        self._history = None if history is None else open(history, "wb")
+
+    def end(self) -> int:
+        """Ends the kernel for its callers. It is freed once no task refers to it any more."""
+        if not self._ended:
+            self._ended = True
+            if self._history is not None:
+                with self._history as file:
+                    self._done(self._f.history(self._holder.pointer, file.fileno()))
+            for who in list(self._whos.values()):
+                who.kernel = None
+        return 0
+
+    def who(self, by: int, pid: int) -> Who:
+        who = self._whos.get((by, pid))
+        if who is None:
+            who = Who(self._pointer(), by, pid)
+            who.holder = self._holder
+            self._whos[by, pid] = who
+        return who
+
+    def _pointer(self) -> int:
+        if self._ended:
+            raise Ended("the kernel has ended")
+        return self._holder.pointer
+
+    def _done(self, result: int) -> int:
+        """The result of a function, or its refusal."""
+        if result >= 0:
+            return result
+        if self._ended and result == -_EINVAL:
+            raise Ended("the kernel has ended")
+        raise refusal(-result)
+
+    def pipe(self, who: Who, cloexec: bool) -> Tuple[int, int]:
+        ends = (c_int * 2)()
+        self._done(self._f.pipe2(who, ends, _CLOEXEC if cloexec else 0))
+        return ends[0], ends[1]
+
+    def socketpair(self, who: Who, cloexec: bool) -> Tuple[int, int]:
+        ends = (c_int * 2)()
+        kind = _SOCK_STREAM | (_CLOEXEC if cloexec else 0)
+        self._done(self._f.socketpair(who, _AF_UNIX, kind, 0, ends))
+        return ends[0], ends[1]
+
+    def eventfd(self, who: Who, init: int, semaphore: bool, cloexec: bool) -> int:
+        flags = (_SEMAPHORE if semaphore else 0) | (_CLOEXEC if cloexec else 0)
+        return self._done(self._f.eventfd(who, init, flags))
+
+    def timerfd(self, who: Who, clock: int, cloexec: bool) -> int:
+        return self._done(self._f.timerfd_create(who, clock, _CLOEXEC if cloexec else 0))
+
+    def plain(self, who: Who, cloexec: bool) -> int:
+        return self._done(self._f.plain(who, _CLOEXEC if cloexec else 0))
+
+    def epoll(self, who: Who, cloexec: bool) -> int:
+        return self._done(self._f.epoll_create1(who, _CLOEXEC if cloexec else 0))
+
+    def ctl(self, who: Who, ep: int, act: int, fd: int, mask: int, data: int) -> None:
+        self._done(self._f.epoll_ctl(who, ep, act, fd, _EVENT.pack(mask, data)))
+
+    def wait(self, who: Who, ep: int, max: int, timeout: int) -> Optional[List[Report]]:
+        most = self._room(who, max)
+        events = ctypes.create_string_buffer(_EVENT.size * (most if most > 0 else 1))
+        return self._reports(self._f.wait_start(who, ep, events, most, number("timeout", timeout)), events)
+
+    def epoll_wait(self, who: Who, ep: int, max: int, timeout: int) -> List[Report]:
+        most = self._room(who, max)
+        events = ctypes.create_string_buffer(_EVENT.size * (most if most > 0 else 1))
+        end = None if timeout < 0 else byref(_timespec(timeout))
+        return self._reports(self._f.epoll_pwait2(who, ep, events, most, end), events) or []
+
+    def resume(self, who: Who) -> Optional[List[Report]]:
+        most = self._rooms.get(who.caller, 1)
+        events = ctypes.create_string_buffer(_EVENT.size * most)
+        return self._reports(self._f.resume(who, events, most), events)
+
+    def _room(self, who: Who, max: int) -> int:
+        """How many reports a wait has room for: as many as the library takes. A resumption has room for any wait's."""
+        most = max if max < self._most else self._most
+        if most > self._rooms.get(who.caller, 1):
+            self._rooms[who.caller] = most
+        return most
+
+    def _reports(self, result: int, events: Any) -> Optional[List[Report]]:
+        if result == _PARKED:
+            return None
+        size = self._done(result) * _EVENT.size
+        return list(starmap(Report, _EVENT.iter_unpack(memoryview(events)[:size])))
+
+    def read(self, who: Who, fd: int, n: int) -> bytes:
+        most = n if n < _MOST_READ else _MOST_READ
+        room = ctypes.create_string_buffer(most if most > 0 else 1)
+        return ctypes.string_at(room, self._done(self._f.read(who, fd, room, most)))
+
+    def write(self, who: Who, fd: int, data: bytes) -> int:
+        return self._done(self._f.write(who, fd, data, len(data)))
+
+    def fill(self, who: Who, fd: int, byte: int, count: int) -> int:
+        return self.write(who, fd, bytes((byte,)) * count)
+
+    def shutdown(self, who: Who, fd: int) -> None:
+        self._done(self._f.shutdown(who, fd, _SHUT_WR))
+
+    def settime(self, who: Who, fd: int, value: int, interval: int, absolute: bool) -> Tuple[int, int]:
+        given = _Itimerspec(_timespec(interval), _timespec(value))
+        before = _Itimerspec()
+        flags = _ABSTIME if absolute else 0
+        self._done(self._f.timerfd_settime(who, fd, flags, byref(given), byref(before)))
+        return _setting(before)
+
+    def gettime(self, who: Who, fd: int) -> Tuple[int, int]:
+        now = _Itimerspec()
+        self._done(self._f.timerfd_gettime(who, fd, byref(now)))
+        return _setting(now)
+
+    def dup(self, who: Who, fd: int) -> int:
+        return self._done(self._f.dup(who, fd))
+
+    def dup2(self, who: Who, fd: int, to: int) -> int:
+        return self._done(self._f.dup2(who, fd, to))
+
+    def close(self, who: Who, fd: int) -> None:
+        self._done(self._f.close(who, fd))
+
+    def fork(self, who: Who) -> int:
+        return self._done(self._f.fork(who))
+
+    def exec(self, who: Who) -> None:
+        self._done(self._f.execve(who))
+
+    def exit(self, who: Who) -> None:
+        self._done(self._f.exit(who))
+
+    def tick(self, who: Who, n: int) -> None:
+        self._done(self._f.tick(who, n))
+
+    def now(self) -> int:
+        moment = c_uint64()
+        self._done(self._f.now(self._pointer(), byref(moment)))
+        return moment.value
+
+    def next_moment(self) -> Optional[int]:
+        moment = c_uint64()
+        return moment.value if self._done(self._f.next_moment(self._pointer(), byref(moment))) else None
+
+    def first_marked(self) -> Optional[int]:
+        caller = c_uint32()
+        return caller.value if self._done(self._f.first_marked(self._pointer(), byref(caller))) else None
+
+    def is_parked(self, by: int) -> bool:
+        return self._done(self._f.is_parked(self._pointer(), by)) == 1
+
+    def is_marked(self, by: int) -> bool:
+        return self._done(self._f.is_marked(self._pointer(), by)) == 1
+
+    def tasks(self, more: int) -> None:
+        self._done(self._f.tasks(self._pointer(), more))
+
+    def reserve(self, events: int) -> None:
+        self._done(self._f.reserve(self._pointer(), events))
+
+    def history(self) -> str:
+        with tempfile.TemporaryFile() as file:
+            self._done(self._f.history(self._pointer(), file.fileno()))
+            file.seek(0)
+            return file.read().decode("ascii")
+
+    def check(self) -> None:
+        self._done(self._f.check(self._pointer()))
+
+
+def _limits(limits: Limits) -> _Limits:
+    """Limits that no number of C holds are none of the kernel's either."""
+    if not all(0 <= limit < 1 << 32 for limit in limits):
+        raise refusal(_EINVAL)
+    return _Limits(*limits)
+
+
+def _timespec(count: int) -> _Timespec:
+    """The time of so many units."""
+    whole, part = divmod(count, UNITS)
+    return _Timespec(whole, part * (1_000_000_000 // UNITS))
+
+
+def _units(time: _Timespec) -> int:
+    return time.seconds * UNITS + time.nanoseconds // (1_000_000_000 // UNITS)
+
+
+def _setting(times: _Itimerspec) -> Tuple[int, int]:
+    return _units(times.value), _units(times.interval)

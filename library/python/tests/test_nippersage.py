@@ -1,0 +1,390 @@
+"""The package over the library and over the program epsim: each call, and a refusal of each.
+
+Expected answers are those of the manual pages and of docs/calls.md. What has no library or no program to run on is
+skipped, and told so. Histories are given to epaudit if there is one.
+
+    python3 -m unittest discover library/python/tests
+"""
+
+import errno
+import json
+import os
+import subprocess
+import sys
+import tempfile
+import threading
+import unittest
+
+sys.dont_write_bytecode = True
+#: The folder that has the package.
+FOLDER = os.path.dirname(os.path.dirname(os.path.abspath(__file__)))
+sys.path.insert(0, FOLDER)
+
+from nippersage import (
+    AUDITOR, ET, HUP, IN, LIBRARY, MOST_CALLS, OUT, PROGRAM, Ended, Illegal, Kernel, Limits, Report, audit,
+)
+
+
+def runs(program):
+    """Whether there is such a program."""
+    return os.path.isfile(program) and os.access(program, os.X_OK)
+
+
+class Refusals(unittest.TestCase):
+    def expect_refusal(self, number, call, *words, **keys):
+        with self.assertRaises(OSError) as caught:
+            call(*words, **keys)
+        self.assertEqual(caught.exception.errno, number)
+
+
+class Calls:
+    """What both kinds of kernel answer. `make` makes one."""
+
+    def test_the_first_example(self):
+        with self.make() as kernel:
+            reader, writer = kernel.pipe()
+            instance = kernel.epoll()
+            kernel.add(instance, reader, IN, data=7)
+            self.assertIsNone(kernel.wait(instance, timeout=-1, by=1))
+            kernel.write(writer, b"abc")
+            self.assertEqual(kernel.resume(by=1), [(IN, 7)])
+
+    def test_pipes(self):
+        with self.make() as kernel:
+            self.assertEqual(kernel.pipe(cloexec=True), (3, 4))
+            self.expect_refusal(errno.EAGAIN, kernel.read, 3, 1)
+            self.assertEqual(kernel.write(4, b"abcde"), 5)
+            self.assertEqual(kernel.read(3, 3), b"abc")
+            self.assertEqual(kernel.read(3, 9), b"de")
+            self.assertEqual(kernel.read(3, 0), b"")
+            self.expect_refusal(errno.EBADF, kernel.write, 3, b"a")
+            self.assertEqual(kernel.fill(4, 0, 65_536), 65_536)
+            self.assertEqual(kernel.read(3, 4_294_967_295), bytes(65_536))
+            kernel.close(3)
+            with self.assertRaises(BrokenPipeError):
+                kernel.write(4, b"a")
+            self.expect_refusal(errno.EBADF, kernel.close, 3)
+
+    def test_sockets(self):
+        with self.make(limits=Limits(sock_bytes=4)) as kernel:
+            left, right = kernel.socketpair()
+            self.assertEqual(kernel.write(left, b"abcde"), 4)
+            kernel.shutdown(left)
+            self.expect_refusal(errno.EPIPE, kernel.write, left, b"a")
+            self.assertEqual(kernel.read(right, 8), b"abcd")
+            self.assertEqual(kernel.read(right, 8), b"")
+            self.expect_refusal(errno.ENOTSOCK, kernel.shutdown, kernel.plain())
+
+    def test_counters(self):
+        with self.make() as kernel:
+            counter = kernel.eventfd(2, semaphore=True)
+            self.assertEqual(kernel.read(counter, 8), bytes([1, 0, 0, 0, 0, 0, 0, 0]))
+            self.expect_refusal(errno.EINVAL, kernel.read, counter, 7)
+            counter = kernel.eventfd(2)
+            self.assertEqual(kernel.read(counter, 8), bytes([2, 0, 0, 0, 0, 0, 0, 0]))
+
+    def test_timers(self):
+        with self.make() as kernel:
+            timer, instance = kernel.timerfd(), kernel.epoll()
+            kernel.add(instance, timer, IN | ET, data=9)
+            self.assertEqual(kernel.settime(timer, 0.005, interval=0.0011), (0, 0))
+            self.assertIsNone(kernel.wait(instance, timeout=-1, by=1))
+            kernel.tick(0.0031)
+            self.assertEqual(kernel.gettime(timer), (0.001, 0.002))
+            kernel.tick(0.005)
+            self.assertEqual(kernel.now(), 0.009)
+            self.assertEqual(kernel.resume(by=1), [(IN, 9)])
+            self.assertEqual(kernel.read(timer, 8), bytes([3, 0, 0, 0, 0, 0, 0, 0]))
+            self.assertEqual(kernel.settime(timer, 1, absolute=True), (0.002, 0.002))
+            self.assertEqual(kernel.gettime(timer), (0.991, 0))
+            self.expect_refusal(errno.EINVAL, kernel.settime, 0, 1)
+            self.expect_refusal(errno.EINVAL, kernel.settime, timer, 1_000_000_001)
+            self.expect_refusal(errno.EBADF, kernel.gettime, 99)
+            self.expect_refusal(errno.EINVAL, kernel.timerfd, clock=7)
+            self.expect_refusal(errno.EINVAL, kernel.tick, 1_000_000_000)
+
+    def test_parked_callers(self):
+        with self.make() as kernel:
+            counter, instance = kernel.eventfd(), kernel.epoll()
+            kernel.add(instance, counter, IN)
+            self.expect_refusal(errno.EEXIST, kernel.add, instance, counter, IN)
+            self.expect_refusal(errno.EINVAL, kernel.resume, by=1)
+            self.assertEqual(kernel.wait(instance, by=1), [])
+            self.assertIsNone(kernel.wait(instance, timeout=0.0101, by=1))
+            self.expect_refusal(errno.EBUSY, kernel.close, counter, by=1)
+            self.expect_refusal(errno.EBUSY, kernel.wait, instance, max=1, by=1)
+            kernel.tick(0.01)
+            self.assertIsNone(kernel.resume(by=1))
+            kernel.tick(0.001)
+            self.assertEqual(kernel.resume(by=1), [])
+            self.expect_refusal(errno.EINVAL, kernel.wait, instance, max=0)
+            self.expect_refusal(errno.EINVAL, kernel.wait, counter)
+
+    def test_reports(self):
+        with self.make(limits=Limits(watches=3)) as kernel:
+            instance = kernel.epoll()
+            for data in (0, 2**64 - 1, 7):
+                kernel.add(instance, kernel.eventfd(1), IN | OUT, data=data)
+            self.expect_refusal(errno.ENOSPC, kernel.add, instance, kernel.eventfd(1), IN)
+            found = kernel.wait(instance, max=2_147_483_647)
+            self.assertEqual(sorted(found), [(IN | OUT, 0), (IN | OUT, 7), (IN | OUT, 2**64 - 1)])
+            self.assertIsInstance(found[0], Report)
+            self.assertEqual(len(kernel.wait(instance, max=1)), 1)
+            self.expect_refusal(errno.EPERM, kernel.add, instance, 0, IN)
+            self.expect_refusal(errno.EINVAL, kernel.mod, instance, instance, IN)
+
+    def test_descriptors_and_processes(self):
+        with self.make(limits=(16, 16, 2, 1, 4_096, 4_096)) as kernel:
+            (reader, writer), instance = kernel.pipe(cloexec=True), kernel.epoll()
+            copy = kernel.dup(reader)
+            kernel.add(instance, writer, OUT, data=1)
+            kernel.mod(instance, writer, 0, data=2)
+            kernel.delete(instance, writer)
+            self.expect_refusal(errno.ENOENT, kernel.delete, instance, writer)
+            kernel.add(instance, copy, HUP, data=3)
+            self.assertEqual(kernel.fork(), 2)
+            self.expect_refusal(errno.EAGAIN, kernel.fork)
+            kernel.exec()
+            self.expect_refusal(errno.EBADF, kernel.read, reader, 1)
+            self.assertEqual(kernel.dup2(copy, 9), 9)
+            self.expect_refusal(errno.EBADF, kernel.dup2, copy, 16)
+            child = kernel.task(5, pid=2)
+            self.assertEqual(child.read(copy, 0), b"")
+            child.exit()
+            self.assertEqual(kernel.wait(instance), [(HUP, 3)])
+            self.expect_refusal(errno.ESRCH, child.pipe)
+            self.expect_refusal(errno.ESRCH, kernel.pipe, pid=2)
+            self.assertEqual(child.dup(0, pid=1), 3)
+
+    def test_what_is_out_of_range(self):
+        with self.make() as kernel:
+            for call, words in (
+                (kernel.dup, (1 << 31,)),
+                (kernel.eventfd, (-1,)),
+                (kernel.add, (3, 4, 1 << 32)),
+                (kernel.add, (3, 4, IN, 1 << 64)),
+                (kernel.read, (0, -1)),
+                (kernel.fill, (0, 256, 1)),
+                (kernel.tick, (-0.001,)),
+                (kernel.settime, (3, float("nan"))),
+                (kernel.wait, (3, 8, float("nan"))),
+                (kernel.task, (-1,)),
+            ):
+                with self.assertRaises(ValueError):
+                    call(*words)
+            with self.assertRaises(TypeError):
+                kernel.dup(0.0)
+            with self.assertRaises(ValueError):
+                kernel.dup(0, by=1 << 32)
+            self.assertEqual(kernel.dup(0), 3)
+
+    def test_the_end(self):
+        with self.make() as kernel:
+            kernel.pipe()
+        self.assertEqual(kernel.end(), 0)
+        with self.assertRaises(Ended):
+            kernel.dup(0)
+        with self.assertRaises(Ended):
+            kernel.task(2).dup(0)
+
+
+@unittest.skipUnless(LIBRARY, "there is no library")
+class OverLibrary(Calls, Refusals):
+    def make(self, **keys):
+        return Kernel(**keys)
+
+    def test_waits_by_themselves(self):
+        with Kernel() as kernel:
+            timer, instance = kernel.timerfd(), kernel.epoll()
+            kernel.add(instance, timer, IN, data=5)
+            self.assertEqual(kernel.epoll_wait(instance, timeout=0.0001), [])
+            self.assertEqual(kernel.now(), 0.001)
+            kernel.settime(timer, 3_600)
+            self.assertEqual(kernel.next_moment(), 3_600.001)
+            self.assertEqual(kernel.epoll_wait(instance), [(IN, 5)])
+            self.assertEqual(kernel.now(), 3_600.001)
+            kernel.close(timer)
+            self.assertIsNone(kernel.next_moment())
+            self.expect_refusal(errno.EDEADLK, kernel.epoll_wait, instance)
+            self.assertTrue(kernel.is_parked(0))
+            self.assertIsNone(kernel.resume())
+
+    def test_questions(self):
+        with Kernel() as kernel:
+            counter, instance = kernel.eventfd(), kernel.epoll()
+            kernel.add(instance, counter, IN)
+            self.assertIsNone(kernel.first_marked())
+            kernel.wait(instance, timeout=None, by=4)
+            self.assertTrue(kernel.is_parked(4))
+            self.assertFalse(kernel.is_marked(4))
+            kernel.write(counter, bytes([1, 0, 0, 0, 0, 0, 0, 0]))
+            self.assertTrue(kernel.is_marked(4))
+            self.assertEqual(kernel.first_marked(), 4)
+
+    def test_a_timeout_that_the_library_has_no_number_for(self):
+        with Kernel() as kernel:
+            instance = kernel.epoll()
+            with self.assertRaises(ValueError):
+                kernel.wait(instance, timeout=2_147_484)
+            self.assertFalse(kernel.is_parked(0))
+
+    def test_threads(self):
+        """Two threads wake each other, and a third one sleeps until they are done."""
+        rounds = 200
+        with Kernel() as kernel:
+            ends = kernel.eventfd(1), kernel.eventfd()
+            one = (1).to_bytes(8, "little")
+            failures, parts = [], [kernel.take_part() for _ in range(3)]
+
+            def watch(task, fd):
+                instance = task.epoll()
+                task.add(instance, fd, IN, data=fd)
+                return instance
+
+            def pass_on(task, own, peer):
+                instance = watch(task, own)
+                for _ in range(rounds):
+                    if task.epoll_wait(instance) != [(IN, own)] or task.read(own, 8) != one:
+                        failures.append(task.by)
+                    task.write(peer, one)
+
+            def sleep(task):
+                if task.epoll_wait(task.epoll(), timeout=60) != []:
+                    failures.append(task.by)
+
+            def run(part, call, *words):
+                with part:
+                    call(*words)
+
+            calls = (
+                (pass_on, kernel.task(1), ends[0], ends[1]),
+                (pass_on, kernel.task(2), ends[1], ends[0]),
+                (sleep, kernel.task(3)),
+            )
+            threads = [threading.Thread(target=run, args=(part, *words)) for part, words in zip(parts, calls)]
+            for thread in threads:
+                thread.start()
+            for thread in threads:
+                thread.join(30)
+            self.assertEqual(failures, [])
+            self.assertEqual(kernel.read(ends[0], 8), one)
+            self.assertEqual(kernel.now(), 60)
+            kernel.check()
+
+    def test_limits_that_are_none(self):
+        for limits in ((2, 16, 2, 1, 4_096, 4_096), (-1, 16, 2, 1, 4_096, 4_096), (1 << 32, 1, 1, 1, 4_096, 1)):
+            self.expect_refusal(errno.EINVAL, Kernel, limits=limits)
+
+    def test_histories(self):
+        with Kernel() as kernel:
+            kernel.reserve(10)
+            kernel.pipe()
+            self.expect_refusal(errno.EBADF, kernel.close, 99, by=7)
+            expected = [
+                {"answer": {"two": [3, 4]}, "caller": 0, "event": {"call": {"cloexec": False, "op": "pipe"}, "pid": 1}},
+                {"answer": {"err": [9, "EBADF"]}, "caller": 7, "event": {"call": {"fd": 99, "op": "close"}, "pid": 1}},
+            ]
+            found = [json.loads(line) for line in kernel.history().splitlines()]
+            self.assertEqual(found, [{**record, "picked": []} for record in expected])
+            kernel.check()
+
+
+@unittest.skipUnless(runs(PROGRAM), "there is no program epsim")
+class OverProgram(Calls, Refusals):
+    def make(self, **keys):
+        return Kernel(program=PROGRAM, **keys)
+
+    def test_the_last_call(self):
+        with self.make() as kernel:
+            kernel._backend.calls = MOST_CALLS
+            with self.assertRaises(Ended):
+                kernel.dup(0)
+
+    def test_a_line_that_is_too_long(self):
+        with self.make() as kernel:
+            with self.assertRaises(ValueError):
+                kernel.write(1, bytes(40_000))
+            self.assertEqual(kernel.dup(0), 3)
+
+    def test_a_program_that_ended(self):
+        with self.make(limits=(1, 1, 1, 1, 1, 1)) as kernel:
+            with self.assertRaises(Ended):
+                kernel.dup(0)
+                kernel.dup(0)
+            self.assertEqual(kernel.end(), 2)
+
+    def test_what_needs_the_library(self):
+        with self.make() as kernel:
+            for call in (kernel.check, kernel.history, kernel.next_moment, kernel.take_part):
+                with self.assertRaises(NotImplementedError):
+                    call()
+
+    def test_without_a_library(self):
+        words = "import nippersage as n; k = n.Kernel(); print(n.LIBRARY, k.pipe(), k.end())"
+        told = subprocess.run(
+            [sys.executable, "-B", "-c", words], stdout=subprocess.PIPE, cwd=FOLDER,
+            env={**os.environ, "NIPPERSAGE_LIB": "", "NIPPERSAGE_EPSIM": PROGRAM},
+        )
+        self.assertEqual(told.stdout, b"None (3, 4) 0\n")
+
+
+class Histories:
+    """What epaudit says of the history of a short run."""
+
+    limits = (16, 16, 2, 1, 4_096, 4_096)
+
+    def setUp(self):
+        room = tempfile.TemporaryDirectory()
+        self.addCleanup(room.cleanup)
+        self.path = os.path.join(room.name, "kept.history")
+        with self.make(limits=self.limits, history=self.path) as kernel:
+            reader, writer = kernel.pipe()
+            instance = kernel.epoll()
+            kernel.add(instance, reader, IN, data=3)
+            kernel.write(writer, b"abc")
+            self.assertEqual(kernel.wait(instance), [(IN, 3)])
+
+    def test_a_history_of_a_kernel(self):
+        self.assertEqual(audit(self.path, limits=self.limits), 5)
+
+    def test_a_history_without_its_write(self):
+        with open(self.path) as kept:
+            records = kept.readlines()
+        with open(self.path, "w") as shorter:
+            shorter.writelines(records[:3] + records[4:])
+        with self.assertRaises(Illegal) as caught:
+            audit(self.path, limits=self.limits)
+        self.assertEqual(caught.exception.record, 3)
+
+    def test_a_history_without_a_verdict(self):
+        with open(self.path, "a") as longer:
+            longer.write("no record\n")
+        with self.assertRaises(Ended):
+            audit(self.path, limits=self.limits)
+        with self.assertRaises(OSError):
+            audit(self.path + ".missing")
+
+
+@unittest.skipUnless(LIBRARY and runs(AUDITOR), "there is no library, or no program epaudit")
+class OfLibrary(Histories, unittest.TestCase):
+    make = Kernel
+
+    def test_a_file_that_cannot_be_made(self):
+        with self.assertRaises(OSError):
+            Kernel(history=os.path.join(self.path, "below.history"))
+
+
+@unittest.skipUnless(runs(PROGRAM) and runs(AUDITOR), "there is no program epsim or epaudit")
+class OfProgram(Histories, unittest.TestCase):
+    def make(self, **keys):
+        return Kernel(program=PROGRAM, **keys)
+
+    def test_a_file_that_cannot_be_made(self):
+        with self.make(history=os.path.join(self.path, "below.history")) as kernel:
+            with self.assertRaises(Ended):
+                kernel.tick(0)
+            self.assertEqual(kernel.end(), 1)
+
+
+if __name__ == "__main__":
+    unittest.main()
