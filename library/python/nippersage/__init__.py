@@ -21,7 +21,7 @@ refuses.
 from ._kernel import Kernel, Part, Task
 from ._library import LIBRARY
 from ._numbers import (
-    ERR, ET, EXCLUSIVE, HUP, IN, ONESHOT, OUT, PRI, RDHUP, WAKEUP, Ended, Illegal, Limits, Report,
+    ERR, ET, EXCLUSIVE, HUP, IN, ONESHOT, OUT, PRI, RDHUP, WAKEUP, Ended, Illegal, Limits,
 )
 from ._program import AUDITOR, LONGEST_LINE, MOST_CALLS, PROGRAM, audit
 
@@ -29,6 +29,6 @@ __version__ = "0.1.0"
 
 __all__ = [
     "IN", "PRI", "OUT", "ERR", "HUP", "RDHUP", "EXCLUSIVE", "WAKEUP", "ONESHOT", "ET",
-    "Kernel", "Task", "Part", "Limits", "Report", "Ended", "Illegal", "audit",
+    "Kernel", "Task", "Part", "Limits", "Ended", "Illegal", "audit",
     "LIBRARY", "PROGRAM", "AUDITOR", "MOST_CALLS", "LONGEST_LINE",
 ]

@@ -281,6 +281,8 @@ class Part:
 
 def _timeout(timeout: Optional[float]) -> int:
     """A timeout in units, or -1 for none."""
+    if timeout == 0:
+        return 0
     if timeout is None or timeout < 0 or timeout == float("inf"):
         return -1
     return within("timeout", units("timeout", timeout), 0, (1 << 63) - 1)

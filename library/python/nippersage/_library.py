@@ -6,8 +6,7 @@ import ctypes
 import os
 import struct
 import tempfile
-from ctypes import POINTER, byref, c_char_p, c_int, c_int64, c_long, c_size_t, c_ssize_t, c_uint32, c_uint64, c_void_p
-from itertools import starmap
+from ctypes import POINTER, byref, c_char, c_char_p, c_int, c_int64, c_long, c_size_t, c_ssize_t, c_uint32, c_uint64, c_void_p
 from typing import Any, Dict, List, Optional, Sequence, Tuple
 
 from ._numbers import UNITS, Ended, Limits, Report, number, refusal
@@ -217,22 +216,22 @@ class Library:
         self._done(self._f.epoll_ctl(who, ep, act, fd, _EVENT.pack(mask, data)))
 
     def wait(self, who: Who, ep: int, max: int, timeout: int) -> Optional[List[Report]]:
-        most = self._room(who, max)
-        events = ctypes.create_string_buffer(_EVENT.size * (most if most > 0 else 1))
+        most = self._most_of(who, max)
+        events = _room(_EVENT.size * most)
         return self._reports(self._f.wait_start(who, ep, events, most, number("timeout", timeout)), events)
 
     def epoll_wait(self, who: Who, ep: int, max: int, timeout: int) -> List[Report]:
-        most = self._room(who, max)
-        events = ctypes.create_string_buffer(_EVENT.size * (most if most > 0 else 1))
+        most = self._most_of(who, max)
+        events = _room(_EVENT.size * most)
         end = None if timeout < 0 else byref(_timespec(timeout))
         return self._reports(self._f.epoll_pwait2(who, ep, events, most, end), events) or []
 
     def resume(self, who: Who) -> Optional[List[Report]]:
         most = self._rooms.get(who.caller, 1)
-        events = ctypes.create_string_buffer(_EVENT.size * most)
+        events = _room(_EVENT.size * most)
         return self._reports(self._f.resume(who, events, most), events)
 
-    def _room(self, who: Who, max: int) -> int:
+    def _most_of(self, who: Who, max: int) -> int:
         """How many reports a wait has room for: as many as the library takes. A resumption has room for any wait's."""
         most = max if max < self._most else self._most
         if most > self._rooms.get(who.caller, 1):
@@ -243,12 +242,12 @@ class Library:
         if result == _PARKED:
             return None
         size = self._done(result) * _EVENT.size
-        return list(starmap(Report, _EVENT.iter_unpack(memoryview(events)[:size])))
+        return list(_EVENT.iter_unpack(events[:size]))
 
     def read(self, who: Who, fd: int, n: int) -> bytes:
         most = n if n < _MOST_READ else _MOST_READ
-        room = ctypes.create_string_buffer(most if most > 0 else 1)
-        return ctypes.string_at(room, self._done(self._f.read(who, fd, room, most)))
+        room = _room(most)
+        return room[: self._done(self._f.read(who, fd, room, most))]
 
     def write(self, who: Who, fd: int, data: bytes) -> int:
         return self._done(self._f.write(who, fd, data, len(data)))
@@ -325,6 +324,11 @@ class Library:
 
     def check(self) -> None:
         self._done(self._f.check(self._pointer()))
+
+
+def _room(size: int) -> Any:
+    """Room for so many bytes, and for one if there are none, since NULL is refused."""
+    return (c_char * (size if size > 0 else 1))()
 
 
 def _limits(limits: Limits) -> _Limits:

@@ -4,10 +4,13 @@ from __future__ import annotations
 
 import math
 from operator import index
-from typing import NamedTuple
+from typing import NamedTuple, Tuple
 
 IN, PRI, OUT, ERR, HUP, RDHUP = 1, 2, 4, 8, 16, 8192
 EXCLUSIVE, WAKEUP, ONESHOT, ET = 1 << 28, 1 << 29, 1 << 30, 1 << 31
+
+#: One report of a wait: the bits that are shown, and the data of the registration.
+Report = Tuple[int, int]
 
 #: The kernel's units of time in a second.
 UNITS = 1000
@@ -43,13 +46,6 @@ class Limits(NamedTuple):
     sock_bytes: int = 65_536
 
 
-class Report(NamedTuple):
-    """One report of a wait: the bits that are shown, and the data of the registration."""
-
-    bits: int
-    data: int
-
-
 def refusal(number: int) -> OSError:
     """The error of a number of Linux: as BlockingIOError for EAGAIN, as OSError if there is no class of its own."""
     return OSError(number, NAMES.get(number, f"error number {number}"))
@@ -64,7 +60,9 @@ def within(name: str, value: int, least: int, most: int) -> int:
 
 def number(name: str, value: int) -> int:
     """A number of 32 bits with a sign."""
-    return within(name, value, -(1 << 31), (1 << 31) - 1)
+    if -0x8000_0000 <= index(value) <= 0x7FFF_FFFF:
+        return value
+    return within(name, value, -0x8000_0000, 0x7FFF_FFFF)
 
 
 def unsigned(name: str, value: int) -> int:

@@ -152,7 +152,7 @@ class Program:
 
     @staticmethod
     def _reports(answer: Dict[str, Any]) -> Optional[List[Report]]:
-        return [Report(*report) for report in answer["events"]] if "events" in answer else None
+        return [(bits, data) for bits, data in answer["events"]] if "events" in answer else None
 
     def read(self, who: Who, fd: int, n: int) -> bytes:
         return bytes.fromhex(self._call("read", who, fd=fd, n=n)["bytes"])
