@@ -6,7 +6,9 @@ import ctypes
 import os
 import struct
 import tempfile
-from ctypes import POINTER, byref, c_char, c_char_p, c_int, c_int64, c_long, c_size_t, c_ssize_t, c_uint32, c_uint64, c_void_p
+from ctypes import (
+    POINTER, byref, c_char, c_char_p, c_int, c_int64, c_long, c_size_t, c_ssize_t, c_uint32, c_uint64, c_void_p,
+)
 from typing import Any, Dict, List, Optional, Sequence, Tuple
 
 from ._numbers import UNITS, Ended, Limits, Report, number, refusal

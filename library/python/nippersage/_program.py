@@ -77,7 +77,11 @@ class Program:
             words += ["--history", os.path.abspath(history)]
         self.calls = 0
         self._now = 0
-        self._program = subprocess.Popen(words, stdin=subprocess.PIPE, stdout=subprocess.PIPE)
+        try:
+            self._program = subprocess.Popen(words, stdin=subprocess.PIPE, stdout=subprocess.PIPE)
+        except FileNotFoundError as error:
+            missing = "no such program" if program else "no library libnippersage, and no such program"
+            raise FileNotFoundError(error.errno, missing, words[0]) from None
 
     def end(self) -> int:
         assert self._program.stdin and self._program.stdout

@@ -30,6 +30,14 @@ def runs(program):
     return os.path.isfile(program) and os.access(program, os.X_OK)
 
 
+def run_anew(words, **variables):
+    """Runs these words of Python in a process of its own, under these variables."""
+    return subprocess.run(
+        [sys.executable, "-B", "-c", words], stdout=subprocess.PIPE, stderr=subprocess.PIPE, cwd=FOLDER,
+        env={**os.environ, **variables},
+    )
+
+
 class Refusals(unittest.TestCase):
     def expect_refusal(self, number, call, *words, **keys):
         with self.assertRaises(OSError) as caught:
@@ -270,6 +278,18 @@ class OverLibrary(Calls, Refusals):
             self.assertEqual(kernel.now(), 60)
             kernel.check()
 
+    def test_an_end_while_a_thread_waits(self):
+        """The thread's wait lives on, as does the kernel, until somebody else moves the clock or the process ends."""
+        words = (
+            "import nippersage as n, threading, time\n"
+            "k = n.Kernel(); parts = k.take_part(), k.take_part(); e = k.epoll()\n"
+            "threading.Thread(target=k.task(1).epoll_wait, args=(e,), daemon=True).start()\n"
+            "while not k.is_parked(1): time.sleep(0.001)\n"
+            "k.end(); del k, parts; print('ended')"
+        )
+        told = run_anew(words)
+        self.assertEqual((told.returncode, told.stdout), (0, b"ended\n"))
+
     def test_limits_that_are_none(self):
         for limits in ((2, 16, 2, 1, 4_096, 4_096), (-1, 16, 2, 1, 4_096, 4_096), (1 << 32, 1, 1, 1, 4_096, 1)):
             self.expect_refusal(errno.EINVAL, Kernel, limits=limits)
@@ -320,11 +340,20 @@ class OverProgram(Calls, Refusals):
 
     def test_without_a_library(self):
         words = "import nippersage as n; k = n.Kernel(); print(n.LIBRARY, k.pipe(), k.end())"
-        told = subprocess.run(
-            [sys.executable, "-B", "-c", words], stdout=subprocess.PIPE, cwd=FOLDER,
-            env={**os.environ, "NIPPERSAGE_LIB": "", "NIPPERSAGE_EPSIM": PROGRAM},
-        )
+        told = run_anew(words, NIPPERSAGE_LIB="", NIPPERSAGE_EPSIM=PROGRAM)
         self.assertEqual(told.stdout, b"None (3, 4) 0\n")
+
+
+class Missing(unittest.TestCase):
+    """What is said if there is nothing to run."""
+
+    def test_neither_library_nor_program(self):
+        told = run_anew("import nippersage; nippersage.Kernel()", NIPPERSAGE_LIB="", NIPPERSAGE_EPSIM="/none/epsim")
+        self.assertIn(b"no library libnippersage, and no such program: '/none/epsim'", told.stderr)
+
+    def test_a_library_that_is_none(self):
+        told = run_anew("import nippersage; nippersage.Kernel()", NIPPERSAGE_LIB="/none/libnippersage.so")
+        self.assertIn(b"OSError: /none/libnippersage.so: cannot open shared object file", told.stderr)
 
 
 class Histories:
