@@ -9,6 +9,7 @@ skipped, and told so. Histories are given to epaudit if there is one.
 import errno
 import json
 import os
+import re
 import subprocess
 import sys
 import tempfile
@@ -306,6 +307,17 @@ class OverLibrary(Calls, Refusals):
             found = [json.loads(line) for line in kernel.history().splitlines()]
             self.assertEqual(found, [{**record, "picked": []} for record in expected])
             kernel.check()
+
+
+@unittest.skipUnless(LIBRARY, "there is no library")
+class Readme(unittest.TestCase):
+    def test_its_programs(self):
+        with open(os.path.join(FOLDER, "README.md")) as page:
+            programs = re.findall(r"^```python\n(.*?)^```$", page.read(), re.M | re.S)
+        self.assertEqual(len(programs), 2)
+        for program in programs:
+            told = run_anew(program)
+            self.assertEqual((told.returncode, told.stderr), (0, b""))
 
 
 @unittest.skipUnless(runs(PROGRAM), "there is no program epsim")

@@ -337,6 +337,24 @@ fn a_history_without_room() {
     );
 }
 
+/// The example of the README is the first one of the documentation, which is run.
+#[test]
+fn the_readme() {
+    let readme = include_str!("../README.md");
+    let example = readme
+        .split("```")
+        .nth(1)
+        .and_then(|block| block.strip_prefix("rust\n"));
+    let shown: Vec<_> = example.unwrap().lines().collect();
+    let documentation = include_str!("../src/lib.rs");
+    let run = documentation.split("//! ```\n").nth(1).unwrap().lines();
+    let run: Vec<_> = run
+        .map(|line| line.trim_start_matches("//!").trim_start())
+        .filter(|line| !line.starts_with('#'))
+        .collect();
+    assert_eq!(shown, run);
+}
+
 #[test]
 fn what_is_printed() {
     assert_eq!(format!("{:?}", Errno::EDEADLK), "EDEADLK(35)");
