@@ -1,0 +1,137 @@
+/* The simulated clock, sleeping, and timers. CLOCK_MONOTONIC and its like begin at 0, CLOCK_REALTIME at EPOCH_SECONDS. */
+#include "preload.h"
+
+#include <stdlib.h>
+#include <sys/time.h>
+
+FORWARD(clock_gettime)
+FORWARD(clock_nanosleep)
+
+uint64_t moment_now(void) {
+    uint64_t moment = 0;
+    nippersage_now(self().kernel, &moment);
+    return moment;
+}
+
+int64_t milliseconds(const struct timespec *time) {
+    if (time->tv_sec < 0 || time->tv_nsec < 0 || time->tv_nsec >= 1000000000) return -1;
+    if (time->tv_sec > INT64_MAX / 1000 - 1) return INT64_MAX;
+    return (int64_t)time->tv_sec * 1000 + (time->tv_nsec + 999999) / 1000000;
+}
+
+struct timespec timespec_of(uint64_t count) {
+    return (struct timespec){.tv_sec = (time_t)(count / 1000), .tv_nsec = (long)(count % 1000) * 1000000};
+}
+
+void sleep_for(int64_t count, const char *call) {
+    struct timespec time = timespec_of(count < 0 ? 0 : (uint64_t)count);
+    struct epoll_event none;
+    unless_endless(nippersage_epoll_pwait2(self(), sleeping_instance(), &none, 1, count < 0 ? NULL : &time), call);
+}
+
+void bring_clock_to(uint64_t moment) {
+    uint64_t now = moment_now();
+    if (now < moment) nippersage_tick(self(), moment - now);
+}
+
+/* ---- clocks ---- */
+
+/* Whether a clock is one of those that the simulated clock stands for. Those of processors are real. */
+static bool is_clock(clockid_t clock) {
+    return clock == CLOCK_REALTIME || clock == CLOCK_MONOTONIC || clock == CLOCK_MONOTONIC_RAW || clock == CLOCK_BOOTTIME ||
+           clock == CLOCK_REALTIME_COARSE || clock == CLOCK_MONOTONIC_COARSE || clock == CLOCK_TAI ||
+           clock == CLOCK_REALTIME_ALARM || clock == CLOCK_BOOTTIME_ALARM;
+}
+
+static bool is_of_day(clockid_t clock) {
+    return clock == CLOCK_REALTIME || clock == CLOCK_REALTIME_COARSE || clock == CLOCK_TAI || clock == CLOCK_REALTIME_ALARM;
+}
+
+int clock_gettime(clockid_t clock, struct timespec *time) {
+    if (!is_clock(clock)) return next_clock_gettime()(clock, time);
+    *time = timespec_of(moment_now());
+    if (is_of_day(clock)) time->tv_sec += EPOCH_SECONDS;
+    return 0;
+}
+
+int gettimeofday(struct timeval *restrict time, void *restrict zone) {
+    struct timespec now = timespec_of(moment_now());
+    *time = (struct timeval){EPOCH_SECONDS + now.tv_sec, now.tv_nsec / 1000};
+    if (zone) memset(zone, 0, sizeof(struct timezone));
+    return 0;
+}
+
+time_t time(time_t *told) {
+    time_t now = EPOCH_SECONDS + timespec_of(moment_now()).tv_sec;
+    if (told) *told = now;
+    return now;
+}
+
+/* ---- sleeping ---- */
+
+int clock_nanosleep(clockid_t clock, int flags, const struct timespec *time, struct timespec *left) {
+    int64_t count = milliseconds(time), now = (int64_t)moment_now();
+    if (!is_clock(clock)) return next_clock_nanosleep()(clock, flags, time, left);
+    if (count < 0) return EINVAL;
+    if (flags & TIMER_ABSTIME) {
+        if (is_of_day(clock)) now += (int64_t)EPOCH_SECONDS * 1000;
+        count = count > now ? count - now : 0;
+    }
+    if (count > 0) sleep_for(count, "clock_nanosleep");
+    ANSWER(0, "clock_nanosleep(%d, %#x, {tv_sec=%lld, tv_nsec=%ld})", clock, flags, (long long)time->tv_sec, time->tv_nsec);
+    return 0;
+}
+
+int nanosleep(const struct timespec *time, struct timespec *left) {
+    int error = clock_nanosleep(CLOCK_MONOTONIC, 0, time, left);
+    if (error == 0) return 0;
+    errno = error;
+    return -1;
+}
+
+int usleep(useconds_t count) {
+    struct timespec time = {count / 1000000, (long)(count % 1000000) * 1000};
+    return nanosleep(&time, NULL);
+}
+
+unsigned int sleep(unsigned int count) {
+    struct timespec time = {count, 0};
+    nanosleep(&time, NULL);
+    return 0;
+}
+
+/* ---- timers ---- */
+
+/* A moment of CLOCK_REALTIME by the kernel's clock, which began when that was EPOCH_SECONDS. What was before it is its first
+   millisecond, for 0 would disarm. */
+static void from_day(struct timespec *time) {
+    if (time->tv_sec == 0 && time->tv_nsec == 0) return;
+    if (time->tv_sec < EPOCH_SECONDS) {
+        *time = (struct timespec){0, 1000000};
+    } else {
+        time->tv_sec -= EPOCH_SECONDS;
+    }
+    if (time->tv_sec == 0 && time->tv_nsec == 0) time->tv_nsec = 1000000;
+}
+
+int timerfd_settime(int fd, int flags, const struct itimerspec *value, struct itimerspec *before) {
+    struct description *description = hold(fd);
+    struct itimerspec own;
+    int status = !description ? -EBADF : !value ? -EFAULT : 0;
+    if (status == 0) {
+        own = *value;
+        if ((flags & TFD_TIMER_ABSTIME) && is_of_day(description->clock)) from_day(&own.it_value);
+        status = nippersage_timerfd_settime(self(), fd - FIRST, flags & ~TFD_TIMER_CANCEL_ON_SET, &own, before);
+    }
+    if (description) let_go(description);
+    return (int)ANSWER(status, "timerfd_settime(%d, %#x, {it_interval={%lld, %ld}, it_value={%lld, %ld}})", fd, flags,
+                       value ? (long long)value->it_interval.tv_sec : 0, value ? value->it_interval.tv_nsec : 0,
+                       value ? (long long)value->it_value.tv_sec : 0, value ? value->it_value.tv_nsec : 0);
+}
+
+int timerfd_gettime(int fd, struct itimerspec *now) {
+    struct description *description = hold(fd);
+    int status = description ? nippersage_timerfd_gettime(self(), fd - FIRST, now) : -EBADF;
+    if (description) let_go(description);
+    return (int)ANSWER(status, "timerfd_gettime(%d)", fd);
+}

@@ -1,0 +1,154 @@
+/* What has no double: each is refused with one line on standard error, where it would reach past the simulation. */
+#include "preload.h"
+
+#include <spawn.h>
+#include <stdarg.h>
+#include <stdio.h>
+#include <stdlib.h>
+#include <sys/sendfile.h>
+#include <sys/socket.h>
+#include <sys/syscall.h>
+#include <sys/uio.h>
+
+/* ---- calls on descriptors ---- */
+
+/* A function whose first parameter is fd: real descriptors go on, simulated ones are refused with this error. */
+#define REAL_ONLY(result, name, parameters, arguments, error)                                                          \
+    FORWARD(name)                                                                                                      \
+    result name parameters {                                                                                           \
+        if (!is_simulated(fd)) return next_##name() arguments;                                                         \
+        return refuse(error, "%s(%d) is not simulated", #name, fd);                                                    \
+    }
+
+REAL_ONLY(int, accept, (int fd, struct sockaddr *from, socklen_t *size), (fd, from, size), EINVAL)
+REAL_ONLY(int, accept4, (int fd, struct sockaddr *from, socklen_t *size, int flags), (fd, from, size, flags), EINVAL)
+REAL_ONLY(int, bind, (int fd, const struct sockaddr *to, socklen_t size), (fd, to, size), EINVAL)
+REAL_ONLY(int, connect, (int fd, const struct sockaddr *to, socklen_t size), (fd, to, size), EISCONN)
+REAL_ONLY(int, listen, (int fd, int most), (fd, most), EINVAL)
+REAL_ONLY(int, setsockopt, (int fd, int level, int option, const void *value, socklen_t size),
+          (fd, level, option, value, size), ENOPROTOOPT)
+REAL_ONLY(int, recvmmsg, (int fd, struct mmsghdr *to, unsigned int count, int flags, struct timespec *time),
+          (fd, to, count, flags, time), EOPNOTSUPP)
+REAL_ONLY(int, sendmmsg, (int fd, struct mmsghdr *from, unsigned int count, int flags), (fd, from, count, flags), EOPNOTSUPP)
+REAL_ONLY(ssize_t, preadv, (int fd, const struct iovec *to, int count, off_t at), (fd, to, count, at), ESPIPE)
+REAL_ONLY(ssize_t, pwritev, (int fd, const struct iovec *from, int count, off_t at), (fd, from, count, at), ESPIPE)
+REAL_ONLY(ssize_t, pread, (int fd, void *to, size_t count, off_t at), (fd, to, count, at), ESPIPE)
+REAL_ONLY(ssize_t, pwrite, (int fd, const void *from, size_t count, off_t at), (fd, from, count, at), ESPIPE)
+REAL_ONLY(int, ftruncate, (int fd, off_t size), (fd, size), EINVAL)
+REAL_ONLY(int, fsync, (int fd), (fd), EINVAL)
+REAL_ONLY(int, fdatasync, (int fd), (fd), EINVAL)
+
+#define REAL_TWO(name, parameters, first, second, arguments)                                                           \
+    FORWARD(name)                                                                                                      \
+    ssize_t name parameters {                                                                                          \
+        if (!is_simulated(first) && !is_simulated(second)) return next_##name() arguments;                             \
+        return refuse(EINVAL, "%s(%d, %d) is not simulated", #name, first, second);                                    \
+    }
+
+REAL_TWO(sendfile, (int to, int from, off_t *at, size_t count), to, from, (to, from, at, count))
+REAL_TWO(sendfile64, (int to, int from, off64_t *at, size_t count), to, from, (to, from, at, count))
+REAL_TWO(splice, (int from, off64_t *at, int to, off64_t *onto, size_t count, unsigned int flags), from, to,
+         (from, at, to, onto, count, flags))
+REAL_TWO(tee, (int from, int to, size_t count, unsigned int flags), from, to, (from, to, count, flags))
+
+FORWARD(lseek)
+FORWARD(fdopen)
+
+/* ESPIPE is what Linux answers, and programs ask in order to hear it: no line. */
+off_t lseek(int fd, off_t offset, int whence) {
+    if (!is_simulated(fd)) return next_lseek()(fd, offset, whence);
+    errno = ESPIPE;
+    return -1;
+}
+
+off64_t lseek64(int fd, off64_t offset, int whence) { return lseek(fd, offset, whence); }
+
+FILE *fdopen(int fd, const char *mode) {
+    if (!is_simulated(fd)) return next_fdopen()(fd, mode);
+    refuse(EINVAL, "fdopen(%d): streams of the C library are not simulated", fd);
+    return NULL;
+}
+
+/* ---- processes ---- */
+
+pid_t fork(void) { return refuse(ENOSYS, "fork is not simulated: two processes can't share a simulated kernel"); }
+
+pid_t vfork(void) { return refuse(ENOSYS, "vfork is not simulated: two processes can't share a simulated kernel"); }
+
+static int refuse_program(const char *path) {
+    return refuse(ENOSYS, "%s can't be run: another program can't share a simulated kernel", path);
+}
+
+int execve(const char *path, char *const words[], char *const environment[]) {
+    (void)words, (void)environment;
+    return refuse_program(path);
+}
+
+int execv(const char *path, char *const words[]) { return execve(path, words, NULL); }
+
+int execvp(const char *path, char *const words[]) { return execve(path, words, NULL); }
+
+int execvpe(const char *path, char *const words[], char *const environment[]) { return execve(path, words, environment); }
+
+int execl(const char *path, const char *word, ...) {
+    (void)word;
+    return refuse_program(path);
+}
+
+int execlp(const char *path, const char *word, ...) {
+    (void)word;
+    return refuse_program(path);
+}
+
+int execle(const char *path, const char *word, ...) {
+    (void)word;
+    return refuse_program(path);
+}
+
+int fexecve(int fd, char *const words[], char *const environment[]) {
+    (void)fd, (void)environment;
+    return refuse_program(words[0]);
+}
+
+int posix_spawn(pid_t *restrict made, const char *restrict path, const posix_spawn_file_actions_t *restrict actions,
+                const posix_spawnattr_t *restrict attributes, char *const words[restrict], char *const environment[restrict]) {
+    (void)made, (void)actions, (void)attributes, (void)words, (void)environment;
+    refuse_program(path);
+    return ENOSYS;
+}
+
+int posix_spawnp(pid_t *restrict made, const char *restrict path, const posix_spawn_file_actions_t *restrict actions,
+                 const posix_spawnattr_t *restrict attributes, char *const words[restrict], char *const environment[restrict]) {
+    return posix_spawn(made, path, actions, attributes, words, environment);
+}
+
+int system(const char *command) { return command ? refuse_program(command) : 0; }
+
+FILE *popen(const char *command, const char *mode) {
+    (void)mode;
+    refuse_program(command);
+    return NULL;
+}
+
+/* ---- calls by number ---- */
+
+FORWARD(syscall)
+
+/* Those that have a double, or would pass it by. libuv closes so. */
+long syscall(long number, ...) {
+    va_list arguments;
+    long given[6];
+    va_start(arguments, number);
+    for (int i = 0; i < 6; i++) given[i] = va_arg(arguments, long);
+    va_end(arguments);
+    switch (number) {
+    case SYS_close: return close((int)given[0]);
+    case SYS_io_uring_setup: return refuse(ENOSYS, "io_uring is not simulated");
+    case SYS_epoll_create: case SYS_epoll_create1: case SYS_epoll_ctl: case SYS_epoll_wait: case SYS_epoll_pwait:
+    case SYS_epoll_pwait2: case SYS_eventfd: case SYS_eventfd2: case SYS_timerfd_create: case SYS_timerfd_settime:
+    case SYS_timerfd_gettime: case SYS_pipe: case SYS_pipe2: case SYS_socketpair: case SYS_fork: case SYS_vfork:
+    case SYS_clone: case SYS_clone3: case SYS_execve: case SYS_execveat:
+        return refuse(ENOSYS, "syscall(%ld): this call by its number is not simulated", number);
+    default: return next_syscall()(number, given[0], given[1], given[2], given[3], given[4], given[5]);
+    }
+}

@@ -1,0 +1,358 @@
+/* Descriptors: what the kernel doesn't keep of them (O_NONBLOCK, access modes, how many bytes wait), and the calls that
+   make, copy, change and close them. */
+#include "preload.h"
+
+#include <pthread.h>
+#include <stdarg.h>
+#include <stdlib.h>
+#include <sys/eventfd.h>
+#include <sys/ioctl.h>
+#include <sys/socket.h>
+#include <sys/stat.h>
+
+FORWARD(socketpair)
+FORWARD(dup)
+FORWARD(dup2)
+FORWARD(dup3)
+FORWARD(close)
+FORWARD(fcntl)
+FORWARD(ioctl)
+FORWARD(fstat)
+
+/* A number of the kernel. An instance of the shim's own has no description, and no descriptor that the program may use. */
+struct entry {
+    struct description *description;
+    bool closes_on_exec;
+    bool is_own;
+};
+
+/* The lock is held over the kernel's call that makes or frees a number and the change here. No call that waits holds it. */
+static pthread_mutex_t lock = PTHREAD_MUTEX_INITIALIZER;
+static struct entry table[NUMBERS];
+
+static struct entry *entry_of(int fd) {
+    return fd >= FIRST && fd < FIRST + NUMBERS && table[fd - FIRST].description ? &table[fd - FIRST] : NULL;
+}
+
+/* ---- descriptions, under the lock ---- */
+
+static void drop(struct description *description) {
+    if (!description || --description->holders > 0) return;
+    if (description->peer) description->peer->peer = NULL;
+    free(description);
+}
+
+/* A new number names a new description. Where there is no memory for it, the number is closed again. */
+static int put_new(int number, struct description like, int flags) {
+    struct description *made;
+    if (number < 0) return number;
+    made = malloc(sizeof *made);
+    if (!made) {
+        nippersage_close(self(), number);
+        return -ENOMEM;
+    }
+    *made = like;
+    made->holders = 1;
+    made->is_nonblocking = flags & O_NONBLOCK;
+    table[number] = (struct entry){made, flags & O_CLOEXEC, false};
+    return number + FIRST;
+}
+
+static int close_entry(int fd) {
+    struct entry *entry = entry_of(fd);
+    int status = entry ? nippersage_close(self(), fd - FIRST) : -EBADF;
+    if (status == 0) {
+        drop(entry->description);
+        *entry = (struct entry){NULL, false, false};
+    }
+    return status;
+}
+
+/* As put_new for two numbers, whose descriptions are each other's peers. */
+static int put_pair(int status, const int numbers[2], enum kind kind, const int accesses[2], int flags, int ends[2]) {
+    if (status < 0) return status;
+    for (int i = 0; i < 2; i++)
+        ends[i] = put_new(numbers[i], (struct description){.kind = kind, .access = accesses[i]}, flags);
+    if (ends[0] < 0 || ends[1] < 0) {
+        for (int i = 0; i < 2; i++) close_entry(ends[i]);
+        return -ENOMEM;
+    }
+    table[numbers[0]].description->peer = table[numbers[1]].description;
+    table[numbers[1]].description->peer = table[numbers[0]].description;
+    return 0;
+}
+
+/* A number names the description of another one. */
+static int put_copy(int number, const struct entry *from, int flags) {
+    if (number < 0) return number;
+    from->description->holders++;
+    drop(table[number].description);
+    table[number] = (struct entry){from->description, flags & O_CLOEXEC, false};
+    return number + FIRST;
+}
+
+struct description *hold(int fd) {
+    struct entry *entry;
+    pthread_mutex_lock(&lock);
+    entry = entry_of(fd);
+    if (entry) entry->description->holders++;
+    pthread_mutex_unlock(&lock);
+    return entry ? entry->description : NULL;
+}
+
+void let_go(struct description *description) {
+    pthread_mutex_lock(&lock);
+    drop(description);
+    pthread_mutex_unlock(&lock);
+}
+
+void count_written(struct description *description, ssize_t count) {
+    pthread_mutex_lock(&lock);
+    if (description->peer) atomic_fetch_add(&description->peer->unread, count);
+    pthread_mutex_unlock(&lock);
+}
+
+int make_own_instance(void) {
+    int number;
+    pthread_mutex_lock(&lock);
+    number = nippersage_epoll_create1(self(), 0);
+    if (number >= 0) table[number].is_own = true;
+    pthread_mutex_unlock(&lock);
+    return number;
+}
+
+void end_own_instance(int number) {
+    pthread_mutex_lock(&lock);
+    nippersage_close(self(), number);
+    table[number].is_own = false;
+    pthread_mutex_unlock(&lock);
+}
+
+/* ---- new descriptors ---- */
+
+int epoll_create1(int flags) {
+    int made;
+    pthread_mutex_lock(&lock);
+    made = put_new(nippersage_epoll_create1(self(), flags), (struct description){.kind = EPOLL, .access = O_RDWR}, flags);
+    pthread_mutex_unlock(&lock);
+    return (int)ANSWER(made, "epoll_create1(%s)", flags_text(TEXT, "EPOLL_", flags));
+}
+
+int epoll_create(int size) {
+    if (size > 0) return epoll_create1(0);
+    errno = EINVAL;
+    return -1;
+}
+
+int eventfd(unsigned int count, int flags) {
+    int made;
+    pthread_mutex_lock(&lock);
+    made = put_new(nippersage_eventfd(self(), count, flags), (struct description){.kind = EVENTFD, .access = O_RDWR}, flags);
+    pthread_mutex_unlock(&lock);
+    return (int)ANSWER(made, "eventfd2(%u, %s)", count, flags_text(TEXT, "EFD_", flags));
+}
+
+int timerfd_create(clockid_t clock, int flags) {
+    struct description like = {.kind = TIMERFD, .access = O_RDWR, .clock = clock};
+    int kept = clock == CLOCK_BOOTTIME ? CLOCK_MONOTONIC : clock, made;
+    pthread_mutex_lock(&lock);
+    made = put_new(nippersage_timerfd_create(self(), kept, flags), like, flags);
+    pthread_mutex_unlock(&lock);
+    return (int)ANSWER(made, "timerfd_create(%d, %s)", clock, flags_text(TEXT, "TFD_", flags));
+}
+
+int pipe2(int ends[2], int flags) {
+    static const int accesses[2] = {O_RDONLY, O_WRONLY};
+    int numbers[2], status;
+    pthread_mutex_lock(&lock);
+    status = put_pair(nippersage_pipe2(self(), numbers, flags), numbers, PIPE, accesses, flags, ends);
+    pthread_mutex_unlock(&lock);
+    return (int)ANSWER(status, "pipe2([%d, %d], %s)", status < 0 ? -1 : ends[0], status < 0 ? -1 : ends[1],
+                       flags_text(TEXT, "O_", flags));
+}
+
+int pipe(int ends[2]) { return pipe2(ends, 0); }
+
+int socketpair(int domain, int type, int protocol, int ends[2]) {
+    static const int accesses[2] = {O_RDWR, O_RDWR};
+    int flags = type & (SOCK_CLOEXEC | SOCK_NONBLOCK), numbers[2], status;
+    if (domain != AF_UNIX) return next_socketpair()(domain, type, protocol, ends);
+    if ((type & ~flags) != SOCK_STREAM)
+        return refuse(ESOCKTNOSUPPORT, "socketpair: only SOCK_STREAM is simulated, not type %d", type & ~flags);
+    pthread_mutex_lock(&lock);
+    status = put_pair(nippersage_socketpair(self(), domain, type, protocol, numbers), numbers, SOCKET, accesses, flags, ends);
+    pthread_mutex_unlock(&lock);
+    return (int)ANSWER(status, "socketpair(AF_UNIX, SOCK_STREAM|%s, %d, [%d, %d])", flags_text(TEXT, "SOCK_", flags),
+                       protocol, status < 0 ? -1 : ends[0], status < 0 ? -1 : ends[1]);
+}
+
+/* ---- copies and closes ---- */
+
+static int copy(int fd, int flags) {
+    struct entry *from = entry_of(fd);
+    return from ? put_copy(nippersage_dup(self(), fd - FIRST), from, flags) : -EBADF;
+}
+
+/* To the lowest free number from `least` on. */
+static int copy_from(int fd, int least, int flags) {
+    struct entry *from = entry_of(fd);
+    int number = least > FIRST ? least - FIRST : 0;
+    if (number == 0) return copy(fd, flags);
+    if (!from) return -EBADF;
+    if (number >= NUMBERS) return -EINVAL;
+    while (number < NUMBERS && (table[number].description || table[number].is_own)) number++;
+    if (number == NUMBERS) return -EMFILE;
+    return put_copy(nippersage_dup2(self(), fd - FIRST, number), from, flags);
+}
+
+int dup(int fd) {
+    int made;
+    if (!is_simulated(fd)) return next_dup()(fd);
+    pthread_mutex_lock(&lock);
+    made = copy(fd, 0);
+    pthread_mutex_unlock(&lock);
+    return (int)ANSWER(made, "dup(%d)", fd);
+}
+
+static int copy_to(int fd, int to, int flags) {
+    struct entry *from = entry_of(fd);
+    if (!from || to >= FIRST + NUMBERS) return -EBADF;
+    if (table[to - FIRST].is_own || to - FIRST == sleeping_instance()) return -EBUSY;
+    return put_copy(nippersage_dup2(self(), fd - FIRST, to - FIRST), from, flags);
+}
+
+int dup3(int fd, int to, int flags) {
+    int made;
+    if (!is_simulated(fd) && !is_simulated(to)) return next_dup3()(fd, to, flags);
+    if (is_simulated(fd) != is_simulated(to))
+        return refuse(EBADF, "dup2(%d, %d): one is real and one is simulated", fd, to);
+    if (fd == to || (flags & ~O_CLOEXEC)) return (int)ANSWER(-EINVAL, "dup3(%d, %d, %#x)", fd, to, flags);
+    pthread_mutex_lock(&lock);
+    made = copy_to(fd, to, flags);
+    pthread_mutex_unlock(&lock);
+    return (int)ANSWER(made, "dup3(%d, %d, %s)", fd, to, flags_text(TEXT, "O_", flags));
+}
+
+int dup2(int fd, int to) {
+    struct description *same;
+    if (fd != to || !is_simulated(fd)) return is_simulated(fd) || is_simulated(to) ? dup3(fd, to, 0) : next_dup2()(fd, to);
+    same = hold(fd);
+    if (same) let_go(same);
+    return (int)ANSWER(same ? fd : -EBADF, "dup2(%d, %d)", fd, to);
+}
+
+int close(int fd) {
+    int status;
+    if (!is_simulated(fd)) return next_close()(fd);
+    pthread_mutex_lock(&lock);
+    status = close_entry(fd);
+    pthread_mutex_unlock(&lock);
+    return (int)ANSWER(status, "close(%d)", fd);
+}
+
+/* ---- fcntl, ioctl, fstat ---- */
+
+/* What needs the entry, under the lock. */
+static int control(struct entry *entry, int fd, int command, long argument) {
+    switch (command) {
+    case F_GETFL: return entry->description->access | (entry->description->is_nonblocking ? O_NONBLOCK : 0);
+    case F_SETFL: entry->description->is_nonblocking = argument & O_NONBLOCK; return 0;
+    case F_GETFD: return entry->closes_on_exec ? FD_CLOEXEC : 0;
+    case F_SETFD: entry->closes_on_exec = argument & FD_CLOEXEC; return 0;
+    case F_DUPFD: return copy_from(fd, (int)argument, 0);
+    case F_DUPFD_CLOEXEC: return copy_from(fd, (int)argument, O_CLOEXEC);
+    default: return -EINVAL;
+    }
+}
+
+static int control_simulated(int fd, int command, long argument) {
+    bool is_known = command == F_GETFL || command == F_SETFL || command == F_GETFD || command == F_SETFD ||
+                    command == F_DUPFD || command == F_DUPFD_CLOEXEC;
+    struct entry *entry;
+    int result;
+    if (!is_known || (command == F_SETFL && (argument & O_ASYNC)))
+        return refuse(EINVAL, "fcntl(%d, %d, %#lx) is not simulated", fd, command, argument);
+    pthread_mutex_lock(&lock);
+    entry = entry_of(fd);
+    result = entry ? control(entry, fd, command, argument) : -EBADF;
+    pthread_mutex_unlock(&lock);
+    return (int)ANSWER(result, "fcntl(%d, %d, %#lx)", fd, command, argument);
+}
+
+int fcntl(int fd, int command, ...) {
+    va_list arguments;
+    long argument;
+    va_start(arguments, command);
+    argument = va_arg(arguments, long);
+    va_end(arguments);
+    return is_simulated(fd) ? control_simulated(fd, command, argument) : next_fcntl()(fd, command, argument);
+}
+
+int fcntl64(int fd, int command, ...) {
+    va_list arguments;
+    long argument;
+    va_start(arguments, command);
+    argument = va_arg(arguments, long);
+    va_end(arguments);
+    return fcntl(fd, command, argument);
+}
+
+/* How many bytes wait. */
+static int tell_unread(const struct description *description, int *count) {
+    const struct description *at = description;
+    if (at->kind != PIPE && at->kind != SOCKET) return -ENOTTY;
+    if (at->access == O_WRONLY) at = at->peer;
+    *count = at ? (int)atomic_load(&at->unread) : 0;
+    return 0;
+}
+
+static int request_of(struct entry *entry, unsigned long request, void *argument) {
+    switch (request) {
+    case FIONBIO: entry->description->is_nonblocking = *(const int *)argument != 0; return 0;
+    case FIOCLEX: entry->closes_on_exec = true; return 0;
+    case FIONCLEX: entry->closes_on_exec = false; return 0;
+    case FIONREAD: return tell_unread(entry->description, argument);
+    default: return -ENOTTY;
+    }
+}
+
+int ioctl(int fd, unsigned long request, ...) {
+    va_list arguments;
+    struct entry *entry;
+    void *argument;
+    int result;
+    va_start(arguments, request);
+    argument = va_arg(arguments, void *);
+    va_end(arguments);
+    if (!is_simulated(fd)) return next_ioctl()(fd, request, argument);
+    pthread_mutex_lock(&lock);
+    entry = entry_of(fd);
+    result = entry ? request_of(entry, request, argument) : -EBADF;
+    pthread_mutex_unlock(&lock);
+    /* TCGETS asks whether this is a terminal; ENOTTY is its answer. */
+    if (result == -ENOTTY && request != TCGETS) return refuse(ENOTTY, "ioctl(%d, %#lx) is not simulated", fd, request);
+    return (int)ANSWER(result, "ioctl(%d, %#lx)", fd, request);
+}
+
+int fstat(int fd, struct stat *status) {
+    struct description *description;
+    mode_t mode;
+    if (!is_simulated(fd)) return next_fstat()(fd, status);
+    description = hold(fd);
+    if (!description) return (int)ANSWER(-EBADF, "fstat(%d)", fd);
+    mode = description->kind == PIPE ? S_IFIFO | 0600 : description->kind == SOCKET ? S_IFSOCK | 0777 : 0600;
+    let_go(description);
+    memset(status, 0, sizeof *status);
+    status->st_mode = mode;
+    status->st_nlink = 1;
+    status->st_ino = (ino_t)fd;
+    status->st_uid = geteuid();
+    status->st_gid = getegid();
+    status->st_blksize = 4096;
+    return (int)ANSWER(0, "fstat(%d)", fd);
+}
+
+int fstat64(int fd, struct stat64 *status) {
+    _Static_assert(sizeof(struct stat) == sizeof(struct stat64), "on x86-64 they are one");
+    return fstat(fd, (struct stat *)(void *)status);
+}

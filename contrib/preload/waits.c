@@ -1,0 +1,293 @@
+/* Waits: epoll, poll and select, and the waits of calls that block. Each is a wait of the library, which moves the clock. */
+#include "preload.h"
+
+#include <poll.h>
+#include <stdlib.h>
+#include <sys/select.h>
+#include <sys/time.h>
+
+FORWARD(poll)
+FORWARD(ppoll)
+FORWARD(select)
+FORWARD(pselect)
+
+/* A program that polls goes on until its clock has gone on. So a poll that finds nothing takes a millisecond. */
+static void take_a_while(int64_t found, int64_t timeout) {
+    if (found == 0 && timeout == 0) nippersage_tick(self(), 1);
+}
+
+/* ---- epoll ---- */
+
+static const char *word_of(int op) {
+    switch (op) {
+    case EPOLL_CTL_ADD: return "EPOLL_CTL_ADD";
+    case EPOLL_CTL_DEL: return "EPOLL_CTL_DEL";
+    case EPOLL_CTL_MOD: return "EPOLL_CTL_MOD";
+    default: return "?";
+    }
+}
+
+static bool is_open(int fd) {
+    struct description *description = hold(fd);
+    if (description) let_go(description);
+    return description != NULL;
+}
+
+int epoll_ctl(int epfd, int op, int fd, struct epoll_event *event) {
+    struct epoll_event none = {0};
+    int status = -EBADF;
+    if (!is_simulated(epfd)) return refuse(EBADF, "epoll_ctl(%d): no simulated instance has this descriptor", epfd);
+    if (!is_simulated(fd) && fd >= 0)
+        return refuse(EPERM, "epoll_ctl(%d, %s, %d): a real descriptor in a simulated instance", epfd, word_of(op), fd);
+    if (is_open(epfd) && is_open(fd)) status = nippersage_epoll_ctl(self(), epfd - FIRST, op, fd - FIRST, event);
+    if (!event) event = &none;
+    return (int)ANSWER(status, "epoll_ctl(%d, %s, %d, {events=%s, data=0x%llx})", epfd, word_of(op), fd,
+                       events_text(TEXT, event->events), (unsigned long long)event->data.u64);
+}
+
+static int wait_in(int epfd, struct epoll_event *events, int most, int64_t timeout, const char *call) {
+    struct timespec time = timespec_of(timeout < 0 ? 0 : (uint64_t)timeout);
+    int64_t count = -EBADF;
+    if (is_open(epfd))
+        count = nippersage_epoll_pwait2(self(), epfd - FIRST, events, most, timeout < 0 ? NULL : &time);
+    count = unless_endless(count, call);
+    take_a_while(count, timeout);
+    return (int)ANSWER(count, "%s(%d, %s, %d, %lld)", call, epfd, reports_text(TEXT, events, (int)count), most,
+                       (long long)timeout);
+}
+
+int epoll_wait(int epfd, struct epoll_event *events, int most, int timeout) {
+    return wait_in(epfd, events, most, timeout, "epoll_wait");
+}
+
+int epoll_pwait(int epfd, struct epoll_event *events, int most, int timeout, const sigset_t *mask) {
+    if (mask) return refuse(ENOSYS, "epoll_pwait(%d): masks of signals are not simulated", epfd);
+    return wait_in(epfd, events, most, timeout, "epoll_pwait");
+}
+
+int epoll_pwait2(int epfd, struct epoll_event *events, int most, const struct timespec *timeout, const sigset_t *mask) {
+    int64_t least = timeout ? milliseconds(timeout) : -1;
+    if (mask) return refuse(ENOSYS, "epoll_pwait2(%d): masks of signals are not simulated", epfd);
+    if (timeout && least < 0) return (int)ANSWER(-EINVAL, "epoll_pwait2(%d)", epfd);
+    return wait_in(epfd, events, most, least, "epoll_pwait2");
+}
+
+/* ---- calls that block ---- */
+
+int64_t wait_for_arrival(struct block *block, int fd, uint32_t events, const char *call) {
+    struct epoll_event event = {.events = events | EPOLLET};
+    int status = 0;
+    if (block->instance < 0) {
+        status = make_own_instance();
+        if (status < 0) return status;
+        block->instance = status;
+        status = nippersage_epoll_ctl(self(), block->instance, EPOLL_CTL_ADD, fd - FIRST, &event);
+    }
+    if (status < 0) return status;
+    return unless_endless(nippersage_epoll_wait(self(), block->instance, &event, 1, -1), call);
+}
+
+void end_block(struct block *block) {
+    if (block->instance >= 0) end_own_instance(block->instance);
+}
+
+/* ---- poll and select ---- */
+
+/* What is waited for, and what was found, by the kernel's number. */
+struct sought {
+    uint32_t wanted[NUMBERS];
+    uint32_t shown[NUMBERS];
+    int highest; /* no number above it is wanted */
+    bool has_simulated, has_real, has_closed;
+};
+
+/* Beside the events that are wanted of a number: it is wanted, though perhaps with no event. */
+enum { IS_WANTED = 1 << 16 };
+
+static void want(struct sought *sought, int fd, uint32_t events) {
+    if (fd < 0) return;
+    if (!is_simulated(fd)) {
+        sought->has_real = true;
+        return;
+    }
+    sought->has_simulated = true;
+    if (fd >= FIRST + NUMBERS) {
+        sought->has_closed = true;
+        return;
+    }
+    sought->wanted[fd - FIRST] |= events | IS_WANTED;
+    if (fd - FIRST > sought->highest) sought->highest = fd - FIRST;
+}
+
+static uint32_t shown_by(const struct sought *sought, int fd) {
+    return fd < FIRST + NUMBERS ? sought->shown[fd - FIRST] : POLLNVAL;
+}
+
+/* Registers what is wanted in an instance. What isn't open shows POLLNVAL. */
+static int register_all(struct sought *sought, int instance) {
+    for (int n = 0; n <= sought->highest; n++) {
+        struct epoll_event event = {.events = sought->wanted[n] & ~(uint32_t)IS_WANTED, .data.u64 = (uint64_t)n};
+        int status;
+        if (!(sought->wanted[n] & IS_WANTED)) continue;
+        status = is_open(n + FIRST) ? nippersage_epoll_ctl(self(), instance, EPOLL_CTL_ADD, n, &event) : -EBADF;
+        if (status < 0 && status != -EBADF) return status;
+        if (status == -EBADF) {
+            sought->shown[n] = POLLNVAL;
+            sought->has_closed = true;
+        }
+    }
+    return 0;
+}
+
+static int wait_once(struct sought *sought, int instance, struct epoll_event *events, int64_t timeout) {
+    int64_t limit = sought->has_closed ? 0 : timeout;
+    struct timespec time = timespec_of(limit < 0 ? 0 : (uint64_t)limit);
+    int count = nippersage_epoll_pwait2(self(), instance, events, NUMBERS, limit < 0 ? NULL : &time);
+    for (int i = 0; i < count; i++) sought->shown[events[i].data.u64] = events[i].events;
+    if (!sought->has_closed) take_a_while(count, timeout);
+    return count;
+}
+
+/* Waits until one of them shows something, or the time has passed. 0, or minus an error number. */
+static int seek(struct sought *sought, int64_t timeout, const char *call) {
+    struct epoll_event *events = malloc(NUMBERS * sizeof *events);
+    int instance = events ? make_own_instance() : -ENOMEM, status = instance;
+    if (instance >= 0) {
+        status = register_all(sought, instance);
+        if (status == 0) status = (int)unless_endless(wait_once(sought, instance, events, timeout), call);
+        end_own_instance(instance);
+    }
+    free(events);
+    return status < 0 ? status : 0;
+}
+
+/* The answer to a wait on real descriptors only: while it passed, time went on here, too. */
+static int real_answer(int found, int64_t timeout) {
+    if (found == 0 && timeout > 0) nippersage_tick(self(), (uint64_t)timeout);
+    return found;
+}
+
+static int mixes(const char *call) {
+    return refuse(EPERM, "%s of real and simulated descriptors at once is not simulated", call);
+}
+
+/* Fills in what poll answers. */
+static int put_shown(const struct sought *sought, struct pollfd *files, nfds_t count) {
+    int found = 0;
+    for (nfds_t i = 0; i < count; i++) {
+        uint32_t shown = files[i].fd < 0 ? 0 : shown_by(sought, files[i].fd);
+        files[i].revents = (short)(shown & ((uint32_t)files[i].events | POLLERR | POLLHUP | POLLNVAL));
+        if (files[i].revents != 0) found++;
+    }
+    return found;
+}
+
+static int poll_simulated(struct sought *sought, struct pollfd *files, nfds_t count, int64_t timeout) {
+    int status = 0;
+    if (sought->has_simulated) {
+        status = seek(sought, timeout, "poll");
+    } else {
+        sleep_for(timeout, "poll");
+    }
+    if (status == 0) status = put_shown(sought, files, count);
+    return (int)ANSWER(status, "poll(..., %lu, %lld)", count, (long long)timeout);
+}
+
+static void want_all(struct sought *sought, struct pollfd *files, nfds_t count) {
+    for (nfds_t i = 0; i < count; i++) want(sought, files[i].fd, (uint16_t)files[i].events);
+}
+
+int poll(struct pollfd *files, nfds_t count, int timeout) {
+    struct sought sought = {.highest = -1};
+    want_all(&sought, files, count);
+    if (sought.has_real && sought.has_simulated) return mixes("poll");
+    if (sought.has_real) return real_answer(next_poll()(files, count, timeout), timeout);
+    return poll_simulated(&sought, files, count, timeout);
+}
+
+int ppoll(struct pollfd *files, nfds_t count, const struct timespec *time, const sigset_t *mask) {
+    struct sought sought = {.highest = -1};
+    int64_t timeout = time ? milliseconds(time) : -1;
+    want_all(&sought, files, count);
+    if (sought.has_real && sought.has_simulated) return mixes("ppoll");
+    if (sought.has_real) return real_answer(next_ppoll()(files, count, time, mask), timeout);
+    if (mask) return refuse(ENOSYS, "ppoll: masks of signals are not simulated");
+    if (time && timeout < 0) return (int)ANSWER(-EINVAL, "ppoll(..., %lu)", count);
+    return poll_simulated(&sought, files, count, timeout);
+}
+
+int __poll_chk(struct pollfd *files, nfds_t count, int timeout, size_t room);
+int __poll_chk(struct pollfd *files, nfds_t count, int timeout, size_t room) {
+    if (count > room / sizeof *files) abort();
+    return poll(files, count, timeout);
+}
+
+/* The three sets of select, with the events that each waits for and those that make a descriptor a member of the answer. */
+struct sets {
+    fd_set *of[3];
+};
+static const uint32_t waits_for[3] = {EPOLLIN, EPOLLOUT, EPOLLPRI};
+static const uint32_t answers_to[3] = {EPOLLIN | EPOLLHUP | EPOLLERR, EPOLLOUT | EPOLLERR, EPOLLPRI};
+
+static void want_sets(struct sought *sought, int most, const struct sets *sets) {
+    for (int fd = 0; fd < most && fd < FD_SETSIZE; fd++)
+        for (int i = 0; i < 3; i++)
+            if (sets->of[i] && FD_ISSET(fd, sets->of[i])) want(sought, fd, waits_for[i]);
+}
+
+static int put_sets(const struct sought *sought, int most, const struct sets *sets) {
+    int found = 0;
+    for (int fd = 0; fd < most && fd < FD_SETSIZE; fd++)
+        for (int i = 0; i < 3; i++) {
+            if (!sets->of[i] || !FD_ISSET(fd, sets->of[i])) continue;
+            if (shown_by(sought, fd) & answers_to[i]) {
+                found++;
+            } else {
+                FD_CLR(fd, sets->of[i]);
+            }
+        }
+    return found;
+}
+
+static int select_simulated(struct sought *sought, int most, const struct sets *sets, int64_t timeout) {
+    int status = 0;
+    if (sought->has_simulated) {
+        status = seek(sought, timeout, "select");
+    } else {
+        sleep_for(timeout, "select");
+    }
+    if (status == 0 && sought->has_closed) status = -EBADF;
+    if (status == 0) status = put_sets(sought, most, sets);
+    return (int)ANSWER(status, "select(%d, ..., %lld)", most, (long long)timeout);
+}
+
+/* As Linux does, tells in *time how much of it is left. */
+int select(int most, fd_set *reads, fd_set *writes, fd_set *excepts, struct timeval *time) {
+    struct sets sets = {{reads, writes, excepts}};
+    struct sought sought = {.highest = -1};
+    struct timespec given = {time ? time->tv_sec : 0, time ? time->tv_usec * 1000 : 0};
+    int64_t timeout = time ? milliseconds(&given) : -1;
+    uint64_t end = moment_now() + (uint64_t)(timeout < 0 ? 0 : timeout), now;
+    int found;
+    want_sets(&sought, most, &sets);
+    if (sought.has_real && sought.has_simulated) return mixes("select");
+    if (sought.has_real) return real_answer(next_select()(most, reads, writes, excepts, time), timeout);
+    if (time && timeout < 0) return (int)ANSWER(-EINVAL, "select(%d)", most);
+    found = select_simulated(&sought, most, &sets, timeout);
+    now = moment_now();
+    given = timespec_of(now < end ? end - now : 0);
+    if (time) *time = (struct timeval){given.tv_sec, given.tv_nsec / 1000};
+    return found;
+}
+
+int pselect(int most, fd_set *reads, fd_set *writes, fd_set *excepts, const struct timespec *time, const sigset_t *mask) {
+    struct sets sets = {{reads, writes, excepts}};
+    struct sought sought = {.highest = -1};
+    int64_t timeout = time ? milliseconds(time) : -1;
+    want_sets(&sought, most, &sets);
+    if (sought.has_real && sought.has_simulated) return mixes("pselect");
+    if (sought.has_real) return real_answer(next_pselect()(most, reads, writes, excepts, time, mask), timeout);
+    if (mask) return refuse(ENOSYS, "pselect: masks of signals are not simulated");
+    if (time && timeout < 0) return (int)ANSWER(-EINVAL, "pselect(%d)", most);
+    return select_simulated(&sought, most, &sets, timeout);
+}
