@@ -21,43 +21,55 @@ FORWARD(getsockname)
 FORWARD(getpeername)
 FORWARD(getsockopt)
 
-/* What a call moves: one buffer of count bytes, or count vectors. */
-struct buffer {
-    void *bytes;
-    const struct iovec *vectors;
-    size_t count;
-};
+/* So much goes in one event, for epaudit reads lines of at most 65,536 bytes, two for each byte. */
+enum { MOST_AT_ONCE = 16384 };
 
-static ssize_t read_once(int fd, const struct buffer *to) {
-    return to->vectors ? nippersage_readv(self(), fd - FIRST, to->vectors, (int)to->count)
-                       : nippersage_read(self(), fd - FIRST, to->bytes, to->count);
+static size_t part_of(size_t count) { return count < MOST_AT_ONCE ? count : MOST_AT_ONCE; }
+
+/* Reads what is there. */
+static ssize_t read_some(int fd, struct description *description, char *bytes, size_t count) {
+    size_t done = 0, part;
+    ssize_t got;
+    do {
+        part = part_of(count - done);
+        got = nippersage_read(self(), fd - FIRST, bytes + done, part);
+        if (got > 0) done += (size_t)got;
+    } while (got == MOST_AT_ONCE && done < count);
+    atomic_fetch_sub(&description->unread, (long)done);
+    return done > 0 ? (ssize_t)done : got;
 }
 
-/* Reads at once what is there; waits first where nothing is and `waits` holds. */
-static ssize_t take(int fd, const struct buffer *to, bool waits, const char *call) {
+/* Writes what has room. */
+static ssize_t write_some(int fd, struct description *description, const char *bytes, size_t count) {
+    size_t done = 0, part;
+    ssize_t taken;
+    do {
+        part = part_of(count - done);
+        taken = nippersage_write(self(), fd - FIRST, bytes + done, part);
+        if (taken > 0) done += (size_t)taken;
+    } while (taken == MOST_AT_ONCE && done < count);
+    count_written(description, (ssize_t)done);
+    return done > 0 ? (ssize_t)done : taken;
+}
+
+/* Reads; where nothing is there and `waits` holds, waits first. */
+static ssize_t take(int fd, void *bytes, size_t count, bool waits, const char *call) {
     struct description *description = hold(fd);
     struct block block = {-1};
     ssize_t got;
     if (!description) return -EBADF;
     waits = waits && !description->is_nonblocking;
-    got = read_once(fd, to);
+    got = read_some(fd, description, bytes, count);
     while (got == -EAGAIN && waits) {
         int64_t status = wait_for_arrival(&block, fd, EPOLLIN, call);
-        got = status < 0 ? status : read_once(fd, to);
+        got = status < 0 ? status : read_some(fd, description, bytes, count);
     }
-    if (got > 0) atomic_fetch_sub(&description->unread, got);
     end_block(&block);
     let_go(description);
     return got;
 }
 
-static ssize_t write_once(int fd, struct description *description, const void *bytes, size_t count) {
-    ssize_t taken = nippersage_write(self(), fd - FIRST, bytes, count);
-    if (taken > 0) count_written(description, taken);
-    return taken;
-}
-
-/* Writes what has room; where `waits` holds, waits until all has been written. */
+/* Writes; where `waits` holds, waits until all has been written. */
 static ssize_t give(int fd, const char *bytes, size_t count, bool waits, const char *call) {
     struct description *description = hold(fd);
     struct block block = {-1};
@@ -65,11 +77,11 @@ static ssize_t give(int fd, const char *bytes, size_t count, bool waits, const c
     ssize_t taken;
     if (!description) return -EBADF;
     waits = waits && !description->is_nonblocking;
-    taken = write_once(fd, description, bytes, count);
+    taken = write_some(fd, description, bytes, count);
     if (taken > 0) done = (size_t)taken;
-    while (waits && (taken == -EAGAIN || (taken >= 0 && done < count && description->kind != EVENTFD))) {
+    while (waits && (taken == -EAGAIN || (taken > 0 && done < count && description->kind != EVENTFD))) {
         int64_t status = taken == -EAGAIN ? wait_for_arrival(&block, fd, EPOLLOUT, call) : 0;
-        taken = status < 0 ? status : write_once(fd, description, bytes + done, count - done);
+        taken = status < 0 ? status : write_some(fd, description, bytes + done, count - done);
         if (taken > 0) done += (size_t)taken;
     }
     end_block(&block);
@@ -77,24 +89,41 @@ static ssize_t give(int fd, const char *bytes, size_t count, bool waits, const c
     return done > 0 ? (ssize_t)done : taken;
 }
 
-/* Vectors are written as one buffer: so a write of at most PIPE_BUF bytes to a pipe is whole. */
-static ssize_t give_vectors(int fd, const struct iovec *vectors, int count, bool waits, const char *call) {
-    size_t size = 0, done = 0;
-    ssize_t taken;
-    char *bytes;
+/* How many bytes vectors have, or minus an error number. */
+static ssize_t bytes_in(const struct iovec *vectors, int count) {
+    size_t sum = 0;
     if (count < 0 || count > IOV_MAX) return -EINVAL;
     for (int i = 0; i < count; i++) {
-        if (vectors[i].iov_len > (size_t)SSIZE_MAX - size) return -EINVAL;
-        size += vectors[i].iov_len;
+        if (vectors[i].iov_len > (size_t)SSIZE_MAX - sum) return -EINVAL;
+        sum += vectors[i].iov_len;
     }
-    bytes = malloc(size > 0 ? size : 1);
-    if (!bytes) return -ENOMEM;
-    for (int i = 0; i < count; i++)
-        if (vectors[i].iov_len > 0) {
-            memcpy(bytes + done, vectors[i].iov_base, vectors[i].iov_len);
-            done += vectors[i].iov_len;
-        }
-    taken = give(fd, bytes, size, waits, call);
+    return (ssize_t)sum;
+}
+
+/* Vectors are one buffer: so a write of at most PIPE_BUF bytes to a pipe is whole. */
+static ssize_t take_vectors(int fd, const struct iovec *vectors, int count, bool waits, const char *call) {
+    ssize_t size = bytes_in(vectors, count), got, done = 0;
+    char *bytes = size < 0 ? NULL : malloc(size > 0 ? (size_t)size : 1);
+    if (!bytes) return size < 0 ? size : -ENOMEM;
+    got = take(fd, bytes, (size_t)size, waits, call);
+    for (int i = 0; done < got; i++) {
+        size_t part = (size_t)(got - done) < vectors[i].iov_len ? (size_t)(got - done) : vectors[i].iov_len;
+        if (part > 0) memcpy(vectors[i].iov_base, bytes + done, part);
+        done += (ssize_t)part;
+    }
+    free(bytes);
+    return got;
+}
+
+static ssize_t give_vectors(int fd, const struct iovec *vectors, int count, bool waits, const char *call) {
+    ssize_t size = bytes_in(vectors, count), taken;
+    char *bytes = size < 0 ? NULL : malloc(size > 0 ? (size_t)size : 1), *next = bytes;
+    if (!bytes) return size < 0 ? size : -ENOMEM;
+    for (int i = 0; i < count; i++) {
+        if (vectors[i].iov_len > 0) memcpy(next, vectors[i].iov_base, vectors[i].iov_len);
+        next += vectors[i].iov_len;
+    }
+    taken = give(fd, bytes, (size_t)size, waits, call);
     free(bytes);
     return taken;
 }
@@ -102,10 +131,9 @@ static ssize_t give_vectors(int fd, const struct iovec *vectors, int count, bool
 /* ---- files ---- */
 
 ssize_t read(int fd, void *bytes, size_t count) {
-    struct buffer to = {.bytes = bytes, .count = count};
     ssize_t got;
     if (!is_simulated(fd)) return next_read()(fd, bytes, count);
-    got = take(fd, &to, true, "read");
+    got = take(fd, bytes, count, true, "read");
     return ANSWER(got, "read(%d, %s, %zu)", fd, bytes_text(TEXT, bytes, got), count);
 }
 
@@ -117,10 +145,9 @@ ssize_t write(int fd, const void *bytes, size_t count) {
 }
 
 ssize_t readv(int fd, const struct iovec *vectors, int count) {
-    struct buffer to = {.vectors = vectors, .count = (size_t)count};
     ssize_t got;
     if (!is_simulated(fd)) return next_readv()(fd, vectors, count);
-    got = take(fd, &to, true, "readv");
+    got = take_vectors(fd, vectors, count, true, "readv");
     return ANSWER(got, "readv(%d, ..., %d)", fd, count);
 }
 
@@ -156,12 +183,11 @@ static int not_a_socket(int fd) {
 static bool has_flags(int flags) { return (flags & ~(MSG_NOSIGNAL | MSG_DONTWAIT | MSG_CMSG_CLOEXEC)) == 0; }
 
 ssize_t recvfrom(int fd, void *bytes, size_t count, int flags, struct sockaddr *from, socklen_t *size) {
-    struct buffer to = {.bytes = bytes, .count = count};
     ssize_t got;
     if (!is_simulated(fd)) return next_recvfrom()(fd, bytes, count, flags, from, size);
     if (!has_flags(flags)) return refuse(EOPNOTSUPP, "recv(%d) with flags %#x is not simulated", fd, flags);
     got = not_a_socket(fd);
-    if (got == 0) got = take(fd, &to, !(flags & MSG_DONTWAIT), "recv");
+    if (got == 0) got = take(fd, bytes, count, !(flags & MSG_DONTWAIT), "recv");
     if (got >= 0 && from && size) *size = 0;
     return ANSWER(got, "recv(%d, %s, %zu, %#x)", fd, bytes_text(TEXT, bytes, got), count, flags);
 }
@@ -186,12 +212,12 @@ ssize_t sendto(int fd, const void *bytes, size_t count, int flags, const struct 
 ssize_t send(int fd, const void *bytes, size_t count, int flags) { return sendto(fd, bytes, count, flags, NULL, 0); }
 
 ssize_t recvmsg(int fd, struct msghdr *message, int flags) {
-    struct buffer to = {.vectors = message->msg_iov, .count = message->msg_iovlen};
     ssize_t got;
     if (!is_simulated(fd)) return next_recvmsg()(fd, message, flags);
     if (!has_flags(flags)) return refuse(EOPNOTSUPP, "recvmsg(%d) with flags %#x is not simulated", fd, flags);
     got = not_a_socket(fd);
-    if (got == 0) got = take(fd, &to, !(flags & MSG_DONTWAIT), "recvmsg");
+    if (got == 0)
+        got = take_vectors(fd, message->msg_iov, (int)message->msg_iovlen, !(flags & MSG_DONTWAIT), "recvmsg");
     if (got >= 0) message->msg_namelen = message->msg_controllen = message->msg_flags = 0;
     return ANSWER(got, "recvmsg(%d, ..., %#x)", fd, flags);
 }

@@ -1,0 +1,157 @@
+/* Calls that block, over two threads; poll, select and sleeps; and what descriptors tell of themselves. */
+#include "trace.h"
+
+#include <errno.h>
+#include <fcntl.h>
+#include <poll.h>
+#include <stdlib.h>
+#include <string.h>
+#include <sys/eventfd.h>
+#include <sys/ioctl.h>
+#include <sys/select.h>
+#include <sys/socket.h>
+#include <sys/stat.h>
+#include <sys/timerfd.h>
+#include <sys/uio.h>
+#include <unistd.h>
+
+enum { MANY = 300000 };
+
+static int ends[2], sides[2], counter;
+
+static void *write_late(void *nothing) {
+    usleep(200000);
+    if (write(ends[1], "late", 4) != 4) trace("not written");
+    usleep(200000);
+    if (send(sides[1], "sent", 4, MSG_NOSIGNAL) != 4) trace("not sent");
+    usleep(200000);
+    eventfd_write(counter, 7);
+    usleep(200000);
+    close(ends[1]);
+    return nothing;
+}
+
+static void reads(void) {
+    pthread_t thread;
+    char bytes[64];
+    eventfd_t value = 0;
+    ssize_t count;
+    pthread_create(&thread, NULL, write_late, NULL);
+    count = read(ends[0], bytes, sizeof bytes);
+    trace("read %zd: %.*s", count, (int)count, bytes);
+    count = recv(sides[0], bytes, sizeof bytes, 0);
+    trace("recv %zd: %.*s", count, (int)count, bytes);
+    trace("eventfd: %d, %llu", eventfd_read(counter, &value), (unsigned long long)value);
+    trace("end: %zd", read(ends[0], bytes, sizeof bytes));
+    pthread_join(thread, NULL);
+    close(ends[0]);
+}
+
+static void *write_much(void *nothing) {
+    char *bytes = malloc(MANY);
+    for (int i = 0; i < MANY; i++) bytes[i] = (char)i;
+    trace("written %zd", write(ends[1], bytes, MANY));
+    close(ends[1]);
+    free(bytes);
+    return nothing;
+}
+
+/* More than a pipe holds comes through, in order. */
+static void much(void) {
+    pthread_t thread;
+    char bytes[5000];
+    ssize_t count;
+    int sum = 0, wrong = 0;
+    if (pipe(ends) != 0) trace("no pipe");
+    pthread_create(&thread, NULL, write_much, NULL);
+    usleep(100000);
+    while ((count = read(ends[0], bytes, sizeof bytes)) > 0) {
+        for (ssize_t i = 0; i < count; i++) wrong += bytes[i] != (char)(sum + i);
+        sum += (int)count;
+    }
+    pthread_join(thread, NULL);
+    trace("%d bytes, %d of them wrong", sum, wrong);
+    close(ends[0]);
+}
+
+static void polls(void) {
+    struct pollfd files[3] = {{sides[0], POLLIN, 0}, {sides[1], POLLIN | POLLOUT, 0}, {-1, POLLIN, 0}};
+    int found = poll(files, 1, 100);
+    trace("poll: %d, %#x", found, (unsigned int)files[0].revents);
+    trace("send: %zd", send(sides[1], "x", 1, MSG_DONTWAIT));
+    found = poll(files, 3, -1);
+    trace("poll: %d, %#x %#x %#x", found, (unsigned int)files[0].revents, (unsigned int)files[1].revents,
+          (unsigned int)files[2].revents);
+    trace("nothing: %d", poll(NULL, 0, 100));
+}
+
+static void selects(void) {
+    struct timeval time = {0, 100000};
+    fd_set reads, writes;
+    int found;
+    FD_ZERO(&reads);
+    FD_ZERO(&writes);
+    FD_SET(counter, &reads);
+    found = select(counter + 1, &reads, NULL, NULL, &time);
+    trace("select: %d, %d, left %ld", found, FD_ISSET(counter, &reads), (long)time.tv_usec);
+    FD_SET(sides[0], &reads);
+    FD_SET(sides[1], &writes);
+    FD_SET(counter, &reads);
+    found = select(sides[1] + counter, &reads, &writes, NULL, NULL);
+    trace("select: %d, %d %d %d", found, FD_ISSET(sides[0], &reads), FD_ISSET(sides[1], &writes), FD_ISSET(counter, &reads));
+}
+
+static void flags(void) {
+    int copy, waiting = -1, on = 1;
+    char bytes[8];
+    struct iovec two[2] = {{"ab", 2}, {"cd", 2}};
+    struct stat status;
+    trace("getfl: %#x", (unsigned int)fcntl(counter, F_GETFL) & (O_ACCMODE | O_NONBLOCK));
+    trace("setfl: %d", fcntl(counter, F_SETFL, O_NONBLOCK));
+    copy = dup(counter);
+    trace("of a copy: %#x", (unsigned int)fcntl(copy, F_GETFL) & (O_ACCMODE | O_NONBLOCK));
+    trace("read: %zd, %d", read(copy, bytes, sizeof bytes), errno);
+    trace("close-on-exec: %d %d %d", fcntl(copy, F_GETFD), fcntl(copy, F_SETFD, FD_CLOEXEC), fcntl(copy, F_GETFD));
+    trace("writev: %zd", writev(sides[1], two, 2));
+    trace("fionread: %d, %d", ioctl(sides[0], FIONREAD, &waiting), waiting);
+    trace("readv: %zd", readv(sides[0], two, 0));
+    trace("fionbio: %d", ioctl(sides[0], FIONBIO, &on));
+    trace("read: %zd", read(sides[0], bytes, sizeof bytes));
+    trace("read: %zd, %d", read(sides[0], bytes, sizeof bytes), errno);
+    trace("shutdown: %d", shutdown(sides[1], SHUT_WR));
+    trace("end: %zd", read(sides[0], bytes, sizeof bytes));
+    trace("fstat: %d, %o", fstat(sides[0], &status), status.st_mode & S_IFMT);
+    trace("lseek: %ld, %d", (long)lseek(sides[0], 0, SEEK_CUR), errno);
+    trace("dup2: %d", dup2(copy, counter) == counter);
+    trace("close: %d %d %d", close(copy), close(copy), errno);
+}
+
+static void sleeps(void) {
+    struct timespec time = {0, 100000000};
+    struct itimerspec value = {.it_value = {0, 100000000}};
+    uint64_t expired = 0;
+    int timer = timerfd_create(CLOCK_MONOTONIC, 0);
+    trace("nanosleep: %d", nanosleep(&time, NULL));
+    time.tv_nsec = -1;
+    trace("nanosleep: %d, %d", nanosleep(&time, NULL), errno);
+    trace("sleep: %u", sleep(1));
+    timerfd_settime(timer, 0, &value, NULL);
+    trace("timer: %zd, %llu", read(timer, &expired, sizeof expired), (unsigned long long)expired);
+    close(timer);
+}
+
+int main(void) {
+    trace("pipe: %d", pipe(ends));
+    trace("socketpair: %d", socketpair(AF_UNIX, SOCK_STREAM | SOCK_CLOEXEC, 0, sides));
+    counter = eventfd(0, 0);
+    reads();
+    much();
+    polls();
+    selects();
+    flags();
+    sleeps();
+    close(counter);
+    close(sides[0]);
+    close(sides[1]);
+    return 0;
+}

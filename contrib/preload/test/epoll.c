@@ -1,0 +1,116 @@
+/* epoll by its own calls: a chain of EPOLLONESHOT registrations, edge-triggered ones, a nested instance, timers by both clocks. */
+#include "trace.h"
+
+#include <errno.h>
+#include <fcntl.h>
+#include <string.h>
+#include <sys/epoll.h>
+#include <sys/eventfd.h>
+#include <sys/timerfd.h>
+#include <unistd.h>
+
+enum { LINKS = 5 };
+
+static int control(int instance, int op, int fd, uint32_t events) {
+    struct epoll_event event = {.events = events, .data.fd = fd};
+    return epoll_ctl(instance, op, fd, &event) == 0 ? 0 : -errno;
+}
+
+static void wait_once(int instance, int timeout) {
+    struct epoll_event events[8];
+    int count = epoll_wait(instance, events, 8, timeout);
+    trace("wait: %d, events %#x", count, count > 0 ? events[0].events : 0);
+}
+
+/* Each link is armed again after its report, and hands its count to the next one. */
+static void chain(void) {
+    int instance = epoll_create1(EPOLL_CLOEXEC), links[LINKS];
+    eventfd_t value = 1;
+    for (int i = 0; i < LINKS; i++) {
+        links[i] = eventfd(0, EFD_NONBLOCK);
+        trace("add: %d", control(instance, EPOLL_CTL_ADD, links[i], EPOLLIN | EPOLLONESHOT));
+    }
+    eventfd_write(links[0], value);
+    for (int turn = 0; turn < 2 * LINKS; turn++) {
+        struct epoll_event event;
+        int i = 0, count = epoll_wait(instance, &event, 1, 100);
+        while (i < LINKS && (count != 1 || links[i] != event.data.fd)) i++;
+        trace("turn %d: %d from link %d", turn, count, i);
+        if (i == LINKS) break;
+        trace("read: %d, %llu", eventfd_read(links[i], &value), (unsigned long long)value);
+        trace("arm: %d", control(instance, EPOLL_CTL_MOD, links[i], EPOLLIN | EPOLLONESHOT));
+        eventfd_write(links[(i + 1) % LINKS], value + 1);
+    }
+    wait_once(instance, 0);
+    for (int i = 0; i < LINKS; i++) close(links[i]);
+    close(instance);
+}
+
+static void edges(void) {
+    int instance = epoll_create1(0), ends[2];
+    trace("pipe: %d", pipe2(ends, O_NONBLOCK | O_CLOEXEC));
+    trace("add: %d", control(instance, EPOLL_CTL_ADD, ends[0], EPOLLIN | EPOLLET));
+    trace("write: %zd", write(ends[1], "abc", 3));
+    wait_once(instance, 100);
+    wait_once(instance, 100);
+    trace("write: %zd", write(ends[1], "d", 1));
+    wait_once(instance, 100);
+    close(ends[1]);
+    wait_once(instance, 100);
+    close(ends[0]);
+    wait_once(instance, 100);
+    close(instance);
+}
+
+static void nests(void) {
+    int inner = epoll_create1(0), outer = epoll_create1(0), counter = eventfd(0, 0);
+    trace("add: %d", control(inner, EPOLL_CTL_ADD, counter, EPOLLIN));
+    trace("add: %d", control(outer, EPOLL_CTL_ADD, inner, EPOLLIN));
+    trace("itself: %d", control(outer, EPOLL_CTL_ADD, outer, EPOLLIN));
+    trace("twice: %d", control(outer, EPOLL_CTL_ADD, inner, EPOLLIN));
+    trace("loop: %d", control(inner, EPOLL_CTL_ADD, outer, EPOLLIN));
+    wait_once(outer, 100);
+    eventfd_write(counter, 5);
+    wait_once(outer, 100);
+    trace("delete: %d", control(inner, EPOLL_CTL_DEL, counter, 0));
+    trace("again: %d", control(inner, EPOLL_CTL_DEL, counter, 0));
+    wait_once(outer, 100);
+    close(counter);
+    close(inner);
+    close(outer);
+}
+
+/* A timer that is set to a moment of a clock, half a second from now. */
+static void timer(int clock) {
+    int instance = epoll_create1(0), fd = timerfd_create(clock, TFD_NONBLOCK);
+    struct itimerspec value = {.it_interval = {0, 250000000}};
+    struct timespec limit = {2, 999999};
+    struct epoll_event event;
+    uint64_t expired = 0;
+    clock_gettime(clock, &value.it_value);
+    value.it_value.tv_nsec += 500000000;
+    if (value.it_value.tv_nsec >= 1000000000) {
+        value.it_value.tv_sec++;
+        value.it_value.tv_nsec -= 1000000000;
+    }
+    trace("add: %d", control(instance, EPOLL_CTL_ADD, fd, EPOLLIN));
+    trace("settime: %d", timerfd_settime(fd, TFD_TIMER_ABSTIME, &value, NULL));
+    for (int i = 0; i < 3; i++) {
+        trace("pwait2: %d", epoll_pwait2(instance, &event, 1, &limit, NULL));
+        trace("read: %zd, %llu", read(fd, &expired, sizeof expired), (unsigned long long)expired);
+    }
+    trace("disarm: %d", timerfd_settime(fd, 0, &(struct itimerspec){.it_value = {0, 0}}, NULL));
+    wait_once(instance, 300);
+    close(fd);
+    close(instance);
+}
+
+int main(void) {
+    chain();
+    edges();
+    nests();
+    timer(CLOCK_MONOTONIC);
+    timer(CLOCK_REALTIME);
+    trace("close: %d, %d", close(-1), errno);
+    return 0;
+}
