@@ -78,7 +78,8 @@ int clock_nanosleep(clockid_t clock, int flags, const struct timespec *time, str
         count = count > now ? count - now : 0;
     }
     if (count > 0) sleep_for(count, "clock_nanosleep");
-    ANSWER(0, "clock_nanosleep(%d, %#x, {tv_sec=%lld, tv_nsec=%ld})", clock, flags, (long long)time->tv_sec, time->tv_nsec);
+    ANSWER(0, "clock_nanosleep(%s, %s, %s)", clock_text(TEXT, clock), flags & TIMER_ABSTIME ? "TIMER_ABSTIME" : "0",
+           time_text(TEXT, time));
     return 0;
 }
 
@@ -124,14 +125,13 @@ int timerfd_settime(int fd, int flags, const struct itimerspec *value, struct it
         status = nippersage_timerfd_settime(self(), fd - FIRST, flags & ~TFD_TIMER_CANCEL_ON_SET, &own, before);
     }
     if (description) let_go(description);
-    return (int)ANSWER(status, "timerfd_settime(%d, %#x, {it_interval={%lld, %ld}, it_value={%lld, %ld}})", fd, flags,
-                       value ? (long long)value->it_interval.tv_sec : 0, value ? value->it_interval.tv_nsec : 0,
-                       value ? (long long)value->it_value.tv_sec : 0, value ? value->it_value.tv_nsec : 0);
+    return (int)ANSWER(status, "timerfd_settime(%d, %s, %s, %s)", fd, flags & TFD_TIMER_ABSTIME ? "TFD_TIMER_ABSTIME" : "0",
+                       setting_text(TEXT, value), setting_text(TEXT, status < 0 ? NULL : before));
 }
 
 int timerfd_gettime(int fd, struct itimerspec *now) {
     struct description *description = hold(fd);
     int status = description ? nippersage_timerfd_gettime(self(), fd - FIRST, now) : -EBADF;
     if (description) let_go(description);
-    return (int)ANSWER(status, "timerfd_gettime(%d)", fd);
+    return (int)ANSWER(status, "timerfd_gettime(%d, %s)", fd, setting_text(TEXT, status < 0 ? NULL : now));
 }

@@ -66,12 +66,19 @@ long logged_answer(long result, const char *format, ...) {
 const char *bytes_text(struct text *room, const void *bytes, ssize_t count) {
     static const ssize_t most = 32;
     const unsigned char *from = bytes;
+    if (count < 0) {
+        add(room, "%p", bytes);
+        return room->of;
+    }
     add(room, "\"");
     for (ssize_t i = 0; i < count && i < most; i++)
         if (from[i] == '\n') {
             add(room, "\\n");
-        } else if (from[i] < ' ' || from[i] > '~' || from[i] == '"' || from[i] == '\\') {
-            add(room, "\\%03o", from[i]);
+        } else if (from[i] == '"' || from[i] == '\\') {
+            add(room, "\\%c", from[i]);
+        } else if (from[i] < ' ' || from[i] > '~') {
+            bool is_digit_next = i + 1 < count && from[i + 1] >= '0' && from[i + 1] <= '9';
+            add(room, is_digit_next ? "\\%03o" : "\\%o", from[i]);
         } else {
             add(room, "%c", from[i]);
         }
@@ -97,11 +104,17 @@ static const char *names_text(struct text *room, uint32_t bits, const char *pref
     return room->of;
 }
 
-const char *events_text(struct text *room, uint32_t events) {
+const char *event_text(struct text *room, const struct epoll_event *event) {
     static const struct name names[] = {{EPOLLIN, "IN"}, {EPOLLPRI, "PRI"}, {EPOLLOUT, "OUT"}, {EPOLLERR, "ERR"},
         {EPOLLHUP, "HUP"}, {EPOLLRDHUP, "RDHUP"}, {EPOLLEXCLUSIVE, "EXCLUSIVE"}, {EPOLLWAKEUP, "WAKEUP"},
         {EPOLLONESHOT, "ONESHOT"}, {EPOLLET, "ET"}, {0, NULL}};
-    return names_text(room, events, "EPOLL", names);
+    if (event) {
+        add(room, "{events=%s, data={u32=%u, u64=%llu}}", names_text(TEXT, event->events, "EPOLL", names), event->data.u32,
+            (unsigned long long)event->data.u64);
+    } else {
+        add(room, "NULL");
+    }
+    return room->of;
 }
 
 const char *flags_text(struct text *room, const char *prefix, int flags) {
@@ -113,8 +126,32 @@ const char *reports_text(struct text *room, const struct epoll_event *events, in
     static const int most = 4;
     add(room, "[");
     for (int i = 0; i < count && i < most; i++)
-        add(room, "%s{events=%s, data=0x%llx}", i == 0 ? "" : ", ", events_text(TEXT, events[i].events),
-            (unsigned long long)events[i].data.u64);
+        add(room, "%s%s", i == 0 ? "" : ", ", event_text(TEXT, &events[i]));
     add(room, count > most ? ", ...]" : "]");
+    return room->of;
+}
+
+const char *clock_text(struct text *room, clockid_t clock) {
+    static const char *const names[] = {"REALTIME", "MONOTONIC", "PROCESS_CPUTIME_ID", "THREAD_CPUTIME_ID", "MONOTONIC_RAW",
+        "REALTIME_COARSE", "MONOTONIC_COARSE", "BOOTTIME"};
+    if (clock >= 0 && (size_t)clock < sizeof names / sizeof *names) {
+        add(room, "CLOCK_%s", names[clock]);
+    } else {
+        add(room, "%d", clock);
+    }
+    return room->of;
+}
+
+const char *time_text(struct text *room, const struct timespec *time) {
+    add(room, "{tv_sec=%lld, tv_nsec=%ld}", (long long)time->tv_sec, time->tv_nsec);
+    return room->of;
+}
+
+const char *setting_text(struct text *room, const struct itimerspec *setting) {
+    if (setting) {
+        add(room, "{it_interval=%s, it_value=%s}", time_text(TEXT, &setting->it_interval), time_text(TEXT, &setting->it_value));
+    } else {
+        add(room, "NULL");
+    }
     return room->of;
 }

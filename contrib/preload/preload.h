@@ -63,8 +63,12 @@ struct text {
     char of[256];
 };
 #define TEXT (&(struct text){""})
+/* As strace writes a buffer: the first of its bytes, or its address if count is below 0. */
 const char *bytes_text(struct text *room, const void *bytes, ssize_t count);
-const char *events_text(struct text *room, uint32_t events);
+const char *event_text(struct text *room, const struct epoll_event *event);
+const char *clock_text(struct text *room, clockid_t clock);
+const char *time_text(struct text *room, const struct timespec *time);
+const char *setting_text(struct text *room, const struct itimerspec *setting);
 const char *flags_text(struct text *room, const char *prefix, int flags);
 const char *reports_text(struct text *room, const struct epoll_event *events, int count);
 

@@ -158,7 +158,7 @@ int timerfd_create(clockid_t clock, int flags) {
     pthread_mutex_lock(&lock);
     made = put_new(nippersage_timerfd_create(self(), kept, flags), like, flags);
     pthread_mutex_unlock(&lock);
-    return (int)ANSWER(made, "timerfd_create(%d, %s)", clock, flags_text(TEXT, "TFD_", flags));
+    return (int)ANSWER(made, "timerfd_create(%s, %s)", clock_text(TEXT, clock), flags_text(TEXT, "TFD_", flags));
 }
 
 int pipe2(int ends[2], int flags) {
@@ -182,8 +182,9 @@ int socketpair(int domain, int type, int protocol, int ends[2]) {
     pthread_mutex_lock(&lock);
     status = put_pair(nippersage_socketpair(self(), domain, type, protocol, numbers), numbers, SOCKET, accesses, flags, ends);
     pthread_mutex_unlock(&lock);
-    return (int)ANSWER(status, "socketpair(AF_UNIX, SOCK_STREAM|%s, %d, [%d, %d])", flags_text(TEXT, "SOCK_", flags),
-                       protocol, status < 0 ? -1 : ends[0], status < 0 ? -1 : ends[1]);
+    return (int)ANSWER(status, "socketpair(AF_UNIX, SOCK_STREAM%s%s, %d, [%d, %d])", flags ? "|" : "",
+                       flags ? flags_text(TEXT, "SOCK_", flags) : "", protocol, status < 0 ? -1 : ends[0],
+                       status < 0 ? -1 : ends[1]);
 }
 
 /* ---- copies and closes ---- */

@@ -34,15 +34,13 @@ static bool is_open(int fd) {
 }
 
 int epoll_ctl(int epfd, int op, int fd, struct epoll_event *event) {
-    struct epoll_event none = {0};
     int status = -EBADF;
     if (!is_simulated(epfd)) return refuse(EBADF, "epoll_ctl(%d): no simulated instance has this descriptor", epfd);
     if (!is_simulated(fd) && fd >= 0)
         return refuse(EPERM, "epoll_ctl(%d, %s, %d): a real descriptor in a simulated instance", epfd, word_of(op), fd);
     if (is_open(epfd) && is_open(fd)) status = nippersage_epoll_ctl(self(), epfd - FIRST, op, fd - FIRST, event);
-    if (!event) event = &none;
-    return (int)ANSWER(status, "epoll_ctl(%d, %s, %d, {events=%s, data=0x%llx})", epfd, word_of(op), fd,
-                       events_text(TEXT, event->events), (unsigned long long)event->data.u64);
+    return (int)ANSWER(status, "epoll_ctl(%d, %s, %d, %s)", epfd, word_of(op), fd,
+                       event_text(TEXT, op == EPOLL_CTL_DEL ? NULL : event));
 }
 
 static int wait_in(int epfd, struct epoll_event *events, int most, int64_t timeout, const char *call) {

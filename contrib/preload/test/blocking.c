@@ -1,7 +1,6 @@
 /* Calls that block, over two threads; poll, select and sleeps; and what descriptors tell of themselves. */
 #include "trace.h"
 
-#include <errno.h>
 #include <fcntl.h>
 #include <poll.h>
 #include <stdlib.h>
@@ -41,7 +40,8 @@ static void reads(void) {
     trace("read %zd: %.*s", count, (int)count, bytes);
     count = recv(sides[0], bytes, sizeof bytes, 0);
     trace("recv %zd: %.*s", count, (int)count, bytes);
-    trace("eventfd: %d, %llu", eventfd_read(counter, &value), (unsigned long long)value);
+    trace("eventfd: %ld", outcome(eventfd_read(counter, &value)));
+    trace("count: %llu", (unsigned long long)value);
     trace("end: %zd", read(ends[0], bytes, sizeof bytes));
     pthread_join(thread, NULL);
     close(ends[0]);
@@ -103,27 +103,32 @@ static void selects(void) {
 
 static void flags(void) {
     int copy, waiting = -1, on = 1;
-    char bytes[8];
-    struct iovec two[2] = {{"ab", 2}, {"cd", 2}};
+    char bytes[8] = "______";
+    struct iovec two[2] = {{"ab", 2}, {"cd", 2}}, apart[2] = {{bytes + 3, 3}, {bytes, 3}};
     struct stat status;
     trace("getfl: %#x", (unsigned int)fcntl(counter, F_GETFL) & (O_ACCMODE | O_NONBLOCK));
     trace("setfl: %d", fcntl(counter, F_SETFL, O_NONBLOCK));
     copy = dup(counter);
     trace("of a copy: %#x", (unsigned int)fcntl(copy, F_GETFL) & (O_ACCMODE | O_NONBLOCK));
-    trace("read: %zd, %d", read(copy, bytes, sizeof bytes), errno);
-    trace("close-on-exec: %d %d %d", fcntl(copy, F_GETFD), fcntl(copy, F_SETFD, FD_CLOEXEC), fcntl(copy, F_GETFD));
+    trace("read: %ld", outcome(read(copy, bytes, sizeof bytes)));
+    trace("close-on-exec: %d", fcntl(copy, F_GETFD));
+    trace("set: %d", fcntl(copy, F_SETFD, FD_CLOEXEC));
+    trace("close-on-exec: %d", fcntl(copy, F_GETFD));
     trace("writev: %zd", writev(sides[1], two, 2));
-    trace("fionread: %d, %d", ioctl(sides[0], FIONREAD, &waiting), waiting);
-    trace("readv: %zd", readv(sides[0], two, 0));
+    trace("fionread: %ld", outcome(ioctl(sides[0], FIONREAD, &waiting)));
+    trace("waiting: %d", waiting);
     trace("fionbio: %d", ioctl(sides[0], FIONBIO, &on));
-    trace("read: %zd", read(sides[0], bytes, sizeof bytes));
-    trace("read: %zd, %d", read(sides[0], bytes, sizeof bytes), errno);
+    trace("readv: %zd", readv(sides[0], apart, 2));
+    trace("bytes: %.6s", bytes);
+    trace("read: %ld", outcome(read(sides[0], bytes, sizeof bytes)));
     trace("shutdown: %d", shutdown(sides[1], SHUT_WR));
     trace("end: %zd", read(sides[0], bytes, sizeof bytes));
-    trace("fstat: %d, %o", fstat(sides[0], &status), status.st_mode & S_IFMT);
-    trace("lseek: %ld, %d", (long)lseek(sides[0], 0, SEEK_CUR), errno);
+    trace("fstat: %ld", outcome(fstat(sides[0], &status)));
+    trace("type: %o", status.st_mode & S_IFMT);
+    trace("lseek: %ld", outcome(lseek(sides[0], 0, SEEK_CUR)));
     trace("dup2: %d", dup2(copy, counter) == counter);
-    trace("close: %d %d %d", close(copy), close(copy), errno);
+    trace("close: %ld", outcome(close(copy)));
+    trace("again: %ld", outcome(close(copy)));
 }
 
 static void sleeps(void) {
@@ -133,10 +138,11 @@ static void sleeps(void) {
     int timer = timerfd_create(CLOCK_MONOTONIC, 0);
     trace("nanosleep: %d", nanosleep(&time, NULL));
     time.tv_nsec = -1;
-    trace("nanosleep: %d, %d", nanosleep(&time, NULL), errno);
+    trace("nanosleep: %ld", outcome(nanosleep(&time, NULL)));
     trace("sleep: %u", sleep(1));
     timerfd_settime(timer, 0, &value, NULL);
-    trace("timer: %zd, %llu", read(timer, &expired, sizeof expired), (unsigned long long)expired);
+    trace("timer: %ld", outcome(read(timer, &expired, sizeof expired)));
+    trace("expired: %llu", (unsigned long long)expired);
     close(timer);
 }
 

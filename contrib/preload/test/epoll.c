@@ -1,7 +1,6 @@
 /* epoll by its own calls: a chain of EPOLLONESHOT registrations, edge-triggered ones, a nested instance, timers by both clocks. */
 #include "trace.h"
 
-#include <errno.h>
 #include <fcntl.h>
 #include <string.h>
 #include <sys/epoll.h>
@@ -11,9 +10,9 @@
 
 enum { LINKS = 5 };
 
-static int control(int instance, int op, int fd, uint32_t events) {
+static long control(int instance, int op, int fd, uint32_t events) {
     struct epoll_event event = {.events = events, .data.fd = fd};
-    return epoll_ctl(instance, op, fd, &event) == 0 ? 0 : -errno;
+    return outcome(epoll_ctl(instance, op, fd, &event));
 }
 
 static void wait_once(int instance, int timeout) {
@@ -28,7 +27,7 @@ static void chain(void) {
     eventfd_t value = 1;
     for (int i = 0; i < LINKS; i++) {
         links[i] = eventfd(0, EFD_NONBLOCK);
-        trace("add: %d", control(instance, EPOLL_CTL_ADD, links[i], EPOLLIN | EPOLLONESHOT));
+        trace("add: %ld", control(instance, EPOLL_CTL_ADD, links[i], EPOLLIN | EPOLLONESHOT));
     }
     eventfd_write(links[0], value);
     for (int turn = 0; turn < 2 * LINKS; turn++) {
@@ -37,8 +36,9 @@ static void chain(void) {
         while (i < LINKS && (count != 1 || links[i] != event.data.fd)) i++;
         trace("turn %d: %d from link %d", turn, count, i);
         if (i == LINKS) break;
-        trace("read: %d, %llu", eventfd_read(links[i], &value), (unsigned long long)value);
-        trace("arm: %d", control(instance, EPOLL_CTL_MOD, links[i], EPOLLIN | EPOLLONESHOT));
+        trace("read: %ld", outcome(eventfd_read(links[i], &value)));
+        trace("count: %llu", (unsigned long long)value);
+        trace("arm: %ld", control(instance, EPOLL_CTL_MOD, links[i], EPOLLIN | EPOLLONESHOT));
         eventfd_write(links[(i + 1) % LINKS], value + 1);
     }
     wait_once(instance, 0);
@@ -49,7 +49,7 @@ static void chain(void) {
 static void edges(void) {
     int instance = epoll_create1(0), ends[2];
     trace("pipe: %d", pipe2(ends, O_NONBLOCK | O_CLOEXEC));
-    trace("add: %d", control(instance, EPOLL_CTL_ADD, ends[0], EPOLLIN | EPOLLET));
+    trace("add: %ld", control(instance, EPOLL_CTL_ADD, ends[0], EPOLLIN | EPOLLET));
     trace("write: %zd", write(ends[1], "abc", 3));
     wait_once(instance, 100);
     wait_once(instance, 100);
@@ -64,16 +64,16 @@ static void edges(void) {
 
 static void nests(void) {
     int inner = epoll_create1(0), outer = epoll_create1(0), counter = eventfd(0, 0);
-    trace("add: %d", control(inner, EPOLL_CTL_ADD, counter, EPOLLIN));
-    trace("add: %d", control(outer, EPOLL_CTL_ADD, inner, EPOLLIN));
-    trace("itself: %d", control(outer, EPOLL_CTL_ADD, outer, EPOLLIN));
-    trace("twice: %d", control(outer, EPOLL_CTL_ADD, inner, EPOLLIN));
-    trace("loop: %d", control(inner, EPOLL_CTL_ADD, outer, EPOLLIN));
+    trace("add: %ld", control(inner, EPOLL_CTL_ADD, counter, EPOLLIN));
+    trace("add: %ld", control(outer, EPOLL_CTL_ADD, inner, EPOLLIN));
+    trace("itself: %ld", control(outer, EPOLL_CTL_ADD, outer, EPOLLIN));
+    trace("twice: %ld", control(outer, EPOLL_CTL_ADD, inner, EPOLLIN));
+    trace("loop: %ld", control(inner, EPOLL_CTL_ADD, outer, EPOLLIN));
     wait_once(outer, 100);
     eventfd_write(counter, 5);
     wait_once(outer, 100);
-    trace("delete: %d", control(inner, EPOLL_CTL_DEL, counter, 0));
-    trace("again: %d", control(inner, EPOLL_CTL_DEL, counter, 0));
+    trace("delete: %ld", control(inner, EPOLL_CTL_DEL, counter, 0));
+    trace("again: %ld", control(inner, EPOLL_CTL_DEL, counter, 0));
     wait_once(outer, 100);
     close(counter);
     close(inner);
@@ -93,11 +93,12 @@ static void timer(int clock) {
         value.it_value.tv_sec++;
         value.it_value.tv_nsec -= 1000000000;
     }
-    trace("add: %d", control(instance, EPOLL_CTL_ADD, fd, EPOLLIN));
+    trace("add: %ld", control(instance, EPOLL_CTL_ADD, fd, EPOLLIN));
     trace("settime: %d", timerfd_settime(fd, TFD_TIMER_ABSTIME, &value, NULL));
     for (int i = 0; i < 3; i++) {
         trace("pwait2: %d", epoll_pwait2(instance, &event, 1, &limit, NULL));
-        trace("read: %zd, %llu", read(fd, &expired, sizeof expired), (unsigned long long)expired);
+        trace("read: %ld", outcome(read(fd, &expired, sizeof expired)));
+        trace("expired: %llu", (unsigned long long)expired);
     }
     trace("disarm: %d", timerfd_settime(fd, 0, &(struct itimerspec){.it_value = {0, 0}}, NULL));
     wait_once(instance, 300);
@@ -111,6 +112,6 @@ int main(void) {
     nests();
     timer(CLOCK_MONOTONIC);
     timer(CLOCK_REALTIME);
-    trace("close: %d, %d", close(-1), errno);
+    trace("close: %ld", outcome(close(-1)));
     return 0;
 }

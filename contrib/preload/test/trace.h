@@ -2,6 +2,7 @@
 #ifndef TRACE_H
 #define TRACE_H
 
+#include <errno.h>
 #include <pthread.h>
 #include <stdarg.h>
 #include <stdio.h>
@@ -24,5 +25,8 @@ __attribute__((format(printf, 1, 2))) static inline void trace(const char *forma
     va_end(arguments);
     printf("\n");
 }
+
+/* An answer, or minus the error number. */
+static inline long outcome(long result) { return result < 0 ? -(long)errno : result; }
 
 #endif

@@ -1,0 +1,69 @@
+/* What the shim refuses: each call with its error, and the line on standard error that says so. Simulated only; refused.out
+   is what both streams have to say. */
+#include "trace.h"
+
+#include <fcntl.h>
+#include <poll.h>
+#include <signal.h>
+#include <stdlib.h>
+#include <sys/epoll.h>
+#include <sys/ioctl.h>
+#include <sys/socket.h>
+#include <sys/syscall.h>
+#include <sys/uio.h>
+#include <unistd.h>
+
+static void tell(const char *call, long result) {
+    printf("%s: %ld\n", call, outcome(result));
+    fflush(stdout);
+}
+
+static void descriptors(void) {
+    struct epoll_event event = {.events = EPOLLIN};
+    struct pollfd files[2] = {{0, POLLIN, 0}, {0, POLLIN, 0}};
+    int ends[2], instance = epoll_create1(0);
+    sigset_t mask;
+    sigemptyset(&mask);
+    tell("pipe", pipe(ends));
+    tell("add a real one", epoll_ctl(instance, EPOLL_CTL_ADD, 0, &event));
+    tell("add to a real one", epoll_ctl(0, EPOLL_CTL_ADD, ends[0], &event));
+    tell("signals", epoll_pwait(instance, &event, 1, 0, &mask));
+    files[1].fd = ends[0];
+    tell("poll of both", poll(files, 2, 0));
+    tell("onto a real one", dup2(ends[1], 1));
+    tell("lock", fcntl(ends[0], F_SETPIPE_SZ, 4096));
+    tell("ioctl", ioctl(ends[0], TIOCGWINSZ, &mask));
+    tell("pread", pread(ends[0], &mask, 1, 0));
+    tell("splice", splice(ends[0], NULL, 1, NULL, 1, 0));
+    tell("stream", fdopen(ends[0], "r") ? 0 : -1);
+    tell("a number of nobody", (close(ends[0]), read(ends[0], &mask, 1)));
+}
+
+static void sockets(void) {
+    char bytes[4];
+    int sides[2], on = 1;
+    tell("datagrams", socketpair(AF_UNIX, SOCK_DGRAM, 0, sides));
+    tell("socketpair", socketpair(AF_UNIX, SOCK_STREAM, 0, sides));
+    tell("peek", recv(sides[0], bytes, 1, MSG_PEEK));
+    tell("option", setsockopt(sides[0], SOL_SOCKET, SO_RCVBUF, &on, sizeof on));
+    tell("shutdown", shutdown(sides[0], SHUT_RD));
+    tell("accept", accept(sides[0], NULL, NULL));
+}
+
+static void processes(void) {
+    char *const words[] = {"true", NULL};
+    tell("fork", fork());
+    tell("execv", execv("/bin/true", words));
+    tell("system", system("true"));
+    tell("io_uring", syscall(SYS_io_uring_setup, 1, NULL));
+    tell("by number", syscall(SYS_epoll_create1, 0));
+}
+
+int main(void) {
+    struct epoll_event event;
+    descriptors();
+    sockets();
+    processes();
+    tell("no end", epoll_wait(epoll_create1(0), &event, 1, -1));
+    return 0;
+}
