@@ -1,4 +1,5 @@
-/* Reads and writes, and the calls on sockets that do no more than they. A call on a descriptor without O_NONBLOCK waits. */
+/* Reads and writes, and the calls on sockets that do no more than they. A call on a descriptor without O_NONBLOCK
+   waits. */
 #include "preload.h"
 
 #include <limits.h>
@@ -61,7 +62,7 @@ static ssize_t take(int fd, void *bytes, size_t count, bool waits, const char *c
     waits = waits && !description->is_nonblocking;
     got = read_some(fd, description, bytes, count);
     while (got == -EAGAIN && waits) {
-        int64_t status = wait_for_arrival(&block, fd, EPOLLIN, call);
+        int status = wait_for_arrival(&block, fd, EPOLLIN, call);
         got = status < 0 ? status : read_some(fd, description, bytes, count);
     }
     end_block(&block);
@@ -80,7 +81,7 @@ static ssize_t give(int fd, const char *bytes, size_t count, bool waits, const c
     taken = write_some(fd, description, bytes, count);
     if (taken > 0) done = (size_t)taken;
     while (waits && (taken == -EAGAIN || (taken > 0 && done < count && description->kind != EVENTFD))) {
-        int64_t status = taken == -EAGAIN ? wait_for_arrival(&block, fd, EPOLLOUT, call) : 0;
+        int status = taken == -EAGAIN ? wait_for_arrival(&block, fd, EPOLLOUT, call) : 0;
         taken = status < 0 ? status : write_some(fd, description, bytes + done, count - done);
         if (taken > 0) done += (size_t)taken;
     }
@@ -237,7 +238,8 @@ ssize_t sendmsg(int fd, const struct msghdr *message, int flags) {
 int shutdown(int fd, int how) {
     if (!is_simulated(fd)) return next_shutdown()(fd, how);
     if (how == SHUT_RD || how == SHUT_RDWR)
-        return refuse(EOPNOTSUPP, "shutdown(%d, %s): only SHUT_WR is simulated", fd, how == SHUT_RD ? "SHUT_RD" : "SHUT_RDWR");
+        return refuse(EOPNOTSUPP, "shutdown(%d, %s): only SHUT_WR is simulated", fd,
+                      how == SHUT_RD ? "SHUT_RD" : "SHUT_RDWR");
     return (int)ANSWER(nippersage_shutdown(self(), fd - FIRST, how), "shutdown(%d, %d)", fd, how);
 }
 
@@ -265,8 +267,14 @@ int getpeername(int fd, struct sockaddr *name, socklen_t *size) {
 /* The options that say what a socket is, each an int. Others answer -1. */
 static int option_of(int level, int option) {
     if (level != SOL_SOCKET) return -1;
-    return option == SO_DOMAIN ? AF_UNIX : option == SO_TYPE ? SOCK_STREAM : option == SO_PROTOCOL || option == SO_ERROR ||
-           option == SO_ACCEPTCONN ? 0 : -1;
+    switch (option) {
+    case SO_DOMAIN: return AF_UNIX;
+    case SO_TYPE: return SOCK_STREAM;
+    case SO_PROTOCOL:
+    case SO_ERROR:
+    case SO_ACCEPTCONN: return 0;
+    default: return -1;
+    }
 }
 
 int getsockopt(int fd, int level, int option, void *value, socklen_t *size) {

@@ -1,4 +1,5 @@
-/* The simulated clock, sleeping, and timers. CLOCK_MONOTONIC and its like begin at 0, CLOCK_REALTIME at EPOCH_SECONDS. */
+/* The simulated clock, sleeping, and timers. CLOCK_MONOTONIC and its like begin at 0, CLOCK_REALTIME at
+   EPOCH_SECONDS. */
 #include "preload.h"
 
 #include <stdlib.h>
@@ -24,9 +25,8 @@ struct timespec timespec_of(uint64_t count) {
 }
 
 void sleep_for(int64_t count, const char *call) {
-    struct timespec time = timespec_of(count < 0 ? 0 : (uint64_t)count);
     struct epoll_event none;
-    unless_endless(nippersage_epoll_pwait2(self(), sleeping_instance(), &none, 1, count < 0 ? NULL : &time), call);
+    wait_at(sleeping_instance(), &none, 1, count, call);
 }
 
 void bring_clock_to(uint64_t moment) {
@@ -38,13 +38,14 @@ void bring_clock_to(uint64_t moment) {
 
 /* Whether a clock is one of those that the simulated clock stands for. Those of processors are real. */
 static bool is_clock(clockid_t clock) {
-    return clock == CLOCK_REALTIME || clock == CLOCK_MONOTONIC || clock == CLOCK_MONOTONIC_RAW || clock == CLOCK_BOOTTIME ||
-           clock == CLOCK_REALTIME_COARSE || clock == CLOCK_MONOTONIC_COARSE || clock == CLOCK_TAI ||
-           clock == CLOCK_REALTIME_ALARM || clock == CLOCK_BOOTTIME_ALARM;
+    return clock == CLOCK_REALTIME || clock == CLOCK_MONOTONIC || clock == CLOCK_MONOTONIC_RAW ||
+           clock == CLOCK_BOOTTIME || clock == CLOCK_REALTIME_COARSE || clock == CLOCK_MONOTONIC_COARSE ||
+           clock == CLOCK_TAI || clock == CLOCK_REALTIME_ALARM || clock == CLOCK_BOOTTIME_ALARM;
 }
 
 static bool is_of_day(clockid_t clock) {
-    return clock == CLOCK_REALTIME || clock == CLOCK_REALTIME_COARSE || clock == CLOCK_TAI || clock == CLOCK_REALTIME_ALARM;
+    return clock == CLOCK_REALTIME || clock == CLOCK_REALTIME_COARSE || clock == CLOCK_TAI ||
+           clock == CLOCK_REALTIME_ALARM;
 }
 
 int clock_gettime(clockid_t clock, struct timespec *time) {
@@ -103,8 +104,8 @@ unsigned int sleep(unsigned int count) {
 
 /* ---- timers ---- */
 
-/* A moment of CLOCK_REALTIME by the kernel's clock, which began when that was EPOCH_SECONDS. What was before it is its first
-   millisecond, for 0 would disarm. */
+/* A moment of CLOCK_REALTIME by the kernel's clock, which began when that was EPOCH_SECONDS. What was before it is
+   its first millisecond, for 0 would disarm. */
 static void from_day(struct timespec *time) {
     if (time->tv_sec == 0 && time->tv_nsec == 0) return;
     if (time->tv_sec < EPOCH_SECONDS) {
@@ -125,8 +126,9 @@ int timerfd_settime(int fd, int flags, const struct itimerspec *value, struct it
         status = nippersage_timerfd_settime(self(), fd - FIRST, flags & ~TFD_TIMER_CANCEL_ON_SET, &own, before);
     }
     if (description) let_go(description);
-    return (int)ANSWER(status, "timerfd_settime(%d, %s, %s, %s)", fd, flags & TFD_TIMER_ABSTIME ? "TFD_TIMER_ABSTIME" : "0",
-                       setting_text(TEXT, value), setting_text(TEXT, status < 0 ? NULL : before));
+    return (int)ANSWER(status, "timerfd_settime(%d, %s, %s, %s)", fd,
+                       flags & TFD_TIMER_ABSTIME ? "TFD_TIMER_ABSTIME" : "0", setting_text(TEXT, value),
+                       setting_text(TEXT, status < 0 ? NULL : before));
 }
 
 int timerfd_gettime(int fd, struct itimerspec *now) {

@@ -16,6 +16,7 @@ static struct nippersage_kernel *kernel;
 static pthread_once_t once = PTHREAD_ONCE_INIT;
 static atomic_uint callers;
 static atomic_ulong count;
+static atomic_uint waits;
 static _Thread_local uint32_t caller;
 static int sleeping;
 
@@ -123,9 +124,25 @@ void _exit(int status) {
 
 void _Exit(int status) { _exit(status); }
 
-int64_t unless_endless(int64_t result, const char *call) {
-    if (result != -EDEADLK) return result;
+/* Nothing can end the wait of any thread: the program ends, and says so once. */
+static _Noreturn void end_endless(const char *call) {
+    static atomic_flag is_told = ATOMIC_FLAG_INIT;
+    if (atomic_flag_test_and_set(&is_told))
+        for (;;) pause();
     say("%s waits for ever: every thread waits, and no time ends a wait; status %d", call, STATUS_ENDLESS);
     fflush(NULL);
     _exit(STATUS_ENDLESS);
 }
+
+int wait_at(int instance, struct epoll_event *events, int most, int64_t timeout, const char *call) {
+    struct timespec time = timespec_of(timeout < 0 ? 0 : (uint64_t)timeout);
+    struct nippersage_task task = self();
+    int result;
+    atomic_fetch_add(&waits, 1);
+    result = nippersage_epoll_pwait2(task, instance, events, most, timeout < 0 ? NULL : &time);
+    atomic_fetch_sub(&waits, 1);
+    if (result == -EDEADLK) end_endless(call);
+    return result;
+}
+
+bool is_anyone_waiting(void) { return atomic_load(&waits) > 0; }

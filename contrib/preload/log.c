@@ -1,5 +1,5 @@
-/* The log: a line for each call on the simulated kernel, in the form of strace -f -ttt. A line has the simulated clock in
-   seconds, the call, and its answer; before them the thread's number, if it isn't the first thread. */
+/* The log: a line for each call on the simulated kernel, in the form of strace -f -ttt. A line has the simulated
+   clock in seconds, the call, and its answer; before them the thread's number, if it isn't the first thread. */
 #include "preload.h"
 
 #include <stdarg.h>
@@ -105,12 +105,20 @@ static const char *names_text(struct text *room, uint32_t bits, const char *pref
 }
 
 const char *event_text(struct text *room, const struct epoll_event *event) {
-    static const struct name names[] = {{EPOLLIN, "IN"}, {EPOLLPRI, "PRI"}, {EPOLLOUT, "OUT"}, {EPOLLERR, "ERR"},
-        {EPOLLHUP, "HUP"}, {EPOLLRDHUP, "RDHUP"}, {EPOLLEXCLUSIVE, "EXCLUSIVE"}, {EPOLLWAKEUP, "WAKEUP"},
-        {EPOLLONESHOT, "ONESHOT"}, {EPOLLET, "ET"}, {0, NULL}};
+    static const struct name names[] = {{EPOLLIN, "IN"},
+                                        {EPOLLPRI, "PRI"},
+                                        {EPOLLOUT, "OUT"},
+                                        {EPOLLERR, "ERR"},
+                                        {EPOLLHUP, "HUP"},
+                                        {EPOLLRDHUP, "RDHUP"},
+                                        {EPOLLEXCLUSIVE, "EXCLUSIVE"},
+                                        {EPOLLWAKEUP, "WAKEUP"},
+                                        {EPOLLONESHOT, "ONESHOT"},
+                                        {EPOLLET, "ET"},
+                                        {0, NULL}};
     if (event) {
-        add(room, "{events=%s, data={u32=%u, u64=%llu}}", names_text(TEXT, event->events, "EPOLL", names), event->data.u32,
-            (unsigned long long)event->data.u64);
+        add(room, "{events=%s, data={u32=%u, u64=%llu}}", names_text(TEXT, event->events, "EPOLL", names),
+            event->data.u32, (unsigned long long)event->data.u64);
     } else {
         add(room, "NULL");
     }
@@ -125,15 +133,14 @@ const char *flags_text(struct text *room, const char *prefix, int flags) {
 const char *reports_text(struct text *room, const struct epoll_event *events, int count) {
     static const int most = 4;
     add(room, "[");
-    for (int i = 0; i < count && i < most; i++)
-        add(room, "%s%s", i == 0 ? "" : ", ", event_text(TEXT, &events[i]));
+    for (int i = 0; i < count && i < most; i++) add(room, "%s%s", i == 0 ? "" : ", ", event_text(TEXT, &events[i]));
     add(room, count > most ? ", ...]" : "]");
     return room->of;
 }
 
 const char *clock_text(struct text *room, clockid_t clock) {
-    static const char *const names[] = {"REALTIME", "MONOTONIC", "PROCESS_CPUTIME_ID", "THREAD_CPUTIME_ID", "MONOTONIC_RAW",
-        "REALTIME_COARSE", "MONOTONIC_COARSE", "BOOTTIME"};
+    static const char *const names[] = {"REALTIME",      "MONOTONIC",       "PROCESS_CPUTIME_ID", "THREAD_CPUTIME_ID",
+                                        "MONOTONIC_RAW", "REALTIME_COARSE", "MONOTONIC_COARSE",   "BOOTTIME"};
     if (clock >= 0 && (size_t)clock < sizeof names / sizeof *names) {
         add(room, "CLOCK_%s", names[clock]);
     } else {
@@ -149,7 +156,8 @@ const char *time_text(struct text *room, const struct timespec *time) {
 
 const char *setting_text(struct text *room, const struct itimerspec *setting) {
     if (setting) {
-        add(room, "{it_interval=%s, it_value=%s}", time_text(TEXT, &setting->it_interval), time_text(TEXT, &setting->it_value));
+        add(room, "{it_interval=%s, it_value=%s}", time_text(TEXT, &setting->it_interval),
+            time_text(TEXT, &setting->it_value));
     } else {
         add(room, "NULL");
     }

@@ -1,8 +1,8 @@
 /* What the files of the shim share. Its page is README.md.
  *
- * A program's descriptor FIRST + n is the simulated kernel's n. Lower numbers are the real kernel's: kernel.c bounds them
- * by RLIMIT_NOFILE, so the two never meet. A function that takes descriptors asks is_simulated, and hands a real one on
- * to the C library's function of the same name. */
+ * A program's descriptor FIRST + n is the simulated kernel's n. Lower numbers are the real kernel's: kernel.c bounds
+ * them by RLIMIT_NOFILE, so the two never meet. A function that takes descriptors asks is_simulated, and hands a real
+ * one on to the C library's function of the same name. */
 #ifndef PRELOAD_H
 #define PRELOAD_H
 
@@ -36,18 +36,21 @@ unsigned long calls(void);
 /* The C library's function of a name. It ends the program where there is none. */
 void *next_of(const char *name);
 /* next_NAME() is the C library's NAME. */
-#define FORWARD(name)                                                                                                  \
-    static __typeof__(&name) next_##name(void) {                                                                       \
-        static void *_Atomic found;                                                                                    \
-        if (!found) found = next_of(#name);                                                                            \
-        return (__typeof__(&name))found;                                                                               \
+#define FORWARD(name)                            \
+    static __typeof__(&name) next_##name(void) { \
+        static void *_Atomic found;              \
+        if (!found) found = next_of(#name);      \
+        return (__typeof__(&name))found;         \
     }
 /* One line on standard error. */
 void say(const char *format, ...) __attribute__((format(printf, 1, 2)));
 /* The same, and -1 with this errno. */
 int refuse(int error, const char *format, ...) __attribute__((format(printf, 2, 3)));
-/* Ends the program where a wait answers that nothing can end it; hands any other answer on. */
-int64_t unless_endless(int64_t result, const char *call);
+/* A wait at an instance, by the kernel's number, of so many milliseconds, without end below 0: the number of events,
+   or minus an error number. Ends the program if nothing can end the wait. */
+int wait_at(int instance, struct epoll_event *events, int most, int64_t timeout, const char *call);
+/* Whether any thread is inside of wait_at. */
+bool is_anyone_waiting(void);
 /* The instance in which nothing is ever registered: who waits there sleeps. */
 int sleeping_instance(void);
 
@@ -102,7 +105,7 @@ void end_own_instance(int number);
 struct block {
     int instance; /* -1 before the first wait */
 };
-int64_t wait_for_arrival(struct block *block, int fd, uint32_t events, const char *call);
+int wait_for_arrival(struct block *block, int fd, uint32_t events, const char *call);
 void end_block(struct block *block);
 
 /* ---- clock.c ---- */
@@ -118,6 +121,11 @@ void sleep_for(int64_t milliseconds, const char *call);
 void bring_clock_to(uint64_t moment);
 /* CLOCK_REALTIME when the simulated clock is at 0. */
 enum { EPOCH_SECONDS = 1000000000 };
+
+/* ---- threads.c ---- */
+
+/* futex(2) with these six arguments, whose times are by the simulated clock. */
+long call_futex(const long given[6]);
 
 #pragma GCC visibility pop
 

@@ -13,11 +13,11 @@
 /* ---- calls on descriptors ---- */
 
 /* A function whose first parameter is fd: real descriptors go on, simulated ones are refused with this error. */
-#define REAL_ONLY(result, name, parameters, arguments, error)                                                          \
-    FORWARD(name)                                                                                                      \
-    result name parameters {                                                                                           \
-        if (!is_simulated(fd)) return next_##name() arguments;                                                         \
-        return refuse(error, "%s(%d) is not simulated", #name, fd);                                                    \
+#define REAL_ONLY(result, name, parameters, arguments, error)       \
+    FORWARD(name)                                                   \
+    result name parameters {                                        \
+        if (!is_simulated(fd)) return next_##name() arguments;      \
+        return refuse(error, "%s(%d) is not simulated", #name, fd); \
     }
 
 REAL_ONLY(int, accept, (int fd, struct sockaddr *from, socklen_t *size), (fd, from, size), EINVAL)
@@ -29,7 +29,8 @@ REAL_ONLY(int, setsockopt, (int fd, int level, int option, const void *value, so
           (fd, level, option, value, size), ENOPROTOOPT)
 REAL_ONLY(int, recvmmsg, (int fd, struct mmsghdr *to, unsigned int count, int flags, struct timespec *time),
           (fd, to, count, flags, time), EOPNOTSUPP)
-REAL_ONLY(int, sendmmsg, (int fd, struct mmsghdr *from, unsigned int count, int flags), (fd, from, count, flags), EOPNOTSUPP)
+REAL_ONLY(int, sendmmsg, (int fd, struct mmsghdr *from, unsigned int count, int flags), (fd, from, count, flags),
+          EOPNOTSUPP)
 REAL_ONLY(ssize_t, preadv, (int fd, const struct iovec *to, int count, off_t at), (fd, to, count, at), ESPIPE)
 REAL_ONLY(ssize_t, pwritev, (int fd, const struct iovec *from, int count, off_t at), (fd, from, count, at), ESPIPE)
 REAL_ONLY(ssize_t, pread, (int fd, void *to, size_t count, off_t at), (fd, to, count, at), ESPIPE)
@@ -38,11 +39,11 @@ REAL_ONLY(int, ftruncate, (int fd, off_t size), (fd, size), EINVAL)
 REAL_ONLY(int, fsync, (int fd), (fd), EINVAL)
 REAL_ONLY(int, fdatasync, (int fd), (fd), EINVAL)
 
-#define REAL_TWO(name, parameters, first, second, arguments)                                                           \
-    FORWARD(name)                                                                                                      \
-    ssize_t name parameters {                                                                                          \
-        if (!is_simulated(first) && !is_simulated(second)) return next_##name() arguments;                             \
-        return refuse(EINVAL, "%s(%d, %d) is not simulated", #name, first, second);                                    \
+#define REAL_TWO(name, parameters, first, second, arguments)                               \
+    FORWARD(name)                                                                          \
+    ssize_t name parameters {                                                              \
+        if (!is_simulated(first) && !is_simulated(second)) return next_##name() arguments; \
+        return refuse(EINVAL, "%s(%d, %d) is not simulated", #name, first, second);        \
     }
 
 REAL_TWO(sendfile, (int to, int from, off_t *at, size_t count), to, from, (to, from, at, count))
@@ -88,7 +89,9 @@ int execv(const char *path, char *const words[]) { return execve(path, words, NU
 
 int execvp(const char *path, char *const words[]) { return execve(path, words, NULL); }
 
-int execvpe(const char *path, char *const words[], char *const environment[]) { return execve(path, words, environment); }
+int execvpe(const char *path, char *const words[], char *const environment[]) {
+    return execve(path, words, environment);
+}
 
 int execl(const char *path, const char *word, ...) {
     (void)word;
@@ -111,14 +114,16 @@ int fexecve(int fd, char *const words[], char *const environment[]) {
 }
 
 int posix_spawn(pid_t *restrict made, const char *restrict path, const posix_spawn_file_actions_t *restrict actions,
-                const posix_spawnattr_t *restrict attributes, char *const words[restrict], char *const environment[restrict]) {
+                const posix_spawnattr_t *restrict attributes, char *const words[restrict],
+                char *const environment[restrict]) {
     (void)made, (void)actions, (void)attributes, (void)words, (void)environment;
     refuse_program(path);
     return ENOSYS;
 }
 
 int posix_spawnp(pid_t *restrict made, const char *restrict path, const posix_spawn_file_actions_t *restrict actions,
-                 const posix_spawnattr_t *restrict attributes, char *const words[restrict], char *const environment[restrict]) {
+                 const posix_spawnattr_t *restrict attributes, char *const words[restrict],
+                 char *const environment[restrict]) {
     return posix_spawn(made, path, actions, attributes, words, environment);
 }
 
@@ -143,12 +148,28 @@ long syscall(long number, ...) {
     va_end(arguments);
     switch (number) {
     case SYS_close: return close((int)given[0]);
+    case SYS_futex: return call_futex(given);
     case SYS_io_uring_setup: return refuse(ENOSYS, "io_uring is not simulated");
-    case SYS_epoll_create: case SYS_epoll_create1: case SYS_epoll_ctl: case SYS_epoll_wait: case SYS_epoll_pwait:
-    case SYS_epoll_pwait2: case SYS_eventfd: case SYS_eventfd2: case SYS_timerfd_create: case SYS_timerfd_settime:
-    case SYS_timerfd_gettime: case SYS_pipe: case SYS_pipe2: case SYS_socketpair: case SYS_fork: case SYS_vfork:
-    case SYS_clone: case SYS_clone3: case SYS_execve: case SYS_execveat:
-        return refuse(ENOSYS, "syscall(%ld): this call by its number is not simulated", number);
+    case SYS_epoll_create:
+    case SYS_epoll_create1:
+    case SYS_epoll_ctl:
+    case SYS_epoll_wait:
+    case SYS_epoll_pwait:
+    case SYS_epoll_pwait2:
+    case SYS_eventfd:
+    case SYS_eventfd2:
+    case SYS_timerfd_create:
+    case SYS_timerfd_settime:
+    case SYS_timerfd_gettime:
+    case SYS_pipe:
+    case SYS_pipe2:
+    case SYS_socketpair:
+    case SYS_fork:
+    case SYS_vfork:
+    case SYS_clone:
+    case SYS_clone3:
+    case SYS_execve:
+    case SYS_execveat: return refuse(ENOSYS, "syscall(%ld): this call by its number is not simulated", number);
     default: return next_syscall()(number, given[0], given[1], given[2], given[3], given[4], given[5]);
     }
 }

@@ -2,6 +2,8 @@
    make, copy, change and close them. */
 #include "preload.h"
 
+#include <limits.h>
+#include <linux/close_range.h>
 #include <pthread.h>
 #include <stdarg.h>
 #include <stdlib.h>
@@ -15,18 +17,21 @@ FORWARD(dup)
 FORWARD(dup2)
 FORWARD(dup3)
 FORWARD(close)
+FORWARD(close_range)
 FORWARD(fcntl)
 FORWARD(ioctl)
 FORWARD(fstat)
 
-/* A number of the kernel. An instance of the shim's own has no description, and no descriptor that the program may use. */
+/* A number of the kernel. An instance of the shim's own has no description, and no descriptor that the program may
+   use. */
 struct entry {
     struct description *description;
     bool closes_on_exec;
     bool is_own;
 };
 
-/* The lock is held over the kernel's call that makes or frees a number and the change here. No call that waits holds it. */
+/* The lock is held over the kernel's call that makes or frees a number and the change here. No call that waits holds
+   it. */
 static pthread_mutex_t lock = PTHREAD_MUTEX_INITIALIZER;
 static struct entry table[NUMBERS];
 
@@ -133,7 +138,8 @@ void end_own_instance(int number) {
 int epoll_create1(int flags) {
     int made;
     pthread_mutex_lock(&lock);
-    made = put_new(nippersage_epoll_create1(self(), flags), (struct description){.kind = EPOLL, .access = O_RDWR}, flags);
+    made =
+        put_new(nippersage_epoll_create1(self(), flags), (struct description){.kind = EPOLL, .access = O_RDWR}, flags);
     pthread_mutex_unlock(&lock);
     return (int)ANSWER(made, "epoll_create1(%s)", flags_text(TEXT, "EPOLL_", flags));
 }
@@ -147,7 +153,8 @@ int epoll_create(int size) {
 int eventfd(unsigned int count, int flags) {
     int made;
     pthread_mutex_lock(&lock);
-    made = put_new(nippersage_eventfd(self(), count, flags), (struct description){.kind = EVENTFD, .access = O_RDWR}, flags);
+    made = put_new(nippersage_eventfd(self(), count, flags), (struct description){.kind = EVENTFD, .access = O_RDWR},
+                   flags);
     pthread_mutex_unlock(&lock);
     return (int)ANSWER(made, "eventfd2(%u, %s)", count, flags_text(TEXT, "EFD_", flags));
 }
@@ -180,7 +187,8 @@ int socketpair(int domain, int type, int protocol, int ends[2]) {
     if ((type & ~flags) != SOCK_STREAM)
         return refuse(ESOCKTNOSUPPORT, "socketpair: only SOCK_STREAM is simulated, not type %d", type & ~flags);
     pthread_mutex_lock(&lock);
-    status = put_pair(nippersage_socketpair(self(), domain, type, protocol, numbers), numbers, SOCKET, accesses, flags, ends);
+    status = put_pair(nippersage_socketpair(self(), domain, type, protocol, numbers), numbers, SOCKET, accesses, flags,
+                      ends);
     pthread_mutex_unlock(&lock);
     return (int)ANSWER(status, "socketpair(AF_UNIX, SOCK_STREAM%s%s, %d, [%d, %d])", flags ? "|" : "",
                        flags ? flags_text(TEXT, "SOCK_", flags) : "", protocol, status < 0 ? -1 : ends[0],
@@ -236,7 +244,8 @@ int dup3(int fd, int to, int flags) {
 
 int dup2(int fd, int to) {
     struct description *same;
-    if (fd != to || !is_simulated(fd)) return is_simulated(fd) || is_simulated(to) ? dup3(fd, to, 0) : next_dup2()(fd, to);
+    if (fd != to || !is_simulated(fd))
+        return is_simulated(fd) || is_simulated(to) ? dup3(fd, to, 0) : next_dup2()(fd, to);
     same = hold(fd);
     if (same) let_go(same);
     return (int)ANSWER(same ? fd : -EBADF, "dup2(%d, %d)", fd, to);
@@ -250,6 +259,26 @@ int close(int fd) {
     pthread_mutex_unlock(&lock);
     return (int)ANSWER(status, "close(%d)", fd);
 }
+
+static void close_simulated(unsigned int first, unsigned int last, int flags) {
+    pthread_mutex_lock(&lock);
+    for (unsigned int fd = first; fd <= last && fd < FIRST + NUMBERS; fd++) {
+        struct entry *entry = entry_of((int)fd);
+        if (entry && (flags & CLOSE_RANGE_CLOEXEC)) {
+            entry->closes_on_exec = true;
+        } else if (entry) {
+            close_entry((int)fd);
+        }
+    }
+    pthread_mutex_unlock(&lock);
+}
+
+int close_range(unsigned int first, unsigned int last, int flags) {
+    if (first <= last) close_simulated(first < FIRST ? FIRST : first, last, flags);
+    return first < FIRST ? next_close_range()(first, last < FIRST ? last : FIRST - 1, flags) : 0;
+}
+
+void closefrom(int first) { close_range(first < 0 ? 0 : (unsigned int)first, UINT_MAX, 0); }
 
 /* ---- fcntl, ioctl, fstat ---- */
 

@@ -1,9 +1,10 @@
-/* Threads. The library counts those that take part, and moves the clock by itself while all of them sleep in its waits. A
-   thread may also sleep in the real kernel, as in pthread_cond_wait; then nobody would move the clock. So a thread of the
-   shim's own looks, each millisecond of real time, whether all others sleep, and moves it for them. */
+/* Threads. The library counts those that take part, and moves the clock by itself while all of them sleep in its
+   waits. A thread may also sleep in the real kernel, as in pthread_cond_wait; then nobody would move the clock. So a
+   thread of the shim's own looks, each millisecond of real time, whether all others sleep, and moves it for them. */
 #include "preload.h"
 
 #include <dirent.h>
+#include <linux/futex.h>
 #include <pthread.h>
 #include <semaphore.h>
 #include <signal.h>
@@ -12,12 +13,9 @@
 #include <sys/syscall.h>
 
 FORWARD(pthread_create)
-FORWARD(pthread_cond_timedwait)
-FORWARD(pthread_cond_clockwait)
-FORWARD(sem_timedwait)
-FORWARD(sem_clockwait)
 FORWARD(clock_gettime)
 FORWARD(nanosleep)
+FORWARD(syscall)
 
 static pthread_key_t counted;
 static pthread_once_t once = PTHREAD_ONCE_INIT;
@@ -56,21 +54,31 @@ static bool all_sleep(void) {
     return so;
 }
 
-/* All sleep, and did so a millisecond ago, and made no call in between: nothing but time can wake them. */
+/* Where no time wakes anyone, a real descriptor may. So it is only said, and after a second. */
+static void say_endless(int turns) {
+    if (turns == 1000 && is_anyone_waiting())
+        say("nothing has happened for a second: every thread sleeps, and no time ends a simulated wait");
+}
+
+/* Once all sleep, and did so a millisecond ago, and made no call in between, nothing but time can wake them. */
 static _Noreturn void *watch(void *nothing) {
     static const struct timespec a_while = {0, 1000000};
     unsigned long before = 0;
-    bool slept = false;
+    int still = 0; /* for so many milliseconds all have slept without a call */
     (void)nothing;
     for (;;) {
         uint64_t moment;
-        bool still;
         next_nanosleep()(&a_while, NULL);
-        still = all_sleep();
-        if (still && slept && calls() == before && nippersage_next_moment(self().kernel, &moment) == 1)
-            bring_clock_to(moment);
+        still = all_sleep() && calls() == before ? still + 1 : 0;
+        if (still > 1) {
+            if (nippersage_next_moment(self().kernel, &moment) == 1) {
+                bring_clock_to(moment);
+                still = 0;
+            } else {
+                say_endless(still);
+            }
+        }
         before = calls();
-        slept = still;
     }
 }
 
@@ -132,8 +140,8 @@ int pthread_create(pthread_t *made, const pthread_attr_t *attributes, void *(*ru
 
 /* ---- waits with a time, which stay real ---- */
 
-/* The end of a wait: how the program told it, as a moment of the simulated clock, and by the real clock of the same name.
-   Which clock it is the time itself says: one begins at 0, the other at EPOCH_SECONDS. */
+/* The end of a wait: how the program told it, as a moment of the simulated clock, and by the real clock of the same
+   name. Which clock it is the time itself says: one begins at 0, the other at EPOCH_SECONDS. */
 struct end {
     int64_t moment;
     struct timespec real;
@@ -158,32 +166,51 @@ static void pass(const struct end *end) {
     if (end->moment > 0) bring_clock_to((uint64_t)end->moment);
 }
 
-int pthread_cond_timedwait(pthread_cond_t *restrict changed, pthread_mutex_t *restrict lock,
-                           const struct timespec *restrict time) {
-    struct end end = end_of(time);
-    int error = next_pthread_cond_timedwait()(changed, lock, &end.real);
-    if (error == ETIMEDOUT) pass(&end);
-    return error;
-}
+/* A wait of the C library until `time`, which answers an error number. */
+#define TIMED(name, parameters, arguments)   \
+    FORWARD(name)                            \
+    int name parameters {                    \
+        struct end end = end_of(time);       \
+        int error = next_##name() arguments; \
+        if (error == ETIMEDOUT) pass(&end);  \
+        return error;                        \
+    }
 
-int pthread_cond_clockwait(pthread_cond_t *restrict changed, pthread_mutex_t *restrict lock, clockid_t clock,
-                           const struct timespec *restrict time) {
-    struct end end = end_of(time);
-    int error = next_pthread_cond_clockwait()(changed, lock, clock, &end.real);
-    if (error == ETIMEDOUT) pass(&end);
-    return error;
-}
+TIMED(pthread_cond_timedwait,
+      (pthread_cond_t *restrict changed, pthread_mutex_t *restrict lock, const struct timespec *restrict time),
+      (changed, lock, &end.real))
+TIMED(pthread_cond_clockwait,
+      (pthread_cond_t *restrict changed, pthread_mutex_t *restrict lock, clockid_t clock,
+       const struct timespec *restrict time),
+      (changed, lock, clock, &end.real))
+TIMED(pthread_mutex_timedlock, (pthread_mutex_t *restrict lock, const struct timespec *restrict time),
+      (lock, &end.real))
+TIMED(pthread_mutex_clocklock, (pthread_mutex_t *restrict lock, clockid_t clock, const struct timespec *restrict time),
+      (lock, clock, &end.real))
 
-int sem_timedwait(sem_t *restrict semaphore, const struct timespec *restrict time) {
-    struct end end = end_of(time);
-    int status = next_sem_timedwait()(semaphore, &end.real);
-    if (status != 0 && errno == ETIMEDOUT) pass(&end);
-    return status;
-}
+/* One that answers by errno. */
+#define TIMED_BY_ERRNO(name, parameters, arguments)        \
+    FORWARD(name)                                          \
+    int name parameters {                                  \
+        struct end end = end_of(time);                     \
+        int status = next_##name() arguments;              \
+        if (status != 0 && errno == ETIMEDOUT) pass(&end); \
+        return status;                                     \
+    }
 
-int sem_clockwait(sem_t *restrict semaphore, clockid_t clock, const struct timespec *restrict time) {
-    struct end end = end_of(time);
-    int status = next_sem_clockwait()(semaphore, clock, &end.real);
+TIMED_BY_ERRNO(sem_timedwait, (sem_t *restrict semaphore, const struct timespec *restrict time), (semaphore, &end.real))
+TIMED_BY_ERRNO(sem_clockwait, (sem_t *restrict semaphore, clockid_t clock, const struct timespec *restrict time),
+               (semaphore, clock, &end.real))
+
+/* Rust's standard library waits so, until a moment; a FUTEX_WAIT is as long as it says. */
+long call_futex(const long given[6]) {
+    const struct timespec *time = (const struct timespec *)given[3];
+    bool has_end = (given[1] & FUTEX_CMD_MASK) == FUTEX_WAIT_BITSET && time;
+    struct end end;
+    long status;
+    if (!has_end) return next_syscall()(SYS_futex, given[0], given[1], given[2], given[3], given[4], given[5]);
+    end = end_of(time);
+    status = next_syscall()(SYS_futex, given[0], given[1], given[2], &end.real, given[4], given[5]);
     if (status != 0 && errno == ETIMEDOUT) pass(&end);
     return status;
 }

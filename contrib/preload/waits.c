@@ -1,4 +1,5 @@
-/* Waits: epoll, poll and select, and the waits of calls that block. Each is a wait of the library, which moves the clock. */
+/* Waits: epoll, poll and select, and the waits of calls that block. Each is a wait of the library, which moves the
+   clock. */
 #include "preload.h"
 
 #include <poll.h>
@@ -12,7 +13,7 @@ FORWARD(select)
 FORWARD(pselect)
 
 /* A program that polls goes on until its clock has gone on. So a poll that finds nothing takes a millisecond. */
-static void take_a_while(int64_t found, int64_t timeout) {
+static void take_a_while(int found, int64_t timeout) {
     if (found == 0 && timeout == 0) nippersage_tick(self(), 1);
 }
 
@@ -44,13 +45,9 @@ int epoll_ctl(int epfd, int op, int fd, struct epoll_event *event) {
 }
 
 static int wait_in(int epfd, struct epoll_event *events, int most, int64_t timeout, const char *call) {
-    struct timespec time = timespec_of(timeout < 0 ? 0 : (uint64_t)timeout);
-    int64_t count = -EBADF;
-    if (is_open(epfd))
-        count = nippersage_epoll_pwait2(self(), epfd - FIRST, events, most, timeout < 0 ? NULL : &time);
-    count = unless_endless(count, call);
+    int count = is_open(epfd) ? wait_at(epfd - FIRST, events, most, timeout, call) : -EBADF;
     take_a_while(count, timeout);
-    return (int)ANSWER(count, "%s(%d, %s, %d, %lld)", call, epfd, reports_text(TEXT, events, (int)count), most,
+    return (int)ANSWER(count, "%s(%d, %s, %d, %lld)", call, epfd, reports_text(TEXT, events, count), most,
                        (long long)timeout);
 }
 
@@ -72,7 +69,7 @@ int epoll_pwait2(int epfd, struct epoll_event *events, int most, const struct ti
 
 /* ---- calls that block ---- */
 
-int64_t wait_for_arrival(struct block *block, int fd, uint32_t events, const char *call) {
+int wait_for_arrival(struct block *block, int fd, uint32_t events, const char *call) {
     struct epoll_event event = {.events = events | EPOLLET};
     int status = 0;
     if (block->instance < 0) {
@@ -82,7 +79,7 @@ int64_t wait_for_arrival(struct block *block, int fd, uint32_t events, const cha
         status = nippersage_epoll_ctl(self(), block->instance, EPOLL_CTL_ADD, fd - FIRST, &event);
     }
     if (status < 0) return status;
-    return unless_endless(nippersage_epoll_wait(self(), block->instance, &event, 1, -1), call);
+    return wait_at(block->instance, &event, 1, -1, call);
 }
 
 void end_block(struct block *block) {
@@ -137,25 +134,31 @@ static int register_all(struct sought *sought, int instance) {
     return 0;
 }
 
-static int wait_once(struct sought *sought, int instance, struct epoll_event *events, int64_t timeout) {
-    int64_t limit = sought->has_closed ? 0 : timeout;
-    struct timespec time = timespec_of(limit < 0 ? 0 : (uint64_t)limit);
-    int count = nippersage_epoll_pwait2(self(), instance, events, NUMBERS, limit < 0 ? NULL : &time);
-    for (int i = 0; i < count; i++) sought->shown[events[i].data.u64] = events[i].events;
+/* Room for the events, and where they come from. */
+struct source {
+    int instance;
+    struct epoll_event *events;
+};
+
+static int wait_once(struct sought *sought, const struct source *from, int64_t timeout, const char *call) {
+    int count = wait_at(from->instance, from->events, NUMBERS, sought->has_closed ? 0 : timeout, call);
+    for (int i = 0; i < count; i++) sought->shown[from->events[i].data.u64] = from->events[i].events;
     if (!sought->has_closed) take_a_while(count, timeout);
     return count;
 }
 
 /* Waits until one of them shows something, or the time has passed. 0, or minus an error number. */
 static int seek(struct sought *sought, int64_t timeout, const char *call) {
-    struct epoll_event *events = malloc(NUMBERS * sizeof *events);
-    int instance = events ? make_own_instance() : -ENOMEM, status = instance;
-    if (instance >= 0) {
-        status = register_all(sought, instance);
-        if (status == 0) status = (int)unless_endless(wait_once(sought, instance, events, timeout), call);
-        end_own_instance(instance);
+    struct source from = {-ENOMEM, malloc(NUMBERS * sizeof *from.events)};
+    int status;
+    if (from.events) from.instance = make_own_instance();
+    status = from.instance;
+    if (from.instance >= 0) {
+        status = register_all(sought, from.instance);
+        if (status == 0) status = wait_once(sought, &from, timeout, call);
+        end_own_instance(from.instance);
     }
-    free(events);
+    free(from.events);
     return status < 0 ? status : 0;
 }
 
@@ -220,7 +223,8 @@ int __poll_chk(struct pollfd *files, nfds_t count, int timeout, size_t room) {
     return poll(files, count, timeout);
 }
 
-/* The three sets of select, with the events that each waits for and those that make a descriptor a member of the answer. */
+/* The three sets of select, with the events that each waits for and those that make a descriptor a member of the
+   answer. */
 struct sets {
     fd_set *of[3];
 };
@@ -278,7 +282,8 @@ int select(int most, fd_set *reads, fd_set *writes, fd_set *excepts, struct time
     return found;
 }
 
-int pselect(int most, fd_set *reads, fd_set *writes, fd_set *excepts, const struct timespec *time, const sigset_t *mask) {
+int pselect(int most, fd_set *reads, fd_set *writes, fd_set *excepts, const struct timespec *time,
+            const sigset_t *mask) {
     struct sets sets = {{reads, writes, excepts}};
     struct sought sought = {.highest = -1};
     int64_t timeout = time ? milliseconds(time) : -1;

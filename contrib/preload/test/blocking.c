@@ -98,7 +98,8 @@ static void selects(void) {
     FD_SET(sides[1], &writes);
     FD_SET(counter, &reads);
     found = select(sides[1] + counter, &reads, &writes, NULL, NULL);
-    trace("select: %d, %d %d %d", found, FD_ISSET(sides[0], &reads), FD_ISSET(sides[1], &writes), FD_ISSET(counter, &reads));
+    trace("select: %d, %d %d %d", found, FD_ISSET(sides[0], &reads), FD_ISSET(sides[1], &writes),
+          FD_ISSET(counter, &reads));
 }
 
 static void flags(void) {

@@ -1,4 +1,5 @@
-/* epoll by its own calls: a chain of EPOLLONESHOT registrations, edge-triggered ones, a nested instance, timers by both clocks. */
+/* epoll by its own calls: a chain of EPOLLONESHOT registrations, edge-triggered ones, a nested instance, timers by
+   both clocks. */
 #include "trace.h"
 
 #include <fcntl.h>

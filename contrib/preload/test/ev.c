@@ -1,4 +1,5 @@
-/* libev by epoll: a timer, a pipe, an async watcher that another thread wakes, and a periodic one by the time of day. */
+/* libev by epoll: a timer, a pipe, an async watcher that another thread wakes, and a periodic one by the time of day.
+   */
 #include "trace.h"
 
 #include <ev.h>

@@ -73,7 +73,8 @@ async def pipes():
     loop = asyncio.get_running_loop()
     reader, writer = os.pipe()
     stream = asyncio.StreamReader()
-    transport, _ = await loop.connect_read_pipe(lambda: asyncio.StreamReaderProtocol(stream), os.fdopen(reader, "rb", 0))
+    protocol = asyncio.StreamReaderProtocol(stream)
+    transport, _ = await loop.connect_read_pipe(lambda: protocol, os.fdopen(reader, "rb", 0))
 
     def write():
         time.sleep(0.2)

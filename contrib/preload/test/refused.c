@@ -1,5 +1,5 @@
-/* What the shim refuses: each call with its error, and the line on standard error that says so. Simulated only; refused.out
-   is what both streams have to say. */
+/* What the shim refuses: each call with its error, and the line on standard error that says so. Simulated only;
+   refused.out is what both streams have to say. */
 #include "trace.h"
 
 #include <fcntl.h>
