@@ -111,6 +111,7 @@ __attribute__((constructor)) static void begin(void) {
     const char *path = getenv("NIPPERSAGE_LOG");
     is_logged = path && (unlink(path) == 0 || errno == ENOENT);
     if (path && !is_logged) say("the log can't be made anew at %s: %s", path, strerror(errno));
+    at_quick_exit(write_history_once);
     self();
 }
 
