@@ -24,9 +24,10 @@ struct timespec timespec_of(uint64_t count) {
     return (struct timespec){.tv_sec = (time_t)(count / 1000), .tv_nsec = (long)(count % 1000) * 1000000};
 }
 
+/* A sleep of no time takes a millisecond: a program that yields until its clock has gone on comes to an end. */
 void sleep_for(int64_t count, const char *call) {
     struct epoll_event none;
-    wait_at(sleeping_instance(), &none, 1, count, call);
+    wait_at(sleeping_instance(), &none, 1, count == 0 ? 1 : count, call);
 }
 
 void bring_clock_to(uint64_t moment) {
@@ -48,22 +49,37 @@ static bool is_of_day(clockid_t clock) {
            clock == CLOCK_REALTIME_ALARM;
 }
 
+/* The clock for a program that asks. One that asks again and again, and does nothing else, waits for it to go on: at
+   each thousandth time it goes on by a millisecond. */
+static uint64_t moment_asked(void) {
+    static _Thread_local unsigned long last;
+    static _Thread_local int times;
+    uint64_t moment = moment_now();
+    times = calls() == last + 1 ? times + 1 : 0;
+    if (times == 1000) {
+        times = 0;
+        bring_clock_to(++moment);
+    }
+    last = calls();
+    return moment;
+}
+
 int clock_gettime(clockid_t clock, struct timespec *time) {
     if (!is_clock(clock)) return next_clock_gettime()(clock, time);
-    *time = timespec_of(moment_now());
+    *time = timespec_of(moment_asked());
     if (is_of_day(clock)) time->tv_sec += EPOCH_SECONDS;
     return 0;
 }
 
 int gettimeofday(struct timeval *restrict time, void *restrict zone) {
-    struct timespec now = timespec_of(moment_now());
+    struct timespec now = timespec_of(moment_asked());
     *time = (struct timeval){EPOCH_SECONDS + now.tv_sec, now.tv_nsec / 1000};
     if (zone) memset(zone, 0, sizeof(struct timezone));
     return 0;
 }
 
 time_t time(time_t *told) {
-    time_t now = EPOCH_SECONDS + timespec_of(moment_now()).tv_sec;
+    time_t now = EPOCH_SECONDS + timespec_of(moment_asked()).tv_sec;
     if (told) *told = now;
     return now;
 }
@@ -78,7 +94,7 @@ int clock_nanosleep(clockid_t clock, int flags, const struct timespec *time, str
         if (is_of_day(clock)) now += (int64_t)EPOCH_SECONDS * 1000;
         count = count > now ? count - now : 0;
     }
-    if (count > 0) sleep_for(count, "clock_nanosleep");
+    sleep_for(count, "clock_nanosleep");
     ANSWER(0, "clock_nanosleep(%s, %s, %s)", clock_text(TEXT, clock), flags & TIMER_ABSTIME ? "TIMER_ABSTIME" : "0",
            time_text(TEXT, time));
     return 0;

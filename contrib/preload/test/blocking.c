@@ -132,6 +132,19 @@ static void flags(void) {
     trace("again: %ld", outcome(close(copy)));
 }
 
+/* Loops that wait for the clock to go on come to an end. */
+static void spin(void) {
+    long end = clock_now() + 20;
+    while (clock_now() < end) continue;
+    trace("spun");
+    end = clock_now() + 20;
+    while (clock_now() < end) usleep(0);
+    trace("yielded");
+    end = clock_now() + 20;
+    while (clock_now() < end) poll(NULL, 0, 0);
+    trace("polled");
+}
+
 static void sleeps(void) {
     struct timespec time = {0, 100000000};
     struct itimerspec value = {.it_value = {0, 100000000}};
@@ -141,6 +154,7 @@ static void sleeps(void) {
     time.tv_nsec = -1;
     trace("nanosleep: %ld", outcome(nanosleep(&time, NULL)));
     trace("sleep: %u", sleep(1));
+    spin();
     timerfd_settime(timer, 0, &value, NULL);
     trace("timer: %ld", outcome(read(timer, &expired, sizeof expired)));
     trace("expired: %llu", (unsigned long long)expired);
