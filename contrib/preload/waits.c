@@ -36,7 +36,8 @@ static bool is_open(int fd) {
 
 int epoll_ctl(int epfd, int op, int fd, struct epoll_event *event) {
     int status = -EBADF;
-    if (!is_simulated(epfd)) return refuse(EBADF, "epoll_ctl(%d): no simulated instance has this descriptor", epfd);
+    if (!is_simulated(epfd) && epfd >= 0)
+        return refuse(EBADF, "epoll_ctl(%d): no simulated instance has this descriptor", epfd);
     if (!is_simulated(fd) && fd >= 0)
         return refuse(EPERM, "epoll_ctl(%d, %s, %d): a real descriptor in a simulated instance", epfd, word_of(op), fd);
     if (is_open(epfd) && is_open(fd)) status = nippersage_epoll_ctl(self(), epfd - FIRST, op, fd - FIRST, event);
