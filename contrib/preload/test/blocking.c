@@ -3,6 +3,7 @@
 
 #include <fcntl.h>
 #include <poll.h>
+#include <stdint.h>
 #include <stdlib.h>
 #include <string.h>
 #include <sys/eventfd.h>
@@ -72,6 +73,25 @@ static void much(void) {
     pthread_join(thread, NULL);
     trace("%d bytes, %d of them wrong", sum, wrong);
     close(ends[0]);
+}
+
+static void *read_late(void *value) {
+    usleep(100000);
+    trace("reads");
+    eventfd_read(counter, value);
+    return NULL;
+}
+
+/* A count to which 1 can be added, but not 10: the write waits for the read, though poll would show POLLOUT. */
+static void brim(void) {
+    pthread_t thread;
+    eventfd_t before = 0, after = 0;
+    eventfd_write(counter, UINT64_MAX - 5);
+    pthread_create(&thread, NULL, read_late, &before);
+    trace("written: %ld", outcome(eventfd_write(counter, 10)));
+    pthread_join(thread, NULL);
+    eventfd_read(counter, &after);
+    trace("counts: %llu, %llu", (unsigned long long)before, (unsigned long long)after);
 }
 
 static void polls(void) {
@@ -167,6 +187,7 @@ int main(void) {
     counter = eventfd(0, 0);
     reads();
     much();
+    brim();
     polls();
     selects();
     flags();
