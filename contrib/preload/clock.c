@@ -10,7 +10,7 @@ FORWARD(clock_nanosleep)
 
 uint64_t moment_now(void) {
     uint64_t moment = 0;
-    nippersage_now(self().kernel, &moment);
+    nippersage_now(the_kernel(), &moment);
     return moment;
 }
 
@@ -55,7 +55,7 @@ static uint64_t moment_asked(void) {
     static _Thread_local unsigned long last;
     static _Thread_local int times;
     uint64_t moment = moment_now();
-    times = calls() == last + 1 ? times + 1 : 0;
+    times = calls() == last ? times + 1 : 0;
     if (times == 1000) {
         times = 0;
         bring_clock_to(++moment);

@@ -85,6 +85,11 @@ struct nippersage_task self(void) {
     return (struct nippersage_task){kernel, caller, 1};
 }
 
+struct nippersage_kernel *the_kernel(void) {
+    pthread_once(&once, start);
+    return kernel;
+}
+
 unsigned long calls(void) { return atomic_load(&count); }
 
 int sleeping_instance(void) {

@@ -31,6 +31,8 @@ static inline bool is_simulated(int fd) { return fd >= FIRST; }
 
 /* The task of the thread that calls. The first call of all makes the kernel. */
 struct nippersage_task self(void);
+/* The kernel, for a question that is no call. */
+struct nippersage_kernel *the_kernel(void);
 /* How many times self was called: what didn't change it made no call. */
 unsigned long calls(void);
 /* The C library's function of a name. It ends the program where there is none. */

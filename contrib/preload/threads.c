@@ -19,6 +19,23 @@ FORWARD(syscall)
 
 static pthread_key_t counted;
 static pthread_once_t once = PTHREAD_ONCE_INIT;
+static atomic_bool is_watching;
+
+/* A wait with a time, as pthread_cond_timedwait. It sleeps in the real kernel, and ends once the simulated clock is
+   at its end. The watcher moves the clock to it, and wakes it. Where other threads go on for as long as it is to last
+   and MORE milliseconds, it ends, too, and the clock is brought to its end: CPython's threads take turns so. */
+struct timed {
+    int64_t end;             /* by the simulated clock, or below 0 where it is no time */
+    int64_t left;            /* milliseconds of real time before it ends in any case */
+    pthread_cond_t *changed; /* what it waits for, if that has to be woken */
+    clockid_t clock;         /* the real clock that the C library waits by */
+    struct timespec until;   /* the end of its sleep by that clock */
+    struct timed *next;
+};
+enum { MORE = 20, A_SECOND = 1000, SLEEP_ON = -1 };
+
+static pthread_mutex_t timed_lock = PTHREAD_MUTEX_INITIALIZER;
+static struct timed *all_timed;
 
 /* ---- the watcher ---- */
 
@@ -56,27 +73,55 @@ static bool all_sleep(void) {
 
 /* Where no time wakes anyone, a real descriptor may. So it is only said, and after a second. */
 static void say_endless(int turns) {
-    if (turns == 1000 && is_anyone_waiting())
+    if (turns == A_SECOND && is_anyone_waiting())
         say("nothing has happened for a second: every thread sleeps, and no time ends a simulated wait");
 }
 
-/* Once all sleep, and did so a millisecond ago, and made no call in between, nothing but time can wake them. */
+/* Whether there is a moment to which the clock can go: the next one of the kernel, or the end of a wait with a time. */
+static bool find_moment(uint64_t *moment) {
+    bool has_one = nippersage_next_moment(the_kernel(), moment) == 1;
+    pthread_mutex_lock(&timed_lock);
+    for (const struct timed *timed = all_timed; timed; timed = timed->next) {
+        uint64_t end = (uint64_t)timed->end;
+        if (!has_one || end < *moment) *moment = end;
+        has_one = true;
+    }
+    pthread_mutex_unlock(&timed_lock);
+    return has_one;
+}
+
+/* Wakes those whose end has come. Others that wait for the same wake, too, as they may at any time. */
+static void wake_timed(uint64_t moment) {
+    pthread_mutex_lock(&timed_lock);
+    for (const struct timed *timed = all_timed; timed; timed = timed->next)
+        if (timed->changed && (uint64_t)timed->end <= moment) pthread_cond_broadcast(timed->changed);
+    pthread_mutex_unlock(&timed_lock);
+}
+
+/* Moves the clock on, if there is a moment to which it can go. */
+static bool move_clock(void) {
+    uint64_t moment;
+    if (!find_moment(&moment)) return false;
+    bring_clock_to(moment);
+    wake_timed(moment);
+    return true;
+}
+
+/* Once all sleep, and did so a millisecond ago, and made no call in between, nothing but time can wake them. A thread
+   that computes for a second without a call may wait for another one that sleeps: then time goes on, too. */
 static _Noreturn void *watch(void *nothing) {
     static const struct timespec a_while = {0, 1000000};
     unsigned long before = 0;
-    int still = 0; /* for so many milliseconds all have slept without a call */
+    int quiet = 0, still = 0; /* so many milliseconds without a call, and so many in which all slept, too */
     (void)nothing;
     for (;;) {
-        uint64_t moment;
         next_nanosleep()(&a_while, NULL);
-        still = all_sleep() && calls() == before ? still + 1 : 0;
-        if (still > 1) {
-            if (nippersage_next_moment(self().kernel, &moment) == 1) {
-                bring_clock_to(moment);
-                still = 0;
-            } else {
-                say_endless(still);
-            }
+        quiet = calls() == before ? quiet + 1 : 0;
+        still = quiet > 0 && all_sleep() ? still + 1 : 0;
+        if ((still > 1 || quiet > A_SECOND) && move_clock()) {
+            quiet = still = 0;
+        } else {
+            say_endless(still);
         }
         before = calls();
     }
@@ -97,6 +142,7 @@ static void start_watching(void) {
     pthread_sigmask(SIG_SETMASK, &all, &before);
     if (next_pthread_create()(&watcher, NULL, (void *(*)(void *))watch, NULL) == 0) {
         pthread_detach(watcher);
+        atomic_store(&is_watching, true);
     } else {
         say("no thread can be made that moves the clock");
     }
@@ -138,79 +184,123 @@ int pthread_create(pthread_t *made, const pthread_attr_t *attributes, void *(*ru
     return error;
 }
 
-/* ---- waits with a time, which stay real ---- */
+/* ---- waits with a time ---- */
 
-/* The end of a wait: how the program told it, as a moment of the simulated clock, and by the real clock of the same
-   name. Which clock it is the time itself says: one begins at 0, the other at EPOCH_SECONDS. */
-struct end {
-    int64_t moment;
-    struct timespec real;
-};
+/* Which clock a time is by the time itself says: one begins at 0, the other at EPOCH_SECONDS. */
+static bool is_of_day(const struct timespec *time) { return time->tv_sec >= EPOCH_SECONDS / 2; }
 
-static struct end end_of(const struct timespec *told) {
-    bool is_of_day = told->tv_sec >= EPOCH_SECONDS / 2;
-    struct end end = {milliseconds(told), *told};
-    struct timespec left;
-    int64_t now = (int64_t)moment_now();
-    if (end.moment < 0) return end;
-    if (is_of_day) end.moment -= (int64_t)EPOCH_SECONDS * 1000;
-    left = timespec_of(end.moment < now ? 0 : (uint64_t)(end.moment - now));
-    next_clock_gettime()(is_of_day ? CLOCK_REALTIME : CLOCK_MONOTONIC, &end.real);
-    end.real.tv_sec += left.tv_sec + (end.real.tv_nsec + left.tv_nsec) / 1000000000;
-    end.real.tv_nsec = (end.real.tv_nsec + left.tv_nsec) % 1000000000;
-    return end;
+/* So much real time from now ends the wait's next sleep. */
+static void sleep_at_most(struct timed *timed, int64_t count) {
+    struct timespec more = timespec_of((uint64_t)count);
+    next_clock_gettime()(timed->clock, &timed->until);
+    timed->until.tv_sec += more.tv_sec + (timed->until.tv_nsec + more.tv_nsec) / 1000000000;
+    timed->until.tv_nsec = (timed->until.tv_nsec + more.tv_nsec) % 1000000000;
 }
 
-/* So much time has really passed, so it has here. */
-static void pass(const struct end *end) {
-    if (end->moment > 0) bring_clock_to((uint64_t)end->moment);
+/* A wait on a condition variable sleeps until it is woken, another one for a millisecond at a time. One that nobody can
+   end, for want of other threads, doesn't sleep. */
+static void begin_timed(struct timed *timed, const struct timespec *time, pthread_cond_t *changed) {
+    int64_t now = (int64_t)moment_now(), end = milliseconds(time);
+    *timed = (struct timed){.end = end, .changed = changed, .until = *time};
+    timed->clock = is_of_day(time) ? CLOCK_REALTIME : CLOCK_MONOTONIC;
+    if (end < 0) return;
+    if (is_of_day(time)) end -= (int64_t)EPOCH_SECONDS * 1000;
+    if (end < 0) end = 0;
+    timed->end = end;
+    timed->left = end <= now || !atomic_load(&is_watching) ? 0 : end - now + MORE;
+    sleep_at_most(timed, changed || timed->left == 0 ? timed->left : 1);
+    self();
+    pthread_mutex_lock(&timed_lock);
+    timed->next = all_timed;
+    all_timed = timed;
+    pthread_mutex_unlock(&timed_lock);
 }
 
-/* A wait of the C library until `time`, which answers an error number. */
-#define TIMED(name, parameters, arguments)   \
-    FORWARD(name)                            \
-    int name parameters {                    \
-        struct end end = end_of(time);       \
-        int error = next_##name() arguments; \
-        if (error == ETIMEDOUT) pass(&end);  \
-        return error;                        \
+/* The error of a wait that answered this one: ETIMEDOUT if it is over, SLEEP_ON if it is to go on. */
+static int error_of_timed(struct timed *timed, int error) {
+    if (timed->end < 0 || (error != ETIMEDOUT && !(error == 0 && timed->changed))) return error;
+    if ((int64_t)moment_now() >= timed->end) return ETIMEDOUT;
+    if (error == 0) return 0;
+    timed->left = timed->changed ? 0 : timed->left - 1;
+    if (timed->left > 0) {
+        sleep_at_most(timed, 1);
+        return SLEEP_ON;
+    }
+    bring_clock_to((uint64_t)timed->end);
+    return ETIMEDOUT;
+}
+
+static void end_timed(const struct timed *timed) {
+    struct timed **link = &all_timed;
+    pthread_mutex_lock(&timed_lock);
+    while (*link && *link != timed) link = &(*link)->next;
+    if (*link) *link = timed->next;
+    pthread_mutex_unlock(&timed_lock);
+}
+
+/* A wait of the C library until `time`, which answers an error number; on a condition variable, or on NULL. */
+#define TIMED(name, condition, parameters, arguments)                \
+    FORWARD(name)                                                    \
+    int name parameters {                                            \
+        struct timed timed;                                          \
+        int error;                                                   \
+        begin_timed(&timed, time, condition);                        \
+        do {                                                         \
+            error = error_of_timed(&timed, next_##name() arguments); \
+        } while (error == SLEEP_ON);                                 \
+        end_timed(&timed);                                           \
+        return error;                                                \
     }
 
-TIMED(pthread_cond_timedwait,
+TIMED(pthread_cond_timedwait, changed,
       (pthread_cond_t *restrict changed, pthread_mutex_t *restrict lock, const struct timespec *restrict time),
-      (changed, lock, &end.real))
-TIMED(pthread_cond_clockwait,
+      (changed, lock, &timed.until))
+TIMED(pthread_cond_clockwait, changed,
       (pthread_cond_t *restrict changed, pthread_mutex_t *restrict lock, clockid_t clock,
        const struct timespec *restrict time),
-      (changed, lock, clock, &end.real))
-TIMED(pthread_mutex_timedlock, (pthread_mutex_t *restrict lock, const struct timespec *restrict time),
-      (lock, &end.real))
-TIMED(pthread_mutex_clocklock, (pthread_mutex_t *restrict lock, clockid_t clock, const struct timespec *restrict time),
-      (lock, clock, &end.real))
+      (changed, lock, clock, &timed.until))
+TIMED(pthread_mutex_timedlock, NULL, (pthread_mutex_t *restrict lock, const struct timespec *restrict time),
+      (lock, &timed.until))
+TIMED(pthread_mutex_clocklock, NULL,
+      (pthread_mutex_t *restrict lock, clockid_t clock, const struct timespec *restrict time),
+      (lock, clock, &timed.until))
 
 /* One that answers by errno. */
-#define TIMED_BY_ERRNO(name, parameters, arguments)        \
-    FORWARD(name)                                          \
-    int name parameters {                                  \
-        struct end end = end_of(time);                     \
-        int status = next_##name() arguments;              \
-        if (status != 0 && errno == ETIMEDOUT) pass(&end); \
-        return status;                                     \
+#define TIMED_BY_ERRNO(name, type, parameters, arguments)                \
+    FORWARD(name)                                                        \
+    type name parameters {                                               \
+        struct timed timed;                                              \
+        type status;                                                     \
+        int error;                                                       \
+        begin_timed(&timed, time, NULL);                                 \
+        do {                                                             \
+            status = next_##name() arguments;                            \
+            error = error_of_timed(&timed, status < 0 ? errno : 0);      \
+        } while (status < 0 && errno == ETIMEDOUT && error == SLEEP_ON); \
+        end_timed(&timed);                                               \
+        if (status < 0) errno = error;                                   \
+        return status;                                                   \
     }
 
-TIMED_BY_ERRNO(sem_timedwait, (sem_t *restrict semaphore, const struct timespec *restrict time), (semaphore, &end.real))
-TIMED_BY_ERRNO(sem_clockwait, (sem_t *restrict semaphore, clockid_t clock, const struct timespec *restrict time),
-               (semaphore, clock, &end.real))
+TIMED_BY_ERRNO(sem_timedwait, int, (sem_t *restrict semaphore, const struct timespec *restrict time),
+               (semaphore, &timed.until))
+TIMED_BY_ERRNO(sem_clockwait, int, (sem_t *restrict semaphore, clockid_t clock, const struct timespec *restrict time),
+               (semaphore, clock, &timed.until))
 
 /* Rust's standard library waits so, until a moment; a FUTEX_WAIT is as long as it says. */
 long call_futex(const long given[6]) {
     const struct timespec *time = (const struct timespec *)given[3];
     bool has_end = (given[1] & FUTEX_CMD_MASK) == FUTEX_WAIT_BITSET && time;
-    struct end end;
+    struct timed timed;
     long status;
+    int error = 0;
     if (!has_end) return next_syscall()(SYS_futex, given[0], given[1], given[2], given[3], given[4], given[5]);
-    end = end_of(time);
-    status = next_syscall()(SYS_futex, given[0], given[1], given[2], &end.real, given[4], given[5]);
-    if (status != 0 && errno == ETIMEDOUT) pass(&end);
+    begin_timed(&timed, time, NULL);
+    do {
+        status = next_syscall()(SYS_futex, given[0], given[1], given[2], &timed.until, given[4], given[5]);
+        if (status < 0) error = errno == ETIMEDOUT ? error_of_timed(&timed, ETIMEDOUT) : errno;
+    } while (status < 0 && errno == ETIMEDOUT && error == SLEEP_ON);
+    end_timed(&timed);
+    if (status < 0) errno = error;
     return status;
 }

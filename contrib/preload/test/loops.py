@@ -1,6 +1,7 @@
 """CPython's selectors and asyncio, over whatever kernel there is: what happens, and when, in milliseconds."""
 import asyncio
 import os
+import queue
 import selectors
 import socket
 import threading
@@ -38,6 +39,23 @@ def select(kind):
         os.close(writer)
     os.close(reader)
     left.close()
+
+
+def take_turns():
+    """A wait with a time and a sleep, each in a thread of its own: the shorter one ends first."""
+
+    def sleep():
+        time.sleep(0.4)
+        trace("slept")
+
+    thread = threading.Thread(target=sleep)
+    thread.start()
+    trace("event", threading.Event().wait(0.2))
+    thread.join()
+    try:
+        queue.Queue().get(timeout=0.3)
+    except queue.Empty:
+        trace("empty")
 
 
 async def tick(name, seconds):
@@ -106,9 +124,9 @@ async def main():
     trace("woken")
     await talk()
     await pipes()
-    trace("queue", threading.Event().wait(0.2))
 
 
 for each in (selectors.EpollSelector, selectors.PollSelector, selectors.SelectSelector):
     select(each)
+take_turns()
 asyncio.run(main())
