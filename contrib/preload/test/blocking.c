@@ -94,6 +94,36 @@ static void brim(void) {
     trace("counts: %llu, %llu", (unsigned long long)before, (unsigned long long)after);
 }
 
+static void *sleep_long(void *nothing) {
+    usleep(400000);
+    trace("slept");
+    return nothing;
+}
+
+/* A wait with a time, by each clock, that nobody ends: it is over before a longer sleep of another thread. */
+static void wait_on_condition(clockid_t clock) {
+    static pthread_mutex_t lock = PTHREAD_MUTEX_INITIALIZER;
+    pthread_condattr_t attributes;
+    pthread_cond_t never;
+    pthread_t thread;
+    struct timespec end;
+    pthread_condattr_init(&attributes);
+    pthread_condattr_setclock(&attributes, clock);
+    pthread_cond_init(&never, &attributes);
+    pthread_create(&thread, NULL, sleep_long, NULL);
+    clock_gettime(clock, &end);
+    end.tv_nsec += 200000000;
+    end.tv_sec += end.tv_nsec / 1000000000;
+    end.tv_nsec %= 1000000000;
+    pthread_mutex_lock(&lock);
+    while (pthread_cond_timedwait(&never, &lock, &end) == 0) continue;
+    trace("timed out");
+    pthread_mutex_unlock(&lock);
+    pthread_join(thread, NULL);
+    pthread_cond_destroy(&never);
+    pthread_condattr_destroy(&attributes);
+}
+
 static void polls(void) {
     struct pollfd files[3] = {{sides[0], POLLIN, 0}, {sides[1], POLLIN | POLLOUT, 0}, {-1, POLLIN, 0}};
     int found = poll(files, 1, 100);
@@ -188,6 +218,8 @@ int main(void) {
     reads();
     much();
     brim();
+    wait_on_condition(CLOCK_REALTIME);
+    wait_on_condition(CLOCK_MONOTONIC);
     polls();
     selects();
     flags();
