@@ -22,13 +22,13 @@ use Rattle.std.proofs.lemmas.List.{get_or-append_right, get_or_append_left, get_
 use Rattle.std.proofs.lemmas.List.Elements.{All-contains, All-filter, Contains-get_or, Contains-push_cases}
 
 -- the two ways
-way_up : (ls : List Link) (a b : ℕ) → Contains (along Down ls) (a, b) → Contains (along Up ls) (b, a)
+pub way_up : (ls : List Link) (a b : ℕ) → Contains (along Down ls) (a, b) → Contains (along Up ls) (b, a)
 way_up ls a b h =
     let m = Contains-from_map (ends_of Down) ls (a, b) h in
     let e : ends_of Up m.0 ≡ (b, a) = λ j. ((m.2 j).1, (m.2 j).0) in
     subst (λ (p : ℕ × ℕ). Contains (along Up ls) p) e (Contains-map (ends_of Up) ls m.0 m.1)
 
-way_down : (ls : List Link) (a b : ℕ) → Contains (along Up ls) (a, b) → Contains (along Down ls) (b, a)
+pub way_down : (ls : List Link) (a b : ℕ) → Contains (along Up ls) (a, b) → Contains (along Down ls) (b, a)
 way_down ls a b h =
     let m = Contains-from_map (ends_of Up) ls (a, b) h in
     let e : ends_of Down m.0 ≡ (b, a) = λ j. ((m.2 j).1, (m.2 j).0) in
@@ -44,7 +44,7 @@ pub short_up : (ls : List Link) → IsShort (along Down ls) → IsShort (along U
 short_up ls short x y p = short y x (chain_down ls 5 x y p)
 
 -- places, link by link
-places_from : (es : List (ℕ × ℕ)) (room : ℕ) → ((e : ℕ × ℕ) → Contains es e → (e.0 < room) × (e.1 < room)) → HasPlaces es room
+pub places_from : (es : List (ℕ × ℕ)) (room : ℕ) → ((e : ℕ × ℕ) → Contains es e → (e.0 < room) × (e.1 < room)) → HasPlaces es room
 places_from es room h k d l = h (get_or es k d) (Contains-get_or es k d l)
 
 pub place_of : (es : List (ℕ × ℕ)) (room : ℕ) → HasPlaces es room → (e : ℕ × ℕ) → Contains es e → (e.0 < room) × (e.1 < room)
@@ -125,7 +125,7 @@ module _ (p : Link → Bool) (ls left : List Link) (is : left ≡ filter p ls) w
   places_left room h = subst (λ (ls : List Link). HasPlaces (edges ls) room) (sym is) (places_part (edges (filter p ls)) (edges ls) room (kept_edge p ls) h)
 
 -- a table with more places says the same
-grown_same : {X : Type 0} (v : X) (xs : List X) (n y : ℕ) → get_or (xs ++ replicate n v) y v ≡ get_or xs y v
+pub grown_same : {X : Type 0} (v : X) (xs : List X) (n y : ℕ) → get_or (xs ++ replicate n v) y v ≡ get_or xs y v
 grown_same v xs n y = elim (cases_lt y (length xs)) [
   | inl inside ↦ get_or_append_left xs (replicate n v) v y inside
   | inr past ↦ get_or-append_right xs (replicate n v) (length xs) y v refl past ∙ (at_fill n v (replicate n v) refl (y - length xs) ∙ sym (get_or_past xs y v past))

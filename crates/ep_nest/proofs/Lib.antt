@@ -10,6 +10,7 @@ pub mod KeptLemmas
 pub mod TurnLemmas
 pub mod AdjacentLemmas
 pub mod LevelLemmas
+pub mod DepthLemmas
 pub mod MayAddLemmas
 pub mod PurgeLemmas
 pub mod RuleLemmas

@@ -6,11 +6,11 @@ use Rattle.ep_nest.proofs.ElementLemmas.{Contains-cons, Contains-cons_cases, Con
 use Rattle.ep_nest.proofs.KeptLemmas.{chain_down, chain_up}
 use Rattle.ep_nest.proofs.LegalityLemmas.{is_legal_from_short, short_from_is_legal}
 use Rattle.ep_nest.specs.Chains.{IsLegalGraph}
-use Rattle.ep_nest.specs.Lengths.{IsLongest}
-use Rattle.ep_nest.specs.Links.{along, edges, ends_of, is_between, starting_at}
+use Rattle.ep_nest.specs.Depths.{IsShallow, IsTooDeep}
+use Rattle.ep_nest.specs.Links.{edges, ends_of, is_between, starting_at}
 use Rattle.ep_nest.specs.declared.link.Link.{Link}
-use Rattle.ep_nest.specs.declared.link.Way.TheVariants.{Down, Up}
-use Rattle.std.proofs.Common.{Bool, Contains, List, [], ap, eq-eqb, eqb, false, inl, inr, refl, subst, sym, true, ℕ, ◌==◌, ◌∙◌, ◌∷◌, ◌≡◌, ◌||◌}
+use Rattle.ep_nest.specs.declared.link.Way.TheVariants.{Down}
+use Rattle.std.proofs.Common.{Bool, Contains, List, [], ap, arith, eq-eqb, eqb, false, inl, inr, refl, subst, sym, true, ℕ, ◌==◌, ◌∙◌, ◌∷◌, ◌≡◌, ◌≢◌, ◌||◌}
 use Rattle.std.proofs.lemmas.Bool.{and_from, and_parts, cases_Bool, eqb-true, or_cases}
 use Rattle.std.specs.List.{list_any}
 
@@ -52,15 +52,24 @@ between_starting (l ∷ ls) a b =
       | inr off ↦ rw off rest
     ]
 
-module _ (ls : List Link) (legal : is_legal (edges ls) ≡ true) (outer inner above below : ℕ) (up : IsLongest (along Up ls) outer above) (down : IsLongest (along Down ls) inner below) where
-  pub legal_if_fits : Fits (edges ls) outer inner above below → is_legal ((outer, inner) ∷ edges ls) ≡ true
-  legal_if_fits fits =
-      is_legal_from_short ((outer, inner) ∷ edges ls) (stays_short (edges ls) outer inner above below (short_from_is_legal (edges ls) legal) fits
-      (λ n x p. up.longest n x (chain_up ls n x outer p)) (λ n y p. down.longest n y p))
+module _ (ls : List Link) (legal : is_legal (edges ls) ≡ true) (outer inner : ℕ) where
+  -- few links above the one and below the other, and none back
+  pub legal_if_shallow : IsShallow ls outer inner → outer ≢ inner → (Contains (edges ls) (inner, outer) → ⊥) → is_legal ((outer, inner) ∷ edges ls) ≡ true
+  legal_if_shallow few apart one_way =
+      is_legal_from_short ((outer, inner) ∷ edges ls) (stays_short (edges ls) outer inner few.above few.below (short_from_is_legal (edges ls) legal)
+      (record { apart = apart; one_way = one_way; shallow = few.fits })
+      (λ n x p. few.up n x (chain_up ls n x outer p)) few.down)
 
-  pub fits_if_legal : is_legal ((outer, inner) ∷ edges ls) ≡ true → Fits (edges ls) outer inner above below
-  fits_if_legal more =
-      fits_from_short (edges ls) outer inner above below (short_from_is_legal ((outer, inner) ∷ edges ls) more) up.chain.0 down.chain.0 (chain_down ls above outer up.chain.0 up.chain.1) down.chain.1
+  -- what has to hold where the link may be added
+  pub fits_if_legal : is_legal ((outer, inner) ∷ edges ls) ≡ true → Fits (edges ls) outer inner 0 0
+  fits_if_legal more = fits_from_short (edges ls) outer inner 0 0 (short_from_is_legal ((outer, inner) ∷ edges ls) more) outer inner refl refl
+
+  pub too_deep_refused : IsTooDeep ls outer inner → is_legal ((outer, inner) ∷ edges ls) ≡ true → ⊥
+  too_deep_refused deep more =
+      let up = deep.up.chain in
+      let down = deep.down.chain in
+      let fits = fits_from_short (edges ls) outer inner deep.above deep.below (short_from_is_legal ((outer, inner) ∷ edges ls) more) up.0 down.0 (chain_down ls deep.above outer up.0 up.1) down.1 in
+      omega (arith, fits.shallow, deep.many)
 
 pub words_from_machine : (es : List (ℕ × ℕ)) → is_legal es ≡ true → IsLegalGraph es
 words_from_machine es h = legal_from_short es (short_from_is_legal es h)

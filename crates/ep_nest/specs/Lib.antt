@@ -1,6 +1,7 @@
 pub mod Links
 pub mod Chains
 pub mod Lengths
+pub mod Depths
 pub mod Marks
 pub mod Adjacent
 pub mod Storage

@@ -10,6 +10,10 @@ abbrev pub ends_of : Way → Link → ℕ × ℕ
 ends_of Down l = (l.outer.0, l.inner.0)
 ends_of Up l = (l.inner.0, l.outer.0)
 
+abbrev pub turned : Way → Way
+turned Down = Up
+turned Up = Down
+
 abbrev pub along : Way → List Link → List (ℕ × ℕ)
 along way ls = map (ends_of way) ls
 

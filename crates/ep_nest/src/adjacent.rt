@@ -1,14 +1,17 @@
 //! The links of each instance along one way.
-ghost use Rattle.std.specs.Prelude.{◌≡◌, ◌<◌, ◌≤◌, [], OnErr, OnOk, length, slice_get, vec_capacity, vec_len, ℕ};
+ghost use Rattle.std.specs.Prelude.{◌≡◌, ◌<◌, ◌≤◌, [], IfNone, IfSome, OnErr, OnOk, length, slice_get, vec_capacity, vec_len, ℕ};
 ghost use Rattle.std.specs.List.{AllByRecursion};
 ghost use Rattle.std.specs.Map.{keys_of, values_of};
+ghost use Rattle.std.specs.Map.Iter.{ShowsInOrder, deref};
 ghost use Rattle.ep_nest.specs.Adjacent.{GainsTurn, LosesTurn, SameTurns, entries_at, turns_at};
+ghost use Rattle.ep_nest.specs.declared.link.Link.{Link as Tie};
 
 use crate::link::Link;
 use crate::put::put;
 use ep_base::DescId;
 use std::alloc::{AllocError, Allocator};
 use std::collections::BTreeMap;
+use std::collections::btree_map::Values;
 use std::marker::Model;
 
 /// For each instance its links along one way, by ticket, so in the order in which they were made. Contracts see the
@@ -85,6 +88,16 @@ impl<A: Allocator> Adjacent<A> {
         let map = self.maps.get(instance.0)?;
         let (_, link) = map.first_key_value()?;
         Some(*link)
+    }
+
+    /// The links of an instance, in order; `None` where it never had one. It takes no memory.
+    pub fn turns(&self, instance: DescId) -> Option<Values<'_, u64, Link>>
+        ensures some { IfSome result (λ links. links ≡ values_of (turns_at self.now instance.0)) }
+        ensures none { IfNone result (values_of (turns_at self.now instance.0) ≡ []) }
+        ensures runs { IfSome result (λ _. ShowsInOrder (deref {X = Tie})) }
+    {
+        let map = self.maps.get(instance.0)?;
+        Some(map.values())
     }
 
     /// Fills a list with the links of an instance, in order, where there is room for them.

@@ -14,9 +14,9 @@ ghost use Rattle.ep_nest.specs.contracts.graph.Graph.{the_row};
 ghost use Rattle.ep_nest.specs.declared.link.Link.{Link as Tie};
 
 use crate::ascend::ascend;
+use crate::depths::{Depths, are_too_deep};
 use crate::link::{Link, Way};
 use crate::links::Links;
-use crate::longest::{LONGEST, longest};
 use crate::walk::Walk;
 use ep_base::{DescId, EntryId, Errno};
 use std::alloc::{AllocError, Allocator, Global};
@@ -31,18 +31,19 @@ use std::marker::Model;
 pub struct Graph<A: Allocator = Global> {
     links: Links<A>,
     walk: Walk<A>,
+    depths: Depths<A>,
 }
 
 impl<A: Allocator> Model for Graph<A> {
     ghost use Rattle.std.specs.Prelude.{List};
     ghost use Rattle.ep_nest.specs.declared.link.Link.{Link as Tie};
-    ghost use Rattle.ep_nest.specs.Graph.{IsKept};
+    ghost use Rattle.ep_nest.specs.Graph.{IsGraph};
 
     ghost Value = { List Tie };
 
     ghost view = { λ g. g.links };
 
-    ghost invariant = { λ g. IsKept g.links g.walk };
+    ghost invariant = { λ g. IsGraph g.links g.walk g.depths };
 }
 
 /// Whether one of these links leads down to an instance.
@@ -82,6 +83,7 @@ impl<A: Allocator> Graph<A> {
         Graph {
             links: Links::new(alloc),
             walk: Walk::new(alloc),
+            depths: Depths::new(alloc),
         }
     }
 
@@ -112,17 +114,16 @@ impl<A: Allocator> Graph<A> {
 
     /// Whether an instance may begin to watch another, as epoll_ctl(2) has it: `Eloop` exactly where the graph would
     /// have a loop, an instance that watches itself included, or a chain of more than five instances, both ends
-    /// counted, above and below taken together. It takes no memory, changes nothing, and looks at the links above the
-    /// one and below the other, at each four times at most.
+    /// counted, above and below taken together. It takes no memory and changes nothing. Most often it looks only at
+    /// the links of `inner`. It looks at the links above the one and below the other, at each four times at most,
+    /// where a chain might get too long, or was longer before links were taken away.
     pub fn may_add(&mut self, outer: DescId, inner: DescId) -> Result<(), Errno>
         ensures stays { self.new ≡ self.old }
         ensures machine { IsOk result ↔ (is_legal ((outer.0, inner.0) ∷ edges self.old) ≡ true) }
         ensures legal { IsOk result ↔ IsLegalGraph ((outer.0, inner.0) ∷ edges self.old) }
         ensures eloop { IfErr result (λ e. e ≡ Errno.Eloop) }
     {
-        let above = longest(&self.links, Way::Up, outer, &mut self.walk);
-        let below = longest(&self.links, Way::Down, inner, &mut self.walk);
-        let is_too_deep = u32::from(above) + u32::from(below) >= u32::from(LONGEST);
+        let is_too_deep = are_too_deep(&self.links, &self.depths, outer, inner, &mut self.walk);
         if outer == inner || is_too_deep || watches(&self.links, inner, outer, &mut self.walk) {
             return Err(Errno::Eloop);
         }
@@ -142,12 +143,16 @@ impl<A: Allocator> Graph<A> {
         ensures kept { OnErr result (self.new ≡ self.old) }
     {
         let many = self.links.len() + 1;
-        self.walk.make_room(outer.0.max(inner.0), many)?;
-        self.links.push(Link {
+        let key = outer.0.max(inner.0);
+        self.walk.make_room(key, many)?;
+        self.depths.make_room(key)?;
+        let link = Link {
             outer,
             inner,
             entry,
-        })?;
+        };
+        self.links.push(link)?;
+        self.depths.note(&self.links, link);
         Ok(())
     }
 
@@ -167,6 +172,7 @@ impl<A: Allocator> Graph<A> {
         let _marks = &self.walk.marks;
         cut(&mut self.links, Way::Down, instance);
         cut(&mut self.links, Way::Up, instance);
+        self.depths.forget(instance);
     }
 
     /// The instances, each once, from which a chain of links that `passes` admits leads down to one.

@@ -3,6 +3,7 @@
 
 mod adjacent;
 mod ascend;
+mod depths;
 mod graph;
 mod link;
 mod links;

@@ -1,6 +1,6 @@
 //! Links between instances.
 ghost use Rattle.std.specs.Prelude.{◌≡◌};
-ghost use Rattle.ep_nest.specs.Links.{ends_of};
+ghost use Rattle.ep_nest.specs.Links.{ends_of, turned};
 
 use ep_base::{DescId, EntryId};
 
@@ -22,6 +22,18 @@ pub enum Way {
     Down,
     /// From the instance that is watched to the one that watches.
     Up,
+}
+
+impl Way {
+    /// The other way.
+    pub fn turned(self) -> Way
+        ensures { result ≡ turned self }
+    {
+        match self {
+            Way::Down => Way::Up,
+            Way::Up => Way::Down,
+        }
+    }
 }
 
 impl Link {

@@ -1,5 +1,5 @@
 //! All links, in the order in which they were made.
-ghost use Rattle.std.specs.Prelude.{◌≡◌, ◌++◌, ◌∷◌, ◌<◌, ◌≤◌, ◌^◌, [], OnErr, OnOk, false, length, slice_get, true, vec_capacity};
+ghost use Rattle.std.specs.Prelude.{◌≡◌, ◌++◌, ◌∷◌, ◌<◌, ◌≤◌, ◌^◌, [], IfNone, IfSome, OnErr, OnOk, false, length, slice_get, true, vec_capacity};
 ghost use Rattle.std.specs.Map.Iter.{ShowsInOrder, deref};
 ghost use Rattle.std.specs.List.{AllByRecursion};
 ghost use Rattle.std.specs.Map.{keys_of};
@@ -167,6 +167,19 @@ impl<A: Allocator> Links<A> {
         match way {
             Way::Down => self.down.first(instance),
             Way::Up => self.up.first(instance),
+        }
+    }
+
+    /// The links that start at an instance, in order; `None` where none ever did. It takes no memory, and looks at no
+    /// other link.
+    pub fn turns(&self, way: Way, instance: DescId) -> Option<Values<'_, u64, Link>>
+        ensures some { IfSome result (λ links. links ≡ starting_at way instance.0 self.now) }
+        ensures none { IfNone result (starting_at way instance.0 self.now ≡ []) }
+        ensures runs { IfSome result (λ _. ShowsInOrder (deref {X = Tie})) }
+    {
+        match way {
+            Way::Down => self.down.turns(instance),
+            Way::Up => self.up.turns(instance),
         }
     }
 

@@ -7,10 +7,13 @@ use Rattle.ep_nest.specs.Links.{edges, keys}
 use Rattle.ep_nest.proofs.graph.Graph.above.Goals as goal
 
 pub ascend-requires-clause-short : goal.ascend-requires-clause-short
-ascend-requires-clause-short g c = short_from_is_legal (edges c.self.inside.links) c.self.invariant.legal
+ascend-requires-clause-short g c = short_from_is_legal (edges c.self.inside.links) c.self.invariant.kept.legal
 
 pub invariant_of-self : goal.invariant_of-self
-invariant_of-self g c = record { legal = c.self.invariant.legal; room = c.ascend.ensures.room; clear = c.ascend.ensures.clear }
+invariant_of-self g c = record {
+  kept = record { legal = c.self.invariant.kept.legal; room = c.ascend.ensures.room; clear = c.ascend.ensures.clear };
+  deep = c.self.invariant.deep;
+}
 
 pub returns : goal.returns
 returns g c = (

@@ -1,32 +1,24 @@
-use Rattle.std.proofs.Common.{List, ap, arith, refl, sym, true, ◌+◌, ◌<◌, ◌∙◌, ◌∷◌, ◌≡◌}
+use Rattle.std.proofs.Common.{List, ap, refl, sym, true, ◌∙◌, ◌∷◌, ◌≡◌}
 use Rattle.std.proofs.lemmas.Bool.{eqb-false, eqb-true}
 use Rattle.ep_machine.specs.Watches.{is_legal}
-use Rattle.ep_nest.proofs.LegalityLemmas.{short_from_is_legal}
-use Rattle.ep_nest.proofs.MayAddLemmas.{between, fits_if_legal, legal_if_fits, machine_from_words, not_between, words_from_machine}
+use Rattle.ep_nest.proofs.MayAddLemmas.{between, fits_if_legal, legal_if_shallow, machine_from_words, not_between, too_deep_refused, words_from_machine}
 use Rattle.ep_nest.specs.Links.{edges}
 use Rattle.ep_nest.specs.declared.link.Link.{Link}
 use Rattle.ep_nest.proofs.graph.Graph.may_add.Given.{Over}
 use Rattle.ep_nest.proofs.graph.Graph.may_add.Goals as goal
 use Rattle.ep_nest.proofs.graph.Graph.may_add.Goals.{then-eq-via-then-eq, then-eq-via-else-eq+then-is_too_deep, then-eq-via-else-eq+else-is_too_deep+then-watches}
 
-pub longest-above-requires-clause-short : goal.longest-above-requires-clause-short
-longest-above-requires-clause-short g c = short_from_is_legal (edges c.self.inside.links) c.self.invariant.legal
-
-pub longest-below-requires-clause-short : goal.longest-below-requires-clause-short
-longest-below-requires-clause-short g c = short_from_is_legal (edges c.self.inside.links) c.self.invariant.legal
-
 refused : (g : Over) (c : goal.Joined-then-eq g) → is_legal ((c.args.outer.0, c.args.inner.0) ∷ edges c.args.self.now) ≡ true → ⊥
 refused g c h =
     let ls = c.self.inside.links in
     let outer = c.args.outer.0 in
     let inner = c.args.inner.0 in
+    let was = c.self.invariant.kept.legal in
     let legal : is_legal ((outer, inner) ∷ edges ls) ≡ true = ap (λ (ls : List Link). is_legal ((outer, inner) ∷ edges ls)) c.self.view_is ∙ h in
-    let fits = fits_if_legal ls c.self.invariant.legal outer inner c.longest-above.result c.longest-below.result c.longest-above.ensures.longest c.longest-below.ensures.longest legal in
-    let shallow = fits.shallow in
     elim c.then-eq.branch [
-      | then-eq-via-then-eq w ↦ fits.apart (eqb-true outer inner (sym c.eq.ensures ∙ w.if-eq.true))
-      | then-eq-via-else-eq+then-is_too_deep w ↦ omega (arith, shallow, w.if-is_too_deep.true, c.from.ensures, c.from-2.ensures, c.from-3.ensures)
-      | then-eq-via-else-eq+else-is_too_deep+then-watches w ↦ fits.one_way (between ls inner outer (sym w.watches.ensures.exact ∙ w.if-watches.true))
+      | then-eq-via-then-eq w ↦ (fits_if_legal ls was outer inner legal).apart (eqb-true outer inner (sym c.eq.ensures ∙ w.if-eq.true))
+      | then-eq-via-else-eq+then-is_too_deep w ↦ too_deep_refused ls was outer inner (c.are_too_deep-is_too_deep.ensures.deep w.if-is_too_deep.true) legal
+      | then-eq-via-else-eq+else-is_too_deep+then-watches w ↦ (fits_if_legal ls was outer inner legal).one_way (between ls inner outer (sym w.watches.ensures.exact ∙ w.if-watches.true))
     ]
 
 pub returns-then-eq-clause-machine : goal.returns-then-eq-clause-machine
@@ -43,8 +35,7 @@ returns-clause-machine g c =
     let inner = c.args.inner.0 in
     let apart : outer ≡ inner → ⊥ = eqb-false outer inner (sym c.eq.ensures ∙ c.if-eq.false) in
     let one_way = not_between ls inner outer (sym c.watches.ensures.exact ∙ c.if-watches.false) in
-    let shallow : c.longest-above.result + c.longest-below.result < 4 = omega (arith, c.if-is_too_deep.false, c.from.ensures, c.from-2.ensures, c.from-3.ensures) in
-    let legal = legal_if_fits ls c.self.invariant.legal outer inner c.longest-above.result c.longest-below.result c.longest-above.ensures.longest c.longest-below.ensures.longest (record { apart = apart; one_way = one_way; shallow = shallow }) in
+    let legal = legal_if_shallow ls c.self.invariant.kept.legal outer inner (c.are_too_deep-is_too_deep.ensures.shallow c.if-is_too_deep.false) apart one_way in
     (λ e. ap (λ (ls : List Link). is_legal ((outer, inner) ∷ edges ls)) (sym c.self.view_is) ∙ legal, λ h. refl)
 
 pub returns-clause-legal : goal.returns-clause-legal
