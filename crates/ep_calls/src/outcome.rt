@@ -112,6 +112,7 @@ impl Outcome {
     }
 
     /// The answer, what a second record of the event is made of where one is asked for, and the event's record.
+    #[inline(always)]
     pub fn into_record(
         self,
         caller: CallerId,

@@ -15,6 +15,7 @@ use smallvec::SmallVec;
 use std::alloc::{AllocError, Global};
 
 /// What is reported of them.
+#[inline(always)]
 fn reports_of(alloc: Global, chosen: &[Reportable]) -> Result<ReportList, AllocError>
     ensures { IfOk result (λ reports. reports ≡ map report_of chosen.now) }
 {
@@ -29,6 +30,7 @@ fn reports_of(alloc: Global, chosen: &[Reportable]) -> Result<ReportList, AllocE
 }
 
 /// Their numbers.
+#[inline(always)]
 fn picked_of(alloc: Global, chosen: &[Reportable]) -> Result<Picked, AllocError>
     ensures { IfOk result (λ picked. picked ≡ numbers_of chosen.now) }
 {
@@ -83,6 +85,7 @@ fn reported(alloc: Global, chosen: &[Reportable], kept: bool) -> Result<Outcome,
 
 /// Reports them, and notes that it did. `kept`: a second record of it is asked for.
 /// An `Err` is want of memory and leaves the registrations.
+#[inline(always)]
 pub fn report(
     alloc: Global,
     interest: &mut Interest,

@@ -78,6 +78,7 @@ impl Parts {
     /// makes no report with a timeout of 0, and else the caller is parked until it is marked, `timeout` milliseconds at
     /// most, and without end where that is negative.
     /// An `Err` is want of memory and leaves the parts.
+    #[inline(always)]
     pub fn wait_with(
         &mut self,
         step: u64,
