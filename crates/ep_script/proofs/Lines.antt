@@ -1,5 +1,5 @@
 -- Bytes that hold no byte 10, and the lines of a text that begins with them.
-use Rattle.std.proofs.Common.{◌∙◌, List, [], ap, arith, get_or, length, refl, take, ℕ, ◌+◌, ◌++◌, ◌<◌, ◌≡◌, ◌≢◌, ◌≤◌, ◌∷◌}
+use Rattle.std.proofs.Common.{◌∙◌, List, [], ap, arith, get_or, length, refl, subst, suc, take, zero, ℕ, ◌+◌, ◌++◌, ◌<◌, ◌≡◌, ◌≢◌, ◌≤◌, ◌∷◌}
 use Rattle.std.proofs.lemmas.Bool.{ne_eqb}
 use Rattle.std.proofs.lemmas.List.{take_more}
 use Rattle.ep_script.specs.Lines.{IsPlain, last_line, lines_of, onto_first}
@@ -10,6 +10,13 @@ plain_append (x ∷ l) m p q = (p.0, plain_append l m p.1 q)
 
 pub plain_more : (xs : List ℕ) (i : ℕ) → i < length xs → IsPlain (take i xs) → get_or xs i 0 ≢ 10 → IsPlain (take (i + 1) xs)
 plain_more xs i h p q = rw (take_more xs i 0 h) (plain_append (take i xs) (get_or xs i 0 ∷ []) p (q, tt))
+
+-- bytes of which none is a byte 10
+pub plain_until : (xs : List ℕ) (n : ℕ) → n ≤ length xs → ((k : ℕ) → k < n → get_or xs k 0 ≢ 10) → IsPlain (take n xs)
+plain_until xs zero h none = tt
+plain_until xs (suc n) h none =
+    let e : n + 1 ≡ suc n = omega arith in
+    subst (λ m. IsPlain (take m xs)) e (plain_more xs n (omega arith) (plain_until xs n (omega arith) (λ k less. none k (omega arith))) (none n (omega arith)))
 
 pub other : (x : ℕ) (xs : List ℕ) → x ≢ 10 → lines_of (x ∷ xs) ≡ onto_first x (lines_of xs)
 other x xs h = rw (ne_eqb x 10 h) refl

@@ -9,6 +9,7 @@ ghost use Rattle.ep_script.specs.Unread.{unread};
 use crate::chunk::Input;
 use crate::fault::ScriptFault;
 use crate::watched::Watched;
+use memchr::memchr;
 use std::alloc::{AllocError, Global};
 use std::io::Read;
 
@@ -25,12 +26,10 @@ fn plain_front(bytes: &[u8]) -> usize
     ensures cut { result < length bytes.now
         → bytes.now ≡ take result bytes.now ++ 10 ∷ drop (result + 1) bytes.now }
 {
-    for (i, byte) in bytes.iter().enumerate() {
-        if *byte == b'\n' {
-            return i;
-        }
+    match memchr(b'\n', bytes) {
+        Some(place) => place,
+        None => bytes.len(),
     }
-    bytes.len()
 }
 
 impl Input {
