@@ -1,3 +1,5 @@
+pub mod NumberLemmas
+pub mod TreeLemmas
 pub mod CallLemmas
 pub mod DataLemmas
 pub mod FieldLemmas

@@ -4,3 +4,4 @@ pub mod Calls
 pub mod Members
 pub mod Answers
 pub mod Records
+pub mod Tokens

@@ -69,7 +69,7 @@ fn result_of(alloc: Global, value: &Value) -> Result<Option<(Answer, Picked)>, A
 }
 
 #[tactic(auto, unfolding(crate::specs::Records::record_of))]
-fn record_of(alloc: Global, value: &Value) -> Result<Option<Record>, AllocError>
+pub(crate) fn record_of(alloc: Global, value: &Value) -> Result<Option<Record>, AllocError>
     ensures { IfOk result (λ r. r ≡ record_of (view value.now)) }
 {
     let Some(caller) = required_u32(value, "caller") else {

@@ -12,9 +12,26 @@ use crate::summary::LineKind;
 use crate::watched::Watched;
 use ep_base::{Answer, Errno};
 use ep_plain::Kernel;
-use ep_text::{push_answer, push_bad, read_line};
+use ep_text::{LineReader, push_answer, push_bad};
 use std::alloc::{AllocError, Global};
 use std::io::Write;
+
+/// What answering takes, and keeps from line to line.
+#[derive(Drop)]
+pub(crate) struct Desk {
+    lines: LineReader,
+    /// Room for an answer.
+    text: String,
+}
+
+impl Desk {
+    pub(crate) fn new(alloc: Global) -> Desk {
+        Desk {
+            lines: LineReader::new(alloc),
+            text: String::new(alloc),
+        }
+    }
+}
 
 fn kind_of_answer(answer: &Answer) -> LineKind
     ensures { result ≡ (if is_no_memory answer.now then kind.Unrecorded else kind.Recorded) }
@@ -25,22 +42,23 @@ fn kind_of_answer(answer: &Answer) -> LineKind
     }
 }
 
-/// Hands what the line asks for to the kernel, and puts the line that tells the answer into `text`.
+/// Hands what the line asks for to the kernel, and puts the line that tells the answer onto the desk.
 fn ask<K: Kernel>(
     alloc: Global,
     kernel: &mut K,
     line: &[u8],
     number: u64,
-    text: &mut String,
+    desk: &mut Desk,
 ) -> Result<LineKind, AllocError>
     ensures limits { K.bounds kernel.new ≡ K.bounds kernel.old }
     ensures ok { IfOk result
-        (λ kind. Tells (event line.now) number kind (string_bytes text.new) (K.past kernel.old)
+        (λ kind. Tells (event line.now) number kind (string_bytes desk.new.text) (K.past kernel.old)
         (K.past kernel.new)) }
     ensures err { OnErr result (MayGain (K.past kernel.old) (K.past kernel.new)) }
 {
+    let Desk { lines, text } = desk;
     text.clear();
-    match read_line(alloc, line)? {
+    match lines.read(alloc, line)? {
         None => {
             push_bad(text, number)?;
             Ok(LineKind::Bad)
@@ -53,14 +71,14 @@ fn ask<K: Kernel>(
     }
 }
 
-/// Answers a line, and says what became of it. `text` is room for the answer.
+/// Answers a line, and says what became of it.
 pub(crate) fn answer_line<K: Kernel, W: Write>(
     alloc: Global,
     kernel: &mut K,
     writer: &mut Watched<W>,
     line: &[u8],
     number: u64,
-    text: &mut String,
+    desk: &mut Desk,
 ) -> Result<LineKind, ScriptFault>
     ensures limits { K.bounds kernel.new ≡ K.bounds kernel.old }
     ensures ok { IfOk result
@@ -72,10 +90,10 @@ pub(crate) fn answer_line<K: Kernel, W: Write>(
         (W.contents writer.old.inner) (W.contents writer.new.inner) (K.past kernel.old) (K.past kernel.new)) }
     ensures err_flag { IsErrOf result ScriptFault.Write → writer.new.failed ≡ true }
 {
-    let Ok(kind) = ask(alloc, kernel, line, number, text) else {
+    let Ok(kind) = ask(alloc, kernel, line, number, desk) else {
         return Err(ScriptFault::Memory);
     };
-    match emit(writer, text.as_bytes()) {
+    match emit(writer, desk.text.as_bytes()) {
         Ok(()) => Ok(kind),
         Err(fault) => Err(fault),
     }

@@ -11,7 +11,7 @@ use crate::fault::{HistoryFault, ScriptFault};
 use crate::next_line::next_line;
 use crate::watched::Watched;
 use ep_base::Record;
-use ep_history::read_record;
+use ep_history::RecordReader;
 use std::alloc::Global;
 use std::io::Read;
 
@@ -29,6 +29,7 @@ fn of_reading(fault: ScriptFault) -> HistoryFault
 /// Puts the record of a line behind those before it.
 fn add_record(
     alloc: Global,
+    reader: &mut RecordReader,
     line: &[u8],
     number: u64,
     records: &mut Vec<Record>,
@@ -40,7 +41,7 @@ fn add_record(
     ensures err { IfErr result
         (λ e. (e ≡ HistoryFault.Memory) ⊎ (e ≡ HistoryFault.NoRecord number)) }
 {
-    let Ok(found) = read_record(alloc, line) else {
+    let Ok(found) = reader.read(alloc, line) else {
         return Err(HistoryFault::Memory);
     };
     let Some(record) = found else {
@@ -74,13 +75,14 @@ pub fn read_history<R: Read>(
     };
     let mut line = Vec::new(alloc);
     let mut records = Vec::new(alloc);
+    let mut lines = RecordReader::new(alloc);
     for done in 0..u64::MAX {
         match next_line(reader, &mut input, &mut line, done + 1) {
             Ok(true) => {}
             Ok(false) => return Ok(records),
             Err(fault) => return Err(of_reading(fault)),
         }
-        match add_record(alloc, line.as_slice(), done + 1, &mut records) {
+        match add_record(alloc, &mut lines, line.as_slice(), done + 1, &mut records) {
             Ok(()) => {}
             Err(fault) => return Err(fault),
         }

@@ -5,7 +5,7 @@ ghost use Rattle.ep_script.specs.Known.{Leads};
 ghost use Rattle.ep_script.specs.Lines.{IsPlain};
 ghost use Rattle.ep_script.specs.Outcome.{Cut, Faulted, Gains, IsHeld, Whole};
 
-use crate::answer::answer_line;
+use crate::answer::{Desk, answer_line};
 use crate::chunk::Input;
 use crate::fault::ScriptFault;
 use crate::next_line::next_line;
@@ -70,7 +70,7 @@ pub fn run_script<K: Kernel, R: Read, W: Write>(
         return Err(ScriptFault::Memory);
     };
     let mut line = Vec::new(alloc);
-    let mut text = String::new(alloc);
+    let mut desk = Desk::new(alloc);
     let mut summary = Summary {
         lines: 0,
         records: 0,
@@ -82,7 +82,7 @@ pub fn run_script<K: Kernel, R: Read, W: Write>(
             Ok(false) => return Ok(summary),
             Err(fault) => return Err(fault),
         }
-        match answer_line(alloc, kernel, writer, line.as_slice(), done + 1, &mut text) {
+        match answer_line(alloc, kernel, writer, line.as_slice(), done + 1, &mut desk) {
             Ok(kind) => summary = summary.with(kind),
             Err(fault) => return Err(fault),
         }

@@ -6,7 +6,7 @@ ghost use Rattle.ep_script.specs.Lines.{IsPlain};
 ghost use Rattle.ep_script.specs.Outcome.{Cut, Gains, IsHeld, Whole};
 ghost use Rattle.ep_script.specs.Recorded.{EndsBy, Writes, WritesPart};
 
-use crate::answer::answer_line;
+use crate::answer::{Desk, answer_line};
 use crate::chunk::Input;
 use crate::fault::{RecordedFault, ScriptFault};
 use crate::keep::keep_record;
@@ -74,7 +74,7 @@ pub fn run_recorded<K: Kernel, R: Read, W: Write, H: Write>(
         return Err(RecordedFault::Script(ScriptFault::Memory));
     };
     let mut line = Vec::new(alloc);
-    let mut text = String::new(alloc);
+    let mut desk = Desk::new(alloc);
     let mut summary = Summary {
         lines: 0,
         records: 0,
@@ -87,7 +87,7 @@ pub fn run_recorded<K: Kernel, R: Read, W: Write, H: Write>(
             Err(fault) => return Err(RecordedFault::Script(fault)),
         }
         let place = kernel.history().len();
-        match answer_line(alloc, kernel, writer, line.as_slice(), done + 1, &mut text) {
+        match answer_line(alloc, kernel, writer, line.as_slice(), done + 1, &mut desk) {
             Ok(kind) => summary = summary.with(kind),
             Err(fault) => return Err(RecordedFault::Script(fault)),
         }

@@ -1,15 +1,19 @@
 -- What is left of reading a line: lists that are no pair, and texts that are no JSON.
-use Rattle.std.proofs.Common.{◌≡◌, ℕ, List, [], ◌∷◌, length, Bool, true, false, Option, Some, None, refl, sym, ap, ok_or, Err, IsUtf8, if◌then◌else◌}
+use Rattle.std.proofs.Common.{◌≡◌, ℕ, List, [], ◌∷◌, length, Bool, true, false, Option, Some, None, refl, sym, ap, ok_or, Err, Ok, IsUtf8, ◌∙◌, if◌then◌else◌}
+use Rattle.std.specs.Result.{result_ok}
 use Rattle.std.specs.Str.{is_utf8}
 use Rattle.std.proofs.lemmas.Str.{IsUtf8-from_is_utf8, is_utf8-from_IsUtf8}
-use Rattle.serde_json.specs.Data.{Data}
+use Rattle.serde_json.specs.Data.{Data, no_members}
 use Rattle.serde_json.specs.Read.{read as json}
 use Rattle.serde_json.specs.View.{items_view}
 use Rattle.serde_json.specs.declared.value.Value.{Value}
 use Rattle.ep_text.specs.Bytes.{repeated}
 use Rattle.ep_text.specs.declared.reason.Reason.{Reason}
-use Rattle.ep_text.specs.Event.{command, reading}
-use Rattle.ep_text.specs.Keys.{◌>>=◌}
+use Rattle.ep_text.specs.declared.key.Key.TheVariants as key
+use Rattle.ep_text.specs.declared.source.Member.{Member}
+use Rattle.ep_text.specs.Event.{Command, Operation, asked, command, event, operation_in, reading}
+use Rattle.ep_text.specs.Keys.{first_other, ◌>>=◌}
+use Rattle.ep_text.specs.Source.{flat_data, put_all}
 use Rattle.ep_text.specs.Reason.{unread}
 
 pub repeated-other : (vs : List Value) → (length vs ≡ 2 → ⊥) → None ≡ repeated (items_view vs)
@@ -31,3 +35,11 @@ guarded_some false o d r e h = cc
 
 pub read_json : (line : List ℕ) (d : Data) → IsUtf8 line → json line ≡ Some d → command d ≡ reading line
 read_json line d u h = guarded_some (is_utf8 line) (json line) d (unread line) (is_utf8-from_IsUtf8 line u) h
+
+pub command_read : (line : List ℕ) (d : Data) (c : Command) → IsUtf8 line → json line ≡ Some d → command d ≡ Ok c → event line ≡ Some c
+command_read line d c u h e = ap result_ok (sym (read_json line d u h) ∙ e)
+
+pub flat_asked : (ms : List Member) (o : Operation) (c : Command) → operation_in (flat_data ms) ≡ Ok o → first_other (key.Op ∷ key.By ∷ o.keys) (put_all no_members ms) ≡ None → asked o (flat_data ms) ≡ Ok c
+    → command (flat_data ms) ≡ Ok c
+unfolding command
+flat_asked ms o c named known e = rw (named, known) e

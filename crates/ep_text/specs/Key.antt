@@ -25,3 +25,27 @@ key_name key.Value = codes "value"
 key_name key.Interval = codes "interval"
 key_name key.Abs = codes "abs"
 key_name key.To = codes "to"
+
+-- its place among the keys
+abbrev pub key_number : Key → ℕ
+key_number key.Op = 0
+key_number key.By = 1
+key_number key.Pid = 2
+key_number key.Cloexec = 3
+key_number key.Init = 4
+key_number key.Sem = 5
+key_number key.Clock = 6
+key_number key.Ep = 7
+key_number key.Fd = 8
+key_number key.Act = 9
+key_number key.Mask = 10
+key_number key.Data = 11
+key_number key.Max = 12
+key_number key.Timeout = 13
+key_number key.N = 14
+key_number key.Hex = 15
+key_number key.Fill = 16
+key_number key.Value = 17
+key_number key.Interval = 18
+key_number key.Abs = 19
+key_number key.To = 20

@@ -1,6 +1,8 @@
 pub mod Key
 pub mod Reason
 pub mod Values
+pub mod Source
+pub mod Flat
 pub mod Keys
 pub mod Mask
 pub mod Bytes

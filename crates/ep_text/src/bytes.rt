@@ -1,12 +1,14 @@
 //! The bytes of a write.
 ghost use Rattle.std.specs.Prelude.{◌≡◌, IfOk, option_map, replicate};
-ghost use Rattle.serde_json.specs.View.{items_view, view};
+ghost use Rattle.serde_json.specs.View.{items_view};
 ghost use Rattle.ep_text.specs.Bytes.{bytes_in, fill_value, hex_value, one_of, repeated};
 ghost use Rattle.ep_text.specs.Keys.{ok_map};
+ghost use Rattle.ep_text.specs.Source.{found_data, source_data};
 
 use crate::fields::fit;
 use crate::key::Key;
 use crate::reason::Reason;
+use crate::source::{Found, Source};
 use crate::value_kind::ValueKind;
 use hex::FromHexError;
 use serde_json::Value;
@@ -15,8 +17,8 @@ use std::alloc::{AllocError, Global};
 /// The greatest count of a `fill`.
 const MAX_FILL: u64 = 1_048_576;
 
-fn hex_bytes(alloc: Global, value: &Value) -> Result<Option<Vec<u8>>, AllocError>
-    ensures { IfOk result (λ b. option_map (λ v. v.items) b ≡ hex_value (view value.now)) }
+fn hex_bytes(alloc: Global, value: &Found<'_>) -> Result<Option<Vec<u8>>, AllocError>
+    ensures { IfOk result (λ b. option_map (λ v. v.items) b ≡ hex_value (found_data value.now)) }
 {
     let Some(text) = value.as_str() else {
         return Ok(None);
@@ -43,8 +45,8 @@ fn byte_and_count(items: &Vec<Value>) -> Option<(u8, usize)>
     }
 }
 
-fn fill_bytes(alloc: Global, value: &Value) -> Result<Option<Vec<u8>>, AllocError>
-    ensures { IfOk result (λ b. option_map (λ v. v.items) b ≡ fill_value (view value.now)) }
+fn fill_bytes(alloc: Global, value: &Found<'_>) -> Result<Option<Vec<u8>>, AllocError>
+    ensures { IfOk result (λ b. option_map (λ v. v.items) b ≡ fill_value (found_data value.now)) }
 {
     let Some(items) = value.as_array() else {
         return Ok(None);
@@ -58,20 +60,20 @@ fn fill_bytes(alloc: Global, value: &Value) -> Result<Option<Vec<u8>>, AllocErro
 
 fn one_of(
     alloc: Global,
-    hex: Option<&Value>,
-    fill: Option<&Value>,
+    hex: Option<Found<'_>>,
+    fill: Option<Found<'_>>,
 ) -> Result<Result<Vec<u8>, Reason>, AllocError>
     ensures { IfOk result (λ b. ok_map (λ v. v.items) b
-        ≡ one_of (option_map (λ v. view v.now) hex.entry) (option_map (λ v. view v.now) fill.entry)) }
+        ≡ one_of (option_map found_data hex.entry) (option_map found_data fill.entry)) }
 {
     match (hex, fill) {
         (Some(hex), None) => {
-            let bytes = hex_bytes(alloc, hex)?;
-            Ok(fit(bytes, hex, Key::Hex, ValueKind::Hex))
+            let bytes = hex_bytes(alloc, &hex)?;
+            Ok(fit(bytes, &hex, Key::Hex, ValueKind::Hex))
         }
         (None, Some(fill)) => {
-            let bytes = fill_bytes(alloc, fill)?;
-            Ok(fit(bytes, fill, Key::Fill, ValueKind::Fill))
+            let bytes = fill_bytes(alloc, &fill)?;
+            Ok(fit(bytes, &fill, Key::Fill, ValueKind::Fill))
         }
         (None, None) => Ok(Err(Reason::NeitherHexNorFill)),
         (Some(_), Some(_)) => Ok(Err(Reason::HexAndFill)),
@@ -79,8 +81,11 @@ fn one_of(
 }
 
 /// The bytes that `hex` or `fill` says, where just one of them is there.
-pub(crate) fn bytes_in(alloc: Global, line: &Value) -> Result<Result<Vec<u8>, Reason>, AllocError>
-    ensures { IfOk result (λ b. ok_map (λ v. v.items) b ≡ bytes_in (view line.now)) }
+pub(crate) fn bytes_in(
+    alloc: Global,
+    line: &Source<'_>,
+) -> Result<Result<Vec<u8>, Reason>, AllocError>
+    ensures { IfOk result (λ b. ok_map (λ v. v.items) b ≡ bytes_in (source_data line.now)) }
 {
-    one_of(alloc, line.get(Key::Hex.name()), line.get(Key::Fill.name()))
+    one_of(alloc, line.get(Key::Hex), line.get(Key::Fill))
 }

@@ -1,10 +1,10 @@
 //! The calls, each with the values of its keys.
 ghost use Rattle.std.specs.Prelude.{◌≡◌, IfOk};
-ghost use Rattle.serde_json.specs.View.{view};
 ghost use Rattle.ep_text.specs.Calls.{close_call, ctl_call, dup2_call, dup_call, epoll_call, eventfd_call};
 ghost use Rattle.ep_text.specs.Calls.{gettime_call, pipe_call, plain_call, read_call, settime_call};
 ghost use Rattle.ep_text.specs.Calls.{shutdown_call, socketpair_call, timerfd_call, wait_call, write_call};
 ghost use Rattle.ep_text.specs.Ops.{call_of};
+ghost use Rattle.ep_text.specs.Source.{source_data};
 
 use crate::bytes::bytes_in;
 use crate::fields::{flag, required_i32, required_i64, required_u32, required_u64, u64_or};
@@ -12,40 +12,40 @@ use crate::key::Key;
 use crate::masks::{mask_or_empty, required_operation};
 use crate::op::CallOp;
 use crate::reason::Reason;
+use crate::source::Source;
 use ep_base::{Buffer, Call, Fd};
-use serde_json::Value;
 use std::alloc::{AllocError, Global};
 
-fn pipe_call(value: &Value) -> Result<Call, Reason>
-    ensures { result ≡ pipe_call (view value.now) }
+fn pipe_call(value: &Source<'_>) -> Result<Call, Reason>
+    ensures { result ≡ pipe_call (source_data value.now) }
 {
     let cloexec = flag(value, Key::Cloexec)?;
     Ok(Call::Pipe { cloexec })
 }
 
-fn socketpair_call(value: &Value) -> Result<Call, Reason>
-    ensures { result ≡ socketpair_call (view value.now) }
+fn socketpair_call(value: &Source<'_>) -> Result<Call, Reason>
+    ensures { result ≡ socketpair_call (source_data value.now) }
 {
     let cloexec = flag(value, Key::Cloexec)?;
     Ok(Call::SocketPair { cloexec })
 }
 
-fn plain_call(value: &Value) -> Result<Call, Reason>
-    ensures { result ≡ plain_call (view value.now) }
+fn plain_call(value: &Source<'_>) -> Result<Call, Reason>
+    ensures { result ≡ plain_call (source_data value.now) }
 {
     let cloexec = flag(value, Key::Cloexec)?;
     Ok(Call::Plain { cloexec })
 }
 
-fn epoll_call(value: &Value) -> Result<Call, Reason>
-    ensures { result ≡ epoll_call (view value.now) }
+fn epoll_call(value: &Source<'_>) -> Result<Call, Reason>
+    ensures { result ≡ epoll_call (source_data value.now) }
 {
     let cloexec = flag(value, Key::Cloexec)?;
     Ok(Call::EpollCreate { cloexec })
 }
 
-fn eventfd_call(value: &Value) -> Result<Call, Reason>
-    ensures { result ≡ eventfd_call (view value.now) }
+fn eventfd_call(value: &Source<'_>) -> Result<Call, Reason>
+    ensures { result ≡ eventfd_call (source_data value.now) }
 {
     let init = required_u32(value, Key::Init)?;
     let semaphore = flag(value, Key::Sem)?;
@@ -57,16 +57,16 @@ fn eventfd_call(value: &Value) -> Result<Call, Reason>
     })
 }
 
-fn timerfd_call(value: &Value) -> Result<Call, Reason>
-    ensures { result ≡ timerfd_call (view value.now) }
+fn timerfd_call(value: &Source<'_>) -> Result<Call, Reason>
+    ensures { result ≡ timerfd_call (source_data value.now) }
 {
     let clock = required_i32(value, Key::Clock)?;
     let cloexec = flag(value, Key::Cloexec)?;
     Ok(Call::TimerFd { clock, cloexec })
 }
 
-fn ctl_call(value: &Value) -> Result<Call, Reason>
-    ensures { result ≡ ctl_call (view value.now) }
+fn ctl_call(value: &Source<'_>) -> Result<Call, Reason>
+    ensures { result ≡ ctl_call (source_data value.now) }
 {
     let epfd = Fd(required_i32(value, Key::Ep)?);
     let fd = Fd(required_i32(value, Key::Fd)?);
@@ -82,8 +82,8 @@ fn ctl_call(value: &Value) -> Result<Call, Reason>
     })
 }
 
-fn wait_call(value: &Value) -> Result<Call, Reason>
-    ensures { result ≡ wait_call (view value.now) }
+fn wait_call(value: &Source<'_>) -> Result<Call, Reason>
+    ensures { result ≡ wait_call (source_data value.now) }
 {
     let epfd = Fd(required_i32(value, Key::Ep)?);
     let max = required_i32(value, Key::Max)?;
@@ -91,16 +91,16 @@ fn wait_call(value: &Value) -> Result<Call, Reason>
     Ok(Call::EpollWait { epfd, max, timeout })
 }
 
-fn read_call(value: &Value) -> Result<Call, Reason>
-    ensures { result ≡ read_call (view value.now) }
+fn read_call(value: &Source<'_>) -> Result<Call, Reason>
+    ensures { result ≡ read_call (source_data value.now) }
 {
     let fd = Fd(required_i32(value, Key::Fd)?);
     let n = required_u32(value, Key::N)?;
     Ok(Call::Read { fd, n })
 }
 
-fn write_call(alloc: Global, value: &Value) -> Result<Result<Call, Reason>, AllocError>
-    ensures { IfOk result (λ c. c ≡ write_call (view value.now)) }
+fn write_call(alloc: Global, value: &Source<'_>) -> Result<Result<Call, Reason>, AllocError>
+    ensures { IfOk result (λ c. c ≡ write_call (source_data value.now)) }
 {
     let fd = match required_i32(value, Key::Fd) {
         Ok(fd) => fd,
@@ -115,22 +115,22 @@ fn write_call(alloc: Global, value: &Value) -> Result<Result<Call, Reason>, Allo
     }
 }
 
-fn shutdown_call(value: &Value) -> Result<Call, Reason>
-    ensures { result ≡ shutdown_call (view value.now) }
+fn shutdown_call(value: &Source<'_>) -> Result<Call, Reason>
+    ensures { result ≡ shutdown_call (source_data value.now) }
 {
     let fd = Fd(required_i32(value, Key::Fd)?);
     Ok(Call::Shutdown { fd })
 }
 
-fn gettime_call(value: &Value) -> Result<Call, Reason>
-    ensures { result ≡ gettime_call (view value.now) }
+fn gettime_call(value: &Source<'_>) -> Result<Call, Reason>
+    ensures { result ≡ gettime_call (source_data value.now) }
 {
     let fd = Fd(required_i32(value, Key::Fd)?);
     Ok(Call::GetTime { fd })
 }
 
-fn settime_call(line: &Value) -> Result<Call, Reason>
-    ensures { result ≡ settime_call (view line.now) }
+fn settime_call(line: &Source<'_>) -> Result<Call, Reason>
+    ensures { result ≡ settime_call (source_data line.now) }
 {
     let fd = Fd(required_i32(line, Key::Fd)?);
     let value = required_u64(line, Key::Value)?;
@@ -144,23 +144,23 @@ fn settime_call(line: &Value) -> Result<Call, Reason>
     })
 }
 
-fn dup_call(value: &Value) -> Result<Call, Reason>
-    ensures { result ≡ dup_call (view value.now) }
+fn dup_call(value: &Source<'_>) -> Result<Call, Reason>
+    ensures { result ≡ dup_call (source_data value.now) }
 {
     let fd = Fd(required_i32(value, Key::Fd)?);
     Ok(Call::Dup { fd })
 }
 
-fn dup2_call(value: &Value) -> Result<Call, Reason>
-    ensures { result ≡ dup2_call (view value.now) }
+fn dup2_call(value: &Source<'_>) -> Result<Call, Reason>
+    ensures { result ≡ dup2_call (source_data value.now) }
 {
     let fd = Fd(required_i32(value, Key::Fd)?);
     let to = Fd(required_i32(value, Key::To)?);
     Ok(Call::Dup2 { fd, to })
 }
 
-fn close_call(value: &Value) -> Result<Call, Reason>
-    ensures { result ≡ close_call (view value.now) }
+fn close_call(value: &Source<'_>) -> Result<Call, Reason>
+    ensures { result ≡ close_call (source_data value.now) }
 {
     let fd = Fd(required_i32(value, Key::Fd)?);
     Ok(Call::Close { fd })
@@ -170,9 +170,9 @@ fn close_call(value: &Value) -> Result<Call, Reason>
 pub(crate) fn call_of(
     alloc: Global,
     op: CallOp,
-    value: &Value,
+    value: &Source<'_>,
 ) -> Result<Result<Call, Reason>, AllocError>
-    ensures { IfOk result (λ c. c ≡ call_of op (view value.now)) }
+    ensures { IfOk result (λ c. c ≡ call_of op (source_data value.now)) }
 {
     match op {
         CallOp::Pipe => Ok(pipe_call(value)),

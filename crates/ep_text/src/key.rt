@@ -1,6 +1,6 @@
 //! The keys of a line.
-ghost use Rattle.std.specs.Prelude.{◌≡◌};
-ghost use Rattle.ep_text.specs.Key.{key_name};
+ghost use Rattle.std.specs.Prelude.{◌≡◌, IfSome};
+ghost use Rattle.ep_text.specs.Key.{key_name, key_number};
 
 /// A key that a line of a script may have. docs/script.md says of which operation.
 #[derive(Clone, Copy)]
@@ -55,6 +55,65 @@ impl Key {
             Key::Interval => "interval",
             Key::Abs => "abs",
             Key::To => "to",
+        }
+    }
+
+    /// The key of this name.
+    pub(crate) fn named(name: &str) -> Option<Key>
+        ensures { IfSome result (λ key. name.now ≡ key_name key) }
+    {
+        match name {
+            "op" => Some(Key::Op),
+            "by" => Some(Key::By),
+            "pid" => Some(Key::Pid),
+            "cloexec" => Some(Key::Cloexec),
+            "init" => Some(Key::Init),
+            "sem" => Some(Key::Sem),
+            "clock" => Some(Key::Clock),
+            "ep" => Some(Key::Ep),
+            "fd" => Some(Key::Fd),
+            "act" => Some(Key::Act),
+            "mask" => Some(Key::Mask),
+            "data" => Some(Key::Data),
+            "max" => Some(Key::Max),
+            "timeout" => Some(Key::Timeout),
+            "n" => Some(Key::N),
+            "hex" => Some(Key::Hex),
+            "fill" => Some(Key::Fill),
+            "value" => Some(Key::Value),
+            "interval" => Some(Key::Interval),
+            "abs" => Some(Key::Abs),
+            "to" => Some(Key::To),
+            _ => None,
+        }
+    }
+
+    /// Its place among the keys.
+    pub(crate) fn number(self) -> u8
+        ensures { result ≡ key_number self }
+    {
+        match self {
+            Key::Op => 0,
+            Key::By => 1,
+            Key::Pid => 2,
+            Key::Cloexec => 3,
+            Key::Init => 4,
+            Key::Sem => 5,
+            Key::Clock => 6,
+            Key::Ep => 7,
+            Key::Fd => 8,
+            Key::Act => 9,
+            Key::Mask => 10,
+            Key::Data => 11,
+            Key::Max => 12,
+            Key::Timeout => 13,
+            Key::N => 14,
+            Key::Hex => 15,
+            Key::Fill => 16,
+            Key::Value => 17,
+            Key::Interval => 18,
+            Key::Abs => 19,
+            Key::To => 20,
         }
     }
 }

@@ -4,18 +4,22 @@
 mod bytes;
 mod calls;
 mod fields;
+mod flat;
 mod key;
 mod keys;
 mod limits;
+mod line_reader;
 mod masks;
 mod op;
 mod print;
 mod read;
 mod reason;
+mod source;
 mod value_kind;
 
 pub use crate::key::Key;
 pub use crate::limits::parse_limits;
+pub use crate::line_reader::LineReader;
 pub use crate::print::{print_answer, push_answer, push_bad};
 pub use crate::read::{explain, read_line};
 pub use crate::reason::{Name, Reason};

@@ -4,6 +4,7 @@ ghost use Rattle.serde_json.specs.View.{view};
 ghost use Rattle.ep_text.specs.Event.{asked, by_process, command, event, operation_in, reading, reason, tick_event};
 ghost use Rattle.ep_text.specs.Keys.{ok_map};
 ghost use Rattle.ep_text.specs.Ops.{call_of, operation_of};
+ghost use Rattle.ep_text.specs.Source.{source_data};
 
 use crate::calls::call_of;
 use crate::fields::{required_u64, u32_or, u64_or};
@@ -11,13 +12,18 @@ use crate::key::Key;
 use crate::keys::first_other;
 use crate::op::{CallOp, Op};
 use crate::reason::{Name, Reason, unfit, unread};
+use crate::source::Source;
 use crate::value_kind::ValueKind;
 use ep_base::{CallerId, Event, Pid};
 use serde_json::Value;
 use std::alloc::{AllocError, Global};
 
-fn call_event(alloc: Global, op: CallOp, value: &Value) -> Result<Result<Event, Reason>, AllocError>
-    ensures { IfOk result (λ e. e ≡ by_process (call_of op) (view value.now)) }
+fn call_event(
+    alloc: Global,
+    op: CallOp,
+    value: &Source<'_>,
+) -> Result<Result<Event, Reason>, AllocError>
+    ensures { IfOk result (λ e. e ≡ by_process (call_of op) (source_data value.now)) }
 {
     let pid = match u64_or(value, Key::Pid, 1) {
         Ok(pid) => pid,
@@ -32,15 +38,15 @@ fn call_event(alloc: Global, op: CallOp, value: &Value) -> Result<Result<Event, 
     }
 }
 
-fn tick_event(value: &Value) -> Result<Event, Reason>
-    ensures { result ≡ tick_event (view value.now) }
+fn tick_event(value: &Source<'_>) -> Result<Event, Reason>
+    ensures { result ≡ tick_event (source_data value.now) }
 {
     let n = required_u64(value, Key::N)?;
     Ok(Event::Tick { n })
 }
 
-fn event_of(alloc: Global, op: Op, value: &Value) -> Result<Result<Event, Reason>, AllocError>
-    ensures { IfOk result (λ e. e ≡ (operation_of op).asks (view value.now)) }
+fn event_of(alloc: Global, op: Op, value: &Source<'_>) -> Result<Result<Event, Reason>, AllocError>
+    ensures { IfOk result (λ e. e ≡ (operation_of op).asks (source_data value.now)) }
 {
     match op {
         Op::Call(op) => call_event(alloc, op, value),
@@ -49,12 +55,12 @@ fn event_of(alloc: Global, op: Op, value: &Value) -> Result<Result<Event, Reason
     }
 }
 
-fn asked(
+pub(crate) fn asked(
     alloc: Global,
     op: Op,
-    value: &Value,
+    value: &Source<'_>,
 ) -> Result<Result<(CallerId, Event), Reason>, AllocError>
-    ensures { IfOk result (λ r. r ≡ asked (operation_of op) (view value.now)) }
+    ensures { IfOk result (λ r. r ≡ asked (operation_of op) (source_data value.now)) }
 {
     let by = match u32_or(value, Key::By, 0) {
         Ok(by) => by,
@@ -66,14 +72,17 @@ fn asked(
     }
 }
 
-fn operation_in(alloc: Global, line: &Value) -> Result<Result<Op, Reason>, AllocError>
-    ensures { IfOk result (λ r. ok_map operation_of r ≡ operation_in (view line.now)) }
+pub(crate) fn operation_in(
+    alloc: Global,
+    line: &Source<'_>,
+) -> Result<Result<Op, Reason>, AllocError>
+    ensures { IfOk result (λ r. ok_map operation_of r ≡ operation_in (source_data line.now)) }
 {
-    let Some(value) = line.get(Key::Op.name()) else {
+    let Some(value) = line.get(Key::Op) else {
         return Ok(Err(Reason::Missing(Key::Op)));
     };
     let Some(name) = value.as_str() else {
-        return Ok(Err(unfit(value, Key::Op, ValueKind::Text)));
+        return Ok(Err(unfit(&value, Key::Op, ValueKind::Text)));
     };
     match Op::named(name) {
         Some(op) => Ok(Ok(op)),
@@ -88,13 +97,14 @@ fn command(alloc: Global, value: &Value) -> Result<Result<(CallerId, Event), Rea
     let Some(members) = value.as_object() else {
         return Ok(Err(Reason::NoObject));
     };
-    let op = match operation_in(alloc, value)? {
+    let line = Source::Tree(value);
+    let op = match operation_in(alloc, &line)? {
         Ok(op) => op,
         Err(reason) => return Ok(Err(reason)),
     };
     match first_other(op.keys(), members) {
         Some(name) => Ok(Err(Reason::UnknownKey(Name::new(alloc, name)?))),
-        None => asked(alloc, op, value),
+        None => asked(alloc, op, &line),
     }
 }
 

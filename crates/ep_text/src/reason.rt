@@ -1,11 +1,11 @@
 //! Why a line is no command.
 ghost use Rattle.std.specs.Prelude.{◌≡◌, IfOk};
-ghost use Rattle.serde_json.specs.View.{view};
 ghost use Rattle.ep_text.specs.Reason.{unfit, unread};
+ghost use Rattle.ep_text.specs.Source.{found_data};
 
 use crate::key::Key;
+use crate::source::Found;
 use crate::value_kind::ValueKind;
-use serde_json::Value;
 use std::alloc::{AllocError, Global};
 use std::fmt::{self, Display, Formatter, Write};
 use std::marker::Model;
@@ -84,8 +84,8 @@ pub(crate) fn unread(line: &[u8]) -> Reason
 }
 
 /// Why a value that is none of this kind and in its range is none.
-pub(crate) fn unfit(value: &Value, key: Key, kind: ValueKind) -> Reason
-    ensures { result ≡ unfit key kind (view value.now) }
+pub(crate) fn unfit(value: &Found<'_>, key: Key, kind: ValueKind) -> Reason
+    ensures { result ≡ unfit key kind (found_data value.now) }
 {
     if kind.is_kind_of(value) {
         Reason::OutOfRange { key, kind }

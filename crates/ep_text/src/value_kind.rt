@@ -1,9 +1,9 @@
 //! What the value of a key has to be.
 ghost use Rattle.std.specs.Prelude.{◌≡◌};
-ghost use Rattle.serde_json.specs.View.{view};
 ghost use Rattle.ep_text.specs.Reason.{is_of_kind};
+ghost use Rattle.ep_text.specs.Source.{found_data};
 
-use serde_json::Value;
+use crate::source::Found;
 
 /// What the value of a key has to be.
 #[derive(Clone, Copy)]
@@ -32,8 +32,8 @@ pub enum ValueKind {
 
 impl ValueKind {
     /// Whether a value is of the kind, in its range or not.
-    pub(crate) fn is_kind_of(self, value: &Value) -> bool
-        ensures { result ≡ is_of_kind self (view value.now) }
+    pub(crate) fn is_kind_of(self, value: &Found<'_>) -> bool
+        ensures { result ≡ is_of_kind self (found_data value.now) }
     {
         match self {
             ValueKind::Text | ValueKind::Hex => value.is_string(),

@@ -1,0 +1,104 @@
+//! Objects whose values need no memory, read a token at a time.
+ghost use Rattle.std.specs.Prelude.{◌≡◌, ◌<◌, ◌==◌, IfSome, OnSome, Some, [], length, option_map, slice_index, true};
+ghost use Rattle.json.specs.Json.{members, value};
+ghost use Rattle.serde_json.specs.Data.{no_members, number};
+ghost use Rattle.serde_json.specs.Read.{converted, max_depth, number_of, of_members};
+ghost use Rattle.ep_text.specs.Flat.{BeginsWith, flat_depth, whole};
+ghost use Rattle.ep_text.specs.Source.{flat_data, found_data, put_all};
+
+use crate::key::Key;
+use crate::source::{Found, Member};
+use arrayvec::ArrayVec;
+use fast_float::Numeral;
+use json::{Reader, Token};
+
+/// As many members as any operation may have.
+pub(crate) const MOST_MEMBERS: usize = 8;
+
+pub(crate) type Members<'a> = ArrayVec<Member<'a>, MOST_MEMBERS>;
+
+fn has_minus(bytes: &[u8]) -> bool
+    ensures value { result ≡ (slice_index bytes.now 0 == 45) }
+    ensures some { result ≡ true → 0 < length bytes.now }
+{
+    match bytes.first() {
+        Some(first) => *first == b'-',
+        None => false,
+    }
+}
+
+/// A whole number of 64 bits. `-0` is none.
+fn whole_number<'a>(text: &str) -> Option<Found<'a>>
+    ensures { IfSome result (λ found. option_map number (number_of text.now) ≡ Some (found_data found)) }
+{
+    let bytes = text.as_bytes();
+    if !has_minus(bytes) {
+        let number = Numeral::scan(bytes).to_u64()?;
+        return Some(Found::Natural(number));
+    }
+    let number = Numeral::scan(&bytes[1..]).to_i64(true)?;
+    if number < 0 {
+        Some(Found::BelowZero(number))
+    } else {
+        None
+    }
+}
+
+/// A value that is no list and no object, no fraction and not null.
+fn plain_value<'a>(reader: &mut Reader<'a>) -> Option<Found<'a>>
+    ensures value { IfSome result
+        (λ found. BeginsWith (found_data found) reader.old reader.new) }
+    ensures shorter { OnSome result (length reader.new < length reader.old) }
+{
+    match reader.next()? {
+        Token::String(text) => Some(Found::Text(text)),
+        Token::Number(text) => whole_number(text),
+        Token::Bool(is_true) => Some(Found::Truth(is_true)),
+        _ => None,
+    }
+}
+
+/// Puts the members up to the end of an object behind those of `found`, where all of them are keys with such values.
+fn read_members<'a>(reader: &mut Reader<'a>, found: &mut Members<'a>) -> bool
+    requires { found.old.items ≡ [] }
+    ensures { result ≡ true
+        → converted (λ ms. of_members ms no_members)
+        (members (value flat_depth) (length reader.old) reader.old)
+        ≡ Some (put_all no_members found.new.items, reader.new) }
+{
+    'members: loop {
+        let Ok(key) = reader.next_key() else {
+            return false;
+        };
+        let Some(name) = key else {
+            return true;
+        };
+        let Some(key) = Key::named(name) else {
+            return false;
+        };
+        let Some(value) = plain_value(reader) else {
+            return false;
+        };
+        match found.try_push(Member { key, value }) {
+            Ok(()) => {}
+            Err(_) => return false,
+        }
+    }
+}
+
+/// Whether a text is an object of such members and no more, which are then in `found`.
+pub(crate) fn read_flat<'a>(reader: &mut Reader<'a>, found: &mut Members<'a>) -> bool
+    requires { found.old.items ≡ [] }
+    ensures { result ≡ true → whole (value max_depth reader.old) ≡ Some (flat_data found.new.items) }
+{
+    let Some(Token::BeginObject) = reader.next() else {
+        return false;
+    };
+    if !read_members(reader, found) {
+        return false;
+    }
+    match reader.next() {
+        None => true,
+        Some(_) => false,
+    }
+}

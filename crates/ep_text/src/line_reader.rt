@@ -1,0 +1,118 @@
+//! Reads many lines.
+ghost use Rattle.std.specs.Prelude.{◌≡◌, ◌∷◌, IfOk, IfSome, None, Ok, Some, true};
+ghost use Rattle.serde_json.specs.Data.{no_members};
+ghost use Rattle.ep_text.specs.Event.{command, event};
+ghost use Rattle.ep_text.specs.Key.{key_name};
+ghost use Rattle.ep_text.specs.Keys.{first_other, is_among};
+ghost use Rattle.ep_text.specs.Source.{flat_data, put_all};
+
+use crate::flat::{Members, read_flat};
+use crate::key::Key;
+use crate::read::{asked, operation_in, read_line};
+use crate::source::{Member, Source};
+use ep_base::{CallerId, Event};
+use json::{Reader, Scratch};
+use std::alloc::{AllocError, Global};
+
+/// Reads lines one after another. It keeps the room that this takes from line to line.
+#[derive(Drop)]
+pub struct LineReader {
+    scratch: Scratch,
+}
+
+fn is_listed(keys: &[Key], key: Key) -> bool
+    ensures { result ≡ true → is_among keys.now (key_name key) ≡ true }
+{
+    for listed in keys {
+        if listed.number() == key.number() {
+            return true;
+        }
+    }
+    false
+}
+
+fn is_known(keys: &[Key], key: Key) -> bool
+    ensures { result ≡ true → is_among (Key.Op ∷ Key.By ∷ keys.now) (key_name key) ≡ true }
+{
+    match key {
+        Key::Op | Key::By => true,
+        _ => is_listed(keys, key),
+    }
+}
+
+/// Whether no member has another key than these, `op` and `by`.
+fn has_only(keys: &[Key], members: &[Member<'_>]) -> bool
+    ensures { result ≡ true
+        → first_other (Key.Op ∷ Key.By ∷ keys.now) (put_all no_members members.now) ≡ None }
+{
+    for member in members {
+        if !is_known(keys, member.key) {
+            return false;
+        }
+    }
+    true
+}
+
+/// What an object of these members asks for, where it is a command.
+fn flat_command(
+    alloc: Global,
+    members: &[Member<'_>],
+) -> Result<Option<(CallerId, Event)>, AllocError>
+    ensures { IfOk result (λ r. IfSome r (λ c. command (flat_data members.now) ≡ Ok c)) }
+{
+    let line = Source::Flat(members);
+    let Ok(op) = operation_in(alloc, &line)? else {
+        return Ok(None);
+    };
+    if !has_only(op.keys(), members) {
+        return Ok(None);
+    }
+    match asked(alloc, op, &line)? {
+        Ok(command) => Ok(Some(command)),
+        Err(_) => Ok(None),
+    }
+}
+
+impl LineReader {
+    /// It has no room yet, and takes it as lines need it.
+    pub fn new(alloc: Global) -> LineReader {
+        LineReader {
+            scratch: Scratch::new(alloc),
+        }
+    }
+
+    /// What `read_line` answers.
+    pub fn read(
+        &mut self,
+        alloc: Global,
+        line: &[u8],
+    ) -> Result<Option<(CallerId, Event)>, AllocError>
+        ensures { IfOk result (λ r. r ≡ event line.now) }
+    {
+        match self.read_flat(alloc, line)? {
+            Some(command) => Ok(Some(command)),
+            None => read_line(alloc, line),
+        }
+    }
+
+    /// The command of a line, where it is an object whose values need no memory. Most are.
+    fn read_flat(
+        &mut self,
+        alloc: Global,
+        line: &[u8],
+    ) -> Result<Option<(CallerId, Event)>, AllocError>
+        ensures { IfOk result (λ r. IfSome r (λ c. event line.now ≡ Some c)) }
+    {
+        let Ok(text) = std::str::from_utf8(line) else {
+            return Ok(None);
+        };
+        let Ok(mut reader) = Reader::new(text, &mut self.scratch) else {
+            return Ok(None);
+        };
+        let mut members = Members::new();
+        if !read_flat(&mut reader, &mut members) {
+            return Ok(None);
+        }
+        flat_command(alloc, members.as_slice())
+    }
+}
