@@ -10,12 +10,12 @@ use Rattle.ep_interest.specs.declared.entry.Entry.{Entry}
 use Rattle.ep_machine.specs.Bits.{IN}
 use Rattle.ep_machine.specs.Counts.{brings}
 use Rattle.ep_machine.specs.Files.{Files, object_of}
-use Rattle.ep_view.specs.KernelView.{KernelWatch, carries, climbed, climbed_all, reached_now, reached_within}
+use Rattle.ep_view.specs.KernelView.{KernelWatch, carries, reached_now, reached_within, watches_instance}
 use Rattle.ep_law.specs.Laws.{Member}
 use Rattle.ep_machine.specs.Objects.{is_instance, plain}
 use Rattle.ep_nest.specs.declared.link.Link.{Link}
 use Rattle.ep_calls.specs.Climb.{is_nested, link_of}
-use Rattle.ep_plain.specs.Climb.{climbs_to}
+use Rattle.ep_plain.specs.Climb.{climbs_to, risen}
 use Rattle.ep_calls.specs.Stands.{IsLinked, number_at, watch_at}
 use Rattle.ep_table.specs.Value.{Seen, number_under}
 use Rattle.ep_law.proofs.TestLemmas.{from_test}
@@ -175,28 +175,33 @@ module _ (v : Seen) (r : Registrations) where
         ]
   ]
 
-  map_member : (f g : Entry → KernelWatch) (all xs : List Entry) → ((x : Entry) → Member x xs → Member x all) → ((x : Entry) → Member x all → f x ≡ g x) → map f xs ≡ map g xs
-  map_member f g all [] inside h = refl
-  map_member f g all (x ∷ xs) inside h =
+  map_entries : (f g : Entry → Entry) (all xs : List Entry) → ((x : Entry) → Member x xs → Member x all) → ((x : Entry) → Member x all → f x ≡ g x) → map f xs ≡ map g xs
+  map_entries f g all [] inside h = refl
+  map_entries f g all (x ∷ xs) inside h =
       let one = h x (inside x (inl refl)) in
-      let rest = map_member f g all xs (λ y m. inside y (inr m)) h in λ i. one i ∷ rest i
+      let rest = map_entries f g all xs (λ y m. inside y (inr m)) h in λ i. one i ∷ rest i
 
-  map_map : (f : Entry → Entry) (g : Entry → Entry) (xs : List Entry) → map (watch_at v.keys) (map g (map f xs)) ≡ map (λ x. watch_at v.keys (g (f x))) xs
-  map_map f g [] = refl
-  map_map f g (x ∷ xs) = ap (λ (ws : List KernelWatch). watch_at v.keys (g (f x)) ∷ ws) (map_map f g xs)
+  -- once every link was looked at
+  pub risen_is : (reached : ℕ → Bool) (xs : List Entry) → map (climbs_on reached v.keys (inners xs)) xs ≡ map (risen reached v) xs
+  risen_is reached xs =
+      map_entries (climbs_on reached v.keys (inners xs)) (risen reached v) xs xs (λ x m. m) (λ x m.
+      ap (λ (b : Bool). record x { fresh = b && reached (number_at v.keys x.desc) && brings x.mask.0 IN || x.fresh }) (among_is x xs m))
 
-  map_watch : (reached : ℕ → Bool) (xs : List Entry) → map (climbed reached v.files) (map (watch_at v.keys) xs) ≡ map (λ x. climbed reached v.files (watch_at v.keys x)) xs
-  map_watch reached [] = refl
-  map_watch reached (x ∷ xs) = ap (λ (ws : List KernelWatch). climbed reached v.files (watch_at v.keys x) ∷ ws) (map_watch reached xs)
+-- what is risen, as the machine has it
+abbrev pub risen_watch : (ℕ → Bool) → Files → KernelWatch → KernelWatch
+risen_watch reached files w = record w { fresh = watches_instance files w && reached w.target && brings w.mask IN || w.fresh }
 
-  -- once every link was looked at, and what is passed on is forgotten
-  pub climbed_is : (n : ℕ) (old : Registrations) → map (watch_at v.keys) (map settled (map (climbs_on (reached_now v.files n (map (watch_at v.keys) old.entries)) v.keys (inners old.entries)) old.entries)) ≡ climbed_all n v.files (map (watch_at v.keys) old.entries)
-  climbed_is n old =
-      let reached = reached_now v.files n (map (watch_at v.keys) old.entries) in
-      map_map (climbs_on reached v.keys (inners old.entries)) settled old.entries
-      ∙ (map_member (λ x. watch_at v.keys (settled (climbs_on reached v.keys (inners old.entries) x))) (λ x. climbed reached v.files (watch_at v.keys x)) old.entries old.entries (λ x m. m)
-      (λ x m. ap (λ (b : Bool). record (watch_at v.keys x) { fresh = b && reached (number_at v.keys x.desc) && brings x.mask.0 IN || x.fresh; passes_in = 0 }) (among_is x old.entries m))
-      ∙ sym (map_watch reached old.entries))
+pub risen_watches : (reached : ℕ → Bool) (v : Seen) (xs : List Entry) → map (watch_at v.keys) (map (risen reached v) xs) ≡ map (risen_watch reached v.files) (map (watch_at v.keys) xs)
+risen_watches reached v [] = refl
+risen_watches reached v (x ∷ xs) = ap (λ (ws : List KernelWatch). risen_watch reached v.files (watch_at v.keys x) ∷ ws) (risen_watches reached v xs)
+
+-- what is passed on is forgotten, as the machine has it
+abbrev pub settled_watch : KernelWatch → KernelWatch
+settled_watch w = record w { passes_in = 0 }
+
+pub settled_watches : (keys : List (Option ℕ)) (xs : List Entry) → map (watch_at keys) (map settled xs) ≡ map settled_watch (map (watch_at keys) xs)
+settled_watches keys [] = refl
+settled_watches keys (x ∷ xs) = ap (λ (ws : List KernelWatch). settled_watch (watch_at keys x) ∷ ws) (settled_watches keys xs)
 
 pub climbs_not : (d : DescId) (xs : List Entry) → xs ≡ map (climbs_to false d) xs
 climbs_not d [] = refl

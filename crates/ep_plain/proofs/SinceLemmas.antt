@@ -23,6 +23,7 @@ use Rattle.ep_view.specs.KernelView.{KernelWatch, kernel_watch, kernel_watches, 
 use Rattle.ep_view.proofs.KernelViewLemmas.{readiness as machine_readiness, reportable_kept}
 use Rattle.ep_calls.specs.Readiness.{entry_shows, readiness}
 use Rattle.ep_calls.specs.Stands.{Stands, watch_at}
+use Rattle.ep_plain.specs.Dating.{AreListed, Dated}
 use Rattle.ep_plain.specs.Since.{Dates, IsDated, event_at, event_of}
 use Rattle.ep_table.specs.Value.{Seen}
 
@@ -57,8 +58,15 @@ opening_dated since is = subst (λ (xs : List ℕ). IsDated opening xs) (sym is)
   none zero lt = refl
   none (suc k) lt = refl
 
+-- and no key is needed
+pub opening_listed : (r : Registrations) (d : Dated) → d.since ≡ 0 ∷ [] → AreListed r d
+opening_listed r d is id k under up = absurd (false≢true (ap (λ (m : ℕ). nat_lt 0 m) (sym (ap (λ (xs : List ℕ). event_at xs k) is ∙ none k)) ∙ up)) where
+  none : (k : ℕ) → event_at (0 ∷ []) k ≡ 0
+  none zero = refl
+  none (suc k) = refl
+
 -- what is kept of a reportable one is no 0
-up_where : (n : ℕ) (b : Bool) (rep e : ℕ) → 0 < n → nat_lt 0 (event_of n b rep e) ≡ b
+pub up_where : (n : ℕ) (b : Bool) (rep e : ℕ) → 0 < n → nat_lt 0 (event_of n b rep e) ≡ b
 up_where n false rep e lt = refl
 up_where n true rep e lt = elim (cases_Bool (e == 0)) [
   | inl t ↦ ap (λ (b : Bool). nat_lt 0 (if b || rep == n then n else e)) t ∙ above n lt
@@ -74,10 +82,10 @@ up_where n true rep e lt = elim (cases_Bool (e == 0)) [
   some zero h = cc
   some (suc k) h = omega arith
 
-none_where : (e : ℕ) → nat_lt 0 e ≡ false → e ≡ 0
+pub none_where : (e : ℕ) → nat_lt 0 e ≡ false → e ≡ 0
 none_where e h = grind (arith, nat_tests, h)
 
-comes : (n rep e : ℕ) → e ≡ 0 → event_of n true rep e ≡ n
+pub comes : (n rep e : ℕ) → e ≡ 0 → event_of n true rep e ≡ n
 comes n rep e h = ap (λ (k : ℕ). event_of n true rep k) h
 
 reported_now : (n rep e : ℕ) → rep ≡ n → event_of n true rep e ≡ n

@@ -1,11 +1,15 @@
 -- What holds of the kernel over one event.
-use Rattle.std.proofs.Common.{◌≡◌, ◌<◌, ◌+◌, ◌++◌, ◌∙◌, ℕ, Bool, List, [], ◌∷◌, None, Option, Some, ap, arith, false, is_some, length, sym, true, unwrap_or}
+use Rattle.std.proofs.Common.{get_or, ◌≡◌, ◌<◌, ◌≤◌, ◌+◌, ◌++◌, ◌∙◌, ℕ, All, Bool, List, [], ◌∷◌, None, Option, Some, ap, arith, false, inl, inr, is_some, length, nat_lt, slice_index_or, subst, sym, true, unwrap_or}
 use Rattle.std.specs.Prelude.{IfNone, IfSome}
 use Rattle.std.proofs.lemmas.Bool.{false≢true}
 use Rattle.std.proofs.lemmas.List.{length-append}
+use Rattle.std.proofs.lemmas.List.Elements.{All-map}
 use Rattle.ep_base.specs.declared.call.Event.{Event}
 use Rattle.ep_base.specs.declared.ids.CallerId.{CallerId}
 use Rattle.ep_base.specs.declared.record.Record.{Record}
+use Rattle.ep_interest.specs.Registrations.{Registrations, number_under, settled}
+use Rattle.ep_interest.specs.declared.entry.Entry.{Entry}
+use Rattle.ep_law.specs.Laws.{ReportablesAreSpread}
 use Rattle.ep_law.proofs.GraphLemmas.{graph_stays_legal}
 use Rattle.ep_law.proofs.SoundLemmas.{sound_begun}
 use Rattle.ep_machine.specs.Refusal.{refusals}
@@ -15,7 +19,17 @@ use Rattle.ep_view.proofs.AtRestLemmas.{quiet_begun}
 use Rattle.ep_calls.specs.Does.{DoesEventIf}
 use Rattle.ep_calls.specs.Moves.{Goes, MovesBy}
 use Rattle.ep_calls.specs.Raising.{Raises}
-use Rattle.ep_plain.specs.Ends.{Ends}
+use Rattle.ep_calls.specs.Stands.{KeepsKeys}
+use Rattle.ep_plain.proofs.EndLemmas.{rested, rests_so, settles, shows_settled}
+use Rattle.ep_plain.proofs.ReasonLemmas.{have_reasons}
+use Rattle.ep_plain.specs.Altered.{HadOrAdds, NamesAltered}
+use Rattle.ep_plain.proofs.DatingLemmas.{count_le}
+use Rattle.ep_plain.specs.Dating.{AreListed, Dated, dated_count, dated_of}
+use Rattle.ep_plain.specs.Ends.{Rests, Spreads}
+use Rattle.ep_plain.specs.Reason.{HaveReasons}
+use Rattle.ep_plain.specs.declared.altered.Altered.{Altered}
+use Rattle.ep_plain.specs.declared.since.Dating.{Dating}
+use Rattle.ep_table.specs.Value.{Seen}
 use Rattle.ep_plain.specs.StepWith.{AddsBy, HasStep}
 use Rattle.ep_plain.specs.These.{ForEach, MayGo, MayReport, ReportsThese}
 use Rattle.ep_machine.specs.Step.{change, next_event, step}
@@ -25,64 +39,132 @@ use Rattle.ep_calls.specs.Keeps.{Keeps}
 use Rattle.ep_calls.specs.Parts.{Parts}
 use Rattle.ep_calls.specs.Readiness.{entry_shows, readiness}
 use Rattle.ep_calls.specs.declared.outcome.Outcome.{Outcome}
-use Rattle.ep_plain.specs.Since.{Dates}
+use Rattle.ep_plain.specs.Since.{Dates, IsDated, entry_event, event_at, event_of}
 use Rattle.ep_plain.specs.Standing.{Standing}
-use Rattle.ep_plain.proofs.SinceLemmas.{next_dated}
+use Rattle.ep_plain.proofs.SinceLemmas.{event_more, next_dated}
 
-module _ (past : List Record) (old mid new : Parts) (since : List ℕ) (standing : Standing past old since) (caller : CallerId) (event : Event) (outcome : Outcome) (n : ℕ) (at : n ≡ length past + 1)
-    (does : DoesAt (next_event standing.keeps.state) caller.0 event outcome old mid) (ends : Ends n outcome.raising mid new) where
-  settles : Settles n outcome.raising mid ends.noted ends.buried ends.climbed new
-  settles = record {
-    coherent = ends.coherent;
-    sound = ends.sound;
-    stirs = ends.stirs;
-    noted_others = ends.noted_others;
-    burial = ends.burial;
-    parked = ends.parked;
-    clock = ends.clock;
-    coherent_buried = ends.coherent_buried;
-    sound_buried = ends.sound_buried;
-    climbs = ends.climbs;
-    climbed_others = ends.climbed_others;
-    marks = ends.marks;
-    marked_others = ends.marked_others;
-  }
-
+module _ (past : List Record) (old mid left : Parts) (d : Dating) (standing : Standing past old d) (caller : CallerId) (event : Event) (outcome : Outcome) (n : ℕ) (at : n ≡ length past + 1)
+    (does : DoesAt (next_event standing.keeps.state) caller.0 event outcome old mid) (spreads : Spreads n outcome.raising mid left) where
   abbrev after : List Record
   after = past ++ record_of caller event outcome ∷ []
 
-  keeps_new : Keeps after new
-  keeps_new = keeps_next past old mid ends.noted ends.buried ends.climbed new standing.keeps caller event outcome n at does settles
+  abbrev longer : List ℕ
+  longer = d.since.items ++ 0 ∷ []
 
-  goes : step old.tables.limits standing.keeps.state caller.0 event outcome.picked ≡ Some (outcome.answer, keeps_new.state)
-  goes = step_next past old mid ends.noted ends.buried ends.climbed new standing.keeps caller event outcome n at does settles ∙ ap (λ (t : State). Some (outcome.answer, t)) (state_is after new keeps_new)
+  -- Once what was passed on is forgotten.
+  module _ (new : Parts) (rests : Rests left new) where
+    so : Settles n outcome.raising mid spreads.noted spreads.buried rests.forgotten new
+    so = settles n outcome.raising mid left new spreads rests
+
+    keeps_new : Keeps after new
+    keeps_new = keeps_next past old mid spreads.noted spreads.buried rests.forgotten new standing.keeps caller event outcome n at does so
+
+    goes : step old.tables.limits standing.keeps.state caller.0 event outcome.picked ≡ Some (outcome.answer, keeps_new.state)
+    goes = step_next past old mid spreads.noted spreads.buried rests.forgotten new standing.keeps caller event outcome n at does so ∙ ap (λ (t : State). Some (outcome.answer, t)) (state_is after new keeps_new)
+
+    room_then : new.interest.added < length longer
+    room_then =
+        let added = step_adds_one old.tables.limits standing.keeps.state keeps_new.state caller.0 event outcome.picked outcome.answer goes in
+        omega (arith, added.1, standing.dated.places, keeps_new.stands.added, length-append d.since.items (0 ∷ []))
+
+    -- the parts then
+    tables : new.tables ≡ left.tables
+    tables = ap (λ (p : Parts). p.tables) (rests.marked_others ∙ ap (λ (p : Parts). record p { parked = new.parked }) rests.others)
+
+    clock : new.clock ≡ left.clock
+    clock = ap (λ (p : Parts). p.clock) (rests.marked_others ∙ ap (λ (p : Parts). record p { parked = new.parked }) rests.others)
+
+    interest : new.interest ≡ rests.forgotten.interest
+    interest = ap (λ (p : Parts). p.interest) rests.marked_others
+
+    -- dates stay what they are
+    dates_rest : (since : List ℕ) → Dates (entry_shows (readiness left.tables left.clock left.interest) left.tables left.clock) n left.interest longer since
+        → Dates (entry_shows (readiness new.tables new.clock new.interest) new.tables new.clock) n new.interest longer since
+    dates_rest since h =
+        let q = rests.forgotten.interest in
+        let v = left.tables in
+        let before : Entry → Bool = entry_shows (readiness v left.clock left.interest) v left.clock in
+        let then : Entry → Bool = entry_shows (readiness v left.clock q) v left.clock in
+        let P : Entry → Type 0 = λ x. event_at since x.number ≡ entry_event then n longer x in
+        let each : All (λ x. P (settled x)) left.interest.entries = λ i e lt. h.each i e lt ∙ ap (λ (b : Bool). event_of n b (get_or left.interest.entries i e).reported_in (event_at longer (get_or left.interest.entries i e).number)) (sym (shows_settled v left.clock left.interest q rests.entries (get_or left.interest.entries i e))) in
+        let all : All P q.entries = subst (λ (xs : List Entry). All P xs) (sym rests.entries) (All-map P settled left.interest.entries each) in
+        let over : Dates then n q longer since = record { each = all; later = λ k lt. h.later k (omega (arith, lt, rests.added)); length = h.length } in
+        subst (λ (w : Seen). Dates (entry_shows (readiness w new.clock new.interest) w new.clock) n new.interest longer since) (sym tables)
+        (subst (λ (m : ℕ). Dates (entry_shows (readiness v m new.interest) v m) n new.interest longer since) (sym clock)
+        (subst (λ (r : Registrations). Dates (entry_shows (readiness v left.clock r) v left.clock) n r longer since) (sym interest) over))
+
+    listed_rest : (e : Dating) → AreListed left.interest (dated_of e) → AreListed new.interest (dated_of e)
+    listed_rest e h id k under = h id k (ap (λ (ks : List (Option ℕ)). slice_index_or ks id.0 None) (sym (ap (λ (r : Registrations). r.keys) interest ∙ rests.keys)) ∙ under)
+
+    pub standing_next : (e : Dating) → Dates (entry_shows (readiness left.tables left.clock left.interest) left.tables left.clock) n left.interest longer e.since.items → AreListed left.interest (dated_of e)
+        → length e.keys.items ≤ dated_count e.since.items → Standing after new e
+    standing_next e dates listed count = record {
+      keeps = keeps_new;
+      dated =
+          next_dated standing.keeps.state d.since.items standing.keeps.sound standing.dated old.tables.limits keeps_new.state caller.0 event outcome.picked outcome.answer new.tables new.interest new.clock n e.since.items
+          step_keeps_turns step_adds_one goes keeps_new.stands (at ∙ ap (λ (k : ℕ). k + 1) (sym standing.keeps.n)) (dates_rest e.since.items dates);
+      listed = listed_rest e listed;
+      count = count;
+    }
+
+    -- the record that is added
+    pub adds_by : (given : Option (List ℕ))
+        → IfSome given (λ picks. outcome.picked ≡ picks)
+        → AddsBy old.tables.limits caller event given outcome.answer (unwrap_or (run old.tables.limits opening past) opening) (unwrap_or (run new.tables.limits opening after) opening) past after
+    adds_by None told = adds_next past old mid spreads.noted spreads.buried rests.forgotten new standing.keeps caller event outcome n at does so
+    adds_by (Some picks) told = record {
+      goes =
+          ap (λ (s : State). step old.tables.limits s caller.0 event picks) (state_is past old standing.keeps)
+          ∙ (ap (λ (ks : List ℕ). step old.tables.limits standing.keeps.state caller.0 event ks) (sym told)
+          ∙ step_next past old mid spreads.noted spreads.buried rests.forgotten new standing.keeps caller event outcome n at does so);
+      added = λ i. past ++ record { caller = caller; event = event; answer = outcome.answer; picked = told i } ∷ [];
+    }
 
   -- there is a place for each registration
-  pub room : new.interest.added < length (since ++ 0 ∷ [])
-  room =
-      let added = step_adds_one old.tables.limits standing.keeps.state keeps_new.state caller.0 event outcome.picked outcome.answer goes in
-      omega (arith, added.1, standing.dated.places, keeps_new.stands.added, length-append since (0 ∷ []))
+  pub room : left.interest.added < length longer
+  room = room_then (rested left) (rests_so left)
 
-  pub standing_next : (now : List ℕ) → Dates (entry_shows (readiness new.tables new.clock new.interest) new.tables new.clock) n new.interest (since ++ 0 ∷ []) now → Standing after new now
-  standing_next now dates = record {
-    keeps = keeps_new;
-    dated =
-        next_dated standing.keeps.state since standing.keeps.sound standing.dated old.tables.limits keeps_new.state caller.0 event outcome.picked outcome.answer new.tables new.interest new.clock n now
-        step_keeps_turns step_adds_one goes keeps_new.stands (at ∙ ap (λ (k : ℕ). k + 1) (sym standing.keeps.n)) dates;
-  }
+  -- what had a date before has its key in the list
+  pub listed_left : (ids : HadOrAdds old.interest mid.interest) → AreListed left.interest (record { since = longer; keys = d.keys.items })
+  listed_left ids id k under up =
+      let same : number_under left.interest id ≡ number_under spreads.buried.interest id = ap (λ (ks : List (Option ℕ)). slice_index_or ks id.0 None) spreads.keys in
+      let noted : number_under spreads.noted.interest id ≡ number_under mid.interest id = ap (λ (ks : List (Option ℕ)). slice_index_or ks id.0 None) spreads.noted_keys in
+      let buried : number_under spreads.buried.interest id ≡ Some k = sym same ∙ under in
+      let was : nat_lt 0 (event_at d.since.items k) ≡ true = ap (λ (m : ℕ). nat_lt 0 m) (sym (event_more d.since.items k)) ∙ up in
+      elim (spreads.ids id) [
+        | inl none ↦ absurd (not_none k _ none buried)
+        | inr kept ↦ elim (ids id k (sym noted ∙ (sym kept ∙ buried))) [
+          | inl before ↦ standing.listed id k before was
+          | inr added ↦
+              let none : event_at d.since.items k ≡ 0 = standing.dated.later k (omega (arith, added.1, standing.keeps.stands.added)) in
+              absurd (false≢true (ap (λ (m : ℕ). nat_lt 0 m) (sym none) ∙ was))
+        ]
+      ]
+    where
+      not_none : (k : ℕ) (o : Option ℕ) → o ≡ None → o ≡ Some k → ⊥
+      not_none k o a b = absurd (let e : None ≡ Some k = sym a ∙ b in cc)
 
-  -- the record that is added
-  pub adds_by : (given : Option (List ℕ))
-      → IfSome given (λ picks. outcome.picked ≡ picks)
-      → AddsBy old.tables.limits caller event given outcome.answer (unwrap_or (run old.tables.limits opening past) opening) (unwrap_or (run new.tables.limits opening after) opening) past after
-  adds_by None told = adds_next past old mid ends.noted ends.buried ends.climbed new standing.keeps caller event outcome n at does settles
-  adds_by (Some picks) told = record {
-    goes =
-        ap (λ (s : State). step old.tables.limits s caller.0 event picks) (state_is past old standing.keeps)
-        ∙ (ap (λ (ks : List ℕ). step old.tables.limits standing.keeps.state caller.0 event ks) (sym told)
-        ∙ step_next past old mid ends.noted ends.buried ends.climbed new standing.keeps caller event outcome n at does settles);
-    added = λ i. past ++ record { caller = caller; event = event; answer = outcome.answer; picked = told i } ∷ [];
-  }
+  -- each registration that is reportable was so before, or has a reason
+  pub reasons : ReportablesAreSpread → KeepsKeys old.tables mid.tables → (altered : Option Altered) → NamesAltered old.tables event altered
+      → HaveReasons (entry_shows (readiness left.tables left.clock left.interest) left.tables left.clock) left.tables altered longer left.interest.entries
+  reasons law keys altered names x m shown =
+      elim (have_reasons law past old mid left standing.keeps caller event outcome n at does spreads keys spreads.left d.since.items standing.dated altered names x m shown) [
+        | inl up ↦ inl (ap (λ (k : ℕ). nat_lt 0 k) (event_more d.since.items x.number) ∙ up)
+        | inr why ↦ inr why
+      ]
+
+-- other room changes nothing
+pub standing_room : (past : List Record) (p : Parts) (d e : Dating) → dated_of e ≡ dated_of d → Standing past p d → Standing past p e
+standing_room past p d e same h = record {
+  keeps = h.keeps;
+  dated = subst (λ (q : Dated). IsDated h.keeps.state q.since) (sym same) h.dated;
+  listed = subst (λ (q : Dated). AreListed p.interest q) (sym same) h.listed;
+  count = subst (λ (q : Dated). length q.keys ≤ dated_count q.since) (sym same) h.count;
+}
+
+-- no more keys than dates
+pub few_keys : (past : List Record) (p : Parts) (d : Dating) → Standing past p d → length d.keys.items ≤ length d.since.items
+few_keys past p d h = let le = count_le d.since.items in let count = h.count in omega (arith, le, count)
 
 -- the state that an event begins in
 module _ (past : List Record) (old : Parts) (keeps : Keeps past old) (n : ℕ) (at : n ≡ length past + 1) where

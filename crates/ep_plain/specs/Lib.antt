@@ -3,6 +3,9 @@ pub mod Choose
 pub mod Climb
 pub mod Mark
 pub mod Since
+pub mod Altered
+pub mod Dating
+pub mod Reason
 pub mod Pick
 pub mod These
 pub mod StepWith

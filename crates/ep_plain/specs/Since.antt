@@ -1,5 +1,5 @@
 -- Since which event registrations are reportable, by their numbers.
-use Rattle.std.specs.Prelude.{◌≡◌, ◌<◌, ◌==◌, ◌||◌, All, Bool, List, [], ◌∷◌, if◌then◌else◌, length, nat_lt, not, slice_index_or, slice_set, true, ℕ}
+use Rattle.std.specs.Prelude.{◌≡◌, ◌<◌, ◌==◌, ◌||◌, All, Bool, List, if◌then◌else◌, length, nat_lt, not, slice_index_or, true, ℕ}
 use Rattle.ep_interest.specs.Registrations.{Registrations}
 use Rattle.ep_interest.specs.declared.entry.Entry.{Entry}
 use Rattle.ep_machine.specs.Readiness.{is_reportable}
@@ -16,11 +16,6 @@ event_of n shows rep earlier = if not shows then 0 else if earlier == 0 || rep =
 -- what it leaves of a registration
 abbrev pub entry_event : (Entry → Bool) → ℕ → List ℕ → Entry → ℕ
 entry_event shows n since x = event_of n (shows x) x.reported_in (event_at since x.number)
-
--- these registrations are dated in turn
-abbrev pub dated_each : (Entry → Bool) → ℕ → List Entry → List ℕ → List ℕ
-dated_each shows n [] since = since
-dated_each shows n (x ∷ xs) since = dated_each shows n xs (slice_set since x.number (entry_event shows n since x))
 
 -- each registration is dated, and nothing else
 pub record Dates (shows : Entry → Bool) (n : ℕ) (interest : Registrations) (old new : List ℕ) : Type 0 where

@@ -6,7 +6,9 @@ ghost use Rattle.ep_park.specs.Waiters.{is_caller};
 ghost use Rattle.ep_calls.specs.Does.{DoesCall, DoesEvent};
 ghost use Rattle.ep_calls.specs.Kept.{KeepsCall, KeepsEvent};
 ghost use Rattle.ep_calls.specs.Spared.{IsSpared, TakesNoMemory};
+ghost use Rattle.ep_plain.specs.Altered.{HadOrAdds};
 
+use crate::control::epoll_ctl;
 use crate::wait::{epoll_wait, resume};
 use ep_base::{Call, CallerId, Errno, Event, Pid};
 use ep_calls::{Control, Outcome, Parts, Wait};
@@ -25,6 +27,7 @@ fn make_call(
     requires process { is_some (table_of parts.old.tables.files pid.0) ≡ true }
     ensures ok { IfOk result
         (λ outcome. DoesCall step caller.0 pid.0 call.now outcome parts.old parts.new) }
+    ensures ids { HadOrAdds parts.old.interest parts.new.interest }
     ensures kept { IfOk result (λ outcome. KeepsCall call.now kept outcome) }
     ensures spared { TakesNoMemory parts.old.tables.files pid.0 call.now → IsOk result }
     ensures err { OnErr result (parts.new ≡ parts.old) }
@@ -36,16 +39,16 @@ fn make_call(
             fd,
             mask,
             tag,
-        } => parts.epoll_ctl(
-            pid,
-            Control {
+        } => {
+            let args = Control {
                 epfd,
                 op,
                 fd,
                 mask,
                 tag,
-            },
-        ),
+            };
+            epoll_ctl(parts, pid, args)
+        }
         Call::EpollWait { epfd, max, timeout } => {
             let args = Wait {
                 pid,
@@ -76,6 +79,7 @@ pub fn act(
 ) -> Result<Outcome, AllocError>
     ensures ok { IfOk result
         (λ outcome. DoesEvent step caller.0 event.now outcome parts.old parts.new) }
+    ensures ids { HadOrAdds parts.old.interest parts.new.interest }
     ensures kept { IfOk result (λ outcome. KeepsEvent event.now kept outcome) }
     ensures spared { IsSpared parts.old.tables.files event.now → IsOk result }
     ensures err { OnErr result (parts.new ≡ parts.old) }

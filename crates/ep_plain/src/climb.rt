@@ -2,8 +2,8 @@
 ghost use Rattle.std.specs.Prelude.{◌≡◌, ◌&&◌, ◌||◌, ◌==◌, IsSome, map, nat_lt};
 ghost use Rattle.ep_machine.specs.Bits.{IN, asked};
 ghost use Rattle.ep_view.specs.KernelView.{carries};
-ghost use Rattle.ep_calls.specs.Climb.{AreNested, Climbs};
-ghost use Rattle.ep_plain.specs.Climb.{climbs_to, is_reached_key};
+ghost use Rattle.ep_calls.specs.Climb.{AreNested};
+ghost use Rattle.ep_plain.specs.Climb.{Rises, climbs_to, is_reached_key};
 ghost use Rattle.ep_calls.specs.Stands.{AreLinked};
 ghost use Rattle.ep_table.specs.Value.{number_under};
 
@@ -64,23 +64,23 @@ fn climb_to(tables: &Tables, interest: &mut Interest, instance: DescId, step: u6
     }
 }
 
-/// Makes fresh what watches an instance that IN reaches, and forgets what was passed on in this step.
+/// Makes fresh what watches an instance that IN reaches.
 fn climb_links(tables: &Tables, interest: &mut Interest, graph: &Graph, step: u64)
     requires linked { AreLinked tables.now interest.old }
     requires nested { AreNested tables.now interest.old graph.now }
-    ensures climbs { Climbs step tables.now interest.old interest.new }
+    ensures rises { Rises step tables.now interest.old interest.new }
+    ensures linked { AreLinked tables.now interest.new }
     ensures keys { interest.new.keys ≡ interest.old.keys }
     ensures nested { AreNested tables.now interest.new graph.now }
 {
     for link in graph.links() {
         climb_to(tables, interest, link.inner, step);
     }
-    interest.settle();
 }
 
-/// Makes fresh what watches an instance that IN reaches, and forgets what was passed on in this step.
+/// Makes fresh what watches an instance that IN reaches. What was passed on in this step is still to be forgotten.
 pub fn climb_instances(parts: &mut Parts, step: u64)
-    ensures climbs { Climbs step parts.old.tables parts.old.interest parts.new.interest }
+    ensures rises { Rises step parts.old.tables parts.old.interest parts.new.interest }
     ensures keys { parts.new.interest.keys ≡ parts.old.interest.keys }
     ensures others { parts.new ≡ record parts.old { interest = parts.new.interest } }
 {

@@ -2,8 +2,10 @@
 #![tactic(auto)]
 
 mod act;
+mod altered;
 mod choose;
 mod climb;
+mod control;
 mod mark;
 mod pick;
 mod plain;

@@ -7,11 +7,13 @@ ghost use Rattle.ep_calls.specs.Spared.{IsSpared};
 ghost use Rattle.ep_machine.specs.Step.{step as step_of};
 ghost use Rattle.ep_plain.specs.StepWith.{AddsBy, HasStep, StepsWith};
 
-use crate::settle::settle;
-use crate::since::date;
+use crate::altered::find_altered;
+use crate::settle::{rest, spread};
+use crate::since::{Dating, date};
 use crate::these::{act_with, allows};
 use ep_base::{Answer, CallerId, Errno, Event, Limits, Record};
 use ep_calls::{Kernel, Parts, Spare};
+use ep_law::laws::reportables_are_spread;
 use std::alloc::{AllocError, Global};
 use std::marker::Model;
 
@@ -21,8 +23,7 @@ use std::marker::Model;
 pub struct PlainKernel {
     parts: Parts,
     history: Vec<Record>,
-    /// By the number of each registration the event since which it is reportable without a report; 0 where it is not.
-    since: Vec<u64>,
+    dating: Dating,
 }
 
 impl Model for PlainKernel {
@@ -44,12 +45,12 @@ impl PlainKernel {
         ensures { IfOk result
             (λ kernel. kernel ≡ record { limits = limits; past = []; capacity = 0 }) }
     {
-        let mut since = Vec::new(alloc);
-        since.push(0)?;
+        let parts = Parts::new(alloc, limits)?;
+        let dating = Dating::new(alloc)?;
         Ok(PlainKernel {
-            parts: Parts::new(alloc, limits)?,
+            parts,
             history: Vec::new(alloc),
-            since,
+            dating,
         })
     }
 
@@ -80,14 +81,17 @@ impl PlainKernel {
         ensures err { OnErr result (self.new ≡ record self.old { capacity = self.new.capacity }) }
     {
         self.history.reserve(1)?;
-        self.since.reserve(1)?;
+        self.dating.reserve(1)?;
         let step = self.history.len() as u64 + 1;
+        let altered = find_altered(&self.parts, &event);
+        reportables_are_spread();
         let outcome = act_with(&mut self.parts, step, caller, &event, picks, kept)?;
         let raising = outcome.raising;
         let (answer, spare, record) = outcome.into_record(caller, event, kept);
-        settle(&mut self.parts, step, raising);
-        self.since.push_reserved(0);
-        date(&self.parts, step, &mut self.since);
+        spread(&mut self.parts, step, raising);
+        self.dating.since.push_reserved(0);
+        date(&self.parts, step, altered, &mut self.dating);
+        rest(&mut self.parts);
         self.history.push_reserved(record);
         Ok((answer, spare))
     }
@@ -97,7 +101,7 @@ impl PlainKernel {
         ensures { result ≡ is_some
             (step_of self.now.limits (state_of self.now) caller.0 event.now picks.now) }
     {
-        allows(&self.parts, &self.since, caller, event, picks)
+        allows(&self.parts, &self.dating.since, caller, event, picks)
     }
 
     /// The step of an event whose report is of the registrations of these numbers, in this order; of none for an
@@ -186,7 +190,7 @@ impl Kernel for PlainKernel {
 
     fn reserve(&mut self, additional: usize) -> Result<(), AllocError> {
         self.history.reserve(additional)?;
-        self.since.reserve(additional)
+        self.dating.reserve(additional)
     }
 
     fn history(&self) -> &[Record] {

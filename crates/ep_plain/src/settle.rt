@@ -1,20 +1,52 @@
 //! The end of an event.
+ghost use Rattle.std.specs.Prelude.{◌≡◌, map};
 ghost use Rattle.ep_calls.specs.Raising.{IsRaising};
-ghost use Rattle.ep_plain.specs.Ends.{Ends};
+ghost use Rattle.ep_calls.specs.Parts.{AreCoherent};
+ghost use Rattle.ep_interest.specs.Registrations.{IsSound, settled};
+ghost use Rattle.ep_plain.specs.Ends.{Rests, Spreads};
+ghost use Rattle.ep_table.specs.Value.{Sound as SoundTables};
 
 use crate::climb::climb_instances;
 use crate::mark::mark_waiters;
 use ep_calls::{Parts, Raising};
 
-/// Notes what an event raised, takes the dead away, lets what was raised climb through instances, and sets marks.
-pub fn settle(parts: &mut Parts, step: u64, raising: Raising)
-    requires { IsRaising raising parts.old.tables }
-    ensures { Ends step raising parts.old parts.new }
+/// Does nothing. What holds of the parts between calls, with their registrations; a fact for proofs.
+fn know(parts: &Parts)
+    ensures coherent { AreCoherent parts.now }
+    ensures tables { SoundTables parts.now.tables }
+    ensures interest { IsSound parts.now.interest }
 {
     parts.known();
+    parts.interest.known();
+}
+
+/// Forgets what was passed on in an event.
+fn forget(parts: &mut Parts)
+    ensures entries { parts.new.interest.entries ≡ map settled parts.old.interest.entries }
+    ensures keys { parts.new.interest.keys ≡ parts.old.interest.keys }
+    ensures added { parts.new.interest.added ≡ parts.old.interest.added }
+    ensures others { parts.new ≡ record parts.old { interest = parts.new.interest } }
+{
+    parts.interest.settle();
+}
+
+/// Notes what an event raised, takes the dead away, and lets what was raised climb through instances.
+pub fn spread(parts: &mut Parts, step: u64, raising: Raising)
+    requires { IsRaising raising parts.old.tables }
+    ensures { Spreads step raising parts.old parts.new }
+{
+    know(parts);
     parts.raise(step, raising);
     parts.bury(step);
-    parts.known();
+    know(parts);
     climb_instances(parts, step);
+    know(parts);
+}
+
+/// Forgets what was passed on in an event, and sets marks.
+pub fn rest(parts: &mut Parts)
+    ensures { Rests parts.old parts.new }
+{
+    forget(parts);
     mark_waiters(parts);
 }

@@ -12,6 +12,7 @@ ghost use Rattle.ep_calls.specs.Kept.{KeepsEvent};
 ghost use Rattle.ep_calls.specs.Spared.{IsSpared};
 ghost use Rattle.ep_calls.specs.Stands.{AreLinked};
 ghost use Rattle.ep_calls.specs.Wait.{AreKeyed, Waits, wait_call};
+ghost use Rattle.ep_plain.specs.Altered.{HadOrAdds};
 ghost use Rattle.ep_plain.specs.Choose.{reportables_at};
 ghost use Rattle.ep_plain.specs.Since.{IsDated};
 ghost use Rattle.ep_plain.specs.These.{ForEach, MayGo, MayPick, MayReport, PicksThese, ReportsThese, WherePicked, goes_with};
@@ -97,6 +98,7 @@ fn wait_these(
     ensures ok { IfOk result
         (λ outcome. DoesCallIf (MayPick parts.old instance (number_in args.max) picks.now) step
         caller.0 args.pid.0 (wait_call args) outcome parts.old parts.new) }
+    ensures ids { parts.new.interest.keys ≡ parts.old.interest.keys }
     ensures picked { IfOk result
         (λ outcome. WherePicked parts.old instance (number_in args.max) picks.now
         (outcome.picked ≡ picks.now)) }
@@ -128,6 +130,7 @@ fn resume_these(
     ensures ok { IfOk result
         (λ outcome. DoesEventIf (MayPick parts.old waiter.instance (number_in waiter.max) picks.now)
         step caller.0 Resume outcome parts.old parts.new) }
+    ensures ids { parts.new.interest.keys ≡ parts.old.interest.keys }
     ensures picked { IfOk result
         (λ outcome. WherePicked parts.old waiter.instance (number_in waiter.max) picks.now
         (outcome.picked ≡ picks.now)) }
@@ -157,6 +160,7 @@ fn act_these(
     ensures ok { IfOk result
         (λ outcome. DoesEventIf (MayGo parts.old caller.0 event.now picks.now) step caller.0
         event.now outcome parts.old parts.new) }
+    ensures ids { HadOrAdds parts.old.interest parts.new.interest }
     ensures picked { IfOk result
         (λ outcome. PicksThese step parts.old caller.0 event.now picks.now outcome.picked) }
     ensures err { OnErr result (parts.new ≡ parts.old) }
@@ -184,6 +188,7 @@ pub fn act_with(
     ensures ok { IfOk result
         (λ outcome. DoesEventIf (MayReport parts.old caller.0 event.now (option_copied picks.entry))
         step caller.0 event.now outcome parts.old parts.new) }
+    ensures ids { HadOrAdds parts.old.interest parts.new.interest }
     ensures picked { IfOk result
         (λ outcome. ReportsThese step parts.old caller.0 event.now (option_copied picks.entry)
         outcome.picked) }

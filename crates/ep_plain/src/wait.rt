@@ -27,6 +27,7 @@ pub fn epoll_wait(
     ensures ok { IfOk result
         (λ outcome. DoesCall step caller.0 args.pid.0 (wait_call args) outcome parts.old
         parts.new) }
+    ensures ids { parts.new.interest.keys ≡ parts.old.interest.keys }
     ensures kept { IfOk result (λ outcome. IsKept args.kept outcome) }
     ensures err { OnErr result (parts.new ≡ parts.old) }
 {
@@ -59,6 +60,7 @@ pub fn resume(
 ) -> Result<Outcome, AllocError>
     ensures ok { IfOk result
         (λ outcome. DoesEvent step caller.0 Resume outcome parts.old parts.new) }
+    ensures ids { parts.new.interest.keys ≡ parts.old.interest.keys }
     ensures kept { IfOk result (λ outcome. IsKept kept outcome) }
     ensures err { OnErr result (parts.new ≡ parts.old) }
 {

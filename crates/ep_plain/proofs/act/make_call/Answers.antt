@@ -9,6 +9,7 @@ use Rattle.ep_calls.specs.Kept.{KeepsCall}
 use Rattle.ep_calls.specs.TableCall.{IsTableCall}
 use Rattle.ep_calls.proofs.KeptLemmas.{any_call, table_call_kept}
 use Rattle.ep_calls.proofs.SparedLemmas.{table_call_frees}
+use Rattle.ep_plain.proofs.IdLemmas.{had_keys, had_same}
 use Rattle.ep_plain.proofs.act.make_call.Goals as goal
 
 pub returns-in_default : goal.returns-in_default
@@ -18,6 +19,7 @@ returns-in_default c =
       ok = IfOk-weaker c.table_call.result _ _ (λ outcome h. h c.args.step c.args.caller.0) c.table_call.ensures.ok;
       kept = IfOk-weaker c.table_call.result _ _ (λ outcome h. table_call_kept c.args.call.now c.args.kept outcome on_tables) c.table_call.ensures.ok;
       spared = λ h. c.table_call.ensures.frees (table_call_frees c.args.parts.now.tables.files c.args.pid.0 c.args.call.now on_tables h);
+      ids = had_same c.args.parts.now.interest c.table_call.new.self.interest c.table_call.ensures.interest;
       err = c.table_call.ensures.err;
     }
 
@@ -38,5 +40,11 @@ returns-in-EpollCtl-clause-ok c =
     let x = c.in-EpollCtl in
     let fits : SFits w32 x.op = search rules in
     IfOk-weaker c.epoll_ctl.result _ _ (λ outcome h.
-    let P : Call → Type 0 = λ call. DoesCall c.args.step c.args.caller.0 c.args.pid.0 call outcome c.args.parts.now c.epoll_ctl.new.self in
+    let P : Call → Type 0 = λ call. DoesCall c.args.step c.args.caller.0 c.args.pid.0 call outcome c.args.parts.now c.epoll_ctl.new.parts in
     subst P (sym x.is) (subst (λ (z : ℤ). P (EpollCtl x.epfd z x.fd x.mask x.tag)) (to_z-of_z w32 x.op fits) (h c.args.step c.args.caller.0))) c.epoll_ctl.ensures.ok
+
+pub returns-in-Read-clause-ids : goal.returns-in-Read-clause-ids
+returns-in-Read-clause-ids c = had_same c.args.parts.now.interest c.object_call.new.self.interest c.object_call.ensures.interest
+
+pub returns-in-EpollWait-clause-ids : goal.returns-in-EpollWait-clause-ids
+returns-in-EpollWait-clause-ids c = had_keys c.args.parts.now.interest c.epoll_wait.new.parts.interest c.epoll_wait.ensures.ids

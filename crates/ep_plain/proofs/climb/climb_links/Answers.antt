@@ -2,16 +2,15 @@ use Rattle.std.proofs.Common.{◌≡◌, ◌∙◌, ℕ, All, Bool, Contains, Li
 use Rattle.std.proofs.lemmas.List.{map-append}
 use Rattle.std.proofs.lemmas.List.Elements.{All-contains, Contains-append_right}
 use Rattle.ep_base.specs.declared.ids.DescId.{DescId}
-use Rattle.ep_interest.specs.Registrations.{settled}
 use Rattle.ep_interest.specs.declared.entry.Entry.{Entry}
 use Rattle.ep_view.specs.KernelView.{reached_now}
 use Rattle.ep_nest.proofs.ElementLemmas.{Contains-head}
 use Rattle.ep_nest.specs.declared.link.Link.{Link}
 use Rattle.ep_calls.specs.Climb.{is_nested, link_of}
-use Rattle.ep_plain.specs.Climb.{climbs_to}
+use Rattle.ep_plain.specs.Climb.{climbs_to, risen}
 use Rattle.ep_calls.specs.Readiness.{watches_of}
 use Rattle.ep_calls.specs.Stands.{IsLinked, number_at, watch_at}
-use Rattle.ep_plain.proofs.ClimbLemmas.{LeadsToLive, climbed_is, climbs_none, climbs_on, inners, inners_of, linked_climbs, linked_settled, links_live, map_climbs_more, reached_fresh, fresh_after}
+use Rattle.ep_plain.proofs.ClimbLemmas.{LeadsToLive, climbs_none, climbs_on, fresh_after, inners, inners_of, linked_climbs, links_live, map_climbs_more, reached_fresh, risen_is}
 use Rattle.ep_calls.proofs.GraphLemmas.{links_by_keys, links_mapped}
 use Rattle.ep_plain.proofs.climb.climb_links.Goals as goal
 
@@ -65,22 +64,25 @@ loop-link-preserved c =
       added = c.climb_to.ensures.added ∙ c.loop-link.invariant.added;
     }
 
-pub returns-clause-climbs : goal.returns-clause-climbs
-returns-clause-climbs c =
+-- every link was looked at
+risen_all : (c : goal.In-None) → c.loop-link.interest.entries ≡ map (risen (reached_now c.args.tables.now.files c.args.step (watches_of c.args.tables.now c.args.interest.now)) c.args.tables.now) c.args.interest.now.entries
+risen_all c =
     let v = c.args.tables.now in
-    let n = c.args.step in
     let old = c.args.interest.now in
     let before = c.loop-link.invariant.climbed in
-    let reached = reached_now v.files n (watches_of v old) in
+    let reached = reached_now v.files c.args.step (watches_of v old) in
     let done : before.0 ≡ c.args.graph.now = sym (append-nil before.0) ∙ (ap (λ (ls : List Link). before.0 ++ ls) (sym c.in-None.ensures.steps.0) ∙ before.1) in
     let all : inners_of before.0 ≡ inners v old old.entries = ap inners_of (done ∙ c.requires.nested) in
-    let entries : c.settle.new.self.entries ≡ map settled (map (climbs_on reached v.keys (inners v old old.entries)) old.entries) =
-    c.settle.ensures.entries ∙ ap (λ (xs : List Entry). map settled xs) (before.2 ∙ ap (λ (ks : List DescId). map (climbs_on reached v.keys ks) old.entries) all) in
-    record {
-      watches = ap (λ (xs : List Entry). map (watch_at v.keys) xs) entries ∙ climbed_is v old n old;
-      linked = subst (All (IsLinked v.keys)) (sym entries) (linked_settled v.keys (map (climbs_on reached v.keys (inners v old old.entries)) old.entries) (linked_climbs reached v.keys (inners v old old.entries) old.entries c.requires.linked));
-      added = c.settle.ensures.added ∙ c.loop-link.invariant.added;
-    }
+    before.2 ∙ (ap (λ (ks : List DescId). map (climbs_on reached v.keys ks) old.entries) all ∙ risen_is v old reached old.entries)
+
+pub returns-clause-rises : goal.returns-clause-rises
+returns-clause-rises c = record { entries = risen_all c; added = c.loop-link.invariant.added }
+
+pub returns-clause-linked : goal.returns-clause-linked
+returns-clause-linked c =
+    let v = c.args.tables.now in
+    let before = c.loop-link.invariant.climbed in
+    subst (All (IsLinked v.keys)) (sym before.2) (linked_climbs (reached_now v.files c.args.step (watches_of v c.args.interest.now)) v.keys (inners_of before.0) c.args.interest.now.entries c.requires.linked)
 
 pub returns-clause-nested : goal.returns-clause-nested
 returns-clause-nested c =
@@ -88,9 +90,8 @@ returns-clause-nested c =
     let old = c.args.interest.now in
     let before = c.loop-link.invariant.climbed in
     let on = climbs_on (reached_now v.files c.args.step (watches_of v old)) v.keys (inners_of before.0) in
-    let new = c.settle.new.self in
+    let new = c.loop-link.interest in
     c.requires.nested
-    ∙ sym (links_by_keys old new (is_nested v) new.entries (c.settle.ensures.keys ∙ c.loop-link.invariant.keys)
-    ∙ (ap (λ (xs : List Entry). map (link_of old) (filter (is_nested v) xs)) (c.settle.ensures.entries ∙ ap (λ (xs : List Entry). map settled xs) before.2)
-    ∙ (links_mapped old (is_nested v) settled (λ x. refl) (λ x. refl) (map on old.entries)
-    ∙ links_mapped old (is_nested v) on (λ x. refl) (λ x. refl) old.entries)))
+    ∙ sym (links_by_keys old new (is_nested v) new.entries c.loop-link.invariant.keys
+    ∙ (ap (λ (xs : List Entry). map (link_of old) (filter (is_nested v) xs)) before.2
+    ∙ links_mapped old (is_nested v) on (λ x. refl) (λ x. refl) old.entries))

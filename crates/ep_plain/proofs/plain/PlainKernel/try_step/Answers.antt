@@ -1,17 +1,23 @@
 use Rattle.std.proofs.Common.{◌≡◌, ◌<◌, ◌+◌, ◌++◌, [], ◌∷◌, List, ℕ, ap, length, ◌∙◌, arith, option_copied, subst, sym, vec_capacity}
+use Rattle.std.proofs.lemmas.List.{length-append}
 use Rattle.ep_base.specs.declared.answer.Answer.{Answer}
+use Rattle.ep_base.specs.declared.ids.EntryId.{EntryId}
 use Rattle.ep_base.specs.declared.record.Record.{Record}
 use Rattle.ep_machine.specs.Step.{next_event}
 use Rattle.ep_calls.specs.Book.{Book, state_of}
 use Rattle.ep_calls.proofs.KeepsLemmas.{DoesAt, record_of}
 use Rattle.ep_calls.proofs.KeptLemmas.{inline_event}
 use Rattle.ep_calls.specs.Kept.{KeepsEvent}
+use Rattle.ep_calls.specs.Parts.{Parts}
 use Rattle.ep_calls.specs.Readiness.{entry_shows, readiness}
+use Rattle.ep_plain.proofs.DatingLemmas.{count_more}
+use Rattle.ep_plain.specs.Dating.{AreListed, Dated, dated_count}
+use Rattle.ep_plain.specs.Reason.{HaveReasons}
 use Rattle.ep_plain.specs.Since.{Dates}
 use Rattle.ep_plain.specs.Standing.{Standing, book_of}
 use Rattle.ep_plain.specs.StepWith.{AddsBy, HasStep}
 use Rattle.ep_plain.specs.These.{MayReport}
-use Rattle.ep_plain.proofs.StandingLemmas.{adds_by, does_with, kept_of, may_report, reports, room, standing_next}
+use Rattle.ep_plain.proofs.StandingLemmas.{adds_by, does_with, few_keys, kept_of, listed_left, may_report, reasons, reports, room, standing_next, standing_room}
 use Rattle.ep_plain.proofs.plain.PlainKernel.try_step.Goals as goal
 
 -- the number of the event
@@ -51,8 +57,22 @@ records : (c : goal.After-push_reserved-2) → c.push_reserved-2.new.self.items 
 records c =
     c.push_reserved-2.ensures.items ∙ (λ i. c.reserve.ensures.items i ++ c.into_record-answer.ensures.record i ∷ [])
 
-pub date-requires : goal.date-requires
-date-requires c =
+pub reserve-requires-2 : goal.reserve-requires-2
+reserve-requires-2 c = let k = c.self.inside in few_keys k.history.items k.parts k.dating c.self.invariant
+
+pub invariant_of-self-in_err-reserve-2 : goal.invariant_of-self-in_err-reserve-2
+invariant_of-self-in_err-reserve-2 c =
+    let k = c.self.inside in
+    subst (λ (rs : List Record). Standing rs k.parts c.reserve-2.new.self) (sym c.reserve.ensures.items) (standing_room k.history.items k.parts k.dating c.reserve-2.new.self c.reserve-2.ensures.dates c.self.invariant)
+
+pub invariant_of-self-in_err-outcome : goal.invariant_of-self-in_err-outcome
+invariant_of-self-in_err-outcome c =
+    let k = c.self.inside in
+    subst (λ (rs : List Record). Standing rs c.act_with.new.parts c.reserve-2.new.self) (sym c.reserve.ensures.items)
+    (subst (λ (p : Parts). Standing k.history.items p c.reserve-2.new.self) (sym c.in_err-outcome.ensures.err) (standing_room k.history.items k.parts k.dating c.reserve-2.new.self c.reserve-2.ensures.dates c.self.invariant))
+
+pub date-requires-clause-fits : goal.date-requires-clause-fits
+date-requires-clause-fits c =
     let k = c.self.inside in
     let n : c.len.result + 1 ≡ length k.history.items + 1 = omega (arith, c.len.ensures, c.reserve.ensures.len) in
     let go =
@@ -60,32 +80,71 @@ date-requires c =
     (subst (λ (b : Book). HasStep b.limits (state_of b) c.args.caller c.args.event (option_copied c.args.picks)) (sym c.self.view_is) c.requires.there) in
     let done =
     does_with k.history.items k.parts c.self.invariant.keeps (c.len.result + 1) n (MayReport k.parts c.args.caller.0 c.args.event (option_copied c.args.picks)) c.args.caller.0 c.args.event c.in_ok-outcome.outcome c.act_with.new.parts c.in_ok-outcome.ensures.ok go in
-    let since = c.push_reserved.ensures.items ∙ ap (λ (xs : List ℕ). xs ++ 0 ∷ []) c.reserve-2.ensures.items in
-    subst (λ (xs : List ℕ). c.settle.new.parts.interest.added < length xs) (sym since)
-    (room k.history.items k.parts c.act_with.new.parts c.settle.new.parts k.since.items c.self.invariant c.args.caller c.args.event c.in_ok-outcome.outcome (c.len.result + 1) n done c.settle.ensures)
+    let longer = c.push_reserved.ensures.items ∙ ap (λ (d : Dated). d.since ++ 0 ∷ []) c.reserve-2.ensures.dates in
+    let keys = ap (λ (d : Dated). d.keys) c.reserve-2.ensures.dates in
+    let here = room k.history.items k.parts c.act_with.new.parts c.spread.new.parts k.dating c.self.invariant c.args.caller c.args.event c.in_ok-outcome.outcome (c.len.result + 1) n done c.spread.ensures in
+    let count = c.self.invariant.count in
+    record {
+      places = subst (λ (xs : List ℕ). c.spread.new.parts.interest.added < length xs) (sym longer) here;
+      count = omega (arith, count, ap (λ (ks : List EntryId). length ks) keys, ap dated_count longer, count_more k.dating.since.items);
+      room = omega (arith, c.in_ok-reserve-2.ensures.keys, ap (λ (xs : List ℕ). length xs) longer, length-append k.dating.since.items (0 ∷ []), ap (λ (d : Dated). length d.since) c.reserve-2.ensures.dates);
+    }
 
--- registrations are dated
-dated : (c : goal.After-push_reserved-2) → Dates (entry_shows (readiness c.settle.new.parts.tables c.settle.new.parts.clock c.settle.new.parts.interest) c.settle.new.parts.tables c.settle.new.parts.clock) (c.len.result + 1) c.settle.new.parts.interest (c.self.inside.since.items ++ 0 ∷ []) c.date.new.since.items
-dated c =
-    let q = c.settle.new.parts in
-    let since = c.push_reserved.ensures.items ∙ ap (λ (xs : List ℕ). xs ++ 0 ∷ []) c.reserve-2.ensures.items in
-    subst (λ (xs : List ℕ). Dates (entry_shows (readiness q.tables q.clock q.interest) q.tables q.clock) (c.len.result + 1) q.interest xs c.date.new.since.items) since c.date.ensures.dates
+pub date-requires-clause-listed : goal.date-requires-clause-listed
+date-requires-clause-listed c =
+    let k = c.self.inside in
+    let n : c.len.result + 1 ≡ length k.history.items + 1 = omega (arith, c.len.ensures, c.reserve.ensures.len) in
+    let go =
+    may_report k.history.items k.parts c.self.invariant.keeps c.args.caller c.args.event (option_copied c.args.picks)
+    (subst (λ (b : Book). HasStep b.limits (state_of b) c.args.caller c.args.event (option_copied c.args.picks)) (sym c.self.view_is) c.requires.there) in
+    let done =
+    does_with k.history.items k.parts c.self.invariant.keeps (c.len.result + 1) n (MayReport k.parts c.args.caller.0 c.args.event (option_copied c.args.picks)) c.args.caller.0 c.args.event c.in_ok-outcome.outcome c.act_with.new.parts c.in_ok-outcome.ensures.ok go in
+    let longer = c.push_reserved.ensures.items ∙ ap (λ (d : Dated). d.since ++ 0 ∷ []) c.reserve-2.ensures.dates in
+    let keys = ap (λ (d : Dated). d.keys) c.reserve-2.ensures.dates in
+    let here =
+    listed_left k.history.items k.parts c.act_with.new.parts c.spread.new.parts k.dating c.self.invariant c.args.caller c.args.event c.in_ok-outcome.outcome (c.len.result + 1) n done c.spread.ensures c.act_with.ensures.ids in
+    subst (λ (d : Dated). AreListed c.spread.new.parts.interest d) (λ i. record { since = sym longer i; keys = sym keys i }) here
+
+pub date-requires-clause-reasons : goal.date-requires-clause-reasons
+date-requires-clause-reasons c =
+    let k = c.self.inside in
+    let n : c.len.result + 1 ≡ length k.history.items + 1 = omega (arith, c.len.ensures, c.reserve.ensures.len) in
+    let go =
+    may_report k.history.items k.parts c.self.invariant.keeps c.args.caller c.args.event (option_copied c.args.picks)
+    (subst (λ (b : Book). HasStep b.limits (state_of b) c.args.caller c.args.event (option_copied c.args.picks)) (sym c.self.view_is) c.requires.there) in
+    let done =
+    does_with k.history.items k.parts c.self.invariant.keeps (c.len.result + 1) n (MayReport k.parts c.args.caller.0 c.args.event (option_copied c.args.picks)) c.args.caller.0 c.args.event c.in_ok-outcome.outcome c.act_with.new.parts c.in_ok-outcome.ensures.ok go in
+    let longer = c.push_reserved.ensures.items ∙ ap (λ (d : Dated). d.since ++ 0 ∷ []) c.reserve-2.ensures.dates in
+    let keys = ap (λ (d : Dated). d.keys) c.reserve-2.ensures.dates in
+    let q = c.spread.new.parts in
+    let here =
+    reasons k.history.items k.parts c.act_with.new.parts q k.dating c.self.invariant c.args.caller c.args.event c.in_ok-outcome.outcome (c.len.result + 1) n done c.spread.ensures
+    c.reportables_are_spread.ensures.law c.in_ok-outcome.ensures.ok.keys c.find_altered-altered.result c.find_altered-altered.ensures in
+    subst (λ (xs : List ℕ). HaveReasons (entry_shows (readiness q.tables q.clock q.interest) q.tables q.clock) q.tables c.find_altered-altered.result xs q.interest.entries) (sym longer) here
+
+-- Once they are.
+longer_then : (c : goal.After-push_reserved-2) → c.push_reserved.new.self.items ≡ c.self.inside.dating.since.items ++ 0 ∷ []
+longer_then c = c.push_reserved.ensures.items ∙ ap (λ (d : Dated). d.since ++ 0 ∷ []) c.reserve-2.ensures.dates
 
 pub invariant_of-self-2 : goal.invariant_of-self-2
 invariant_of-self-2 c =
     let k = c.self.inside in
-    subst (λ (rs : List Record). Standing rs c.settle.new.parts c.date.new.since.items) (sym (records c))
-    (standing_next k.history.items k.parts c.act_with.new.parts c.settle.new.parts k.since.items c.self.invariant c.args.caller c.args.event c.in_ok-outcome.outcome (c.len.result + 1) (number c) (does c) c.settle.ensures c.date.new.since.items (dated c))
+    let q = c.spread.new.parts in
+    let d = c.date.new.dating in
+    let dates = subst (λ (xs : List ℕ). Dates (entry_shows (readiness q.tables q.clock q.interest) q.tables q.clock) (c.len.result + 1) q.interest xs d.since.items) (longer_then c) c.date.ensures.dates in
+    subst (λ (rs : List Record). Standing rs c.rest.new.parts d) (sym (records c))
+    (standing_next k.history.items k.parts c.act_with.new.parts q k.dating c.self.invariant c.args.caller c.args.event c.in_ok-outcome.outcome (c.len.result + 1) (number c) (does c) c.spread.ensures c.rest.new.parts c.rest.ensures d
+    dates c.date.ensures.listed c.date.ensures.fits.count)
 
 pub returns-clause-ok : goal.returns-clause-ok
 returns-clause-ok c =
     let k = c.self.inside in
     let outcome = c.in_ok-outcome.outcome in
     let given = option_copied c.args.picks in
-    let new : Book = record { limits = c.settle.new.parts.tables.limits; past = c.push_reserved-2.new.self.items; capacity = vec_capacity c.push_reserved-2.new.self } in
+    let new : Book = record { limits = c.rest.new.parts.tables.limits; past = c.push_reserved-2.new.self.items; capacity = vec_capacity c.push_reserved-2.new.self } in
     let told = reports k.history.items k.parts c.self.invariant.keeps c.args.caller c.args.event (c.len.result + 1) (number c) given outcome.picked (may c) c.in_ok-outcome.ensures.picked in
     let adds =
-    adds_by k.history.items k.parts c.act_with.new.parts c.settle.new.parts k.since.items c.self.invariant c.args.caller c.args.event outcome (c.len.result + 1) (number c) (does c) c.settle.ensures given told in
+    adds_by k.history.items k.parts c.act_with.new.parts c.spread.new.parts k.dating c.self.invariant c.args.caller c.args.event outcome (c.len.result + 1) (number c) (does c) c.spread.ensures c.rest.new.parts c.rest.ensures given told in
     let old = c.args.self.now in
     subst (λ (a : Answer). AddsBy old.limits c.args.caller c.args.event given a (state_of old) (state_of new) old.past new.past) (sym c.into_record-answer.ensures.answer)
     (subst (λ (b : Book). AddsBy b.limits c.args.caller c.args.event given outcome.answer (state_of b) (state_of new) b.past new.past) c.self.view_is
