@@ -2,7 +2,6 @@
 use Rattle.std.proofs.Common.{◌≡◌, ◌≢◌, ◌⊎◌, ℕ, zero, suc, ◌&&◌, ◌||◌, nat_lt, if◌then◌else◌, Bool, true, false, cond, List, [], ◌∷◌, filter, map, Option, Some, None, IsSome, is_some, get_or, set, refl, ap, sym, subst, ◌∙◌, inl, inr}
 use Rattle.std.proofs.lemmas.Bool.{cases_Bool}
 use Rattle.std.proofs.lemmas.List.{get_or-set_other}
-use Rattle.std.specs.BTreeMap.{IsOrdered}
 use Rattle.std.specs.List.{cons_option, filter_map, range_with_len}
 use Rattle.std.specs.Option.{option_map}
 use Rattle.ep_base.specs.declared.ids.DescId.{DescId}
@@ -13,14 +12,14 @@ use Rattle.ep_machine.specs.Counts.{brings}
 use Rattle.ep_interest.specs.ByNumber.{NumberedBy, found_by, in_order}
 use Rattle.ep_interest.specs.InTurn.{AllHeld, Among, changed_at}
 use Rattle.ep_interest.specs.Registrations.{freshened_on, is_on, numbered, place_among, raised_on}
-use Rattle.ep_interest.specs.Places.{AreUpTo, place_cmp, places_up_to}
-use Rattle.ep_interest.specs.View.{IsInterest, number_in, target_of}
+use Rattle.ep_interest.specs.Rows.{row}
+use Rattle.ep_interest.specs.View.{IsInterest, number_in}
+use Rattle.ep_interest.specs.Walk.{id_at}
 use Rattle.ep_interest.specs.declared.entry.Entry.{Entry}
 use Rattle.ep_interest.specs.declared.interest.Interest.TheInside.{Inside}
-use Rattle.ep_interest.specs.declared.place.Place.{Place}
 use Rattle.ep_interest.proofs.NumberLemmas.{One, Option_cases, has, same_or_not, test_apart, test_same}
 use Rattle.ep_interest.proofs.InOrderLemmas.{held, place_is}
-use Rattle.ep_interest.proofs.ListedLemmas.{firsts_listed, live_listed, values_listed}
+use Rattle.ep_interest.proofs.ListedLemmas.{ids_at}
 use Rattle.ep_interest.proofs.ReplaceLemmas.{replaced}
 
 -- a slot that is written keeps every key
@@ -207,9 +206,6 @@ held_given slots one (n ∷ ns) =
 pub held_on : (slots : List (Option Entry)) (n : ℕ) → NumberedBy slots n → (desc : DescId) (ids : List EntryId) → ids ≡ map (id_in slots) (filter (is_on desc) (in_order slots n)) → AllHeld slots ids
 held_on slots n num desc ids e = subst (λ (js : List EntryId). AllHeld slots js) (sym e) (held_filter slots (is_on desc) (in_order slots n) (held_given slots num.one (range_with_len 1 n)))
 
--- what the index by targets lists for a description are the keys of the registrations on it
-pub watchers_are : {A : Type 0} (k : Inside A) → IsInterest k → (desc : DescId) → IsOrdered place_cmp k.by_target → (es : List (Place × EntryId)) → es ≡ places_up_to desc k.added k.by_target.entries → AreUpTo desc k.added k.by_target es
-    → map (λ e. e.1) es ≡ map (id_in k.slots.slots) (filter (is_on desc) (in_order k.slots.slots k.added))
-watchers_are k i desc ordered es is each =
-    let live = live_listed target_of k.slots.slots k.added i.numbered k.by_target i.by_target ordered desc es is each in
-    values_listed k.slots.slots k.added i.numbered es live ∙ ap (map (id_in k.slots.slots)) (firsts_listed target_of k.slots.slots k.added i.numbered k.by_target i.by_target ordered desc es is each)
+-- what the row of a description has are the keys of the registrations on it
+pub watchers_are : {A : Type 0} (k : Inside A) → IsInterest k → (desc : DescId) → map id_at (row k.by_target desc.0) ≡ map (id_in k.slots.slots) (filter (is_on desc) (in_order k.slots.slots k.added))
+watchers_are k i desc = ap (map id_at) (i.by_target.rows desc.0) ∙ ids_at k.slots.slots (filter (is_on desc) (in_order k.slots.slots k.added))

@@ -5,11 +5,13 @@ pub mod IndexLemmas
 pub mod KeyLemmas
 pub mod AddLemmas
 pub mod ReplaceLemmas
+pub mod RemoveLemmas
+pub mod CircleLemmas
+pub mod RowLemmas
+pub mod KeysWithLemmas
 pub mod ListedLemmas
 pub mod ChangeLemmas
-pub mod RemoveLemmas
 pub mod EntriesLemmas
 pub mod PurgeLemmas
 pub mod InTurnLemmas
 pub mod PassesLemmas
-pub mod TouchedLemmas

@@ -1,8 +1,10 @@
 pub mod ByNumber
+pub mod Circles
 pub mod InTurn
+pub mod Links
 pub mod Listed
-pub mod Places
 pub mod Registrations
 pub mod Passes
-pub mod Touched
+pub mod Rows
 pub mod View
+pub mod Walk

@@ -1,6 +1,5 @@
 //! All interest sets together.
 ghost use Rattle.std.specs.Prelude.{nat_eq, nat_lt, not, vec_capacity, ◌≤◌, ◌≡◌, ◌&&◌, ◌+◌, [], ◌∷◌, ◌++◌, false, IfOk, IfNone, IfSome, OnErr, IsSome, Some, is_some, All, filter, length, map, slice_index_or, slice_set, None, option_copied, unwrap_or};
-ghost use Rattle.std.specs.Bool.{OnFalse};
 ghost use Rattle.std.specs.Map.Iter.{ShowsInOrder};
 ghost use Rattle.std.specs.Option.{option_map};
 ghost use Rattle.ep_base.specs.declared.ids.EntryId.{EntryId};
@@ -16,14 +15,12 @@ use crate::addition::Addition;
 use crate::entries::{Entries, Watchers};
 use crate::entry::Entry;
 use crate::passes::Passes;
-use crate::place::{Place, places_of};
-use crate::touched::Touched;
+use crate::rows::Rows;
 use bitflags::Flags;
 use ep_base::{DescId, EntryId, Fd, Mask};
 use indexmap::IndexMap;
 use slab::Slab;
 use std::alloc::{AllocError, Allocator, Global};
-use std::collections::BTreeMap;
 use std::hash::{BuildHasherDefault, FoldHasher};
 use std::marker::Model;
 
@@ -198,16 +195,15 @@ fn rest_each<A: Allocator>(slots: &mut Slab<Entry, A>, ids: &[EntryId])
 }
 
 /// The registrations of every instance. Contracts see them in order of registration, the number under each key, and
-/// how many were ever added. Adding n of them and removing them again takes time that grows as n log n, however they
-/// are spread over instances and descriptions. Memory comes from `A`.
+/// how many were ever added. Adding n of them and removing them again takes time that grows as n, however they are
+/// spread over instances and descriptions. Memory comes from `A`.
 #[derive(Drop)]
 pub struct Interest<A: Allocator = Global> {
     slots: Slab<Entry, A>,
     by_key: IndexMap<Key, EntryId, BuildHasherDefault<FoldHasher>, A>,
-    by_instance: BTreeMap<Place, EntryId, A>,
-    by_target: BTreeMap<Place, EntryId, A>,
+    by_instance: Rows<A>,
+    by_target: Rows<A>,
     passes: Passes<A>,
-    touched: Touched<A>,
     added: u64,
 }
 
@@ -225,7 +221,7 @@ impl<A: Allocator> Model for Interest<A> {
 
 impl<A: Allocator> Interest<A> {
     /// No registrations, which takes no memory.
-    #[tactic(auto, using(crate::proofs::PassesLemmas::passing_none, crate::proofs::TouchedLemmas::touched_none))]
+    #[tactic(auto, using(crate::proofs::PassesLemmas::passing_none))]
     pub fn new(alloc: A) -> Interest<A>
     where
         A: Copy,
@@ -237,16 +233,15 @@ impl<A: Allocator> Interest<A> {
         Interest {
             slots: Slab::new(alloc),
             by_key: IndexMap::new(alloc),
-            by_instance: BTreeMap::new(alloc),
-            by_target: BTreeMap::new(alloc),
+            by_instance: Rows::new(alloc),
+            by_target: Rows::new(alloc),
             passes: Passes::new(alloc),
-            touched: Touched::new(alloc),
             added: 0,
         }
     }
 
     /// The registrations of an instance with their keys, in order of registration. Only these are visited; the cost
-    /// of finding the first grows as the logarithm of the number of registrations.
+    /// of finding the first doesn't grow with the registrations.
     pub fn entries(&self, instance: DescId) -> Entries<'_, A>
         ensures entries { map (λ p. p.1) result ≡ filter (is_of instance) self.now.entries }
         ensures keys { All (λ p. number_under self.now p.0 ≡ Some p.1.number) result }
@@ -255,18 +250,18 @@ impl<A: Allocator> Interest<A> {
     {
         Entries {
             slots: &self.slots,
-            places: places_of(&self.by_instance, instance, self.added),
+            keys: self.by_instance.keys(instance),
         }
     }
 
     /// The keys of the registrations on a description, in order of registration. Only these are visited; the cost of
-    /// finding the first grows as the logarithm of the number of registrations.
+    /// finding the first doesn't grow with the registrations.
     pub fn watchers(&self, desc: DescId) -> Watchers<'_>
         ensures exact { result ≡ ids self.now (filter (is_on desc) self.now.entries) }
         ensures runs { ShowsInOrder (λ (id : EntryId). id) }
     {
         Watchers {
-            places: places_of(&self.by_target, desc, self.added),
+            keys: self.by_target.keys(desc),
         }
     }
 
@@ -279,8 +274,8 @@ impl<A: Allocator> Interest<A> {
 
     /// Adds a registration with the next number, armed and never reported, as ADD of epoll_ctl(2) does, and answers
     /// its key. `AllocError` where there is no memory, or no number is left after 2^64 - 1 additions, and then
-    /// nothing has changed. No other call of this type takes memory. The cost grows as the logarithm of the number of
-    /// registrations, but where a table grows.
+    /// nothing has changed. No other call of this type takes memory. The cost doesn't grow with the registrations, but
+    /// where a table grows.
     pub fn add(&mut self, addition: Addition) -> Result<EntryId, AllocError>
     where
         A: Clone,
@@ -299,25 +294,17 @@ impl<A: Allocator> Interest<A> {
         }
         self.slots.reserve(1)?;
         self.by_key.reserve(1)?;
-        self.passes.reserve(self.slots.capacity())?;
-        self.touched.note(addition.instance)?;
-        self.touched.note(addition.desc)?;
-        let id = EntryId(self.slots.vacant_key());
+        let many = self.slots.capacity();
+        self.passes.reserve(many)?;
+        self.by_instance.reserve(many)?;
+        self.by_target.reserve(many)?;
         let number = self.added + 1;
-        let of_instance = Place::new(addition.instance, number);
-        let on_target = Place::new(addition.desc, number);
         let key = Key::new(addition.instance, addition.fd, addition.desc);
-        self.by_instance.insert(of_instance, id)?;
-        match self.by_target.insert(on_target, id) {
-            Ok(_) => {}
-            Err(full) => {
-                self.by_instance.remove(&of_instance);
-                return Err(full.into());
-            }
-        }
-        self.by_key.insert(key, id).unwrap();
         let entry = Entry::new(number, addition);
-        self.slots.insert_reserved(entry);
+        let id = EntryId(self.slots.insert_reserved(entry));
+        self.by_key.insert(key, id).unwrap();
+        self.by_instance.push(addition.instance, id);
+        self.by_target.push(addition.desc, id);
         let _room = self.slots.capacity();
         self.added = number;
         Ok(id)
@@ -415,15 +402,15 @@ impl<A: Allocator> Interest<A> {
 
     /// Notes that an event raised these bits at a description. Each registration on it whose mask asks for one of
     /// them, ERR and HUP unasked, is fresh; one that is armed passes them on in this event. Only those on it are
-    /// visited; the cost of finding the first grows as the logarithm of the number of registrations.
+    /// visited; the cost of finding the first doesn't grow with the registrations.
     pub fn raise(&mut self, desc: DescId, bits: Mask, event: u64)
         ensures entries { self.new.entries ≡ map (raised_on desc bits event) self.old.entries }
         ensures keys { self.new.keys ≡ self.old.keys }
         ensures added { self.new.added ≡ self.old.added }
         ensures next { self.new.next ≡ self.old.next }
     {
-        let places = places_of(&self.by_target, desc, self.added);
-        let watchers = Watchers { places };
+        let keys = self.by_target.keys(desc);
+        let watchers = Watchers { keys };
         raise_each(
             &mut self.slots,
             &mut self.passes,
@@ -442,8 +429,8 @@ impl<A: Allocator> Interest<A> {
         ensures added { self.new.added ≡ self.old.added }
         ensures next { self.new.next ≡ self.old.next }
     {
-        let places = places_of(&self.by_target, desc, self.added);
-        let watchers = Watchers { places };
+        let keys = self.by_target.keys(desc);
+        let watchers = Watchers { keys };
         freshen_each(&mut self.slots, watchers, desc, bits);
     }
 
@@ -469,7 +456,7 @@ impl<A: Allocator> Interest<A> {
     }
 
     /// Takes away the registration under a key, as DEL of epoll_ctl(2) does. The key may be given out again, the
-    /// number is not. The cost grows as the logarithm of the number of registrations.
+    /// number is not. The cost doesn't grow with the registrations.
     pub fn remove(&mut self, id: EntryId)
         requires { IsSome (number_under self.old id) }
         ensures entries { self.new.entries
@@ -481,16 +468,13 @@ impl<A: Allocator> Interest<A> {
         let entry = self.slots.remove(id.0);
         self.passes.follow(id, entry.passes_in > 0, false);
         let key = Key::new(entry.instance, entry.fd, entry.desc);
-        let of_instance = Place::new(entry.instance, entry.number);
-        let on_target = Place::new(entry.desc, entry.number);
         self.by_key.swap_remove(&key);
-        self.by_instance.remove(&of_instance);
-        self.by_target.remove(&on_target);
+        self.by_instance.remove(entry.instance, id);
+        self.by_target.remove(entry.desc, id);
     }
 
     /// Takes away every registration in the set of a description and every one on it, as where the description dies.
-    /// Only these are visited, and each costs what `remove` does. The cost is constant where no registration was in
-    /// its set or on it since it was last purged.
+    /// Only these are visited, and each costs what `remove` does. The cost is constant where there is none.
     pub fn purge(&mut self, desc: DescId)
         ensures entries { self.new.entries ≡ filter (is_apart_from desc) self.old.entries }
         ensures keys { (id : EntryId)
@@ -498,29 +482,9 @@ impl<A: Allocator> Interest<A> {
         ensures added { self.new.added ≡ self.old.added }
     {
         self.known();
-        if !self.may_touch(desc) {
-            return;
-        }
         while let Some(id) = self.first_touching(desc) {
             self.remove(id);
         }
-        self.forget(desc);
-    }
-
-    /// Whether a registration may be in the set of a description or on it.
-    fn may_touch(&self, desc: DescId) -> bool
-        ensures { OnFalse result
-            (filter (is_apart_from desc) self.now.entries ≡ self.now.entries) }
-    {
-        self.touched.has(desc)
-    }
-
-    /// Notes that no registration is in the set of a description or on it.
-    fn forget(&mut self, desc: DescId)
-        requires { filter (is_apart_from desc) self.old.entries ≡ self.old.entries }
-        ensures { self.new ≡ self.old }
-    {
-        self.touched.forget(desc);
     }
 
     /// The key of a registration in the set of a description or on it, `None` where there is none.

@@ -2,12 +2,14 @@
 #![tactic(auto)]
 
 mod addition;
+mod circles;
 mod entries;
 mod entry;
 mod interest;
+mod links;
 mod passes;
-mod place;
-mod touched;
+mod rows;
+mod walk;
 
 pub use crate::addition::Addition;
 pub use crate::entries::{Entries, Watchers};

@@ -8,7 +8,7 @@ use Rattle.ep_base.specs.declared.ids.EntryId.{EntryId}
 use Rattle.ep_base.specs.declared.mask.Mask.{Mask}
 use Rattle.ep_interest.specs.Registrations.{GainsKey, IsSound, Registrations, entry_found, entry_under, is_other, modified, number_under, numbered}
 use Rattle.ep_interest.specs.declared.entry.Entry.{Entry}
-use Rattle.ep_interest.proofs.ListedLemmas.{numbered_filter}
+use Rattle.ep_interest.proofs.RangeLemmas.{numbered_filter}
 use Rattle.ep_interest.proofs.PurgeLemmas.{numbered_number}
 use Rattle.ep_calls.proofs.AdditionLemmas.{found_passes}
 use Rattle.ep_kernel.proofs.EntryLemmas.{is_under}

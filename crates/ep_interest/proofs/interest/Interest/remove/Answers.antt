@@ -1,21 +1,17 @@
 use Rattle.std.proofs.Common.{◌≡◌, ℕ, List, None, Option, ap, arith, cond, false, filter, map, slice_set, subst, sym, unwrap_or, ◌∙◌}
 use Rattle.std.proofs.lemmas.List.{length-set}
-use Rattle.std.specs.BTreeMap as tree
 use Rattle.std.specs.HashMap as hash
-use Rattle.std.specs.Ordering.{is_eq}
 use Rattle.ep_interest.specs.ByNumber.{in_order}
-use Rattle.ep_interest.specs.Places.{place_cmp}
 use Rattle.ep_interest.specs.Passes.{passes_on}
 use Rattle.ep_interest.specs.Registrations.{Registrations, is_other, number_under}
-use Rattle.ep_interest.specs.View.{IsIndex, instance_of, key_of, number_in, place_of, same_key, target_of}
+use Rattle.ep_interest.specs.View.{IsIndex, instance_of, key_of, number_in, same_key, target_of}
 use Rattle.ep_interest.specs.declared.entry.Entry.{Entry}
-use Rattle.ep_interest.proofs.AddLemmas.{same_place_exact, same_place_self}
 use Rattle.ep_interest.proofs.IndexLemmas.{index_less}
 use Rattle.ep_interest.proofs.ReplaceLemmas.{number_is}
 use Rattle.ep_interest.proofs.RemoveLemmas.{Emptied, held_less, keys_less, numbered_less}
 use Rattle.ep_interest.proofs.KeyLemmas.{same_key_exact, same_key_self}
 use Rattle.ep_interest.proofs.PassesLemmas.{held_within, passing_one, room_for}
-use Rattle.ep_interest.proofs.TouchedLemmas.{touched_less}
+use Rattle.ep_interest.proofs.KeysWithLemmas.{rows_less, rows_there}
 use Rattle.ep_interest.proofs.interest.Interest.remove.Given.{Over}
 use Rattle.ep_interest.proofs.interest.Interest.remove.Goals as goal
 
@@ -28,17 +24,17 @@ by_key g c =
     index_less key_of k.slots.slots c.remove-entry.new.self.slots c.args.id.0 x s.was s.gone s.others (hash.get same_key k.by_key) (hash.get same_key c.swap_remove.new.self) (same_key (key_of x)) (same_key_self (key_of x)) (same_key_exact (key_of x))
     (λ q. c.swap_remove.ensures.updates.0 q ∙ (λ i. cond (same_key (c.new-key.ensures i) q) None (hash.get same_key k.by_key q))) c.self.invariant.by_key
 
-by_instance : (g : Over) (c : goal.After-remove-2 g) → IsIndex (place_of instance_of) c.remove-entry.new.self.slots (tree.get place_cmp c.remove.new.self)
-by_instance g c =
-    let k = c.self.inside in let x = c.remove-entry.result in let s = in_slots g c in let p = place_of instance_of x in
-    index_less (place_of instance_of) k.slots.slots c.remove-entry.new.self.slots c.args.id.0 x s.was s.gone s.others (tree.get place_cmp k.by_instance) (tree.get place_cmp c.remove.new.self) (λ q. is_eq (place_cmp p q)) (same_place_self p) (same_place_exact p)
-    (λ q. c.remove.ensures.updates.0 q ∙ (λ i. cond (is_eq (place_cmp (c.new-of_instance.ensures i) q)) None (tree.get place_cmp k.by_instance q))) c.self.invariant.by_instance
+pub remove-requires-clause-sound : goal.remove-requires-clause-sound
+remove-requires-clause-sound g c = c.self.invariant.by_instance.sound
 
-by_target : (g : Over) (c : goal.After-remove-2 g) → IsIndex (place_of target_of) c.remove-entry.new.self.slots (tree.get place_cmp c.remove-2.new.self)
-by_target g c =
-    let k = c.self.inside in let x = c.remove-entry.result in let s = in_slots g c in let p = place_of target_of x in
-    index_less (place_of target_of) k.slots.slots c.remove-entry.new.self.slots c.args.id.0 x s.was s.gone s.others (tree.get place_cmp k.by_target) (tree.get place_cmp c.remove-2.new.self) (λ q. is_eq (place_cmp p q)) (same_place_self p) (same_place_exact p)
-    (λ q. c.remove-2.ensures.updates.0 q ∙ (λ i. cond (is_eq (place_cmp (c.new-on_target.ensures i) q)) None (tree.get place_cmp k.by_target q))) c.self.invariant.by_target
+pub remove-requires-clause-there : goal.remove-requires-clause-there
+remove-requires-clause-there g c = let k = c.self.inside in rows_there k.slots.slots k.added c.self.invariant.numbered instance_of c.args.id.0 c.remove-entry.result c.remove-entry.ensures.value k.by_instance c.self.invariant.by_instance
+
+pub remove-requires-2-clause-sound : goal.remove-requires-2-clause-sound
+remove-requires-2-clause-sound g c = c.self.invariant.by_target.sound
+
+pub remove-requires-2-clause-there : goal.remove-requires-2-clause-there
+remove-requires-2-clause-there g c = let k = c.self.inside in rows_there k.slots.slots k.added c.self.invariant.numbered target_of c.args.id.0 c.remove-entry.result c.remove-entry.ensures.value k.by_target c.self.invariant.by_target
 
 pub follow-requires-clause-room : goal.follow-requires-clause-room
 follow-requires-clause-room g c off =
@@ -51,11 +47,10 @@ pub invariant_of-self : goal.invariant_of-self
 invariant_of-self g c = record {
   numbered = numbered_less c.self.inside.slots.slots c.remove-entry.new.self.slots c.args.id.0 c.remove-entry.result (in_slots g c) c.self.inside.added c.self.invariant.numbered;
   by_key = by_key g c;
-  by_instance = by_instance g c;
-  by_target = by_target g c;
+  by_instance = rows_less c.self.inside.slots.slots c.remove-entry.new.self.slots c.args.id.0 c.remove-entry.result (in_slots g c) c.self.inside.added c.self.invariant.numbered instance_of c.self.inside.by_instance c.remove.new.self c.self.invariant.by_instance c.remove.ensures.sound c.remove.ensures.rows;
+  by_target = rows_less c.self.inside.slots.slots c.remove-entry.new.self.slots c.args.id.0 c.remove-entry.result (in_slots g c) c.self.inside.added c.self.invariant.numbered target_of c.self.inside.by_target c.remove-2.new.self c.self.invariant.by_target c.remove-2.ensures.sound c.remove-2.ensures.rows;
   passing = let k = c.self.inside in let s = in_slots g c in passing_one k.slots.slots c.remove-entry.new.self.slots k.passes.keys.items c.follow.new.self.keys.items c.args.id.0 false c.self.invariant.passing c.follow.ensures.once c.follow.ensures.noted (ap passes_on s.gone) s.others;
   room = rw (c.remove-entry.ensures.slots, length-set c.self.inside.slots.slots c.args.id.0 None) (omega (arith, c.follow.ensures.kept, c.self.invariant.room));
-  touched = touched_less c.self.inside.slots.slots c.remove-entry.new.self.slots c.self.inside.touched.numbers.keys c.args.id.0 c.remove-entry.result (in_slots g c) c.self.invariant.touched;
 }
 
 pub returns-clause-entries : goal.returns-clause-entries
