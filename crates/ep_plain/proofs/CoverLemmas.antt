@@ -89,7 +89,7 @@ by_member P [] x h m = absurd m
 by_member P (y ∷ ys) x h (inl e) = subst P (sym e) h.0
 by_member P (y ∷ ys) x h (inr m) = by_member P ys x h.1 m
 
-any_of : (f : Entry → Bool) (xs : List Entry) (x : Entry) → Member x xs → f x ≡ true → list_any f xs ≡ true
+pub any_of : (f : Entry → Bool) (xs : List Entry) (x : Entry) → Member x xs → f x ≡ true → list_any f xs ≡ true
 any_of f [] x m t = absurd m
 any_of f (y ∷ ys) x (inl e) t = or_left _ _ (ap f (sym e) ∙ t)
 any_of f (y ∷ ys) x (inr m) t = or_right _ _ (any_of f ys x m t)

@@ -22,12 +22,12 @@ same_or_not a b = elim (cases_Bool (a == b)) [ inl e ↦ inl (from_test a b e) |
 key_is : (a b : EntryId) → a.0 ≡ b.0 → a ≡ b
 key_is a b e = λ i. record { 0 = e i }
 
-or_either : (a b : Bool) → (a || b) ≡ true → (a ≡ true) ⊎ (b ≡ true)
+pub or_either : (a b : Bool) → (a || b) ≡ true → (a ≡ true) ⊎ (b ≡ true)
 or_either true b h = inl refl
 or_either false b h = inr h
 
 -- the first, or one of the others
-first_or : (j id : EntryId) (ids : List EntryId) → has_id (id ∷ ids) j.0 ≡ true → (j ≡ id) ⊎ (has_id ids j.0 ≡ true)
+pub first_or : (j id : EntryId) (ids : List EntryId) → has_id (id ∷ ids) j.0 ≡ true → (j ≡ id) ⊎ (has_id ids j.0 ≡ true)
 first_or j id ids h = elim (or_either (j.0 == id.0) (has_id ids j.0) h) [ inl e ↦ inl (key_is j id (from_test j.0 id.0 e)) | inr m ↦ inr m ]
 
 has_first : (j id : EntryId) (ids : List EntryId) → j ≡ id → has_id (id ∷ ids) j.0 ≡ true

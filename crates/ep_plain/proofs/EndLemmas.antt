@@ -1,5 +1,5 @@
 -- The end of an event from what it raised to its marks.
-use Rattle.std.proofs.Common.{◌≡◌, ◌∙◌, ◌==◌, ◌&&◌, ◌||◌, ℕ, zero, suc, All, Bool, List, [], ◌∷◌, Option, ap, map, refl, subst, sym}
+use Rattle.std.proofs.Common.{◌≡◌, ◌∙◌, ◌==◌, ◌&&◌, ◌||◌, ℕ, zero, suc, All, Bool, List, [], ◌∷◌, None, Option, ap, map, nat_lt, refl, slice_index_or, subst, sym}
 use Rattle.std.specs.List.{list_any}
 use Rattle.std.proofs.lemmas.List.Elements.{All-cons, All-head, All-tail}
 use Rattle.ep_calls.proofs.KeepsLemmas.{Settles}
@@ -7,14 +7,17 @@ use Rattle.ep_calls.specs.Climb.{Climbs}
 use Rattle.ep_calls.specs.Parking.{ready_key}
 use Rattle.ep_calls.specs.Parts.{Parts}
 use Rattle.ep_calls.specs.Readiness.{entry_shows, readiness}
-use Rattle.ep_calls.specs.Stands.{IsLinked, watch_at}
+use Rattle.ep_calls.specs.Stands.{IsLinked, number_at, watch_at}
 use Rattle.ep_calls.specs.declared.raising.Raising.{Raising}
 use Rattle.ep_interest.specs.Registrations.{Registrations, settled}
 use Rattle.ep_interest.specs.declared.entry.Entry.{Entry}
 use Rattle.ep_machine.specs.Files.{Files}
 use Rattle.ep_machine.specs.Marks.{marked_by}
 use Rattle.ep_plain.specs.Climb.{risen}
+use Rattle.ep_plain.specs.Dating.{Dated}
 use Rattle.ep_plain.specs.Ends.{Rests, Spreads}
+use Rattle.ep_plain.specs.Mark.{TellsReady}
+use Rattle.ep_plain.specs.Since.{event_at}
 use Rattle.ep_table.specs.Value.{Seen}
 use Rattle.ep_view.specs.KernelView.{any_within, climbed, ready_now, reached_now, shows}
 
@@ -30,7 +33,7 @@ module _ (keys : List (Option ℕ)) (files : Files) (now : ℕ) where
       (ap (λ (r : ℕ → Bool). list_any (λ w. w.instance == e && shows r files now w) (map (watch_at keys) (map settled xs))) (within_settled k xs)
       ∙ any_settled (any_within (λ ready x. shows ready files now x) k (map (watch_at keys) xs)) e xs) i
 
-  ready_settled : (xs : List Entry) → ready_now files now (map (watch_at keys) (map settled xs)) ≡ ready_now files now (map (watch_at keys) xs)
+  pub ready_settled : (xs : List Entry) → ready_now files now (map (watch_at keys) (map settled xs)) ≡ ready_now files now (map (watch_at keys) xs)
   unfolding ready_now
   ready_settled xs = within_settled 5 xs
 
@@ -38,6 +41,21 @@ module _ (keys : List (Option ℕ)) (files : Files) (now : ℕ) where
 pub shows_settled : (v : Seen) (now : ℕ) (r q : Registrations) → q.entries ≡ map settled r.entries → (x : Entry) → entry_shows (readiness v now q) v now (settled x) ≡ entry_shows (readiness v now r) v now x
 shows_settled v now r q entries x =
     ap (λ (ready : ℕ → Bool). entry_shows ready v now x) (ap (λ (xs : List Entry). ready_now v.files now (map (watch_at v.keys) xs)) entries ∙ ready_settled v.keys v.files now r.entries)
+
+-- nor in what dates tell of it
+dated_settled : (keys : List (Option ℕ)) (e : ℕ) (since : List ℕ) (xs : List Entry) → list_any (λ x. number_at keys x.instance == e && nat_lt 0 (event_at since x.number)) (map settled xs) ≡ list_any (λ x. number_at keys x.instance == e && nat_lt 0 (event_at since x.number)) xs
+dated_settled keys e since [] = refl
+dated_settled keys e since (x ∷ xs) = ap (λ (b : Bool). number_at keys x.instance == e && nat_lt 0 (event_at since x.number) || b) (dated_settled keys e since xs)
+
+pub tells_settled : (v : Seen) (now : ℕ) (r q : Registrations) (d : Dated) → q.entries ≡ map settled r.entries → q.keys ≡ r.keys → TellsReady v now r d → TellsReady v now q d
+tells_settled v now r q d entries keys h = record {
+  ready = λ e.
+      ap (λ (xs : List Entry). ready_now v.files now (map (watch_at v.keys) xs) e) entries
+      ∙ (ap (λ (ready : ℕ → Bool). ready e) (ready_settled v.keys v.files now r.entries)
+      ∙ (h.ready e
+      ∙ (sym (dated_settled v.keys e d.since r.entries) ∙ ap (λ (xs : List Entry). list_any (λ x. number_at v.keys x.instance == e && nat_lt 0 (event_at d.since x.number)) xs) (sym entries))));
+  listed = λ id k under. h.listed id k (ap (λ (ks : List (Option ℕ)). slice_index_or ks id.0 None) (sym keys) ∙ under);
+}
 
 -- What was raised has climbed, and is forgotten.
 module _ (reached : ℕ → Bool) (v : Seen) where

@@ -1,124 +1,115 @@
--- Marks at the end of an event, one waiter's instance after another.
-use Rattle.std.proofs.Common.{◌≡◌, ◌∙◌, ◌+◌, ◌<◌, ◌≤◌, ◌==◌, ◌||◌, ◌++◌, ◌⊎◌, ℕ, Bool, true, false, List, [], ◌∷◌, ap, arith, cond, filter, if◌then◌else◌, inl, inr, length, map, refl, slice_index_or, sym, take, IsSome, None, subst}
+-- Marks at the end of an event, by the dates of registrations.
+use Rattle.std.proofs.Common.{◌≡◌, ◌∙◌, ◌==◌, ◌&&◌, ◌||◌, ◌++◌, ℕ, Bool, true, false, IsSome, List, [], ◌∷◌, None, Option, Some, ap, cond, arith, inl, inr, length, map, nat_lt, refl, slice_index_or, subst, sym}
 use Rattle.std.specs.List.{list_any}
 use Rattle.std.proofs.lemmas.Bool.{cases_Bool, false≢true}
-use Rattle.std.proofs.lemmas.List.{append-nil, get_or-map, take_all}
-use Rattle.std.proofs.lemmas.List.Elements.{filter_more}
-use Rattle.std.proofs.Math.ListN.{length-map}
+use Rattle.std.proofs.lemmas.List.Elements.{All-head, All-tail}
+use Rattle.ep_base.specs.declared.ids.DescId.{DescId}
+use Rattle.ep_base.specs.declared.ids.EntryId.{EntryId}
+use Rattle.ep_calls.proofs.HoldLemmas.{place, placed_same}
+use Rattle.ep_calls.proofs.KeyLemmas.{same_keys}
+use Rattle.ep_calls.specs.Parking.{ready_key}
+use Rattle.ep_calls.specs.Stands.{AreLinked, ArePlaced, IsLinked, IsPlaced, number_at}
+use Rattle.ep_interest.specs.Passes.{has_id}
+use Rattle.ep_interest.specs.Registrations.{IsSound, Registrations, entry_under}
+use Rattle.ep_interest.specs.declared.entry.Entry.{Entry}
+use Rattle.ep_law.proofs.ListLemmas.{all_member, any_member}
+use Rattle.ep_law.proofs.TestLemmas.{both_true, from_test, or_left, or_right, same_test}
+use Rattle.ep_law.specs.Laws.{Member}
 use Rattle.ep_machine.specs.Marks.{first_marked as first_of_each, marked_by}
 use Rattle.ep_machine.specs.State.{Waiter}
-use Rattle.ep_machine.specs.Waits.{is_marked_at, marked_if_due, waits_at}
+use Rattle.ep_machine.specs.Waits.{marked_if_due, waits_at}
 use Rattle.ep_park.specs.Turns.{NamesReady, marked_in_turn}
-use Rattle.ep_park.specs.Waiters.{first_marked, longest_marked, with_mark}
-use Rattle.ep_plain.specs.Mark.{instance_of}
-use Rattle.ep_calls.proofs.HoldLemmas.{instances_same, place}
-use Rattle.ep_law.proofs.TestLemmas.{from_test, same_nat}
-use Rattle.ep_table.specs.Value.{Seen, number_under}
-use Rattle.ep_base.specs.declared.ids.DescId.{DescId}
-use Rattle.ep_calls.specs.Stands.{ArePlaced}
+use Rattle.ep_plain.proofs.CoverLemmas.{any_of}
+use Rattle.ep_plain.proofs.DatingLemmas.{first_or, or_either}
+use Rattle.ep_plain.proofs.EntryLemmas.{key_of, member_of, number_of}
+use Rattle.ep_plain.proofs.SinceLemmas.{same_bools}
+use Rattle.ep_plain.specs.Dating.{Dated}
+use Rattle.ep_plain.specs.Mark.{TellsReady, instance_dated, instances_dated}
+use Rattle.ep_plain.specs.Since.{event_at}
+use Rattle.ep_table.specs.Value.{Seen, Sound as SoundTables}
 
--- one instance more
-pub turn_more : (es : List ℕ) (e : ℕ) (ws : List Waiter) → marked_in_turn (es ++ e ∷ []) ws ≡ longest_marked e (marked_in_turn es ws)
-turn_more [] e ws = refl
-turn_more (x ∷ es) e ws = turn_more es e (longest_marked x ws)
+-- Marks in turn.
+pub turn_both : (es fs : List ℕ) (ws : List Waiter) → marked_in_turn (es ++ fs) ws ≡ marked_in_turn fs (marked_in_turn es ws)
+turn_both [] fs ws = refl
+turn_both (e ∷ es) fs ws = turn_both es fs _
 
-module _ (ready : ℕ → Bool) where
-  -- an instance that is ready and has waiters is named
-  found : (ws : List Waiter) (e : ℕ) → ready e ≡ true → waits_at ws e ≡ true → list_any (λ x. e == x) (filter ready (map (λ w. w.instance) ws)) ≡ true
-  found [] e r h = absurd (false≢true h)
-  found (w ∷ ws) e r h = elim (cases_Bool (w.instance == e)) [
-    | inl same ↦
-        let is = from_test w.instance e same in
-        ap (λ (b : Bool). list_any (λ x. e == x) (cond b (w.instance ∷ filter ready (map (λ v. v.instance) ws)) (filter ready (map (λ v. v.instance) ws)))) (ap ready is ∙ r)
-        ∙ ap (λ (b : Bool). b || list_any (λ x. e == x) (filter ready (map (λ v. v.instance) ws))) (ap (λ (k : ℕ). e == k) is ∙ same_nat e)
-    | inr other ↦
-        let rest = found ws e r (ap (λ (b : Bool). b || waits_at ws e) (sym other) ∙ h) in
-        elim (ready w.instance) as (λ b. list_any (λ x. e == x) (cond b (w.instance ∷ filter ready (map (λ v. v.instance) ws)) (filter ready (map (λ v. v.instance) ws))) ≡ true) [
-          | true ↦ or_true (e == w.instance) rest
-          | false ↦ rest
-        ]
-  ] where
-    or_true : (a : Bool) {b : Bool} → b ≡ true → (a || b) ≡ true
-    or_true true h = refl
-    or_true false h = h
-
-  -- one that is not ready is not
-  absent : (ks : List ℕ) (e : ℕ) → ready e ≡ false → list_any (λ x. e == x) (filter ready ks) ≡ false
-  absent [] e n = refl
-  absent (k ∷ ks) e n = elim (cases_Bool (ready k)) [
-    | inl r ↦
-        ap (λ (b : Bool). list_any (λ x. e == x) (cond b (k ∷ filter ready ks) (filter ready ks))) r
-        ∙ ap (λ (b : Bool). b || list_any (λ x. e == x) (filter ready ks)) (apart (cases_Bool (e == k)) r)
-        ∙ absent ks e n
-    | inr f ↦ ap (λ (b : Bool). list_any (λ x. e == x) (cond b (k ∷ filter ready ks) (filter ready ks))) f ∙ absent ks e n
-  ] where
-    apart : ((e == k) ≡ true) ⊎ ((e == k) ≡ false) → ready k ≡ true → (e == k) ≡ false
-    apart (inl same) r = absurd (false≢true (sym n ∙ (ap ready (from_test e k same) ∙ r)))
-    apart (inr other) r = other
-
-  pub names_ready : (ws : List Waiter) → NamesReady ready ws (filter ready (map (λ w. w.instance) ws))
-  names_ready ws = λ e waits. elim (cases_Bool (ready e)) [
-    | inl r ↦ r ∙ sym (found ws e r waits)
-    | inr n ↦ n ∙ sym (absent (map (λ w. w.instance) ws) e n)
-  ]
-
-  -- the next one's turn
-  turn_at : (ks : List ℕ) (i : ℕ) (ws : List Waiter) → i < length ks
-      → marked_in_turn (filter ready (take (i + 1) ks)) ws ≡ (if ready (slice_index_or ks i 0) then longest_marked (slice_index_or ks i 0) (marked_in_turn (filter ready (take i ks)) ws) else marked_in_turn (filter ready (take i ks)) ws)
-  turn_at ks i ws lt = ap (λ (es : List ℕ). marked_in_turn es ws) (filter_more ready ks i 0 lt) ∙ by_test (ready (slice_index_or ks i 0)) where
-    by_test : (b : Bool) → marked_in_turn (filter ready (take i ks) ++ cond b (slice_index_or ks i 0 ∷ []) []) ws ≡ (if b then longest_marked (slice_index_or ks i 0) (marked_in_turn (filter ready (take i ks)) ws) else marked_in_turn (filter ready (take i ks)) ws)
-    by_test true = turn_more (filter ready (take i ks)) (slice_index_or ks i 0) ws
-    by_test false = ap (λ (es : List ℕ). marked_in_turn es ws) (append-nil (filter ready (take i ks)))
-
--- marks leave the rest of a waiter
-first_places : (e : ℕ) (ws : List Waiter) → map place (first_marked e ws) ≡ map place ws
-first_places e [] = refl
-first_places e (w ∷ ws) =
-    let rest = first_places e ws in
-    elim (w.instance == e) as (λ b. map place (if b then with_mark w ∷ ws else w ∷ first_marked e ws) ≡ map place (w ∷ ws)) [
-      | true ↦ refl
-      | false ↦ ap (λ (ps : List (ℕ × ℕ)). place w ∷ ps) rest
-    ]
-
-longest_places : (e : ℕ) (ws : List Waiter) → map place (longest_marked e ws) ≡ map place ws
-longest_places e ws = elim (is_marked_at ws e) as (λ b. map place (if b then ws else first_marked e ws) ≡ map place ws) [ true ↦ refl | false ↦ first_places e ws ]
+-- where nobody waits there is nobody to mark
+pub nobody_in_turn : (es : List ℕ) (ws : List Waiter) → length ws ≡ 0 → marked_in_turn es ws ≡ ws
+nobody_in_turn [] ws h = refl
+nobody_in_turn (e ∷ es) [] h = nobody_in_turn es [] h
+nobody_in_turn (e ∷ es) (w ∷ ws) h = absurd (omega (arith, h))
 
 due_places : (now : ℕ) (ws : List Waiter) → map place (map (marked_if_due now) ws) ≡ map place ws
 due_places now [] = refl
 due_places now (w ∷ ws) = ap (λ (ps : List (ℕ × ℕ)). place w ∷ ps) (due_places now ws)
 
--- the instances of the first i waiters had their turn, after those that are due
-pub record HadTurns (ready : ℕ → Bool) (now : ℕ) (ws : List Waiter) (i : ℕ) (marked : List Waiter) : Type 0 where
-  pub turns : marked ≡ marked_in_turn (filter ready (take i (map (λ w. w.instance) ws))) (map (marked_if_due now) ws)
-  pub places : map place marked ≡ map place ws
+-- somebody waits at it, so it has a description
+lives_where : (v : Seen) (ws : List Waiter) (e : ℕ) → ArePlaced v ws → waits_at ws e ≡ true → IsSome (slice_index_or v.keys e None)
+lives_where v [] e h t = absurd (false≢true t)
+lives_where v (w ∷ ws) e h t = elim (cases_Bool (w.instance == e)) [
+  | inl here ↦ subst (λ (k : ℕ). IsSome (slice_index_or v.keys k None)) (from_test w.instance e here) (All-head (IsPlaced v.keys) w ws h).instance
+  | inr other ↦ lives_where v ws e (All-tail (IsPlaced v.keys) w ws h) (sym (ap (λ (b : Bool). b || waits_at ws e) other) ∙ t)
+]
 
-module _ (ready : ℕ → Bool) (now : ℕ) (ws : List Waiter) where
-  pub turns_begin : (marked : List Waiter) → marked ≡ map (marked_if_due now) ws → HadTurns ready now ws 0 marked
-  turns_begin marked is = record { turns = is; places = ap (map place) is ∙ due_places now ws }
+any_both : (p : ℕ → Bool) (xs ys : List ℕ) → list_any p (xs ++ ys) ≡ (list_any p xs || list_any p ys)
+any_both p [] ys = refl
+any_both p (x ∷ xs) ys = ap (λ (b : Bool). p x || b) (any_both p xs ys) ∙ again (p x) (list_any p xs) (list_any p ys) where
+  again : (a b c : Bool) → (a || (b || c)) ≡ (a || b || c)
+  again true b c = refl
+  again false b c = refl
 
-  pub turns_on : (i : ℕ) (old new : List Waiter) → i < length ws → HadTurns ready now ws i old → new ≡ (if ready (instance_of i old) then longest_marked (instance_of i old) old else old) → HadTurns ready now ws (i + 1) new
-  turns_on i old new lt h is =
-      let ks = map (λ (w : Waiter). w.instance) ws in
-      let same : instance_of i old ≡ slice_index_or ks i 0 = ap (λ (js : List ℕ). slice_index_or js i 0) (instances_same ws old h.places) in
-      let by : ℕ → List Waiter → List Waiter = λ e us. if ready e then longest_marked e us else us in
-      record {
-        turns = is ∙ ((λ j. by (same j) (h.turns j)) ∙ sym (turn_at ready ks i (map (marked_if_due now) ws) (omega (arith, lt, length-map ws (λ w. w.instance)))));
-        places =
-            ap (map place) is
-            ∙ (elim (ready (instance_of i old)) as (λ b. map place (if b then longest_marked (instance_of i old) old else old) ≡ map place old) [ true ↦ longest_places (instance_of i old) old | false ↦ refl ]
-            ∙ h.places);
-      }
+-- The instances of what is dated.
+module _ (r : Registrations) (since : List ℕ) (e : ℕ) where
+  abbrev names : List ℕ → Bool
+  names es = list_any (λ k. e == k) es
 
-  -- all had their turn
-  pub turns_end : (i : ℕ) (marked : List Waiter) → length ws ≤ i → HadTurns ready now ws i marked → ((es : List ℕ) → NamesReady ready (map (marked_if_due now) ws) es → marked_in_turn es (map (marked_if_due now) ws) ≡ first_of_each ready (map (marked_if_due now) ws) [] (map (marked_if_due now) ws)) → marked ≡ marked_by ready now ws
-  turns_end i marked le h law =
-      let due = map (marked_if_due now) ws in
-      let ks = map (λ (w : Waiter). w.instance) ws in
-      let all : take i ks ≡ map (λ (w : Waiter). w.instance) due = take_all i ks (omega (arith, le, length-map ws (λ w. w.instance))) ∙ sym (instances_same ws due (due_places now ws)) in
-      h.turns ∙ (ap (λ (js : List ℕ). marked_in_turn (filter ready js) due) all ∙ law (filter ready (map (λ (w : Waiter). w.instance) due)) (names_ready ready due))
+  -- that of one with its key in the list is named
+  named : (id : EntryId) (x : Entry) → entry_under r id ≡ Some x → x.instance.0 ≡ e → nat_lt 0 (event_at since x.number) ≡ true → (ids : List EntryId) → has_id ids id.0 ≡ true → names (instances_dated r since ids) ≡ true
+  named id x is at up [] h = absurd (false≢true h)
+  named id x is at up (j ∷ ids) h = any_both (λ k. e == k) (instance_dated since (entry_under r j)) (instances_dated r since ids) ∙ elim (first_or id j ids h) [
+    | inl same ↦ or_left _ _ (ap (λ (o : Option Entry). names (instance_dated since o)) (ap (entry_under r) (sym same) ∙ is) ∙ (ap (λ (b : Bool). names (cond b (x.instance.0 ∷ []) [])) up ∙ or_left (e == x.instance.0) false (same_test e x.instance.0 (sym at))))
+    | inr more ↦ or_right _ _ (named id x is at up ids more)
+  ]
 
--- the instance of the waiter at a place has a description
-pub placed_at : (v : Seen) (ws : List Waiter) (i : ℕ) (key : DescId) → key.0 ≡ instance_of i ws → i < length ws → ArePlaced v ws → IsSome (number_under v key)
-placed_at v ws i key is lt placed =
-    let none : Waiter = record { caller = 0; process = 0; instance = 0; most = 0; deadline = None; marked = false } in
-    subst (λ (k : ℕ). IsSome (slice_index_or v.keys k None)) (sym (is ∙ get_or-map (λ (w : Waiter). w.instance) ws i none 0 lt)) (placed i none lt).instance
+  -- one that is named is that of one that is dated
+  one_named : (o : Option Entry) → names (instance_dated since o) ≡ true → (x : Entry) × (o ≡ Some x) × (x.instance.0 ≡ e) × (nat_lt 0 (event_at since x.number) ≡ true)
+  one_named None h = absurd (false≢true h)
+  one_named (Some x) h = elim (cases_Bool (nat_lt 0 (event_at since x.number))) [
+    | inl up ↦ (x, refl, at (ap (λ (b : Bool). names (cond b (x.instance.0 ∷ []) [])) (sym up) ∙ h), up)
+    | inr down ↦ absurd (false≢true (ap (λ (b : Bool). names (cond b (x.instance.0 ∷ []) [])) (sym down) ∙ h))
+  ] where
+    at : names (x.instance.0 ∷ []) ≡ true → x.instance.0 ≡ e
+    at t = elim (or_either (e == x.instance.0) false t) [ inl here ↦ sym (from_test e x.instance.0 here) | inr none ↦ absurd (false≢true none) ]
+
+  from_named : (ids : List EntryId) → names (instances_dated r since ids) ≡ true → (x : Entry) × Member x r.entries × (x.instance.0 ≡ e) × (nat_lt 0 (event_at since x.number) ≡ true)
+  from_named [] h = absurd (false≢true h)
+  from_named (j ∷ ids) h = elim (or_either _ _ (sym (any_both (λ k. e == k) (instance_dated since (entry_under r j)) (instances_dated r since ids)) ∙ h)) [
+    | inl here ↦ let one = one_named (entry_under r j) here in (one.0, member_of r j one.0 one.1, one.2, one.3)
+    | inr more ↦ from_named ids more
+  ]
+
+module _ (v : Seen) (now : ℕ) (r : Registrations) (d : Dated) (sound : IsSound r) (sound_tables : SoundTables v) (linked : AreLinked v r) (tells : TellsReady v now r d) where
+  -- of the instances that have waiters, the ready ones are named
+  names_ready : (ws : List Waiter) → ArePlaced v ws → NamesReady (ready_key v now r) ws (instances_dated r d.since d.keys)
+  names_ready ws placed e waits =
+      let key : DescId = record { 0 = e } in
+      let number = number_at v.keys key in
+      let lives = lives_where v ws e placed waits in
+      let same : (x : Entry) → Member x r.entries → (number_at v.keys x.instance == number) ≡ (x.instance.0 == e) = λ x m. same_keys v x.instance key sound_tables (all_member (IsLinked v.keys) r.entries x linked m).instance lives in
+      tells.ready number
+      ∙ same_bools _ _
+      (λ t.
+      let x = any_member (λ (x : Entry). number_at v.keys x.instance == number && nat_lt 0 (event_at d.since x.number)) r.entries t in
+      let both = both_true _ _ x.2 in
+      let id = key_of r sound x.0 x.1 in
+      named r d.since e id.0 x.0 id.1 (from_test x.0.instance.0 e (sym (same x.0 x.1) ∙ both.0)) both.1 d.keys (tells.listed id.0 x.0.number (number_of r id.0 x.0 id.1) both.1))
+      (λ t.
+      let x = from_named r d.since e d.keys t in
+      any_of (λ (y : Entry). number_at v.keys y.instance == number && nat_lt 0 (event_at d.since y.number)) r.entries x.0 x.1
+      (λ i. (same x.0 x.1 ∙ same_test x.0.instance.0 e x.2) i && x.3 i))
+
+  -- marks in turn at the instances of what is dated, after those that are due
+  pub marks_dated : (ws : List Waiter) → ArePlaced v ws
+      → ((es : List ℕ) → NamesReady (ready_key v now r) (map (marked_if_due now) ws) es → marked_in_turn es (map (marked_if_due now) ws) ≡ first_of_each (ready_key v now r) (map (marked_if_due now) ws) [] (map (marked_if_due now) ws))
+      → marked_in_turn (instances_dated r d.since d.keys) (map (marked_if_due now) ws) ≡ marked_by (ready_key v now r) now ws
+  marks_dated ws placed law = law (instances_dated r d.since d.keys) (names_ready (map (marked_if_due now) ws) (placed_same ws (map (marked_if_due now) ws) (due_places now ws) v.keys placed))

@@ -31,7 +31,7 @@ all_by : (P : Watch → Type 0) (xs : List Watch) → ((x : Watch) → Member x 
 all_by P [] h = tt
 all_by P (x ∷ xs) h = (h x (inl refl), all_by P xs (λ y m. h y (inr m)))
 
-same_bools : (a b : Bool) → (a ≡ true → b ≡ true) → (b ≡ true → a ≡ true) → a ≡ b
+pub same_bools : (a b : Bool) → (a ≡ true → b ≡ true) → (b ≡ true → a ≡ true) → a ≡ b
 same_bools true b f g = sym (f refl)
 same_bools false true f g = g refl
 same_bools false false f g = refl

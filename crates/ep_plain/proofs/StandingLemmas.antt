@@ -1,9 +1,10 @@
 -- What holds of the kernel over one event.
-use Rattle.std.proofs.Common.{get_or, ◌≡◌, ◌<◌, ◌≤◌, ◌+◌, ◌++◌, ◌∙◌, ℕ, All, Bool, List, [], ◌∷◌, None, Option, Some, ap, arith, false, inl, inr, is_some, length, nat_lt, slice_index_or, subst, sym, true, unwrap_or}
+use Rattle.std.proofs.Common.{get_or, ◌≡◌, ◌<◌, ◌≤◌, ◌+◌, ◌++◌, ◌∙◌, ◌==◌, ◌&&◌, ◌||◌, ℕ, All, Bool, List, [], ◌∷◌, None, Option, Some, ap, arith, false, inl, inr, is_some, length, map, nat_lt, refl, slice_index_or, subst, sym, true, unwrap_or}
+use Rattle.std.specs.List.{list_any}
 use Rattle.std.specs.Prelude.{IfNone, IfSome}
 use Rattle.std.proofs.lemmas.Bool.{false≢true}
 use Rattle.std.proofs.lemmas.List.{length-append}
-use Rattle.std.proofs.lemmas.List.Elements.{All-map}
+use Rattle.std.proofs.lemmas.List.Elements.{All-head, All-map, All-tail}
 use Rattle.ep_base.specs.declared.call.Event.{Event}
 use Rattle.ep_base.specs.declared.ids.CallerId.{CallerId}
 use Rattle.ep_base.specs.declared.record.Record.{Record}
@@ -16,16 +17,19 @@ use Rattle.ep_machine.specs.Refusal.{refusals}
 use Rattle.ep_machine.specs.Run.{run}
 use Rattle.ep_machine.specs.State.{State, opening}
 use Rattle.ep_view.proofs.AtRestLemmas.{quiet_begun}
+use Rattle.ep_view.proofs.KernelViewLemmas.{any_kept, readiness as machine_readiness, ready_kept}
+use Rattle.ep_view.specs.KernelView.{KernelWatch, ready_now, shows, shows_in}
 use Rattle.ep_calls.specs.Does.{DoesEventIf}
 use Rattle.ep_calls.specs.Moves.{Goes, MovesBy}
 use Rattle.ep_calls.specs.Raising.{Raises}
-use Rattle.ep_calls.specs.Stands.{KeepsKeys}
-use Rattle.ep_plain.proofs.EndLemmas.{rested, rests_so, settles, shows_settled}
+use Rattle.ep_calls.specs.Stands.{KeepsKeys, number_at, watch_at}
+use Rattle.ep_plain.proofs.EndLemmas.{ready_settled, rested, rests_so, settles, shows_settled}
 use Rattle.ep_plain.proofs.ReasonLemmas.{have_reasons}
 use Rattle.ep_plain.specs.Altered.{HadOrAdds, NamesAltered}
 use Rattle.ep_plain.proofs.DatingLemmas.{count_le}
 use Rattle.ep_plain.specs.Dating.{AreListed, Dated, dated_count, dated_of}
 use Rattle.ep_plain.specs.Ends.{Rests, Spreads}
+use Rattle.ep_plain.specs.Mark.{TellsReady}
 use Rattle.ep_plain.specs.Reason.{HaveReasons}
 use Rattle.ep_plain.specs.declared.altered.Altered.{Altered}
 use Rattle.ep_plain.specs.declared.since.Dating.{Dating}
@@ -41,7 +45,7 @@ use Rattle.ep_calls.specs.Readiness.{entry_shows, readiness}
 use Rattle.ep_calls.specs.declared.outcome.Outcome.{Outcome}
 use Rattle.ep_plain.specs.Since.{Dates, IsDated, entry_event, event_at, event_of}
 use Rattle.ep_plain.specs.Standing.{Standing}
-use Rattle.ep_plain.proofs.SinceLemmas.{event_more, next_dated}
+use Rattle.ep_plain.proofs.SinceLemmas.{event_more, next_dated, up_where}
 
 module _ (past : List Record) (old mid left : Parts) (d : Dating) (standing : Standing past old d) (caller : CallerId) (event : Event) (outcome : Outcome) (n : ℕ) (at : n ≡ length past + 1)
     (does : DoesAt (next_event standing.keeps.state) caller.0 event outcome old mid) (spreads : Spreads n outcome.raising mid left) where
@@ -119,6 +123,45 @@ module _ (past : List Record) (old mid left : Parts) (d : Dating) (standing : St
           ∙ step_next past old mid spreads.noted spreads.buried rests.forgotten new standing.keeps caller event outcome n at does so);
       added = λ i. past ++ record { caller = caller; event = event; answer = outcome.answer; picked = told i } ∷ [];
     }
+
+  -- what marks go by
+  module _ (e : Dating) (dates : Dates (entry_shows (readiness left.tables left.clock left.interest) left.tables left.clock) n left.interest longer e.since.items) where
+    abbrev new : Parts
+    new = rested left
+
+    abbrev shown : KernelWatch → Bool
+    shown w = shows (readiness new.tables new.clock new.interest) new.tables.files new.clock w
+
+    abbrev is_up : Entry → Bool
+    is_up x = nat_lt 0 (event_at e.since.items x.number)
+
+    any_up : (at : ℕ) (xs : List Entry) → All (λ x. shown (watch_at left.tables.keys (settled x)) ≡ is_up x) xs → list_any (λ w. w.instance == at && shown w) (map (watch_at left.tables.keys) (map settled xs)) ≡ list_any (λ x. number_at left.tables.keys x.instance == at && is_up x) xs
+    any_up at [] h = refl
+    any_up at (x ∷ xs) h =
+        let one = All-head (λ y. shown (watch_at left.tables.keys (settled y)) ≡ is_up y) x xs h in
+        let rest = any_up at xs (All-tail (λ y. shown (watch_at left.tables.keys (settled y)) ≡ is_up y) x xs h) in
+        λ i. number_at left.tables.keys x.instance == at && one i || rest i
+
+    pub tells_left : AreListed left.interest (dated_of e) → TellsReady left.tables left.clock left.interest (dated_of e)
+    tells_left listed =
+        let keeps = keeps_new new (rests_so left) in
+        let t = keeps.state in
+        let legal = graph_stays_legal new.tables.limits after t keeps.leads in
+        let same : machine_readiness t ≡ readiness new.tables new.clock new.interest = λ i. ready_now (keeps.stands.files i) (keeps.stands.now i) (keeps.stands.watches i) in
+        let each : All (λ x. shown (watch_at left.tables.keys (settled x)) ≡ is_up x) left.interest.entries = λ i x lt.
+        let y = get_or left.interest.entries i x in
+        shows_settled left.tables left.clock left.interest new.interest refl y
+        ∙ sym (ap (λ (k : ℕ). nat_lt 0 k) (dates.each i x lt) ∙ up_where n (entry_shows (readiness left.tables left.clock left.interest) left.tables left.clock y) y.reported_in (event_at longer y.number) (omega (arith, at))) in
+        record {
+          ready = λ k.
+              ap (λ (ready : ℕ → Bool). ready k) (sym (ready_settled left.tables.keys left.tables.files left.clock left.interest.entries))
+              ∙ (ap (λ (ready : ℕ → Bool). ready k) (sym same)
+              ∙ (sym (ready_kept t k)
+              ∙ (any_kept t k legal
+              ∙ ((λ i. list_any (shows_in (same i) (keeps.stands.files i) (keeps.stands.now i) k) (keeps.stands.watches i))
+              ∙ any_up k left.interest.entries each))));
+          listed = listed;
+        }
 
   -- there is a place for each registration
   pub room : left.interest.added < length longer

@@ -39,7 +39,7 @@ fn is_each_once(picks: &[u64]) -> bool
 }
 
 /// Whether a registration is reportable.
-fn is_dated(since: &[u64], entry: &Entry) -> bool
+pub fn is_dated(since: &[u64], entry: &Entry) -> bool
     ensures { result ≡ nat_lt 0 (event_at since.now entry.now.number) }
 {
     since_of(since, entry.number) > 0

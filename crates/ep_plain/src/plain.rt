@@ -91,7 +91,7 @@ impl PlainKernel {
         spread(&mut self.parts, step, raising);
         self.dating.since.push_reserved(0);
         date(&self.parts, step, altered, &mut self.dating);
-        rest(&mut self.parts);
+        rest(&mut self.parts, &self.dating);
         self.history.push_reserved(record);
         Ok((answer, spare))
     }

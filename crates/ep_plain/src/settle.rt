@@ -3,11 +3,14 @@ ghost use Rattle.std.specs.Prelude.{◌≡◌, map};
 ghost use Rattle.ep_calls.specs.Raising.{IsRaising};
 ghost use Rattle.ep_calls.specs.Parts.{AreCoherent};
 ghost use Rattle.ep_interest.specs.Registrations.{IsSound, settled};
+ghost use Rattle.ep_plain.specs.Dating.{dated_of};
 ghost use Rattle.ep_plain.specs.Ends.{Rests, Spreads};
+ghost use Rattle.ep_plain.specs.Mark.{TellsReady};
 ghost use Rattle.ep_table.specs.Value.{Sound as SoundTables};
 
 use crate::climb::climb_instances;
 use crate::mark::mark_waiters;
+use crate::since::Dating;
 use ep_calls::{Parts, Raising};
 
 /// Does nothing. What holds of the parts between calls, with their registrations; a fact for proofs.
@@ -43,10 +46,11 @@ pub fn spread(parts: &mut Parts, step: u64, raising: Raising)
     know(parts);
 }
 
-/// Forgets what was passed on in an event, and sets marks.
-pub fn rest(parts: &mut Parts)
+/// Forgets what was passed on in an event, and sets marks by the dates of the registrations.
+pub fn rest(parts: &mut Parts, dating: &Dating)
+    requires { TellsReady parts.old.tables parts.old.clock parts.old.interest (dated_of dating.now) }
     ensures { Rests parts.old parts.new }
 {
     forget(parts);
-    mark_waiters(parts);
+    mark_waiters(parts, dating);
 }

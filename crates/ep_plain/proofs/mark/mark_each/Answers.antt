@@ -1,32 +1,10 @@
-use Rattle.std.proofs.Common.{arith, ap, length, List, map}
-use Rattle.std.proofs.Math.ListN.{length-map}
-use Rattle.ep_machine.specs.State.{Waiter}
-use Rattle.ep_machine.specs.Waits.{marked_if_due}
-use Rattle.ep_calls.specs.Parking.{ready_key}
-use Rattle.ep_calls.proofs.HoldLemmas.{as_many, placed_same}
-use Rattle.ep_plain.proofs.MarkLemmas.{turns_begin, turns_end, turns_on}
+use Rattle.std.proofs.Common.{◌≡◌, ◌∙◌, length, sym}
+use Rattle.ep_plain.proofs.MarkLemmas.{nobody_in_turn}
+use Rattle.ep_plain.specs.Mark.{instances_dated}
 use Rattle.ep_plain.proofs.mark.mark_each.Goals as goal
 
-pub loop-index-init : goal.loop-index-init
-loop-index-init c = turns_begin (ready_key c.args.tables.now c.args.now c.args.interest.now) c.args.now c.args.waiters.now c.mark_due.new.self c.mark_due.ensures
-
-pub mark_at-requires-clause-index : goal.mark_at-requires-clause-index
-mark_at-requires-clause-index c =
+pub returns-then-count-eq0 : goal.returns-then-count-eq0
+returns-then-count-eq0 c =
     let ws = c.args.waiters.now in
-    omega (arith, ap (λ (us : List Waiter). length us) c.mark_due.ensures, length-map ws (marked_if_due c.args.now), as_many ws c.loop-index.waiters c.loop-index.invariant.places)
-
-pub mark_at-requires-clause-placed : goal.mark_at-requires-clause-placed
-mark_at-requires-clause-placed c = placed_same c.args.waiters.now c.loop-index.waiters c.loop-index.invariant.places c.args.tables.now.keys c.requires.placed
-
-pub loop-index-preserved : goal.loop-index-preserved
-loop-index-preserved c =
-    let ws = c.args.waiters.now in
-    turns_on (ready_key c.args.tables.now c.args.now c.args.interest.now) c.args.now ws c.loop-index.index c.loop-index.waiters c.mark_at.new.waiters
-    (omega (arith, ap (λ (us : List Waiter). length us) c.mark_due.ensures, length-map ws (marked_if_due c.args.now))) c.loop-index.invariant c.mark_at.ensures
-
-pub returns : goal.returns
-returns c =
-    let ws = c.args.waiters.now in
-    let ready = ready_key c.args.tables.now c.args.now c.args.interest.now in
-    turns_end ready c.args.now ws c.loop-index.index c.loop-index.waiters
-    (omega (arith, ap (λ (us : List Waiter). length us) c.mark_due.ensures, length-map ws (marked_if_due c.args.now))) c.loop-index.invariant (c.marks_in_turn.ensures ready (map (marked_if_due c.args.now) ws))
+    let none : length ws ≡ 0 = sym c.count.ensures ∙ c.if-count-eq0.true in
+    sym (nobody_in_turn (instances_dated c.args.interest.now c.args.since.now c.args.keys.now) ws none)

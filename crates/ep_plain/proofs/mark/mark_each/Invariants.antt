@@ -1,6 +1,10 @@
-use Rattle.ep_calls.specs.Parking.{ready_key}
-use Rattle.ep_plain.proofs.MarkLemmas.{HadTurns}
+use Rattle.std.proofs.Common.{◌≡◌, length}
+use Rattle.ep_park.specs.Turns.{marked_in_turn}
+use Rattle.ep_plain.specs.Mark.{instances_dated}
 use Rattle.ep_plain.proofs.mark.mark_each.Given as goal
 
-abbrev pub invariant-loop-index : goal.invariant-loop-index
-invariant-loop-index l = HadTurns (ready_key l.tables l.fn.now l.interest) l.fn.now l.fn.waiters l.index l.waiters
+abbrev pub invariant-loop-id : goal.invariant-loop-id
+invariant-loop-id l = marked_in_turn (instances_dated l.interest l.since l.rest) l.waiters ≡ marked_in_turn (instances_dated l.interest l.since l.fn.keys) l.fn.waiters
+
+abbrev pub decreases-loop-id : goal.decreases-loop-id
+decreases-loop-id l = length l.rest

@@ -17,7 +17,7 @@ use Rattle.ep_plain.specs.Since.{Dates}
 use Rattle.ep_plain.specs.Standing.{Standing, book_of}
 use Rattle.ep_plain.specs.StepWith.{AddsBy, HasStep}
 use Rattle.ep_plain.specs.These.{MayReport}
-use Rattle.ep_plain.proofs.StandingLemmas.{adds_by, does_with, few_keys, kept_of, listed_left, may_report, reasons, reports, room, standing_next, standing_room}
+use Rattle.ep_plain.proofs.StandingLemmas.{adds_by, does_with, few_keys, kept_of, listed_left, may_report, reasons, reports, room, standing_next, standing_room, tells_left}
 use Rattle.ep_plain.proofs.plain.PlainKernel.try_step.Goals as goal
 
 -- the number of the event
@@ -121,6 +121,21 @@ date-requires-clause-reasons c =
     reasons k.history.items k.parts c.act_with.new.parts q k.dating c.self.invariant c.args.caller c.args.event c.in_ok-outcome.outcome (c.len.result + 1) n done c.spread.ensures
     c.reportables_are_spread.ensures.law c.in_ok-outcome.ensures.ok.keys c.find_altered-altered.result c.find_altered-altered.ensures in
     subst (λ (xs : List ℕ). HaveReasons (entry_shows (readiness q.tables q.clock q.interest) q.tables q.clock) q.tables c.find_altered-altered.result xs q.interest.entries) (sym longer) here
+
+pub rest-requires : goal.rest-requires
+rest-requires c =
+    let k = c.self.inside in
+    let n : c.len.result + 1 ≡ length k.history.items + 1 = omega (arith, c.len.ensures, c.reserve.ensures.len) in
+    let go =
+    may_report k.history.items k.parts c.self.invariant.keeps c.args.caller c.args.event (option_copied c.args.picks)
+    (subst (λ (b : Book). HasStep b.limits (state_of b) c.args.caller c.args.event (option_copied c.args.picks)) (sym c.self.view_is) c.requires.there) in
+    let done =
+    does_with k.history.items k.parts c.self.invariant.keeps (c.len.result + 1) n (MayReport k.parts c.args.caller.0 c.args.event (option_copied c.args.picks)) c.args.caller.0 c.args.event c.in_ok-outcome.outcome c.act_with.new.parts c.in_ok-outcome.ensures.ok go in
+    let longer = c.push_reserved.ensures.items ∙ ap (λ (d : Dated). d.since ++ 0 ∷ []) c.reserve-2.ensures.dates in
+    let q = c.spread.new.parts in
+    let d = c.date.new.dating in
+    let dates = subst (λ (xs : List ℕ). Dates (entry_shows (readiness q.tables q.clock q.interest) q.tables q.clock) (c.len.result + 1) q.interest xs d.since.items) longer c.date.ensures.dates in
+    tells_left k.history.items k.parts c.act_with.new.parts q k.dating c.self.invariant c.args.caller c.args.event c.in_ok-outcome.outcome (c.len.result + 1) n done c.spread.ensures d dates c.date.ensures.listed
 
 -- Once they are.
 longer_then : (c : goal.After-push_reserved-2) → c.push_reserved.new.self.items ≡ c.self.inside.dating.since.items ++ 0 ∷ []

@@ -1,6 +1,6 @@
 use Rattle.std.proofs.Common.{◌∙◌, ap, subst, sym}
 use Rattle.ep_machine.specs.State.{State}
-use Rattle.ep_calls.specs.Book.{Book, state_of}
+use Rattle.ep_calls.specs.Book.{state_of}
 use Rattle.ep_calls.specs.Driver.{TellsNext}
 use Rattle.ep_calls.proofs.KeepsLemmas.{state_is}
 use Rattle.ep_plain.proofs.plain.PlainKernelKernel.next_moment.Goals as goal
