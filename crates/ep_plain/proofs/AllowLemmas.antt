@@ -21,7 +21,7 @@ use Rattle.ep_table.specs.Value.{Seen, Sound as SoundTables, number_under}
 use Rattle.ep_plain.proofs.ChooseLemmas.{scans}
 use Rattle.ep_plain.specs.Pick.{Turn, find_turn, is_fair_turn, is_turn_pick, turn_of, turns_at, turns_in}
 use Rattle.ep_plain.specs.Since.{IsDated, event_at}
-use Rattle.ep_plain.specs.Choose.{reportables_at}
+use Rattle.ep_plain.specs.Choose.{TellsShown, reportables_at}
 
 -- a registration of the machine
 abbrev turn : Watch → Turn
@@ -88,17 +88,21 @@ all_below : (P : KernelWatch → Type 0) (f : Entry → KernelWatch) (xs : List 
 all_below P f [] h = All-nil (λ x. P (f x))
 all_below P f (x ∷ xs) h = All-cons (λ y. P (f y)) x xs (All-head P (f x) (map f xs) h) (all_below P f xs (All-tail P (f x) (map f xs) h))
 
+-- what is kept of the machine's registrations tells which are reportable
+pub dated_shown : {ws : List Waiter} (v : Seen) (now : ℕ) (r : Registrations) (s : State) (since : List ℕ) → Stands v r ws now s → IsDated s since → TellsShown v now r since
+dated_shown v now r s since stands dated =
+    let same_ready : machine_readiness s ≡ readiness v now r = λ i. ready_now (stands.files i) (stands.now i) (stands.watches i) in
+    let P : KernelWatch → Type 0 = λ w. nat_lt 0 (event_at since w.number) ≡ shows (readiness v now r) v.files now w in
+    let of_machine : All (λ x. P (kernel_watch s x)) s.watches = λ i d lt. dated.shown i d lt ∙ (reportable_kept s (get_or s.watches i d) ∙ λ j. shows (same_ready j) (stands.files j) (stands.now j) (kernel_watch s (get_or s.watches i d))) in
+    all_below P (watch_at v.keys) r.entries (subst (λ (xs : List KernelWatch). All P xs) stands.watches (All-map P (kernel_watch s) s.watches of_machine))
+
 pub allowed : {ws : List Waiter} (v : Seen) (now : ℕ) (r : Registrations) (s : State) (instance : DescId) (since : List ℕ) (most : ℕ) (ks : List ℕ) → Stands v r ws now s → AreLinked v r → SoundTables v → IsSome (number_under v instance) → IsDated s since
     → is_turn_pick (turns_at since r instance) most ks ≡ is_pick s (number_at v.keys instance) most ks
 allowed v now r s instance since most ks stands linked sound lives dated =
     let e = number_at v.keys instance in
     let ready = reportables s e in
-    let same_ready : machine_readiness s ≡ readiness v now r = λ i. ready_now (stands.files i) (stands.now i) (stands.watches i) in
-    let P : KernelWatch → Type 0 = λ w. nat_lt 0 (event_at since w.number) ≡ shows (readiness v now r) v.files now w in
-    let of_machine : All (λ x. P (kernel_watch s x)) s.watches = λ i d lt. dated.shown i d lt ∙ (reportable_kept s (get_or s.watches i d) ∙ λ j. shows (same_ready j) (stands.files j) (stands.now j) (kernel_watch s (get_or s.watches i d))) in
-    let of_entries : All (λ x. P (watch_at v.keys x)) r.entries = all_below P (watch_at v.keys) r.entries (subst (λ (xs : List KernelWatch). All P xs) stands.watches (All-map P (kernel_watch s) s.watches of_machine)) in
     let shown : All (λ x. nat_lt 0 (event_at since x.number) ≡ entry_shows (readiness v now r) v now x) (filter (is_of instance) r.entries) =
-    All-filter (is_of instance) (λ x. nat_lt 0 (event_at since x.number) ≡ entry_shows (readiness v now r) v now x) r.entries of_entries in
+    All-filter (is_of instance) (λ x. nat_lt 0 (event_at since x.number) ≡ entry_shows (readiness v now r) v now x) r.entries (dated_shown v now r s since stands dated) in
     let same : turns ready ≡ turns_at since r instance =
     as_kept since s ready (λ x m. all_member (λ y. is_reportable s y ≡ true → event_at since y.number ≡ y.from) s.watches x dated.from (filtered_member (λ y. y.instance == e && is_reportable s y) s.watches x m)
     (second_of_and (x.instance == e) (is_reportable s x) (filtered_passes (λ y. y.instance == e && is_reportable s y) s.watches x m)))

@@ -1,12 +1,13 @@
 -- What the kernel that scans chooses the machine may pick.
-use Rattle.std.proofs.Common.{set, get_or, ◌≡◌, ◌==◌, ◌&&◌, ◌<◌, ℕ, pos, Bool, false, true, List, [], ◌∷◌, Option, IsSome, All, cond, filter, length, map, take, refl, ap, sym, ◌∙◌, arith, subst, zero, suc}
+use Rattle.std.proofs.Common.{set, get_or, ◌≡◌, ◌==◌, ◌&&◌, ◌<◌, ℕ, pos, Bool, false, true, List, [], ◌∷◌, Option, Some, IsSome, All, cond, filter, length, map, nat_lt, take, refl, ap, sym, ◌∙◌, arith, subst, zero, suc}
 use Rattle.std.specs.List.Sorted.{IsNonDecreasingBy, IsPermutation}
 use Rattle.std.proofs.lemmas.List.{get_or-map, length-map, take-map}
 use Rattle.std.proofs.lemmas.List.Elements.{All-head, All-tail}
 use Rattle.std.proofs.lemmas.List.Sorted.{IsPermutation-map}
 use Rattle.ep_machine.specs.Readiness.{reportables}
 use Rattle.ep_base.specs.declared.ids.DescId.{DescId}
-use Rattle.ep_interest.specs.Registrations.{Registrations, is_of}
+use Rattle.ep_base.specs.declared.ids.EntryId.{EntryId}
+use Rattle.ep_interest.specs.Registrations.{Registrations, is_of, numbered}
 use Rattle.ep_interest.specs.declared.entry.Entry.{Entry}
 use Rattle.ep_view.specs.KernelView.{KernelWatch, kernel_watches, kernel_watch, ready_now, shows_in}
 use Rattle.ep_machine.specs.Report.{is_pick}
@@ -17,10 +18,12 @@ use Rattle.ep_view.proofs.KernelViewLemmas.{readiness as machine_readiness, repo
 use Rattle.ep_calls.specs.Stands.{AreLinked, IsLinked, Stands, number_at, watch_at}
 use Rattle.ep_calls.specs.Readiness.{entry_shows, readiness}
 use Rattle.ep_calls.specs.Wait.{IsPick, numbers_of}
-use Rattle.ep_plain.specs.Choose.{IsChosen}
+use Rattle.ep_plain.specs.Choose.{IsChosen, TellsShown}
+use Rattle.ep_plain.specs.Since.{event_at}
 use Rattle.ep_calls.specs.declared.wait.Reportable.{Reportable}
 use Rattle.ep_calls.proofs.KeyLemmas.{same_keys}
-use Rattle.ep_calls.proofs.CollectLemmas.{entries_in}
+use Rattle.ep_calls.proofs.AdditionLemmas.{found_passes}
+use Rattle.ep_calls.proofs.CollectLemmas.{Collects, entries_in, entries_of}
 use Rattle.ep_table.specs.Value.{Seen, Sound as SoundTables, number_under}
 use Rattle.std.specs.List.{swap}
 use Rattle.std.specs.List.Sorted.{SwapsInRange, apply_swaps}
@@ -133,3 +136,10 @@ sorted_entries xs h = λ i j d le lt.
     let l : j < length xs = omega (arith, length-map xs (λ (x : Reportable). x.entry), lt) in
     let x = h i j e le l in
     omega (arith, x, ap (λ (y : Entry). y.reported_in) (get_entry xs i d e (omega arith)), ap (λ (y : Entry). y.reported_in) (get_entry xs j d e l))
+
+-- a registration that a collection comes to has a date exactly where it is reportable
+pub next_told : (v : Seen) (now : ℕ) (r : Registrations) (since : List ℕ) → TellsShown v now r since → (found : List Reportable) (id : EntryId) (x : Entry) (rest : List (EntryId × Entry)) (all : List Entry) → Collects v now r found ((id, x) ∷ rest) all
+    → nat_lt 0 (event_at since x.number) ≡ entry_shows (readiness v now r) v now x
+next_told v now r since told found id x rest all c =
+    found_passes (λ y. nat_lt 0 (event_at since y.number) ≡ entry_shows (readiness v now r) v now y) (λ y. y.number == x.number) x r.entries told
+    (All-head (λ (y : Entry). numbered r.entries y.number ≡ Some y) x (entries_of rest) c.rest_there)

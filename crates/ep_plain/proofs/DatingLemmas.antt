@@ -30,7 +30,7 @@ or_either false b h = inr h
 pub first_or : (j id : EntryId) (ids : List EntryId) → has_id (id ∷ ids) j.0 ≡ true → (j ≡ id) ⊎ (has_id ids j.0 ≡ true)
 first_or j id ids h = elim (or_either (j.0 == id.0) (has_id ids j.0) h) [ inl e ↦ inl (key_is j id (from_test j.0 id.0 e)) | inr m ↦ inr m ]
 
-has_first : (j id : EntryId) (ids : List EntryId) → j ≡ id → has_id (id ∷ ids) j.0 ≡ true
+pub has_first : (j id : EntryId) (ids : List EntryId) → j ≡ id → has_id (id ∷ ids) j.0 ≡ true
 has_first j id ids e = or_left (j.0 == id.0) (has_id ids j.0) (same_test j.0 id.0 (ap (λ (k : EntryId). k.0) e))
 
 pub has_left : (k : ℕ) (xs ys : List EntryId) → has_id xs k ≡ true → has_id (xs ++ ys) k ≡ true
@@ -41,7 +41,7 @@ pub has_right : (k : ℕ) (xs ys : List EntryId) → has_id ys k ≡ true → ha
 has_right k [] ys h = h
 has_right k (x ∷ xs) ys h = or_right _ _ (has_right k xs ys h)
 
-has_either : (k : ℕ) (xs ys : List EntryId) → has_id (xs ++ ys) k ≡ true → (has_id xs k ≡ true) ⊎ (has_id ys k ≡ true)
+pub has_either : (k : ℕ) (xs ys : List EntryId) → has_id (xs ++ ys) k ≡ true → (has_id xs k ≡ true) ⊎ (has_id ys k ≡ true)
 has_either k [] ys h = inr h
 has_either k (x ∷ xs) ys h = elim (or_either (k == x.0) (has_id (xs ++ ys) k) h) [
   | inl e ↦ inl (or_left _ _ e)
@@ -124,10 +124,10 @@ some_none : (x : Entry) (o : Option Entry) → o ≡ Some x → o ≡ None → �
 some_none x o a b = absurd (let e : Some x ≡ None = sym a ∙ b in cc)
 
 module _ (shows : Entry → Bool) (n : ℕ) (counted : 0 < n) (r : Registrations) (sound : IsSound r) where
-  longer : (s : List ℕ) (k v : ℕ) → r.added < length s → r.added < length (set s k v)
+  pub longer : (s : List ℕ) (k v : ℕ) → r.added < length s → r.added < length (set s k v)
   longer s k v lt = omega (arith, lt, length-set s k v)
 
-  found_longer : (s : List ℕ) (o : Option Entry) → r.added < length s → r.added < length (dated_found shows n o s)
+  pub found_longer : (s : List ℕ) (o : Option Entry) → r.added < length s → r.added < length (dated_found shows n o s)
   found_longer s None lt = lt
   found_longer s (Some z) lt = longer s z.number (entry_event shows n s z) lt
 

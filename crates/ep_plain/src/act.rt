@@ -7,26 +7,33 @@ ghost use Rattle.ep_calls.specs.Does.{DoesCall, DoesEvent};
 ghost use Rattle.ep_calls.specs.Kept.{KeepsCall, KeepsEvent};
 ghost use Rattle.ep_calls.specs.Spared.{IsSpared, TakesNoMemory};
 ghost use Rattle.ep_plain.specs.Altered.{HadOrAdds};
+ghost use Rattle.ep_plain.specs.Choose.{Tells};
+ghost use Rattle.ep_plain.specs.Dating.{dated_of};
 
 use crate::control::epoll_ctl;
+use crate::since::Dating;
+use crate::stamp::Stamp;
 use crate::wait::{epoll_wait, resume};
-use ep_base::{Call, CallerId, Errno, Event, Pid};
+use ep_base::{Call, Errno, Event, Pid};
 use ep_calls::{Control, Outcome, Parts, Wait};
 use std::alloc::AllocError;
 
 /// A call of a process that is there. `kept`: a second record of it is asked for.
 fn make_call(
     parts: &mut Parts,
-    step: u64,
-    caller: CallerId,
+    stamp: Stamp,
     pid: Pid,
     call: &Call,
+    dating: &Dating,
     kept: bool,
 ) -> Result<Outcome, AllocError>
-    requires free { list_any (is_caller caller.0) parts.old.parked ≡ false }
+    requires free { list_any (is_caller stamp.caller.0) parts.old.parked ≡ false }
     requires process { is_some (table_of parts.old.tables.files pid.0) ≡ true }
+    requires told { Tells parts.old.tables parts.old.clock parts.old.interest
+        (dated_of dating.now) }
     ensures ok { IfOk result
-        (λ outcome. DoesCall step caller.0 pid.0 call.now outcome parts.old parts.new) }
+        (λ outcome. DoesCall stamp.step stamp.caller.0 pid.0 call.now outcome parts.old
+        parts.new) }
     ensures ids { HadOrAdds parts.old.interest parts.new.interest }
     ensures kept { IfOk result (λ outcome. KeepsCall call.now kept outcome) }
     ensures spared { TakesNoMemory parts.old.tables.files pid.0 call.now → IsOk result }
@@ -57,7 +64,7 @@ fn make_call(
                 timeout,
                 kept,
             };
-            epoll_wait(parts, step, caller, args)
+            epoll_wait(parts, stamp, args, dating)
         }
         Call::Read { fd, .. }
         | Call::Write { fd, .. }
@@ -72,13 +79,15 @@ fn make_call(
 /// An `Err` is want of memory and leaves the parts. It comes of no event that `IsSpared` names.
 pub fn act(
     parts: &mut Parts,
-    step: u64,
-    caller: CallerId,
+    stamp: Stamp,
     event: &Event,
+    dating: &Dating,
     kept: bool,
 ) -> Result<Outcome, AllocError>
+    requires told { Tells parts.old.tables parts.old.clock parts.old.interest
+        (dated_of dating.now) }
     ensures ok { IfOk result
-        (λ outcome. DoesEvent step caller.0 event.now outcome parts.old parts.new) }
+        (λ outcome. DoesEvent stamp.step stamp.caller.0 event.now outcome parts.old parts.new) }
     ensures ids { HadOrAdds parts.old.interest parts.new.interest }
     ensures kept { IfOk result (λ outcome. KeepsEvent event.now kept outcome) }
     ensures spared { IsSpared parts.old.tables.files event.now → IsOk result }
@@ -89,12 +98,12 @@ pub fn act(
             if !parts.tables.has_process(*pid) {
                 return Ok(Outcome::refused(parts.alloc, Errno::Esrch));
             }
-            if parts.waiters.is_parked(caller) {
+            if parts.waiters.is_parked(stamp.caller) {
                 return Ok(Outcome::refused(parts.alloc, Errno::Ebusy));
             }
-            make_call(parts, step, caller, *pid, call, kept)
+            make_call(parts, stamp, *pid, call, dating, kept)
         }
-        Event::Resume => resume(parts, step, caller, kept),
+        Event::Resume => resume(parts, stamp, dating, kept),
         Event::Tick { n } => Ok(parts.tick(*n)),
     }
 }

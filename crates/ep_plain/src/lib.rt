@@ -11,6 +11,7 @@ mod pick;
 mod plain;
 mod settle;
 mod since;
+mod stamp;
 mod these;
 mod wait;
 mod waiting;

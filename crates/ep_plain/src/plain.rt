@@ -10,6 +10,7 @@ ghost use Rattle.ep_plain.specs.StepWith.{AddsBy, HasStep, StepsWith};
 use crate::altered::find_altered;
 use crate::settle::{rest, spread};
 use crate::since::{Dating, date};
+use crate::stamp::Stamp;
 use crate::these::{act_with, allows};
 use ep_base::{Answer, CallerId, Errno, Event, Limits, Record};
 use ep_calls::{Kernel, Parts, Spare};
@@ -85,7 +86,8 @@ impl PlainKernel {
         let step = self.history.len() as u64 + 1;
         let altered = find_altered(&self.parts, &event);
         reportables_are_spread();
-        let outcome = act_with(&mut self.parts, step, caller, &event, picks, kept)?;
+        let stamp = Stamp { step, caller };
+        let outcome = act_with(&mut self.parts, stamp, &event, &self.dating, picks, kept)?;
         let raising = outcome.raising;
         let (answer, spare, record) = outcome.into_record(caller, event, kept);
         spread(&mut self.parts, step, raising);

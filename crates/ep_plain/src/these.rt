@@ -1,31 +1,30 @@
 //! Waits that report given registrations.
 ghost use Rattle.std.specs.List.{filter_map, find, list_any};
-ghost use Rattle.std.specs.Prelude.{◌≡◌, ◌==◌, ◌≤◌, IfNone, IfOk, IsOk, OnErr, None, Some, false, map, option_copied, true};
+ghost use Rattle.std.specs.Prelude.{◌≡◌, ◌==◌, IfNone, IfOk, IsOk, OnErr, None, Some, false, map, option_copied, true};
 ghost use Rattle.ep_base.specs.declared.call.Event.TheVariants.{Resume};
 ghost use Rattle.ep_interest.specs.Registrations.{numbered};
 ghost use Rattle.ep_law.specs.Sound.{Sound};
-ghost use Rattle.ep_machine.specs.Timer.{last_moment};
 ghost use Rattle.ep_machine.specs.Watches.{number_in};
 ghost use Rattle.ep_park.specs.Waiters.{is_caller, parked};
 ghost use Rattle.ep_calls.specs.Does.{DoesCallIf, DoesEventIf};
 ghost use Rattle.ep_calls.specs.Kept.{KeepsEvent};
 ghost use Rattle.ep_calls.specs.Spared.{IsSpared};
-ghost use Rattle.ep_calls.specs.Stands.{AreLinked};
 ghost use Rattle.ep_calls.specs.Wait.{AreKeyed, Waits, wait_call};
 ghost use Rattle.ep_plain.specs.Altered.{HadOrAdds};
-ghost use Rattle.ep_plain.specs.Choose.{reportables_at};
+ghost use Rattle.ep_plain.specs.Choose.{Tells, reportables_at};
+ghost use Rattle.ep_plain.specs.Dating.{dated_of};
 ghost use Rattle.ep_plain.specs.Since.{IsDated};
 ghost use Rattle.ep_plain.specs.These.{ForEach, MayGo, MayPick, MayReport, PicksThese, ReportsThese, WherePicked, goes_with};
 
 use crate::act::act;
 use crate::choose::{most, reportables};
 use crate::pick::is_pick;
+use crate::since::Dating;
+use crate::stamp::Stamp;
 use crate::waiting::{Waiting, find_waiting};
 use ep_base::{CallerId, DescId, Event};
 use ep_calls::{Outcome, Parts, Reportable, Wait};
-use ep_interest::Interest;
 use ep_park::Waiter;
-use ep_table::Tables;
 use std::alloc::{AllocError, Global};
 
 /// The one with a number, of these registrations.
@@ -65,39 +64,48 @@ fn take_of(
 
 /// The registrations of an instance that are reportable and have these numbers, in the order of the numbers.
 fn take(
-    alloc: Global,
-    tables: &Tables,
-    now: u64,
-    interest: &Interest,
+    parts: &Parts,
+    dating: &Dating,
     instance: DescId,
     picks: &[u64],
 ) -> Result<Vec<Reportable>, AllocError>
-    requires linked { AreLinked tables.now interest.now }
-    requires clock { now ≤ last_moment }
+    requires told { Tells parts.now.tables parts.now.clock parts.now.interest
+        (dated_of dating.now) }
     ensures entries { IfOk result
         (λ chosen. map (λ x. x.entry) chosen.items
-        ≡ filter_map (numbered (reportables_at tables.now now interest.now instance)) picks.now) }
-    ensures keyed { IfOk result (λ chosen. AreKeyed tables.now now interest.now chosen.items) }
+        ≡ filter_map (numbered (reportables_at parts.now.tables parts.now.clock
+        parts.now.interest instance)) picks.now) }
+    ensures keyed { IfOk result
+        (λ chosen. AreKeyed parts.now.tables parts.now.clock parts.now.interest chosen.items) }
 {
-    let found = reportables(alloc, tables, now, interest, instance)?;
-    let chosen = take_of(alloc, &found, picks)?;
+    let found = reportables(
+        parts.alloc,
+        &parts.tables,
+        parts.clock,
+        &parts.interest,
+        dating,
+        instance,
+    )?;
+    let chosen = take_of(parts.alloc, &found, picks)?;
     Ok(chosen)
 }
 
 /// A call that waits, not refused, and reports what it is given. An `Err` is want of memory and leaves the parts.
 fn wait_these(
     parts: &mut Parts,
-    step: u64,
-    caller: CallerId,
+    stamp: Stamp,
     args: Wait,
     instance: DescId,
+    dating: &Dating,
     picks: &[u64],
 ) -> Result<Outcome, AllocError>
-    requires free { list_any (is_caller caller.0) parts.old.parked ≡ false }
+    requires free { list_any (is_caller stamp.caller.0) parts.old.parked ≡ false }
     requires waits { Waits parts.old.tables args instance }
+    requires told { Tells parts.old.tables parts.old.clock parts.old.interest
+        (dated_of dating.now) }
     ensures ok { IfOk result
-        (λ outcome. DoesCallIf (MayPick parts.old instance (number_in args.max) picks.now) step
-        caller.0 args.pid.0 (wait_call args) outcome parts.old parts.new) }
+        (λ outcome. DoesCallIf (MayPick parts.old instance (number_in args.max) picks.now)
+        stamp.step stamp.caller.0 args.pid.0 (wait_call args) outcome parts.old parts.new) }
     ensures ids { parts.new.interest.keys ≡ parts.old.interest.keys }
     ensures picked { IfOk result
         (λ outcome. WherePicked parts.old instance (number_in args.max) picks.now
@@ -105,31 +113,27 @@ fn wait_these(
     ensures err { OnErr result (parts.new ≡ parts.old) }
 {
     parts.tables.known();
-    let chosen = take(
-        parts.alloc,
-        &parts.tables,
-        parts.clock,
-        &parts.interest,
-        instance,
-        picks,
-    )?;
-    let outcome = parts.wait_with(step, caller, args, instance, &chosen)?;
+    let chosen = take(parts, dating, instance, picks)?;
+    let outcome = parts.wait_with(stamp.step, stamp.caller, args, instance, &chosen)?;
     Ok(outcome)
 }
 
 /// The resumption of a marked caller that reports what it is given. An `Err` is want of memory and leaves the parts.
 fn resume_these(
     parts: &mut Parts,
-    step: u64,
-    caller: CallerId,
+    stamp: Stamp,
     waiter: Waiter,
+    dating: &Dating,
     picks: &[u64],
 ) -> Result<Outcome, AllocError>
-    requires parked { find (is_caller caller.0) parts.old.parked ≡ Some (parked caller.0 waiter) }
+    requires parked { find (is_caller stamp.caller.0) parts.old.parked
+        ≡ Some (parked stamp.caller.0 waiter) }
     requires marked { waiter.marked ≡ true }
+    requires told { Tells parts.old.tables parts.old.clock parts.old.interest
+        (dated_of dating.now) }
     ensures ok { IfOk result
         (λ outcome. DoesEventIf (MayPick parts.old waiter.instance (number_in waiter.max) picks.now)
-        step caller.0 Resume outcome parts.old parts.new) }
+        stamp.step stamp.caller.0 Resume outcome parts.old parts.new) }
     ensures ids { parts.new.interest.keys ≡ parts.old.interest.keys }
     ensures picked { IfOk result
         (λ outcome. WherePicked parts.old waiter.instance (number_in waiter.max) picks.now
@@ -137,40 +141,36 @@ fn resume_these(
     ensures err { OnErr result (parts.new ≡ parts.old) }
 {
     parts.tables.known();
-    let chosen = take(
-        parts.alloc,
-        &parts.tables,
-        parts.clock,
-        &parts.interest,
-        waiter.instance,
-        picks,
-    )?;
-    let outcome = parts.resume_with(step, caller, waiter, &chosen, false)?;
+    let chosen = take(parts, dating, waiter.instance, picks)?;
+    let outcome = parts.resume_with(stamp.step, stamp.caller, waiter, &chosen, false)?;
     Ok(outcome)
 }
 
 /// One event whose report is of these registrations, in this order. An `Err` is want of memory and leaves the parts.
 fn act_these(
     parts: &mut Parts,
-    step: u64,
-    caller: CallerId,
+    stamp: Stamp,
     event: &Event,
+    dating: &Dating,
     picks: &[u64],
 ) -> Result<Outcome, AllocError>
+    requires told { Tells parts.old.tables parts.old.clock parts.old.interest
+        (dated_of dating.now) }
     ensures ok { IfOk result
-        (λ outcome. DoesEventIf (MayGo parts.old caller.0 event.now picks.now) step caller.0
-        event.now outcome parts.old parts.new) }
+        (λ outcome. DoesEventIf (MayGo parts.old stamp.caller.0 event.now picks.now) stamp.step
+        stamp.caller.0 event.now outcome parts.old parts.new) }
     ensures ids { HadOrAdds parts.old.interest parts.new.interest }
     ensures picked { IfOk result
-        (λ outcome. PicksThese step parts.old caller.0 event.now picks.now outcome.picked) }
+        (λ outcome. PicksThese stamp.step parts.old stamp.caller.0 event.now picks.now
+        outcome.picked) }
     ensures err { OnErr result (parts.new ≡ parts.old) }
 {
-    match find_waiting(parts, caller, event) {
+    match find_waiting(parts, stamp.caller, event) {
         Some(Waiting::Call { args, instance }) => {
-            wait_these(parts, step, caller, args, instance, picks)
+            wait_these(parts, stamp, args, instance, dating, picks)
         }
-        Some(Waiting::Parked { waiter }) => resume_these(parts, step, caller, waiter, picks),
-        None => act(parts, step, caller, event, false),
+        Some(Waiting::Parked { waiter }) => resume_these(parts, stamp, waiter, dating, picks),
+        None => act(parts, stamp, event, dating, false),
     }
 }
 
@@ -179,19 +179,22 @@ fn act_these(
 /// parts; where none are given, it comes of no event that `IsSpared` names.
 pub fn act_with(
     parts: &mut Parts,
-    step: u64,
-    caller: CallerId,
+    stamp: Stamp,
     event: &Event,
+    dating: &Dating,
     picks: Option<&[u64]>,
     kept: bool,
 ) -> Result<Outcome, AllocError>
+    requires told { Tells parts.old.tables parts.old.clock parts.old.interest
+        (dated_of dating.now) }
     ensures ok { IfOk result
-        (λ outcome. DoesEventIf (MayReport parts.old caller.0 event.now (option_copied picks.entry))
-        step caller.0 event.now outcome parts.old parts.new) }
+        (λ outcome. DoesEventIf
+        (MayReport parts.old stamp.caller.0 event.now (option_copied picks.entry)) stamp.step
+        stamp.caller.0 event.now outcome parts.old parts.new) }
     ensures ids { HadOrAdds parts.old.interest parts.new.interest }
     ensures picked { IfOk result
-        (λ outcome. ReportsThese step parts.old caller.0 event.now (option_copied picks.entry)
-        outcome.picked) }
+        (λ outcome. ReportsThese stamp.step parts.old stamp.caller.0 event.now
+        (option_copied picks.entry) outcome.picked) }
     ensures kept { IfOk result
         (λ outcome. IfNone (option_copied picks.entry) (KeepsEvent event.now kept outcome)) }
     ensures spared { option_copied picks.entry ≡ None → IsSpared parts.old.tables.files event.now
@@ -199,8 +202,8 @@ pub fn act_with(
     ensures err { OnErr result (parts.new ≡ parts.old) }
 {
     match picks {
-        None => act(parts, step, caller, event, kept),
-        Some(picks) => act_these(parts, step, caller, event, picks),
+        None => act(parts, stamp, event, dating, kept),
+        Some(picks) => act_these(parts, stamp, event, dating, picks),
     }
 }
 

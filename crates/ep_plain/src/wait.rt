@@ -6,9 +6,13 @@ ghost use Rattle.ep_park.specs.Waiters.{is_caller};
 ghost use Rattle.ep_calls.specs.Does.{DoesCall, DoesEvent};
 ghost use Rattle.ep_calls.specs.Kept.{IsKept};
 ghost use Rattle.ep_calls.specs.Wait.{wait_call};
+ghost use Rattle.ep_plain.specs.Choose.{Tells};
+ghost use Rattle.ep_plain.specs.Dating.{dated_of};
 
 use crate::choose::choose;
-use ep_base::{Answer, CallerId, Errno};
+use crate::since::Dating;
+use crate::stamp::Stamp;
+use ep_base::{Answer, Errno};
 use ep_calls::{Outcome, Parts, Raising, Wait, find_instance};
 use std::alloc::AllocError;
 
@@ -19,14 +23,16 @@ use std::alloc::AllocError;
 /// parts.
 pub fn epoll_wait(
     parts: &mut Parts,
-    step: u64,
-    caller: CallerId,
+    stamp: Stamp,
     args: Wait,
+    dating: &Dating,
 ) -> Result<Outcome, AllocError>
-    requires { list_any (is_caller caller.0) parts.old.parked ≡ false }
+    requires free { list_any (is_caller stamp.caller.0) parts.old.parked ≡ false }
+    requires told { Tells parts.old.tables parts.old.clock parts.old.interest
+        (dated_of dating.now) }
     ensures ok { IfOk result
-        (λ outcome. DoesCall step caller.0 args.pid.0 (wait_call args) outcome parts.old
-        parts.new) }
+        (λ outcome. DoesCall stamp.step stamp.caller.0 args.pid.0 (wait_call args) outcome
+        parts.old parts.new) }
     ensures ids { parts.new.interest.keys ≡ parts.old.interest.keys }
     ensures kept { IfOk result (λ outcome. IsKept args.kept outcome) }
     ensures err { OnErr result (parts.new ≡ parts.old) }
@@ -36,15 +42,8 @@ pub fn epoll_wait(
         Err(errno) => return Ok(Outcome::refused(parts.alloc, errno)),
     };
     parts.tables.known();
-    let chosen = choose(
-        parts.alloc,
-        &parts.tables,
-        parts.clock,
-        &parts.interest,
-        instance,
-        args.max,
-    )?;
-    let outcome = parts.wait_with(step, caller, args, instance, &chosen)?;
+    let chosen = choose(parts, dating, instance, args.max)?;
+    let outcome = parts.wait_with(stamp.step, stamp.caller, args, instance, &chosen)?;
     Ok(outcome)
 }
 
@@ -54,31 +53,26 @@ pub fn epoll_wait(
 /// A refusal and an `Err`, which is want of memory, leave the parts.
 pub fn resume(
     parts: &mut Parts,
-    step: u64,
-    caller: CallerId,
+    stamp: Stamp,
+    dating: &Dating,
     kept: bool,
 ) -> Result<Outcome, AllocError>
+    requires told { Tells parts.old.tables parts.old.clock parts.old.interest
+        (dated_of dating.now) }
     ensures ok { IfOk result
-        (λ outcome. DoesEvent step caller.0 Resume outcome parts.old parts.new) }
+        (λ outcome. DoesEvent stamp.step stamp.caller.0 Resume outcome parts.old parts.new) }
     ensures ids { parts.new.interest.keys ≡ parts.old.interest.keys }
     ensures kept { IfOk result (λ outcome. IsKept kept outcome) }
     ensures err { OnErr result (parts.new ≡ parts.old) }
 {
-    let Some(waiter) = parts.waiters.waiter(caller) else {
+    let Some(waiter) = parts.waiters.waiter(stamp.caller) else {
         return Ok(Outcome::refused(parts.alloc, Errno::Einval));
     };
     if !waiter.marked {
         return Ok(Outcome::settled(parts.alloc, Answer::Still, Raising::Nowhere));
     }
     parts.tables.known();
-    let chosen = choose(
-        parts.alloc,
-        &parts.tables,
-        parts.clock,
-        &parts.interest,
-        waiter.instance,
-        waiter.max,
-    )?;
-    let outcome = parts.resume_with(step, caller, waiter, &chosen, kept)?;
+    let chosen = choose(parts, dating, waiter.instance, waiter.max)?;
+    let outcome = parts.resume_with(stamp.step, stamp.caller, waiter, &chosen, kept)?;
     Ok(outcome)
 }

@@ -17,20 +17,20 @@ returns-then-is_parked-clause-ok c =
     let p : Parts = record { tables = k.tables; interest = k.interest; graph = k.graph; parked = k.waiters; clock = k.clock } in
     let e = c.refused-then-is_parked.ensures in
     rw (← c.parts.view_is, c.in-Call.is)
-    (refused_does p c.args.step c.args.caller.0 (CallOf c.in-Call.pid c.in-Call.call) Ebusy c.refused-then-is_parked.result (busy p c.args.caller.0 c.in-Call.pid c.in-Call.call (sym c.has_process.ensures ∙ c.if-not-has_process.false) (sym c.is_parked.ensures ∙ c.if-is_parked.true)) e.answer e.picked e.raising)
+    (refused_does p c.args.stamp.step c.args.stamp.caller.0 (CallOf c.in-Call.pid c.in-Call.call) Ebusy c.refused-then-is_parked.result (busy p c.args.stamp.caller.0 c.in-Call.pid c.in-Call.call (sym c.has_process.ensures ∙ c.if-not-has_process.false) (sym c.is_parked.ensures ∙ c.if-is_parked.true)) e.answer e.picked e.raising)
 
 pub returns-else-is_parked-clause-ok : goal.returns-else-is_parked-clause-ok
 returns-else-is_parked-clause-ok c =
     let pid = c.in-Call.pid in
-    let caller = c.args.caller.0 in
+    let caller = c.args.stamp.caller.0 in
     let there = subst (λ (q : Parts). is_some (table_of q.tables.files pid.0) ≡ true) c.parts.view_is (sym c.has_process.ensures ∙ c.if-not-has_process.false) in
     let free = subst (λ (q : Parts). list_any (is_caller caller) q.parked ≡ false) c.parts.view_is (sym c.is_parked.ensures ∙ c.if-is_parked.false) in
-    IfOk-weaker c.make_call.result _ _ (λ outcome does. subst (λ (event : Event). DoesEvent c.args.step caller event outcome c.args.parts.now c.make_call.new.parts) (sym c.in-Call.is)
-    (past_does c.args.parts.now caller pid c.in-Call.call there c.args.step c.make_call.new.parts outcome free does)) c.make_call.ensures.ok
+    IfOk-weaker c.make_call.result _ _ (λ outcome does. subst (λ (event : Event). DoesEvent c.args.stamp.step caller event outcome c.args.parts.now c.make_call.new.parts) (sym c.in-Call.is)
+    (past_does c.args.parts.now caller pid c.in-Call.call there c.args.stamp.step c.make_call.new.parts outcome free does)) c.make_call.ensures.ok
 
 pub returns-in-Tick-clause-ok : goal.returns-in-Tick-clause-ok
 returns-in-Tick-clause-ok c =
     let p = c.args.parts.now in
     let e = c.tick.ensures in
-    subst (λ (event : Event). DoesEvent c.args.step c.args.caller.0 event c.tick.result p c.tick.new.self) (sym c.in-Tick.is)
-    (subst (DoesEvent c.args.step c.args.caller.0 (Tick c.in-Tick.n) c.tick.result p) (sym e.others) (tick_does p c.args.step c.args.caller.0 c.in-Tick.n c.tick.result c.tick.new.self.clock e.ticks e.raising e.picked e.moment))
+    subst (λ (event : Event). DoesEvent c.args.stamp.step c.args.stamp.caller.0 event c.tick.result p c.tick.new.self) (sym c.in-Tick.is)
+    (subst (DoesEvent c.args.stamp.step c.args.stamp.caller.0 (Tick c.in-Tick.n) c.tick.result p) (sym e.others) (tick_does p c.args.stamp.step c.args.stamp.caller.0 c.in-Tick.n c.tick.result c.tick.new.self.clock e.ticks e.raising e.picked e.moment))

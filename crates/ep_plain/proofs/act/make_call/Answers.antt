@@ -16,7 +16,7 @@ pub returns-in_default : goal.returns-in_default
 returns-in_default c =
     let on_tables : IsTableCall c.args.call.now = search rules in
     record {
-      ok = IfOk-weaker c.table_call.result _ _ (λ outcome h. h c.args.step c.args.caller.0) c.table_call.ensures.ok;
+      ok = IfOk-weaker c.table_call.result _ _ (λ outcome h. h c.args.stamp.step c.args.stamp.caller.0) c.table_call.ensures.ok;
       kept = IfOk-weaker c.table_call.result _ _ (λ outcome h. table_call_kept c.args.call.now c.args.kept outcome on_tables) c.table_call.ensures.ok;
       spared = λ h. c.table_call.ensures.frees (table_call_frees c.args.parts.now.tables.files c.args.pid.0 c.args.call.now on_tables h);
       ids = had_same c.args.parts.now.interest c.table_call.new.self.interest c.table_call.ensures.interest;
@@ -24,7 +24,7 @@ returns-in_default c =
     }
 
 pub returns-in-Read-clause-ok : goal.returns-in-Read-clause-ok
-returns-in-Read-clause-ok c = IfOk-weaker c.object_call.result _ _ (λ outcome h. h c.args.step c.args.caller.0) c.object_call.ensures.ok
+returns-in-Read-clause-ok c = IfOk-weaker c.object_call.result _ _ (λ outcome h. h c.args.stamp.step c.args.stamp.caller.0) c.object_call.ensures.ok
 
 pub returns-in-Read-clause-kept : goal.returns-in-Read-clause-kept
 returns-in-Read-clause-kept c = IfOk-weaker c.object_call.result _ _ (λ outcome h. any_call c.args.call.now c.args.kept outcome h) c.object_call.ensures.kept
@@ -40,8 +40,8 @@ returns-in-EpollCtl-clause-ok c =
     let x = c.in-EpollCtl in
     let fits : SFits w32 x.op = search rules in
     IfOk-weaker c.epoll_ctl.result _ _ (λ outcome h.
-    let P : Call → Type 0 = λ call. DoesCall c.args.step c.args.caller.0 c.args.pid.0 call outcome c.args.parts.now c.epoll_ctl.new.parts in
-    subst P (sym x.is) (subst (λ (z : ℤ). P (EpollCtl x.epfd z x.fd x.mask x.tag)) (to_z-of_z w32 x.op fits) (h c.args.step c.args.caller.0))) c.epoll_ctl.ensures.ok
+    let P : Call → Type 0 = λ call. DoesCall c.args.stamp.step c.args.stamp.caller.0 c.args.pid.0 call outcome c.args.parts.now c.epoll_ctl.new.parts in
+    subst P (sym x.is) (subst (λ (z : ℤ). P (EpollCtl x.epfd z x.fd x.mask x.tag)) (to_z-of_z w32 x.op fits) (h c.args.stamp.step c.args.stamp.caller.0))) c.epoll_ctl.ensures.ok
 
 pub returns-in-Read-clause-ids : goal.returns-in-Read-clause-ids
 returns-in-Read-clause-ids c = had_same c.args.parts.now.interest c.object_call.new.self.interest c.object_call.ensures.interest

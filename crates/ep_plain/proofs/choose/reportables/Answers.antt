@@ -1,7 +1,6 @@
-use Rattle.std.proofs.Common.{◌≡◌, Some, ℕ, nat_lt, not, ◌&&◌, ◌||◌, ◌++◌, [], List, filter, sym, ap, ◌∙◌, subst, append-nil, refl}
+use Rattle.std.proofs.Common.{◌≡◌, Some, ℕ, nat_lt, ◌++◌, [], List, filter, sym, ap, ◌∙◌, subst, append-nil, refl}
 use Rattle.std.proofs.lemmas.List.Elements.{All-filter, All-from_recursion}
 use Rattle.ep_base.specs.declared.ids.EntryId.{EntryId}
-use Rattle.ep_machine.specs.Bits.{ET, has_bit}
 use Rattle.ep_interest.specs.Registrations.{is_of, numbered}
 use Rattle.ep_interest.specs.declared.entry.Entry.{Entry}
 use Rattle.ep_calls.specs.Stands.{IsLinked}
@@ -9,6 +8,8 @@ use Rattle.ep_calls.specs.Readiness.{entry_shows, readiness}
 use Rattle.ep_calls.specs.declared.wait.Reportable.{Reportable}
 use Rattle.ep_calls.proofs.FindLemmas.{each_numbered}
 use Rattle.ep_calls.proofs.CollectLemmas.{Collects, begins, collects_more, collects_same, entries_in, entries_of, first_linked}
+use Rattle.ep_plain.proofs.ChooseLemmas.{next_told}
+use Rattle.ep_plain.specs.Since.{event_at}
 use Rattle.ep_plain.proofs.choose.reportables.Goals as goal
 
 pub loop-id-init : goal.loop-id-init
@@ -38,7 +39,8 @@ loop-id-preserved-in-Continue-1 c =
     let x : Reportable = record { id = c.in-Some.id; entry = c.in-Some.entry.now; bits = c.shown-bits.result } in
     subst (λ (found : List Reportable). Collects v c.args.now r found c.next.new.self all) (sym c.in_ok-push.ensures.items)
     (collects_more v c.args.now r c.loop-id.found.items c.in-Some.id c.in-Some.entry.now c.next.new.self all (subst P c.in-Some.ensures.steps c.loop-id.invariant) x refl refl c.shown-bits.ensures
-    (ap (λ (b : ℕ). nat_lt 0 b && (not (has_bit c.in-Some.entry.now.mask.0 ET) || c.in-Some.entry.now.fresh)) (sym c.shown-bits.ensures) ∙ (sym c.is_reportable.ensures ∙ c.if-is_reportable.true)))
+    (sym (next_told v c.args.now r c.args.dating.now.since.items c.requires.told.shown c.loop-id.found.items c.in-Some.id c.in-Some.entry.now c.next.new.self all (subst P c.in-Some.ensures.steps c.loop-id.invariant))
+    ∙ (ap (λ (xs : List ℕ). nat_lt 0 (event_at xs c.in-Some.entry.now.number)) (sym c.deref.ensures.value) ∙ (sym c.is_dated.ensures ∙ c.if-is_dated.true))))
 
 pub loop-id-preserved : goal.loop-id-preserved
 loop-id-preserved c =
@@ -47,7 +49,8 @@ loop-id-preserved c =
     let all = filter (entry_shows (readiness v c.args.now r) v c.args.now) (filter (is_of c.args.instance) r.entries) in
     let P : List (EntryId × Entry) → Type 0 = λ rest. Collects v c.args.now r c.loop-id.found.items rest all in
     collects_same v c.args.now r c.loop-id.found.items c.in-Some.id c.in-Some.entry.now c.next.new.self all (subst P c.in-Some.ensures.steps c.loop-id.invariant)
-    (ap (λ (b : ℕ). nat_lt 0 b && (not (has_bit c.in-Some.entry.now.mask.0 ET) || c.in-Some.entry.now.fresh)) (sym c.shown-bits.ensures) ∙ (sym c.is_reportable.ensures ∙ c.if-is_reportable.false))
+    (sym (next_told v c.args.now r c.args.dating.now.since.items c.requires.told.shown c.loop-id.found.items c.in-Some.id c.in-Some.entry.now c.next.new.self all (subst P c.in-Some.ensures.steps c.loop-id.invariant))
+    ∙ (ap (λ (xs : List ℕ). nat_lt 0 (event_at xs c.in-Some.entry.now.number)) (sym c.deref.ensures.value) ∙ (sym c.is_dated.ensures ∙ c.if-is_dated.false)))
 
 pub returns-clause-entries : goal.returns-clause-entries
 returns-clause-entries c =

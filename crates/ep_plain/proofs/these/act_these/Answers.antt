@@ -5,32 +5,32 @@ use Rattle.ep_plain.specs.These.{AsksFor, CallsWait, Resumes}
 use Rattle.ep_plain.specs.declared.waiting.Waiting.{Waiting}
 use Rattle.ep_plain.proofs.these.act_these.Goals as goal
 
-calls : (c : goal.After-wait_these) → CallsWait c.args.parts.now c.args.caller.0 c.args.event.now c.in-Some-Call.args c.in-Some-Call.instance
-calls c = subst (λ (w : Waiting). AsksFor c.args.parts.now c.args.caller.0 c.args.event.now (Some w)) c.in-Some-Call.field-0-is c.in-Some-Call.ensures
+calls : (c : goal.After-wait_these) → CallsWait c.args.parts.now c.args.stamp.caller.0 c.args.event.now c.in-Some-Call.args c.in-Some-Call.instance
+calls c = subst (λ (w : Waiting). AsksFor c.args.parts.now c.args.stamp.caller.0 c.args.event.now (Some w)) c.in-Some-Call.field-0-is c.in-Some-Call.ensures
 
-resumes : (c : goal.After-resume_these) → Resumes c.args.parts.now c.args.caller.0 c.args.event.now c.in-Some-Parked.waiter
-resumes c = subst (λ (w : Waiting). AsksFor c.args.parts.now c.args.caller.0 c.args.event.now (Some w)) c.in-Some-Parked.field-0-is c.in-Some-Parked.ensures
+resumes : (c : goal.After-resume_these) → Resumes c.args.parts.now c.args.stamp.caller.0 c.args.event.now c.in-Some-Parked.waiter
+resumes c = subst (λ (w : Waiting). AsksFor c.args.parts.now c.args.stamp.caller.0 c.args.event.now (Some w)) c.in-Some-Parked.field-0-is c.in-Some-Parked.ensures
 
 pub returns-in-Some-Call-clause-ok : goal.returns-in-Some-Call-clause-ok
 returns-in-Some-Call-clause-ok c =
     let x = c.in-Some-Call in
-    IfOk-weaker c.wait_these.result _ _ (λ outcome does. call_does c.args.parts.now c.args.step c.args.caller.0 x.args x.instance c.args.picks.now c.args.event.now outcome c.wait_these.new.parts (calls c) does) c.wait_these.ensures.ok
+    IfOk-weaker c.wait_these.result _ _ (λ outcome does. call_does c.args.parts.now c.args.stamp.step c.args.stamp.caller.0 x.args x.instance c.args.picks.now c.args.event.now outcome c.wait_these.new.parts (calls c) does) c.wait_these.ensures.ok
 
 pub returns-in-Some-Call-clause-picked : goal.returns-in-Some-Call-clause-picked
 returns-in-Some-Call-clause-picked c =
     let x = c.in-Some-Call in
-    IfOk-weaker c.wait_these.result _ _ (λ outcome told. call_picks c.args.parts.now c.args.step c.args.caller.0 x.args x.instance c.args.picks.now c.args.event.now outcome.picked (calls c) told) c.wait_these.ensures.picked
+    IfOk-weaker c.wait_these.result _ _ (λ outcome told. call_picks c.args.parts.now c.args.stamp.step c.args.stamp.caller.0 x.args x.instance c.args.picks.now c.args.event.now outcome.picked (calls c) told) c.wait_these.ensures.picked
 
 pub returns-in-Some-Parked-clause-ok : goal.returns-in-Some-Parked-clause-ok
 returns-in-Some-Parked-clause-ok c =
     let x = c.in-Some-Parked in
-    IfOk-weaker c.resume_these.result _ _ (λ outcome does. resume_does c.args.parts.now c.args.step c.args.caller.0 c.args.event.now x.waiter c.args.picks.now (resumes c) outcome c.resume_these.new.parts does) c.resume_these.ensures.ok
+    IfOk-weaker c.resume_these.result _ _ (λ outcome does. resume_does c.args.parts.now c.args.stamp.step c.args.stamp.caller.0 c.args.event.now x.waiter c.args.picks.now (resumes c) outcome c.resume_these.new.parts does) c.resume_these.ensures.ok
 
 pub returns-in-Some-Parked-clause-picked : goal.returns-in-Some-Parked-clause-picked
 returns-in-Some-Parked-clause-picked c =
     let x = c.in-Some-Parked in
-    IfOk-weaker c.resume_these.result _ _ (λ outcome told. resume_picks c.args.parts.now c.args.step c.args.caller.0 c.args.event.now x.waiter c.args.picks.now (resumes c) outcome.picked told) c.resume_these.ensures.picked
+    IfOk-weaker c.resume_these.result _ _ (λ outcome told. resume_picks c.args.parts.now c.args.stamp.step c.args.stamp.caller.0 c.args.event.now x.waiter c.args.picks.now (resumes c) outcome.picked told) c.resume_these.ensures.picked
 
 pub returns-in-None-clause-picked : goal.returns-in-None-clause-picked
 returns-in-None-clause-picked c =
-    IfOk-weaker c.act.result _ _ (λ outcome does. none_picks c.args.parts.now c.act.new.parts c.args.step c.args.caller.0 c.args.event.now c.args.picks.now outcome c.in-None.ensures does) c.act.ensures.ok
+    IfOk-weaker c.act.result _ _ (λ outcome does. none_picks c.args.parts.now c.act.new.parts c.args.stamp.step c.args.stamp.caller.0 c.args.event.now c.args.picks.now outcome c.in-None.ensures does) c.act.ensures.ok

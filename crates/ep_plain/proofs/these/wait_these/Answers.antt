@@ -1,4 +1,6 @@
 use Rattle.std.proofs.Common.{◌≡◌, ◌∙◌, List, ℕ, IsSome, ap, map, subst, sym}
+use Rattle.std.specs.List.{filter_map}
+use Rattle.ep_interest.specs.Registrations.{numbered}
 use Rattle.ep_machine.specs.Refusal.{call_refusals}
 use Rattle.ep_machine.specs.Report.{is_pick}
 use Rattle.ep_machine.specs.State.{State}
@@ -10,6 +12,7 @@ use Rattle.ep_calls.specs.Parts.{Parts}
 use Rattle.ep_calls.specs.Stands.{number_at}
 use Rattle.ep_calls.specs.Wait.{AreKeyed, IsPick, numbers_of, wait_call}
 use Rattle.ep_calls.specs.declared.wait.Reportable.{Reportable}
+use Rattle.ep_plain.specs.Choose.{reportables_at}
 use Rattle.ep_plain.specs.These.{MayPick}
 use Rattle.ep_plain.proofs.ActWithLemmas.{does_where}
 use Rattle.ep_plain.proofs.TakeLemmas.{taken_numbers}
@@ -17,8 +20,8 @@ use Rattle.ep_plain.proofs.these.wait_these.Goals as goal
 
 pub wait_with-requires-clause-keyed : goal.wait_with-requires-clause-keyed
 wait_with-requires-clause-keyed c =
-    subst (λ (q : Parts). AreKeyed q.tables q.clock q.interest c.deref.result.now) c.parts.view_is
-    (subst (λ (xs : List Reportable). AreKeyed c.parts.inside.tables c.parts.inside.clock c.parts.inside.interest xs) (sym c.deref.ensures.value) c.in_ok-chosen.ensures.keyed)
+    let q = c.args.parts.now in
+    subst (λ (xs : List Reportable). AreKeyed q.tables q.clock q.interest xs) (sym c.deref.ensures.value) c.in_ok-chosen.ensures.keyed
 
 -- what is taken is what is given
 taken : (c : goal.After-drop-chosen-2) (s : State) → StandFor c.args.parts.now s → MayPick c.args.parts.now c.args.instance (number_in c.args.args.max) c.args.picks.now s → numbers_of c.deref.result.now ≡ c.args.picks.now
@@ -31,7 +34,8 @@ taken c s stands may =
     taken_numbers k.tables k.clock k.interest s instance most c.deref.result.now ks (subst (λ (q : Parts). StandFor q s) (sym c.parts.view_is) stands) c.parts.invariant.linked c.known.ensures
     (subst (λ (q : Parts). IsSome (number_under q.tables instance)) (sym c.parts.view_is) c.requires.waits.lives)
     (subst (λ (q : Parts). MayPick q instance most ks s) (sym c.parts.view_is) may)
-    (ap (λ (xs : List Reportable). map (λ x. x.entry) xs) c.deref.ensures.value ∙ c.in_ok-chosen.ensures.entries)
+    (ap (λ (xs : List Reportable). map (λ x. x.entry) xs) c.deref.ensures.value
+    ∙ (c.in_ok-chosen.ensures.entries ∙ ap (λ (q : Parts). filter_map (numbered (reportables_at q.tables q.clock q.interest instance)) ks) (sym c.parts.view_is)))
 
 pub returns-clause-ok : goal.returns-clause-ok
 returns-clause-ok c =
@@ -39,7 +43,7 @@ returns-clause-ok c =
     let x = c.args.args in
     let instance = c.args.instance in
     let most = number_in x.max in
-    does_where (IsPick q.tables instance most c.deref.result.now) (MayPick q instance most c.args.picks.now) c.args.step (λ s. call_refusals q.tables.limits s x.pid.0 (wait_call x)) (λ s picked. call_change q.tables.limits s c.args.caller.0 x.pid.0 (wait_call x) picked)
+    does_where (IsPick q.tables instance most c.deref.result.now) (MayPick q instance most c.args.picks.now) c.args.stamp.step (λ s. call_refusals q.tables.limits s x.pid.0 (wait_call x)) (λ s picked. call_change q.tables.limits s c.args.stamp.caller.0 x.pid.0 (wait_call x) picked)
     c.in_ok-outcome.outcome q c.wait_with.new.self c.in_ok-outcome.ensures.ok
     (λ s at sound quiet legal stands may. ap (λ (ks : List ℕ). is_pick s (number_at q.tables.keys instance) most ks) (taken c s stands may) ∙ may)
 

@@ -14,8 +14,8 @@ use Rattle.ep_plain.proofs.wait.epoll_wait.Goals as goal
 
 pub wait_with-requires-clause-keyed : goal.wait_with-requires-clause-keyed
 wait_with-requires-clause-keyed c =
-    subst (λ (q : Parts). AreKeyed q.tables q.clock q.interest c.deref.result.now) c.parts.view_is
-    (subst (λ (xs : List Reportable). AreKeyed c.parts.inside.tables c.parts.inside.clock c.parts.inside.interest xs) (sym c.deref.ensures.value) c.in_ok-chosen.ensures.keyed)
+    let q = c.args.parts.now in
+    subst (λ (xs : List Reportable). AreKeyed q.tables q.clock q.interest xs) (sym c.deref.ensures.value) c.in_ok-chosen.ensures.keyed
 
 pub returns-clause-ok : goal.returns-clause-ok
 returns-clause-ok c =
@@ -27,8 +27,9 @@ returns-clause-ok c =
     let instance = c.in-Ok.instance in
     let fits : SFits w32 x.max = search rules in
     let chooses = subst (λ (xs : List Reportable). IsChosen k.tables k.clock k.interest instance (number_in x.max) xs) (sym c.deref.ensures.value)
-    (subst (λ (z : ℤ). IsChosen k.tables k.clock k.interest instance (number_in z) c.in_ok-chosen.chosen.items) (to_z-of_z w32 x.max fits) c.in_ok-chosen.ensures) in
-    let pick : MovesBy c.args.step p (IsPick p.tables instance (number_in x.max) chosen) = λ s at sound quiet legal stands.
+    (subst (λ (r : Parts). IsChosen r.tables r.clock r.interest instance (number_in x.max) c.in_ok-chosen.chosen.items) (sym c.parts.view_is)
+    (subst (λ (z : ℤ). IsChosen q.tables q.clock q.interest instance (number_in z) c.in_ok-chosen.chosen.items) (to_z-of_z w32 x.max fits) c.in_ok-chosen.ensures)) in
+    let pick : MovesBy c.args.stamp.step p (IsPick p.tables instance (number_in x.max) chosen) = λ s at sound quiet legal stands.
     chosen_is_pick k.tables k.clock k.interest s instance (number_in x.max) chosen sound stands c.parts.invariant.linked c.known.ensures c.in-Ok.ensures.lives chooses in
-    does_all (IsPick q.tables instance (number_in x.max) chosen) c.args.step (λ s. call_refusals q.tables.limits s x.pid.0 (wait_call x)) (λ s picked. call_change q.tables.limits s c.args.caller.0 x.pid.0 (wait_call x) picked) c.in_ok-outcome.outcome q c.wait_with.new.self
-    c.in_ok-outcome.ensures.ok (subst (λ (r : Parts). MovesBy c.args.step r (IsPick r.tables instance (number_in x.max) chosen)) c.parts.view_is pick)
+    does_all (IsPick q.tables instance (number_in x.max) chosen) c.args.stamp.step (λ s. call_refusals q.tables.limits s x.pid.0 (wait_call x)) (λ s picked. call_change q.tables.limits s c.args.stamp.caller.0 x.pid.0 (wait_call x) picked) c.in_ok-outcome.outcome q c.wait_with.new.self
+    c.in_ok-outcome.ensures.ok (subst (λ (r : Parts). MovesBy c.args.stamp.step r (IsPick r.tables instance (number_in x.max) chosen)) c.parts.view_is pick)

@@ -28,10 +28,10 @@ returns-in_default-clause-ok c =
     let k = c.parts.inside in
     let p : Parts = record { tables = k.tables; interest = k.interest; graph = k.graph; parked = k.waiters; clock = k.clock } in
     let o = c.refused.ensures in
-    let caller = c.args.caller.0 in
+    let caller = c.args.stamp.caller.0 in
     let any : State → Type 0 = λ s. Unit {0} in
-    rw (← c.parts.view_is) (does_all any c.args.step (λ s. refusals p.tables.limits s caller Resume) (λ s picked. change p.tables.limits s caller Resume picked) c.refused.result p p
-    (resume_does any c.args.step caller c.refused.result p p o.raising refl refl refl (λ s at sound quiet legal stands u.
+    rw (← c.parts.view_is) (does_all any c.args.stamp.step (λ s. refusals p.tables.limits s caller Resume) (λ s picked. change p.tables.limits s caller Resume picked) c.refused.result p p
+    (resume_does any c.args.stamp.step caller c.refused.result p p o.raising refl refl refl (λ s at sound quiet legal stands u.
     goes_told (refusals p.tables.limits s caller Resume) (resume s caller) s c.refused.result.answer (Refused Einval) c.refused.result.picked p o.answer o.picked
     (goes_unparked p.graph p.tables p.interest p.parked p.clock caller p.tables.limits s stands (sym c.in_default.ensures)))) (λ s at sound quiet legal stands. tt))
 
@@ -40,10 +40,10 @@ returns-then-not-waiter-clause-ok c =
     let k = c.parts.inside in
     let p : Parts = record { tables = k.tables; interest = k.interest; graph = k.graph; parked = k.waiters; clock = k.clock } in
     let o = c.settled.ensures in
-    let caller = c.args.caller.0 in
+    let caller = c.args.stamp.caller.0 in
     let any : State → Type 0 = λ s. Unit {0} in
-    rw (← c.parts.view_is) (does_all any c.args.step (λ s. refusals p.tables.limits s caller Resume) (λ s picked. change p.tables.limits s caller Resume picked) c.settled.result p p
-    (resume_does any c.args.step caller c.settled.result p p o.raising refl refl refl (λ s at sound quiet legal stands u.
+    rw (← c.parts.view_is) (does_all any c.args.stamp.step (λ s. refusals p.tables.limits s caller Resume) (λ s picked. change p.tables.limits s caller Resume picked) c.settled.result p p
+    (resume_does any c.args.stamp.step caller c.settled.result p p o.raising refl refl refl (λ s at sound quiet legal stands u.
     goes_told (refusals p.tables.limits s caller Resume) (resume s caller) s c.settled.result.answer Still c.settled.result.picked p o.answer o.picked
     (goes_still p.graph p.tables p.interest p.parked p.clock caller p.tables.limits s stands c.in-Some.waiter (sym c.in-Some.ensures) (is_off c.in-Some.waiter.marked c.if-not-waiter.true)))) (λ s at sound quiet legal stands. tt))
 
@@ -52,13 +52,13 @@ choose-requires-clause-positive c =
     let w = c.in-Some.waiter in
     let k = c.parts.inside in
     let fits : SFits w32 w.max = search rules in
-    let placed = found_all (IsPlaced k.tables.keys) c.args.caller.0 k.waiters (parked c.args.caller.0 w) (sym c.in-Some.ensures) c.parts.invariant.placed in
+    let placed = found_all (IsPlaced k.tables.keys) c.args.stamp.caller.0 k.waiters (parked c.args.stamp.caller.0 w) (sym c.in-Some.ensures) c.parts.invariant.placed in
     subst (λ (z : ℤ). is_positive z ≡ true) (sym (to_z-of_z w32 w.max fits)) (asked_some w.max placed.most)
 
 pub resume_with-requires-clause-keyed : goal.resume_with-requires-clause-keyed
 resume_with-requires-clause-keyed c =
-    subst (λ (q : Parts). AreKeyed q.tables q.clock q.interest c.deref.result.now) c.parts.view_is
-    (subst (λ (xs : List Reportable). AreKeyed c.parts.inside.tables c.parts.inside.clock c.parts.inside.interest xs) (sym c.deref.ensures.value) c.in_ok-chosen.ensures.keyed)
+    let q = c.args.parts.now in
+    subst (λ (xs : List Reportable). AreKeyed q.tables q.clock q.interest xs) (sym c.deref.ensures.value) c.in_ok-chosen.ensures.keyed
 
 pub returns-clause-ok : goal.returns-clause-ok
 returns-clause-ok c =
@@ -66,13 +66,14 @@ returns-clause-ok c =
     let p : Parts = record { tables = k.tables; interest = k.interest; graph = k.graph; parked = k.waiters; clock = k.clock } in
     let q = c.args.parts.now in
     let w = c.in-Some.waiter in
-    let caller = c.args.caller.0 in
+    let caller = c.args.stamp.caller.0 in
     let chosen = c.deref.result.now in
     let fits : SFits w32 w.max = search rules in
     let placed = found_all (IsPlaced k.tables.keys) caller k.waiters (parked caller w) (sym c.in-Some.ensures) c.parts.invariant.placed in
     let chooses = subst (λ (xs : List Reportable). IsChosen k.tables k.clock k.interest w.instance (number_in w.max) xs) (sym c.deref.ensures.value)
-    (subst (λ (z : ℤ). IsChosen k.tables k.clock k.interest w.instance (number_in z) c.in_ok-chosen.chosen.items) (to_z-of_z w32 w.max fits) c.in_ok-chosen.ensures) in
-    let pick : MovesBy c.args.step p (IsPick p.tables w.instance (number_in w.max) chosen) = λ s at sound quiet legal stands.
+    (subst (λ (r : Parts). IsChosen r.tables r.clock r.interest w.instance (number_in w.max) c.in_ok-chosen.chosen.items) (sym c.parts.view_is)
+    (subst (λ (z : ℤ). IsChosen q.tables q.clock q.interest w.instance (number_in z) c.in_ok-chosen.chosen.items) (to_z-of_z w32 w.max fits) c.in_ok-chosen.ensures)) in
+    let pick : MovesBy c.args.stamp.step p (IsPick p.tables w.instance (number_in w.max) chosen) = λ s at sound quiet legal stands.
     chosen_is_pick k.tables k.clock k.interest s w.instance (number_in w.max) chosen sound stands c.parts.invariant.linked c.known.ensures placed.instance chooses in
-    does_all (IsPick q.tables w.instance (number_in w.max) chosen) c.args.step (λ s. refusals q.tables.limits s caller Resume) (λ s picked. change q.tables.limits s caller Resume picked) c.in_ok-outcome.outcome q c.resume_with.new.self
-    c.in_ok-outcome.ensures.ok (subst (λ (r : Parts). MovesBy c.args.step r (IsPick r.tables w.instance (number_in w.max) chosen)) c.parts.view_is pick)
+    does_all (IsPick q.tables w.instance (number_in w.max) chosen) c.args.stamp.step (λ s. refusals q.tables.limits s caller Resume) (λ s picked. change q.tables.limits s caller Resume picked) c.in_ok-outcome.outcome q c.resume_with.new.self
+    c.in_ok-outcome.ensures.ok (subst (λ (r : Parts). MovesBy c.args.stamp.step r (IsPick r.tables w.instance (number_in w.max) chosen)) c.parts.view_is pick)

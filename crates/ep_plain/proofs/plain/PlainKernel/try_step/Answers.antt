@@ -11,12 +11,14 @@ use Rattle.ep_calls.specs.Kept.{KeepsEvent}
 use Rattle.ep_calls.specs.Parts.{Parts}
 use Rattle.ep_calls.specs.Readiness.{entry_shows, readiness}
 use Rattle.ep_plain.proofs.DatingLemmas.{count_more}
-use Rattle.ep_plain.specs.Dating.{AreListed, Dated, dated_count}
+use Rattle.ep_plain.specs.Dating.{AreListed, Dated, dated_count, dated_of}
 use Rattle.ep_plain.specs.Reason.{HaveReasons}
 use Rattle.ep_plain.specs.Since.{Dates}
 use Rattle.ep_plain.specs.Standing.{Standing, book_of}
 use Rattle.ep_plain.specs.StepWith.{AddsBy, HasStep}
 use Rattle.ep_plain.specs.These.{MayReport}
+use Rattle.ep_plain.proofs.AllowLemmas.{dated_shown}
+use Rattle.ep_plain.specs.Choose.{Tells}
 use Rattle.ep_plain.proofs.StandingLemmas.{adds_by, does_with, few_keys, kept_of, listed_left, may_report, reasons, reports, room, standing_next, standing_room, tells_left}
 use Rattle.ep_plain.proofs.plain.PlainKernel.try_step.Goals as goal
 
@@ -56,6 +58,16 @@ into_record-answer-requires c asked none =
 records : (c : goal.After-push_reserved-2) → c.push_reserved-2.new.self.items ≡ c.self.inside.history.items ++ record_of c.args.caller c.args.event c.in_ok-outcome.outcome ∷ []
 records c =
     c.push_reserved-2.ensures.items ∙ (λ i. c.reserve.ensures.items i ++ c.into_record-answer.ensures.record i ∷ [])
+
+pub act_with-requires : goal.act_with-requires
+act_with-requires c =
+    let p = c.self.inside.parts in
+    let keeps = c.self.invariant.keeps in
+    let told : Tells p.tables p.clock p.interest (dated_of c.self.inside.dating) = record {
+      shown = dated_shown p.tables p.clock p.interest keeps.state c.self.inside.dating.since.items keeps.stands c.self.invariant.dated;
+      listed = c.self.invariant.listed;
+    } in
+    record { told = subst (λ (d : Dated). Tells p.tables p.clock p.interest d) (sym c.reserve-2.ensures.dates) told }
 
 pub reserve-requires-2 : goal.reserve-requires-2
 reserve-requires-2 c = let k = c.self.inside in few_keys k.history.items k.parts k.dating c.self.invariant
