@@ -33,12 +33,12 @@ use Rattle.ep_calls.specs.declared.outcome.Outcome.{Outcome}
 use Rattle.ep_calls.specs.declared.raising.Raising.{Raising}
 use Rattle.ep_calls.specs.declared.raising.Raising.TheVariants.{Clock, Instance, Nowhere, Object as AtObject}
 use Rattle.ep_interest.specs.Registrations.{IsSound}
-use Rattle.ep_kernel.proofs.MarkLemmas.{listed_marked, lives_where, with_parked}
+use Rattle.ep_kernel.proofs.MarkLemmas.{lives_where, with_parked}
 use Rattle.ep_kernel.proofs.PassLemmas.{reached_is}
 use Rattle.ep_kernel.proofs.RunLemmas.{does_at, runs_on, step_on}
 use Rattle.ep_kernel.proofs.SettledLemmas.{ends_of}
 use Rattle.ep_kernel.proofs.SurvivalLemmas.{Leaves}
-use Rattle.ep_kernel.specs.Listed.{AreFair, IsListed}
+use Rattle.ep_kernel.specs.Listed.{AreFair}
 use Rattle.ep_kernel.specs.Mark.{AreLookedAt, attended, attends, resumed_at}
 use Rattle.ep_kernel.specs.Running.{Ends, Runs, Settled}
 use Rattle.ep_kernel.specs.Turns.{Turns}
@@ -183,7 +183,7 @@ module _ (v : Seen) (ws : List Waiter) (placed : All (IsPlaced v.keys) ws) (call
       (record { 0 = x.0.instance }, ap (option_map (λ (w : Waiter). record { 0 = w.instance })) x.1, x.2 ∙ ap (λ (k : ℕ). Some k) h.2)
 
 -- the same state, by two equations of one step
-same_state : (o : Option (Answer × State)) (a b : Answer) (u v : State) → o ≡ Some (a, u) → o ≡ Some (b, v) → u ≡ v
+pub same_state : (o : Option (Answer × State)) (a b : Answer) (u v : State) → o ≡ Some (a, u) → o ≡ Some (b, v) → u ≡ v
 same_state o a b u v h k = ap (λ (q : Option (Answer × State)). unwrap_or (option_map (λ (r : Answer × State). r.1) q) u) (sym h ∙ k)
 
 -- One event, up to its marks.
@@ -198,9 +198,6 @@ module _ (law : ListsGoOn) (reach : UnmarkedAreReached) (past : List Record) (ol
 
   runs_marked : Runs (past ++ record_of caller event outcome ∷ []) marked l3
   runs_marked = runs_on law past old mid marked l0 l1 l3 runs coherent tables was before after caller event outcome n at does turns ends
-
-  pub listed_climbed : IsListed climbed l3
-  listed_climbed = listed_marked marked l3 climbed.parked runs_marked.listed
 
   abbrev s : State
   s = runs.keeps.state

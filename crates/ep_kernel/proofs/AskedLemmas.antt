@@ -1,11 +1,15 @@
 -- Answers of instances that are noted, and forgotten.
-use Rattle.std.proofs.Common.{◌≡◌, ◌∙◌, ◌++◌, ◌==◌, ◌||◌, ◌⊎◌, ℕ, Bool, true, false, List, [], ◌∷◌, None, Option, Some, ap, if◌then◌else◌, inl, inr, nat_lt, refl, sym, unwrap_or}
+use Rattle.std.proofs.Common.{◌≡◌, ◌∙◌, ◌++◌, ◌==◌, ◌||◌, ◌⊎◌, ℕ, Bool, true, false, List, [], ◌∷◌, None, Option, Some, ap, if◌then◌else◌, inl, inr, nat_lt, refl, subst, sym, unwrap_or}
 use Rattle.std.proofs.lemmas.Bool.{cases_Bool, false≢true}
-use Rattle.ep_kernel.specs.Asked.{AreOf, answer_of, noted}
+use Rattle.ep_calls.specs.Parking.{ready_key}
+use Rattle.ep_calls.specs.Parts.{Parts}
+use Rattle.ep_kernel.specs.Asked.{AreOf, Knows, answer_of, noted}
+use Rattle.ep_kernel.specs.Listed.{HopesFor}
 use Rattle.ep_kernel.specs.declared.asked.Asked.{Asked}
 use Rattle.ep_law.proofs.ListLemmas.{among_split}
 use Rattle.ep_law.proofs.TestLemmas.{from_test}
 use Rattle.ep_machine.specs.Lists.{is_among}
+use Rattle.ep_ready.specs.ReadyLists.{Lists}
 use Rattle.ep_ready.specs.Walk.{Walk, with_noted}
 
 or_none : (b : Bool) → (b || false) ≡ true → b ≡ true
@@ -58,3 +62,21 @@ module _ (test : ℕ → Bool) (a : Asked) where
     ready = λ i t. absurd (false≢true (sym (ap (λ (ks : List ℕ). is_among ks i) ready) ∙ t));
     idle = λ i t. absurd (false≢true (sym (ap (λ (ks : List ℕ). is_among ks i) idle) ∙ t));
   }
+
+-- With the hopes.
+-- an answer leaves them
+pub noted_hopes : (a : Asked) (i : ℕ) (b : Bool) → (noted a i b).hopes ≡ a.hopes
+noted_hopes a i true = refl
+noted_hopes a i false = refl
+
+pub knows_noted : (p : Parts) (a : Asked) (i : ℕ) (b : Bool) → Knows p a → b ≡ ready_key p.tables p.clock p.interest i → Knows p (noted a i b)
+knows_noted p a i b h is = record {
+  told = true_noted (ready_key p.tables p.clock p.interest) a i b h.told is;
+  hopes = subst (HopesFor p) (sym (noted_hopes a i b)) h.hopes;
+}
+
+pub knows_forgotten : (p : Parts) (h : Lists) (a : Asked) → HopesFor p h → a.hopes ≡ h → a.ready.reached ≡ [] → a.idle.reached ≡ [] → Knows p a
+knows_forgotten p h a hopes same ready idle = record {
+  told = true_forgotten (ready_key p.tables p.clock p.interest) a ready idle;
+  hopes = subst (HopesFor p) (sym same) hopes;
+}

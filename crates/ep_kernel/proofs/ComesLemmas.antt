@@ -74,9 +74,9 @@ module _ (n : ℕ) (p : Parts) (coherent : AreCoherent p) (sound : IsSound p.int
       let reached : is_among ks l.inner.0 ≡ true = exact l.inner ∙ (λ j. lives j && here.0 j) in
       any_of (λ i. comes_on p (record { 0 = i }) k) ks l.inner.0 (among_member ks l.inner.0 reached) (λ j. nested j && here.1 j)
 
-  pub gains_in : (old mid new : Lists) → old.reached ≡ ks → Gains (λ k. passes_found (entry_under p.interest (entry_id k))) old mid → Gains (λ k. list_any (λ i. comes_on p (record { 0 = i }) k) mid.reached) mid new → Gains (comes_in n p) old new
-  gains_in old mid new is a b =
+  pub gains_in : (old mid new : Lists) (walked : List ℕ) → walked ≡ ks → Gains (λ k. passes_found (entry_under p.interest (entry_id k))) old mid → Gains (λ k. list_any (λ i. comes_on p (record { 0 = i }) k) walked) mid new → Gains (comes_in n p) old new
+  gains_in old mid new walked is a b =
       let passing : ℕ → Bool = λ k. passes_found (entry_under p.interest (entry_id k)) in
-      gains_same (λ k. passing k || list_any (λ i. comes_on p (record { 0 = i }) k) mid.reached) (comes_in n p) old new
-      (λ k. ap (λ (b : Bool). passing k || b) (ap (list_any (λ i. comes_on p (record { 0 = i }) k)) (a.reached ∙ is) ∙ same_bools _ _ (to k) (from k)))
-      (gains_both passing (λ k. list_any (λ i. comes_on p (record { 0 = i }) k) mid.reached) old mid new a b)
+      gains_same (λ k. passing k || list_any (λ i. comes_on p (record { 0 = i }) k) walked) (comes_in n p) old new
+      (λ k. ap (λ (b : Bool). passing k || b) (ap (list_any (λ i. comes_on p (record { 0 = i }) k)) is ∙ same_bools _ _ (to k) (from k)))
+      (gains_both passing (λ k. list_any (λ i. comes_on p (record { 0 = i }) k) walked) old mid new a b)

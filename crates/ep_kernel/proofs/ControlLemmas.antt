@@ -1,4 +1,4 @@
--- What an epoll_ctl leaves of the ready lists.
+-- What an epoll_ctl leaves of the ready lists, and of the hopes.
 use Rattle.std.proofs.Common.{◌≡◌, ◌≢◌, ◌++◌, ◌&&◌, ◌||◌, ◌⊎◌, ◌==◌, ◌∙◌, ℕ, ℤ, Bool, true, false, IsSome, List, [], ◌∷◌, None, Option, Some, ap, append-nil, cond, filter, inl, inr, not, pos, refl, subst, sym, unwrap_or}
 use Rattle.std.specs.List.{list_any}
 use Rattle.std.specs.Option.{option_map}
@@ -23,16 +23,17 @@ use Rattle.ep_calls.proofs.KeyLemmas.{same_keys}
 use Rattle.ep_interest.specs.Registrations.{IsSound, Registrations, entry_found, entry_under, has_key, number_under, numbered}
 use Rattle.ep_interest.specs.declared.entry.Entry.{Entry}
 use Rattle.ep_kernel.specs.Control.{Settles, is_at_instance}
-use Rattle.ep_kernel.specs.Listed.{HavePlaces, IsListed, key_shows, may_stand, shows_found}
+use Rattle.ep_kernel.specs.Listed.{HavePlaces, HopesFor, IsListed, key_shows, may_stand, shows_found}
 use Rattle.ep_kernel.specs.Push.{Gains, is_home}
-use Rattle.ep_kernel.specs.Turns.{IsAlteredKey, Turns}
+use Rattle.ep_kernel.specs.Turns.{AlteredStand, HopesGo, IsAlteredKey, Turns}
 use Rattle.ep_kernel.proofs.EntryLemmas.{holds_under, is_under}
+use Rattle.ep_kernel.proofs.PrunesLemmas.{stands_left}
 use Rattle.ep_kernel.proofs.PushLemmas.{gains_none, gains_one, gains_same, have_still}
 use Rattle.ep_kernel.proofs.SetLemmas.{Clears, Sets, apart_nat, some_of}
 use Rattle.ep_calls.proofs.FindLemmas.{each_numbered}
 use Rattle.ep_kernel.proofs.SurvivalLemmas.{or_cases}
 use Rattle.ep_law.proofs.ListLemmas.{all_member, among_split, any_member, filtered_member, filtered_passes}
-use Rattle.ep_law.proofs.TestLemmas.{both_true, from_test, or_right, same_nat}
+use Rattle.ep_law.proofs.TestLemmas.{both_true, from_test, or_left, or_right, same_nat}
 use Rattle.std.proofs.lemmas.List.Elements.{All-from_recursion}
 use Rattle.ep_machine.specs.Files.{named_by}
 use Rattle.ep_machine.specs.Lists.{is_among}
@@ -70,15 +71,18 @@ stands_alike l m lists k None = refl
 stands_alike l m lists k (Some i) = ap (λ (ks : List ℕ). is_among ks k) (lists i)
 
 -- Where nothing changes.
-module _ (pid : Pid) (args : Control) (p q : Parts) (l m : Lists) (listed : IsListed p l) (tables : q.tables ≡ p.tables) (clock : q.clock ≡ p.clock) (interest : q.interest ≡ p.interest) (same : Same l m) where
+module _ (p q : Parts) (l m : Lists) (tables : q.tables ≡ p.tables) (clock : q.clock ≡ p.clock) (interest : q.interest ≡ p.interest) (same : Same l m) (pid : Pid) (args : Control) where
   shows_same : (k : ℕ) → key_shows q k ≡ key_shows p k
   shows_same k = shows_at p q tables clock interest (entry_under q.interest (entry_id k)) ∙ ap (λ (r : Registrations). shows_found p (entry_under r (entry_id k))) interest
 
   stands_same : (id : EntryId) → stands m id ≡ stands l id
   stands_same id = ap (stands_by m id.0) (sym (same.places id)) ∙ stands_alike l m (λ i. sym (same.lists i)) id.0 (instance_at l id)
 
-  pub turns_still : Turns (CallOf pid (control_call args)) [] p l q m
-  turns_still = record {
+  places_still : HavePlaces p.interest l → HavePlaces q.interest m
+  places_still have id = sym (same.places id) ∙ (have id ∙ ap (λ (r : Registrations). option_map (λ x. x.instance.0) (entry_under r id)) (sym interest))
+
+  pub turns_still : IsListed p l → Turns (CallOf pid (control_call args)) [] p l q m
+  turns_still listed = record {
     keeps = λ k. true;
     more = λ i. [];
     lists = λ i. sym (same.lists i) ∙ sym (append-nil (filter (λ k. true) (list_at l i)) ∙ all_kept (list_at l i));
@@ -88,8 +92,15 @@ module _ (pid : Pid) (args : Control) (p q : Parts) (l m : Lists) (listed : IsLi
     again = λ k x u f s. absurd (false≢true f);
     altered = λ k x u op instance fd desc shows. stands_same (entry_id k) ∙ listed.complete k (sym (shows_same k) ∙ shows);
     ids = λ id n h. inl (ap (λ (r : Registrations). number_under r id) (sym interest) ∙ h);
-    places = λ id. sym (same.places id) ∙ (listed.places id ∙ ap (λ (r : Registrations). option_map (λ x. x.instance.0) (entry_under r id)) (sym interest));
+    places = places_still listed.places;
     sound = λ id x u s. listed.sound id x (ap (λ (r : Registrations). entry_under r id) (sym interest) ∙ u) (sym (stands_same id) ∙ s);
+  }
+
+  pub hopes_still : HopesFor p l → HopesGo (CallOf pid (control_call args)) p q m
+  hopes_still hopes = record {
+    stays = λ k x u shows number. stands_same (entry_id k) ∙ hopes.complete k shows;
+    altered = λ k x u op instance fd desc shows. stands_same (entry_id k) ∙ hopes.complete k (sym (shows_same k) ∙ shows);
+    places = places_still hopes.places;
   }
 
 -- Where one comes to the end of its list, or none does.
@@ -161,10 +172,10 @@ one_named named fd x y a b =
     ∙ (λ i. same_nat y.instance.0 i && same_int y.fd.0 i && same_nat y.desc.0 i)
 
 -- Where one registration is added or modified.
-module _ (pid : Pid) (args : Control) (p q : Parts) (l mid m : Lists) (listed : IsListed p l) (tables : q.tables ≡ p.tables) (sound : Sound p.tables) (linked : AreLinked q.tables q.interest) (is : IsSound q.interest)
-    (named : Named) (names : Names p.tables pid.0 args.epfd.0 args.fd.0 named) (id : EntryId) (y : Entry) (sets : Sets p.interest q.interest id y) (may : may_stand y ≡ true) (keyed : IsNamed named args.fd y)
-    (lists : (i : ℕ) → list_at mid i ≡ list_at l i) (have : HavePlaces q.interest mid) (raising : Raising) (raises : raising ≡ raising_of_ctl q.tables q.clock q.interest named args.fd)
-    (settles : MatchBool (is_at_instance raising) (Gains (λ k. k == id.0) mid m) (m ≡ mid)) (keeps : is_del args.op ≡ false)
+module _ (pid : Pid) (args : Control) (p q : Parts) (mid m : Lists) (tables : q.tables ≡ p.tables) (sound : Sound p.tables) (linked : AreLinked q.tables q.interest) (is : IsSound q.interest)
+    (named : Named) (names : Names p.tables pid.0 args.epfd.0 args.fd.0 named) (id : EntryId) (y : Entry) (sets : Sets p.interest q.interest id y) (keyed : IsNamed named args.fd y)
+    (have : HavePlaces q.interest mid) (raising : Raising) (raises : raising ≡ raising_of_ctl q.tables q.clock q.interest named args.fd)
+    (settles : MatchBool (is_at_instance raising) (Gains (λ k. k == id.0) mid m) (m ≡ mid))
   where
     abbrev comes : ℕ → Bool
     comes k = k == id.0 && is_at_instance raising
@@ -175,23 +186,6 @@ module _ (pid : Pid) (args : Control) (p q : Parts) (l mid m : Lists) (listed : 
     -- what is there has a place
     at : (k : ℕ) (x : Entry) → entry_under q.interest (entry_id k) ≡ Some x → instance_at mid (entry_id k) ≡ Some x.instance.0
     at k x u = have (entry_id k) ∙ ap (option_map (λ (z : Entry). z.instance.0)) u
-
-    still : (k : ℕ) (x : Entry) → k ≢ id.0 → entry_under q.interest (entry_id k) ≡ Some x → stands m (entry_id k) ≡ stands l (entry_id k)
-    still k x ne u =
-        let was : entry_under p.interest (entry_id k) ≡ Some x = sym (sets.others (entry_id k) ne) ∙ u in
-        stands_gained comes mid m gains k x.instance.0 (at k x u)
-        ∙ (ap (λ (b : Bool). stands mid (entry_id k) || b && is_at_instance raising) (apart_nat k id.0 ne)
-        ∙ (or_false (stands mid (entry_id k))
-        ∙ (ap (stands_by mid k) (at k x u ∙ sym (listed.places (entry_id k) ∙ ap (option_map (λ (z : Entry). z.instance.0)) was))
-        ∙ stands_alike l mid lists k (instance_at l (entry_id k)))))
-
-    stands_soundly : (k : EntryId) (x : Entry) → entry_under q.interest k ≡ Some x → stands m k ≡ true → may_stand x ≡ true
-    stands_soundly k x u s = elim (cases_eq k.0 id.0) [
-      | inl e ↦
-          let same : Some x ≡ Some y = sym u ∙ (ap (λ (n : ℕ). entry_under q.interest (record { 0 = n })) e ∙ sets.here) in
-          ap (λ (o : Option Entry). may_stand (unwrap_or o x)) same ∙ may
-      | inr ne ↦ listed.sound k x (sym (sets.others k ne) ∙ u) (sym (still k.0 x ne u) ∙ s)
-    ]
 
     at_id : (k : ℕ) (x : Entry) → entry_under q.interest (entry_id k) ≡ Some x → IsNamed named args.fd x → k ≡ id.0
     at_id k x u n =
@@ -227,39 +221,75 @@ module _ (pid : Pid) (args : Control) (p q : Parts) (l mid m : Lists) (listed : 
           let same : Some y ≡ Some x.0 = sym here.there ∙ (ap (numbered q.interest.entries) number ∙ found) in
           ap (shows_found q) (sets.here ∙ same) ∙ x.2
 
-    come_named : (i k : ℕ) → is_among (gains.more i) k ≡ true → (is_among (list_at l i) k ≡ true) ⊎ IsAlteredKey (CallOf pid (control_call args)) p q k
-    come_named i k on = elim (or_cases (is_among (list_at mid i) k) (comes k && is_home i (instance_at mid (entry_id k))) (sym (gains.each i k) ∙ (ap (λ (ks : List ℕ). is_among ks k) (gains.lists i) ∙ (among_split (list_at mid i) (gains.more i) k ∙ or_right (is_among (list_at mid i) k) _ on)))) [
-      | inl stood_there ↦ inl (ap (λ (ks : List ℕ). is_among ks k) (sym (lists i)) ∙ stood_there)
-      | inr came ↦
-          let two = both_true (k == id.0) (is_at_instance raising) (both_true (comes k) (is_home i (instance_at mid (entry_id k))) came).0 in
-          let key : k ≡ id.0 = from_test k id.0 two.0 in
-          inr (λ x u.
-          let same : Some x ≡ Some y = sym u ∙ (ap (λ (m : ℕ). entry_under q.interest (record { 0 = m })) key ∙ sets.here) in
-          let here : x ≡ y = ap (λ (o : Option Entry). unwrap_or o x) same in
-          let descriptor : x.fd.0 ≡ args.fd.0 = ap (λ (z : Entry). z.fd.0) here ∙ keyed.fd in (
-            keeps,
-            ((λ j. number_at (tables j).keys (record { 0 = (ap (λ (z : Entry). z.instance.0) here ∙ keyed.instance) j })) ∙ ap (λ (o : Option ℕ). unwrap_or o 0) names.instance),
-            (λ j. record { 0 = descriptor j }),
-            ((λ j. number_at (tables j).keys (record { 0 = (ap (λ (z : Entry). z.desc.0) here ∙ keyed.desc) j })) ∙ ap (λ (o : Option ℕ). unwrap_or o 0) names.desc),
-            ap (key_shows q) key ∙ shows_raised two.1,
-          ))
-    ]
+    altered_set : AlteredStand (CallOf pid (control_call args)) p q m
+    altered_set = λ k x u op instance fd desc shows.
+        stands_named k x u (named_is p.tables sound pid.0 args named names x (subst (λ (v : Seen). IsLinked v.keys x) tables (holds_under (IsLinked q.tables.keys) q.interest (entry_id k) x linked u)) instance fd desc) shows
 
-    pub turns_set : Turns (CallOf pid (control_call args)) [] p l q m
-    turns_set = record {
-      keeps = λ k. true;
-      more = gains.more;
-      lists = λ i. gains.lists i ∙ ap (λ (ks : List ℕ). ks ++ gains.more i) (lists i ∙ sym (all_kept (list_at l i)));
-      comes = come_named;
-      unpicked = λ i k x h u t. refl;
-      leaves = λ i k x h u f s. absurd (false≢true (sym f));
-      again = λ k x u f s. absurd (false≢true f);
-      altered = λ k x u op instance fd desc shows.
-          stands_named k x u (named_is p.tables sound pid.0 args named names x (subst (λ (v : Seen). IsLinked v.keys x) tables (holds_under (IsLinked q.tables.keys) q.interest (entry_id k) x linked u)) instance fd desc) shows;
-      ids = sets.ids;
-      places = have_still q.interest comes mid m have gains;
-      sound = stands_soundly;
-    }
+    -- of the ready lists
+    module _ (l : Lists) (listed : IsListed p l) (may : may_stand y ≡ true) (lists : (i : ℕ) → list_at mid i ≡ list_at l i) (keeps : is_del args.op ≡ false) where
+      still : (k : ℕ) (x : Entry) → k ≢ id.0 → entry_under q.interest (entry_id k) ≡ Some x → stands m (entry_id k) ≡ stands l (entry_id k)
+      still k x ne u =
+          let was : entry_under p.interest (entry_id k) ≡ Some x = sym (sets.others (entry_id k) ne) ∙ u in
+          stands_gained comes mid m gains k x.instance.0 (at k x u)
+          ∙ (ap (λ (b : Bool). stands mid (entry_id k) || b && is_at_instance raising) (apart_nat k id.0 ne)
+          ∙ (or_false (stands mid (entry_id k))
+          ∙ (ap (stands_by mid k) (at k x u ∙ sym (listed.places (entry_id k) ∙ ap (option_map (λ (z : Entry). z.instance.0)) was))
+          ∙ stands_alike l mid lists k (instance_at l (entry_id k)))))
+
+      stands_soundly : (k : EntryId) (x : Entry) → entry_under q.interest k ≡ Some x → stands m k ≡ true → may_stand x ≡ true
+      stands_soundly k x u s = elim (cases_eq k.0 id.0) [
+        | inl e ↦
+            let same : Some x ≡ Some y = sym u ∙ (ap (λ (n : ℕ). entry_under q.interest (record { 0 = n })) e ∙ sets.here) in
+            ap (λ (o : Option Entry). may_stand (unwrap_or o x)) same ∙ may
+        | inr ne ↦ listed.sound k x (sym (sets.others k ne) ∙ u) (sym (still k.0 x ne u) ∙ s)
+      ]
+
+      come_named : (i k : ℕ) → is_among (gains.more i) k ≡ true → (is_among (list_at l i) k ≡ true) ⊎ IsAlteredKey (CallOf pid (control_call args)) p q k
+      come_named i k on = elim (or_cases (is_among (list_at mid i) k) (comes k && is_home i (instance_at mid (entry_id k))) (sym (gains.each i k) ∙ (ap (λ (ks : List ℕ). is_among ks k) (gains.lists i) ∙ (among_split (list_at mid i) (gains.more i) k ∙ or_right (is_among (list_at mid i) k) _ on)))) [
+        | inl stood_there ↦ inl (ap (λ (ks : List ℕ). is_among ks k) (sym (lists i)) ∙ stood_there)
+        | inr came ↦
+            let two = both_true (k == id.0) (is_at_instance raising) (both_true (comes k) (is_home i (instance_at mid (entry_id k))) came).0 in
+            let key : k ≡ id.0 = from_test k id.0 two.0 in
+            inr (λ x u.
+            let same : Some x ≡ Some y = sym u ∙ (ap (λ (m : ℕ). entry_under q.interest (record { 0 = m })) key ∙ sets.here) in
+            let here : x ≡ y = ap (λ (o : Option Entry). unwrap_or o x) same in
+            let descriptor : x.fd.0 ≡ args.fd.0 = ap (λ (z : Entry). z.fd.0) here ∙ keyed.fd in (
+              keeps,
+              ((λ j. number_at (tables j).keys (record { 0 = (ap (λ (z : Entry). z.instance.0) here ∙ keyed.instance) j })) ∙ ap (λ (o : Option ℕ). unwrap_or o 0) names.instance),
+              (λ j. record { 0 = descriptor j }),
+              ((λ j. number_at (tables j).keys (record { 0 = (ap (λ (z : Entry). z.desc.0) here ∙ keyed.desc) j })) ∙ ap (λ (o : Option ℕ). unwrap_or o 0) names.desc),
+              ap (key_shows q) key ∙ shows_raised two.1,
+            ))
+      ]
+
+      pub turns_set : Turns (CallOf pid (control_call args)) [] p l q m
+      turns_set = record {
+        keeps = λ k. true;
+        more = gains.more;
+        lists = λ i. gains.lists i ∙ ap (λ (ks : List ℕ). ks ++ gains.more i) (lists i ∙ sym (all_kept (list_at l i)));
+        comes = come_named;
+        unpicked = λ i k x h u t. refl;
+        leaves = λ i k x h u f s. absurd (false≢true (sym f));
+        again = λ k x u f s. absurd (false≢true f);
+        altered = altered_set;
+        ids = sets.ids;
+        places = have_still q.interest comes mid m have gains;
+        sound = stands_soundly;
+      }
+
+    -- of the hopes
+    module _ (l : Lists) (hopes : HopesFor p l) (lists : (i : ℕ) → list_at mid i ≡ list_at l i) (home : (k : ℕ) (x : Entry) → entry_under p.interest (entry_id k) ≡ Some x → instance_at mid (entry_id k) ≡ Some x.instance.0) where
+      stood_still : (k : ℕ) (x : Entry) → entry_under p.interest (entry_id k) ≡ Some x → key_shows p k ≡ true → stands mid (entry_id k) ≡ true
+      stood_still k x u shows =
+          let was : is_among (list_at l x.instance.0) k ≡ true = sym (ap (stands_by l k) (hopes.places (entry_id k) ∙ ap (option_map (λ (z : Entry). z.instance.0)) u)) ∙ hopes.complete k shows in
+          ap (stands_by mid k) (home k x u) ∙ (ap (λ (ks : List ℕ). is_among ks k) (lists x.instance.0) ∙ was)
+
+      pub hopes_set : HopesGo (CallOf pid (control_call args)) p q m
+      hopes_set = record {
+        stays = λ k x u shows number. stands_gained comes mid m gains k x.instance.0 (home k x u) ∙ or_left (stands mid (entry_id k)) (comes k) (stood_still k x u shows);
+        altered = altered_set;
+        places = have_still q.interest comes mid m have gains;
+      }
 
 -- Where one is deleted.
 among_left : (f : ℕ → Bool) (xs : List ℕ) (k : ℕ) → is_among (filter f xs) k ≡ true → is_among xs k ≡ true
@@ -273,7 +303,7 @@ among_left f (x ∷ xs) k h =
       | false ↦ λ e. ap (λ (b : Bool). k == x || b) (among_left f xs k e) ∙ or_true (k == x)
     ] h
 
-module _ (pid : Pid) (args : Control) (p q : Parts) (l m : Lists) (listed : IsListed p l) (deletes : args.op ≡ pos 2) (id : EntryId) (clears : Clears p.interest q.interest id) (loses : LosesPlace l m id) where
+module _ (pid : Pid) (args : Control) (p q : Parts) (l m : Lists) (deletes : args.op ≡ pos 2) (id : EntryId) (clears : Clears p.interest q.interest id) (loses : LosesPlace l m id) where
   gone_entry : (k : EntryId) → k.0 ≡ id.0 → entry_under q.interest k ≡ None
   gone_entry k e = ap (λ (n : ℕ). entry_under q.interest (record { 0 = n })) e ∙ ap (entry_found q.interest.entries) clears.gone
 
@@ -281,34 +311,51 @@ module _ (pid : Pid) (args : Control) (p q : Parts) (l m : Lists) (listed : IsLi
   stood k ne None h s = s
   stood k ne (Some i) h s = among_left (λ x. not (x == id.0)) (list_at l i) k.0 (ap (λ (ks : List ℕ). is_among ks k.0) (sym (loses.lists i)) ∙ s)
 
-  left_soundly : (k : EntryId) (x : Entry) → entry_under q.interest k ≡ Some x → stands m k ≡ true → may_stand x ≡ true
-  left_soundly k x u s = elim (cases_eq k.0 id.0) [
-    | inl e ↦ absurd (none_some x (sym (gone_entry k e) ∙ u))
-    | inr ne ↦
-        let here = stood k ne (instance_at l k) refl (ap (stands_by m k.0) (sym (loses.others k ne)) ∙ s) in
-        listed.sound k x (sym (clears.others k ne) ∙ u) here
+  not_false : (b : Bool) → not b ≡ false → b ≡ true
+  not_false true h = refl
+  not_false false h = absurd (false≢true (sym h))
+
+  altered_none : AlteredStand (CallOf pid (control_call args)) p q m
+  altered_none = λ k x u op instance fd desc shows. absurd (false≢true (sym op ∙ ap is_del deletes))
+
+  places_cleared : HavePlaces p.interest l → HavePlaces q.interest m
+  places_cleared have k = elim (cases_eq k.0 id.0) [
+    | inl e ↦ ap (λ (n : ℕ). instance_at m (record { 0 = n })) e ∙ (loses.gone ∙ sym (ap (option_map (λ (z : Entry). z.instance.0)) (gone_entry k e)))
+    | inr ne ↦ loses.others k ne ∙ (have k ∙ ap (option_map (λ (z : Entry). z.instance.0)) (sym (clears.others k ne)))
   ]
 
-  pub turns_cleared : Turns (CallOf pid (control_call args)) [] p l q m
-  turns_cleared = record {
-    keeps = λ k. not (k == id.0);
-    more = λ i. [];
-    lists = λ i. loses.lists i ∙ sym (append-nil (filter (λ k. not (k == id.0)) (list_at l i)));
-    comes = λ i k on. absurd (false≢true on);
-    unpicked = λ i k x h u t. refl;
-    leaves = λ i k x h u f s. inr (ap (λ (n : ℕ). number_under q.interest (record { 0 = n })) (from_test k id.0 (not_false (k == id.0) f)) ∙ clears.gone);
-    again = λ k x u f s. absurd (false≢true f);
-    altered = λ k x u op instance fd desc shows. absurd (false≢true (sym op ∙ ap is_del deletes));
-    ids = clears.ids;
-    places = λ k. elim (cases_eq k.0 id.0) [
-      | inl e ↦ ap (λ (n : ℕ). instance_at m (record { 0 = n })) e ∙ (loses.gone ∙ sym (ap (option_map (λ (z : Entry). z.instance.0)) (gone_entry k e)))
-      | inr ne ↦ loses.others k ne ∙ (listed.places k ∙ ap (option_map (λ (z : Entry). z.instance.0)) (sym (clears.others k ne)))
-    ];
-    sound = left_soundly;
-  } where
-    not_false : (b : Bool) → not b ≡ false → b ≡ true
-    not_false true h = refl
-    not_false false h = absurd (false≢true (sym h))
+  module _ (listed : IsListed p l) where
+    left_soundly : (k : EntryId) (x : Entry) → entry_under q.interest k ≡ Some x → stands m k ≡ true → may_stand x ≡ true
+    left_soundly k x u s = elim (cases_eq k.0 id.0) [
+      | inl e ↦ absurd (none_some x (sym (gone_entry k e) ∙ u))
+      | inr ne ↦
+          let here = stood k ne (instance_at l k) refl (ap (stands_by m k.0) (sym (loses.others k ne)) ∙ s) in
+          listed.sound k x (sym (clears.others k ne) ∙ u) here
+    ]
+
+    pub turns_cleared : Turns (CallOf pid (control_call args)) [] p l q m
+    turns_cleared = record {
+      keeps = λ k. not (k == id.0);
+      more = λ i. [];
+      lists = λ i. loses.lists i ∙ sym (append-nil (filter (λ k. not (k == id.0)) (list_at l i)));
+      comes = λ i k on. absurd (false≢true on);
+      unpicked = λ i k x h u t. refl;
+      leaves = λ i k x h u f s. inr (ap (λ (n : ℕ). number_under q.interest (record { 0 = n })) (from_test k id.0 (not_false (k == id.0) f)) ∙ clears.gone);
+      again = λ k x u f s. absurd (false≢true f);
+      altered = altered_none;
+      ids = clears.ids;
+      places = places_cleared listed.places;
+      sound = left_soundly;
+    }
+
+  pub hopes_cleared : HopesFor p l → HopesGo (CallOf pid (control_call args)) p q m
+  hopes_cleared hopes = record {
+    stays = λ k x u shows number.
+        let other : k ≢ id.0 = λ e. none_some x.number (sym clears.gone ∙ (ap (λ (n : ℕ). number_under q.interest (record { 0 = n })) (sym e) ∙ number)) in
+        stands_left l m (λ j. not (j == id.0)) k (loses.others (entry_id k) other) loses.lists (ap not (apart_nat k id.0 other)) (hopes.complete k shows);
+    altered = altered_none;
+    places = places_cleared hopes.places;
+  }
 
 -- what is left and raised at its instance comes to the end
 pub settled_end : (l new : Lists) (id : EntryId) (entry : Option Entry) (x : Entry) (raising : Raising) → AreSound l → IsSome (instance_at l id) → entry ≡ Some x → is_at_instance raising ≡ true → new ≡ after_push l id → Settles id entry raising l new

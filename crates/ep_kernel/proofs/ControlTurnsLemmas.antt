@@ -82,14 +82,14 @@ there_by r named fd id found =
     }
 
 -- it has a place
-pub found_placed : (pid : ℕ) (args : Control) (plan : Plan) (p : Parts) (l : Lists) → IsListed p l → IsPlan p pid args plan → (id : EntryId) → plan.found ≡ Some id → IsSome (instance_at l id)
-found_placed pid args plan p l listed plans id found =
+pub found_placed : (pid : ℕ) (args : Control) (plan : Plan) (p : Parts) (l : Lists) → HavePlaces p.interest l → IsPlan p pid args plan → (id : EntryId) → plan.found ≡ Some id → IsSome (instance_at l id)
+found_placed pid args plan p l have plans id found =
     let there = there_by p.interest plan.named args.fd id (found_as p.interest plan.named args.fd plan.found (Some id) plans.found found) in
-    subst (λ (o : Option ℕ). IsSome o) (sym (listed.places id ∙ ap (option_map (λ (z : Entry). z.instance.0)) there.here)) refl
+    subst (λ (o : Option ℕ). IsSome o) (sym (have id ∙ ap (option_map (λ (z : Entry). z.instance.0)) there.here)) refl
 
 -- what has no registration has no place
-pub none_placed : (p : Parts) (l : Lists) → IsListed p l → (id : EntryId) → number_under p.interest id ≡ None → instance_at l id ≡ None
-none_placed p l listed id vacant = listed.places id ∙ ap (option_map (λ (z : Entry). z.instance.0)) (ap (entry_found p.interest.entries) vacant)
+pub none_placed : (p : Parts) (l : Lists) → HavePlaces p.interest l → (id : EntryId) → number_under p.interest id ≡ None → instance_at l id ≡ None
+none_placed p l have id vacant = have id ∙ ap (option_map (λ (z : Entry). z.instance.0)) (ap (entry_found p.interest.entries) vacant)
 
 pub some_placed : (l : Lists) (id : EntryId) (i : ℕ) → instance_at l id ≡ Some i → IsSome (instance_at l id)
 some_placed l id i h = subst (λ (o : Option ℕ). IsSome o) (sym h) refl
@@ -108,19 +108,42 @@ pub settled_at : (p q : Parts) (id : EntryId) (raising : Raising) (old new : Lis
 settled_at p q id raising old new e h = subst (λ (r : Parts). Settles id (entry_under r.interest id) raising old new) e h
 
 -- What is known before and after the call.
-module _ (pid : Pid) (args : Control) (plan : Plan) (outcome : Outcome) (p q : Parts) (l : Lists) (listed : IsListed p l) (controls : Controls plan args outcome p q) where
+module _ (args : Control) (plan : Plan) (outcome : Outcome) (p q : Parts) (controls : Controls plan args outcome p q) where
   -- a change that is refused raises nothing
-  nowhere : is_done outcome.answer ≡ false → is_at_instance outcome.raising ≡ false
+  pub nowhere : is_done outcome.answer ≡ false → is_at_instance outcome.raising ≡ false
   nowhere h = ap is_at_instance controls.raising ∙ ap (λ (b : Bool). is_at_instance (cond b (raising_of_ctl q.tables q.clock q.interest plan.named args.fd) Nowhere)) h
 
-  raises : is_done outcome.answer ≡ true → outcome.raising ≡ raising_of_ctl q.tables q.clock q.interest plan.named args.fd
+  pub raises : is_done outcome.answer ≡ true → outcome.raising ≡ raising_of_ctl q.tables q.clock q.interest plan.named args.fd
   raises h = controls.raising ∙ ap (λ (b : Bool). cond b (raising_of_ctl q.tables q.clock q.interest plan.named args.fd) Nowhere) h
 
+-- the places of one that was modified
+pub modified_places : (args : Control) (plan : Plan) (p q : Parts) (l : Lists) → HavePlaces p.interest l → (id : EntryId) (there : IsThere p.interest plan.named args.fd id) → Sets p.interest q.interest id (renewed args.mask args.tag there.it) → HavePlaces q.interest l
+modified_places args plan p q l have id there sets k = elim (cases_eq k.0 id.0) [
+  | inl e ↦
+      ap (λ (n : ℕ). instance_at l (record { 0 = n })) e
+      ∙ (have id
+      ∙ (ap (option_map (λ (z : Entry). z.instance.0)) there.here
+      ∙ sym (ap (λ (n : ℕ). option_map (λ (z : Entry). z.instance.0) (entry_under q.interest (record { 0 = n }))) e ∙ ap (option_map (λ (z : Entry). z.instance.0)) sets.here)))
+  | inr ne ↦ have k ∙ ap (option_map (λ (z : Entry). z.instance.0)) (sym (sets.others k ne))
+]
+
+-- and of one that was added
+pub added_places : (args : Control) (plan : Plan) (p q : Parts) (l : Lists) → HavePlaces p.interest l → (mid : Lists) (id : EntryId) → GainsPlace l mid plan.named.instance.0 id → Sets p.interest q.interest id (next_entry p.interest plan.named args) → HavePlaces q.interest mid
+added_places args plan p q l have mid id gains sets k = elim (cases_eq k.0 id.0) [
+  | inl e ↦
+      ap (λ (n : ℕ). instance_at mid (record { 0 = n })) e
+      ∙ (gains.here
+      ∙ sym (ap (λ (n : ℕ). option_map (λ (z : Entry). z.instance.0) (entry_under q.interest (record { 0 = n }))) e ∙ ap (option_map (λ (z : Entry). z.instance.0)) sets.here))
+  | inr ne ↦ gains.others k ne ∙ (have k ∙ ap (option_map (λ (z : Entry). z.instance.0)) (sym (sets.others k ne)))
+]
+
+-- Of the ready lists.
+module _ (pid : Pid) (args : Control) (plan : Plan) (outcome : Outcome) (p q : Parts) (l : Lists) (listed : IsListed p l) (controls : Controls plan args outcome p q) where
   abbrev Done : Lists → Type 0
   Done m = Turns (CallOf pid (control_call args)) outcome.picked p l q m
 
   pub still : (m : Lists) → q.interest ≡ p.interest → Same l m → Done m
-  still m interest same = subst (λ (ks : List ℕ). Turns (CallOf pid (control_call args)) ks p l q m) (sym controls.picked) (turns_still pid args p q l m listed controls.tables controls.clock interest same)
+  still m interest same = subst (λ (ks : List ℕ). Turns (CallOf pid (control_call args)) ks p l q m) (sym controls.picked) (turns_still p q l m controls.tables controls.clock interest same pid args listed)
 
   -- what can't be done where there is none
   pub turns_missed : plan.found ≡ None → (op : Operation) → plan.operation ≡ op → (Changes op None plan.named args p.interest q.interest → ⊥) → Done l
@@ -142,23 +165,13 @@ module _ (pid : Pid) (args : Control) (plan : Plan) (outcome : Outcome) (p q : P
       refused h interest =
           let now : entry_under q.interest id ≡ Some there.it = ap (λ (r : Registrations). entry_under r id) interest ∙ there.here in
           let settled : Settles id (Some there.it) outcome.raising l m = subst (λ (o : Option Entry). Settles id o outcome.raising l m) now settles in
-          still m interest (same_lists l m (subst (λ (b : Bool). MatchBool b (Gains (λ k. k == id.0) l m) (m ≡ l)) (nowhere h) settled))
+          still m interest (same_lists l m (subst (λ (b : Bool). MatchBool b (Gains (λ k. k == id.0) l m) (m ≡ l)) (nowhere args plan outcome p q controls h) settled))
 
       deleted : plan.operation ≡ Delete → Changes Delete (Some id) plan.named args p.interest q.interest → Done m
       deleted op changes =
           let clears = clears_deleted p.interest q.interest was id there.it there.here changes.0 changes.1 in
           let loses : LosesPlace l m id = subst (λ (o : Option Entry). Settles id o outcome.raising l m) (ap (entry_found q.interest.entries) clears.gone) settles in
-          subst (λ (ks : List ℕ). Turns (CallOf pid (control_call args)) ks p l q m) (sym controls.picked) (turns_cleared pid args p q l m listed (plans.code ∙ ap code_of op) id clears loses)
-
-      modified_places : Sets p.interest q.interest id (renewed args.mask args.tag there.it) → HavePlaces q.interest l
-      modified_places sets k = elim (cases_eq k.0 id.0) [
-        | inl e ↦
-            ap (λ (n : ℕ). instance_at l (record { 0 = n })) e
-            ∙ (listed.places id
-            ∙ (ap (option_map (λ (z : Entry). z.instance.0)) there.here
-            ∙ sym (ap (λ (n : ℕ). option_map (λ (z : Entry). z.instance.0) (entry_under q.interest (record { 0 = n }))) e ∙ ap (option_map (λ (z : Entry). z.instance.0)) sets.here)))
-        | inr ne ↦ listed.places k ∙ ap (option_map (λ (z : Entry). z.instance.0)) (sym (sets.others k ne))
-      ]
+          subst (λ (ks : List ℕ). Turns (CallOf pid (control_call args)) ks p l q m) (sym controls.picked) (turns_cleared pid args p q l m (plans.code ∙ ap code_of op) id clears loses listed)
 
       changed : plan.operation ≡ Modify → is_done outcome.answer ≡ true → Changes Modify (Some id) plan.named args p.interest q.interest → Done m
       changed of h changes =
@@ -167,7 +180,7 @@ module _ (pid : Pid) (args : Control) (plan : Plan) (outcome : Outcome) (p q : P
           let named : IsNamed plan.named args.fd y = record { instance = there.named.instance; fd = there.named.fd; desc = there.named.desc } in
           let settled : Settles id (Some y) outcome.raising l m = subst (λ (o : Option Entry). Settles id o outcome.raising l m) sets.here settles in
           subst (λ (ks : List ℕ). Turns (CallOf pid (control_call args)) ks p l q m) (sym controls.picked)
-          (turns_set pid args p q l l m listed controls.tables sound coherent.linked is plan.named plans.names id y sets (or_true (not (has_bit args.mask.0 ET))) named (λ i. refl) (modified_places sets) outcome.raising (raises h) settled (ap is_del (plans.code ∙ ap code_of of)))
+          (turns_set pid args p q l m controls.tables sound coherent.linked is plan.named plans.names id y sets named (modified_places args plan p q l listed.places id there sets) outcome.raising (raises args plan outcome p q controls h) settled l listed (or_true (not (has_bit args.mask.0 ET))) (λ i. refl) (ap is_del (plans.code ∙ ap code_of of)))
 
       by_case : (b : Bool) → is_done outcome.answer ≡ b → (op : Operation) → plan.operation ≡ op → MatchBool b (Changes op (Some id) plan.named args p.interest q.interest) (q.interest ≡ p.interest) → Done m
       by_case false h op of changes = refused h changes
@@ -187,16 +200,7 @@ module _ (pid : Pid) (args : Control) (plan : Plan) (outcome : Outcome) (p q : P
         not_added : q.interest ≡ p.interest → Done m
         not_added interest =
             let loses : LosesPlace mid m id = subst (λ (o : Option Entry). Settles id o outcome.raising mid m) (ap (λ (r : Registrations). entry_under r id) interest ∙ none_under) settles in
-            still m interest (same_again l mid m id plan.named.instance.0 lists (none_placed p l listed id vacant) gains loses)
-
-        added_places : Sets p.interest q.interest id (next_entry p.interest plan.named args) → HavePlaces q.interest mid
-        added_places sets k = elim (cases_eq k.0 id.0) [
-          | inl e ↦
-              ap (λ (n : ℕ). instance_at mid (record { 0 = n })) e
-              ∙ (gains.here
-              ∙ sym (ap (λ (n : ℕ). option_map (λ (z : Entry). z.instance.0) (entry_under q.interest (record { 0 = n }))) e ∙ ap (option_map (λ (z : Entry). z.instance.0)) sets.here))
-          | inr ne ↦ gains.others k ne ∙ (listed.places k ∙ ap (option_map (λ (z : Entry). z.instance.0)) (sym (sets.others k ne)))
-        ]
+            still m interest (same_again l mid m id plan.named.instance.0 lists (none_placed p l listed.places id vacant) gains loses)
 
         added : is_done outcome.answer ≡ true → Changes Add None plan.named args p.interest q.interest → Done m
         added h changes =
@@ -206,7 +210,7 @@ module _ (pid : Pid) (args : Control) (plan : Plan) (outcome : Outcome) (p q : P
             let named : IsNamed plan.named args.fd y = record { instance = refl; fd = refl; desc = refl } in
             let settled : Settles id (Some y) outcome.raising mid m = subst (λ (o : Option Entry). Settles id o outcome.raising mid m) sets.here settles in
             subst (λ (ks : List ℕ). Turns (CallOf pid (control_call args)) ks p l q m) (sym controls.picked)
-            (turns_set pid args p q l mid m listed controls.tables sound coherent.linked is plan.named plans.names id y sets (or_true (not (has_bit args.mask.0 ET))) named gains.lists (added_places sets) outcome.raising (raises h) settled (ap is_del (plans.code ∙ ap code_of adds)))
+            (turns_set pid args p q mid m controls.tables sound coherent.linked is plan.named plans.names id y sets named (added_places args plan p q l listed.places mid id gains sets) outcome.raising (raises args plan outcome p q controls h) settled l listed (or_true (not (has_bit args.mask.0 ET))) gains.lists (ap is_del (plans.code ∙ ap code_of adds)))
 
         add_case : (b : Bool) → is_done outcome.answer ≡ b → MatchBool b (Changes Add None plan.named args p.interest q.interest) (q.interest ≡ p.interest) → Done m
         add_case true h changes = added h changes

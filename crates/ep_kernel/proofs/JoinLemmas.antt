@@ -286,7 +286,7 @@ module _ (n : ℕ) (event : Event) (outcome : Outcome) (old mid noted buried cli
       same_instance some = sym (number_kept old.tables mid.tables i follows.keys some) ∙ number_kept buried.tables mid.tables i burial.buries.keys lives
 
       -- what is reportable at the end under a key that had a registration of this number has it still
-      key_now : (k number : ℕ) → number_under old.interest (entry_id k) ≡ Some number → is_reportable_in t e number ≡ true → number_under climbed.interest (entry_id k) ≡ Some number
+      pub key_now : (k number : ℕ) → number_under old.interest (entry_id k) ≡ Some number → is_reportable_in t e number ≡ true → number_under climbed.interest (entry_id k) ≡ Some number
       key_now k number before r =
           let y = shown_of settled t stands_after follows.now e number r in
           let key = follows.now.has_one number y.x y.there in
@@ -337,16 +337,16 @@ module _ (n : ℕ) (event : Event) (outcome : Outcome) (old mid noted buried cli
         same_clock = settles.clock ∙ ap (λ (p : Parts). p.clock) settles.noted_others
 
         -- a registration of the machine that is reportable at the end, by its key
-        record Ends (x : Watch) : Type 0 where
-          k : ℕ
-          first : Views mid.tables.keys mid.interest k (kernel_watch c.1 x)
-          now : number_under climbed.interest (entry_id k) ≡ Some x.number
-          y : Entry
-          under : entry_under climbed.interest (entry_id k) ≡ Some y
-          instance : y.instance.0 ≡ i.0
-          shows : entry_shows (readiness buried.tables buried.clock climbed.interest) buried.tables buried.clock y ≡ true
+        pub record Ends (x : Watch) : Type 0 where
+          pub k : ℕ
+          pub first : Views mid.tables.keys mid.interest k (kernel_watch c.1 x)
+          pub now : number_under climbed.interest (entry_id k) ≡ Some x.number
+          pub y : Entry
+          pub under : entry_under climbed.interest (entry_id k) ≡ Some y
+          pub instance : y.instance.0 ≡ i.0
+          pub shows : entry_shows (readiness buried.tables buried.clock climbed.interest) buried.tables buried.clock y ≡ true
 
-        ends_of : (x : Watch) → EndsReportable s c e x → Ends x
+        pub ends_of : (x : Watch) → EndsReportable s c e x → Ends x
         ends_of x r =
             let y = shown_of settled t stands_after follows.now e x.number (ap (λ (u : State). is_reportable_in u e x.number) ends ∙ r.ready) in
             let key = follows.now.has_one x.number y.x y.there in
@@ -389,8 +389,9 @@ module _ (n : ℕ) (event : Event) (outcome : Outcome) (old mid noted buried cli
         may_of true bits q h = second_of_and (nat_lt 0 bits) q h
         may_of false bits q h = h
 
-        passes : (x : Watch) → EndsReportable s c e x → passes_on_of c x ≡ true → is_among order_after x.number ≡ true
-        passes x r on =
+        -- what passes something on comes to the end
+        pub comes_on : (x : Watch) (r : EndsReportable s c e x) → passes_on_of c x ≡ true → comes_in n buried (ends_of x r).k ≡ true
+        comes_on x r on =
             let h = ends_of x r in
             let keys = buried.tables.keys in
             let climb_to = climb n buried climbed.interest settles.climbs follows.climbed_keys follows.left follows.now settles.coherent_buried settles.sound_buried in
@@ -403,12 +404,17 @@ module _ (n : ℕ) (event : Event) (outcome : Outcome) (old mid noted buried cli
             let may : may_watch (climb_to (watch_at keys v.x)) ≡ true = ap may_watch (sym is) ∙ may_of h.y.armed _ (not (has_bit h.y.mask.0 ET) || h.y.fresh) h.shows in
             let carried = ap (carries (reached_now buried.tables.files n (map (watch_at keys) buried.interest.entries)) buried.tables.files n) v.is
             ∙ (sym (passes_is n outcome.raising mid noted.interest buried leaves same_parked same_clock settles.sound_buried (next_event s) c made changed settled_change at counted as_raised same_files x r.left) ∙ on) in
-            let comes = comes_if n buried climbed.interest settles.climbs follows.climbed_keys follows.left follows.now settles.coherent_buried settles.sound_buried h.k v.x counted v.under carried may in
+            comes_if n buried climbed.interest settles.climbs follows.climbed_keys follows.left follows.now settles.coherent_buried settles.sound_buried h.k v.x counted v.under carried may
+
+        passes : (x : Watch) → EndsReportable s c e x → passes_on_of c x ≡ true → is_among order_after x.number ≡ true
+        passes x r on =
+            let h = ends_of x r in
+            let comes = comes_on x r on in
             let home : is_home i.0 (instance_at l2 (entry_id h.k)) ≡ true = ap (is_home i.0) (place_left x h) ∙ same_test i.0 i.0 refl in
             stands_now x h (follows.gains.each i.0 h.k ∙ or_right (is_among (list_at l2 i.0) h.k) (comes_in n buried h.k && is_home i.0 (instance_at l2 (entry_id h.k))) (λ j. comes j && home j))
 
         -- what is reportable right after the change
-        shows_changed : (x : Watch) (h : Ends x) → is_reportable c.1 x ≡ true → key_shows mid h.k ≡ true
+        pub shows_changed : (x : Watch) (h : Ends x) → is_reportable c.1 x ≡ true → key_shows mid h.k ≡ true
         shows_changed x h r =
             ap (shows_found mid) h.first.under
             ∙ (ap (shows (readiness mid.tables mid.clock mid.interest) mid.tables.files mid.clock) h.first.is

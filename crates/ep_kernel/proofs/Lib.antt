@@ -25,6 +25,9 @@ pub mod RunLemmas
 pub mod AreLookedAtLemmas
 pub mod SettledLemmas
 pub mod AskedLemmas
+pub mod PrunesLemmas
+pub mod HopesGoLemmas
+pub mod HopesForLemmas
 pub mod ReadinessLemmas
 pub mod MarkLemmas
 pub mod TimersLemmas

@@ -9,8 +9,8 @@ use Rattle.ep_calls.proofs.HoldLemmas.{held_same, place, placed_same}
 use Rattle.ep_calls.specs.Parking.{ready_key}
 use Rattle.ep_calls.specs.Parts.{AreCoherent, Parts}
 use Rattle.ep_calls.specs.Stands.{ArePlaced, IsPlaced}
-use Rattle.ep_kernel.specs.Asked.{AreTrue}
-use Rattle.ep_kernel.specs.Listed.{IsListed}
+use Rattle.ep_kernel.specs.Asked.{Knows}
+use Rattle.ep_kernel.specs.Listed.{HopesFor}
 use Rattle.ep_kernel.specs.declared.asked.Asked.{Asked}
 use Rattle.ep_kernel.specs.Mark.{AreLookedAt, attended, marked_where}
 use Rattle.ep_law.proofs.ListLemmas.{among, among_member, filtered_passes, member_filter}
@@ -28,15 +28,17 @@ use Rattle.ep_table.specs.Value.{Seen}
 abbrev pub with_parked : Parts → List Waiter → Parts
 with_parked p ws = record p { parked = ws }
 
-pub listed_marked : (p : Parts) (l : Lists) (ws : List Waiter) → IsListed p l → IsListed (with_parked p ws) l
-listed_marked p l ws h = record { places = h.places; sound = h.sound; complete = h.complete }
+pub hopes_marked : (p : Parts) (l : Lists) (ws : List Waiter) → HopesFor p l → HopesFor (with_parked p ws) l
+hopes_marked p l ws h = record { places = h.places; complete = h.complete }
 
--- nor do the answers of instances
-pub true_marked : (p q : Parts) (ws : List Waiter) (a : Asked) → q ≡ with_parked p ws → AreTrue p a → AreTrue q a
-true_marked p q ws a is h = subst (λ (r : Parts). AreTrue r a) (sym is) h
+-- nor do the answers of instances and the hopes
+pub knows_marked : (p q : Parts) (ws : List Waiter) (a : Asked) → q ≡ with_parked p ws → Knows p a → Knows q a
+knows_marked p q ws a is h = subst (λ (r : Parts). Knows r a) (sym is) (record { told = h.told; hopes = hopes_marked p a.hopes ws h.hopes })
 
-pub true_unmarked : (p q : Parts) (ws : List Waiter) (a : Asked) → q ≡ with_parked p ws → AreTrue q a → AreTrue p a
-true_unmarked p q ws a is h = subst (λ (r : Parts). AreTrue r a) is h
+pub knows_unmarked : (p q : Parts) (ws : List Waiter) (a : Asked) → q ≡ with_parked p ws → Knows q a → Knows p a
+knows_unmarked p q ws a is h =
+    let there : Knows (with_parked p ws) a = subst (λ (r : Parts). Knows r a) is h in
+    record { told = there.told; hopes = record { places = there.hopes.places; complete = there.hopes.complete } }
 
 -- Marks leave the rest of a waiter.
 first_places : (e : ℕ) (ws : List Waiter) → map place (first_marked e ws) ≡ map place ws
@@ -164,9 +166,6 @@ pub record HadTurns (old : Parts) (ks : List ℕ) (i : ℕ) (new : Parts) : Type
 
 pub turns_begin : (p : Parts) (ks : List ℕ) → HadTurns p ks 0 p
 turns_begin p ks = record { is = refl }
-
-pub turns_listed : (old : Parts) (l : Lists) (ks : List ℕ) (i : ℕ) (new : Parts) → HadTurns old ks i new → IsListed old l → IsListed new l
-turns_listed old l ks i new h listed = subst (λ (p : Parts). IsListed p l) (sym h.is) (listed_marked old l (marked_in_turn (filter (ready_in old) (take i ks)) old.parked) listed)
 
 pub turns_on : (old : Parts) (ks : List ℕ) (i e : ℕ) (mid new : Parts) → HadTurns old ks i mid → i < length ks → slice_get ks i ≡ Some e → new ≡ with_parked mid (marked_where (ready_in mid) e mid.parked) → HadTurns old ks (i + 1) new
 turns_on old ks i e mid new h lt at is = record {

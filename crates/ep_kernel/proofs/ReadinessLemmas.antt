@@ -1,10 +1,9 @@
--- What is reportable at an instance stands on its list, so looking along the list finds it.
-use Rattle.std.proofs.Common.{◌≡◌, ◌<◌, ◌∙◌, ◌==◌, ◌&&◌, ◌||◌, ◌-◌, ℕ, zero, suc, Bool, true, false, Contains, IsSome, List, [], ◌∷◌, None, Option, Some, ap, arith, if◌then◌else◌, inl, inr, refl, subst, sym, unwrap_or}
+-- What is reportable at an instance stands among its hopes, so looking along them finds it.
+use Rattle.std.proofs.Common.{◌≡◌, ◌<◌, ◌∙◌, ◌==◌, ◌&&◌, ◌-◌, ℕ, zero, suc, Bool, true, false, Contains, IsSome, List, None, Option, Some, ap, arith, if◌then◌else◌, inl, inr, refl, subst, sym, unwrap_or}
 use Rattle.std.specs.List.{list_any}
 use Rattle.std.specs.Option.{option_map}
 use Rattle.std.proofs.lemmas.Bool.{cases_Bool}
 use Rattle.ep_base.specs.declared.ids.DescId.{DescId}
-use Rattle.ep_base.specs.declared.ids.EntryId.{EntryId}
 use Rattle.ep_calls.proofs.KeyLemmas.{same_keys}
 use Rattle.ep_calls.proofs.IsBelowLemmas.{any_both, link_there, shows_same}
 use Rattle.ep_calls.specs.Climb.{is_nested}
@@ -16,7 +15,7 @@ use Rattle.ep_interest.specs.Registrations.{IsSound, entry_under}
 use Rattle.ep_interest.specs.declared.entry.Entry.{Entry}
 use Rattle.ep_kernel.proofs.EntryLemmas.{holds_under, is_under}
 use Rattle.ep_kernel.proofs.ViewLemmas.{any_of, entry_views, find_entry, same_bools, view_member, view_of}
-use Rattle.ep_kernel.specs.Listed.{IsListed, key_shows, shows_found}
+use Rattle.ep_kernel.specs.Listed.{HopesFor, key_shows, shows_found}
 use Rattle.ep_kernel.specs.Readiness.{EndsWithin, found_shows, nested_found}
 use Rattle.ep_law.proofs.ListLemmas.{all_member, among, among_member, any_member}
 use Rattle.ep_law.proofs.ReadinessLemmas.{and_same}
@@ -26,7 +25,7 @@ use Rattle.ep_machine.specs.Lists.{is_among}
 use Rattle.ep_machine.specs.Watches.{is_legal}
 use Rattle.ep_nest.proofs.LegalityLemmas.{short_from_is_legal}
 use Rattle.ep_nest.specs.Links.{edges}
-use Rattle.ep_ready.specs.ReadyLists.{IsSound as AreSoundLists, Lists, entry_id, ids, instance_at, list_at, stands_by}
+use Rattle.ep_ready.specs.ReadyLists.{IsSound as AreSoundLists, Lists, entry_id, instance_at, list_at, stands_by}
 use Rattle.ep_table.specs.Value.{Sound as SoundTables, number_under as desc_number}
 use Rattle.ep_view.specs.KernelView.{KernelWatch, ready_now, ready_within, shows}
 
@@ -66,7 +65,7 @@ module _ (p : Parts) (coherent : AreCoherent p) (tables : SoundTables p.tables) 
       enough k x.desc link.desc (λ y leads. ends y (x.desc.0, there, leads)))))
 
 -- The registrations on a list, and those of its instance.
-module _ (p : Parts) (l : Lists) (coherent : AreCoherent p) (tables : SoundTables p.tables) (sound : IsSound p.interest) (lists : AreSoundLists l) (listed : IsListed p l) where
+module _ (p : Parts) (l : Lists) (coherent : AreCoherent p) (tables : SoundTables p.tables) (sound : IsSound p.interest) (lists : AreSoundLists l) (hopes : HopesFor p l) where
   abbrev watches : List KernelWatch
   watches = watches_of p.tables p.interest
 
@@ -74,7 +73,7 @@ module _ (p : Parts) (l : Lists) (coherent : AreCoherent p) (tables : SoundTable
   ready = readiness p.tables p.clock p.interest
 
   place_of : (k : ℕ) (x : Entry) → entry_under p.interest (entry_id k) ≡ Some x → instance_at l (entry_id k) ≡ Some x.instance.0
-  place_of k x is = listed.places (entry_id k) ∙ ap (option_map (λ (y : Entry). y.instance.0)) is
+  place_of k x is = hopes.places (entry_id k) ∙ ap (option_map (λ (y : Entry). y.instance.0)) is
 
   -- what stands on a list is of its instance
   listed_entry : (i k : ℕ) → Member k (list_at l i) → (x : Entry) × (entry_under p.interest (entry_id k) ≡ Some x) × (x.instance.0 ≡ i)
@@ -83,7 +82,7 @@ module _ (p : Parts) (l : Lists) (coherent : AreCoherent p) (tables : SoundTable
     at = lists.own i (entry_id k) (among k (list_at l i) m)
 
     by : (o : Option Entry) → entry_under p.interest (entry_id k) ≡ o → (x : Entry) × (entry_under p.interest (entry_id k) ≡ Some x) × (x.instance.0 ≡ i)
-    by None is = let none : None ≡ Some i = sym (listed.places (entry_id k) ∙ ap (option_map (λ (y : Entry). y.instance.0)) is) ∙ at in absurd (cc)
+    by None is = let none : None ≡ Some i = sym (hopes.places (entry_id k) ∙ ap (option_map (λ (y : Entry). y.instance.0)) is) ∙ at in absurd (cc)
     by (Some x) is = let one : Some x.instance.0 ≡ Some i = sym (place_of k x is) ∙ at in (x, is, cc)
 
   module _ (i : DescId) (lives : IsSome (desc_number p.tables i)) where
@@ -109,7 +108,7 @@ module _ (p : Parts) (l : Lists) (coherent : AreCoherent p) (tables : SoundTable
         let k = v.0 in
         let x = v.1.x in
         let now : key_shows p k ≡ true = ap (shows_found p) v.1.under ∙ (ap (shows ready p.tables.files p.clock) v.1.is ∙ w.1) in
-        let on : is_among (list_at l x.instance.0) k ≡ true = sym (ap (stands_by l k) (place_of k x v.1.under)) ∙ listed.complete k now in
+        let on : is_among (list_at l x.instance.0) k ≡ true = sym (ap (stands_by l k) (place_of k x v.1.under)) ∙ hopes.complete k now in
         let number : number_at p.tables.keys x.instance ≡ e = ap (λ (u : KernelWatch). u.instance) v.1.is ∙ from_test _ _ w.0 in
         let link = (holds_under (IsLinked p.tables.keys) p.interest (entry_id k) x coherent.linked v.1.under).instance in
         let same = from_test x.instance.0 i.0 (sym (same_keys p.tables x.instance i tables link lives) ∙ same_test _ _ number) in
@@ -134,36 +133,6 @@ module _ (p : Parts) (l : Lists) (coherent : AreCoherent p) (tables : SoundTable
 pub some_links : (p : Parts) (i : DescId) (links : ℕ) → EndsWithin links p i → 0 < links
 some_links p i zero ends = absurd (ends i.0 refl)
 some_links p i (suc n) ends = omega arith
-
--- Going along a list.
-any_ids : (test : ℕ → Bool) (ks : List ℕ) → list_any (λ (id : EntryId). test id.0) (ids ks) ≡ list_any test ks
-any_ids test [] = refl
-any_ids test (k ∷ ks) = ap (λ (b : Bool). test k || b) (any_ids test ks)
-
-named : (ks : List ℕ) (id : EntryId) → Member id (ids ks) → Member id.0 ks
-named [] id m = absurd m
-named (k ∷ ks) id (inl e) = inl (ap (λ (j : EntryId). j.0) e)
-named (k ∷ ks) id (inr m) = inr (named ks id m)
-
--- what is left of a list is on it, and tells whether any of it passes
-pub record Looks (test : ℕ → Bool) (left : List EntryId) (all : List ℕ) : Type 0 where
-  pub told : list_any (λ (id : EntryId). test id.0) left ≡ list_any test all
-  pub among : (id : EntryId) → Member id left → Member id.0 all
-
-pub looks_begins : (test : ℕ → Bool) (left : List EntryId) (all : List ℕ) → left ≡ ids all → Looks test left all
-looks_begins test left all is = record {
-  told = ap (list_any (λ (id : EntryId). test id.0)) is ∙ any_ids test all;
-  among = λ id m. named all id (subst (λ (left : List EntryId). Member id left) is m);
-}
-
-pub looks_on : (test : ℕ → Bool) (id : EntryId) (left : List EntryId) (all : List ℕ) → Looks test (id ∷ left) all → test id.0 ≡ false → Looks test left all
-looks_on test id left all h none = record {
-  told = ap (λ (b : Bool). b || list_any (λ (j : EntryId). test j.0) left) (sym none) ∙ h.told;
-  among = λ j m. h.among j (inr m);
-}
-
-pub looks_found : (test : ℕ → Bool) (id : EntryId) (left : List EntryId) (all : List ℕ) → Looks test (id ∷ left) all → test id.0 ≡ true → list_any test all ≡ true
-looks_found test id left all h one = sym h.told ∙ ap (λ (b : Bool). b || list_any (λ (j : EntryId). test j.0) left) one
 
 -- One registration.
 abbrev pub below_found : Parts → Option DescId → Bool

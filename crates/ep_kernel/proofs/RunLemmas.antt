@@ -21,7 +21,7 @@ use Rattle.ep_kernel.proofs.NextLemmas.{keeps_after, runs_next}
 use Rattle.ep_interest.specs.declared.entry.Entry.{Entry}
 use Rattle.std.specs.Option.{option_map}
 use Rattle.ep_kernel.proofs.ReportsFirstLemmas.{waits_begun}
-use Rattle.ep_kernel.specs.Listed.{AreFair, HavePlaces, key_shows, lists_of, order_at, shows_found}
+use Rattle.ep_kernel.specs.Listed.{AreFair, HavePlaces, HopesFor, key_shows, lists_of, order_at, shows_found}
 use Rattle.ep_kernel.specs.ReadyBook.{AreAdded, LeavesReportable, ReportsFirst, WaitsAt, list_of}
 use Rattle.ep_kernel.specs.Running.{Ends, Runs}
 use Rattle.ep_kernel.specs.Turns.{Turns}
@@ -58,6 +58,9 @@ runs_opening limits p l opens is =
       };
       fair = λ i. subst (λ (m : Lists). IsFairOrder (turns_of keeps.state (number_at p.tables.keys (record { 0 = i }))) (order_at p.interest m i)) (sym is) tt;
     }
+
+pub hopes_opening : (limits : Limits) (p : Parts) (l : Lists) → AreOpening limits p → l ≡ empty → HopesFor p l
+hopes_opening limits p l opens is = let listed = (runs_opening limits p l opens is).listed in record { places = listed.places; complete = listed.complete }
 
 -- lists that are the same
 stands_same : (l m : Lists) → Same l m → (id : EntryId) → stands l id ≡ stands m id
@@ -114,7 +117,7 @@ module _ (law : ListsGoOn) (past : List Record) (old mid new : Parts) (l0 l1 l3 
     marked_others = ends.marked_others;
   }
 
-  follows : Follows n event outcome old mid ends.noted ends.buried ends.climbed new l0 l1 ends.between l3
+  pub follows : Follows n event outcome old mid ends.noted ends.buried ends.climbed new l0 l1 ends.between l3
   follows = record {
     coherent = coherent;
     tables = tables;

@@ -7,7 +7,7 @@ use Rattle.ep_kernel.specs.Running.{Ends, Settled}
 use Rattle.ep_machine.specs.Marks.{marked_by}
 use Rattle.ep_ready.specs.ReadyLists.{Lists}
 
-pub ends_of : (n : ℕ) (raising : Raising) (mid : Parts) (l : Lists) (climbed : Parts) (m : Lists) (new : Parts) → Settled n raising mid l climbed m
+abbrev pub ends_of : (n : ℕ) (raising : Raising) (mid : Parts) (l : Lists) (climbed : Parts) (m : Lists) (new : Parts) → Settled n raising mid l climbed m
     → new.parked ≡ marked_by (ready_key climbed.tables climbed.clock climbed.interest) climbed.clock climbed.parked → new ≡ record climbed { parked = new.parked } → Ends n raising mid l new m
 ends_of n raising mid l climbed m new s marks others = record {
   noted = s.noted;

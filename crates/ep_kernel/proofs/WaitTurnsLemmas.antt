@@ -1,5 +1,5 @@
 -- What a wait, or an event that is no wait and no epoll_ctl, does to the ready lists.
-use Rattle.std.proofs.Common.{◌≡◌, ◌++◌, ◌∙◌, ◌==◌, ◌&&◌, ◌||◌, ℕ, zero, suc, Bool, true, false, IsSome, List, [], ◌∷◌, None, Option, Some, ap, append-nil, cond, drop, filter, inl, inr, map, nat_lt, not, refl, subst, sym, take}
+use Rattle.std.proofs.Common.{◌≡◌, ◌++◌, ◌∙◌, ◌==◌, ◌&&◌, ◌||◌, ℕ, zero, suc, Bool, true, false, IsSome, List, [], ◌∷◌, None, Option, Some, ap, append-nil, cond, drop, filter, inl, inr, map, nat_lt, not, refl, slice_index_or, subst, sym, take}
 use Rattle.std.specs.Option.{option_map}
 use Rattle.std.proofs.lemmas.Bool.{cases_Bool, false≢true}
 use Rattle.std.proofs.lemmas.List.Elements.{All-head, All-tail}
@@ -134,6 +134,13 @@ mapped_from f (Some y) x h = (y, refl, cc)
 same_instance : (n : ℕ) (ks : List ℕ) (o : Option Entry) → option_map (λ x. x.instance.0) (option_map (with_report n ks) o) ≡ option_map (λ x. x.instance.0) o
 same_instance n ks None = refl
 same_instance n ks (Some x) = ap (λ (i : ℕ). Some i) (instance_reported n ks x)
+
+-- registrations keep their places
+pub places_reported : (p q : Parts) (l : Lists) (n : ℕ) (ks : List ℕ) → q.interest.keys ≡ p.interest.keys → q.interest.entries ≡ map (with_report n ks) p.interest.entries → HavePlaces p.interest l → HavePlaces q.interest l
+places_reported p q l n ks keys entries have id =
+    let under : entry_under q.interest id ≡ option_map (with_report n ks) (entry_under p.interest id) =
+    (λ j. entry_found (entries j) (slice_index_or (keys j) id.0 None)) ∙ found_reported n ks p.interest.entries (number_under p.interest id) in
+    have id ∙ (sym (same_instance n ks (entry_under p.interest id)) ∙ ap (option_map (λ (x : Entry). x.instance.0)) (sym under))
 
 -- What is found.
 

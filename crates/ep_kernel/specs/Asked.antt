@@ -2,6 +2,7 @@
 use Rattle.std.specs.Prelude.{◌≡◌, Bool, None, Option, Some, false, if◌then◌else◌, true, ℕ}
 use Rattle.ep_calls.specs.Parking.{ready_key}
 use Rattle.ep_calls.specs.Parts.{Parts}
+use Rattle.ep_kernel.specs.Listed.{HopesFor}
 use Rattle.ep_kernel.specs.declared.asked.Asked.{Asked}
 use Rattle.ep_machine.specs.Lists.{is_among}
 use Rattle.ep_ready.specs.Walk.{with_noted}
@@ -23,3 +24,8 @@ pub record AreOf (test : ℕ → Bool) (a : Asked) : Type 0 where
 -- each answer is true of the parts
 abbrev pub AreTrue : Parts → Asked → Type 0
 AreTrue p a = AreOf (ready_key p.tables p.clock p.interest) a
+
+-- and what is reportable is among the hopes
+pub record Knows (p : Parts) (a : Asked) : Type 0 where
+  pub told : AreTrue p a
+  pub hopes : HopesFor p a.hopes

@@ -38,6 +38,11 @@ key_shows p k = shows_found p (entry_under p.interest (entry_id k))
 abbrev pub HasReportables : Parts → Lists → Type 0
 HasReportables p l = (k : ℕ) → key_shows p k ≡ true → stands l (entry_id k) ≡ true
 
+-- the hopes: what is reportable stands on the list of its instance, in any order, and so may what is reportable no more
+pub record HopesFor (p : Parts) (l : Lists) : Type 0 where
+  pub places : HavePlaces p.interest l
+  pub complete : HasReportables p l
+
 -- between two events
 pub record IsListed (p : Parts) (l : Lists) : Type 0 where
   pub places : HavePlaces p.interest l

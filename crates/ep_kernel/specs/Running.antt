@@ -11,7 +11,7 @@ use Rattle.ep_calls.specs.Parts.{AreCoherent, Parts}
 use Rattle.ep_calls.specs.Raising.{Stirs}
 use Rattle.ep_calls.specs.declared.raising.Raising.{Raising}
 use Rattle.ep_interest.specs.Registrations.{IsSound as AreSound}
-use Rattle.ep_kernel.specs.Listed.{AreFair, IsListed, lists_of}
+use Rattle.ep_kernel.specs.Listed.{AreFair, HopesFor, IsListed, lists_of}
 use Rattle.ep_kernel.specs.Places.{LosesDying}
 use Rattle.ep_kernel.specs.Push.{Appends, comes_in}
 use Rattle.ep_kernel.specs.Reach.{AreReached}
@@ -34,10 +34,11 @@ book_of k = record {
   lists = lists_of k.parts k.lists;
 }
 
--- the same, and each timer has its moment
+-- the same, each timer has its moment, and what is reportable is among the hopes
 pub record IsRunning (k : Inside) : Type 0 where
   pub runs : Runs k.history.items k.parts k.lists
   pub set : AreSet k.parts.tables k.parts.clock k.alarms
+  pub hopes : HopesFor k.parts k.asked.hopes
 
 -- what follows the change of event n up to its marks: what it raised is noted, the dead go with their places, what
 -- passes something on comes to the end of its list, and what was raised climbs; the lists have the instances that IN
@@ -97,3 +98,11 @@ pub record Ends (n : ℕ) (raising : Raising) (mid : Parts) (l : Lists) (new : P
   pub climbed_sound : AreSound climbed.interest
   pub marks : new.parked ≡ marked_by (ready_key climbed.tables climbed.clock climbed.interest) climbed.clock climbed.parked
   pub marked_others : new ≡ record climbed { parked = new.parked }
+
+-- what follows the change of event n up to its marks, and from hopes h to hopes k: they lose the places that the lists
+-- lose, and what passes something on comes to their end too
+pub record SettledBoth (n : ℕ) (raising : Raising) (mid : Parts) (l h : Lists) (climbed : Parts) (m k : Lists) : Type 0 where
+  pub settled : Settled n raising mid l climbed m
+  pub between : Lists
+  pub loses : LosesDying settled.noted.tables settled.noted.interest h between
+  pub gains : Appends (comes_in n settled.buried) between k

@@ -39,6 +39,14 @@ IsAlteredKey (CallOf pid (EpollCtl epfd op fd mask tag)) p q k = (x : Entry) →
     × (key_shows q k ≡ true)
 IsAlteredKey event p q k = ⊥
 
+-- from parts p to parts q with hopes h: what was reportable and has its registration still, stands there, and so does
+-- what was added or modified and is reportable
+pub record HopesGo (event : Event) (p q : Parts) (h : Lists) : Type 0 where
+  pub stays : (k : ℕ) (x : Entry) → entry_under p.interest (entry_id k) ≡ Some x → key_shows p k ≡ true
+      → number_under q.interest (entry_id k) ≡ Some x.number → stands h (entry_id k) ≡ true
+  pub altered : AlteredStand event p q h
+  pub places : HavePlaces q.interest h
+
 -- from parts p and lists l to parts q and lists m, where the registrations of these numbers are reported
 pub record Turns (event : Event) (picked : List ℕ) (p : Parts) (l : Lists) (q : Parts) (m : Lists) : Type 0 where
   pub keeps : ℕ → Bool  -- by key: what stays where it stands

@@ -5,9 +5,9 @@ ghost use Rattle.ep_base.specs.declared.call.Event.TheVariants.{Call as CallOf};
 ghost use Rattle.ep_calls.specs.Clock.{ClockStays};
 ghost use Rattle.ep_calls.specs.Kept.{KeepsCall, KeepsEvent};
 ghost use Rattle.ep_calls.specs.Spared.{IsSpared, TakesNoMemory};
-ghost use Rattle.ep_kernel.specs.Listed.{IsListed};
+ghost use Rattle.ep_kernel.specs.Listed.{HopesFor, IsListed};
 ghost use Rattle.ep_kernel.specs.Timers.{CallsTables, MovesClock, TouchesTables};
-ghost use Rattle.ep_kernel.specs.Turns.{Turns};
+ghost use Rattle.ep_kernel.specs.Turns.{HopesGo, Turns};
 ghost use Rattle.ep_kernel.specs.Wait.{DoesCallFairly, DoesEventFairly, ReportsInOrder};
 ghost use Rattle.ep_machine.specs.Files.{table_of};
 ghost use Rattle.ep_park.specs.Waiters.{is_caller};
@@ -46,6 +46,7 @@ fn make_call(
     requires free { list_any (is_caller request.caller.0) parts.old.parked ≡ false }
     requires process { is_some (table_of parts.old.tables.files pid.0) ≡ true }
     requires listed { IsListed parts.old lists.old }
+    requires hopes { HopesFor parts.old asked.old.hopes }
     ensures ok { IfOk result
         (λ outcome. DoesCallFairly lists.old request.step request.caller.0 pid.0 call.now outcome
         parts.old parts.new) }
@@ -61,6 +62,7 @@ fn make_call(
     ensures order { IfOk result
         (λ outcome. ReportsInOrder lists.old request.step request.caller.0 (CallOf pid call.now)
         outcome parts.old parts.new lists.new) }
+    ensures hopes { HopesGo (CallOf pid call.now) parts.old parts.new asked.new.hopes }
     ensures err { OnErr result ((parts.new ≡ parts.old) × Same lists.old lists.new) }
 {
     match *call {
@@ -110,7 +112,8 @@ pub fn act(
     request: Request,
     event: &Event,
 ) -> Result<Outcome, AllocError>
-    requires { IsListed parts.old lists.old }
+    requires listed { IsListed parts.old lists.old }
+    requires hopes { HopesFor parts.old asked.old.hopes }
     ensures ok { IfOk result
         (λ outcome. DoesEventFairly lists.old request.step request.caller.0 event.now outcome
         parts.old parts.new) }
@@ -125,6 +128,7 @@ pub fn act(
     ensures order { IfOk result
         (λ outcome. ReportsInOrder lists.old request.step request.caller.0 event.now outcome
         parts.old parts.new lists.new) }
+    ensures hopes { HopesGo event.now parts.old parts.new asked.new.hopes }
     ensures err { OnErr result ((parts.new ≡ parts.old) × Same lists.old lists.new) }
 {
     match event {

@@ -1,9 +1,9 @@
 //! Which registrations a wait reports: the first reportable ones of the ready list of its instance.
 ghost use Rattle.std.specs.Prelude.{◌≡◌, IfOk, IfSome, is_some};
 ghost use Rattle.ep_calls.specs.Wait.{IsKeyed};
-ghost use Rattle.ep_kernel.specs.Asked.{AreTrue};
+ghost use Rattle.ep_kernel.specs.Asked.{Knows};
 ghost use Rattle.ep_kernel.specs.Choose.{IsFound};
-ghost use Rattle.ep_kernel.specs.Listed.{IsListed, key_shows};
+ghost use Rattle.ep_kernel.specs.Listed.{HopesFor, key_shows};
 ghost use Rattle.ep_ready.specs.ReadyLists.{list_at};
 
 use crate::asked::Asked;
@@ -23,24 +23,18 @@ pub struct Found {
 }
 
 /// The registration under a key with the bits that it shows, where it is reportable.
-fn reportable_at(
-    parts: &Parts,
-    lists: &ReadyLists,
-    asked: &mut Asked,
-    id: EntryId,
-) -> Option<Reportable>
-    requires listed { IsListed parts.now lists.now }
-    requires told { AreTrue parts.now asked.old }
+fn reportable_at(parts: &Parts, asked: &mut Asked, id: EntryId) -> Option<Reportable>
+    requires { Knows parts.now asked.old }
     ensures shows { is_some result ≡ key_shows parts.now id.0 }
     ensures id { IfSome result (λ x. x.id ≡ id) }
     ensures keyed { IfSome result
         (λ x. IsKeyed parts.now.tables parts.now.clock parts.now.interest x) }
-    ensures told { AreTrue parts.now asked.new }
+    ensures knows { Knows parts.now asked.new }
 {
     parts.known();
     parts.interest.known();
     let entry = parts.interest.get(id)?;
-    let bits = shown(parts, lists, asked, entry);
+    let bits = shown(parts, asked, entry);
     if !is_reportable(entry, bits) {
         return None;
     }
@@ -52,9 +46,9 @@ fn reportable_at(
 }
 
 /// The first reportable registrations on the list of an instance, at most so many. An `Err` is want of memory. Only
-/// the places up to the last of them are looked at, and where one watches an instance, the places on the lists of the
-/// instances below up to the first that is reportable. Each of these instances is asked once, under however many
-/// numbers it is watched, since its answer is noted.
+/// the places up to the last of them are looked at, and where one watches an instance, the hopes of the instances below
+/// up to the first that is reportable. Each of these instances is asked once, under however many numbers it is watched,
+/// since its answer is noted. All that is reportable stays among the hopes, whatever the result.
 pub fn choose(
     parts: &Parts,
     lists: &ReadyLists,
@@ -62,10 +56,11 @@ pub fn choose(
     instance: DescId,
     most: usize,
 ) -> Result<Found, AllocError>
-    requires listed { IsListed parts.now lists.now }
-    ensures { IfOk result
+    requires { HopesFor parts.now asked.old.hopes }
+    ensures found { IfOk result
         (λ found. IsFound parts.now (list_at lists.now instance.0) most found.reportables.items
         found.walked) }
+    ensures hopes { HopesFor parts.now asked.new.hopes }
 {
     asked.forget();
     let mut reportables = Vec::new(parts.alloc);
@@ -76,7 +71,7 @@ pub fn choose(
             break;
         }
         walked += 1;
-        if let Some(x) = reportable_at(parts, lists, asked, id) {
+        if let Some(x) = reportable_at(parts, asked, id) {
             reportables.push(x)?;
         }
     }

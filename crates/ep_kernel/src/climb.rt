@@ -58,19 +58,21 @@ fn freshen(parts: &mut Parts, lists: &ReadyLists)
     freshen_reached(&parts.tables, &mut parts.interest, lists);
 }
 
-/// Puts each registration at the end of its list, if it does not stand there, that passes something of an event on,
-/// and makes what watches an instance that IN reaches fresh. The lists have those instances as reached afterwards.
-/// The time grows with what passes something on, and with the registrations on what is reached.
-pub fn climb(parts: &mut Parts, lists: &mut ReadyLists, step: u64)
+/// Puts each registration at the end of its list and among the hopes, if it does not stand there, that passes something
+/// of an event on, and makes what watches an instance that IN reaches fresh. The lists have those instances as reached
+/// afterwards. The time grows with what passes something on, and with the registrations on what is reached.
+pub fn climb(parts: &mut Parts, lists: &mut ReadyLists, hopes: &mut ReadyLists, step: u64)
     requires step { 0 < step }
     requires places { HavePlaces parts.old.interest lists.old }
+    requires hopes { HavePlaces parts.old.interest hopes.old }
     ensures gains { Appends (comes_in step parts.old) lists.old lists.new }
+    ensures hopes { Appends (comes_in step parts.old) hopes.old hopes.new }
     ensures reached { AreReached step parts.old.tables parts.old.interest lists.new.reached }
     ensures climbs { Climbs step parts.old.tables parts.old.interest parts.new.interest }
     ensures keys { parts.new.interest.keys ≡ parts.old.interest.keys }
     ensures others { parts.new ≡ record parts.old { interest = parts.new.interest } }
 {
     reach(parts, lists, step);
-    push(parts, lists);
+    push(parts, lists, hopes);
     freshen(parts, lists);
 }

@@ -1,16 +1,16 @@
 //! epoll_ctl: the places that come and go with registrations.
-ghost use Rattle.std.specs.Prelude.{◌≡◌, ◌≢◌, ℕ, IfOk, IsOk, IsSome, None, OnErr, Some, false};
+ghost use Rattle.std.specs.Prelude.{◌≡◌, ◌≢◌, ℕ, IfOk, IsOk, IsSome, None, OnErr, OnOk, false};
 ghost use Rattle.ep_base.specs.declared.call.Event.TheVariants.{Call as CallOf};
 ghost use Rattle.ep_calls.specs.Control.{IsPlan, TellsBelow, control_call};
 ghost use Rattle.ep_calls.specs.Does.{DoesCall};
 ghost use Rattle.ep_calls.specs.declared.control.Operation.TheVariants.{Add};
 ghost use Rattle.ep_interest.specs.Registrations.{entry_under};
 ghost use Rattle.ep_kernel.specs.Control.{Settles};
-ghost use Rattle.ep_kernel.specs.Listed.{IsListed};
+ghost use Rattle.ep_kernel.specs.Listed.{HopesFor, IsListed};
 ghost use Rattle.ep_kernel.specs.Timers.{LeavesFiles};
-ghost use Rattle.ep_kernel.specs.Turns.{Turns};
+ghost use Rattle.ep_kernel.specs.Turns.{HopesGo, Turns};
 ghost use Rattle.ep_machine.specs.Watches.{is_add};
-ghost use Rattle.ep_ready.specs.ReadyLists.{Same, instance_at};
+ghost use Rattle.ep_ready.specs.ReadyLists.{GainsPlace, Same, instance_at};
 ghost use Rattle.ep_table.specs.Value.{number_under as desc_number};
 
 use crate::asked::Asked;
@@ -22,7 +22,7 @@ use ep_ready::ReadyLists;
 use std::alloc::AllocError;
 
 /// Takes a place away whose registration is gone. One that is left comes to the end of its list, if it does not stand
-/// there, where IN was raised at its instance.
+/// there, where IN was raised at its instance. It does so with the lists and with the hopes.
 fn settle(interest: &Interest, lists: &mut ReadyLists, id: EntryId, raising: Raising)
     requires { IsSome (instance_at lists.old id) }
     ensures { Settles id (entry_under interest.now id) raising lists.old lists.new }
@@ -37,18 +37,37 @@ fn settle(interest: &Interest, lists: &mut ReadyLists, id: EntryId, raising: Rai
     }
 }
 
+/// Makes the places of a registration, on the lists and among the hopes. An `Err` is want of memory and leaves both.
+fn make_places(
+    lists: &mut ReadyLists,
+    hopes: &mut ReadyLists,
+    instance: DescId,
+    id: EntryId,
+) -> Result<(), AllocError>
+    requires free { instance_at lists.old id ≡ None }
+    requires hope { instance_at hopes.old id ≡ None }
+    ensures made { OnOk result (GainsPlace lists.old lists.new instance.0 id) }
+    ensures hoped { OnOk result (GainsPlace hopes.old hopes.new instance.0 id) }
+    ensures refused { OnErr result (Same lists.old lists.new × Same hopes.old hopes.new) }
+{
+    hopes.known();
+    hopes.make_place(instance, id)?;
+    match lists.make_place(instance, id) {
+        Ok(()) => Ok(()),
+        Err(error) => {
+            hopes.drop_place(id);
+            Err(error)
+        }
+    }
+}
+
 /// Whether the instance that an ADD or a MOD is about is ready; `false` for what is no instance. DEL asks nothing.
-/// Only what stands on the lists of the instance and of those below is looked at, each place at most once.
-fn is_below_ready(
-    parts: &Parts,
-    lists: &ReadyLists,
-    asked: &mut Asked,
-    operation: Operation,
-    desc: DescId,
-) -> bool
+/// Only the hopes of the instance and of those below are looked at, as `is_ready` says.
+fn is_below_ready(parts: &Parts, asked: &mut Asked, operation: Operation, desc: DescId) -> bool
     requires live { IsSome (desc_number parts.now.tables desc) }
-    requires listed { IsListed parts.now lists.now }
-    ensures { TellsBelow operation result parts.now desc }
+    requires hopes { HopesFor parts.now asked.old.hopes }
+    ensures below { TellsBelow operation result parts.now desc }
+    ensures hopes { HopesFor parts.now asked.new.hopes }
 {
     if let Operation::Delete = operation {
         return false;
@@ -58,22 +77,23 @@ fn is_below_ready(
         return false;
     }
     asked.forget();
-    is_ready(parts, lists, asked, desc)
+    is_ready(parts, asked, desc)
 }
 
 /// The call on a registration that is there.
 fn alter(
     parts: &mut Parts,
     lists: &mut ReadyLists,
+    asked: &mut Asked,
     pid: Pid,
     args: Control,
     plan: Plan,
-    id: EntryId,
 ) -> Result<Outcome, AllocError>
     requires plan { IsPlan parts.old pid.0 args plan }
     requires below { TellsBelow plan.operation plan.below parts.old plan.named.desc }
-    requires found { plan.found ≡ Some id }
+    requires found { IsSome plan.found }
     requires listed { IsListed parts.old lists.old }
+    requires hopes { HopesFor parts.old asked.old.hopes }
     ensures ok { IfOk result
         (λ outcome. (n caller : ℕ)
         → DoesCall n caller pid.0 (control_call args) outcome parts.old parts.new) }
@@ -82,18 +102,23 @@ fn alter(
         (λ outcome. Turns (CallOf pid (control_call args)) outcome.picked parts.old lists.old
         parts.new lists.new) }
     ensures spared { plan.operation ≢ Add → IsOk result }
+    ensures hopes { HopesGo (CallOf pid (control_call args)) parts.old parts.new asked.new.hopes }
     ensures err { OnErr result ((parts.new ≡ parts.old) × Same lists.old lists.new) }
 {
+    let Some(id) = plan.found else {
+        unreachable!();
+    };
     parts.known();
     parts.interest.known();
     let outcome = parts.control(pid, args, plan)?;
     parts.known();
     parts.interest.known();
     settle(&parts.interest, lists, id, outcome.raising);
+    settle(&parts.interest, &mut asked.hopes, id, outcome.raising);
     Ok(outcome)
 }
 
-/// Adds a registration that is not there, with its place, and makes room for what its instance answers. An `Err` is
+/// Adds a registration that is not there, with its places, and makes room for what its instance answers. An `Err` is
 /// want of memory and leaves the parts and the lists.
 fn add(
     parts: &mut Parts,
@@ -108,6 +133,7 @@ fn add(
     requires adds { plan.operation ≡ Add }
     requires found { plan.found ≡ None }
     requires listed { IsListed parts.old lists.old }
+    requires hopes { HopesFor parts.old asked.old.hopes }
     ensures ok { IfOk result
         (λ outcome. (n caller : ℕ)
         → DoesCall n caller pid.0 (control_call args) outcome parts.old parts.new) }
@@ -115,24 +141,28 @@ fn add(
     ensures turns { IfOk result
         (λ outcome. Turns (CallOf pid (control_call args)) outcome.picked parts.old lists.old
         parts.new lists.new) }
+    ensures hopes { HopesGo (CallOf pid (control_call args)) parts.old parts.new asked.new.hopes }
     ensures err { OnErr result ((parts.new ≡ parts.old) × Same lists.old lists.new) }
 {
     parts.known();
     parts.interest.known();
     lists.known();
     let id = parts.interest.next_key();
+    asked.hopes.known();
     asked.make_room(plan.named.instance)?;
-    lists.make_place(plan.named.instance, id)?;
+    make_places(lists, &mut asked.hopes, plan.named.instance, id)?;
     let outcome = match parts.control(pid, args, plan) {
         Ok(outcome) => outcome,
         Err(error) => {
             lists.drop_place(id);
+            asked.hopes.drop_place(id);
             return Err(error);
         }
     };
     parts.known();
     parts.interest.known();
     settle(&parts.interest, lists, id, outcome.raising);
+    settle(&parts.interest, &mut asked.hopes, id, outcome.raising);
     Ok(outcome)
 }
 
@@ -149,6 +179,7 @@ fn enter(
     requires below { TellsBelow plan.operation plan.below parts.old plan.named.desc }
     requires found { plan.found ≡ None }
     requires listed { IsListed parts.old lists.old }
+    requires hopes { HopesFor parts.old asked.old.hopes }
     ensures ok { IfOk result
         (λ outcome. (n caller : ℕ)
         → DoesCall n caller pid.0 (control_call args) outcome parts.old parts.new) }
@@ -157,6 +188,7 @@ fn enter(
         (λ outcome. Turns (CallOf pid (control_call args)) outcome.picked parts.old lists.old
         parts.new lists.new) }
     ensures spared { plan.operation ≢ Add → IsOk result }
+    ensures hopes { HopesGo (CallOf pid (control_call args)) parts.old parts.new asked.new.hopes }
     ensures err { OnErr result ((parts.new ≡ parts.old) × Same lists.old lists.new) }
 {
     match plan.operation {
@@ -167,9 +199,9 @@ fn enter(
 }
 
 /// epoll_ctl(2), as `Parts::epoll_ctl`, with the ready lists: a registration that is added gets a place, and one that
-/// is deleted loses it; what is added or modified and reportable comes to the end of its list. Of the instances below
-/// its target only what stands on their lists is looked at. A refusal leaves the parts and the lists, and so does an
-/// `Err`, which is want of memory and comes only of ADD.
+/// is deleted loses it; what is added or modified and reportable comes to the end of its list. The same goes for the
+/// hopes. Of the instances below its target only the hopes are looked at, as `is_ready` says. A refusal leaves the
+/// parts and the lists, and so does an `Err`, which is want of memory and comes only of ADD.
 pub fn epoll_ctl(
     parts: &mut Parts,
     lists: &mut ReadyLists,
@@ -178,6 +210,7 @@ pub fn epoll_ctl(
     args: Control,
 ) -> Result<Outcome, AllocError>
     requires listed { IsListed parts.old lists.old }
+    requires hopes { HopesFor parts.old asked.old.hopes }
     ensures ok { IfOk result
         (λ outcome. (n caller : ℕ)
         → DoesCall n caller pid.0 (control_call args) outcome parts.old parts.new) }
@@ -186,15 +219,16 @@ pub fn epoll_ctl(
         (λ outcome. Turns (CallOf pid (control_call args)) outcome.picked parts.old lists.old
         parts.new lists.new) }
     ensures spared { is_add args.op ≡ false → IsOk result }
+    ensures hopes { HopesGo (CallOf pid (control_call args)) parts.old parts.new asked.new.hopes }
     ensures err { OnErr result ((parts.new ≡ parts.old) × Same lists.old lists.new) }
 {
     let mut plan = match parts.plan(pid, args) {
         Ok(plan) => plan,
         Err(refused) => return Ok(refused),
     };
-    plan.below = is_below_ready(parts, lists, asked, plan.operation, plan.named.desc);
+    plan.below = is_below_ready(parts, asked, plan.operation, plan.named.desc);
     match plan.found {
-        Some(id) => alter(parts, lists, pid, args, plan, id),
+        Some(_) => alter(parts, lists, asked, pid, args, plan),
         None => enter(parts, lists, asked, pid, args, plan),
     }
 }

@@ -1,8 +1,8 @@
 //! Marks at the end of an event, at the instances that it reached.
 ghost use Rattle.std.specs.Prelude.{◌≡◌, filter, map};
 ghost use Rattle.ep_calls.specs.Parking.{ready_key};
-ghost use Rattle.ep_kernel.specs.Asked.{AreTrue};
-ghost use Rattle.ep_kernel.specs.Listed.{IsListed};
+ghost use Rattle.ep_kernel.specs.Asked.{Knows};
+ghost use Rattle.ep_kernel.specs.Listed.{HopesFor};
 ghost use Rattle.ep_kernel.specs.Mark.{AreLookedAt, attended, attends, marked_where, resumed_at as resumed};
 ghost use Rattle.ep_machine.specs.Marks.{marked_by};
 ghost use Rattle.ep_machine.specs.Waits.{marked_if_due};
@@ -49,15 +49,14 @@ fn mark_due(parts: &mut Parts)
 
 /// Marks the caller that waits longest at an instance, where that is ready and none is marked there. Nothing is
 /// looked at where nobody waits or one is marked.
-fn mark_at(parts: &mut Parts, lists: &ReadyLists, asked: &mut Asked, instance: DescId)
-    requires listed { IsListed parts.old lists.now }
-    requires told { AreTrue parts.old asked.old }
+fn mark_at(parts: &mut Parts, asked: &mut Asked, instance: DescId)
+    requires { Knows parts.old asked.old }
     ensures marks { parts.new
         ≡ record parts.old {
           parked = marked_where (ready_key parts.old.tables parts.old.clock parts.old.interest)
               instance.0 parts.old.parked;
         } }
-    ensures told { AreTrue parts.old asked.new }
+    ensures knows { Knows parts.old asked.new }
 {
     parts.known();
     if !parts.waiters.has_waiter(instance) {
@@ -66,7 +65,7 @@ fn mark_at(parts: &mut Parts, lists: &ReadyLists, asked: &mut Asked, instance: D
     if parts.waiters.has_mark(instance) {
         return;
     }
-    if is_ready(parts, lists, asked, instance) {
+    if is_ready(parts, asked, instance) {
         parts.waiters.mark_longest(instance);
     }
 }
@@ -74,52 +73,52 @@ fn mark_at(parts: &mut Parts, lists: &ReadyLists, asked: &mut Asked, instance: D
 /// Marks the caller that waits longest at each instance that the event reached, where that is ready and none is
 /// marked there.
 fn mark_reached(parts: &mut Parts, lists: &ReadyLists, asked: &mut Asked)
-    requires listed { IsListed parts.old lists.now }
-    requires told { AreTrue parts.old asked.old }
+    requires { Knows parts.old asked.old }
     ensures marks { parts.new
         ≡ record parts.old {
           parked = marked_in_turn
               (filter (ready_key parts.old.tables parts.old.clock parts.old.interest) lists.now.reached)
               parts.old.parked;
         } }
-    ensures told { AreTrue parts.old asked.new }
+    ensures knows { Knows parts.old asked.new }
 {
     for index in 0..lists.reached_count() {
-        mark_at(parts, lists, asked, lists.reached_at(index));
+        mark_at(parts, asked, lists.reached_at(index));
     }
 }
 
 /// The same at the instance that the event attends, if there is one.
-fn mark_attended(parts: &mut Parts, lists: &ReadyLists, asked: &mut Asked, attend: Option<DescId>)
-    requires listed { IsListed parts.old lists.now }
-    requires told { AreTrue parts.old asked.old }
-    ensures { parts.new
+fn mark_attended(parts: &mut Parts, asked: &mut Asked, attend: Option<DescId>)
+    requires { Knows parts.old asked.old }
+    ensures marks { parts.new
         ≡ record parts.old {
           parked = marked_in_turn
               (filter (ready_key parts.old.tables parts.old.clock parts.old.interest) (attended attend))
               parts.old.parked;
         } }
+    ensures knows { Knows parts.old asked.new }
 {
     if let Some(instance) = attend {
-        mark_at(parts, lists, asked, instance);
+        mark_at(parts, asked, instance);
     }
 }
 
 /// Sets marks at the end of an event: whoever is due, and of those that wait at a ready instance the longest waiting
 /// one, where none is marked there. `attend` is the instance at which an epoll_ctl raised IN, or at which a caller
 /// that was resumed waited. Only the instances that the event reached and that one are looked at, and each instance
-/// below them is asked once.
+/// below them is asked once. All that is reportable stays among the hopes.
 pub fn mark(parts: &mut Parts, lists: &ReadyLists, asked: &mut Asked, attend: Option<DescId>)
-    requires listed { IsListed parts.old lists.now }
+    requires hopes { HopesFor parts.old asked.old.hopes }
     requires reached { AreLookedAt parts.old lists.now attend }
     ensures marks { parts.new.parked
         ≡ marked_by (ready_key parts.old.tables parts.old.clock parts.old.interest) parts.old.clock
         parts.old.parked }
     ensures others { parts.new ≡ record parts.old { parked = parts.new.parked } }
+    ensures hopes { HopesFor parts.old asked.new.hopes }
 {
     unmarked_in_turn();
     asked.forget();
     mark_due(parts);
     mark_reached(parts, lists, asked);
-    mark_attended(parts, lists, asked, attend);
+    mark_attended(parts, asked, attend);
 }

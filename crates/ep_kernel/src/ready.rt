@@ -17,7 +17,7 @@ use crate::timers::{follow, make_room};
 use ep_alarms::Alarms;
 use ep_base::{Answer, CallerId, Errno, Event, Limits, Record};
 use ep_calls::{Kernel, Parts, Spare};
-use ep_law::laws::ends_are_apart;
+use ep_law::laws::{ends_are_apart, reportables_are_spread};
 use ep_order::{lists_go_on, unmarked_are_reached};
 use ep_ready::ReadyLists;
 use std::alloc::{AllocError, Global};
@@ -31,7 +31,7 @@ pub struct ReadyKernel {
     parts: Parts,
     lists: ReadyLists,
     alarms: Alarms,
-    // The answers of instances in the course of an event. Between two events they say nothing.
+    // The answers of instances in the course of an event, which say nothing between two events, and the hopes.
     asked: Asked,
     history: Vec<Record>,
 }
@@ -113,6 +113,7 @@ impl ReadyKernel {
         lists_go_on();
         ends_are_apart();
         unmarked_are_reached();
+        reportables_are_spread();
         know(&self.parts);
         self.lists.known();
         let resumed = resumed_at(&self.parts, caller, &event);
@@ -130,6 +131,7 @@ impl ReadyKernel {
         settle(
             &mut self.parts,
             &mut self.lists,
+            &mut self.asked,
             &mut self.alarms,
             step,
             raising,

@@ -1,14 +1,15 @@
-//! The end of an event, with the ready lists.
+//! The end of an event, with the ready lists and the hopes.
 ghost use Rattle.std.specs.Prelude.{◌≡◌, ◌<◌};
 ghost use Rattle.ep_alarms.specs.Alarms.{AreSet};
 ghost use Rattle.ep_calls.specs.Parts.{AreCoherent};
 ghost use Rattle.ep_calls.specs.Raising.{IsRaising};
 ghost use Rattle.ep_interest.specs.Registrations.{IsSound};
 ghost use Rattle.ep_kernel.specs.Listed.{HavePlaces};
-ghost use Rattle.ep_kernel.specs.Running.{Settled};
+ghost use Rattle.ep_kernel.specs.Running.{SettledBoth};
 ghost use Rattle.ep_kernel.specs.Timers.{AreSetSince};
 ghost use Rattle.ep_table.specs.Value.{Sound};
 
+use crate::asked::Asked;
 use crate::climb::climb;
 use crate::places::drop_dying;
 use crate::timers::raise;
@@ -27,11 +28,12 @@ pub fn know(parts: &Parts)
 }
 
 /// Notes what an event raised, takes the dead away with their places and moments, puts what passes something on at
-/// the end of its list, and lets what was raised climb. The lists have the instances that IN reached as reached
-/// afterwards. Marks are still to be set.
+/// the end of its list and among the hopes, and lets what was raised climb. The lists have the instances that IN
+/// reached as reached afterwards. Marks are still to be set.
 pub fn settle(
     parts: &mut Parts,
     lists: &mut ReadyLists,
+    asked: &mut Asked,
     alarms: &mut Alarms,
     step: u64,
     raising: Raising,
@@ -39,18 +41,20 @@ pub fn settle(
     requires step { 0 < step }
     requires raises { IsRaising raising parts.old.tables }
     requires places { HavePlaces parts.old.interest lists.old }
+    requires hopes { HavePlaces parts.old.interest asked.old.hopes }
     requires set { AreSetSince raising parts.old.tables parts.old.clock alarms.old }
-    ensures settled { Settled step raising parts.old lists.old parts.new lists.new }
+    ensures settled { SettledBoth step raising parts.old lists.old asked.old.hopes parts.new
+        lists.new asked.new.hopes }
     ensures set { AreSet parts.new.tables parts.new.clock alarms.new }
 {
     know(parts);
     raise(parts, alarms, step, raising);
     know(parts);
-    drop_dying(parts, lists);
+    drop_dying(parts, lists, &mut asked.hopes);
     burial_leaves_alarms();
     alarms.drop_dying(&parts.tables);
     parts.bury(step);
     know(parts);
-    climb(parts, lists, step);
+    climb(parts, lists, &mut asked.hopes, step);
     know(parts);
 }

@@ -4,9 +4,9 @@ ghost use Rattle.std.specs.List.{list_any};
 ghost use Rattle.ep_base.specs.declared.call.Event.TheVariants.{Call as CallOf, Resume};
 ghost use Rattle.ep_calls.specs.Kept.{IsKept};
 ghost use Rattle.ep_calls.specs.Wait.{wait_call};
-ghost use Rattle.ep_kernel.specs.Listed.{IsListed};
+ghost use Rattle.ep_kernel.specs.Listed.{HopesFor, IsListed};
 ghost use Rattle.ep_kernel.specs.Timers.{LeavesFiles};
-ghost use Rattle.ep_kernel.specs.Turns.{Turns};
+ghost use Rattle.ep_kernel.specs.Turns.{HopesGo, Turns};
 ghost use Rattle.ep_kernel.specs.Wait.{DoesCallFairly, DoesEventFairly, ReportsInOrder};
 ghost use Rattle.ep_machine.specs.Waits.{is_positive};
 ghost use Rattle.ep_machine.specs.Watches.{number_in};
@@ -43,6 +43,7 @@ pub fn epoll_wait(
 ) -> Result<Outcome, AllocError>
     requires free { list_any (is_caller caller.0) parts.old.parked ≡ false }
     requires listed { IsListed parts.old lists.old }
+    requires hopes { HopesFor parts.old asked.old.hopes }
     ensures ok { IfOk result
         (λ outcome. DoesCallFairly lists.old step caller.0 args.pid.0 (wait_call args) outcome
         parts.old parts.new) }
@@ -54,6 +55,7 @@ pub fn epoll_wait(
     ensures order { IfOk result
         (λ outcome. ReportsInOrder lists.old step caller.0 (CallOf args.pid (wait_call args))
         outcome parts.old parts.new lists.new) }
+    ensures hopes { HopesGo (CallOf args.pid (wait_call args)) parts.old parts.new asked.new.hopes }
     ensures err { OnErr result (parts.new ≡ parts.old) }
     ensures err_lists { OnErr result (lists.new ≡ lists.old) }
 {
@@ -82,7 +84,8 @@ pub fn resume(
     caller: CallerId,
     kept: bool,
 ) -> Result<Outcome, AllocError>
-    requires { IsListed parts.old lists.old }
+    requires listed { IsListed parts.old lists.old }
+    requires hopes { HopesFor parts.old asked.old.hopes }
     ensures ok { IfOk result
         (λ outcome. DoesEventFairly lists.old step caller.0 Resume outcome parts.old parts.new) }
     ensures leaves { IfOk result (λ outcome. LeavesFiles outcome.raising parts.old parts.new) }
@@ -92,6 +95,7 @@ pub fn resume(
     ensures order { IfOk result
         (λ outcome. ReportsInOrder lists.old step caller.0 Resume outcome parts.old parts.new
         lists.new) }
+    ensures hopes { HopesGo Resume parts.old parts.new asked.new.hopes }
     ensures err { OnErr result (parts.new ≡ parts.old) }
     ensures err_lists { OnErr result (lists.new ≡ lists.old) }
 {

@@ -9,6 +9,7 @@ use Rattle.ep_calls.specs.Does.{DoesEvent, DoesEventIf}
 use Rattle.ep_calls.specs.Parts.{Parts}
 use Rattle.ep_kernel.proofs.PickLemmas.{event_does_if}
 use Rattle.ep_kernel.proofs.ReportsFirstLemmas.{is_wait, other_reports, refused_reports}
+use Rattle.ep_kernel.proofs.HopesGoLemmas.{hopes_same, hopes_stay}
 use Rattle.ep_kernel.proofs.WaitTurnsLemmas.{refused_turns, same_turns}
 use Rattle.ep_base.specs.declared.call.Call.{Call}
 use Rattle.ep_base.specs.declared.ids.Pid.{Pid}
@@ -26,10 +27,10 @@ use Rattle.ep_machine.specs.State.{State}
 use Rattle.ep_park.specs.Waiters.{is_caller}
 
 pub returns-then-not-has_process-clause-turns : goal.returns-then-not-has_process-clause-turns
-returns-then-not-has_process-clause-turns c = refused_turns c.args.event.now c.refused.result.picked c.args.parts.now c.args.lists.now c.requires c.refused.ensures.picked
+returns-then-not-has_process-clause-turns c = refused_turns c.args.event.now c.refused.result.picked c.args.parts.now c.args.lists.now c.requires.listed c.refused.ensures.picked
 
 pub returns-then-is_parked-clause-turns : goal.returns-then-is_parked-clause-turns
-returns-then-is_parked-clause-turns c = refused_turns c.args.event.now c.refused-then-is_parked.result.picked c.args.parts.now c.args.lists.now c.requires c.refused-then-is_parked.ensures.picked
+returns-then-is_parked-clause-turns c = refused_turns c.args.event.now c.refused-then-is_parked.result.picked c.args.parts.now c.args.lists.now c.requires.listed c.refused-then-is_parked.ensures.picked
 
 pub returns-then-is_parked-clause-ok : goal.returns-then-is_parked-clause-ok
 returns-then-is_parked-clause-ok c =
@@ -68,7 +69,7 @@ returns-in-Tick-clause-turns c =
     let p = c.args.parts.now in
     let q = c.tick.new.self in
     let l = c.args.lists.now in
-    same_turns c.args.event.now c.tick.result.picked p q l c.requires (ap (λ (r : Parts). r.interest) c.tick.ensures.others) c.tick.ensures.picked
+    same_turns c.args.event.now c.tick.result.picked p q l c.requires.listed (ap (λ (r : Parts). r.interest) c.tick.ensures.others) c.tick.ensures.picked
     (subst (λ (event : Event). AlteredStand event p q l) (sym c.in-Tick.is) tt)
 
 pub returns-then-not-has_process-clause-order : goal.returns-then-not-has_process-clause-order
@@ -143,3 +144,17 @@ returns-in-Tick-clause-clock c =
     let p = c.args.parts.now in
     let now = c.tick.new.self.clock in
     subst (λ (event : Event). MovesClock event c.tick.result.raising p.clock now) (sym c.in-Tick.is) (tick_moves c.in-Tick.n p.clock now c.tick.result.answer c.tick.result.raising c.tick.ensures.ticks c.tick.ensures.raising)
+
+pub returns-then-not-has_process-clause-hopes : goal.returns-then-not-has_process-clause-hopes
+returns-then-not-has_process-clause-hopes c = hopes_stay c.args.event.now c.args.parts.now c.args.parts.now c.args.asked.now.hopes refl c.requires.hopes
+
+pub returns-then-is_parked-clause-hopes : goal.returns-then-is_parked-clause-hopes
+returns-then-is_parked-clause-hopes c = hopes_stay c.args.event.now c.args.parts.now c.args.parts.now c.args.asked.now.hopes refl c.requires.hopes
+
+pub returns-in-Tick-clause-hopes : goal.returns-in-Tick-clause-hopes
+returns-in-Tick-clause-hopes c =
+    let p = c.args.parts.now in
+    let q = c.tick.new.self in
+    let h = c.args.asked.now.hopes in
+    hopes_same c.args.event.now p q h c.requires.hopes (ap (λ (r : Parts). r.interest) c.tick.ensures.others)
+    (subst (λ (event : Event). AlteredStand event p q h) (sym c.in-Tick.is) tt)

@@ -12,6 +12,7 @@ use Rattle.ep_calls.specs.ObjectCall.{fd_of}
 use Rattle.ep_calls.specs.TableCall.{IsTableCall}
 use Rattle.ep_kernel.proofs.PickLemmas.{call_does_if}
 use Rattle.ep_kernel.proofs.ReportsFirstLemmas.{is_wait, object_waits, other_reports, table_waits}
+use Rattle.ep_kernel.proofs.HopesGoLemmas.{hopes_same}
 use Rattle.ep_kernel.proofs.WaitTurnsLemmas.{object_altered, same_lists, same_turns, table_altered}
 use Rattle.ep_kernel.proofs.TimersLemmas.{as_object, as_table}
 use Rattle.ep_kernel.specs.Timers.{CallsTables}
@@ -34,6 +35,7 @@ returns-in_default c =
       clock = c.table_call.ensures.clock;
       turns = IfOk-weaker c.table_call.result _ _ (λ outcome none. same_turns (CallOf c.args.pid call) outcome.picked p c.table_call.new.self l c.requires.listed c.table_call.ensures.interest none (table_altered c.args.pid call p c.table_call.new.self l on_tables)) c.table_call.ensures.picked;
       order = IfOk-weaker c.table_call.result _ _ (λ outcome none. other_reports l c.args.request.step c.args.request.caller.0 (CallOf c.args.pid call) outcome p c.table_call.new.self l (table_waits c.args.pid call on_tables)) c.table_call.ensures.picked;
+      hopes = hopes_same (CallOf c.args.pid call) p c.table_call.new.self c.args.asked.now.hopes c.requires.hopes c.table_call.ensures.interest (table_altered c.args.pid call p c.table_call.new.self c.args.asked.now.hopes on_tables);
       spared = λ h. c.table_call.ensures.frees (table_call_frees p.tables.files c.args.pid.0 call on_tables h);
       err = on_err_weaker c.table_call.result (λ same. (same, same_lists l)) c.table_call.ensures.err;
     }
@@ -115,3 +117,11 @@ returns-in-EpollWait-clause-tables c =
 
 pub returns-in-EpollWait-clause-clock : goal.returns-in-EpollWait-clause-clock
 returns-in-EpollWait-clause-clock c = IfOk-weaker c.epoll_wait.result _ _ (λ outcome leaves. leaves.clock) c.epoll_wait.ensures.leaves
+
+pub returns-in-Read-clause-hopes : goal.returns-in-Read-clause-hopes
+returns-in-Read-clause-hopes c =
+    let p = c.args.parts.now in
+    let q = c.object_call.new.self in
+    let h = c.args.asked.now.hopes in
+    let on_object : IsSome (fd_of c.args.call.now) = search rules in
+    hopes_same (CallOf c.args.pid c.args.call.now) p q h c.requires.hopes c.object_call.ensures.interest (object_altered c.args.pid c.args.call.now p q h on_object)

@@ -1,9 +1,8 @@
 use Rattle.std.proofs.Common.{◌≡◌, ◌+◌, ◌<◌, ◌∙◌, List, arith, length, rules, subst, sym, true}
 use Rattle.ep_base.specs.declared.ids.EntryId.{EntryId}
 use Rattle.ep_calls.specs.declared.wait.Reportable.{Reportable}
-use Rattle.ep_calls.specs.Parking.{ready_key}
 use Rattle.ep_kernel.specs.Listed.{key_shows}
-use Rattle.ep_kernel.proofs.AskedLemmas.{true_forgotten}
+use Rattle.ep_kernel.proofs.AskedLemmas.{knows_forgotten}
 use Rattle.ep_kernel.proofs.ChooseLemmas.{Finds, finds_more, finds_none, finds_same, walked_less}
 use Rattle.ep_kernel.proofs.choose.choose.Goals as goal
 use Rattle.ep_ready.specs.ReadyLists.{list_at}
@@ -16,7 +15,7 @@ loop-id-init c =
       finds =
           subst (λ (rest : List EntryId). Finds p keys c.args.most c.new-reportables.result.items 0 rest) (sym (c.into_iter-id-iterator.ensures.into_iter_gives ∙ c.iter-id-items.ensures.exact))
           (finds_none p keys c.args.most c.new-reportables.result.items c.new-reportables.ensures.items);
-      told = true_forgotten (ready_key p.tables p.clock p.interest) c.forget.new.self c.forget.ensures.ready c.forget.ensures.idle;
+      knows = knows_forgotten p c.args.asked.now.hopes c.forget.new.self c.requires c.forget.ensures.hopes c.forget.ensures.ready c.forget.ensures.idle;
     }
 
 pub overflow_add-walked : goal.overflow_add-walked
@@ -41,7 +40,7 @@ loop-id-preserved-in-Continue-1 c =
       finds =
           subst (λ (xs : List Reportable). Finds p keys most xs (n + 1) c.next.new.self) (sym c.in_ok-push.ensures.items)
           (finds_more p keys most found n c.in-Some.id c.next.new.self c.in-Some-reportable_at.x f c.in-Some-reportable_at.ensures.id shows c.in-Some-reportable_at.ensures.keyed room);
-      told = c.reportable_at.ensures.told;
+      knows = c.reportable_at.ensures.knows;
     }
 
 pub loop-id-preserved : goal.loop-id-preserved
@@ -52,4 +51,4 @@ loop-id-preserved c =
     let found = c.loop-id.reportables.items in
     let n = c.loop-id.walked in
     let f = subst (λ (rest : List EntryId). Finds p keys most found n rest) c.in-Some.ensures.steps c.loop-id.invariant.finds in
-    record { finds = finds_same p keys most found n c.in-Some.id c.next.new.self f (search rules); told = c.reportable_at.ensures.told }
+    record { finds = finds_same p keys most found n c.in-Some.id c.next.new.self f (search rules); knows = c.reportable_at.ensures.knows }

@@ -1,4 +1,4 @@
-use Rattle.std.proofs.Common.{◌∙◌, ap, subst, sym}
+use Rattle.std.proofs.Common.{◌∙◌, ap, refl, subst, sym}
 use Rattle.ep_calls.specs.Climb.{Climbs}
 use Rattle.ep_calls.specs.Parts.{Parts}
 use Rattle.ep_kernel.proofs.ComesLemmas.{live_of}
@@ -13,6 +13,9 @@ pub push-requires-clause-places : goal.push-requires-clause-places
 push-requires-clause-places c =
     subst (λ (q : Parts). HavePlaces q.interest c.reach.new.lists) (sym c.reach.ensures.parts) (λ id. ap (λ (l : Lists). instance_at l id) c.reach.ensures.others ∙ c.requires.places id)
 
+pub push-requires-clause-hopes : goal.push-requires-clause-hopes
+push-requires-clause-hopes c = subst (λ (q : Parts). HavePlaces q.interest c.args.hopes.now) (sym c.reach.ensures.parts) c.requires.hopes
+
 pub push-requires-clause-live : goal.push-requires-clause-live
 push-requires-clause-live c =
     let p = c.args.parts.now in
@@ -22,7 +25,7 @@ pub freshen-requires : goal.freshen-requires
 freshen-requires c =
     let n = c.args.step in
     let exact = subst (λ (q : Parts). AreReached n q.tables q.interest c.reach.new.lists.reached) (sym c.reach.ensures.parts) c.reach.ensures.reached in
-    let gains = c.push.ensures n exact in
+    let gains = c.push.ensures.gains n exact in
     (n, subst (AreReached n c.reach.new.parts.tables c.reach.new.parts.interest) (sym gains.reached) exact)
 
 pub returns-clause-gains : goal.returns-clause-gains
@@ -30,20 +33,28 @@ returns-clause-gains c =
     let n = c.args.step in
     let exact = subst (λ (q : Parts). AreReached n q.tables q.interest c.reach.new.lists.reached) (sym c.reach.ensures.parts) c.reach.ensures.reached in
     appends (comes_in n c.args.parts.now) c.args.lists.now c.reach.new.lists c.push.new.lists c.reach.ensures.others
-    (subst (λ (q : Parts). Gains (comes_in n q) c.reach.new.lists c.push.new.lists) c.reach.ensures.parts (c.push.ensures n exact))
+    (subst (λ (q : Parts). Gains (comes_in n q) c.reach.new.lists c.push.new.lists) c.reach.ensures.parts (c.push.ensures.gains n exact))
+
+pub returns-clause-hopes : goal.returns-clause-hopes
+returns-clause-hopes c =
+    let n = c.args.step in
+    let h = c.args.hopes.now in
+    let exact = subst (λ (q : Parts). AreReached n q.tables q.interest c.reach.new.lists.reached) (sym c.reach.ensures.parts) c.reach.ensures.reached in
+    appends (comes_in n c.args.parts.now) h h c.push.new.hopes refl
+    (subst (λ (q : Parts). Gains (comes_in n q) h c.push.new.hopes) c.reach.ensures.parts (c.push.ensures.hopes n exact))
 
 pub returns-clause-reached : goal.returns-clause-reached
 returns-clause-reached c =
     let n = c.args.step in
     let p = c.args.parts.now in
     let exact = subst (λ (q : Parts). AreReached n q.tables q.interest c.reach.new.lists.reached) (sym c.reach.ensures.parts) c.reach.ensures.reached in
-    subst (AreReached n p.tables p.interest) (sym (c.push.ensures n exact).reached) c.reach.ensures.reached
+    subst (AreReached n p.tables p.interest) (sym (c.push.ensures.gains n exact).reached) c.reach.ensures.reached
 
 pub returns-clause-climbs : goal.returns-clause-climbs
 returns-clause-climbs c =
     let n = c.args.step in
     let exact = subst (λ (q : Parts). AreReached n q.tables q.interest c.reach.new.lists.reached) (sym c.reach.ensures.parts) c.reach.ensures.reached in
-    let gains = c.push.ensures n exact in
+    let gains = c.push.ensures.gains n exact in
     subst (λ (q : Parts). Climbs n q.tables q.interest c.freshen.new.parts.interest) c.reach.ensures.parts
     (c.freshen.ensures.climbs n (subst (AreReached n c.reach.new.parts.tables c.reach.new.parts.interest) (sym gains.reached) exact))
 

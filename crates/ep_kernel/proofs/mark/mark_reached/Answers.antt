@@ -1,9 +1,9 @@
 use Rattle.std.proofs.Common.{◌<◌, arith, length}
-use Rattle.ep_kernel.proofs.MarkLemmas.{true_marked, true_unmarked, turns_on}
+use Rattle.ep_kernel.proofs.MarkLemmas.{knows_marked, knows_unmarked, turns_on}
 use Rattle.ep_kernel.proofs.mark.mark_reached.Goals as goal
 
-pub mark_at-requires-clause-told : goal.mark_at-requires-clause-told
-mark_at-requires-clause-told c = true_marked c.args.parts.now c.loop-index.parts _ c.loop-index.asked c.loop-index.invariant.turns.is c.loop-index.invariant.told
+pub mark_at-requires : goal.mark_at-requires
+mark_at-requires c = knows_marked c.args.parts.now c.loop-index.parts _ c.loop-index.asked c.loop-index.invariant.turns.is c.loop-index.invariant.knows
 
 pub loop-index-preserved : goal.loop-index-preserved
 loop-index-preserved c =
@@ -11,5 +11,5 @@ loop-index-preserved c =
     let within : c.loop-index.index < length ks = omega (arith, c.reached_count-index-end.ensures) in
     record {
       turns = turns_on c.args.parts.now ks c.loop-index.index c.reached_at.result.0 c.loop-index.parts c.mark_at.new.parts c.loop-index.invariant.turns within c.reached_at.ensures c.mark_at.ensures.marks;
-      told = true_unmarked c.args.parts.now c.loop-index.parts _ c.mark_at.new.asked c.loop-index.invariant.turns.is c.mark_at.ensures.told;
+      knows = knows_unmarked c.args.parts.now c.loop-index.parts _ c.mark_at.new.asked c.loop-index.invariant.turns.is c.mark_at.ensures.knows;
     }

@@ -6,4 +6,7 @@ use Rattle.ep_kernel.proofs.push.push_passing.Given as goal
 use Rattle.ep_ready.specs.ReadyLists.{entry_id}
 
 abbrev pub invariant-loop-id : goal.invariant-loop-id
-invariant-loop-id l = Gains (λ k. has_id (take l.id-index l.id-items) k && passes_found (entry_under l.interest (entry_id k))) l.fn.lists l.lists
+invariant-loop-id l = record {
+  gains : Gains (λ k. has_id (take l.id-index l.id-items) k && passes_found (entry_under l.interest (entry_id k))) l.fn.lists l.lists;
+  hopes : Gains (λ k. has_id (take l.id-index l.id-items) k && passes_found (entry_under l.interest (entry_id k))) l.fn.hopes l.hopes;
+}

@@ -5,4 +5,7 @@ use Rattle.ep_kernel.proofs.push.push_watchers.Given as goal
 use Rattle.ep_ready.specs.ReadyLists.{entry_id}
 
 abbrev pub invariant-loop-id : goal.invariant-loop-id
-invariant-loop-id l = GainsOver (λ k. lets_in (entry_under l.interest (entry_id k))) (ids l.interest (filter (is_on l.fn.desc) l.interest.entries)) l.id-iterator l.fn.lists l.lists
+invariant-loop-id l = record {
+  gains : GainsOver (λ k. lets_in (entry_under l.interest (entry_id k))) (ids l.interest (filter (is_on l.fn.desc) l.interest.entries)) l.id-iterator l.fn.lists l.lists;
+  hopes : GainsOver (λ k. lets_in (entry_under l.interest (entry_id k))) (ids l.interest (filter (is_on l.fn.desc) l.interest.entries)) l.id-iterator l.fn.hopes l.hopes;
+}

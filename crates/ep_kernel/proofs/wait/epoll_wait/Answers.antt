@@ -7,7 +7,8 @@ use Rattle.ep_calls.specs.Wait.{IsPick, Waits, wait_call}
 use Rattle.ep_interest.specs.Registrations.{IsSound}
 use Rattle.ep_kernel.proofs.PickLemmas.{does_from, found_is_pick, same_found}
 use Rattle.ep_kernel.proofs.ReportsFirstLemmas.{first_reported, refused_reports, waits_at_named}
-use Rattle.ep_kernel.proofs.WaitTurnsLemmas.{refused_turns, wait_turns}
+use Rattle.ep_kernel.proofs.HopesGoLemmas.{hopes_kept, hopes_stay}
+use Rattle.ep_kernel.proofs.WaitTurnsLemmas.{places_reported, refused_turns, wait_turns}
 use Rattle.ep_kernel.proofs.wait.epoll_wait.Goals as goal
 use Rattle.ep_kernel.specs.Listed.{AreFair}
 use Rattle.ep_kernel.specs.Take.{SetsList, key_stays, taken}
@@ -29,7 +30,7 @@ returns-clause-ok c =
     let walked = c.in_ok-found.found.walked in
     let chosen = c.deref.result.now in
     let fits : SFits w32 x.max = search rules in
-    let finds = same_found p (list_at l i.0) c.most.result (number_in x.max) walked c.in_ok-found.found.reportables.items chosen c.in_ok-found.ensures (c.most.ensures ∙ ap number_in (to_z-of_z w32 x.max fits)) c.deref.ensures.value in
+    let finds = same_found p (list_at l i.0) c.most.result (number_in x.max) walked c.in_ok-found.found.reportables.items chosen c.in_ok-found.ensures.found (c.most.ensures ∙ ap number_in (to_z-of_z w32 x.max fits)) c.deref.ensures.value in
     let sound = subst (λ (q : Parts). IsSound q.interest) c.parts.view_is c.known-2.ensures in
     let lives = subst (λ (q : Parts). IsSome (number_under q.tables i)) c.parts.view_is c.in-Ok.ensures.lives in
     does_from (λ s. AreFair s p l) (IsPick p.tables i (number_in x.max) chosen) c.args.step (λ s. call_refusals p.tables.limits s x.pid.0 (wait_call x)) (λ s picked. call_change p.tables.limits s c.args.caller.0 x.pid.0 (wait_call x) picked) c.in_ok-outcome.outcome p c.wait_with.new.self
@@ -49,7 +50,7 @@ returns-clause-turns c =
       listed = c.requires.listed;
       sound = subst (λ (r : Parts). IsSound r.interest) c.parts.view_is c.known-2.ensures;
       lists = c.known-3.ensures;
-      finds = same_found p (list_at l i.0) c.most.result c.most.result walked c.in_ok-found.found.reportables.items chosen c.in_ok-found.ensures refl c.deref.ensures.value;
+      finds = same_found p (list_at l i.0) c.most.result c.most.result walked c.in_ok-found.found.reportables.items chosen c.in_ok-found.ensures.found refl c.deref.ensures.value;
       picks = c.in_ok-outcome.ensures.picked;
       keys = c.in_ok-outcome.ensures.ids;
       entries = c.in_ok-outcome.ensures.entries;
@@ -69,7 +70,7 @@ returns-clause-order c =
     let walked = c.in_ok-found.found.walked in
     let chosen = c.deref.result.now in
     let fits : SFits w32 x.max = search rules in
-    let finds = same_found p (list_at l i.0) c.most.result (number_in x.max) walked c.in_ok-found.found.reportables.items chosen c.in_ok-found.ensures (c.most.ensures ∙ ap number_in (to_z-of_z w32 x.max fits)) c.deref.ensures.value in
+    let finds = same_found p (list_at l i.0) c.most.result (number_in x.max) walked c.in_ok-found.found.reportables.items chosen c.in_ok-found.ensures.found (c.most.ensures ∙ ap number_in (to_z-of_z w32 x.max fits)) c.deref.ensures.value in
     let sound = subst (λ (q : Parts). IsSound q.interest) c.parts.view_is c.known-2.ensures in
     let waits = subst (λ (q : Parts). Waits q.tables x i) c.parts.view_is c.in-Ok.ensures in
     first_reported l c.args.step c.args.caller.0 (CallOf x.pid (wait_call x)) c.in_ok-outcome.outcome p i (number_in x.max) walked chosen c.known.ensures.coherent c.known.ensures.sound sound c.known-3.ensures c.requires.listed waits.lives finds c.in_ok-outcome.ensures.picked
@@ -81,3 +82,19 @@ returns-in-Err-clause-leaves c = nowhere_leaves c.refused.result.raising c.args.
 
 pub returns-clause-leaves : goal.returns-clause-leaves
 returns-clause-leaves c = record { files = c.wait_with.ensures.files; clock = c.in_ok-outcome.ensures.clock }
+
+pub returns-in-Err-clause-hopes : goal.returns-in-Err-clause-hopes
+returns-in-Err-clause-hopes c = hopes_stay (CallOf c.args.args.pid (wait_call c.args.args)) c.args.parts.now c.args.parts.now c.args.asked.now.hopes refl c.requires.hopes
+
+pub returns-in_err-found-clause-hopes : goal.returns-in_err-found-clause-hopes
+returns-in_err-found-clause-hopes c = hopes_stay (CallOf c.args.args.pid (wait_call c.args.args)) c.args.parts.now c.args.parts.now c.choose.new.asked.hopes refl c.choose.ensures.hopes
+
+pub returns-in_err-outcome-clause-hopes : goal.returns-in_err-outcome-clause-hopes
+returns-in_err-outcome-clause-hopes c = hopes_stay (CallOf c.args.args.pid (wait_call c.args.args)) c.args.parts.now c.wait_with.new.self c.choose.new.asked.hopes c.in_err-outcome.ensures.err c.choose.ensures.hopes
+
+pub returns-clause-hopes : goal.returns-clause-hopes
+returns-clause-hopes c =
+    let p = c.args.parts.now in
+    let q = c.wait_with.new.self in
+    let h = c.choose.new.asked.hopes in
+    hopes_kept (CallOf c.args.args.pid (wait_call c.args.args)) p q h c.choose.ensures.hopes (places_reported p q h c.args.step c.in_ok-outcome.outcome.picked c.in_ok-outcome.ensures.ids c.in_ok-outcome.ensures.entries c.choose.ensures.hopes.places) tt

@@ -14,7 +14,8 @@ use Rattle.ep_calls.specs.Wait.{IsPick}
 use Rattle.ep_interest.specs.Registrations.{IsSound}
 use Rattle.ep_kernel.proofs.PickLemmas.{does_from, found_is_pick, same_found}
 use Rattle.ep_kernel.proofs.ReportsFirstLemmas.{first_reported, refused_reports, still_reports, waits_at_parked}
-use Rattle.ep_kernel.proofs.WaitTurnsLemmas.{refused_turns, wait_turns}
+use Rattle.ep_kernel.proofs.HopesGoLemmas.{hopes_kept, hopes_stay}
+use Rattle.ep_kernel.proofs.WaitTurnsLemmas.{places_reported, refused_turns, wait_turns}
 use Rattle.ep_kernel.proofs.wait.resume.Goals as goal
 use Rattle.ep_kernel.specs.Listed.{AreFair}
 use Rattle.ep_kernel.specs.Take.{SetsList, key_stays, taken}
@@ -27,10 +28,10 @@ use Rattle.ep_park.specs.Waiters.{is_caller, parked}
 use Rattle.ep_ready.specs.ReadyLists.{list_at}
 
 pub returns-in_default-clause-turns : goal.returns-in_default-clause-turns
-returns-in_default-clause-turns c = refused_turns Resume c.refused.result.picked c.args.parts.now c.args.lists.now c.requires c.refused.ensures.picked
+returns-in_default-clause-turns c = refused_turns Resume c.refused.result.picked c.args.parts.now c.args.lists.now c.requires.listed c.refused.ensures.picked
 
 pub returns-then-not-waiter-clause-turns : goal.returns-then-not-waiter-clause-turns
-returns-then-not-waiter-clause-turns c = refused_turns Resume c.settled.result.picked c.args.parts.now c.args.lists.now c.requires c.settled.ensures.picked
+returns-then-not-waiter-clause-turns c = refused_turns Resume c.settled.result.picked c.args.parts.now c.args.lists.now c.requires.listed c.settled.ensures.picked
 
 pub returns-in_default-clause-ok : goal.returns-in_default-clause-ok
 returns-in_default-clause-ok c =
@@ -73,12 +74,12 @@ returns-clause-ok c =
     let walked = c.in_ok-found.found.walked in
     let chosen = c.deref.result.now in
     let fits : SFits w32 w.max = search rules in
-    let finds = same_found p (list_at l i.0) c.most.result (number_in w.max) walked c.in_ok-found.found.reportables.items chosen c.in_ok-found.ensures (c.most.ensures ∙ ap number_in (to_z-of_z w32 w.max fits)) c.deref.ensures.value in
+    let finds = same_found p (list_at l i.0) c.most.result (number_in w.max) walked c.in_ok-found.found.reportables.items chosen c.in_ok-found.ensures.found (c.most.ensures ∙ ap number_in (to_z-of_z w32 w.max fits)) c.deref.ensures.value in
     let sound = subst (λ (q : Parts). IsSound q.interest) c.parts.view_is c.known-2.ensures in
     let lives = subst (λ (q : Parts). IsPlaced q.tables.keys (parked caller w)) c.parts.view_is
     (found_all (IsPlaced k.tables.keys) caller k.waiters (parked caller w) (sym c.in-Some.ensures) c.parts.invariant.placed) in
     does_from (λ s. AreFair s p l) (IsPick p.tables i (number_in w.max) chosen) c.args.step (λ s. refusals p.tables.limits s caller Resume) (λ s picked. change p.tables.limits s caller Resume picked) c.in_ok-outcome.outcome p c.resume_with.new.self
-    c.in_ok-outcome.ensures.ok (found_is_pick p l i (number_in w.max) walked chosen c.args.step c.known.ensures.coherent c.known.ensures.sound sound c.known-3.ensures c.requires lives.instance finds)
+    c.in_ok-outcome.ensures.ok (found_is_pick p l i (number_in w.max) walked chosen c.args.step c.known.ensures.coherent c.known.ensures.sound sound c.known-3.ensures c.requires.listed lives.instance finds)
 
 pub returns-clause-turns : goal.returns-clause-turns
 returns-clause-turns c =
@@ -90,10 +91,10 @@ returns-clause-turns c =
     let walked = c.in_ok-found.found.walked in
     let chosen = c.deref.result.now in
     wait_turns p q l m i.0 c.args.step c.most.result walked chosen c.in_ok-outcome.outcome.picked (record {
-      listed = c.requires;
+      listed = c.requires.listed;
       sound = subst (λ (r : Parts). IsSound r.interest) c.parts.view_is c.known-2.ensures;
       lists = c.known-3.ensures;
-      finds = same_found p (list_at l i.0) c.most.result c.most.result walked c.in_ok-found.found.reportables.items chosen c.in_ok-found.ensures refl c.deref.ensures.value;
+      finds = same_found p (list_at l i.0) c.most.result c.most.result walked c.in_ok-found.found.reportables.items chosen c.in_ok-found.ensures.found refl c.deref.ensures.value;
       picks = c.in_ok-outcome.ensures.picked;
       keys = c.in_ok-outcome.ensures.ids;
       entries = c.in_ok-outcome.ensures.entries;
@@ -117,12 +118,12 @@ returns-clause-order c =
     let walked = c.in_ok-found.found.walked in
     let chosen = c.deref.result.now in
     let fits : SFits w32 w.max = search rules in
-    let finds = same_found p (list_at l i.0) c.most.result (number_in w.max) walked c.in_ok-found.found.reportables.items chosen c.in_ok-found.ensures (c.most.ensures ∙ ap number_in (to_z-of_z w32 w.max fits)) c.deref.ensures.value in
+    let finds = same_found p (list_at l i.0) c.most.result (number_in w.max) walked c.in_ok-found.found.reportables.items chosen c.in_ok-found.ensures.found (c.most.ensures ∙ ap number_in (to_z-of_z w32 w.max fits)) c.deref.ensures.value in
     let sound = subst (λ (q : Parts). IsSound q.interest) c.parts.view_is c.known-2.ensures in
     let lives = subst (λ (q : Parts). IsPlaced q.tables.keys (parked caller w)) c.parts.view_is
     (found_all (IsPlaced k.tables.keys) caller k.waiters (parked caller w) (sym c.in-Some.ensures) c.parts.invariant.placed) in
     let waits = subst (λ (q : Parts). find (is_caller caller) q.parked ≡ Some (parked caller w)) c.parts.view_is (sym c.in-Some.ensures) in
-    first_reported l c.args.step caller Resume c.in_ok-outcome.outcome p i (number_in w.max) walked chosen c.known.ensures.coherent c.known.ensures.sound sound c.known-3.ensures c.requires lives.instance finds c.in_ok-outcome.ensures.picked
+    first_reported l c.args.step caller Resume c.in_ok-outcome.outcome p i (number_in w.max) walked chosen c.known.ensures.coherent c.known.ensures.sound sound c.known-3.ensures c.requires.listed lives.instance finds c.in_ok-outcome.ensures.picked
     (waits_at_parked p caller w waits) c.resume_with.new.self c.take.new.lists
     (subst (λ (r : Parts). SetsList l c.take.new.lists i.0 (taken (key_stays c.args.step r.interest) walked (list_at l i.0))) c.parts-2.view_is c.take.ensures)
 
@@ -134,3 +135,22 @@ returns-then-not-waiter-clause-leaves c = nowhere_leaves c.settled.result.raisin
 
 pub returns-clause-leaves : goal.returns-clause-leaves
 returns-clause-leaves c = record { files = c.resume_with.ensures.files; clock = c.in_ok-outcome.ensures.clock }
+
+pub returns-in_default-clause-hopes : goal.returns-in_default-clause-hopes
+returns-in_default-clause-hopes c = hopes_stay Resume c.args.parts.now c.args.parts.now c.args.asked.now.hopes refl c.requires.hopes
+
+pub returns-then-not-waiter-clause-hopes : goal.returns-then-not-waiter-clause-hopes
+returns-then-not-waiter-clause-hopes c = hopes_stay Resume c.args.parts.now c.args.parts.now c.args.asked.now.hopes refl c.requires.hopes
+
+pub returns-in_err-found-clause-hopes : goal.returns-in_err-found-clause-hopes
+returns-in_err-found-clause-hopes c = hopes_stay Resume c.args.parts.now c.args.parts.now c.choose.new.asked.hopes refl c.choose.ensures.hopes
+
+pub returns-in_err-outcome-clause-hopes : goal.returns-in_err-outcome-clause-hopes
+returns-in_err-outcome-clause-hopes c = hopes_stay Resume c.args.parts.now c.resume_with.new.self c.choose.new.asked.hopes c.in_err-outcome.ensures.err c.choose.ensures.hopes
+
+pub returns-clause-hopes : goal.returns-clause-hopes
+returns-clause-hopes c =
+    let p = c.args.parts.now in
+    let q = c.resume_with.new.self in
+    let h = c.choose.new.asked.hopes in
+    hopes_kept Resume p q h c.choose.ensures.hopes (places_reported p q h c.args.step c.in_ok-outcome.outcome.picked c.in_ok-outcome.ensures.ids c.in_ok-outcome.ensures.entries c.choose.ensures.hopes.places) tt

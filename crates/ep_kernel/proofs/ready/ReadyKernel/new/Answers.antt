@@ -2,7 +2,7 @@ use Rattle.std.proofs.Common.{List, subst, sym}
 use Rattle.ep_base.specs.declared.record.Record.{Record}
 use Rattle.ep_kernel.specs.Running.{Runs}
 use Rattle.ep_kernel.proofs.ReadyBookLemmas.{no_lists}
-use Rattle.ep_kernel.proofs.RunLemmas.{runs_opening}
+use Rattle.ep_kernel.proofs.RunLemmas.{hopes_opening, runs_opening}
 use Rattle.ep_kernel.proofs.TimersLemmas.{set_opening}
 use Rattle.ep_kernel.proofs.ready.ReadyKernel.new.Goals as goal
 
@@ -12,6 +12,7 @@ invariant_of-result c =
     record {
       runs = subst (λ (rs : List Record). Runs rs p c.new-2.result) (sym c.new-5.ensures.items) (runs_opening c.args.limits p c.new-2.result c.in_ok-new.ensures c.new-2.ensures);
       set = set_opening c.args.limits p c.new-3.result c.in_ok-new.ensures c.new-3.ensures;
+      hopes = hopes_opening c.args.limits p c.new-4.result.hopes c.in_ok-new.ensures c.new-4.ensures.hopes;
     }
 
 -- no list is there yet

@@ -13,10 +13,13 @@ use Rattle.ep_calls.specs.Parts.{Parts}
 use Rattle.ep_calls.proofs.KeepsLemmas.{record_of}
 use Rattle.ep_calls.proofs.KeptLemmas.{inline_event}
 use Rattle.ep_kernel.proofs.ReadyBookLemmas.{same_lists}
-use Rattle.ep_kernel.specs.Listed.{lists_of}
+use Rattle.ep_kernel.specs.Listed.{HopesFor, lists_of}
 use Rattle.ep_kernel.specs.Mark.{AreLookedAt, attends}
 use Rattle.ep_kernel.specs.Running.{Ends, Runs, book_of}
-use Rattle.ep_kernel.proofs.AreLookedAtLemmas.{are_looked_at, listed_climbed}
+use Rattle.ep_kernel.proofs.AreLookedAtLemmas.{are_looked_at}
+use Rattle.ep_kernel.proofs.HopesForLemmas.{hopes_climbed}
+use Rattle.ep_kernel.proofs.HopesGoLemmas.{hopes_again}
+use Rattle.ep_kernel.proofs.MarkLemmas.{hopes_marked}
 use Rattle.ep_kernel.proofs.RunLemmas.{added_on, adds_on, does_fairly, few_on, first_on, runs_on, runs_same}
 use Rattle.ep_kernel.proofs.SettledLemmas.{ends_of}
 use Rattle.ep_kernel.proofs.TimersLemmas.{set_same}
@@ -33,6 +36,7 @@ invariant_of-self-in_err-outcome c =
     record {
       runs = subst (λ (rs : List Record). Runs rs c.act.new.parts c.act.new.lists) (sym c.reserve.ensures.items) runs;
       set = subst (λ (p : Parts). AreSet p.tables p.clock c.make_room.new.alarms) (sym same.0) set;
+      hopes = hopes_again c.args.event k.parts c.act.new.parts c.act.new.asked.hopes same.0 c.act.ensures.hopes;
     }
 
 -- what holds holds of an error
@@ -57,15 +61,15 @@ into_record-answer-requires c asked none =
     let does = does_fairly k.history.items k.parts c.act.new.parts k.lists c.self.invariant.runs (c.len.result + 1) c.args.caller.0 c.args.event o n c.in_ok-outcome.ensures.ok in
     inline_event k.parts.tables.limits (next_event c.self.invariant.runs.keeps.state) c.args.caller.0 o c.args.kept asked none c.args.event c.act.new.parts does.goes c.in_ok-outcome.ensures.kept
 
--- where marks are set the lists fit, and no other instance has a caller to mark
+-- where marks are set the hopes fit, and no other instance has a caller to mark
 at_step : (c : After-attend-attended) → c.len.result + 1 ≡ length c.self.inside.history.items + 1
 at_step c = omega (arith, c.len.ensures, c.reserve.ensures.len)
 
-pub mark-requires-clause-listed : goal.mark-requires-clause-listed
-mark-requires-clause-listed c =
+pub mark-requires-clause-hopes : goal.mark-requires-clause-hopes
+mark-requires-clause-hopes c =
     let k = c.self.inside in
-    listed_climbed c.lists_go_on.ensures.law c.unmarked_are_reached.ensures.law k.history.items k.parts c.act.new.parts c.settle.new.parts k.lists c.act.new.lists c.settle.new.lists c.self.invariant.runs c.know.ensures.coherent c.know.ensures.tables c.know.ensures.interest c.known.ensures c.known-2.ensures
-    c.args.caller c.args.event c.in_ok-outcome.outcome (c.len.result + 1) (at_step (goal.at.mark-requires-clause-listed c).After-attend-attended) c.in_ok-outcome.ensures.ok c.in_ok-outcome.ensures.turns c.settle.ensures.settled
+    hopes_climbed c.lists_go_on.ensures.law c.reportables_are_spread.ensures.law k.history.items k.parts c.act.new.parts c.settle.new.parts k.lists c.act.new.lists c.settle.new.lists c.self.invariant.runs c.know.ensures.coherent c.know.ensures.tables c.know.ensures.interest c.known.ensures c.known-2.ensures
+    c.args.caller c.args.event c.in_ok-outcome.outcome (c.len.result + 1) (at_step (goal.at.mark-requires-clause-hopes c).After-attend-attended) c.in_ok-outcome.ensures.ok c.in_ok-outcome.ensures.turns c.act.new.asked.hopes c.settle.new.asked.hopes c.act.ensures.hopes c.settle.ensures.settled
 
 pub mark-requires-clause-reached : goal.mark-requires-clause-reached
 mark-requires-clause-reached c =
@@ -73,7 +77,10 @@ mark-requires-clause-reached c =
     let raising = c.in_ok-outcome.outcome.raising in
     subst (AreLookedAt c.settle.new.parts c.settle.new.lists) (sym (c.attend-attended.ensures ∙ ap (λ (o : Option DescId). attends o raising) c.resumed_at-resumed.ensures))
     (are_looked_at c.lists_go_on.ensures.law c.unmarked_are_reached.ensures.law k.history.items k.parts c.act.new.parts c.settle.new.parts k.lists c.act.new.lists c.settle.new.lists c.self.invariant.runs c.know.ensures.coherent c.know.ensures.tables c.know.ensures.interest c.known.ensures c.known-2.ensures
-    c.args.caller c.args.event c.in_ok-outcome.outcome (c.len.result + 1) (at_step (goal.at.mark-requires-clause-reached c).After-attend-attended) c.in_ok-outcome.ensures.ok c.in_ok-outcome.ensures.turns c.settle.ensures.settled)
+    c.args.caller c.args.event c.in_ok-outcome.outcome (c.len.result + 1) (at_step (goal.at.mark-requires-clause-reached c).After-attend-attended) c.in_ok-outcome.ensures.ok c.in_ok-outcome.ensures.turns c.settle.ensures.settled.settled)
+
+pub settle-requires-clause-hopes : goal.settle-requires-clause-hopes
+settle-requires-clause-hopes c = c.act.ensures.hopes.places
 
 -- the number of the event
 number : (c : goal.After-push_reserved) → c.len.result + 1 ≡ length c.self.inside.history.items + 1
@@ -86,7 +93,7 @@ records c =
 
 -- what follows the change
 ends : (c : goal.After-push_reserved) → Ends (c.len.result + 1) c.in_ok-outcome.outcome.raising c.act.new.parts c.act.new.lists c.mark.new.parts c.settle.new.lists
-ends c = ends_of (c.len.result + 1) c.in_ok-outcome.outcome.raising c.act.new.parts c.act.new.lists c.settle.new.parts c.settle.new.lists c.mark.new.parts c.settle.ensures.settled c.mark.ensures.marks c.mark.ensures.others
+ends c = ends_of (c.len.result + 1) c.in_ok-outcome.outcome.raising c.act.new.parts c.act.new.lists c.settle.new.parts c.settle.new.lists c.mark.new.parts c.settle.ensures.settled.settled c.mark.ensures.marks c.mark.ensures.others
 
 pub invariant_of-self-2 : goal.invariant_of-self-2
 invariant_of-self-2 c =
@@ -97,6 +104,7 @@ invariant_of-self-2 c =
     record {
       runs = runs;
       set = subst (λ (p : Parts). AreSet p.tables p.clock c.settle.new.alarms) (sym c.mark.ensures.others) c.settle.ensures.set;
+      hopes = subst (λ (p : Parts). HopesFor p c.mark.new.asked.hopes) (sym c.mark.ensures.others) (hopes_marked c.settle.new.parts c.mark.new.asked.hopes c.mark.new.parts.parked c.mark.ensures.hopes);
     }
 
 pub returns-clause-ok : goal.returns-clause-ok
