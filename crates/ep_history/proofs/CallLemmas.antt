@@ -1,15 +1,9 @@
--- Calls, answers and records that read back as what they were printed from, where their numbers do.
-use Rattle.std.proofs.Common.{Bool, Err, IfOk, List, Ok, Result, SFits, Some, ap, arith, map, negsuc, pos, refl, sym, w32, w64, ℕ, ℤ, ◌<◌, ◌^◌, ◌≡◌, ◌∙◌}
-use Rattle.std.specs.declared.alloc.AllocError.{AllocError}
+-- Calls and records that read back as what they were printed from, where their parts do.
+use Rattle.std.proofs.Common.{Bool, List, SFits, Some, arith, negsuc, pos, refl, w32, w64, ℕ, ℤ, ◌<◌, ◌^◌, ◌≡◌}
 use Rattle.std.proofs.lemmas.Bool.{lt-ltb}
 use Rattle.std.proofs.lemmas.Grind.{common_steps}
 use Rattle.hex.specs.Hex.{encode_lower}
-use Rattle.serde_json.specs.Data.{Data, string}
-use Rattle.serde_json.specs.View.{view}
-use Rattle.serde_json.specs.declared.value.Value.{Value}
-use Rattle.ep_base.specs.declared.answer.Answer.{Answer}
-use Rattle.ep_base.specs.declared.answer.Answer.TheVariants.{Two}
-use Rattle.ep_base.specs.declared.call.Call.{Call}
+use Rattle.serde_json.specs.Data.{string}
 use Rattle.ep_base.specs.declared.call.Call.TheVariants.{Close, Dup, Dup2, EpollCtl, EpollWait, GetTime, Read, SetTime, Shutdown, Write}
 use Rattle.ep_base.specs.declared.ids.Fd.{Fd}
 use Rattle.ep_base.specs.declared.mask.Mask.{Mask}
@@ -17,8 +11,8 @@ use Rattle.ep_base.specs.declared.record.Record.{Record}
 use Rattle.ep_history.specs.Answers.{answer_data, answer_of}
 use Rattle.ep_history.specs.Bytes.{hex_value}
 use Rattle.ep_history.specs.Calls.{call_data, call_of}
-use Rattle.ep_history.specs.Fields.{array_of, i32_value, i64_value, integer, natural, u32_value}
-use Rattle.ep_history.specs.Records.{event_data, event_of, record_data, record_object, record_of}
+use Rattle.ep_history.specs.Fields.{i32_value, i64_value, integer, natural, u32_value}
+use Rattle.ep_history.specs.Records.{event_data, event_of, record_data, record_of}
 use Rattle.ep_history.proofs.FieldLemmas.{naturals_printed}
 
 pub again_u32 : (n : ℕ) → n < 2 ^ 32 → u32_value (natural n) ≡ Some n
@@ -44,7 +38,7 @@ wait_again epfd max timeout e m t = rw (e, again_i32 max m, again_i64 timeout t)
 pub read_again : (fd : Fd) (n : ℕ) → i32_value (integer fd.0) ≡ Some fd.0 → n < 2 ^ 32 → call_of (call_data (Read fd n)) ≡ Some (Read fd n)
 read_again fd n f m = rw (f, again_u32 n m) refl
 
-write_again : (fd : Fd) (bytes : List ℕ) → i32_value (integer fd.0) ≡ Some fd.0 → hex_value (string (encode_lower bytes)) ≡ Some bytes
+pub write_again : (fd : Fd) (bytes : List ℕ) → i32_value (integer fd.0) ≡ Some fd.0 → hex_value (string (encode_lower bytes)) ≡ Some bytes
     → call_of (call_data (Write fd bytes)) ≡ Some (Write fd bytes)
 write_again fd bytes f h = rw (f, h) refl
 
@@ -68,35 +62,9 @@ dup_again fd f = rw f refl
 pub close_again : (fd : Fd) → i32_value (integer fd.0) ≡ Some fd.0 → call_of (call_data (Close fd)) ≡ Some (Close fd)
 close_again fd f = rw f refl
 
--- ---- the call that a printed value reads as
-
-pub reads_as : (x call : Call) (r : Result Value AllocError) → IfOk r (λ v. view v ≡ call_data x) → call_of (call_data x) ≡ Some x → call ≡ x
-    → IfOk r (λ v. call_of (view v) ≡ Some call)
-reads_as x call (Ok v) seen again is = ap call_of seen ∙ again ∙ ap Some (sym is)
-reads_as x call (Err e) seen again is = tt
-
-pub reads_as_write : (fd : Fd) (bytes : List ℕ) (call : Call) (r : Result Value AllocError) → IfOk r (λ v. view v ≡ call_data (Write fd bytes))
-    → IfOk r (λ v. hex_value (string (encode_lower bytes)) ≡ Some bytes) → i32_value (integer fd.0) ≡ Some fd.0 → call ≡ Write fd bytes
-    → IfOk r (λ v. call_of (view v) ≡ Some call)
-reads_as_write fd bytes call (Ok v) seen hex fits is = ap call_of seen ∙ write_again fd bytes fits hex ∙ ap Some (sym is)
-reads_as_write fd bytes call (Err e) seen hex fits is = tt
-
--- ---- answers
-
-pub two_again : (first second : Fd) (answer : Answer) (r : Result Value AllocError) → IfOk r (λ v. view v ≡ answer_data (Two first second))
-    → i32_value (integer first.0) ≡ Some first.0 → i32_value (integer second.0) ≡ Some second.0 → answer ≡ Two first second
-    → IfOk r (λ v. answer_of (view v) ≡ Some answer)
-two_again first second answer (Ok v) seen a b is = ap answer_of seen ∙ rw (a, b) (ap Some (sym is))
-two_again first second answer (Err e) seen a b is = tt
-
 -- ---- records
 
 pub record_again : (r : Record) → r.caller.0 < 2 ^ 32 → event_of (event_data r.event) ≡ Some r.event
     → answer_of (answer_data r.answer) ≡ Some r.answer → record_of (record_data r) ≡ Some r
 unfolding record_of
 record_again r c e a = rw (again_u32 r.caller.0 c, e, a, naturals_printed r.picked) refl
-
--- the object of a record's parts
-pub record_parts : (r : Record) (event answer picked value : Data) → event ≡ event_data r.event → answer ≡ answer_data r.answer → picked ≡ array_of (map natural r.picked)
-    → value ≡ record_object r.caller.0 event answer picked → value ≡ record_data r
-record_parts r event answer picked value e a p v = v ∙ rw (e, a, p) refl

@@ -5,3 +5,9 @@ pub mod DataLemmas
 pub mod FieldLemmas
 pub mod TextLemmas
 pub mod LineLemmas
+pub mod CallTextLemmas
+pub mod EscapeLemmas
+pub mod AnswerTextLemmas
+pub mod RecordTextLemmas
+pub mod ToldLemmas
+pub mod RecordLemmas

@@ -1,5 +1,6 @@
 -- Whole numbers as JSON writes them.
-use Rattle.std.proofs.Common.{Some, ap, refl, arith, drop, false, get_or, lt-ltb, le-leb, sym, true, ℕ, ℤ, pos, List, ◌<◌, ◌==◌, ◌^◌, ◌∙◌, ◌≡◌, ◌≤◌, SFits, w64, int_lt, negsuc, neg_ℤ, suc, zero}
+use Rattle.std.proofs.Common.{Some, ap, refl, arith, drop, false, get_or, lt-ltb, le-leb, sym, true, ℕ, ℤ, pos, List, ◌<◌, ◌==◌, ◌^◌, ◌∙◌, ◌≡◌, ◌≤◌, SFits, of_z, to_z, w32, w64, int_lt, negsuc, neg_ℤ, suc, zero}
+use Rattle.std.proofs.lemmas.Int.{to_z-of_z}
 use Rattle.fast_float.specs.Text.{IsInteger, Parts, digits_of, scan, with_sign}
 use Rattle.serde_json.specs.Data.{negative, unsigned}
 use Rattle.serde_json.specs.Find.{of_integer}
@@ -35,3 +36,10 @@ negative_read s z p first is whole fits e below =
 pub negative_integer : (z : ℤ) → int_lt z (pos 0) ≡ true → negative z ≡ of_integer z
 negative_integer (pos n) h = absurd (grind arith)
 negative_integer (negsuc n) h = refl
+
+-- a number of 32 bits in 64
+pub widened : (z r : ℤ) → SFits w32 z → r ≡ to_z w32 (of_z w32 z) → to_z w64 (of_z w64 r) ≡ z
+widened z r fits e =
+    let same : r ≡ z = e ∙ to_z-of_z w32 z fits in
+    let long : SFits w64 z = grind arith in
+    ap (λ x. to_z w64 (of_z w64 x)) same ∙ to_z-of_z w64 z long

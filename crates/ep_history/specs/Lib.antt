@@ -1,7 +1,7 @@
 pub mod Bytes
 pub mod Fields
+pub mod Fits
 pub mod Calls
-pub mod Members
 pub mod Answers
 pub mod Records
 pub mod Tokens

@@ -1,13 +1,14 @@
 //! A record of the history as a line of JSON, and back.
 #![tactic(auto)]
 
-mod answer_value;
 mod bytes;
-mod call_value;
 mod event;
 mod fields;
-mod object;
 mod picks;
+mod print;
+mod print_answer;
+mod print_call;
+mod push;
 mod read_answer;
 mod read_call;
 mod record;

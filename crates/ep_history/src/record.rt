@@ -2,34 +2,19 @@
 ghost use Rattle.std.specs.Prelude.{◌≡◌, ◌≤◌, IfOk, Some};
 ghost use Rattle.std.specs.List.{All};
 ghost use Rattle.serde_json.specs.View.{view};
-ghost use Rattle.ep_history.specs.Records.{line_data, line_record, record_data, record_line, record_object, record_of, result_of};
+ghost use Rattle.ep_history.specs.Records.{line_data, line_record, record_data, record_line, record_of, result_of};
 
-use crate::answer_value::answer_value;
-use crate::event::{event_of, event_value};
+use crate::event::event_of;
 use crate::fields::{required_u32, size};
-use crate::picks::{picks_of, picks_value};
+use crate::picks::picks_of;
+use crate::print::push_record;
 use crate::read_answer::answer_of;
 use ep_base::{Answer, CallerId, Picked, Record};
-use serde_json::{Map, Value, put};
+use serde_json::Value;
 use std::alloc::{AllocError, Global};
 
-fn record_value(
-    alloc: Global,
-    caller: u32,
-    event: Value,
-    answer: Value,
-    picked: Value,
-) -> Result<Value, AllocError>
-    ensures { IfOk result
-        (λ v. view v ≡ record_object caller (view event) (view answer) (view picked)) }
-{
-    let mut members = Map::new(alloc);
-    put(&mut members, alloc, "caller", Value::from(caller))?;
-    put(&mut members, alloc, "event", event)?;
-    put(&mut members, alloc, "answer", answer)?;
-    put(&mut members, alloc, "picked", picked)?;
-    Ok(Value::Object(members))
-}
+/// Room for a usual line.
+const USUAL_LINE: usize = 192;
 
 /// The line of a record, compact JSON without the byte 10 that ends it: `read_record` reads it as the same record.
 /// `AllocError` is want of memory.
@@ -39,11 +24,9 @@ pub fn print_record(alloc: Global, entry: &Record) -> Result<Vec<u8>, AllocError
     ensures data { IfOk result (λ line. line_data line.items ≡ Some (record_data entry.now)) }
     ensures law { IfOk result (λ line. line_record line.items ≡ Some entry.now) }
 {
-    let event = event_value(alloc, &entry.event)?;
-    let answer = answer_value(alloc, &entry.answer)?;
-    let picked = picks_value(alloc, entry.picked.as_slice())?;
-    let value = record_value(alloc, entry.caller.0, event, answer, picked)?;
-    value.to_vec(alloc)
+    let mut line = Vec::with_capacity(alloc, USUAL_LINE)?;
+    push_record(&mut line, entry)?;
+    Ok(line)
 }
 
 /// The answer and the picked registrations, where the object has four members.

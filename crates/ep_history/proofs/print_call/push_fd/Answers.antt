@@ -1,0 +1,5 @@
+use Rattle.std.proofs.Common.{append_assoc}
+use Rattle.ep_history.proofs.print_call.push_fd.Goals as goal
+
+pub returns-clause-text : goal.returns-clause-text
+returns-clause-text c = rw (c.in_ok-extend_from_slice.ensures.items, c.in_ok-push_descriptor.ensures) (simp append_assoc)
