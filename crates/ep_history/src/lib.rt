@@ -2,8 +2,12 @@
 #![tactic(auto)]
 
 mod bytes;
+mod cursor;
 mod event;
 mod fields;
+mod guess;
+mod guess_answer;
+mod guess_call;
 mod picks;
 mod print;
 mod print_answer;

@@ -79,7 +79,7 @@ fn time_answer(value: &Value) -> Option<Answer>
     Some(Answer::Time { value, interval })
 }
 
-fn errno_of(number: u32) -> Option<Errno>
+pub(crate) fn errno_of(number: u32) -> Option<Errno>
     ensures { result ≡ numbered errnos number }
 {
     match number {

@@ -3,6 +3,8 @@ ghost use Rattle.std.specs.Prelude.{◌≡◌, IfOk, IfSome, Some};
 ghost use Rattle.serde_json.specs.View.{view};
 ghost use Rattle.ep_history.specs.Records.{line_data, line_record};
 
+use crate::guess::guess_record;
+use crate::print::push_record;
 use crate::record::{read_record, record_of};
 use crate::tree::whole_tree;
 use ep_base::Record;
@@ -14,6 +16,8 @@ use std::alloc::{AllocError, Global};
 #[derive(Drop)]
 pub struct RecordReader {
     scratch: Scratch,
+    // The line of the record that was guessed last.
+    printed: Vec<u8>,
 }
 
 impl RecordReader {
@@ -21,11 +25,38 @@ impl RecordReader {
     pub fn new(alloc: Global) -> RecordReader {
         RecordReader {
             scratch: Scratch::new(alloc),
+            printed: Vec::new(alloc),
         }
     }
 
-    /// What `read_record` answers.
+    /// What `read_record` answers. Of a line that `print_record` made it takes no memory but what the record needs.
     pub fn read(&mut self, alloc: Global, line: &[u8]) -> Result<Option<Record>, AllocError>
+        ensures { IfOk result (λ r. r ≡ line_record line.now) }
+    {
+        match self.read_printed(alloc, line)? {
+            Some(record) => Ok(Some(record)),
+            None => self.read_any(alloc, line),
+        }
+    }
+
+    /// The record of a line that `print_record` made: a guess, whose own line is compared.
+    fn read_printed(&mut self, alloc: Global, line: &[u8]) -> Result<Option<Record>, AllocError>
+        ensures { IfOk result (λ r. IfSome r (λ x. line_record line.now ≡ Some x)) }
+    {
+        let Some(record) = guess_record(alloc, line)? else {
+            return Ok(None);
+        };
+        self.printed.clear();
+        push_record(&mut self.printed, &record)?;
+        if self.printed.as_slice() == line {
+            Ok(Some(record))
+        } else {
+            Ok(None)
+        }
+    }
+
+    /// The record of any line, by a tree of its values.
+    fn read_any(&mut self, alloc: Global, line: &[u8]) -> Result<Option<Record>, AllocError>
         ensures { IfOk result (λ r. r ≡ line_record line.now) }
     {
         match self.read_tree(alloc, line)? {

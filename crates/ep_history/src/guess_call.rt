@@ -1,0 +1,196 @@
+//! A guess at the call of an object that `print_record` made. Nothing is said of it.
+
+use crate::cursor::Cursor;
+use ep_base::{Buffer, Call, Fd, Mask};
+use hex::FromHexError;
+use std::alloc::{AllocError, Global};
+
+fn fd(line: &mut Cursor<'_>) -> Option<Fd> {
+    Some(Fd(line.integer32()?))
+}
+
+fn settime(line: &mut Cursor<'_>) -> Option<Call> {
+    let absolute = line.flag()?;
+    line.expect(b",\"fd\":")?;
+    let fd = fd(line)?;
+    line.expect(b",\"interval\":")?;
+    let interval = line.natural();
+    line.expect(b",\"op\":\"settime\",\"value\":")?;
+    let value = line.natural();
+    line.expect(b"}")?;
+    Some(Call::SetTime {
+        fd,
+        absolute,
+        value,
+        interval,
+    })
+}
+
+fn ctl(line: &mut Cursor<'_>) -> Option<Call> {
+    let op = line.integer32()?;
+    line.expect(b",\"data\":")?;
+    let tag = line.natural();
+    line.expect(b",\"ep\":")?;
+    let epfd = fd(line)?;
+    line.expect(b",\"fd\":")?;
+    let fd = fd(line)?;
+    line.expect(b",\"mask\":")?;
+    let mask = Mask(line.natural32()?);
+    line.expect(b",\"op\":\"ctl\"}")?;
+    Some(Call::EpollCtl {
+        epfd,
+        op,
+        fd,
+        mask,
+        tag,
+    })
+}
+
+fn timerfd(line: &mut Cursor<'_>) -> Option<Call> {
+    let clock = line.integer32()?;
+    line.expect(b",\"cloexec\":")?;
+    let cloexec = line.flag()?;
+    line.expect(b",\"op\":\"timerfd\"}")?;
+    Some(Call::TimerFd { clock, cloexec })
+}
+
+fn eventfd(line: &mut Cursor<'_>, cloexec: bool) -> Option<Call> {
+    let init = line.natural32()?;
+    line.expect(b",\"op\":\"eventfd\",\"sem\":")?;
+    let semaphore = line.flag()?;
+    line.expect(b"}")?;
+    Some(Call::EventFd {
+        init,
+        semaphore,
+        cloexec,
+    })
+}
+
+fn maker(line: &mut Cursor<'_>) -> Option<Call> {
+    let cloexec = line.flag()?;
+    if line.take(b",\"init\":") {
+        return eventfd(line, cloexec);
+    }
+    line.expect(b",\"op\":\"")?;
+    let op = line.text()?;
+    line.expect(b"}")?;
+    match op {
+        b"pipe" => Some(Call::Pipe { cloexec }),
+        b"socketpair" => Some(Call::SocketPair { cloexec }),
+        b"plain" => Some(Call::Plain { cloexec }),
+        b"epoll" => Some(Call::EpollCreate { cloexec }),
+        _ => None,
+    }
+}
+
+fn wait(line: &mut Cursor<'_>) -> Option<Call> {
+    let epfd = fd(line)?;
+    line.expect(b",\"max\":")?;
+    let max = line.integer32()?;
+    line.expect(b",\"op\":\"wait\",\"timeout\":")?;
+    let timeout = line.integer();
+    line.expect(b"}")?;
+    Some(Call::EpollWait { epfd, max, timeout })
+}
+
+fn read(line: &mut Cursor<'_>, fd: Fd) -> Option<Call> {
+    let n = line.natural32()?;
+    line.expect(b",\"op\":\"read\"}")?;
+    Some(Call::Read { fd, n })
+}
+
+fn write(alloc: Global, line: &mut Cursor<'_>, fd: Fd) -> Result<Option<Call>, AllocError> {
+    let Some(digits) = line.text() else {
+        return Ok(None);
+    };
+    if !line.take(b",\"op\":\"write\"}") {
+        return Ok(None);
+    }
+    match hex::decode(alloc, digits) {
+        Ok(bytes) => Ok(Some(Call::Write {
+            fd,
+            bytes: Buffer::new(bytes),
+        })),
+        Err(FromHexError::OutOfMemory) => Err(AllocError),
+        Err(_) => Ok(None),
+    }
+}
+
+fn dup2(line: &mut Cursor<'_>, from: Fd) -> Option<Call> {
+    let to = fd(line)?;
+    line.expect(b"}")?;
+    Some(Call::Dup2 { fd: from, to })
+}
+
+/// A call that has no more than a descriptor.
+fn plain(line: &mut Cursor<'_>, fd: Fd) -> Option<Call> {
+    line.expect(b",\"op\":\"")?;
+    let op = line.text()?;
+    if line.take(b",\"to\":") {
+        return dup2(line, fd);
+    }
+    line.expect(b"}")?;
+    match op {
+        b"shutdown" => Some(Call::Shutdown { fd }),
+        b"gettime" => Some(Call::GetTime { fd }),
+        b"dup" => Some(Call::Dup { fd }),
+        b"close" => Some(Call::Close { fd }),
+        _ => None,
+    }
+}
+
+fn on_fd(alloc: Global, line: &mut Cursor<'_>) -> Result<Option<Call>, AllocError> {
+    let Some(fd) = fd(line) else {
+        return Ok(None);
+    };
+    if line.take(b",\"n\":") {
+        return Ok(read(line, fd));
+    }
+    if line.take(b",\"hex\":\"") {
+        return write(alloc, line, fd);
+    }
+    Ok(plain(line, fd))
+}
+
+fn bare(line: &mut Cursor<'_>) -> Option<Call> {
+    let op = line.text()?;
+    line.expect(b"}")?;
+    match op {
+        b"fork" => Some(Call::Fork),
+        b"exec" => Some(Call::Exec),
+        b"exit" => Some(Call::Exit),
+        _ => None,
+    }
+}
+
+/// The first key of a call's object tells its kind.
+fn other(line: &mut Cursor<'_>) -> Option<Call> {
+    if line.take(b"{\"ep\":") {
+        return wait(line);
+    }
+    if line.take(b"{\"act\":") {
+        return ctl(line);
+    }
+    if line.take(b"{\"cloexec\":") {
+        return maker(line);
+    }
+    if line.take(b"{\"clock\":") {
+        return timerfd(line);
+    }
+    if line.take(b"{\"abs\":") {
+        return settime(line);
+    }
+    line.expect(b"{\"op\":\"")?;
+    bare(line)
+}
+
+/// The call that seems to come next. An `Err` is want of memory.
+pub(crate) fn guess_call(
+    alloc: Global,
+    line: &mut Cursor<'_>,
+) -> Result<Option<Call>, AllocError> {
+    if line.take(b"{\"fd\":") {
+        return on_fd(alloc, line);
+    }
+    Ok(other(line))
+}
