@@ -1,5 +1,4 @@
 pub mod NumberLemmas
-pub mod TreeLemmas
 pub mod CallLemmas
 pub mod DataLemmas
 pub mod FieldLemmas

@@ -4,4 +4,3 @@ pub mod Fits
 pub mod Calls
 pub mod Answers
 pub mod Records
-pub mod Tokens

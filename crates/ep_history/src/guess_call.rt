@@ -185,10 +185,7 @@ fn other(line: &mut Cursor<'_>) -> Option<Call> {
 }
 
 /// The call that seems to come next. An `Err` is want of memory.
-pub(crate) fn guess_call(
-    alloc: Global,
-    line: &mut Cursor<'_>,
-) -> Result<Option<Call>, AllocError> {
+pub(crate) fn guess_call(alloc: Global, line: &mut Cursor<'_>) -> Result<Option<Call>, AllocError> {
     if line.take(b"{\"fd\":") {
         return on_fd(alloc, line);
     }

@@ -17,7 +17,6 @@ mod read_answer;
 mod read_call;
 mod record;
 mod record_reader;
-mod tree;
 
 pub use crate::record::{print_record, read_record};
 pub use crate::record_reader::RecordReader;

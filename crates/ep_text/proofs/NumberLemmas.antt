@@ -1,7 +1,8 @@
 -- Whole numbers as JSON writes them.
-use Rattle.std.proofs.Common.{Some, ap, arith, drop, false, get_or, lt-ltb, le-leb, sym, true, ℕ, ℤ, pos, List, ◌<◌, ◌==◌, ◌^◌, ◌∙◌, ◌≡◌, ◌≤◌, SFits, w64, int_lt, negsuc, neg_ℤ, suc, zero}
+use Rattle.std.proofs.Common.{Some, ap, refl, arith, drop, false, get_or, lt-ltb, le-leb, sym, true, ℕ, ℤ, pos, List, ◌<◌, ◌==◌, ◌^◌, ◌∙◌, ◌≡◌, ◌≤◌, SFits, w64, int_lt, negsuc, neg_ℤ, suc, zero}
 use Rattle.fast_float.specs.Text.{IsInteger, Parts, digits_of, scan, with_sign}
 use Rattle.serde_json.specs.Data.{negative, unsigned}
+use Rattle.serde_json.specs.Find.{of_integer}
 use Rattle.serde_json.specs.Read.{number_from, number_of}
 
 natural_from : (p : Parts) → IsInteger p → digits_of p < 2 ^ 64 → number_from false p ≡ Some (unsigned (digits_of p))
@@ -30,3 +31,7 @@ pub negative_read : (s : List ℕ) (z : ℤ) (p : Parts) → (get_or s 0 0 == 45
 unfolding number_of
 negative_read s z p first is whole fits e below =
     rw first (ap (number_from true) (sym is) ∙ negative_from p whole fits (sym (ap (λ k. int_lt k (pos 0)) e) ∙ below) ∙ ap (λ k. Some (negative k)) (sym e))
+
+pub negative_integer : (z : ℤ) → int_lt z (pos 0) ≡ true → negative z ≡ of_integer z
+negative_integer (pos n) h = absurd (grind arith)
+negative_integer (negsuc n) h = refl

@@ -11,3 +11,4 @@ pub mod Event
 pub mod Ops
 pub mod Line
 pub mod Limits
+pub mod Tokens

@@ -17,7 +17,8 @@ pub(crate) const MOST_MEMBERS: usize = 8;
 
 pub(crate) type Members<'a> = ArrayVec<Member<'a>, MOST_MEMBERS>;
 
-fn has_minus(bytes: &[u8]) -> bool
+/// Whether a text begins with a minus.
+pub(crate) fn has_minus(bytes: &[u8]) -> bool
     ensures value { result ≡ (slice_index bytes.now 0 == 45) }
     ensures some { result ≡ true → 0 < length bytes.now }
 {

@@ -15,6 +15,7 @@ mod print;
 mod read;
 mod reason;
 mod source;
+mod tree;
 mod value_kind;
 
 pub use crate::key::Key;
@@ -23,4 +24,5 @@ pub use crate::line_reader::LineReader;
 pub use crate::print::{print_answer, push_answer, push_bad};
 pub use crate::read::{explain, read_line};
 pub use crate::reason::{Name, Reason};
+pub use crate::tree::whole_tree;
 pub use crate::value_kind::ValueKind;

@@ -1,6 +1,8 @@
 //! Reads many lines.
 ghost use Rattle.std.specs.Prelude.{◌≡◌, ◌∷◌, IfOk, IfSome, None, Ok, Some, true};
+ghost use Rattle.std.specs.Result.{result_ok};
 ghost use Rattle.serde_json.specs.Data.{no_members};
+ghost use Rattle.serde_json.specs.View.{view};
 ghost use Rattle.ep_text.specs.Event.{command, event};
 ghost use Rattle.ep_text.specs.Key.{key_name};
 ghost use Rattle.ep_text.specs.Keys.{first_other, is_among};
@@ -8,10 +10,12 @@ ghost use Rattle.ep_text.specs.Source.{flat_data, put_all};
 
 use crate::flat::{Members, read_flat};
 use crate::key::Key;
-use crate::read::{asked, operation_in, read_line};
+use crate::read::{asked, command, operation_in, read_line};
 use crate::source::{Member, Source};
+use crate::tree::whole_tree;
 use ep_base::{CallerId, Event};
 use json::{Reader, Scratch};
+use serde_json::Value;
 use std::alloc::{AllocError, Global};
 
 /// Reads lines one after another. It keeps the room that this takes from line to line.
@@ -91,8 +95,36 @@ impl LineReader {
     {
         match self.read_flat(alloc, line)? {
             Some(command) => Ok(Some(command)),
+            None => self.read_any(alloc, line),
+        }
+    }
+
+    /// The command of any line, by a tree of its values.
+    fn read_any(
+        &mut self,
+        alloc: Global,
+        line: &[u8],
+    ) -> Result<Option<(CallerId, Event)>, AllocError>
+        ensures { IfOk result (λ r. r ≡ event line.now) }
+    {
+        match self.read_tree(alloc, line)? {
+            Some(value) => Ok(command(alloc, &value)?.ok()),
             None => read_line(alloc, line),
         }
+    }
+
+    /// The value of a line whose numbers are all whole.
+    fn read_tree(&mut self, alloc: Global, line: &[u8]) -> Result<Option<Value>, AllocError>
+        ensures { IfOk result
+            (λ r. IfSome r (λ v. event line.now ≡ result_ok (command (view v)))) }
+    {
+        let Ok(text) = std::str::from_utf8(line) else {
+            return Ok(None);
+        };
+        let Ok(mut reader) = Reader::new(text, &mut self.scratch) else {
+            return Ok(None);
+        };
+        whole_tree(alloc, &mut reader)
     }
 
     /// The command of a line, where it is an object whose values need no memory. Most are.

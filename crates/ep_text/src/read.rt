@@ -91,7 +91,10 @@ pub(crate) fn operation_in(
 }
 
 #[tactic(auto, unfolding(crate::specs::Event::command))]
-fn command(alloc: Global, value: &Value) -> Result<Result<(CallerId, Event), Reason>, AllocError>
+pub(crate) fn command(
+    alloc: Global,
+    value: &Value,
+) -> Result<Result<(CallerId, Event), Reason>, AllocError>
     ensures { IfOk result (λ r. r ≡ command (view value.now)) }
 {
     let Some(members) = value.as_object() else {

@@ -3,9 +3,9 @@ use Rattle.std.proofs.lemmas.Result.{IfOk-weaker}
 use Rattle.json.specs.Json.{value}
 use Rattle.json.specs.Lex.{tokens}
 use Rattle.serde_json.specs.View.{view}
-use Rattle.ep_history.specs.Tokens.{whole}
+use Rattle.ep_text.specs.Tokens.{whole}
 use Rattle.ep_history.proofs.LineLemmas.{line_data-read}
-use Rattle.ep_history.proofs.TreeLemmas.{some_weaker}
+use Rattle.ep_text.proofs.TreeLemmas.{some_weaker}
 use Rattle.ep_history.proofs.record_reader.RecordReader.read_tree.Goals as goal
 
 pub returns : goal.returns

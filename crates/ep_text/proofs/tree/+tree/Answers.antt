@@ -6,9 +6,9 @@ use Rattle.serde_json.specs.Data.{array, boolean, null, object, put, string}
 use Rattle.serde_json.specs.View.{items_view, members_view, view}
 use Rattle.serde_json.specs.declared.value.Value.{Bool, Null, String, the_lemmas}
 use Rattle.serde_json.proofs.Views.{members_view-insert_entry, view-Array, view-Object}
-use Rattle.ep_history.specs.Tokens.{BeginItems, BeginMembers, BeginsWith}
-use Rattle.ep_history.proofs.TreeLemmas.{ItemsFrom, MembersFrom, array_begins, item_more, items_over, member_more, members_over, null_begins, number_begins, object_begins, of_any, of_some, some_weaker, text_begins, truth_begins}
-use Rattle.ep_history.proofs.tree.+tree.Goals as goal
+use Rattle.ep_text.specs.Tokens.{BeginItems, BeginMembers, BeginsWith}
+use Rattle.ep_text.proofs.TreeLemmas.{ItemsFrom, MembersFrom, array_begins, item_more, items_over, member_more, members_over, null_begins, number_begins, object_begins, of_any, of_some, some_weaker, text_begins, truth_begins}
+use Rattle.ep_text.proofs.tree.+tree.Goals as goal
 
 pub items-items-preserved : goal.items-items-preserved
 items-items-preserved t c =

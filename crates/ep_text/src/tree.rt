@@ -4,8 +4,9 @@ ghost use Rattle.json.specs.Json.{value};
 ghost use Rattle.serde_json.specs.Data.{number};
 ghost use Rattle.serde_json.specs.Read.{max_depth, number_of};
 ghost use Rattle.serde_json.specs.View.{items_view, members_view, view};
-ghost use Rattle.ep_history.specs.Tokens.{BeginItems, BeginMembers, BeginsWith, whole};
+ghost use Rattle.ep_text.specs.Tokens.{BeginItems, BeginMembers, BeginsWith, whole};
 
+use crate::flat::has_minus;
 use fast_float::Numeral;
 use json::{Reader, Token};
 use serde_json::{Map, Value};
@@ -13,16 +14,6 @@ use std::alloc::{AllocError, Global};
 
 /// How deep a value may nest.
 const MAX_DEPTH: usize = 127;
-
-fn has_minus(bytes: &[u8]) -> bool
-    ensures value { result ≡ (slice_index bytes.now 0 == 45) }
-    ensures some { result ≡ true → 0 < length bytes.now }
-{
-    match bytes.first() {
-        Some(first) => *first == b'-',
-        None => false,
-    }
-}
 
 /// A whole number of 64 bits. `-0` is none.
 fn whole_number(text: &str) -> Option<Value>
@@ -121,10 +112,7 @@ fn members(
 }
 
 /// The value that the tokens are, as `tree` reads it.
-pub(crate) fn whole_tree(
-    alloc: Global,
-    reader: &mut Reader<'_>,
-) -> Result<Option<Value>, AllocError>
+pub fn whole_tree(alloc: Global, reader: &mut Reader<'_>) -> Result<Option<Value>, AllocError>
     ensures { IfOk result (λ r. IfSome r (λ v. whole (value max_depth reader.old) ≡ Some (view v))) }
 {
     let Some(found) = tree(alloc, reader, MAX_DEPTH)? else {

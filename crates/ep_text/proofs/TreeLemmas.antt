@@ -8,7 +8,7 @@ use Rattle.serde_json.specs.Data.{Data, Items, Members, array, boolean, item, no
 use Rattle.serde_json.specs.Read.{number_of, of_items, of_members}
 use Rattle.serde_json.specs.View.{items_view, view}
 use Rattle.serde_json.specs.declared.value.Value.{Value}
-use Rattle.ep_history.specs.Tokens.{BeginItems, BeginMembers, BeginsWith, whole}
+use Rattle.ep_text.specs.Tokens.{BeginItems, BeginMembers, BeginsWith, whole}
 
 pub some_weaker : {T : Type 0} (o : Option T) (P Q : T → Type 0) → ((x : T) → P x → Q x) → IfSome o P → IfSome o Q
 some_weaker None P Q f h = tt

@@ -3,8 +3,8 @@ use Rattle.fast_float.specs.Text.{scan}
 use Rattle.serde_json.specs.Data.{number}
 use Rattle.serde_json.specs.Find.{of_integer}
 use Rattle.serde_json.specs.Read.{number_of}
-use Rattle.ep_history.proofs.NumberLemmas.{negative_integer, natural_read, negative_read}
-use Rattle.ep_history.proofs.tree.whole_number.Goals as goal
+use Rattle.ep_text.proofs.NumberLemmas.{negative_integer, natural_read, negative_read}
+use Rattle.ep_text.proofs.tree.whole_number.Goals as goal
 
 pub returns-then-not-has_minus : goal.returns-then-not-has_minus
 returns-then-not-has_minus c =

@@ -1,7 +1,7 @@
 use Rattle.std.proofs.Common.{length, ◌*◌, ◌+◌, ◌≤◌, ℕ}
 use Rattle.serde_json.specs.View.{members_view}
-use Rattle.ep_history.proofs.TreeLemmas.{ItemsFrom, MembersFrom}
-use Rattle.ep_history.proofs.tree.+tree.Given as goal
+use Rattle.ep_text.proofs.TreeLemmas.{ItemsFrom, MembersFrom}
+use Rattle.ep_text.proofs.tree.+tree.Given as goal
 
 abbrev pub decreases-tree : goal.decreases-tree
 decreases-tree l = 2 * l.depth

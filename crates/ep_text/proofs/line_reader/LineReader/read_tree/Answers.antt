@@ -1,0 +1,18 @@
+use Rattle.std.proofs.Common.{ap, sym, ◌∙◌}
+use Rattle.std.specs.Result.{result_ok}
+use Rattle.std.proofs.lemmas.Result.{IfOk-weaker}
+use Rattle.json.specs.Json.{value}
+use Rattle.json.specs.Lex.{tokens}
+use Rattle.serde_json.specs.View.{view}
+use Rattle.ep_text.specs.Tokens.{whole}
+use Rattle.ep_text.proofs.ReadLemmas.{read_json}
+use Rattle.ep_text.proofs.TreeLemmas.{some_weaker}
+use Rattle.ep_text.proofs.line_reader.LineReader.read_tree.Goals as goal
+
+pub returns : goal.returns
+returns c =
+    let text = c.in-Ok.ensures.cases in
+    IfOk-weaker c.whole_tree.result _ _
+    (λ r h. some_weaker r _ _
+    (λ v e. ap result_ok (sym (read_json c.args.line.now (view v) text.1 (ap (λ l. whole (value 127 (tokens l))) (sym text.0) ∙ ap (λ ts. whole (value 127 ts)) (sym c.in-Ok-new.ensures.ok) ∙ e)))) h)
+    c.whole_tree.ensures
