@@ -26,6 +26,7 @@ use std::alloc::{AllocError, Global};
 
 /// Room for the bytes that a call gives, before it takes them from the object, where it is wanted. It takes no memory
 /// for 16 bytes or fewer.
+#[inline(always)]
 fn room_for_copy(
     alloc: Global,
     tables: &Tables,
@@ -53,6 +54,7 @@ fn room_for_copy(
 }
 
 /// The same answer once more, its bytes in the room that was made for them.
+#[inline(always)]
 fn answer_copy(answer: &Answer, mut room: SmallVec<u8, 16>) -> Answer
     requires empty { room.items ≡ [] }
     requires fits { FitsRoom answer.now room }
@@ -89,6 +91,7 @@ fn spare_of(alloc: Global, answer: &Answer, room: SmallVec<u8, 16>, kept: bool) 
 }
 
 /// What a call came to, with copies of its answer in the rooms that were made for them.
+#[inline(always)]
 fn outcome_of(
     alloc: Global,
     answer: Answer,

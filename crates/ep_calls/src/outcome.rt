@@ -63,6 +63,7 @@ impl Outcome {
     }
 
     /// An answer and its copies, which report nothing.
+    #[inline(always)]
     pub fn copied(
         alloc: Global,
         answer: Answer,

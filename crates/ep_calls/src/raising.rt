@@ -49,6 +49,7 @@ pub fn other_end(end: End) -> End
 }
 
 /// Raises bits at a description. Where there are none no registration is looked at.
+#[inline(always)]
 pub fn raise_at(interest: &mut Interest, desc: DescId, bits: Mask, step: u64)
     ensures entries { interest.new.entries ≡ map (raised_on desc bits step) interest.old.entries }
     ensures keys { interest.new.keys ≡ interest.old.keys }

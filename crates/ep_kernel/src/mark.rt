@@ -49,6 +49,7 @@ fn mark_due(parts: &mut Parts)
 
 /// Marks the caller that waits longest at an instance, where that is ready and none is marked there. Nothing is
 /// looked at where nobody waits or one is marked.
+#[inline(always)]
 fn mark_at(parts: &mut Parts, asked: &mut Asked, instance: DescId)
     requires { Knows parts.old asked.old }
     ensures marks { parts.new

@@ -86,6 +86,7 @@ impl ReadyKernel {
 
     /// One event. `kept`: what a second record of it is made of is asked for.
     /// An `AllocError` has changed nothing, but that there may be more room for records.
+    #[inline(always)]
     fn try_step(
         &mut self,
         caller: CallerId,
