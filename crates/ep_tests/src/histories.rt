@@ -6,7 +6,7 @@ use std::process::Abort;
 use std::test::Fail;
 
 /// Lines of records as they are printed: each operation and each answer.
-const PRINTED: [&str; 24] = [
+pub(crate) const PRINTED: [&str; 24] = [
     "{\"answer\":{\"two\":[3,4]},\"caller\":0,\"event\":{\"call\":{\"cloexec\":true,\"op\":\"pipe\"},\"pid\":1},\"picked\":[]}",
     "{\"answer\":{\"err\":[24,\"EMFILE\"]},\"caller\":0,\"event\":{\"call\":{\"cloexec\":false,\"op\":\"socketpair\"},\"pid\":1},\"picked\":[]}",
     "{\"answer\":{\"err\":[23,\"ENFILE\"]},\"caller\":0,\"event\":{\"call\":{\"cloexec\":false,\"op\":\"plain\"},\"pid\":1},\"picked\":[]}",
@@ -39,7 +39,7 @@ const PRINTED: [&str; 24] = [
 ];
 
 /// Lines that are no record.
-const REFUSED: [&str; 22] = [
+pub(crate) const REFUSED: [&str; 22] = [
     "",
     "{}",
     "{\"answer\":{\"done\":true},\"caller\":1,\"event\":{\"tick\":5}}",

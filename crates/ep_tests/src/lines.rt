@@ -9,7 +9,7 @@ use std::process::Abort;
 use std::test::Fail;
 
 /// Lines of scripts, and the caller and the event of each, as a record has it.
-const COMMANDS: [(&str, u32, &str); 33] = [
+pub(crate) const COMMANDS: [(&str, u32, &str); 33] = [
     (
         "{\"op\":\"pipe\"}",
         0,
@@ -210,7 +210,7 @@ fn reads_each_operation(rt: HostRuntime) -> Result<(), Fail> {
 }
 
 /// Lines that are no command.
-const NO_COMMANDS: [&str; 62] = [
+pub(crate) const NO_COMMANDS: [&str; 62] = [
     "",
     " ",
     "{\"op\":\"pi",

@@ -1,0 +1,97 @@
+//! Readers of many lines, one after another: each line is read as the function of one line reads it, whatever stood in
+//! the lines before.
+
+use crate::histories::{PRINTED, REFUSED};
+use crate::lines::{COMMANDS, NO_COMMANDS};
+use ep_history::{RecordReader, print_record, read_record};
+use ep_text::{LineReader, read_line};
+use std::process::Abort;
+use std::test::Fail;
+
+/// Records that no line of `print_record` has in these bytes.
+const SPELLED_OTHERWISE: [&str; 5] = [
+    "{\"caller\":1,\"event\":{\"tick\":5},\"picked\":[],\"answer\":{\"done\":true}}",
+    "{\"answer\":{\"done\":true}, \"caller\":1,\"event\":{\"tick\":5},\"picked\":[]}",
+    "{\"answer\":{\"num\":5e0},\"caller\":1,\"event\":{\"tick\":5},\"picked\":[]}",
+    "{\"answer\":{\"bytes\":\"616263F0\"},\"caller\":0,\"event\":{\"resume\":true},\"picked\":[]}",
+    "{\"answer\":{\"done\":true},\"caller\":1,\"event\":{\"tick\":5},\"picked\":[]}]",
+];
+
+fn expect_record(
+    rt: &(impl AllocGlobal + Abort),
+    reader: &mut RecordReader,
+    line: &str,
+) -> Result<(), Fail> {
+    let wanted = read_record(rt.alloc(), line.as_bytes())?;
+    let found = reader.read(rt.alloc(), line.as_bytes())?;
+    assert!(rt; found == wanted, "at {line}");
+    Ok(())
+}
+
+#[test]
+fn reads_each_record(rt: HostRuntime) -> Result<(), Fail> {
+    let mut reader = RecordReader::new(rt.alloc());
+    for line in PRINTED {
+        let Some(entry) = reader.read(rt.alloc(), line.as_bytes())? else {
+            return Err(Fail::from("no record"));
+        };
+        let found = print_record(rt.alloc(), &entry)?;
+        assert_eq!(rt; std::str::from_utf8(found.as_slice()), Ok(line));
+    }
+    Ok(())
+}
+
+#[test]
+fn refuses_what_is_no_record_between_records(rt: HostRuntime) -> Result<(), Fail> {
+    let mut reader = RecordReader::new(rt.alloc());
+    for line in REFUSED {
+        expect_record(&rt, &mut reader, PRINTED[7])?;
+        assert!(rt;
+            reader.read(rt.alloc(), line.as_bytes())?.is_none(),
+            "at {line}"
+        );
+    }
+    Ok(())
+}
+
+#[test]
+fn reads_records_that_are_spelled_otherwise(rt: HostRuntime) -> Result<(), Fail> {
+    let mut reader = RecordReader::new(rt.alloc());
+    for line in SPELLED_OTHERWISE {
+        expect_record(&rt, &mut reader, line)?;
+    }
+    Ok(())
+}
+
+fn expect_command(
+    rt: &(impl AllocGlobal + Abort),
+    reader: &mut LineReader,
+    line: &str,
+) -> Result<(), Fail> {
+    let wanted = read_line(rt.alloc(), line.as_bytes())?;
+    let found = reader.read(rt.alloc(), line.as_bytes())?;
+    assert!(rt; found == wanted, "at {line}");
+    Ok(())
+}
+
+#[test]
+fn reads_each_command(rt: HostRuntime) -> Result<(), Fail> {
+    let mut reader = LineReader::new(rt.alloc());
+    for (line, _, _) in COMMANDS {
+        expect_command(&rt, &mut reader, line)?;
+    }
+    Ok(())
+}
+
+#[test]
+fn refuses_what_is_no_command_between_commands(rt: HostRuntime) -> Result<(), Fail> {
+    let mut reader = LineReader::new(rt.alloc());
+    for line in NO_COMMANDS {
+        expect_command(&rt, &mut reader, "{\"op\":\"pipe\"}")?;
+        assert!(rt;
+            reader.read(rt.alloc(), line.as_bytes())?.is_none(),
+            "at {line}"
+        );
+    }
+    Ok(())
+}
