@@ -78,8 +78,8 @@ fn behind_answer(
     }))
 }
 
-/// A record whose line this may be. It is the right one of each line that `print_record` made; of any other it may be
-/// any. An `Err` is want of memory.
+/// A record whose line this may be, made for lines of the form of `print_record`. No contract says which record it is,
+/// nor that there is one. An `Err` is want of memory.
 pub(crate) fn guess_record(alloc: Global, line: &[u8]) -> Result<Option<Record>, AllocError> {
     let mut line = Cursor { rest: line };
     if !line.take(b"{\"answer\":") {

@@ -29,7 +29,7 @@ impl RecordReader {
         }
     }
 
-    /// What `read_record` answers. Of a line that `print_record` made it takes no memory but what the record needs.
+    /// What `read_record` answers. A line of the form of `print_record` is read without a tree of its values.
     pub fn read(&mut self, alloc: Global, line: &[u8]) -> Result<Option<Record>, AllocError>
         ensures { IfOk result (λ r. r ≡ line_record line.now) }
     {

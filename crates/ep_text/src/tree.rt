@@ -111,7 +111,9 @@ fn members(
     }
 }
 
-/// The value that the tokens are, as `tree` reads it.
+/// The value that the tokens are. `None` tells nothing: they may be no JSON, have a number that is not whole, or nest
+/// deeper than 127, and then another reader has to be asked. `AllocError` is want of memory. The time grows with the
+/// tokens, and as the logarithm of the members of an object for each of them.
 pub fn whole_tree(alloc: Global, reader: &mut Reader<'_>) -> Result<Option<Value>, AllocError>
     ensures { IfOk result (λ r. IfSome r (λ v. whole (value max_depth reader.old) ≡ Some (view v))) }
 {
