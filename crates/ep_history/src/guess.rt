@@ -42,7 +42,11 @@ fn picked(alloc: Global, line: &mut Cursor<'_>) -> Result<Picked, AllocError> {
             break;
         }
         line.take(b",");
+        let left = line.rest.len();
         numbers.push(line.natural())?;
+        if line.rest.len() == left {
+            break;
+        }
     }
     Ok(Picked::new(numbers))
 }
