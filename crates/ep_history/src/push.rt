@@ -1,42 +1,26 @@
 //! Numbers, truth values and bytes as text behind a line.
-ghost use Rattle.std.specs.Prelude.{◌≡◌, ◌++◌, ◌<◌, ◌≤◌, OnOk, decimal, drop};
+ghost use Rattle.std.specs.Prelude.{◌≡◌, ◌++◌, OnOk, decimal};
 ghost use Rattle.hex.specs.Hex.{encode_lower};
 ghost use Rattle.serde_json.specs.Data.{boolean};
 ghost use Rattle.serde_json.specs.Written.{compact_text};
 ghost use Rattle.ep_history.specs.Fields.{integer};
 
 use ep_base::Fd;
+use itoa::Buffer;
 use std::alloc::AllocError;
-
-const HEX_DIGITS: &[u8; 16] = b"0123456789abcdef";
-
-/// Writes the digits of a number at the end, and answers where they start.
-fn put_digits(n: u64, digits: &mut [u8; 64]) -> usize
-    ensures bound { result ≤ 64 }
-    ensures value { drop result digits.new ≡ decimal n }
-{
-    let mut start = 64;
-    let mut rest = n;
-    while start > 0 {
-        start -= 1;
-        digits[start] = b'0' + (rest % 10) as u8;
-        rest /= 10;
-        if rest == 0 {
-            break;
-        }
-    }
-    start
-}
 
 /// Puts this text and then a number.
 pub(crate) fn push_natural(out: &mut Vec<u8>, text: &[u8], n: u64) -> Result<(), AllocError>
     ensures { OnOk result (out.new.items ≡ out.old.items ++ (text.now ++ decimal n)) }
 {
-    let mut digits = [0; 64];
-    let start = put_digits(n, &mut digits);
     out.extend_from_slice(text)?;
-    out.extend_from_slice(&digits[start..])?;
-    Ok(())
+    // Most numbers of a record have one digit.
+    if n < 10 {
+        out.push(b'0' + n as u8)?;
+        return Ok(());
+    }
+    let mut buffer = Buffer::new();
+    out.extend_from_slice(buffer.format(n).as_bytes())
 }
 
 /// Puts this text and then a number, which may be below 0.
@@ -73,15 +57,15 @@ pub(crate) fn push_flag(out: &mut Vec<u8>, text: &[u8], flag: bool) -> Result<()
     }
 }
 
-/// Puts this text and then two hexadecimal digits for each byte.
-#[tactic(auto, unfolding(hex::specs::Hex::encode_with))]
+/// Puts this text and then two hexadecimal digits for each byte. Room for all of them is made at once.
 pub(crate) fn push_hex(out: &mut Vec<u8>, text: &[u8], bytes: &[u8]) -> Result<(), AllocError>
     ensures { OnOk result (out.new.items ≡ out.old.items ++ (text.now ++ encode_lower bytes.now)) }
 {
     out.extend_from_slice(text)?;
-    for byte in bytes {
-        out.push(HEX_DIGITS[usize::from(byte / 16)])?;
-        out.push(HEX_DIGITS[usize::from(byte % 16)])?;
-    }
+    let digits = bytes.len().saturating_mul(2);
+    out.reserve(digits)?;
+    let start = out.len();
+    out.resize(start + digits, 0)?;
+    hex::encode_to_slice(bytes, &mut out[start..]).unwrap();
     Ok(())
 }
