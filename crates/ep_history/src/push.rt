@@ -62,6 +62,7 @@ pub(crate) fn push_hex(out: &mut Vec<u8>, text: &[u8], bytes: &[u8]) -> Result<(
     ensures { OnOk result (out.new.items ≡ out.old.items ++ (text.now ++ encode_lower bytes.now)) }
 {
     out.extend_from_slice(text)?;
+    // For the prover: no slice is so long that this saturates, and with the room made the sum below fits.
     let digits = bytes.len().saturating_mul(2);
     out.reserve(digits)?;
     let start = out.len();
