@@ -15,6 +15,7 @@ use Rattle.std.specs.HashMap as hash
 use Rattle.ep_interest.specs.View.{HasRows, IsIndex, IsInterest, instance_of, key_of, number_in, same_key, target_of}
 use Rattle.ep_interest.specs.declared.interest.Interest.TheInside.{Inside}
 use Rattle.ep_interest.specs.Passes.{ArePassing}
+use Rattle.ep_interest.specs.Touched.{AreTouched, is_noted}
 use Rattle.ep_interest.specs.declared.entry.Entry.{Entry}
 use Rattle.ep_interest.specs.declared.passes.Passes.{Passes}
 use Rattle.ep_interest.proofs.KeysWithLemmas.{rows_changed}
@@ -85,6 +86,12 @@ module _ (f : Entry → Entry) (number : (x : Entry) → (f x).number ≡ x.numb
     live = λ q id e. let x = h.live q id e in (f x.0, get_changed slots id.0 ∙ ap (option_map f) x.1, same x.0 ∙ x.2);
   }
 
+  pub touched_changed : (slots : List (Option Entry)) (ns : List ℕ) → ((x : Entry) → (f x).instance ≡ x.instance) → ((x : Entry) → (f x).desc ≡ x.desc) → AreTouched slots ns → AreTouched (changed slots) ns
+  touched_changed slots ns i d h = record {
+    instance = λ k y e. let x = before slots k y e in ap (λ (z : Entry). is_noted ns z.instance.0) (sym x.2) ∙ (ap (λ (w : DescId). is_noted ns w.0) (i x.0) ∙ h.instance k x.0 x.1);
+    target = λ k y e. let x = before slots k y e in ap (λ (z : Entry). is_noted ns z.desc.0) (sym x.2) ∙ (ap (λ (w : DescId). is_noted ns w.0) (d x.0) ∙ h.target k x.0 x.1);
+  }
+
 -- what a registration is found by stays
 pub record Keeps (f : Entry → Entry) : Type 0 where
   pub number : (x : Entry) → (f x).number ≡ x.number
@@ -123,6 +130,7 @@ interest_changed k f slots passes keeps same passing room h =
     let all = in_order_changed f keeps.number old k.added in
     let d = rows_changed old (changed f keeps.number old) k.added f (keys_changed f keeps.number old) all keeps.number instance_of (λ x i. (keeps.instance x i).0) k.by_instance h.by_instance in
     let e = rows_changed old (changed f keeps.number old) k.added f (keys_changed f keeps.number old) all keeps.number target_of (λ x i. (keeps.target x i).0) k.by_target h.by_target in
+    let t = touched_changed f keeps.number old k.touched.numbers.keys keeps.instance keeps.target h.touched in
     record {
       numbered = subst (λ (xs : List (Option Entry)). NumberedBy xs k.added) (sym same) a;
       by_key = subst (λ (xs : List (Option Entry)). IsIndex key_of xs (hash.get same_key k.by_key)) (sym same) b;
@@ -130,4 +138,5 @@ interest_changed k f slots passes keeps same passing room h =
       by_target = subst (λ (xs : List (Option Entry)). HasRows target_of xs k.added k.by_target) (sym same) e;
       passing = passing;
       room = room;
+      touched = subst (λ (xs : List (Option Entry)). AreTouched xs k.touched.numbers.keys) (sym same) t;
     }

@@ -16,6 +16,7 @@ use Rattle.ep_interest.proofs.InOrderLemmas.{held, length_held, place_is}
 use Rattle.ep_interest.proofs.KeyLemmas.{all_given}
 use Rattle.ep_interest.proofs.AddLemmas.{Inserted, entries_more, numbers_more}
 use Rattle.ep_interest.proofs.RemoveLemmas.{Emptied, held_less, numbered_less}
+use Rattle.ep_interest.proofs.RowLemmas.{left_again}
 
 -- it stands under its key
 abbrev pub IsAtKey : List (Option Entry) → Entry → Type 0
@@ -154,6 +155,13 @@ pub rows_more : (old new : List (Option Entry)) (at : ℕ) (x : Entry) → Inser
 rows_more old new at x ins n is num who v u w h kept sound rows = record {
   sound = sound;
   rows = λ i. rows i ∙ (ap (λ (ks : List ℕ). if nat_eq (who x) i then ks ++ at ∷ [] else ks) (kept i ∙ h.rows i) ∙ sym (keys_with_more old new at x ins n is num who i));
+}
+
+-- what joined a row and left it again
+pub rows_again : (slots : List (Option Entry)) (n : ℕ) (who : Entry → ℕ) (o k : ℕ) {A : Type 0} (v u w x : Rows A) → HasRows who slots n v → ((i : ℕ) → row u i ≡ row v i) → ((i : ℕ) → All (λ j. j ≢ k) (row u i)) → ((i : ℕ) → row w i ≡ (if nat_eq o i then row u i ++ k ∷ [] else row u i)) → IsRows x → ((i : ℕ) → row x i ≡ filter (λ j. not (j == k)) (row w i)) → HasRows who slots n x
+rows_again slots n who o k v u w x h kept fresh joined sound left = record {
+  sound = sound;
+  rows = λ i. left i ∙ (ap (λ (ks : List ℕ). filter (λ j. not (j == k)) ks) (joined i) ∙ (left_again (row u i) o i k (fresh i) ∙ (kept i ∙ h.rows i)));
 }
 
 pub rows_there : (slots : List (Option Entry)) (n : ℕ) → NumberedBy slots n → (who : Entry → ℕ) (k : ℕ) (x : Entry) → get_or slots k None ≡ Some x → {A : Type 0} (v : Rows A) → HasRows who slots n v → Contains (row v (who x)) k

@@ -15,3 +15,4 @@ pub mod EntriesLemmas
 pub mod PurgeLemmas
 pub mod InTurnLemmas
 pub mod PassesLemmas
+pub mod TouchedLemmas

@@ -1,8 +1,8 @@
 -- The rows of all owners, once a key joins one or leaves it.
 use Rattle.std.proofs.Common.{◌≡◌, ◌≢◌, ◌⊎◌, ℕ, zero, suc, ◌<◌, ◌≤◌, ◌==◌, Bool, true, false, cond, not, All, Contains, List, [], ◌∷◌, ◌++◌, length, filter, get_or, nat_eq, replicate, Option, Some, None, refl, sym, ap, subst, unwrap_or, ◌∙◌, inl, inr, arith, if◌then◌else◌}
 use Rattle.std.proofs.lemmas.Bool.{cases_eq, cases_lt}
-use Rattle.std.proofs.lemmas.List.{get_or_append_left, get_or_past, get_or_read, length-append}
-use Rattle.std.proofs.lemmas.List.Elements.{All-contains, All-filter, All-head, All-tail, All-push, All-weaker}
+use Rattle.std.proofs.lemmas.List.{get_or_append_left, get_or_past, get_or_push, get_or_read, length-append, length_push}
+use Rattle.std.proofs.lemmas.List.Elements.{All-contains, All-filter, All-head, All-tail, All-push, All-weaker, filter-append}
 use Rattle.ep_rings.specs.Ring.{walk}
 use Rattle.ep_rings.proofs.ViewLemmas.{kernel_watches}
 use Rattle.ep_interest.specs.Circles.{AreRows, IsCircle, keys_in, lengthened, shortened}
@@ -192,6 +192,29 @@ rows_reserved s s' circle circle' row n same e h =
       within = λ i. All-weaker (λ k. k < length s) (λ k. k < length s') (λ k lt. omega (arith, lt, long)) (row i) (h.within i);
       apart = h.apart;
     }
+
+-- the same circles
+pub rows_kept : (next prev : ℕ → ℕ) (circle circle' : ℕ → Option Circle) (many : ℕ) (row : ℕ → List ℕ) → ((i : ℕ) → circle' i ≡ circle i) → AreRows next prev circle many row → AreRows next prev circle' many row
+rows_kept next prev circle circle' many row same h = record { circles = λ i. rw (same i) (h.circles i); within = h.within; apart = h.apart }
+
+-- a key that joined its row, and leaves it again
+pub joined_there : (xs ys : List ℕ) (o k : ℕ) → ys ≡ (if nat_eq o o then xs ++ k ∷ [] else xs) → Contains ys k
+joined_there xs ys o k e =
+    let f : ys ≡ xs ++ k ∷ [] = e ∙ ap (λ (b : Bool). cond b (xs ++ k ∷ []) xs) (test_same o o refl) in
+    subst (λ (zs : List ℕ). Contains zs k) (sym f) (length xs, omega (arith, length_push xs k), get_or_push xs k k (length xs) refl)
+
+pub left_again : (xs : List ℕ) (o i k : ℕ) → All (λ x. x ≢ k) xs → filter (λ x. not (x == k)) (if nat_eq o i then xs ++ k ∷ [] else xs) ≡ xs
+left_again xs o i k fresh =
+    let apart = kernel_watches xs k k (λ j l. fresh j k l) in
+    let none : filter (λ x. not (x == k)) (k ∷ []) ≡ [] = rw (test_same k k refl) refl in
+    elim (nat_eq o i) as (λ b. filter (λ x. not (x == k)) (cond b (xs ++ k ∷ []) xs) ≡ xs) [
+      | true ↦ filter-append (λ x. not (x == k)) xs (k ∷ []) ∙ ((λ j. apart j ++ none j) ∙ append_nil xs)
+      | false ↦ apart
+    ]
+  where
+    append_nil : (ys : List ℕ) → ys ++ [] ≡ ys
+    append_nil [] = refl
+    append_nil (y ∷ ys) = ap (λ (zs : List ℕ). y ∷ zs) (append_nil ys)
 
 -- a walk whose keys all have links
 pub linked : (s : List Link) (n k : ℕ) → All (λ x. x < length s) (walk (next_of s) n k) → AreLinked s n k

@@ -1,11 +1,11 @@
 //! Where the circle of each owner begins, and how long it is.
-ghost use Rattle.std.specs.Prelude.{◌≡◌, ◌<◌, ℕ, IfSome, Some, if◌then◌else◌, nat_eq};
-ghost use Rattle.indexmap.specs.IndexMap.{get, spare};
+ghost use Rattle.std.specs.BTreeMap.{get};
+ghost use Rattle.std.specs.Ordering.{nat_cmp};
+ghost use Rattle.std.specs.Prelude.{◌≡◌, ◌<◌, ℕ, IfOk, IfSome, OnErr, OnOk, Some, if◌then◌else◌, nat_eq};
 ghost use Rattle.ep_interest.specs.Circles.{lengthened, shortened, without};
 
-use indexmap::IndexMap;
-use std::alloc::Allocator;
-use std::hash::{BuildHasherDefault, FoldHasher};
+use std::alloc::{AllocError, Allocator};
+use std::collections::BTreeMap;
 
 /// The circle of one owner.
 #[derive(Clone, Copy)]
@@ -16,29 +16,34 @@ pub(crate) struct Circle {
     pub(crate) len: usize,
 }
 
-/// Circles by the number of the owner; an owner without registrations has none.
-pub(crate) type Circles<A> = IndexMap<usize, Circle, BuildHasherDefault<FoldHasher>, A>;
+/// Circles by the number of the owner; an owner without registrations has none. They are ordered and not hashed, so
+/// that no choice of owners makes a look-up go over all of them.
+pub(crate) type Circles<A> = BTreeMap<usize, Circle, A>;
 
-/// Counts a key more in the circle of an owner, where there is room for a circle more, and answers its first key. A
-/// new circle begins with this key.
-pub(crate) fn lengthen<A: Allocator>(circles: &mut Circles<A>, owner: usize, key: usize) -> usize
-    requires room { 0 < spare circles.old }
-    requires most { IfSome (get nat_eq circles.old owner) (λ c. c.len < usize.MAX) }
-    ensures first { result ≡ (lengthened key (get nat_eq circles.old owner)).first }
-    ensures circles { (i : ℕ) → get nat_eq circles.new i
-        ≡ (if nat_eq owner i then Some (lengthened key (get nat_eq circles.old owner))
-        else get nat_eq circles.old i) }
+/// Counts a key more in the circle of an owner, and answers its first key. A new circle begins with this key, and is
+/// what takes memory. An `Err` is want of it, and leaves the circles.
+pub(crate) fn lengthen<A: Allocator + Clone>(
+    circles: &mut Circles<A>,
+    owner: usize,
+    key: usize,
+) -> Result<usize, AllocError>
+    requires { IfSome (get nat_cmp circles.old owner) (λ c. c.len < usize.MAX) }
+    ensures first { IfOk result
+        (λ first. first ≡ (lengthened key (get nat_cmp circles.old owner)).first) }
+    ensures circles { OnOk result ((i : ℕ) → get nat_cmp circles.new i
+        ≡ (if nat_eq owner i then Some (lengthened key (get nat_cmp circles.old owner))
+        else get nat_cmp circles.old i)) }
+    ensures kept { OnErr result
+        ((i : ℕ) → get nat_cmp circles.new i ≡ get nat_cmp circles.old i) }
 {
     match circles.get_mut(&owner) {
         Some(circle) => {
             circle.len += 1;
-            circle.first
+            Ok(circle.first)
         }
         None => {
-            circles
-                .insert(owner, Circle { first: key, len: 1 })
-                .unwrap();
-            key
+            circles.insert(owner, Circle { first: key, len: 1 })?;
+            Ok(key)
         }
     }
 }
@@ -59,9 +64,9 @@ fn shrink(circle: Circle, key: usize, next: usize) -> Circle
 
 /// Counts a key less in the circle of an owner, `next` being the key behind it. The circle goes with its last key.
 pub(crate) fn shorten<A: Allocator>(circles: &mut Circles<A>, owner: usize, key: usize, next: usize)
-    ensures { (i : ℕ) → get nat_eq circles.new i
-        ≡ (if nat_eq owner i then shortened key next (get nat_eq circles.old owner)
-        else get nat_eq circles.old i) }
+    ensures { (i : ℕ) → get nat_cmp circles.new i
+        ≡ (if nat_eq owner i then shortened key next (get nat_cmp circles.old owner)
+        else get nat_cmp circles.old i) }
 {
     if let Some(circle) = circles.get_mut(&owner) {
         if circle.len > 1 {
@@ -69,5 +74,5 @@ pub(crate) fn shorten<A: Allocator>(circles: &mut Circles<A>, owner: usize, key:
             return;
         }
     }
-    circles.swap_remove(&owner);
+    circles.remove(&owner);
 }

@@ -1,5 +1,6 @@
 //! All interest sets together.
-ghost use Rattle.std.specs.Prelude.{nat_eq, nat_lt, not, vec_capacity, ◌≤◌, ◌≡◌, ◌&&◌, ◌+◌, [], ◌∷◌, ◌++◌, false, IfOk, IfNone, IfSome, OnErr, IsSome, Some, is_some, All, filter, length, map, slice_index_or, slice_set, None, option_copied, unwrap_or};
+ghost use Rattle.std.specs.Prelude.{nat_eq, nat_lt, not, vec_capacity, ◌<◌, ◌≤◌, ◌≡◌, ◌&&◌, ◌+◌, [], ◌∷◌, ◌++◌, false, IfOk, IfNone, IfSome, OnErr, IsSome, Some, is_some, All, filter, length, map, slice_index_or, slice_set, None, option_copied, unwrap_or};
+ghost use Rattle.std.specs.Bool.{OnFalse};
 ghost use Rattle.std.specs.Map.Iter.{ShowsInOrder};
 ghost use Rattle.std.specs.Option.{option_map};
 ghost use Rattle.ep_base.specs.declared.ids.EntryId.{EntryId};
@@ -16,6 +17,7 @@ use crate::entries::{Entries, Watchers};
 use crate::entry::Entry;
 use crate::passes::Passes;
 use crate::rows::Rows;
+use crate::touched::Touched;
 use bitflags::Flags;
 use ep_base::{DescId, EntryId, Fd, Mask};
 use indexmap::IndexMap;
@@ -194,9 +196,20 @@ fn rest_each<A: Allocator>(slots: &mut Slab<Entry, A>, ids: &[EntryId])
     }
 }
 
+/// How many places there are for registrations where as many have room, with one for this key. The key is below that
+/// number, which the contract of a slab doesn't say.
+fn places_with(room: usize, id: EntryId) -> Result<usize, AllocError>
+    ensures { IfOk result (λ places. id.0 < places) }
+{
+    if id.0 < room {
+        return Ok(room);
+    }
+    id.0.checked_add(1).ok_or(AllocError)
+}
+
 /// The registrations of every instance. Contracts see them in order of registration, the number under each key, and
-/// how many were ever added. Adding n of them and removing them again takes time that grows as n, however they are
-/// spread over instances and descriptions. Memory comes from `A`.
+/// how many were ever added. Adding n of them and removing them again takes time that grows as n log n, however they
+/// are spread over instances and descriptions. Memory comes from `A`.
 #[derive(Drop)]
 pub struct Interest<A: Allocator = Global> {
     slots: Slab<Entry, A>,
@@ -204,6 +217,7 @@ pub struct Interest<A: Allocator = Global> {
     by_instance: Rows<A>,
     by_target: Rows<A>,
     passes: Passes<A>,
+    touched: Touched<A>,
     added: u64,
 }
 
@@ -221,7 +235,7 @@ impl<A: Allocator> Model for Interest<A> {
 
 impl<A: Allocator> Interest<A> {
     /// No registrations, which takes no memory.
-    #[tactic(auto, using(crate::proofs::PassesLemmas::passing_none))]
+    #[tactic(auto, using(crate::proofs::PassesLemmas::passing_none, crate::proofs::TouchedLemmas::touched_none))]
     pub fn new(alloc: A) -> Interest<A>
     where
         A: Copy,
@@ -236,12 +250,13 @@ impl<A: Allocator> Interest<A> {
             by_instance: Rows::new(alloc),
             by_target: Rows::new(alloc),
             passes: Passes::new(alloc),
+            touched: Touched::new(alloc),
             added: 0,
         }
     }
 
     /// The registrations of an instance with their keys, in order of registration. Only these are visited; the cost
-    /// of finding the first doesn't grow with the registrations.
+    /// of finding the first grows as the logarithm of the number of registrations.
     pub fn entries(&self, instance: DescId) -> Entries<'_, A>
         ensures entries { map (λ p. p.1) result ≡ filter (is_of instance) self.now.entries }
         ensures keys { All (λ p. number_under self.now p.0 ≡ Some p.1.number) result }
@@ -255,7 +270,7 @@ impl<A: Allocator> Interest<A> {
     }
 
     /// The keys of the registrations on a description, in order of registration. Only these are visited; the cost of
-    /// finding the first doesn't grow with the registrations.
+    /// finding the first grows as the logarithm of the number of registrations.
     pub fn watchers(&self, desc: DescId) -> Watchers<'_>
         ensures exact { result ≡ ids self.now (filter (is_on desc) self.now.entries) }
         ensures runs { ShowsInOrder (λ (id : EntryId). id) }
@@ -274,8 +289,8 @@ impl<A: Allocator> Interest<A> {
 
     /// Adds a registration with the next number, armed and never reported, as ADD of epoll_ctl(2) does, and answers
     /// its key. `AllocError` where there is no memory, or no number is left after 2^64 - 1 additions, and then
-    /// nothing has changed. No other call of this type takes memory. The cost doesn't grow with the registrations, but
-    /// where a table grows.
+    /// nothing has changed. No other call of this type takes memory. The cost grows as the logarithm of the number of
+    /// registrations, but where a table grows.
     pub fn add(&mut self, addition: Addition) -> Result<EntryId, AllocError>
     where
         A: Clone,
@@ -296,15 +311,25 @@ impl<A: Allocator> Interest<A> {
         self.by_key.reserve(1)?;
         let many = self.slots.capacity();
         self.passes.reserve(many)?;
-        self.by_instance.reserve(many)?;
-        self.by_target.reserve(many)?;
+        let id = EntryId(self.slots.vacant_key());
+        let places = places_with(many, id)?;
+        self.by_instance.reserve(places)?;
+        self.by_target.reserve(places)?;
+        self.touched.note(addition.instance)?;
+        self.touched.note(addition.desc)?;
+        self.by_instance.push(addition.instance, id)?;
+        match self.by_target.push(addition.desc, id) {
+            Ok(()) => {}
+            Err(full) => {
+                self.by_instance.remove(addition.instance, id);
+                return Err(full);
+            }
+        }
         let number = self.added + 1;
         let key = Key::new(addition.instance, addition.fd, addition.desc);
-        let entry = Entry::new(number, addition);
-        let id = EntryId(self.slots.insert_reserved(entry));
         self.by_key.insert(key, id).unwrap();
-        self.by_instance.push(addition.instance, id);
-        self.by_target.push(addition.desc, id);
+        let entry = Entry::new(number, addition);
+        self.slots.insert_reserved(entry);
         let _room = self.slots.capacity();
         self.added = number;
         Ok(id)
@@ -402,7 +427,7 @@ impl<A: Allocator> Interest<A> {
 
     /// Notes that an event raised these bits at a description. Each registration on it whose mask asks for one of
     /// them, ERR and HUP unasked, is fresh; one that is armed passes them on in this event. Only those on it are
-    /// visited; the cost of finding the first doesn't grow with the registrations.
+    /// visited; the cost of finding the first grows as the logarithm of the number of registrations.
     pub fn raise(&mut self, desc: DescId, bits: Mask, event: u64)
         ensures entries { self.new.entries ≡ map (raised_on desc bits event) self.old.entries }
         ensures keys { self.new.keys ≡ self.old.keys }
@@ -456,7 +481,7 @@ impl<A: Allocator> Interest<A> {
     }
 
     /// Takes away the registration under a key, as DEL of epoll_ctl(2) does. The key may be given out again, the
-    /// number is not. The cost doesn't grow with the registrations.
+    /// number is not. The cost grows as the logarithm of the number of registrations.
     pub fn remove(&mut self, id: EntryId)
         requires { IsSome (number_under self.old id) }
         ensures entries { self.new.entries
@@ -474,7 +499,8 @@ impl<A: Allocator> Interest<A> {
     }
 
     /// Takes away every registration in the set of a description and every one on it, as where the description dies.
-    /// Only these are visited, and each costs what `remove` does. The cost is constant where there is none.
+    /// Only these are visited, and each costs what `remove` does. The cost is constant where no registration was in
+    /// its set or on it since it was last purged.
     pub fn purge(&mut self, desc: DescId)
         ensures entries { self.new.entries ≡ filter (is_apart_from desc) self.old.entries }
         ensures keys { (id : EntryId)
@@ -482,9 +508,29 @@ impl<A: Allocator> Interest<A> {
         ensures added { self.new.added ≡ self.old.added }
     {
         self.known();
+        if !self.may_touch(desc) {
+            return;
+        }
         while let Some(id) = self.first_touching(desc) {
             self.remove(id);
         }
+        self.forget(desc);
+    }
+
+    /// Whether a registration may be in the set of a description or on it.
+    fn may_touch(&self, desc: DescId) -> bool
+        ensures { OnFalse result
+            (filter (is_apart_from desc) self.now.entries ≡ self.now.entries) }
+    {
+        self.touched.has(desc)
+    }
+
+    /// Notes that no registration is in the set of a description or on it.
+    fn forget(&mut self, desc: DescId)
+        requires { filter (is_apart_from desc) self.old.entries ≡ self.old.entries }
+        ensures { self.new ≡ self.old }
+    {
+        self.touched.forget(desc);
     }
 
     /// The key of a registration in the set of a description or on it, `None` where there is none.

@@ -9,6 +9,7 @@ mod interest;
 mod links;
 mod passes;
 mod rows;
+mod touched;
 mod walk;
 
 pub use crate::addition::Addition;

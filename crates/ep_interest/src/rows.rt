@@ -1,6 +1,5 @@
 //! The registrations of each owner.
-ghost use Rattle.std.specs.Prelude.{◌≡◌, ◌≢◌, ◌<◌, ◌≤◌, ◌++◌, ◌∷◌, ℕ, [], All, Contains, OnOk, filter, if◌then◌else◌, length, map, nat_eq, not, ◌==◌};
-ghost use Rattle.indexmap.specs.IndexMap.{spare};
+ghost use Rattle.std.specs.Prelude.{◌≡◌, ◌≢◌, ◌<◌, ◌≤◌, ◌++◌, ◌∷◌, ℕ, [], All, Contains, OnErr, OnOk, filter, if◌then◌else◌, length, map, nat_eq, not, ◌==◌};
 ghost use Rattle.ep_interest.specs.Links.{prev_of};
 ghost use Rattle.ep_interest.specs.Rows.{IsRows, row};
 ghost use Rattle.ep_interest.specs.Walk.{id_at};
@@ -9,8 +8,8 @@ use crate::circles::{Circle, Circles, lengthen, shorten};
 use crate::links::{Link, join};
 use crate::walk::Walk;
 use ep_base::{DescId, EntryId};
-use indexmap::IndexMap;
 use std::alloc::{AllocError, Allocator, Global};
+use std::collections::BTreeMap;
 
 /// For each owner, an instance or a target, the keys of its registrations in order of registration, linked in a
 /// circle. An owner without registrations has no circle, so memory grows with registrations alone.
@@ -30,21 +29,19 @@ impl<A: Allocator> Rows<A> {
         ensures empty { (i : ℕ) → row result i ≡ [] }
     {
         Rows {
-            circles: IndexMap::new(alloc),
+            circles: BTreeMap::new(alloc),
             links: Vec::new(alloc),
         }
     }
 
-    /// Takes memory for keys below a number, and for one owner more. `AllocError` where there is none, and then each
-    /// owner has what it had.
+    /// Takes memory for the links of keys below a number. `AllocError` where there is none, and then each owner has
+    /// what it had.
     pub(crate) fn reserve(&mut self, many: usize) -> Result<(), AllocError>
         requires { IsRows self.old }
         ensures sound { IsRows self.new }
         ensures kept { (i : ℕ) → row self.new i ≡ row self.old i }
         ensures links { OnOk result (many ≤ length self.new.links.items) }
-        ensures circles { OnOk result (0 < spare self.new.circles) }
     {
-        self.circles.reserve(1)?;
         if self.links.len() < many {
             self.links.resize(many, Link { next: 0, prev: 0 })?;
         }
@@ -62,24 +59,28 @@ impl<A: Allocator> Rows<A> {
         self.links[first].prev
     }
 
-    /// Puts a key behind the others of its owner. Takes no memory, and constant time.
-    pub(crate) fn push(&mut self, owner: DescId, id: EntryId)
+    /// Puts a key behind the others of its owner. The cost grows as the logarithm of the number of owners. Only the
+    /// first key of an owner takes memory; `AllocError` where there is none, and then each owner has what it had.
+    pub(crate) fn push(&mut self, owner: DescId, id: EntryId) -> Result<(), AllocError>
+    where
+        A: Clone,
         requires sound { IsRows self.old }
         requires linked { id.0 < length self.old.links.items }
-        requires room { 0 < spare self.old.circles }
         requires most { length (row self.old owner.0) < usize.MAX }
         requires fresh { (i : ℕ) → All (λ k. k ≢ id.0) (row self.old i) }
         ensures sound { IsRows self.new }
-        ensures rows { (i : ℕ) → row self.new i
-            ≡ (if nat_eq owner.0 i then row self.old i ++ id.0 ∷ [] else row self.old i) }
+        ensures rows { OnOk result ((i : ℕ) → row self.new i
+            ≡ (if nat_eq owner.0 i then row self.old i ++ id.0 ∷ [] else row self.old i)) }
+        ensures kept { OnErr result ((i : ℕ) → row self.new i ≡ row self.old i) }
     {
-        let first = lengthen(&mut self.circles, owner.0, id.0);
+        let first = lengthen(&mut self.circles, owner.0, id.0)?;
         let last = self.last(first, id);
         join(&mut self.links, last, id.0);
         join(&mut self.links, id.0, first);
+        Ok(())
     }
 
-    /// Takes a key from its owner. Takes no memory, and constant time.
+    /// Takes a key from its owner. Takes no memory. The cost grows as the logarithm of the number of owners.
     pub(crate) fn remove(&mut self, owner: DescId, id: EntryId)
         requires sound { IsRows self.old }
         requires there { Contains (row self.old owner.0) id.0 }
@@ -92,8 +93,8 @@ impl<A: Allocator> Rows<A> {
         shorten(&mut self.circles, owner.0, id.0, next);
     }
 
-    /// The keys of an owner's registrations, in order. The cost of finding the first doesn't grow with the
-    /// registrations.
+    /// The keys of an owner's registrations, in order. The cost of finding the first grows as the logarithm of the
+    /// number of owners.
     pub(crate) fn keys(&self, owner: DescId) -> Walk<'_>
         requires { IsRows self.now }
         ensures { result ≡ map id_at (row self.now owner.0) }

@@ -1,18 +1,28 @@
-use Rattle.std.proofs.Common.{◌≡◌, ◌+◌, [], ◌∷◌, ◌++◌, false, cond, None, Some, ap, count_by, get_or, is_some, refl, sym, subst, ◌∙◌, arith}
+use Rattle.std.proofs.Common.{◌≡◌, ◌≤◌, ◌+◌, List, Option, [], ◌∷◌, ◌++◌, false, cond, None, Some, ap, count_by, get_or, is_some, length, refl, sym, subst, vec_capacity, ◌∙◌, arith}
 use Rattle.std.specs.HashMap as hash
 use Rattle.std.specs.List.{list_any}
 use Rattle.std.specs.Map.{lookup}
 use Rattle.slab.specs.Slab.{Slab, Updates}
-use Rattle.ep_interest.specs.ByNumber.{in_order}
+use Rattle.ep_interest.specs.ByNumber.{NumberedBy, in_order}
+use Rattle.ep_interest.specs.Passes.{passes_on}
+use Rattle.ep_interest.specs.Rows.{row}
 use Rattle.ep_interest.specs.Registrations.{GainsKey, Registrations, entry_of, has_key}
-use Rattle.ep_interest.specs.View.{IsIndex, instance_of, target_of, key_of, registrations, same_key}
+use Rattle.ep_interest.specs.View.{HasRows, IsIndex, instance_of, target_of, key_of, registrations, same_key}
 use Rattle.ep_interest.specs.declared.entry.Entry.{Entry}
 use Rattle.ep_interest.proofs.AddLemmas.{Inserted, entries_more, inserted, key_more, keys_more, numbers_more, on_ok}
+use Rattle.ep_interest.proofs.IndexLemmas.{index_same}
 use Rattle.ep_interest.proofs.KeyLemmas.{find_none}
-use Rattle.ep_interest.proofs.KeysWithLemmas.{rows_few, rows_fresh, rows_more}
-use Rattle.ep_interest.proofs.PassesLemmas.{passing_more}
+use Rattle.ep_interest.proofs.KeysWithLemmas.{rows_again, rows_few, rows_fresh, rows_more}
+use Rattle.ep_interest.proofs.PassesLemmas.{passing_more, passing_same}
+use Rattle.ep_interest.proofs.RowLemmas.{joined_there}
+use Rattle.ep_interest.proofs.TouchedLemmas.{touched_kept, touched_more}
 use Rattle.ep_interest.proofs.interest.Interest.add.Given.{Over}
 use Rattle.ep_interest.proofs.interest.Interest.add.Goals as goal
+use Rattle.ep_interest.proofs.interest.Interest.add.Goals.{After-vacant_key}
+
+-- no registration has the key that is given out next
+vacant : (g : Over) (c : After-vacant_key g) → get_or c.self.inside.slots.slots c.vacant_key.result None ≡ None
+vacant g c = ap (λ (s : Slab Entry). get_or s.slots c.vacant_key.result None) (sym c.reserve.ensures.rest_kept) ∙ c.vacant_key.ensures.vacant
 
 pub push-requires-clause-most : goal.push-requires-clause-most
 push-requires-clause-most g c =
@@ -24,8 +34,7 @@ push-requires-clause-most g c =
 pub push-requires-clause-fresh : goal.push-requires-clause-fresh
 push-requires-clause-fresh g c =
     let k = c.self.inside in
-    let none = ap (λ (s : Slab Entry). get_or s.slots c.insert_reserved.result None) (sym c.reserve.ensures.rest_kept) ∙ c.insert_reserved.ensures.was_vacant in
-    rows_fresh k.slots.slots k.added c.self.invariant.numbered instance_of c.insert_reserved.result none k.by_instance c.reserve-4.new.self c.self.invariant.by_instance c.reserve-4.ensures.kept
+    rows_fresh k.slots.slots k.added c.self.invariant.numbered instance_of c.vacant_key.result (vacant g (goal.at.push-requires-clause-fresh g c).After-vacant_key) k.by_instance c.reserve-4.new.self c.self.invariant.by_instance c.reserve-4.ensures.kept
 
 pub push-requires-2-clause-most : goal.push-requires-2-clause-most
 push-requires-2-clause-most g c =
@@ -37,14 +46,13 @@ push-requires-2-clause-most g c =
 pub push-requires-2-clause-fresh : goal.push-requires-2-clause-fresh
 push-requires-2-clause-fresh g c =
     let k = c.self.inside in
-    let none = ap (λ (s : Slab Entry). get_or s.slots c.insert_reserved.result None) (sym c.reserve.ensures.rest_kept) ∙ c.insert_reserved.ensures.was_vacant in
-    rows_fresh k.slots.slots k.added c.self.invariant.numbered target_of c.insert_reserved.result none k.by_target c.reserve-5.new.self c.self.invariant.by_target c.reserve-5.ensures.kept
+    rows_fresh k.slots.slots k.added c.self.invariant.numbered target_of c.vacant_key.result (vacant g (goal.at.push-requires-2-clause-fresh g c).After-vacant_key) k.by_target c.reserve-5.new.self c.self.invariant.by_target c.reserve-5.ensures.kept
 
 abbrev one : (g : Over) (c : goal.After-self-1 g) → Entry
 one g c = entry_of (c.self.inside.added + 1) c.args.addition
 
-in_slots : (g : Over) (c : goal.After-self-1 g) → Inserted c.self.inside.slots.slots c.insert_reserved.new.self.slots c.insert_reserved.result (one g c)
-in_slots g c = inserted c.self.inside.slots.slots c.reserve.new.self c.insert_reserved.new.self c.insert_reserved.result c.insert_reserved.result (one g c) (ap (λ (s : Slab Entry). s.slots) c.reserve.ensures.rest_kept) refl c.insert_reserved.ensures.was_vacant (subst (λ (x : Entry). Updates c.reserve.new.self c.insert_reserved.new.self c.insert_reserved.result (Some x)) c.new-entry.ensures c.insert_reserved.ensures.updates)
+in_slots : (g : Over) (c : goal.After-self-1 g) → Inserted c.self.inside.slots.slots c.insert_reserved.new.self.slots c.vacant_key.result (one g c)
+in_slots g c = inserted c.self.inside.slots.slots c.reserve.new.self c.insert_reserved.new.self c.insert_reserved.result c.vacant_key.result (one g c) (ap (λ (s : Slab Entry). s.slots) c.reserve.ensures.rest_kept) (c.vacant_key.ensures.value ∙ sym c.insert_reserved.ensures.key) c.insert_reserved.ensures.was_vacant (subst (λ (x : Entry). Updates c.reserve.new.self c.insert_reserved.new.self c.insert_reserved.result (Some x)) c.new-entry.ensures c.insert_reserved.ensures.updates)
 
 by_key : (g : Over) (c : goal.After-self-1 g) → IsIndex key_of c.insert_reserved.new.self.slots (hash.get same_key c.insert.new.self)
 by_key g c =
@@ -52,8 +60,8 @@ by_key g c =
     let absent = subst (λ (r : Registrations). list_any (has_key c.args.addition.instance c.args.addition.fd c.args.addition.desc) r.entries ≡ false) (sym c.self.view_is) c.requires.absent in
     let fresh = find_none k.slots.slots k.added c.self.invariant.numbered (hash.get same_key k.by_key) c.self.invariant.by_key c.args.addition.instance c.args.addition.fd c.args.addition.desc absent in
     let u = on_ok c.insert.result (c.insert.ensures.succeeds (omega (arith, c.in_ok-reserve-2.ensures.ok))) c.insert.ensures.updates in
-    key_more k.slots.slots c.insert_reserved.new.self.slots c.insert_reserved.result (one g c) (in_slots g c) (hash.get same_key k.by_key) (hash.get same_key c.insert.new.self) fresh
-    (λ q. u.0 q ∙ (λ i. cond (same_key (c.new-key.ensures i) q) (Some (record { 0 = c.insert_reserved.result })) (lookup (same_key q) (c.reserve-2.ensures.entries i))))
+    key_more k.slots.slots c.insert_reserved.new.self.slots c.vacant_key.result (one g c) (in_slots g c) (hash.get same_key k.by_key) (hash.get same_key c.insert.new.self) fresh
+    (λ q. u.0 q ∙ (λ i. cond (same_key (c.new-key.ensures i) q) (Some (record { 0 = c.vacant_key.result })) (lookup (same_key q) (c.reserve-2.ensures.entries i))))
     c.self.invariant.by_key
 
 pub invariant_of-self-2 : goal.invariant_of-self-2
@@ -61,18 +69,47 @@ invariant_of-self-2 g c =
     let k = c.self.inside in
     let s = in_slots g c in
     record {
-      numbered = numbers_more k.slots.slots c.insert_reserved.new.self.slots c.insert_reserved.result (one g c) s k.added refl c.self.invariant.numbered;
+      numbered = numbers_more k.slots.slots c.insert_reserved.new.self.slots c.vacant_key.result (one g c) s k.added refl c.self.invariant.numbered;
       by_key = by_key g c;
-      by_instance = rows_more k.slots.slots c.insert_reserved.new.self.slots c.insert_reserved.result (one g c) s k.added refl c.self.invariant.numbered instance_of k.by_instance c.reserve-4.new.self c.push.new.self c.self.invariant.by_instance c.reserve-4.ensures.kept c.push.ensures.sound c.push.ensures.rows;
-      by_target = rows_more k.slots.slots c.insert_reserved.new.self.slots c.insert_reserved.result (one g c) s k.added refl c.self.invariant.numbered target_of k.by_target c.reserve-5.new.self c.push-2.new.self c.self.invariant.by_target c.reserve-5.ensures.kept c.push-2.ensures.sound c.push-2.ensures.rows;
-      passing = passing_more k.slots.slots c.insert_reserved.new.self.slots k.passes.keys.items c.reserve-3.new.self.keys.items c.reserve-3.ensures.keys c.insert_reserved.result (one g c) s.was s.here refl s.others c.self.invariant.passing;
+      by_instance = rows_more k.slots.slots c.insert_reserved.new.self.slots c.vacant_key.result (one g c) s k.added refl c.self.invariant.numbered instance_of k.by_instance c.reserve-4.new.self c.push.new.self c.self.invariant.by_instance c.reserve-4.ensures.kept c.push.ensures.sound c.in_ok-push.ensures.rows;
+      by_target = rows_more k.slots.slots c.insert_reserved.new.self.slots c.vacant_key.result (one g c) s k.added refl c.self.invariant.numbered target_of k.by_target c.reserve-5.new.self c.push-2.new.self c.self.invariant.by_target c.reserve-5.ensures.kept c.push-2.ensures.sound c.in-Ok.ensures.rows;
+      passing = passing_more k.slots.slots c.insert_reserved.new.self.slots k.passes.keys.items c.reserve-3.new.self.keys.items c.reserve-3.ensures.keys c.vacant_key.result (one g c) s.was s.here refl s.others c.self.invariant.passing;
       room = omega (arith, c.capacity-room.ensures.slots, c.capacity-room.ensures.value, c.insert_reserved.ensures.capacity, c.capacity-many.ensures.value, c.in_ok-reserve-3.ensures.room);
+      touched = touched_more k.slots.slots c.insert_reserved.new.self.slots c.vacant_key.result (one g c) s k.touched.numbers.keys c.note-2.new.self.numbers.keys (λ n h. c.note-2.ensures.kept n (c.note.ensures.kept n h)) (c.note-2.ensures.kept c.args.addition.instance.0 c.in_ok-note.ensures.noted) c.in_ok-note-2.ensures.noted c.self.invariant.touched;
     }
 
 pub returns-clause-entries : goal.returns-clause-entries
 returns-clause-entries g c = subst (λ (r : Registrations). in_order c.insert_reserved.new.self.slots (c.self.inside.added + 1) ≡ r.entries ++ entry_of (r.added + 1) c.args.addition ∷ []) c.self.view_is
-    (entries_more c.self.inside.slots.slots c.insert_reserved.new.self.slots c.insert_reserved.result (one g c) (in_slots g c) c.self.inside.added refl c.self.invariant.numbered)
+    (entries_more c.self.inside.slots.slots c.insert_reserved.new.self.slots c.vacant_key.result (one g c) (in_slots g c) c.self.inside.added refl c.self.invariant.numbered)
 
 pub returns-clause-keys : goal.returns-clause-keys
-returns-clause-keys g c = subst (λ (r : Registrations). GainsKey r (registrations {A = g.row.A.Denot} (record { slots = c.insert_reserved.new.self; by_key = c.insert.new.self; by_instance = c.push.new.self; by_target = c.push-2.new.self; passes = c.reserve-3.new.self; added = c.self.inside.added + 1 })) (record { 0 = c.insert_reserved.result }) (r.added + 1)) c.self.view_is
-    (keys_more c.self.inside.slots.slots c.insert_reserved.new.self.slots c.insert_reserved.result (one g c) (in_slots g c) c.self.inside.added refl c.self.invariant.numbered c.self.inside.slots.vacant_key c.insert_reserved.new.self.vacant_key)
+returns-clause-keys g c = subst (λ (r : Registrations). GainsKey r (registrations {A = g.row.A.Denot} (record { slots = c.insert_reserved.new.self; by_key = c.insert.new.self; by_instance = c.push.new.self; by_target = c.push-2.new.self; passes = c.reserve-3.new.self; touched = c.note-2.new.self; added = c.self.inside.added + 1 })) (record { 0 = c.vacant_key.result }) (r.added + 1)) c.self.view_is
+    (keys_more c.self.inside.slots.slots c.insert_reserved.new.self.slots c.vacant_key.result (one g c) (in_slots g c) c.self.inside.added refl c.self.invariant.numbered c.self.inside.slots.vacant_key c.insert_reserved.new.self.vacant_key)
+
+pub push-requires-clause-linked : goal.push-requires-clause-linked
+push-requires-clause-linked g c = omega (arith, c.in_ok-places.ensures, c.in_ok-reserve-4.ensures.links)
+
+pub push-requires-2-clause-linked : goal.push-requires-2-clause-linked
+push-requires-2-clause-linked g c = omega (arith, c.in_ok-places.ensures, c.in_ok-reserve-5.ensures.links)
+
+pub remove-requires-clause-there : goal.remove-requires-clause-there
+remove-requires-clause-there g c = joined_there (row c.reserve-4.new.self c.args.addition.instance.0) (row c.push.new.self c.args.addition.instance.0) c.args.addition.instance.0 c.vacant_key.result (c.in_ok-push.ensures.rows c.args.addition.instance.0)
+
+-- what was put in one row and taken away leaves no trace
+pub invariant_of-self-in-Err : goal.invariant_of-self-in-Err
+invariant_of-self-in-Err g c =
+    let k = c.self.inside in
+    let none = vacant g (goal.at.invariant_of-self-in-Err g c).After-vacant_key in
+    let fresh = rows_fresh k.slots.slots k.added c.self.invariant.numbered instance_of c.vacant_key.result none k.by_instance c.reserve-4.new.self c.self.invariant.by_instance c.reserve-4.ensures.kept in
+    let slots = ap (λ (s : Slab Entry). s.slots) (sym c.reserve.ensures.rest_kept) in
+    let instance = rows_again k.slots.slots k.added instance_of c.args.addition.instance.0 c.vacant_key.result k.by_instance c.reserve-4.new.self c.push.new.self c.remove.new.self c.self.invariant.by_instance c.reserve-4.ensures.kept fresh c.in_ok-push.ensures.rows c.remove.ensures.sound c.remove.ensures.rows in
+    let target : HasRows target_of k.slots.slots k.added c.push-2.new.self = record { sound = c.push-2.ensures.sound; rows = λ i. c.in-Err.ensures.kept i ∙ (c.reserve-5.ensures.kept i ∙ c.self.invariant.by_target.rows i) } in
+    record {
+      numbered = subst (λ (xs : List (Option Entry)). NumberedBy xs k.added) slots c.self.invariant.numbered;
+      by_key = index_same key_of k.slots.slots c.reserve.new.self.slots slots (hash.get same_key k.by_key) (hash.get same_key c.reserve-2.new.self) (λ q. λ i. lookup (same_key q) (c.reserve-2.ensures.entries i)) c.self.invariant.by_key;
+      by_instance = subst (λ (xs : List (Option Entry)). HasRows instance_of xs k.added c.remove.new.self) slots instance;
+      by_target = subst (λ (xs : List (Option Entry)). HasRows target_of xs k.added c.push-2.new.self) slots target;
+      passing = passing_same k.slots.slots c.reserve.new.self.slots k.passes.keys.items c.reserve-3.new.self.keys.items c.reserve-3.ensures.keys (λ j. ap (λ (xs : List (Option Entry)). passes_on (get_or xs j None)) (sym slots)) c.self.invariant.passing;
+      room = subst (λ (xs : List (Option Entry)). length xs ≤ vec_capacity c.reserve-3.new.self.keys) slots (omega (arith, c.self.invariant.room, c.reserve-3.ensures.kept));
+      touched = touched_kept k.slots.slots c.reserve.new.self.slots k.touched.numbers.keys c.note-2.new.self.numbers.keys (sym slots) (λ n h. c.note-2.ensures.kept n (c.note.ensures.kept n h)) c.self.invariant.touched;
+    }

@@ -12,6 +12,7 @@ use Rattle.ep_interest.proofs.RemoveLemmas.{Emptied, held_less, keys_less, numbe
 use Rattle.ep_interest.proofs.KeyLemmas.{same_key_exact, same_key_self}
 use Rattle.ep_interest.proofs.PassesLemmas.{held_within, passing_one, room_for}
 use Rattle.ep_interest.proofs.KeysWithLemmas.{rows_less, rows_there}
+use Rattle.ep_interest.proofs.TouchedLemmas.{touched_less}
 use Rattle.ep_interest.proofs.interest.Interest.remove.Given.{Over}
 use Rattle.ep_interest.proofs.interest.Interest.remove.Goals as goal
 
@@ -51,6 +52,7 @@ invariant_of-self g c = record {
   by_target = rows_less c.self.inside.slots.slots c.remove-entry.new.self.slots c.args.id.0 c.remove-entry.result (in_slots g c) c.self.inside.added c.self.invariant.numbered target_of c.self.inside.by_target c.remove-2.new.self c.self.invariant.by_target c.remove-2.ensures.sound c.remove-2.ensures.rows;
   passing = let k = c.self.inside in let s = in_slots g c in passing_one k.slots.slots c.remove-entry.new.self.slots k.passes.keys.items c.follow.new.self.keys.items c.args.id.0 false c.self.invariant.passing c.follow.ensures.once c.follow.ensures.noted (ap passes_on s.gone) s.others;
   room = rw (c.remove-entry.ensures.slots, length-set c.self.inside.slots.slots c.args.id.0 None) (omega (arith, c.follow.ensures.kept, c.self.invariant.room));
+  touched = touched_less c.self.inside.slots.slots c.remove-entry.new.self.slots c.self.inside.touched.numbers.keys c.args.id.0 c.remove-entry.result (in_slots g c) c.self.invariant.touched;
 }
 
 pub returns-clause-entries : goal.returns-clause-entries
