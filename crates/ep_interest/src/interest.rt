@@ -287,6 +287,13 @@ impl<A: Allocator> Interest<A> {
         self.slots.len()
     }
 
+    /// How many registrations were ever added.
+    pub fn added(&self) -> u64
+        ensures { result ≡ self.now.added }
+    {
+        self.added
+    }
+
     /// Adds a registration with the next number, armed and never reported, as ADD of epoll_ctl(2) does, and answers
     /// its key. `AllocError` where there is no memory, or no number is left after 2^64 - 1 additions, and then
     /// nothing has changed. No other call of this type takes memory. The cost grows as the logarithm of the number of

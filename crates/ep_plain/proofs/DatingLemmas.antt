@@ -242,6 +242,14 @@ module _ (shows : Entry → Bool) (n : ℕ) (counted : 0 < n) (r : Registrations
     found_long None = refl
     found_long (Some z) = length-set s z.number (entry_event shows n s z)
 
+  -- no later number is dated
+  pub again_later : (ids : List EntryId) (s : List ℕ) (k : ℕ) → r.added < k → event_at (again_since shows n r ids s) k ≡ event_at s k
+  again_later [] s k lt = refl
+  again_later (id ∷ ids) s k lt = again_later ids (dated_found shows n (entry_under r id) s) k lt ∙ found_later (entry_under r id) refl where
+    found_later : (o : Option Entry) → entry_under r id ≡ o → event_at (dated_found shows n o s) k ≡ event_at s k
+    found_later None is = refl
+    found_later (Some z) is = get_or-set_other s z.number k (entry_event shows n s z) 0 (λ e. let le = within r sound id z is in omega (arith, lt, le, e))
+
   -- The dates.
   module _ (old : List ℕ) (room : r.added < length old) where
     abbrev target : Entry → ℕ

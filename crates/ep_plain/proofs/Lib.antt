@@ -1,4 +1,5 @@
 pub mod ActWithLemmas
+pub mod AddedLemmas
 pub mod AllowLemmas
 pub mod ChooseLemmas
 pub mod ClimbLemmas

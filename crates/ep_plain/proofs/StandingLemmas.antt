@@ -1,8 +1,8 @@
 -- What holds of the kernel over one event.
-use Rattle.std.proofs.Common.{get_or, ◌≡◌, ◌<◌, ◌≤◌, ◌+◌, ◌++◌, ◌∙◌, ◌==◌, ◌&&◌, ◌||◌, ℕ, All, Bool, List, [], ◌∷◌, None, Option, Some, ap, arith, false, inl, inr, is_some, length, map, nat_lt, refl, slice_index_or, subst, sym, true, unwrap_or}
+use Rattle.std.proofs.Common.{get_or, ◌≡◌, ◌<◌, ◌≤◌, ◌+◌, ◌++◌, ◌∙◌, ◌==◌, ◌&&◌, ◌||◌, ℕ, All, Bool, List, [], ◌∷◌, None, Option, Some, ap, arith, false, inl, inr, is_some, length, map, nat_lt, refl, slice_index_or, subst, sym, true, unwrap_or, vec_capacity}
 use Rattle.std.specs.List.{list_any}
 use Rattle.std.specs.Prelude.{IfNone, IfSome}
-use Rattle.std.proofs.lemmas.Bool.{false≢true}
+use Rattle.std.proofs.lemmas.Bool.{cases_Bool, false≢true}
 use Rattle.std.proofs.lemmas.List.{length-append}
 use Rattle.std.proofs.lemmas.List.Elements.{All-head, All-map, All-tail}
 use Rattle.ep_base.specs.declared.call.Event.{Event}
@@ -25,8 +25,8 @@ use Rattle.ep_calls.specs.Raising.{Raises}
 use Rattle.ep_calls.specs.Stands.{KeepsKeys, number_at, watch_at}
 use Rattle.ep_plain.proofs.EndLemmas.{ready_settled, rested, rests_so, settles, shows_settled}
 use Rattle.ep_plain.proofs.ReasonLemmas.{have_reasons}
-use Rattle.ep_plain.specs.Altered.{HadOrAdds, NamesAltered}
-use Rattle.ep_plain.proofs.DatingLemmas.{count_le}
+use Rattle.ep_plain.specs.Altered.{HadOrAdds, NamesAltered, is_adding}
+use Rattle.ep_plain.proofs.AddedLemmas.{step_adds_none}
 use Rattle.ep_plain.specs.Dating.{AreListed, Dated, dated_count, dated_of}
 use Rattle.ep_plain.specs.Ends.{Rests, Spreads}
 use Rattle.ep_plain.specs.Mark.{TellsReady}
@@ -101,14 +101,15 @@ module _ (past : List Record) (old mid left : Parts) (d : Dating) (standing : St
     listed_rest e h id k under = h id k (ap (λ (ks : List (Option ℕ)). slice_index_or ks id.0 None) (sym (ap (λ (r : Registrations). r.keys) interest ∙ rests.keys)) ∙ under)
 
     pub standing_next : (e : Dating) → Dates (entry_shows (readiness left.tables left.clock left.interest) left.tables left.clock) n left.interest longer e.since.items → AreListed left.interest (dated_of e)
-        → length e.keys.items ≤ dated_count e.since.items → Standing after new e
-    standing_next e dates listed count = record {
+        → length e.keys.items ≤ dated_count e.since.items → left.interest.added < vec_capacity e.keys → Standing after new e
+    standing_next e dates listed count many = record {
       keeps = keeps_new;
       dated =
           next_dated standing.keeps.state d.since.items standing.keeps.sound standing.dated old.tables.limits keeps_new.state caller.0 event outcome.picked outcome.answer new.tables new.interest new.clock n e.since.items
           step_keeps_turns step_adds_one goes keeps_new.stands (at ∙ ap (λ (k : ℕ). k + 1) (sym standing.keeps.n)) (dates_rest e.since.items dates);
       listed = listed_rest e listed;
       count = count;
+      room = omega (arith, many, rests.added, ap (λ (r : Registrations). r.added) interest);
     }
 
     -- the record that is added
@@ -167,6 +168,26 @@ module _ (past : List Record) (old mid left : Parts) (d : Dating) (standing : St
   pub room : left.interest.added < length longer
   room = room_then (rested left) (rests_so left)
 
+  -- and for its key, where one that is added was reckoned with
+  pub key_room : (cap : ℕ) → old.interest.added < cap → (is_adding event ≡ true → old.interest.added + 1 < cap) → left.interest.added < cap
+  key_room cap lt more =
+      let t = keeps_new (rested left) (rests_so left) in
+      let is = goes (rested left) (rests_so left) in
+      let one = step_adds_one old.tables.limits standing.keeps.state t.state caller.0 event outcome.picked outcome.answer is in
+      elim (cases_Bool (is_adding event)) [
+        | inl adds ↦ let enough = more adds in omega (arith, enough, one.1, standing.keeps.stands.added, t.stands.added)
+        | inr none ↦
+            let same = step_adds_none old.tables.limits standing.keeps.state t.state caller.0 event outcome.picked outcome.answer none is in
+            omega (arith, lt, same, standing.keeps.stands.added, t.stands.added)
+      ]
+
+  -- no number is dated that was not given out
+  pub later_left : (k : ℕ) → left.interest.added < k → event_at longer k ≡ 0
+  later_left k lt =
+      let t = keeps_new (rested left) (rests_so left) in
+      let one = step_adds_one old.tables.limits standing.keeps.state t.state caller.0 event outcome.picked outcome.answer (goes (rested left) (rests_so left)) in
+      event_more d.since.items k ∙ standing.dated.later k (omega (arith, lt, one.0, t.stands.added))
+
   -- what had a date before has its key in the list
   pub listed_left : (ids : HadOrAdds old.interest mid.interest) → AreListed left.interest (record { since = longer; keys = d.keys.items })
   listed_left ids id k under up =
@@ -196,18 +217,19 @@ module _ (past : List Record) (old mid left : Parts) (d : Dating) (standing : St
         | inr why ↦ inr why
       ]
 
--- other room changes nothing
-pub standing_room : (past : List Record) (p : Parts) (d e : Dating) → dated_of e ≡ dated_of d → Standing past p d → Standing past p e
-standing_room past p d e same h = record {
+-- more room changes nothing
+pub standing_room : (past : List Record) (p : Parts) (d e : Dating) → dated_of e ≡ dated_of d → vec_capacity d.keys ≤ vec_capacity e.keys → Standing past p d → Standing past p e
+standing_room past p d e same more h = record {
   keeps = h.keeps;
   dated = subst (λ (q : Dated). IsDated h.keeps.state q.since) (sym same) h.dated;
   listed = subst (λ (q : Dated). AreListed p.interest q) (sym same) h.listed;
   count = subst (λ (q : Dated). length q.keys ≤ dated_count q.since) (sym same) h.count;
+  room = omega (arith, h.room, more);
 }
 
--- no more keys than dates
-pub few_keys : (past : List Record) (p : Parts) (d : Dating) → Standing past p d → length d.keys.items ≤ length d.since.items
-few_keys past p d h = let le = count_le d.since.items in let count = h.count in omega (arith, le, count)
+-- there is a place for each registration that was ever added
+pub has_places : (past : List Record) (p : Parts) (d : Dating) → Standing past p d → p.interest.added < length d.since.items
+has_places past p d h = omega (arith, h.dated.places, h.keeps.stands.added)
 
 -- the state that an event begins in
 module _ (past : List Record) (old : Parts) (keeps : Keeps past old) (n : ℕ) (at : n ≡ length past + 1) where

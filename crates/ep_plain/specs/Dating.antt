@@ -60,11 +60,13 @@ abbrev pub dated_count : List ℕ → ℕ
 dated_count [] = 0
 dated_count (event ∷ events) = (if nat_lt 0 event then 1 else 0) + dated_count events
 
--- there is a place for each number up to this one, and no more keys than dates, each with room for its key
+-- there is a place for each number up to this one, no later one is dated, and there are no more keys than dates, with
+-- room for a key of each number
 pub record Fits (added : ℕ) (d : Dating) : Type 0 where
   pub places : added < length d.since.items
+  pub later : (k : ℕ) → added < k → event_at d.since.items k ≡ 0
   pub count : length d.keys.items ≤ dated_count d.since.items
-  pub room : length d.since.items ≤ vec_capacity d.keys
+  pub room : added < vec_capacity d.keys
 
 -- with the room that there was
 pub record KeepsRoom (old new : Dating) : Type 0 where

@@ -7,7 +7,7 @@ ghost use Rattle.ep_calls.specs.Spared.{IsSpared};
 ghost use Rattle.ep_machine.specs.Step.{step as step_of};
 ghost use Rattle.ep_plain.specs.StepWith.{AddsBy, HasStep, StepsWith};
 
-use crate::altered::find_altered;
+use crate::altered::{count_added, find_altered, is_adding};
 use crate::settle::{rest, spread};
 use crate::since::{Dating, date};
 use crate::stamp::Stamp;
@@ -82,7 +82,8 @@ impl PlainKernel {
         ensures err { OnErr result (self.new ≡ record self.old { capacity = self.new.capacity }) }
     {
         self.history.reserve(1)?;
-        self.dating.reserve(1)?;
+        let added = count_added(&self.parts);
+        self.dating.make_room(is_adding(&event), added)?;
         let step = self.history.len() as u64 + 1;
         let altered = find_altered(&self.parts, &event);
         reportables_are_spread();
@@ -192,7 +193,7 @@ impl Kernel for PlainKernel {
 
     fn reserve(&mut self, additional: usize) -> Result<(), AllocError> {
         self.history.reserve(additional)?;
-        self.dating.reserve(additional)
+        self.dating.since.reserve(additional)
     }
 
     fn history(&self) -> &[Record] {

@@ -1,5 +1,5 @@
 //! Since which event each registration is reportable.
-ghost use Rattle.std.specs.Prelude.{◌≡◌, ◌<◌, ◌≤◌, ◌+◌, ◌∷◌, [], IfOk, IsOk, IsSome, OnOk, length, nat_lt, slice_set, true, vec_capacity};
+ghost use Rattle.std.specs.Prelude.{◌≡◌, ◌<◌, ◌≤◌, ◌+◌, ◌∷◌, [], IfOk, IsOk, IsSome, OnOk, false, length, nat_lt, slice_set, true, vec_capacity};
 ghost use Rattle.ep_calls.specs.Climb.{AreNested, is_nested};
 ghost use Rattle.ep_calls.specs.Readiness.{entry_shows, readiness};
 ghost use Rattle.ep_calls.specs.Stands.{AreLinked};
@@ -32,31 +32,35 @@ impl Dating {
     pub fn new(alloc: Global) -> Result<Dating, AllocError>
         ensures since { IfOk result (λ dating. dating.since.items ≡ 0 ∷ []) }
         ensures keys { IfOk result (λ dating. dating.keys.items ≡ []) }
+        ensures room { IfOk result (λ dating. 0 < vec_capacity dating.keys) }
     {
         let mut since = Vec::new(alloc);
         since.push(0)?;
-        Ok(Dating {
-            since,
-            keys: Vec::new(alloc),
-        })
+        let mut keys = Vec::new(alloc);
+        keys.reserve(1)?;
+        Ok(Dating { since, keys })
     }
 
-    /// Makes room for this many further numbers, and for the keys of as many registrations as there are numbers then.
-    pub fn reserve(&mut self, additional: usize) -> Result<(), AllocError>
-        requires { length self.old.keys.items ≤ length self.old.since.items }
+    /// Makes room for one number more, and where the event adds a registration, for the keys of one more than there
+    /// ever were. What removes or closes something asks for no key.
+    pub fn make_room(&mut self, is_adding: bool, added: u64) -> Result<(), AllocError>
+        requires { added < length self.old.since.items }
         ensures dates { dated_of self.new ≡ dated_of self.old }
         ensures since { OnOk result
-            (length self.new.since.items + additional ≤ vec_capacity self.new.since) }
+            (length self.new.since.items + 1 ≤ vec_capacity self.new.since) }
         ensures keys { OnOk result
-            (length self.new.since.items + additional ≤ vec_capacity self.new.keys) }
+            (is_adding ≡ true → added + 1 < vec_capacity self.new.keys) }
         ensures since_stays { vec_capacity self.old.since ≤ vec_capacity self.new.since }
         ensures keys_stay { vec_capacity self.old.keys ≤ vec_capacity self.new.keys }
-        ensures spared { length self.old.since.items + additional ≤ vec_capacity self.old.since
-            → length self.old.since.items + additional ≤ vec_capacity self.old.keys → IsOk result }
+        ensures spared { is_adding ≡ false
+            → length self.old.since.items + 1 ≤ vec_capacity self.old.since → IsOk result }
     {
-        self.since.reserve(additional)?;
-        let places = self.since.len() + additional;
-        self.keys.reserve(places - self.keys.len())
+        self.since.reserve(1)?;
+        if !is_adding {
+            return Ok(());
+        }
+        let places = added as usize + 2;
+        self.keys.reserve(places.saturating_sub(self.keys.len()))
     }
 }
 

@@ -2,7 +2,7 @@ use Rattle.std.proofs.Common.{◌≡◌, ◌∙◌, List, ap, arith, rules}
 use Rattle.ep_base.specs.declared.ids.EntryId.{EntryId}
 use Rattle.ep_calls.specs.Readiness.{entry_shows, readiness}
 use Rattle.ep_plain.proofs.CoverLemmas.{again_whole}
-use Rattle.ep_plain.proofs.RoomLemmas.{count_again, fits_on}
+use Rattle.ep_plain.proofs.RoomLemmas.{count_again, fits_on, later_again}
 use Rattle.ep_plain.specs.Dating.{again, dated_of}
 use Rattle.ep_plain.specs.declared.since.Dating.{Dating}
 use Rattle.ep_plain.proofs.since.date_again.Goals as goal
@@ -21,3 +21,4 @@ returns-clause-fits c =
     ∙ again_whole shows n r before.keys.items before.since.items c.loop-place.kept c.loop-place.place (dated_of old) (omega (arith, c.loop-place.invariant.long, c.len-place-end.ensures)) c.loop-place.invariant.since c.loop-place.invariant.keys in
     fits_on r.added old new c.requires.fits (record { since = c.loop-place.invariant.room_since; keys = search rules; length = c.loop-place.invariant.places })
     (count_again shows n c.requires.step r c.known.ensures old new c.requires.fits dates)
+    (later_again shows n c.requires.step r c.known.ensures old new dates)

@@ -21,4 +21,5 @@ invariant_of-result c =
       dated = subst (λ (s : State). IsDated s d.since.items) at (opening_dated d.since.items c.in_ok-dating.ensures.since);
       listed = opening_listed p.interest (dated_of d) c.in_ok-dating.ensures.since;
       count = omega (arith, ap (λ (ks : List EntryId). length ks) c.in_ok-dating.ensures.keys);
+      room = omega (arith, ap (λ (s : State). s.added) at, keeps.stands.added, c.in_ok-dating.ensures.room);
     })

@@ -1,5 +1,4 @@
 use Rattle.std.proofs.Common.{◌≡◌, ◌<◌, ◌+◌, ◌++◌, [], ◌∷◌, List, ℕ, ap, length, ◌∙◌, arith, option_copied, subst, sym, vec_capacity}
-use Rattle.std.proofs.lemmas.List.{length-append}
 use Rattle.ep_base.specs.declared.answer.Answer.{Answer}
 use Rattle.ep_base.specs.declared.ids.EntryId.{EntryId}
 use Rattle.ep_base.specs.declared.record.Record.{Record}
@@ -13,13 +12,13 @@ use Rattle.ep_calls.specs.Readiness.{entry_shows, readiness}
 use Rattle.ep_plain.proofs.DatingLemmas.{count_more}
 use Rattle.ep_plain.specs.Dating.{AreListed, Dated, dated_count, dated_of}
 use Rattle.ep_plain.specs.Reason.{HaveReasons}
-use Rattle.ep_plain.specs.Since.{Dates}
+use Rattle.ep_plain.specs.Since.{Dates, event_at}
 use Rattle.ep_plain.specs.Standing.{Standing, book_of}
 use Rattle.ep_plain.specs.StepWith.{AddsBy, HasStep}
 use Rattle.ep_plain.specs.These.{MayReport}
 use Rattle.ep_plain.proofs.AllowLemmas.{dated_shown}
 use Rattle.ep_plain.specs.Choose.{Tells}
-use Rattle.ep_plain.proofs.StandingLemmas.{adds_by, does_with, few_keys, kept_of, listed_left, may_report, reasons, reports, room, standing_next, standing_room, tells_left}
+use Rattle.ep_plain.proofs.StandingLemmas.{adds_by, does_with, has_places, kept_of, key_room, later_left, listed_left, may_report, reasons, reports, room, standing_next, standing_room, tells_left}
 use Rattle.ep_plain.proofs.plain.PlainKernel.try_step.Goals as goal
 
 -- the number of the event
@@ -67,21 +66,23 @@ act_with-requires c =
       shown = dated_shown p.tables p.clock p.interest keeps.state c.self.inside.dating.since.items keeps.stands c.self.invariant.dated;
       listed = c.self.invariant.listed;
     } in
-    record { told = subst (λ (d : Dated). Tells p.tables p.clock p.interest d) (sym c.reserve-2.ensures.dates) told }
+    record { told = subst (λ (d : Dated). Tells p.tables p.clock p.interest d) (sym c.make_room.ensures.dates) told }
 
-pub reserve-requires-2 : goal.reserve-requires-2
-reserve-requires-2 c = let k = c.self.inside in few_keys k.history.items k.parts k.dating c.self.invariant
-
-pub invariant_of-self-in_err-reserve-2 : goal.invariant_of-self-in_err-reserve-2
-invariant_of-self-in_err-reserve-2 c =
+pub make_room-requires : goal.make_room-requires
+make_room-requires c =
     let k = c.self.inside in
-    subst (λ (rs : List Record). Standing rs k.parts c.reserve-2.new.self) (sym c.reserve.ensures.items) (standing_room k.history.items k.parts k.dating c.reserve-2.new.self c.reserve-2.ensures.dates c.self.invariant)
+    subst (λ (n : ℕ). n < length k.dating.since.items) (sym c.count_added-added.ensures) (has_places k.history.items k.parts k.dating c.self.invariant)
+
+pub invariant_of-self-in_err-make_room : goal.invariant_of-self-in_err-make_room
+invariant_of-self-in_err-make_room c =
+    let k = c.self.inside in
+    subst (λ (rs : List Record). Standing rs k.parts c.make_room.new.self) (sym c.reserve.ensures.items) (standing_room k.history.items k.parts k.dating c.make_room.new.self c.make_room.ensures.dates c.make_room.ensures.keys_stay c.self.invariant)
 
 pub invariant_of-self-in_err-outcome : goal.invariant_of-self-in_err-outcome
 invariant_of-self-in_err-outcome c =
     let k = c.self.inside in
-    subst (λ (rs : List Record). Standing rs c.act_with.new.parts c.reserve-2.new.self) (sym c.reserve.ensures.items)
-    (subst (λ (p : Parts). Standing k.history.items p c.reserve-2.new.self) (sym c.in_err-outcome.ensures.err) (standing_room k.history.items k.parts k.dating c.reserve-2.new.self c.reserve-2.ensures.dates c.self.invariant))
+    subst (λ (rs : List Record). Standing rs c.act_with.new.parts c.make_room.new.self) (sym c.reserve.ensures.items)
+    (subst (λ (p : Parts). Standing k.history.items p c.make_room.new.self) (sym c.in_err-outcome.ensures.err) (standing_room k.history.items k.parts k.dating c.make_room.new.self c.make_room.ensures.dates c.make_room.ensures.keys_stay c.self.invariant))
 
 pub date-requires-clause-fits : goal.date-requires-clause-fits
 date-requires-clause-fits c =
@@ -92,14 +93,17 @@ date-requires-clause-fits c =
     (subst (λ (b : Book). HasStep b.limits (state_of b) c.args.caller c.args.event (option_copied c.args.picks)) (sym c.self.view_is) c.requires.there) in
     let done =
     does_with k.history.items k.parts c.self.invariant.keeps (c.len.result + 1) n (MayReport k.parts c.args.caller.0 c.args.event (option_copied c.args.picks)) c.args.caller.0 c.args.event c.in_ok-outcome.outcome c.act_with.new.parts c.in_ok-outcome.ensures.ok go in
-    let longer = c.push_reserved.ensures.items ∙ ap (λ (d : Dated). d.since ++ 0 ∷ []) c.reserve-2.ensures.dates in
-    let keys = ap (λ (d : Dated). d.keys) c.reserve-2.ensures.dates in
+    let longer = c.push_reserved.ensures.items ∙ ap (λ (d : Dated). d.since ++ 0 ∷ []) c.make_room.ensures.dates in
+    let keys = ap (λ (d : Dated). d.keys) c.make_room.ensures.dates in
     let here = room k.history.items k.parts c.act_with.new.parts c.spread.new.parts k.dating c.self.invariant c.args.caller c.args.event c.in_ok-outcome.outcome (c.len.result + 1) n done c.spread.ensures in
     let count = c.self.invariant.count in
     record {
       places = subst (λ (xs : List ℕ). c.spread.new.parts.interest.added < length xs) (sym longer) here;
       count = omega (arith, count, ap (λ (ks : List EntryId). length ks) keys, ap dated_count longer, count_more k.dating.since.items);
-      room = omega (arith, c.in_ok-reserve-2.ensures.keys, ap (λ (xs : List ℕ). length xs) longer, length-append k.dating.since.items (0 ∷ []), ap (λ (d : Dated). length d.since) c.reserve-2.ensures.dates);
+      later = λ i lt. ap (λ (xs : List ℕ). event_at xs i) longer ∙ later_left k.history.items k.parts c.act_with.new.parts c.spread.new.parts k.dating c.self.invariant c.args.caller c.args.event c.in_ok-outcome.outcome (c.len.result + 1) n done c.spread.ensures i lt;
+      room = key_room k.history.items k.parts c.act_with.new.parts c.spread.new.parts k.dating c.self.invariant c.args.caller c.args.event c.in_ok-outcome.outcome (c.len.result + 1) n done c.spread.ensures (vec_capacity c.make_room.new.self.keys)
+          (omega (arith, c.self.invariant.room, c.make_room.ensures.keys_stay))
+          (λ adds. let enough = c.in_ok-make_room.ensures.keys (c.is_adding.ensures ∙ adds) in omega (arith, enough, c.count_added-added.ensures));
     }
 
 pub date-requires-clause-listed : goal.date-requires-clause-listed
@@ -111,8 +115,8 @@ date-requires-clause-listed c =
     (subst (λ (b : Book). HasStep b.limits (state_of b) c.args.caller c.args.event (option_copied c.args.picks)) (sym c.self.view_is) c.requires.there) in
     let done =
     does_with k.history.items k.parts c.self.invariant.keeps (c.len.result + 1) n (MayReport k.parts c.args.caller.0 c.args.event (option_copied c.args.picks)) c.args.caller.0 c.args.event c.in_ok-outcome.outcome c.act_with.new.parts c.in_ok-outcome.ensures.ok go in
-    let longer = c.push_reserved.ensures.items ∙ ap (λ (d : Dated). d.since ++ 0 ∷ []) c.reserve-2.ensures.dates in
-    let keys = ap (λ (d : Dated). d.keys) c.reserve-2.ensures.dates in
+    let longer = c.push_reserved.ensures.items ∙ ap (λ (d : Dated). d.since ++ 0 ∷ []) c.make_room.ensures.dates in
+    let keys = ap (λ (d : Dated). d.keys) c.make_room.ensures.dates in
     let here =
     listed_left k.history.items k.parts c.act_with.new.parts c.spread.new.parts k.dating c.self.invariant c.args.caller c.args.event c.in_ok-outcome.outcome (c.len.result + 1) n done c.spread.ensures c.act_with.ensures.ids in
     subst (λ (d : Dated). AreListed c.spread.new.parts.interest d) (λ i. record { since = sym longer i; keys = sym keys i }) here
@@ -126,8 +130,8 @@ date-requires-clause-reasons c =
     (subst (λ (b : Book). HasStep b.limits (state_of b) c.args.caller c.args.event (option_copied c.args.picks)) (sym c.self.view_is) c.requires.there) in
     let done =
     does_with k.history.items k.parts c.self.invariant.keeps (c.len.result + 1) n (MayReport k.parts c.args.caller.0 c.args.event (option_copied c.args.picks)) c.args.caller.0 c.args.event c.in_ok-outcome.outcome c.act_with.new.parts c.in_ok-outcome.ensures.ok go in
-    let longer = c.push_reserved.ensures.items ∙ ap (λ (d : Dated). d.since ++ 0 ∷ []) c.reserve-2.ensures.dates in
-    let keys = ap (λ (d : Dated). d.keys) c.reserve-2.ensures.dates in
+    let longer = c.push_reserved.ensures.items ∙ ap (λ (d : Dated). d.since ++ 0 ∷ []) c.make_room.ensures.dates in
+    let keys = ap (λ (d : Dated). d.keys) c.make_room.ensures.dates in
     let q = c.spread.new.parts in
     let here =
     reasons k.history.items k.parts c.act_with.new.parts q k.dating c.self.invariant c.args.caller c.args.event c.in_ok-outcome.outcome (c.len.result + 1) n done c.spread.ensures
@@ -143,7 +147,7 @@ rest-requires c =
     (subst (λ (b : Book). HasStep b.limits (state_of b) c.args.caller c.args.event (option_copied c.args.picks)) (sym c.self.view_is) c.requires.there) in
     let done =
     does_with k.history.items k.parts c.self.invariant.keeps (c.len.result + 1) n (MayReport k.parts c.args.caller.0 c.args.event (option_copied c.args.picks)) c.args.caller.0 c.args.event c.in_ok-outcome.outcome c.act_with.new.parts c.in_ok-outcome.ensures.ok go in
-    let longer = c.push_reserved.ensures.items ∙ ap (λ (d : Dated). d.since ++ 0 ∷ []) c.reserve-2.ensures.dates in
+    let longer = c.push_reserved.ensures.items ∙ ap (λ (d : Dated). d.since ++ 0 ∷ []) c.make_room.ensures.dates in
     let q = c.spread.new.parts in
     let d = c.date.new.dating in
     let dates = subst (λ (xs : List ℕ). Dates (entry_shows (readiness q.tables q.clock q.interest) q.tables q.clock) (c.len.result + 1) q.interest xs d.since.items) longer c.date.ensures.dates in
@@ -151,7 +155,7 @@ rest-requires c =
 
 -- Once they are.
 longer_then : (c : goal.After-push_reserved-2) → c.push_reserved.new.self.items ≡ c.self.inside.dating.since.items ++ 0 ∷ []
-longer_then c = c.push_reserved.ensures.items ∙ ap (λ (d : Dated). d.since ++ 0 ∷ []) c.reserve-2.ensures.dates
+longer_then c = c.push_reserved.ensures.items ∙ ap (λ (d : Dated). d.since ++ 0 ∷ []) c.make_room.ensures.dates
 
 pub invariant_of-self-2 : goal.invariant_of-self-2
 invariant_of-self-2 c =
@@ -161,7 +165,7 @@ invariant_of-self-2 c =
     let dates = subst (λ (xs : List ℕ). Dates (entry_shows (readiness q.tables q.clock q.interest) q.tables q.clock) (c.len.result + 1) q.interest xs d.since.items) (longer_then c) c.date.ensures.dates in
     subst (λ (rs : List Record). Standing rs c.rest.new.parts d) (sym (records c))
     (standing_next k.history.items k.parts c.act_with.new.parts q k.dating c.self.invariant c.args.caller c.args.event c.in_ok-outcome.outcome (c.len.result + 1) (number c) (does c) c.spread.ensures c.rest.new.parts c.rest.ensures d
-    dates c.date.ensures.listed c.date.ensures.fits.count)
+    dates c.date.ensures.listed c.date.ensures.fits.count c.date.ensures.fits.room)
 
 pub returns-clause-ok : goal.returns-clause-ok
 returns-clause-ok c =

@@ -1,13 +1,14 @@
-use Rattle.std.proofs.Common.{List, subst, sym}
+use Rattle.std.proofs.Common.{◌≡◌, List, ℕ, ap, arith, subst, sym}
 use Rattle.ep_base.specs.declared.record.Record.{Record}
-use Rattle.ep_plain.proofs.StandingLemmas.{few_keys, standing_room}
+use Rattle.ep_plain.proofs.StandingLemmas.{standing_room}
+use Rattle.ep_plain.specs.Dating.{dated_of}
 use Rattle.ep_plain.specs.Standing.{Standing}
+use Rattle.ep_plain.specs.declared.since.Dating.{Dating}
 use Rattle.ep_plain.proofs.plain.PlainKernelKernel.reserve.Goals as goal
-
-pub reserve-requires-2 : goal.reserve-requires-2
-reserve-requires-2 c = let k = c.self.inside in few_keys k.history.items k.parts k.dating c.self.invariant
 
 pub invariant_of-self-2 : goal.invariant_of-self-2
 invariant_of-self-2 c =
     let k = c.self.inside in
-    subst (λ (rs : List Record). Standing rs k.parts c.reserve-2.new.self) (sym c.reserve.ensures.items) (standing_room k.history.items k.parts k.dating c.reserve-2.new.self c.reserve-2.ensures.dates c.self.invariant)
+    let d : Dating = record { since = c.reserve-2.new.self; keys = k.dating.keys } in
+    let same : dated_of d ≡ dated_of k.dating = ap (λ (xs : List ℕ). record { since = xs; keys = k.dating.keys.items }) c.reserve-2.ensures.items in
+    subst (λ (rs : List Record). Standing rs k.parts d) (sym c.reserve.ensures.items) (standing_room k.history.items k.parts k.dating d same (omega arith) c.self.invariant)
