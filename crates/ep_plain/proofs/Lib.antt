@@ -5,6 +5,7 @@ pub mod ChooseLemmas
 pub mod ClimbLemmas
 pub mod CoverLemmas
 pub mod DatingLemmas
+pub mod EachWaiterLemmas
 pub mod EndLemmas
 pub mod EntryLemmas
 pub mod IdLemmas

@@ -1,6 +1,7 @@
 pub mod Standing
 pub mod Choose
 pub mod Climb
+pub mod EachWaiter
 pub mod Mark
 pub mod Since
 pub mod Altered

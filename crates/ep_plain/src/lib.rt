@@ -6,6 +6,7 @@ mod altered;
 mod choose;
 mod climb;
 mod control;
+mod each_waiter;
 mod mark;
 mod pick;
 mod plain;

@@ -1,6 +1,7 @@
 //! Marks at the end of an event.
-ghost use Rattle.std.specs.Prelude.{◌≡◌};
+ghost use Rattle.std.specs.Prelude.{◌≡◌, ◌≤◌};
 ghost use Rattle.ep_machine.specs.Marks.{marked_by};
+ghost use Rattle.ep_machine.specs.Timer.{last_moment};
 ghost use Rattle.ep_calls.specs.Parking.{ready_key};
 ghost use Rattle.ep_calls.specs.Stands.{AreLinked, ArePlaced};
 ghost use Rattle.ep_interest.specs.Registrations.{entry_under};
@@ -8,6 +9,7 @@ ghost use Rattle.ep_park.specs.Turns.{marked_in_turn};
 ghost use Rattle.ep_plain.specs.Dating.{dated_of};
 ghost use Rattle.ep_plain.specs.Mark.{TellsReady, instance_dated, instances_dated};
 
+use crate::each_waiter::mark_each_waiter;
 use crate::pick::is_dated;
 use crate::since::Dating;
 use ep_base::EntryId;
@@ -60,8 +62,28 @@ fn mark_dated(tables: &Tables, now: u64, interest: &Interest, dating: &Dating, w
     mark_each(interest, &dating.since, &dating.keys, waiters);
 }
 
+/// How many registrations that have a date are gone over for each waiter, at most.
+const MANY: usize = 16;
+
+/// The same, by the dates or, where those are many, by one waiter after another: each look at a date asks for the
+/// waiters of an instance by a hash, and whoever chooses the instances could make that go over all that have waiters.
+fn mark_all(tables: &Tables, now: u64, interest: &Interest, dating: &Dating, waiters: &mut Park)
+    requires linked { AreLinked tables.now interest.now }
+    requires placed { ArePlaced tables.now waiters.old }
+    requires clock { now ≤ last_moment }
+    requires told { TellsReady tables.now now interest.now (dated_of dating.now) }
+    ensures { waiters.new ≡ marked_by (ready_key tables.now now interest.now) now waiters.old }
+{
+    if dating.keys.len() / MANY > waiters.count() {
+        mark_each_waiter(tables, now, interest, waiters);
+    } else {
+        mark_dated(tables, now, interest, dating, waiters);
+    }
+}
+
 /// Marks whoever is due, and of those that wait at a ready instance the longest waiting one, where none is marked
-/// there. It looks only at the registrations that have a date, and only where somebody waits.
+/// there. Nothing is looked at where nobody waits. It looks only at the registrations that have a date, at 16 for each
+/// waiter at most: where there are more, each waiter asks whether its instance is ready.
 pub fn mark_waiters(parts: &mut Parts, dating: &Dating)
     requires { TellsReady parts.old.tables parts.old.clock parts.old.interest (dated_of dating.now) }
     ensures marks { parts.new.parked
@@ -69,7 +91,7 @@ pub fn mark_waiters(parts: &mut Parts, dating: &Dating)
         parts.old.parked }
     ensures others { parts.new ≡ record parts.old { parked = parts.new.parked } }
 {
-    mark_dated(
+    mark_all(
         &parts.tables,
         parts.clock,
         &parts.interest,

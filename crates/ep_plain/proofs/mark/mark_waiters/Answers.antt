@@ -14,7 +14,7 @@ invariant_of-parts c =
       linked = h.linked;
       watched = h.watched;
       nested = h.nested;
-      placed = subst (λ (ws : List Waiter). ArePlaced k.tables ws) (sym c.mark_dated.ensures) (placed_marked k.tables (ready_key k.tables k.clock k.interest) k.clock k.waiters h.placed);
-      held = subst (λ (ws : List Waiter). AreHeld k.tables ws) (sym c.mark_dated.ensures) (held_marked k.tables (ready_key k.tables k.clock k.interest) k.clock k.waiters h.held);
+      placed = subst (λ (ws : List Waiter). ArePlaced k.tables ws) (sym c.mark_all.ensures) (placed_marked k.tables (ready_key k.tables k.clock k.interest) k.clock k.waiters h.placed);
+      held = subst (λ (ws : List Waiter). AreHeld k.tables ws) (sym c.mark_all.ensures) (held_marked k.tables (ready_key k.tables k.clock k.interest) k.clock k.waiters h.held);
       clock = h.clock;
     }
