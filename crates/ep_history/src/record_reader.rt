@@ -12,7 +12,11 @@ use json::{Reader, Scratch};
 use serde_json::Value;
 use std::alloc::{AllocError, Global};
 
-/// Reads lines one after another. It keeps the room that this takes from line to line.
+/// The longest line that is read over room that is kept.
+const LONGEST: usize = 16_384;
+
+/// Reads lines one after another. It keeps the room that this takes from line to line, for lines of 16,384 bytes at
+/// most. A longer one is read as `read_record` reads it, and leaves no room behind.
 #[derive(Drop)]
 pub struct RecordReader {
     scratch: Scratch,
@@ -33,6 +37,9 @@ impl RecordReader {
     pub fn read(&mut self, alloc: Global, line: &[u8]) -> Result<Option<Record>, AllocError>
         ensures { IfOk result (λ r. r ≡ line_record line.now) }
     {
+        if line.len() > LONGEST {
+            return read_record(alloc, line);
+        }
         match self.read_printed(alloc, line)? {
             Some(record) => Ok(Some(record)),
             None => self.read_any(alloc, line),

@@ -95,3 +95,42 @@ fn refuses_what_is_no_command_between_commands(rt: HostRuntime) -> Result<(), Fa
     }
     Ok(())
 }
+
+/// Lengths on both sides of the longest line that a reader reads over the room that it keeps.
+const LENGTHS: [usize; 5] = [16_382, 16_383, 16_384, 16_385, 16_386];
+
+/// This text with spaces before its last byte, so that it has this length.
+fn lengthened(rt: &(impl AllocGlobal + Abort), text: &str, length: usize) -> Result<String, Fail> {
+    let mut line = String::from_str(rt.alloc(), text)?;
+    let last = line.pop();
+    assert_eq!(rt; last, Some('}'));
+    while line.len() + 1 < length {
+        line.push(' ')?;
+    }
+    line.push('}')?;
+    Ok(line)
+}
+
+#[test]
+fn reads_long_records(rt: HostRuntime) -> Result<(), Fail> {
+    let mut reader = RecordReader::new(rt.alloc());
+    for length in LENGTHS {
+        let line = lengthened(&rt, PRINTED[7], length)?;
+        assert_eq!(rt; line.len(), length);
+        expect_record(&rt, &mut reader, line.as_str())?;
+        expect_record(&rt, &mut reader, PRINTED[7])?;
+    }
+    Ok(())
+}
+
+#[test]
+fn reads_long_commands(rt: HostRuntime) -> Result<(), Fail> {
+    let mut reader = LineReader::new(rt.alloc());
+    for length in LENGTHS {
+        let line = lengthened(&rt, "{\"op\":\"pipe\"}", length)?;
+        assert_eq!(rt; line.len(), length);
+        expect_command(&rt, &mut reader, line.as_str())?;
+        expect_command(&rt, &mut reader, "{\"op\":\"pipe\"}")?;
+    }
+    Ok(())
+}

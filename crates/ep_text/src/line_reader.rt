@@ -18,7 +18,11 @@ use json::{Reader, Scratch};
 use serde_json::Value;
 use std::alloc::{AllocError, Global};
 
-/// Reads lines one after another. It keeps the room that this takes from line to line.
+/// The longest line that is read over room that is kept.
+const LONGEST: usize = 16_384;
+
+/// Reads lines one after another. It keeps the room that this takes from line to line, for lines of 16,384 bytes at
+/// most. A longer one is read as `read_line` reads it, and leaves no room behind.
 #[derive(Drop)]
 pub struct LineReader {
     scratch: Scratch,
@@ -93,6 +97,9 @@ impl LineReader {
     ) -> Result<Option<(CallerId, Event)>, AllocError>
         ensures { IfOk result (λ r. r ≡ event line.now) }
     {
+        if line.len() > LONGEST {
+            return read_line(alloc, line);
+        }
         match self.read_flat(alloc, line)? {
             Some(command) => Ok(Some(command)),
             None => self.read_any(alloc, line),
