@@ -1,5 +1,5 @@
 //! Objects whose values need no memory, read a token at a time.
-ghost use Rattle.std.specs.Prelude.{◌≡◌, ◌<◌, ◌==◌, IfSome, OnSome, Some, [], length, option_map, slice_index, true};
+ghost use Rattle.std.specs.Prelude.{◌≡◌, ◌<◌, ◌==◌, IfOk, IfSome, OnOk, Some, [], length, option_map, slice_index, true};
 ghost use Rattle.json.specs.Json.{members, value};
 ghost use Rattle.serde_json.specs.Data.{no_members, number};
 ghost use Rattle.serde_json.specs.Read.{converted, max_depth, number_of, of_members};
@@ -45,61 +45,73 @@ fn whole_number<'a>(text: &str) -> Option<Found<'a>>
     }
 }
 
+/// Why a text isn't read as such an object.
+#[derive(Clone, Copy)]
+pub(crate) enum NotFlat {
+    /// It may be JSON of another form.
+    Other,
+    /// It is no JSON, or a number in it is not whole.
+    Broken,
+}
+
 /// A value that is no list and no object, no fraction and not null.
-fn plain_value<'a>(reader: &mut Reader<'a>) -> Option<Found<'a>>
-    ensures value { IfSome result
+fn plain_value<'a>(reader: &mut Reader<'a>) -> Result<Found<'a>, NotFlat>
+    ensures value { IfOk result
         (λ found. BeginsWith (found_data found) reader.old reader.new) }
-    ensures shorter { OnSome result (length reader.new < length reader.old) }
+    ensures shorter { OnOk result (length reader.new < length reader.old) }
 {
-    match reader.next()? {
-        Token::String(text) => Some(Found::Text(text)),
-        Token::Number(text) => whole_number(text),
-        Token::Bool(is_true) => Some(Found::Truth(is_true)),
-        _ => None,
+    let Some(token) = reader.next() else {
+        return Err(NotFlat::Broken);
+    };
+    match token {
+        Token::String(text) => Ok(Found::Text(text)),
+        Token::Number(text) => match whole_number(text) {
+            Some(found) => Ok(found),
+            None => Err(NotFlat::Broken),
+        },
+        Token::Bool(is_true) => Ok(Found::Truth(is_true)),
+        Token::Null | Token::BeginArray | Token::BeginObject => Err(NotFlat::Other),
+        _ => Err(NotFlat::Broken),
     }
 }
 
 /// Puts the members up to the end of an object behind those of `found`, where all of them are keys with such values.
-fn read_members<'a>(reader: &mut Reader<'a>, found: &mut Members<'a>) -> bool
+fn read_members<'a>(reader: &mut Reader<'a>, found: &mut Members<'a>) -> Result<(), NotFlat>
     requires { found.old.items ≡ [] }
-    ensures { result ≡ true
-        → converted (λ ms. of_members ms no_members)
+    ensures { OnOk result
+        (converted (λ ms. of_members ms no_members)
         (members (value flat_depth) (length reader.old) reader.old)
-        ≡ Some (put_all no_members found.new.items, reader.new) }
+        ≡ Some (put_all no_members found.new.items, reader.new)) }
 {
     'members: loop {
         let Ok(key) = reader.next_key() else {
-            return false;
+            return Err(NotFlat::Broken);
         };
         let Some(name) = key else {
-            return true;
+            return Ok(());
         };
         let Some(key) = Key::named(name) else {
-            return false;
+            return Err(NotFlat::Other);
         };
-        let Some(value) = plain_value(reader) else {
-            return false;
-        };
+        let value = plain_value(reader)?;
         match found.try_push(Member { key, value }) {
             Ok(()) => {}
-            Err(_) => return false,
+            Err(_) => return Err(NotFlat::Other),
         }
     }
 }
 
-/// Whether a text is an object of such members and no more, which are then in `found`.
-pub(crate) fn read_flat<'a>(reader: &mut Reader<'a>, found: &mut Members<'a>) -> bool
+/// Reads an object of such members, behind which nothing comes. They are then in `found`.
+pub(crate) fn read_flat<'a>(reader: &mut Reader<'a>, found: &mut Members<'a>) -> Result<(), NotFlat>
     requires { found.old.items ≡ [] }
-    ensures { result ≡ true → whole (value max_depth reader.old) ≡ Some (flat_data found.new.items) }
+    ensures { OnOk result (whole (value max_depth reader.old) ≡ Some (flat_data found.new.items)) }
 {
     let Some(Token::BeginObject) = reader.next() else {
-        return false;
+        return Err(NotFlat::Other);
     };
-    if !read_members(reader, found) {
-        return false;
-    }
+    read_members(reader, found)?;
     match reader.next() {
-        None => true,
-        Some(_) => false,
+        None => Ok(()),
+        Some(_) => Err(NotFlat::Broken),
     }
 }

@@ -8,7 +8,7 @@ ghost use Rattle.ep_text.specs.Key.{key_name};
 ghost use Rattle.ep_text.specs.Keys.{first_other, is_among};
 ghost use Rattle.ep_text.specs.Source.{flat_data, put_all};
 
-use crate::flat::{Members, read_flat};
+use crate::flat::{Members, NotFlat, read_flat};
 use crate::key::Key;
 use crate::read::{asked, command, operation_in, read_line};
 use crate::source::{Member, Source};
@@ -65,20 +65,25 @@ fn has_only(keys: &[Key], members: &[Member<'_>]) -> bool
 fn flat_command(
     alloc: Global,
     members: &[Member<'_>],
-) -> Result<Option<(CallerId, Event)>, AllocError>
-    ensures { IfOk result (λ r. IfSome r (λ c. command (flat_data members.now) ≡ Ok c)) }
+) -> Result<Result<(CallerId, Event), NotFlat>, AllocError>
+    ensures { IfOk result (λ r. IfOk r (λ c. command (flat_data members.now) ≡ Ok c)) }
 {
     let line = Source::Flat(members);
     let Ok(op) = operation_in(alloc, &line)? else {
-        return Ok(None);
+        return Ok(Err(NotFlat::Other));
     };
     if !has_only(op.keys(), members) {
-        return Ok(None);
+        return Ok(Err(NotFlat::Other));
     }
     match asked(alloc, op, &line)? {
-        Ok(command) => Ok(Some(command)),
-        Err(_) => Ok(None),
+        Ok(command) => Ok(Ok(command)),
+        Err(_) => Ok(Err(NotFlat::Other)),
     }
+}
+
+/// Whether a line begins and ends as an object does. One that doesn't is hardly ever a command, so nothing is tried.
+fn is_braced(line: &[u8]) -> bool {
+    line.first().copied() == Some(b'{') && matches!(line.last(), Some(b'}' | b'\r'))
 }
 
 impl LineReader {
@@ -97,12 +102,13 @@ impl LineReader {
     ) -> Result<Option<(CallerId, Event)>, AllocError>
         ensures { IfOk result (λ r. r ≡ event line.now) }
     {
-        if line.len() > LONGEST {
+        if line.len() > LONGEST || !is_braced(line) {
             return read_line(alloc, line);
         }
         match self.read_flat(alloc, line)? {
-            Some(command) => Ok(Some(command)),
-            None => self.read_any(alloc, line),
+            Ok(command) => Ok(Some(command)),
+            Err(NotFlat::Other) => self.read_any(alloc, line),
+            Err(NotFlat::Broken) => read_line(alloc, line),
         }
     }
 
@@ -139,18 +145,18 @@ impl LineReader {
         &mut self,
         alloc: Global,
         line: &[u8],
-    ) -> Result<Option<(CallerId, Event)>, AllocError>
-        ensures { IfOk result (λ r. IfSome r (λ c. event line.now ≡ Some c)) }
+    ) -> Result<Result<(CallerId, Event), NotFlat>, AllocError>
+        ensures { IfOk result (λ r. IfOk r (λ c. event line.now ≡ Some c)) }
     {
         let Ok(text) = std::str::from_utf8(line) else {
-            return Ok(None);
+            return Ok(Err(NotFlat::Broken));
         };
         let Ok(mut reader) = Reader::new(text, &mut self.scratch) else {
-            return Ok(None);
+            return Ok(Err(NotFlat::Broken));
         };
         let mut members = Members::new();
-        if !read_flat(&mut reader, &mut members) {
-            return Ok(None);
+        if let Err(why) = read_flat(&mut reader, &mut members) {
+            return Ok(Err(why));
         }
         flat_command(alloc, members.as_slice())
     }

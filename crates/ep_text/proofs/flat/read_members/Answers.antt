@@ -12,7 +12,7 @@ pub returns-in_default-key : goal.returns-in_default-key
 returns-in_default-key c =
     let l = c.members in
     let closed : read_key l.reader ≡ Some (None, c.next_key.new.self) = grind arith in
-    λ _. l.invariant.2 ∙ members_over l.invariant.0 l.reader c.next_key.new.self (put_all no_members l.found.items) l.invariant.1 closed
+    l.invariant.2 ∙ members_over l.invariant.0 l.reader c.next_key.new.self (put_all no_members l.found.items) l.invariant.1 closed
 
 pub members-preserved : goal.members-preserved
 members-preserved c =
@@ -20,17 +20,17 @@ members-preserved c =
     let n = l.invariant.0 in
     let name = c.in-Some.name.now in
     let k = c.in-Some-named.key in
-    let d = found_data c.in-Some-plain_value.value in
+    let d = found_data c.in_ok-value.value in
     let s = c.next_key.new.self in
     let r = c.plain_value.new.reader in
     let old = put_all no_members l.found.items in
     let named : read_key l.reader ≡ Some (Some name, s) = grind arith in
     let less = read_key-shorter l.reader (Some name) s named in
-    let lesser : length r < length s = c.in-Some-plain_value.ensures.shorter in
+    let lesser : length r < length s = c.in_ok-value.ensures.shorter in
     let more : put_all no_members c.try_push.new.self.items ≡ put (key_name k) d old = ap (put_all no_members) c.in-Ok-try_push.ensures.ok ∙ put_all_more no_members l.found.items _ in (
       n - 1,
       omega (arith, l.invariant.1, less, lesser),
-      l.invariant.2 ∙ member_read n name d l.reader s r old (omega (arith, l.invariant.1, less)) named c.in-Some-plain_value.ensures.value
+      l.invariant.2 ∙ member_read n name d l.reader s r old (omega (arith, l.invariant.1, less)) named c.in_ok-value.ensures.value
           ∙ ap (λ x. into (put x d old) (members (value flat_depth) (n - 1) r)) c.in-Some-named.ensures
           ∙ ap (λ x. into x (members (value flat_depth) (n - 1) r)) (sym more),
     )
