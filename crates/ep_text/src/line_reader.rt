@@ -15,6 +15,7 @@ use crate::source::{Member, Source};
 use crate::tree::whole_tree;
 use ep_base::{CallerId, Event};
 use json::{Reader, Scratch};
+use memchr::memchr;
 use serde_json::Value;
 use std::alloc::{AllocError, Global};
 
@@ -81,9 +82,12 @@ fn flat_command(
     }
 }
 
-/// Whether a line begins and ends as an object does. One that doesn't is hardly ever a command, so nothing is tried.
-fn is_braced(line: &[u8]) -> bool {
-    line.first().copied() == Some(b'{') && matches!(line.last(), Some(b'}' | b'\r'))
+/// Whether a line may well be a command: it begins and ends as an object does, and has no point, as no number of a
+/// command has. Of another line nothing is tried.
+fn may_be_command(line: &[u8]) -> bool {
+    line.first().copied() == Some(b'{')
+        && matches!(line.last(), Some(b'}' | b'\r'))
+        && memchr(b'.', line).is_none()
 }
 
 impl LineReader {
@@ -102,8 +106,12 @@ impl LineReader {
     ) -> Result<Option<(CallerId, Event)>, AllocError>
         ensures { IfOk result (λ r. r ≡ event line.now) }
     {
-        if line.len() > LONGEST || !is_braced(line) {
+        if line.len() > LONGEST || !may_be_command(line) {
             return read_line(alloc, line);
+        }
+        // A list takes memory, so no object that has one is flat.
+        if memchr(b'[', line).is_some() {
+            return self.read_any(alloc, line);
         }
         match self.read_flat(alloc, line)? {
             Ok(command) => Ok(Some(command)),
