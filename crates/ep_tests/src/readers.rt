@@ -104,10 +104,10 @@ fn lengthened(rt: &(impl AllocGlobal + Abort), text: &str, length: usize) -> Res
     let mut line = String::from_str(rt.alloc(), text)?;
     let last = line.pop();
     assert_eq!(rt; last, Some('}'));
-    while line.len() + 1 < length {
-        line.push(' ')?;
+    for _ in text.len()..length {
+        line.push_str(" ")?;
     }
-    line.push('}')?;
+    line.push_str("}")?;
     Ok(line)
 }
 
