@@ -1,5 +1,5 @@
 -- A circle, once two of its keys or a new one are joined.
-use Rattle.std.proofs.Common.{◌≡◌, ◌≢◌, ◌⊎◌, ℕ, zero, suc, ◌+◌, ◌<◌, ◌≤◌, ◌==◌, nat_lt, true, false, not, All, Contains, List, [], ◌∷◌, ◌++◌, length, filter, get_or, Option, Some, None, refl, sym, ap, subst, ◌∙◌, inl, inr, arith, if◌then◌else◌}
+use Rattle.std.proofs.Common.{◌≡◌, ◌≢◌, ◌⊎◌, ℕ, zero, suc, ◌+◌, ◌<◌, ◌≤◌, ◌==◌, nat_lt, true, false, not, All, Contains, List, [], ◌∷◌, ◌++◌, length, filter, get_or, Option, Some, None, IfSome, refl, sym, ap, subst, ◌∙◌, inl, inr, arith, if◌then◌else◌}
 use Rattle.std.specs.List.{remove}
 use Rattle.std.proofs.lemmas.Bool.{cases_eq, cases_lt}
 use Rattle.std.proofs.lemmas.Bool.Decides.{nat_tests}
@@ -110,6 +110,31 @@ module _ (next prev : ℕ → ℕ) where
   prev_there (Some t) xs k h c =
       let p = place t.first h.0 xs k h.1 c in
       subst (λ (ys : List ℕ). Contains ys (prev k)) (sym h.1) (subst (λ (z : ℕ). Contains (t.first ∷ h.0) (prev z)) p.is (before_at t.first h.0 p.at h.3 p.within))
+
+  -- a key behind which it stands itself is the only one
+  alone_at : (t : Circle) (xs : List ℕ) (k : ℕ) (h : IsCircle next prev (Some t) xs) → (i : ℕ) → i ≤ length h.0 → get_or (t.first ∷ h.0) i t.first ≡ k → nat_lt 1 t.len ≡ not (k == next k)
+  alone_at t xs k h i le is =
+      let long = ap length h.1 in
+      let behind : next k ≡ get_or h.0 i t.first = ap next (sym is) ∙ h.3.nexts i le in
+      elim (cases_lt 1 t.len) [
+        | inl more ↦
+            let lt : nat_lt 1 t.len ≡ true = grind (arith, nat_tests, more) in
+            let ne : k ≢ next k = elim (cases_lt i (length h.0)) [
+              | inl l ↦ (λ g. h.3.apart i (suc i) (omega arith) (omega (arith, l)) (is ∙ (g ∙ behind)))
+              | inr g ↦ (λ e. h.3.apart zero i (omega (arith, more, long, h.2, g)) le (sym (is ∙ (e ∙ (behind ∙ get_or_past h.0 i t.first g)))))
+            ] in
+            rw (lt, test_apart k (next k) ne) refl
+        | inr few ↦
+            let ge : nat_lt 1 t.len ≡ false = grind (arith, nat_tests, few) in
+            let none = no_items h.0 (omega (arith, few, long, h.2)) in
+            let head : t.first ≡ k = at_head t.first h.0 i k none is in
+            let same : k ≡ next k = sym head ∙ (sym (get_or_past h.0 i t.first (omega (arith, few, long, h.2))) ∙ sym behind) in
+            rw (ge, test_same k (next k) same) refl
+      ]
+
+  pub alone : (o : Option Circle) (xs : List ℕ) (k : ℕ) → IsCircle next prev o xs → Contains xs k → IfSome o (λ c. nat_lt 1 c.len ≡ not (k == next k))
+  alone None xs k h c = tt
+  alone (Some t) xs k h c = let p = place t.first h.0 xs k h.1 c in alone_at t xs k h p.at p.within p.is
 
   pub first_there : (t : Circle) (xs : List ℕ) → IsCircle next prev (Some t) xs → Contains xs t.first
   first_there t xs h = subst (λ (ys : List ℕ). Contains ys t.first) (sym h.1) (Contains-get_or (t.first ∷ h.0) zero t.first (omega arith))

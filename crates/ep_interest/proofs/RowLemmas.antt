@@ -1,5 +1,5 @@
 -- The rows of all owners, once a key joins one or leaves it.
-use Rattle.std.proofs.Common.{◌≡◌, ◌≢◌, ◌⊎◌, ℕ, zero, suc, ◌<◌, ◌≤◌, ◌==◌, Bool, true, false, cond, not, All, Contains, List, [], ◌∷◌, ◌++◌, length, filter, get_or, nat_eq, replicate, Option, Some, None, refl, sym, ap, subst, unwrap_or, ◌∙◌, inl, inr, arith, if◌then◌else◌}
+use Rattle.std.proofs.Common.{◌≡◌, ◌≢◌, ◌⊎◌, ℕ, zero, suc, ◌<◌, ◌≤◌, ◌==◌, Bool, true, false, cond, not, All, Contains, List, [], ◌∷◌, ◌++◌, length, filter, get_or, nat_eq, replicate, Option, Some, None, IfSome, nat_lt, refl, sym, ap, subst, unwrap_or, ◌∙◌, inl, inr, arith, if◌then◌else◌}
 use Rattle.std.proofs.lemmas.Bool.{cases_eq, cases_lt}
 use Rattle.std.proofs.lemmas.List.{get_or_append_left, get_or_past, get_or_push, get_or_read, length-append, length_push}
 use Rattle.std.proofs.lemmas.List.Elements.{All-contains, All-filter, All-head, All-tail, All-push, All-weaker, filter-append}
@@ -11,7 +11,7 @@ use Rattle.ep_interest.specs.declared.circles.Circle.{Circle}
 use Rattle.ep_interest.specs.declared.links.Link.{Link}
 use Rattle.ep_interest.proofs.NumberLemmas.{test_apart, test_same}
 use Rattle.ep_interest.specs.Walk.{AreLinked}
-use Rattle.ep_interest.proofs.CircleLemmas.{begins, circle_kept, circle_left, ends, first_there, joined_last, joined_new, keys_are, last_of, next_there, prev_there}
+use Rattle.ep_interest.proofs.CircleLemmas.{alone, begins, circle_kept, circle_left, ends, first_there, joined_last, joined_new, keys_are, last_of, next_there, prev_there}
 
 -- the walks along the circles give the rows
 pub rows_are : (next prev : ℕ → ℕ) (circle : ℕ → Option Circle) (many : ℕ) (row : ℕ → List ℕ) → AreRows next prev circle many row → (i : ℕ) → keys_in next (circle i) ≡ row i
@@ -137,6 +137,9 @@ module _ (s0 s1 : List Link) (circle after : ℕ → Option Circle) (many : ℕ)
 
   pub key_below : k < many
   key_below = All-contains (λ x. x < many) (row o) k (h.within o) there
+
+  pub alone_there : IfSome (circle o) (λ c. nat_lt 1 c.len ≡ not (k == next_of s0 k))
+  alone_there = alone (next_of s0) (prev_of s0) (circle o) (row o) k (h.circles o) there
 
   module _ (a : Joined s0 s1 (prev_of s0 k) (next_of s0 k)) (circles : (i : ℕ) → after i ≡ (if nat_eq o i then shortened k (next_of s0 k) (circle o) else circle i)) where
     circles_left : (i : ℕ) → IsCircle (next_of s1) (prev_of s1) (after i) (filter (λ x. not (x == k)) (row i))

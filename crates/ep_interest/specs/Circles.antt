@@ -1,7 +1,19 @@
 -- Circles of keys, one for each owner that has some.
+use Rattle.std.specs.BTreeMap.{BTreeMap, get}
+use Rattle.std.specs.Ordering.{nat_cmp, on}
+use Rattle.std.specs.declared.cmp.Ordering.{Ordering}
+use Rattle.ep_interest.specs.declared.circles.Owner.{Owner}
 use Rattle.std.specs.Prelude.{◌≡◌, ◌≢◌, ◌<◌, ◌+◌, ◌-◌, ◌==◌, ℕ, All, List, [], ◌∷◌, Option, Some, None, length, nat_lt, if◌then◌else◌}
 use Rattle.ep_rings.specs.Ring.{IsRing, walk}
 use Rattle.ep_interest.specs.declared.circles.Circle.{Circle}
+
+-- owners in the order of their numbers
+abbrev pub owner_cmp : Owner → Owner → Ordering
+owner_cmp = on (λ o. o.0) nat_cmp
+
+-- the circle of the owner with this number
+abbrev pub circle_at : BTreeMap Owner Circle → ℕ → Option Circle
+circle_at m i = get owner_cmp m (record { 0 = i })
 
 -- a key more at the end
 abbrev pub lengthened : ℕ → Option Circle → Circle

@@ -1,10 +1,13 @@
 //! Where the circle of each owner begins, and how long it is.
-ghost use Rattle.std.specs.BTreeMap.{get};
-ghost use Rattle.std.specs.Ordering.{nat_cmp};
-ghost use Rattle.std.specs.Prelude.{◌≡◌, ◌<◌, ℕ, IfOk, IfSome, OnErr, OnOk, Some, if◌then◌else◌, nat_eq};
-ghost use Rattle.ep_interest.specs.Circles.{lengthened, shortened, without};
+ghost use Rattle.std.proofs.Common.{rules};
+ghost use Rattle.std.specs.Cmp.{partial_order_from_own_ties};
+ghost use Rattle.std.specs.Cmp.Rules.{comparing};
+ghost use Rattle.std.specs.Ordering.{as_partial_cmp};
+ghost use Rattle.std.specs.Prelude.{◌≡◌, ◌<◌, ℕ, IfOk, IfSome, OnErr, OnOk, Some, if◌then◌else◌, nat_eq, nat_lt, not, ◌==◌};
+ghost use Rattle.ep_interest.specs.Circles.{circle_at, lengthened, owner_cmp, shortened, without};
 
 use std::alloc::{AllocError, Allocator};
+use std::cmp::Ordering;
 use std::collections::BTreeMap;
 
 /// The circle of one owner.
@@ -16,36 +19,66 @@ pub(crate) struct Circle {
     pub(crate) len: usize,
 }
 
+/// The number of an owner, as the circles are ordered by it.
+#[derive(Clone, Copy, PartialEq, Eq)]
+pub(crate) struct Owner(pub(crate) usize);
+
+impl Ord for Owner {
+    ghost cmp = { owner_cmp };
+
+    ghost total = { Prim.search (comparing, rules) };
+
+    ghost matches_partial_cmp = { Prim.search (comparing, rules) };
+
+    ghost matches_eq = { Prim.search (comparing, rules) };
+
+    // A way down most often meets lesser numbers, so that is asked first, and alone.
+    fn cmp(&self, other: &Owner) -> Ordering {
+        if self.0 > other.0 {
+            return Ordering::Greater;
+        }
+        if self.0 == other.0 {
+            Ordering::Equal
+        } else {
+            Ordering::Less
+        }
+    }
+}
+
+impl PartialOrd for Owner {
+    ghost partial_cmp = { as_partial_cmp owner_cmp };
+
+    ghost laws = { partial_order_from_own_ties (Prim.search (comparing, rules)) (Prim.search (comparing, rules)) };
+
+    fn partial_cmp(&self, other: &Owner) -> Option<Ordering> {
+        Some(self.cmp(other))
+    }
+}
+
 /// Circles by the number of the owner; an owner without registrations has none. They are ordered and not hashed, so
 /// that no choice of owners makes a look-up go over all of them.
-pub(crate) type Circles<A> = BTreeMap<usize, Circle, A>;
+pub(crate) type Circles<A> = BTreeMap<Owner, Circle, A>;
 
 /// Counts a key more in the circle of an owner, and answers its first key. A new circle begins with this key, and is
 /// what takes memory. An `Err` is want of it, and leaves the circles.
 pub(crate) fn lengthen<A: Allocator + Clone>(
     circles: &mut Circles<A>,
-    owner: usize,
+    owner: Owner,
     key: usize,
 ) -> Result<usize, AllocError>
-    requires { IfSome (get nat_cmp circles.old owner) (λ c. c.len < usize.MAX) }
+    requires { IfSome (circle_at circles.old owner.0) (λ c. c.len < usize.MAX) }
     ensures first { IfOk result
-        (λ first. first ≡ (lengthened key (get nat_cmp circles.old owner)).first) }
-    ensures circles { OnOk result ((i : ℕ) → get nat_cmp circles.new i
-        ≡ (if nat_eq owner i then Some (lengthened key (get nat_cmp circles.old owner))
-        else get nat_cmp circles.old i)) }
+        (λ first. first ≡ (lengthened key (circle_at circles.old owner.0)).first) }
+    ensures circles { OnOk result ((i : ℕ) → circle_at circles.new i
+        ≡ (if nat_eq owner.0 i then Some (lengthened key (circle_at circles.old owner.0))
+        else circle_at circles.old i)) }
     ensures kept { OnErr result
-        ((i : ℕ) → get nat_cmp circles.new i ≡ get nat_cmp circles.old i) }
+        ((i : ℕ) → circle_at circles.new i ≡ circle_at circles.old i) }
 {
-    match circles.get_mut(&owner) {
-        Some(circle) => {
-            circle.len += 1;
-            Ok(circle.first)
-        }
-        None => {
-            circles.insert(owner, Circle { first: key, len: 1 })?;
-            Ok(key)
-        }
-    }
+    let new = Circle { first: key, len: 0 };
+    let circle = circles.entry(owner)?.or_insert(new);
+    circle.len += 1;
+    Ok(circle.first)
 }
 
 /// A circle without a key, `next` being the key behind it.
@@ -62,17 +95,19 @@ fn shrink(circle: Circle, key: usize, next: usize) -> Circle
     Circle { first, len }
 }
 
-/// Counts a key less in the circle of an owner, `next` being the key behind it. The circle goes with its last key.
-pub(crate) fn shorten<A: Allocator>(circles: &mut Circles<A>, owner: usize, key: usize, next: usize)
-    ensures { (i : ℕ) → get nat_cmp circles.new i
-        ≡ (if nat_eq owner i then shortened key next (get nat_cmp circles.old owner)
-        else get nat_cmp circles.old i) }
+/// Counts a key less in the circle of an owner, `next` being the key behind it. The circle goes with its last key,
+/// which is the one behind itself.
+pub(crate) fn shorten<A: Allocator>(circles: &mut Circles<A>, owner: Owner, key: usize, next: usize)
+    requires { IfSome (circle_at circles.old owner.0) (λ c. nat_lt 1 c.len ≡ not (key == next)) }
+    ensures { (i : ℕ) → circle_at circles.new i
+        ≡ (if nat_eq owner.0 i then shortened key next (circle_at circles.old owner.0)
+        else circle_at circles.old i) }
 {
-    if let Some(circle) = circles.get_mut(&owner) {
-        if circle.len > 1 {
-            *circle = shrink(*circle, key, next);
-            return;
-        }
+    if key == next {
+        circles.remove(&owner);
+        return;
     }
-    circles.remove(&owner);
+    if let Some(circle) = circles.get_mut(&owner) {
+        *circle = shrink(*circle, key, next);
+    }
 }

@@ -4,7 +4,7 @@ ghost use Rattle.ep_interest.specs.Links.{prev_of};
 ghost use Rattle.ep_interest.specs.Rows.{IsRows, row};
 ghost use Rattle.ep_interest.specs.Walk.{id_at};
 
-use crate::circles::{Circle, Circles, lengthen, shorten};
+use crate::circles::{Circle, Circles, Owner, lengthen, shorten};
 use crate::links::{Link, join};
 use crate::walk::Walk;
 use ep_base::{DescId, EntryId};
@@ -73,7 +73,7 @@ impl<A: Allocator> Rows<A> {
             ≡ (if nat_eq owner.0 i then row self.old i ++ id.0 ∷ [] else row self.old i)) }
         ensures kept { OnErr result ((i : ℕ) → row self.new i ≡ row self.old i) }
     {
-        let first = lengthen(&mut self.circles, owner.0, id.0)?;
+        let first = lengthen(&mut self.circles, Owner(owner.0), id.0)?;
         let last = self.last(first, id);
         join(&mut self.links, last, id.0);
         join(&mut self.links, id.0, first);
@@ -90,7 +90,7 @@ impl<A: Allocator> Rows<A> {
     {
         let Link { next, prev } = self.links[id.0];
         join(&mut self.links, prev, next);
-        shorten(&mut self.circles, owner.0, id.0, next);
+        shorten(&mut self.circles, Owner(owner.0), id.0, next);
     }
 
     /// The keys of an owner's registrations, in order. The cost of finding the first grows as the logarithm of the
@@ -100,7 +100,7 @@ impl<A: Allocator> Rows<A> {
         ensures { result ≡ map id_at (row self.now owner.0) }
     {
         let none = Circle { first: 0, len: 0 };
-        let circle = self.circles.get(&owner.0).copied().unwrap_or(none);
+        let circle = self.circles.get(&Owner(owner.0)).copied().unwrap_or(none);
         Walk {
             links: &self.links,
             at: circle.first,

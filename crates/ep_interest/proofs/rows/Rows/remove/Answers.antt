@@ -1,9 +1,9 @@
-use Rattle.std.proofs.Common.{◌<◌, ℕ, length, ap, sym, subst, ◌∙◌, not, ◌==◌, filter, cond, nat_eq}
+use Rattle.std.proofs.Common.{◌≡◌, ◌<◌, ℕ, IfSome, nat_lt, length, ap, sym, subst, ◌∙◌, not, ◌==◌, filter, cond, nat_eq}
 use Rattle.ep_interest.specs.Circles.{AreRows, shortened}
 use Rattle.ep_interest.specs.Links.{Joined, next_of, prev_of}
 use Rattle.ep_interest.specs.Rows.{circle_of, row}
 use Rattle.ep_interest.specs.declared.links.Link.{Link}
-use Rattle.ep_interest.proofs.RowLemmas.{link_read, next_below, prev_below, rows_are, rows_left, rows_walked}
+use Rattle.ep_interest.proofs.RowLemmas.{alone_there, link_read, next_below, prev_below, rows_are, rows_left, rows_walked}
 use Rattle.ep_interest.proofs.rows.Rows.remove.Given.{Over}
 use Rattle.ep_interest.proofs.rows.Rows.remove.Goals as goal
 
@@ -18,6 +18,12 @@ join-requires-clause-after g c =
     let v = c.args.self.now in
     let is = link_read v.links.items (circle_of v) (row v) c.requires.sound c.args.owner.0 c.args.id.0 c.requires.there c.index.result.now c.index.ensures in
     subst (λ (t : Link). t.next < length v.links.items) (sym is) (next_below v.links.items v.links.items (circle_of v) (circle_of v) (length v.links.items) (row v) c.requires.sound c.args.owner.0 c.args.id.0 c.requires.there)
+
+pub shorten-requires : goal.shorten-requires
+shorten-requires g c =
+    let v = c.args.self.now in
+    let is = link_read v.links.items (circle_of v) (row v) c.requires.sound c.args.owner.0 c.args.id.0 c.requires.there c.index.result.now c.index.ensures in
+    subst (λ (t : Link). IfSome (circle_of v c.args.owner.0) (λ o. nat_lt 1 o.len ≡ not (c.args.id.0 == t.next))) (sym is) (alone_there v.links.items v.links.items (circle_of v) (circle_of v) (length v.links.items) (row v) c.requires.sound c.args.owner.0 c.args.id.0 c.requires.there)
 
 left : (g : Over) (c : goal.After-shorten g) → AreRows (next_of c.join.new.links.items) (prev_of c.join.new.links.items) (circle_of {A = g.row.A.Denot} (record { circles = c.shorten.new.circles; links = c.join.new.links })) (length c.join.new.links.items) (λ i. filter (λ k. not (k == c.args.id.0)) (row c.args.self.now i))
 left g c =
