@@ -24,9 +24,9 @@ use std::collections::btree_map::Values;
 use std::marker::Model;
 
 /// Which instances watch which, by which registrations, as epoll(7) lets instances be nested. Contracts see the links
-/// in the order in which they were made. The graph is legal at any time, and no two links are of one registration. No
-/// call but `links` looks at a link that it needn't: with n links, those that change the graph take time that grows
-/// as log n for each link that they add or take away. Memory comes from `A`.
+/// in the order in which they were made. The graph is legal at any time, and no two links are of one registration.
+/// With n links, the calls that change the graph take time that grows as log n for each link that they add or take
+/// away, and `link` may look at each link above and below the new one too. Memory comes from `A`.
 #[derive(Drop)]
 pub struct Graph<A: Allocator = Global> {
     links: Links<A>,
@@ -132,7 +132,9 @@ impl<A: Allocator> Graph<A> {
 
     /// Adds the link of an entry that has none, between instances that `may_add` allows. It takes all room that
     /// `above` needs, and is the only growth. `AllocError` where memory was refused, or after 2^64 - 1 links, and
-    /// then the graph is as it was. Its cost grows as the logarithm of the number of links, but where a table grows.
+    /// then the graph is as it was. Its cost grows as the logarithm of the number of links, but where a table grows or
+    /// a longer chain begins. Then it may look at the links above `outer` and below `inner`, at each four times at
+    /// most. All calls together look at a link so eight times at most while it is there.
     pub fn link(&mut self, outer: DescId, inner: DescId, entry: EntryId) -> Result<(), AllocError>
     where
         A: Copy,
