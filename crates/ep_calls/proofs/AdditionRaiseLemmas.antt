@@ -24,10 +24,6 @@ use Rattle.ep_calls.proofs.RegistrationLemmas.{same_key_test}
 use Rattle.ep_table.specs.Value.{Seen, Sound, number_under}
 
 -- of the others none has the key
-both_fail : (b : Bool) → (not b && b) ≡ false
-both_fail true = refl
-both_fail false = refl
-
 pub none_other : (p : Entry → Bool) (k : ℕ) (q : Entry → Bool) (xs : List Entry) → AllByRecursion (λ x. p x ≡ (x.number == k)) xs → list_any q (filter p (filter (is_other k) xs)) ≡ false
 none_other p k q [] h = refl
 none_other p k q (x ∷ xs) h = with_one (p x) h.0 refl (none_other p k q xs h.1) where

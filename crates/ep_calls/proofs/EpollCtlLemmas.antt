@@ -87,9 +87,6 @@ after_names limits s p epfd op fd mask = op_refusals (is_add op) (is_del op) (is
     ∷ (is_add op && is_instance (object_under s.files p fd) && not (is_legal ((named_by s.files p epfd, named_by s.files p fd) ∷ links s)), Eloop)
     ∷ (is_add op && nat_le limits.watches (length s.watches), Enospc) ∷ [])
 
-in_parts : (limits : Limits) (s : State) (p : ℕ) (epfd op fd : ℤ) (mask : ℕ) → ctl_refusals limits s p epfd op fd mask ≡ naming_refusals s.files p epfd fd ++ after_names limits s p epfd op fd mask
-in_parts limits s p epfd op fd mask = refl
-
 module _ (limits : Limits) (s : State) (p : ℕ) (epfd op fd : ℤ) (mask : ℕ) where
   pub refused_name : (e : Errno) → first (naming_refusals s.files p epfd fd) ≡ Some e → first (ctl_refusals limits s p epfd op fd mask) ≡ Some e
   refused_name e h = first_some (naming_refusals s.files p epfd fd) (after_names limits s p epfd op fd mask) e h

@@ -70,15 +70,6 @@ module _ (call : FilesCall) (answer : Answer) (v new : Seen) (does : Does call a
 abbrev pub IsOnObject : Fd → Call → Type 0
 IsOnObject fd call = (limits : Limits) (s : State) (caller p : ℕ) → (call_refusals limits s p call ≡ on_object s p fd.0 call) × (call_change limits s caller p call [] ≡ Some (object_change s p fd.0 call))
 
-pub on_object_is : (fd : Fd) (call : Call)
-    → ((n : ℕ) × (call ≡ Read fd n)) ⊎ ((bytes : List ℕ) × (call ≡ Write fd bytes)) ⊎ (call ≡ Shutdown fd) ⊎ ((absolute : Bool) × (value : ℕ) × (interval : ℕ) × (call ≡ SetTime fd absolute value interval)) ⊎ (call ≡ GetTime fd)
-    → IsOnObject fd call
-on_object_is fd call (inl q) = subst (IsOnObject fd) (sym q.1) (λ limits s caller p. (refl, refl))
-on_object_is fd call (inr (inl q)) = subst (IsOnObject fd) (sym q.1) (λ limits s caller p. (refl, refl))
-on_object_is fd call (inr (inr (inl q))) = subst (IsOnObject fd) (sym q) (λ limits s caller p. (refl, refl))
-on_object_is fd call (inr (inr (inr (inl q)))) = subst (IsOnObject fd) (sym q.3) (λ limits s caller p. (refl, refl))
-on_object_is fd call (inr (inr (inr (inr q)))) = subst (IsOnObject fd) (sym q) (λ limits s caller p. (refl, refl))
-
 module _ (v new : Seen) (p : ℕ) (fd : Fd) (now : ℕ) (call : Call) (answer : Answer) (calls : CallsObject p fd now call answer v new) where
   pub object_limits : new.limits ≡ v.limits
   object_limits = does_limits (object_call_of v.files p fd.0 now call) answer v new calls

@@ -174,7 +174,3 @@ told_below p new graph named args below tables sound linked nested legal lives t
 told_below p new graph named args below tables sound linked nested legal lives target Add (Some id) found changes told = absurd changes
 told_below p new graph named args below tables sound linked nested legal lives target Delete None found changes told = absurd changes
 told_below p new graph named args below tables sound linked nested legal lives target Modify None found changes told = absurd changes
-
--- a plan stays one, whatever it says of what is below
-pub plan_told : (p : Parts) (pid : ℕ) (args : Control) (plan : Plan) (below : Bool) → IsPlan p pid args plan → IsPlan p pid args (record plan { below = below })
-plan_told p pid args plan below h = record { names = h.names; code = h.code; accepted = h.accepted; found = h.found }

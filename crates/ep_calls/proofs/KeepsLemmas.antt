@@ -61,19 +61,6 @@ pub record DoesAt (s : State) (caller : ℕ) (event : Event) (outcome : Outcome)
   pub raising : IsRaising outcome.raising new.tables
   pub limits : new.tables.limits ≡ old.tables.limits
 
-pub does_at : (past : List Record) (old new : Parts) (keeps : Keeps past old) (n caller : ℕ) (event : Event) (outcome : Outcome) → n ≡ length past + 1 → DoesEvent n caller event outcome old new → DoesAt (next_event keeps.state) caller event outcome old new
-does_at past old new keeps n caller event outcome at does =
-    let s = keeps.state in
-    let begins : (next_event s).n ≡ n = ap (λ (k : ℕ). k + 1) keeps.n ∙ sym at in
-    let legal = graph_stays_legal old.tables.limits past s keeps.leads in
-    let stands : StandFor old (next_event s) = record { now = keeps.stands.now; files = keeps.stands.files; watches = keeps.stands.watches; added = keeps.stands.added; waiters = keeps.stands.waiters } in
-    record {
-      goes = does.moves (next_event s) begins (sound_begun s keeps.sound) (quiet_begun s keeps.quiet) legal stands;
-      raises = does.raises (next_event s) begins (sound_begun s keeps.sound) (quiet_begun s keeps.quiet) legal stands;
-      raising = does.raising;
-      limits = does.limits;
-    }
-
 -- what follows a change in event n: what it raised is noted, the dead are taken, what was raised climbs, and marks are set
 pub record Settles (n : ℕ) (raising : Raising) (mid noted buried climbed new : Parts) : Type 0 where
   pub coherent : AreCoherent mid

@@ -20,6 +20,7 @@ pub mod EntryKeyLemmas
 pub mod LinkLemmas
 pub mod PickLemmas
 pub mod ReportLemmas
+pub mod RoomLemmas
 pub mod WaitLemmas
 pub mod FilesCallLemmas
 pub mod TableCallLemmas
@@ -38,6 +39,7 @@ pub mod KeepsLemmas
 pub mod StepLemmas
 pub mod KeptLemmas
 pub mod IdLemmas
+pub mod HadLemmas
 pub mod NextArrivalLemmas
 pub mod NextMomentLemmas
 pub mod FirstMarkedLemmas

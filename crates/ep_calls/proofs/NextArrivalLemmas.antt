@@ -145,9 +145,6 @@ pub record Arrives (v : Seen) (since : ℕ) (left : List DescId) (first : Option
 pub arrives_begins : (v : Seen) (since : ℕ) → Arrives v since (live_ids v.keys) None
 arrives_begins v since = record { live = live_all v.keys; told = λ now. refl }
 
-pub first_live : (v : Seen) (since : ℕ) (id : DescId) (left : List DescId) (first : Option ℕ) → Arrives v since (id ∷ left) first → IsSome (number_under v id)
-first_live v since id left first h = All-head (λ k. IsSome (number_under v k)) id left h.live
-
 or_in_turn : (a b c : Bool) → (a || b || c) ≡ (a || (b || c))
 or_in_turn true b c = refl
 or_in_turn false b c = refl

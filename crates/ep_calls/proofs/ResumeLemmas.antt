@@ -31,10 +31,6 @@ pub is_off : (b : Bool) → not b ≡ true → b ≡ false
 is_off true h = sym h
 is_off false h = refl
 
-pub is_on : (b : Bool) → not b ≡ false → b ≡ true
-is_on true h = refl
-is_on false h = sym h
-
 module _ (g : List Link) (v : Seen) (r : Registrations) (ws : List Waiter) (now caller : ℕ) (limits : Limits) (s : State) (stands : Stands v r ws now s) where
   abbrev number : ℕ → ℕ
   number k = number_at v.keys (record { 0 = k })

@@ -64,17 +64,7 @@ MovesBy n old Then = (s : State) → s.n ≡ n → Sound s → AtRest s → is_l
 abbrev pub MovesIf : (State → Type 0) → ℕ → Parts → (State → Type 0) → Type 0
 MovesIf Also n old Then = MovesBy n old (λ s. Also s → Then s)
 
-abbrev pub MovesCall : Limits → ℕ → ℕ → ℕ → Call → Answer → List ℕ → Parts → Parts → Type 0
-MovesCall limits n caller p call answer picked old new =
-    MovesBy n old (λ s. Goes (call_refusals limits s p call)
-    (call_change limits s caller p call picked) s answer picked new)
-
-abbrev pub Moves : Limits → ℕ → ℕ → Event → Answer → List ℕ → Parts → Parts → Type 0
-Moves limits n caller event answer picked old new =
-    MovesBy n old (λ s. Goes (refusals limits s caller event)
-    (change limits s caller event picked) s answer picked new)
-
--- and what it raises is noted
+-- from every such state what a call raises is noted
 abbrev pub RaisesCall : Limits → ℕ → ℕ → ℕ → Call → List ℕ → Raising → Parts → Seen → ℕ → Type 0
 RaisesCall limits n caller p call picked raising old tables now =
     MovesBy n old (λ s. Raises (call_refusals limits s p call)

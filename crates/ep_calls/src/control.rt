@@ -12,6 +12,7 @@ ghost use Rattle.ep_calls.specs.Control.{Alters, ChangesIf, Controls, EntersAt, 
 ghost use Rattle.ep_interest.specs.Registrations.{GainsKey, has_key, number_under as number_of_entry};
 ghost use Rattle.ep_machine.specs.Timer.{last_moment};
 ghost use Rattle.ep_calls.specs.Does.{DoesCall};
+ghost use Rattle.ep_calls.specs.Ids.{HadOrAdds};
 ghost use Rattle.ep_calls.specs.Raising.{IsRaising};
 ghost use Rattle.ep_calls.specs.Stands.{AreLinked};
 ghost use Rattle.ep_calls.specs.declared.control.Named.{Named};
@@ -451,11 +452,13 @@ impl Parts {
 
     /// epoll_ctl(2): adds, modifies or deletes a registration, or answers the refusal that comes first: those of
     /// `plan`, and then those of `control`. What is added or modified and reportable at once raises IN at its
-    /// instance. A refusal and an `Err`, which is want of memory and comes only of ADD, leave the parts.
+    /// instance. Each registration that was there and is left keeps its key. A refusal and an `Err`, which is want of
+    /// memory and comes only of ADD, leave the parts.
     pub fn epoll_ctl(&mut self, pid: Pid, args: Control) -> Result<Outcome, AllocError>
         ensures ok { IfOk result
             (λ outcome. (n caller : ℕ)
             → DoesCall n caller pid.0 (control_call args) outcome self.old self.new) }
+        ensures ids { HadOrAdds self.old.interest self.new.interest }
         ensures spared { is_add args.op ≡ false → IsOk result }
         ensures err { OnErr result (self.new ≡ self.old) }
     {
@@ -464,6 +467,7 @@ impl Parts {
             Err(refused) => return Ok(refused),
         };
         plan.below = self.is_below_ready(plan.operation, plan.named.desc);
-        self.control(pid, args, plan)
+        let outcome = self.control(pid, args, plan)?;
+        Ok(outcome)
     }
 }

@@ -19,12 +19,12 @@ use std::alloc::{AllocError, Global};
 fn reports_of(alloc: Global, chosen: &[Reportable]) -> Result<ReportList, AllocError>
     ensures { IfOk result (λ reports. reports ≡ map report_of chosen.now) }
 {
-    let mut reports = SmallVec::new(alloc);
+    let mut reports = SmallVec::with_capacity(alloc, chosen.len())?;
     for x in chosen {
-        reports.push(Report {
+        reports.push_reserved(Report {
             bits: x.bits,
             tag: x.entry.tag,
-        })?;
+        });
     }
     Ok(ReportList::new(reports))
 }
@@ -34,9 +34,9 @@ fn reports_of(alloc: Global, chosen: &[Reportable]) -> Result<ReportList, AllocE
 fn picked_of(alloc: Global, chosen: &[Reportable]) -> Result<Picked, AllocError>
     ensures { IfOk result (λ picked. picked ≡ numbers_of chosen.now) }
 {
-    let mut picked = SmallVec::new(alloc);
+    let mut picked = SmallVec::with_capacity(alloc, chosen.len())?;
     for x in chosen {
-        picked.push(x.entry.number)?;
+        picked.push_reserved(x.entry.number);
     }
     Ok(Picked::new(picked))
 }
@@ -55,17 +55,16 @@ fn note(interest: &mut Interest, step: u64, chosen: &[Reportable])
 }
 
 /// Copies for a second record, where one is asked for.
-fn spare_of(alloc: Global, chosen: &[Reportable], kept: bool) -> Result<Option<Spare>, AllocError>
+fn spare_of(reports: &ReportList, picked: &Picked, kept: bool) -> Result<Option<Spare>, AllocError>
     ensures { IfOk result
         (λ spare. MatchOption spare (kept ≡ false)
-        (λ s. (s.answer ≡ Events (map report_of chosen.now))
-        × (s.picked ≡ numbers_of chosen.now))) }
+        (λ s. (s.answer ≡ Events reports.now) × (s.picked ≡ picked.now))) }
 {
     if !kept {
         return Ok(None);
     }
-    let answer = Answer::Events(reports_of(alloc, chosen)?);
-    let picked = picked_of(alloc, chosen)?;
+    let answer = Answer::Events(reports.copy()?);
+    let picked = picked.copy()?;
     Ok(Some(Spare { answer, picked }))
 }
 
@@ -76,10 +75,11 @@ fn reported(alloc: Global, chosen: &[Reportable], kept: bool) -> Result<Outcome,
     ensures kept { IfOk result (λ outcome. IsKept kept outcome) }
     ensures raising { IfOk result (λ outcome. outcome.raising ≡ Nowhere) }
 {
-    let answer = Answer::Events(reports_of(alloc, chosen)?);
-    let recorded = Answer::Events(reports_of(alloc, chosen)?);
+    let reports = reports_of(alloc, chosen)?;
+    let recorded = Answer::Events(reports.copy()?);
     let picked = picked_of(alloc, chosen)?;
-    let spare = spare_of(alloc, chosen, kept)?;
+    let spare = spare_of(&reports, &picked, kept)?;
+    let answer = Answer::Events(reports);
     Ok(Outcome::reported(answer, recorded, picked, spare))
 }
 

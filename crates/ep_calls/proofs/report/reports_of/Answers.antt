@@ -1,0 +1,9 @@
+use Rattle.std.proofs.Common.{rules}
+use Rattle.ep_calls.specs.Wait.{report_of}
+use Rattle.ep_calls.proofs.RoomLemmas.{room_for_next}
+use Rattle.ep_calls.proofs.report.reports_of.Goals as goal
+
+pub push_reserved-requires : goal.push_reserved-requires
+push_reserved-requires c =
+    let room = room_for_next report_of c.args.chosen.now c.loop-x.reports.items c.loop-x.x-index c.loop-x.reports.capacity c.loop-x.invariant.0 c.loop-x.invariant.1 c.loop-x-test.true in
+    search (rules, room)
