@@ -64,14 +64,6 @@ pub count_le : (l : List ℕ) → dated_count l ≤ length l
 count_le [] = omega arith
 count_le (x ∷ l) = let rest = count_le l in elim (nat_lt 0 x) as (λ b. (if b then 1 else 0) + dated_count l ≤ length (x ∷ l)) [ true ↦ omega (arith, rest) | false ↦ omega (arith, rest) ]
 
--- where one is not dated, there are fewer dated than places
-pub count_lt : (l : List ℕ) (i : ℕ) → i < length l → nat_lt 0 (event_at l i) ≡ false → dated_count l < length l
-count_lt l i lt none =
-    let h = set_count l i 1 lt in
-    let was : dated_count (set l i 1) + 0 ≡ dated_count l + 1 = ap (λ (b : Bool). dated_count (set l i 1) + (if b then 1 else 0)) (sym none) ∙ h in
-    let le = count_le (set l i 1) in
-    omega (arith, was, le, length-set l i 1)
-
 pub count_more : (l : List ℕ) → dated_count (l ++ 0 ∷ []) ≡ dated_count l
 count_more [] = refl
 count_more (x ∷ l) = ap (λ (k : ℕ). (if nat_lt 0 x then 1 else 0) + k) (count_more l)
@@ -126,10 +118,6 @@ some_none x o a b = absurd (let e : Some x ≡ None = sym a ∙ b in cc)
 module _ (shows : Entry → Bool) (n : ℕ) (counted : 0 < n) (r : Registrations) (sound : IsSound r) where
   pub longer : (s : List ℕ) (k v : ℕ) → r.added < length s → r.added < length (set s k v)
   longer s k v lt = omega (arith, lt, length-set s k v)
-
-  pub found_longer : (s : List ℕ) (o : Option Entry) → r.added < length s → r.added < length (dated_found shows n o s)
-  found_longer s None lt = lt
-  found_longer s (Some z) lt = longer s z.number (entry_event shows n s z) lt
 
   place : (s : List ℕ) → r.added < length s → (id : EntryId) (x : Entry) → entry_under r id ≡ Some x → x.number < length s
   place s room id x h = let le = within r sound id x h in omega (arith, le, room)

@@ -8,7 +8,6 @@ pub mod DatingLemmas
 pub mod EachWaiterLemmas
 pub mod EndLemmas
 pub mod EntryLemmas
-pub mod IdLemmas
 pub mod MarkLemmas
 pub mod PassLemmas
 pub mod ReasonLemmas

@@ -20,12 +20,13 @@ use Rattle.ep_view.proofs.AtRestLemmas.{quiet_begun}
 use Rattle.ep_view.proofs.KernelViewLemmas.{any_kept, readiness as machine_readiness, ready_kept}
 use Rattle.ep_view.specs.KernelView.{KernelWatch, ready_now, shows, shows_in}
 use Rattle.ep_calls.specs.Does.{DoesEventIf}
+use Rattle.ep_calls.specs.Ids.{HadOrAdds}
 use Rattle.ep_calls.specs.Moves.{Goes, MovesBy}
 use Rattle.ep_calls.specs.Raising.{Raises}
 use Rattle.ep_calls.specs.Stands.{KeepsKeys, number_at, watch_at}
 use Rattle.ep_plain.proofs.EndLemmas.{ready_settled, rested, rests_so, settles, shows_settled}
 use Rattle.ep_plain.proofs.ReasonLemmas.{have_reasons}
-use Rattle.ep_plain.specs.Altered.{HadOrAdds, NamesAltered, is_adding}
+use Rattle.ep_plain.specs.Altered.{NamesAltered, is_adding}
 use Rattle.ep_plain.proofs.AddedLemmas.{step_adds_none}
 use Rattle.ep_plain.specs.Dating.{AreListed, Dated, dated_count, dated_of}
 use Rattle.ep_plain.specs.Ends.{Rests, Spreads}

@@ -80,13 +80,6 @@ module _ (ts : List Turn) (most : ℕ) (ks : List ℕ) where
   abbrev told : List Turn
   told = filter_map (find_turn ts) ks
 
-  pub twice_is_none : are_distinct ks ≡ false → false ≡ is_turn_pick ts most ks
-  twice_is_none h = sym (ap (λ (b : Bool). b && length told == length ks && length ks == min most (length ts) && list_all (is_fair_turn told ks) ts) h)
-
-  pub other_count_is_none : (length ks == min most (length ts)) ≡ false → false ≡ is_turn_pick ts most ks
-  other_count_is_none h =
-      sym (ap (λ (b : Bool). b && list_all (is_fair_turn told ks) ts) (and_false (are_distinct ks && length told == length ks) (length ks == min most (length ts)) h))
-
   pub absent_is_none : latest_from ts 0 ks ≡ None → false ≡ is_turn_pick ts most ks
   absent_is_none h =
       let short : (length told == length ks) ≡ false = apart_test (length told) (length ks) (fewer ts 0 ks h) in

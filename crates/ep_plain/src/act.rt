@@ -4,13 +4,12 @@ ghost use Rattle.std.specs.List.{list_any};
 ghost use Rattle.ep_machine.specs.Files.{table_of};
 ghost use Rattle.ep_park.specs.Waiters.{is_caller};
 ghost use Rattle.ep_calls.specs.Does.{DoesCall, DoesEvent};
+ghost use Rattle.ep_calls.specs.Ids.{HadOrAdds};
 ghost use Rattle.ep_calls.specs.Kept.{KeepsCall, KeepsEvent};
 ghost use Rattle.ep_calls.specs.Spared.{IsSpared, TakesNoMemory};
-ghost use Rattle.ep_plain.specs.Altered.{HadOrAdds};
 ghost use Rattle.ep_plain.specs.Choose.{Tells};
 ghost use Rattle.ep_plain.specs.Dating.{dated_of};
 
-use crate::control::epoll_ctl;
 use crate::since::Dating;
 use crate::stamp::Stamp;
 use crate::wait::{epoll_wait, resume};
@@ -54,7 +53,7 @@ fn make_call(
                 mask,
                 tag,
             };
-            epoll_ctl(parts, pid, args)
+            parts.epoll_ctl(pid, args)
         }
         Call::EpollWait { epfd, max, timeout } => {
             let args = Wait {

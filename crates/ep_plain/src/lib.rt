@@ -5,7 +5,6 @@ mod act;
 mod altered;
 mod choose;
 mod climb;
-mod control;
 mod each_waiter;
 mod mark;
 mod pick;

@@ -62,7 +62,8 @@ fn mark_dated(tables: &Tables, now: u64, interest: &Interest, dating: &Dating, w
     mark_each(interest, &dating.since, &dating.keys, waiters);
 }
 
-/// How many registrations that have a date are gone over for each waiter, at most.
+/// How many registrations that have a date are gone over for each waiter. In all, up to 15 more are, since the quotient
+/// is rounded down.
 const MANY: usize = 16;
 
 /// The same, by the dates or, where those are many, by one waiter after another: each look at a date asks for the
@@ -82,8 +83,8 @@ fn mark_all(tables: &Tables, now: u64, interest: &Interest, dating: &Dating, wai
 }
 
 /// Marks whoever is due, and of those that wait at a ready instance the longest waiting one, where none is marked
-/// there. Nothing is looked at where nobody waits. It looks only at the registrations that have a date, at 16 for each
-/// waiter at most: where there are more, each waiter asks whether its instance is ready.
+/// there. Nothing is looked at where nobody waits. It looks only at the registrations that have a date, at most at 16
+/// for each waiter and 15 more: where there are more, each waiter asks whether its instance is ready.
 pub fn mark_waiters(parts: &mut Parts, dating: &Dating)
     requires { TellsReady parts.old.tables parts.old.clock parts.old.interest (dated_of dating.now) }
     ensures marks { parts.new.parked

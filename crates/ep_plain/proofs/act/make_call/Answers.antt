@@ -7,9 +7,9 @@ use Rattle.ep_base.specs.declared.call.Call.TheVariants.{EpollCtl}
 use Rattle.ep_calls.specs.Does.{DoesCall}
 use Rattle.ep_calls.specs.Kept.{KeepsCall}
 use Rattle.ep_calls.specs.TableCall.{IsTableCall}
+use Rattle.ep_calls.proofs.HadLemmas.{had_keys, had_same}
 use Rattle.ep_calls.proofs.KeptLemmas.{any_call, table_call_kept}
 use Rattle.ep_calls.proofs.SparedLemmas.{table_call_frees}
-use Rattle.ep_plain.proofs.IdLemmas.{had_keys, had_same}
 use Rattle.ep_plain.proofs.act.make_call.Goals as goal
 
 pub returns-in_default : goal.returns-in_default
@@ -40,7 +40,7 @@ returns-in-EpollCtl-clause-ok c =
     let x = c.in-EpollCtl in
     let fits : SFits w32 x.op = search rules in
     IfOk-weaker c.epoll_ctl.result _ _ (λ outcome h.
-    let P : Call → Type 0 = λ call. DoesCall c.args.stamp.step c.args.stamp.caller.0 c.args.pid.0 call outcome c.args.parts.now c.epoll_ctl.new.parts in
+    let P : Call → Type 0 = λ call. DoesCall c.args.stamp.step c.args.stamp.caller.0 c.args.pid.0 call outcome c.args.parts.now c.epoll_ctl.new.self in
     subst P (sym x.is) (subst (λ (z : ℤ). P (EpollCtl x.epfd z x.fd x.mask x.tag)) (to_z-of_z w32 x.op fits) (h c.args.stamp.step c.args.stamp.caller.0))) c.epoll_ctl.ensures.ok
 
 pub returns-in-Read-clause-ids : goal.returns-in-Read-clause-ids

@@ -1,5 +1,0 @@
-use Rattle.ep_plain.proofs.IdLemmas.{control_had}
-use Rattle.ep_plain.proofs.control.epoll_ctl.Goals as goal
-
-pub returns-clause-ids : goal.returns-clause-ids
-returns-clause-ids c = control_had _ _ _ _ _ c.in_ok-outcome.ensures.controls
