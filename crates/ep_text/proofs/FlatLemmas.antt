@@ -1,29 +1,26 @@
--- Keys and their numbers, members that are put into an object one after another, and tokens of plain values.
-use Rattle.std.proofs.Common.{IfSome, List, [], None, Option, Some, Bool, ap, arith, bytes_eq, false, get_or, if◌then◌else◌, length, option_map, refl, sym, take, true, ℕ, ◌+◌, ◌++◌, ◌-◌, ◌<◌, ◌∙◌, ◌∷◌, ◌≡◌, ◌≤◌}
+-- Keys and their numbers, and members that are put into an object one after another.
+use Rattle.std.proofs.Common.{List, [], None, Option, Some, Bool, ap, arith, bytes_eq, false, get_or, if◌then◌else◌, length, refl, sym, take, true, ℕ, ◌+◌, ◌++◌, ◌-◌, ◌<◌, ◌∙◌, ◌∷◌, ◌≡◌}
 use Rattle.std.specs.Cmp.Lexicographic.{slice_cmp}
 use Rattle.std.specs.Ordering.{match_ordering, nat_cmp}
 use Rattle.std.specs.declared.cmp.Ordering.{Ordering}
 use Rattle.std.specs.declared.cmp.Ordering.TheVariants.{Equal, Greater, Less}
 use Rattle.std.proofs.lemmas.List.{take_more}
-use Rattle.json.specs.Json as json
-use Rattle.json.specs.Json.{Json, members, parse_map, read_key, value}
+use Rattle.json.specs.Json.{members, parse_map, value}
 use Rattle.json.specs.Token.{Token}
-use Rattle.json.proofs.Grammar.{members_end, members_more, value-begin_object, value_is}
-use Rattle.serde_json.specs.Data.{Data, Members, boolean, member, no_members, number, object, put, string}
+use Rattle.json.proofs.Grammar.{value-begin_object}
+use Rattle.serde_json.specs.Data.{Data, Members, member, no_members, object, put}
 use Rattle.serde_json.specs.Find.{get_member}
-use Rattle.serde_json.specs.Read.{converted, number_of, of_json, of_members}
+use Rattle.serde_json.specs.Read.{converted, of_json, of_members}
 use Rattle.serde_json.proofs.Views.{get_member-put, get_member-put_other}
+use Rattle.ep_json.specs.Text.{whole}
+use Rattle.ep_json.proofs.TreeLemmas.{converted_object, whole_read}
 use Rattle.ep_text.specs.declared.key.Key.{Key}
 use Rattle.ep_text.specs.declared.key.Key.TheVariants as key
 use Rattle.ep_text.specs.declared.source.Member.{Member}
-use Rattle.ep_text.specs.Flat.{BeginsWith, flat_depth, whole}
+use Rattle.ep_text.specs.Flat.{flat_depth}
 use Rattle.ep_text.specs.Key.{key_name, key_number}
 use Rattle.ep_text.specs.Keys.{first_other, is_among}
 use Rattle.ep_text.specs.Source.{found_data, put_all}
-
-pub some_weaker : {T : Type 0} (o : Option T) (P Q : T → Type 0) → ((x : T) → P x → Q x) → IfSome o P → IfSome o Q
-some_weaker None P Q f h = tt
-some_weaker (Some x) P Q f h = f x h
 
 -- ---- keys
 
@@ -127,50 +124,9 @@ other_put ks name d no_members among none = rw among refl
 other_put ks name d (member l x ms) among none =
     other_put_at (slice_cmp nat_cmp name l) ks name l d x ms among none (other_put ks name d ms among (split (is_among ks l) (first_other ks ms) l none).1)
 
--- ---- tokens
+-- ---- an object that is all of a text
 
-pub text_begins : (s : List ℕ) (ts : List Token) → BeginsWith (string s) (Token.string s ∷ ts) ts
-text_begins s ts = (json.string s, value_is flat_depth (Token.string s ∷ ts), refl)
-
-pub truth_begins : (b : Bool) (ts : List Token) → BeginsWith (boolean b) (Token.boolean b ∷ ts) ts
-truth_begins b ts = (json.boolean b, value_is flat_depth (Token.boolean b ∷ ts), refl)
-
-pub number_begins : (s : List ℕ) (d : Data) (ts : List Token) → option_map number (number_of s) ≡ Some d → BeginsWith d (Token.number s ∷ ts) ts
-number_begins s d ts e = (json.number s, value_is flat_depth (Token.number s ∷ ts), e)
-
-abbrev pub into : Members → Option (json.Members × List Token) → Option (Members × List Token)
-into found read = converted (λ ms. of_members ms found) read
-
-goes_in : (k : List ℕ) (j : Json) (d : Data) (found : Members) → of_json j ≡ Some d → (read : Option (json.Members × List Token)) → into found (parse_map (json.member k j) read) ≡ into (put k d found) read
-goes_in k j d found e None = refl
-goes_in k j d found e (Some p) = rw e refl
-
--- a member more
-pub member_read : (n : ℕ) (k : List ℕ) (d : Data) (ts s r : List Token) (found : Members) → 0 < n → read_key ts ≡ Some (Some k, s) → BeginsWith d s r
-    → into found (members (value flat_depth) n ts) ≡ into (put k d found) (members (value flat_depth) (n - 1) r)
-member_read n k d ts s r found some key b = ap (into found) (members_more (value flat_depth) n k ts s r b.0 some key b.1) ∙ goes_in k b.0 d found b.2 _
-
-pub members_over : (n : ℕ) (ts r : List Token) (found : Members) → length ts ≤ n → read_key ts ≡ Some (None, r) → into found (members (value flat_depth) n ts) ≡ Some (found, r)
-members_over n ts r found enough e = ap (into found) (members_end (value flat_depth) n ts r enough e)
-
-abbrev left : Option (Members × List Token) → List Token
-left None = []
-left (Some p) = p.1
-
-abbrev made : Option (Members × List Token) → Members
-made None = no_members
-made (Some p) = p.0
-
-all_read : (ms : json.Members) (ts : List Token) (read : Option Members) (found : Members) → of_members ms no_members ≡ read → option_map {U = Members × List Token} (λ x. (x, ts)) read ≡ Some (found, [])
-    → whole (Some (json.object ms, ts)) ≡ Some (object found)
-all_read ms ts None found is e = absurd (cc)
-all_read ms [] (Some x) found is e = ap (option_map object) is ∙ ap (λ y. Some (object y)) (ap made e)
-all_read ms (t ∷ ts) (Some x) found is e = let none : t ∷ ts ≡ [] = ap left e in absurd (cc)
-
-whole_object : (read : Option (json.Members × List Token)) (found : Members) → into no_members read ≡ Some (found, []) → whole (parse_map json.object read) ≡ Some (object found)
-whole_object None found e = absurd (cc)
-whole_object (Some p) found e = all_read p.0 p.1 (of_members p.0 no_members) found refl e
-
--- an object that is all of a text
-pub object_read : (ts : List Token) (found : Members) → into no_members (members (value flat_depth) (length ts) ts) ≡ Some (found, []) → whole (value 127 (Token.begin_object ∷ ts)) ≡ Some (object found)
-object_read ts found e = ap whole (value-begin_object 127 ts (omega arith)) ∙ whole_object (members (value flat_depth) (length ts) ts) found e
+pub object_read : (ts : List Token) (found : Members) → converted (λ ms. of_members ms no_members) (members (value flat_depth) (length ts) ts) ≡ Some (found, []) → whole (value 127 (Token.begin_object ∷ ts)) ≡ Some (object found)
+object_read ts found e =
+    whole_read (value 127 (Token.begin_object ∷ ts)) (object found)
+    (ap (converted of_json) (value-begin_object 127 ts (omega arith)) ∙ converted_object (members (value flat_depth) (length ts) ts) ∙ ap (parse_map object) e)

@@ -7,6 +7,7 @@ use Rattle.serde_json.specs.Data.{Data, no_members}
 use Rattle.serde_json.specs.Read.{read as json}
 use Rattle.serde_json.specs.View.{items_view}
 use Rattle.serde_json.specs.declared.value.Value.{Value}
+use Rattle.ep_json.specs.Text.{text_data}
 use Rattle.ep_text.specs.Bytes.{repeated}
 use Rattle.ep_text.specs.declared.reason.Reason.{Reason}
 use Rattle.ep_text.specs.declared.key.Key.TheVariants as key
@@ -43,3 +44,12 @@ pub flat_asked : (ms : List Member) (o : Operation) (c : Command) → operation_
     → command (flat_data ms) ≡ Ok c
 unfolding command
 flat_asked ms o c named known e = rw (named, known) e
+
+-- ---- a line by its value
+
+by_value : (b : Bool) (o : Option Data) (r : Reason) → ok_or (if b then o else None) r >>= command ≡ (if b then ok_or o r >>= command else Err r)
+by_value true o r = refl
+by_value false o r = refl
+
+pub event_of_data : (line : List ℕ) (read : Option Data) → read ≡ text_data line → result_ok (ok_or read (unread line) >>= command) ≡ event line
+event_of_data line read e = ap (λ o. result_ok (ok_or o (unread line) >>= command)) e ∙ ap result_ok (by_value (is_utf8 line) (json line) (unread line))

@@ -11,4 +11,3 @@ pub mod Event
 pub mod Ops
 pub mod Line
 pub mod Limits
-pub mod Tokens

@@ -1,7 +1,7 @@
 -- What a line has under its keys, as the value that it would be in a tree.
 use Rattle.std.specs.Prelude.{List, [], ◌∷◌}
-use Rattle.serde_json.specs.Data.{Data, Members, boolean, negative, no_members, number, object, put, string, unsigned}
-use Rattle.serde_json.specs.View.{view}
+use Rattle.serde_json.specs.Data.{Data, Members, boolean, no_members, number, object, put, string}
+use Rattle.serde_json.specs.View.{number_view, view}
 use Rattle.ep_text.specs.declared.source.Found.{Found}
 use Rattle.ep_text.specs.declared.source.Found.TheVariants as found
 use Rattle.ep_text.specs.declared.source.Member.{Member}
@@ -11,8 +11,7 @@ use Rattle.ep_text.specs.Key.{key_name}
 
 abbrev pub found_data : Found → Data
 found_data (found.Truth b) = boolean b
-found_data (found.Natural n) = number (unsigned n)
-found_data (found.BelowZero z) = number (negative z)
+found_data (found.Number n) = number (number_view n)
 found_data (found.Text s) = string s.now
 found_data (found.Tree v) = view v.now
 

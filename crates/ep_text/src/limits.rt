@@ -8,7 +8,7 @@ ghost use Rattle.ep_text.specs.Limits.{IsLimitsText};
 use ep_base::Limits;
 
 /// The number of a run of digits.
-fn number(run: &str) -> Option<u32>
+pub(crate) fn number(run: &str) -> Option<u32>
     ensures { SomeIff result (IsNumeral 10 run.now × (digits_value 10 run.now < 2 ^ 32))
         (digits_value 10 run.now) }
 {

@@ -8,14 +8,13 @@ ghost use Rattle.ep_text.specs.Source.{found_data, put_all, source_data};
 ghost use Rattle.ep_text.specs.Values.{i64_value, u64_value};
 
 use crate::key::Key;
-use serde_json::Value;
+use serde_json::{Number, Value};
 
 /// The value of a key.
 #[derive(Clone, Copy)]
 pub(crate) enum Found<'a> {
     Truth(bool),
-    Natural(u64),
-    BelowZero(i64),
+    Number(Number),
     Text(&'a str),
     /// Any value, as a tree.
     Tree(&'a Value),
@@ -36,7 +35,7 @@ impl<'a> Found<'a> {
         ensures { result ≡ u64_value (found_data self.now) }
     {
         match self {
-            Found::Natural(number) => Some(*number),
+            Found::Number(number) => number.as_u64(),
             Found::Tree(value) => value.as_u64(),
             _ => None,
         }
@@ -46,8 +45,7 @@ impl<'a> Found<'a> {
         ensures { result ≡ i64_value (found_data self.now) }
     {
         match self {
-            Found::Natural(number) => i64::try_from(*number).ok(),
-            Found::BelowZero(number) => Some(*number),
+            Found::Number(number) => number.as_i64(),
             Found::Tree(value) => value.as_i64(),
             _ => None,
         }
@@ -94,7 +92,7 @@ impl<'a> Found<'a> {
         ensures { result ≡ is_some (as_number (found_data self.now)) }
     {
         match self {
-            Found::Natural(_) | Found::BelowZero(_) => true,
+            Found::Number(_) => true,
             Found::Tree(value) => value.is_number(),
             _ => false,
         }

@@ -1,23 +1,26 @@
-use Rattle.std.proofs.Common.{ap, subst, sym, ◌∙◌, ◌∷◌}
+use Rattle.std.proofs.Common.{Some, ap, ◌∙◌, ◌∷◌, ◌≡◌}
+use Rattle.json.specs.Json.{value}
 use Rattle.json.specs.Reads.{token_of}
-use Rattle.serde_json.specs.Data.{boolean, string}
-use Rattle.ep_text.specs.Flat.{BeginsWith}
-use Rattle.ep_text.specs.Source.{found_data}
-use Rattle.ep_text.proofs.FlatLemmas.{number_begins, text_begins, truth_begins}
+use Rattle.json.specs.Token.{Token}
+use Rattle.json.proofs.Grammar.{value_is}
+use Rattle.serde_json.specs.Read.{converted, of_json}
+use Rattle.ep_text.specs.Flat.{flat_depth}
 use Rattle.ep_text.proofs.flat.plain_value.Goals as goal
 
 pub returns-in-String-clause-value : goal.returns-in-String-clause-value
 returns-in-String-clause-value c =
-    subst (λ ts. BeginsWith (string c.in-String.text.now) ts c.next.new.self) (sym (c.in-Some.ensures.value ∙ ap (λ t. token_of t ∷ c.next.new.self) c.in-String.is))
-    (text_begins c.in-String.text.now c.next.new.self)
+    let first : c.args.reader.now ≡ token_of c.in-Some.token ∷ c.next.new.self = c.in-Some.ensures.value in
+    let is : c.args.reader.now ≡ Token.string c.in-String.text.now ∷ c.next.new.self = first ∙ ap (λ t. token_of t ∷ c.next.new.self) c.in-String.is in
+    ap (converted of_json) (ap (value flat_depth) is ∙ value_is flat_depth _)
 
 pub returns-in-Bool-clause-value : goal.returns-in-Bool-clause-value
 returns-in-Bool-clause-value c =
-    subst (λ ts. BeginsWith (boolean c.in-Bool.is_true) ts c.next.new.self) (sym (c.in-Some.ensures.value ∙ ap (λ t. token_of t ∷ c.next.new.self) c.in-Bool.is))
-    (truth_begins c.in-Bool.is_true c.next.new.self)
+    let first : c.args.reader.now ≡ token_of c.in-Some.token ∷ c.next.new.self = c.in-Some.ensures.value in
+    let is : c.args.reader.now ≡ Token.boolean c.in-Bool.is_true ∷ c.next.new.self = first ∙ ap (λ t. token_of t ∷ c.next.new.self) c.in-Bool.is in
+    ap (converted of_json) (ap (value flat_depth) is ∙ value_is flat_depth _)
 
-pub returns-in-Some-whole_number-clause-value : goal.returns-in-Some-whole_number-clause-value
-returns-in-Some-whole_number-clause-value c =
-    let d = found_data c.in-Some-whole_number.found in
-    subst (λ ts. BeginsWith d ts c.next.new.self) (sym (c.in-Some.ensures.value ∙ ap (λ t. token_of t ∷ c.next.new.self) c.in-Number.is))
-    (number_begins c.in-Number.text.now d c.next.new.self c.in-Some-whole_number.ensures)
+pub returns-in-Some-parse_number-clause-value : goal.returns-in-Some-parse_number-clause-value
+returns-in-Some-parse_number-clause-value c =
+    let first : c.args.reader.now ≡ token_of c.in-Some.token ∷ c.next.new.self = c.in-Some.ensures.value in
+    let is : c.args.reader.now ≡ Token.number c.in-Number.text.now ∷ c.next.new.self = first ∙ ap (λ t. token_of t ∷ c.next.new.self) c.in-Number.is in
+    ap (converted of_json) (ap (value flat_depth) is ∙ value_is flat_depth _) ∙ rw (← c.in-Some-parse_number.ensures)

@@ -2,7 +2,7 @@ use Rattle.std.proofs.Common.{Some, ap, ◌∙◌, ◌∷◌}
 use Rattle.json.specs.Json.{value}
 use Rattle.json.specs.Reads.{token_of}
 use Rattle.serde_json.specs.Data.{no_members}
-use Rattle.ep_text.specs.Flat.{whole}
+use Rattle.ep_json.specs.Text.{whole}
 use Rattle.ep_text.specs.Source.{put_all}
 use Rattle.ep_text.proofs.FlatLemmas.{object_read}
 use Rattle.ep_text.proofs.flat.read_flat.Goals as goal
