@@ -31,7 +31,7 @@ use Rattle.ep_history.specs.Calls.{call_data, call_of}
 use Rattle.ep_history.specs.Fields.{natural}
 use Rattle.ep_history.specs.Fits.{AnswerFits, AreLongs, CallFits, EventFits, RecordFits, ReportFits}
 use Rattle.ep_history.specs.Records.{event_data, event_of, line_data, line_record, record_data, record_line, record_of}
-use Rattle.ep_text.specs.Tokens.{whole}
+use Rattle.ep_json.specs.Text.{whole}
 use Rattle.ep_history.proofs.CallLemmas.{again_i32, again_u32, close_again, ctl_again, dup_again, dup2_again, gettime_again, read_again, record_again, settime_again, shutdown_again, wait_again, write_again}
 use Rattle.ep_history.proofs.DataLemmas.{record_nests}
 use Rattle.ep_history.proofs.EscapeLemmas.{hex_ascii}

@@ -1,7 +1,12 @@
 //! What is left of a line.
 
+use memchr::memchr;
+
 /// As many digits as the greatest number of 64 bits has.
 const MOST_DIGITS: u32 = 20;
+
+/// So many bytes are looked at one by one, since most texts are short: `memchr` is faster from there on.
+const NEAR: usize = 32;
 
 /// What is left of a line. Nothing that it reads is an error: it takes what looks right.
 #[derive(Drop)]
@@ -37,39 +42,45 @@ impl<'a> Cursor<'a> {
         if self.take(text) { Some(()) } else { None }
     }
 
-    /// The number that comes next; 0 if none does, and any number if it is above 2^64.
-    pub(crate) fn natural(&mut self) -> u64 {
+    /// The number that comes next, or `None` where no digit does; any number if it is above 2^64.
+    pub(crate) fn natural(&mut self) -> Option<u64> {
         let mut number: u64 = 0;
+        let mut rest = self.rest;
         for _ in 0..MOST_DIGITS {
-            let Some((byte, rest)) = self.rest.split_first() else {
-                return number;
+            let Some((byte, behind)) = rest.split_first() else {
+                break;
             };
             let digit = digit(*byte);
             if digit > 9 {
-                return number;
+                break;
             }
             number = number.wrapping_mul(10).wrapping_add(u64::from(digit));
-            self.rest = rest;
+            rest = behind;
         }
-        number
+        if rest.len() == self.rest.len() {
+            return None;
+        }
+        self.rest = rest;
+        Some(number)
     }
 
     /// The number that comes next, if it has 32 bits.
     pub(crate) fn natural32(&mut self) -> Option<u32> {
-        u32::try_from(self.natural()).ok()
+        u32::try_from(self.natural()?).ok()
     }
 
-    /// The number that comes next, perhaps with a minus; 0 if none does, and any number if it is none of 64 bits.
-    pub(crate) fn integer(&mut self) -> i64 {
+    /// The number that comes next, perhaps with a minus, or `None` where no digit does; any number if it is none of 64
+    /// bits.
+    pub(crate) fn integer(&mut self) -> Option<i64> {
         if self.take(b"-") {
-            return signed(self.natural().wrapping_neg());
+            return Some(signed(self.natural()?.wrapping_neg()));
         }
-        signed(self.natural())
+        Some(signed(self.natural()?))
     }
 
     /// The number that comes next, perhaps with a minus, if it has 32 bits.
     pub(crate) fn integer32(&mut self) -> Option<i32> {
-        i32::try_from(self.integer()).ok()
+        i32::try_from(self.integer()?).ok()
     }
 
     /// The truth value that comes next.
@@ -84,8 +95,12 @@ impl<'a> Cursor<'a> {
     /// The bytes up to the next quotation mark, which is then behind.
     pub(crate) fn text(&mut self) -> Option<&'a [u8]> {
         let line = self.rest;
-        let end = line.iter().position(|byte| *byte == b'"')?;
-        let (text, rest) = line.split_at(end);
+        let near = &line[..line.len().min(NEAR)];
+        let end = match near.iter().position(|byte| *byte == b'"') {
+            Some(end) => end,
+            None => memchr(b'"', line)?,
+        };
+        let (text, rest) = line.split_at_checked(end)?;
         self.rest = rest;
         self.expect(b"\"")?;
         Some(text)

@@ -3,94 +3,83 @@
 
 use crate::cursor::Cursor;
 use crate::guess_answer::guess_answer;
-use crate::guess_call::guess_call;
-use ep_base::{Answer, CallerId, Event, Picked, Pid, Record};
+use crate::guess_call::{RawCall, guess_call};
+use ep_base::{CallerId, Event, Picked, Pid, Record};
 use smallvec::SmallVec;
-use std::alloc::{AllocError, Global};
+use std::alloc::Global;
 
-fn call_event(alloc: Global, line: &mut Cursor<'_>) -> Result<Option<Event>, AllocError> {
-    let Some(call) = guess_call(alloc, line)? else {
-        return Ok(None);
-    };
-    if !line.take(b",\"pid\":") {
-        return Ok(None);
-    }
-    let pid = Pid(line.natural());
-    Ok(Some(Event::Call { pid, call }))
+/// An event as it stands in a line.
+#[derive(Drop)]
+enum RawEvent<'a> {
+    Call(Pid, RawCall<'a>),
+    Whole(Event),
 }
 
-/// An event that is no call.
-fn other_event(line: &mut Cursor<'_>) -> Option<Event> {
+impl RawEvent<'_> {
+    /// The event.
+    #[inline(always)]
+    fn whole(self, alloc: Global) -> Option<Event> {
+        match self {
+            RawEvent::Call(pid, call) => Some(Event::Call {
+                pid,
+                call: call.whole(alloc)?,
+            }),
+            RawEvent::Whole(event) => Some(event),
+        }
+    }
+}
+
+/// The event that seems to come next, but for the brace that ends it.
+fn event<'a>(line: &mut Cursor<'a>) -> Option<RawEvent<'a>> {
+    if line.take(b"{\"call\":") {
+        let call = guess_call(line)?;
+        line.expect(b",\"pid\":")?;
+        return Some(RawEvent::Call(Pid(line.natural()?), call));
+    }
     if line.take(b"{\"resume\":true") {
-        return Some(Event::Resume);
+        return Some(RawEvent::Whole(Event::Resume));
     }
     line.expect(b"{\"tick\":")?;
-    Some(Event::Tick { n: line.natural() })
+    let n = line.natural()?;
+    Some(RawEvent::Whole(Event::Tick { n }))
 }
 
-fn event(alloc: Global, line: &mut Cursor<'_>) -> Result<Option<Event>, AllocError> {
-    if line.take(b"{\"call\":") {
-        return call_event(alloc, line);
-    }
-    Ok(other_event(line))
-}
-
-fn picked(alloc: Global, line: &mut Cursor<'_>) -> Result<Picked, AllocError> {
+/// The numbers up to the end of a list.
+fn picked(alloc: Global, line: &mut Cursor<'_>) -> Option<Picked> {
     let mut numbers = SmallVec::new(alloc);
+    if line.take(b"]") {
+        return Some(Picked::new(numbers));
+    }
     for _ in 0..line.rest.len() {
-        if line.take(b"]") {
-            break;
-        }
-        line.take(b",");
-        let left = line.rest.len();
-        numbers.push(line.natural())?;
-        if line.rest.len() == left {
+        numbers.push(line.natural()?).ok()?;
+        if !line.take(b",") {
             break;
         }
     }
-    Ok(Picked::new(numbers))
-}
-
-/// Who asked.
-fn caller(line: &mut Cursor<'_>) -> Option<CallerId> {
-    line.expect(b",\"caller\":")?;
-    let caller = CallerId(line.natural32()?);
-    line.expect(b",\"event\":")?;
-    Some(caller)
-}
-
-fn behind_answer(
-    alloc: Global,
-    line: &mut Cursor<'_>,
-    answer: Answer,
-) -> Result<Option<Record>, AllocError> {
-    let Some(caller) = caller(line) else {
-        return Ok(None);
-    };
-    let Some(event) = event(alloc, line)? else {
-        return Ok(None);
-    };
-    if !line.take(b"},\"picked\":[") {
-        return Ok(None);
-    }
-    let picked = picked(alloc, line)?;
-    Ok(Some(Record {
-        caller,
-        event,
-        answer,
-        picked,
-    }))
+    line.expect(b"]")?;
+    Some(Picked::new(numbers))
 }
 
 /// A record whose line this may be, made for lines of the form of `print_record`. No contract says which record it is,
-/// nor that there is one. An `Err` is want of memory.
-pub(crate) fn guess_record(alloc: Global, line: &[u8]) -> Result<Option<Record>, AllocError> {
+/// nor that there is one. Want of memory is `None`, too. Bytes are made of their digits when the whole line has been
+/// seen to be of that form, so that another line costs little.
+pub(crate) fn guess_record(alloc: Global, line: &[u8]) -> Option<Record> {
     let mut line = Cursor { rest: line };
-    if !line.take(b"{\"answer\":") {
-        return Ok(None);
+    line.expect(b"{\"answer\":")?;
+    let answer = guess_answer(alloc, &mut line)?;
+    line.expect(b",\"caller\":")?;
+    let caller = CallerId(line.natural32()?);
+    line.expect(b",\"event\":")?;
+    let event = event(&mut line)?;
+    line.expect(b"},\"picked\":[")?;
+    let picked = picked(alloc, &mut line)?;
+    if line.rest != b"}".as_slice() {
+        return None;
     }
-    let Some(answer) = guess_answer(alloc, &mut line)? else {
-        return Ok(None);
-    };
-    behind_answer(alloc, &mut line, answer)
+    Some(Record {
+        caller,
+        event: event.whole(alloc)?,
+        answer: answer.whole(alloc)?,
+        picked,
+    })
 }

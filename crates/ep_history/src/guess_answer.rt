@@ -1,11 +1,46 @@
 //! A guess at the answer of an object that `print_record` made. Nothing is said of it.
 
 use crate::cursor::Cursor;
+use crate::digits::decoded;
 use crate::read_answer::errno_of;
 use ep_base::{Answer, Bytes, Fd, Mask, Report, Reports};
-use hex::FromHexError;
 use smallvec::SmallVec;
-use std::alloc::{AllocError, Global};
+use std::alloc::Global;
+
+/// An answer as it stands in a line: bytes are left as their digits, since these may be many, and the rest of the line
+/// may be of another form.
+#[derive(Drop)]
+pub(crate) enum RawAnswer<'a> {
+    Digits(&'a [u8]),
+    Whole(Answer),
+}
+
+/// As many bytes as an answer keeps without memory.
+const FEW: usize = 16;
+
+/// The bytes of these digits.
+fn bytes(alloc: Global, digits: &[u8]) -> Option<Bytes> {
+    let half = digits.len() / 2;
+    if half > FEW {
+        let bytes = decoded(alloc, digits)?;
+        return Some(Bytes::new(SmallVec::from_vec(bytes)));
+    }
+    let mut room = [0; FEW];
+    hex::decode_to_slice(digits, &mut room[..half]).ok()?;
+    let few = SmallVec::from_slice(alloc, &room[..half]).ok()?;
+    Some(Bytes::new(few))
+}
+
+impl RawAnswer<'_> {
+    /// The answer.
+    #[inline(always)]
+    pub(crate) fn whole(self, alloc: Global) -> Option<Answer> {
+        match self {
+            RawAnswer::Digits(digits) => Some(Answer::Bytes(bytes(alloc, digits)?)),
+            RawAnswer::Whole(answer) => Some(answer),
+        }
+    }
+}
 
 fn two(line: &mut Cursor<'_>) -> Option<Answer> {
     let first = Fd(line.integer32()?);
@@ -16,19 +51,18 @@ fn two(line: &mut Cursor<'_>) -> Option<Answer> {
 }
 
 fn time(line: &mut Cursor<'_>) -> Option<Answer> {
-    let value = line.natural();
+    let value = line.natural()?;
     line.expect(b",")?;
-    let interval = line.natural();
+    let interval = line.natural()?;
     line.expect(b"]")?;
     Some(Answer::Time { value, interval })
 }
 
-/// A refusal: its number says which, and its name is not looked at.
 fn refused(line: &mut Cursor<'_>) -> Option<Answer> {
     let errno = errno_of(line.natural32()?)?;
     line.expect(b",\"")?;
-    let _name = line.text()?;
-    line.expect(b"]")?;
+    line.expect(errno.name().as_bytes())?;
+    line.expect(b"\"]")?;
     Some(Answer::Refused(errno))
 }
 
@@ -36,58 +70,30 @@ fn report(line: &mut Cursor<'_>) -> Option<Report> {
     line.expect(b"[")?;
     let bits = Mask(line.natural32()?);
     line.expect(b",")?;
-    let tag = line.natural();
+    let tag = line.natural()?;
     line.expect(b"]")?;
     Some(Report { bits, tag })
 }
 
-fn events(alloc: Global, line: &mut Cursor<'_>) -> Result<Option<Answer>, AllocError> {
+fn events(alloc: Global, line: &mut Cursor<'_>) -> Option<Answer> {
     let mut reports = SmallVec::new(alloc);
+    if line.take(b"]") {
+        return Some(Answer::Events(Reports::new(reports)));
+    }
     for _ in 0..line.rest.len() {
-        if line.take(b"]") {
+        reports.push(report(line)?).ok()?;
+        if !line.take(b",") {
             break;
         }
-        line.take(b",");
-        let Some(report) = report(line) else {
-            return Ok(None);
-        };
-        reports.push(report)?;
     }
-    Ok(Some(Answer::Events(Reports::new(reports))))
-}
-
-/// As many bytes as an answer keeps without memory.
-const FEW: usize = 16;
-
-/// The bytes of these digits. An `Err` is want of memory.
-fn decoded(alloc: Global, digits: &[u8]) -> Result<Option<Bytes>, AllocError> {
-    let half = digits.len() / 2;
-    if half <= FEW {
-        let mut room = [0; FEW];
-        if hex::decode_to_slice(digits, &mut room[..half]).is_err() {
-            return Ok(None);
-        }
-        let few = SmallVec::from_slice(alloc, &room[..half])?;
-        return Ok(Some(Bytes::new(few)));
-    }
-    match hex::decode(alloc, digits) {
-        Ok(bytes) => Ok(Some(Bytes::new(SmallVec::from_slice(alloc, &bytes)?))),
-        Err(FromHexError::OutOfMemory) => Err(AllocError),
-        Err(_) => Ok(None),
-    }
-}
-
-fn bytes(alloc: Global, line: &mut Cursor<'_>) -> Result<Option<Answer>, AllocError> {
-    let Some(digits) = line.text() else {
-        return Ok(None);
-    };
-    Ok(decoded(alloc, digits)?.map(Answer::Bytes))
+    line.expect(b"]")?;
+    Some(Answer::Events(Reports::new(reports)))
 }
 
 /// An answer without a list.
 fn other(line: &mut Cursor<'_>) -> Option<Answer> {
     if line.take(b"num\":") {
-        return Some(Answer::Num(line.natural()));
+        return Some(Answer::Num(line.natural()?));
     }
     if line.take(b"done\":true") {
         return Some(Answer::Done);
@@ -108,29 +114,20 @@ fn other(line: &mut Cursor<'_>) -> Option<Answer> {
     time(line)
 }
 
-fn answer(alloc: Global, line: &mut Cursor<'_>) -> Result<Option<Answer>, AllocError> {
+fn raw_answer<'a>(alloc: Global, line: &mut Cursor<'a>) -> Option<RawAnswer<'a>> {
     if line.take(b"events\":[") {
-        return events(alloc, line);
+        return Some(RawAnswer::Whole(events(alloc, line)?));
     }
     if line.take(b"bytes\":\"") {
-        return bytes(alloc, line);
+        return Some(RawAnswer::Digits(line.text()?));
     }
-    Ok(other(line))
+    Some(RawAnswer::Whole(other(line)?))
 }
 
-/// The answer that seems to come next. An `Err` is want of memory.
-pub(crate) fn guess_answer(
-    alloc: Global,
-    line: &mut Cursor<'_>,
-) -> Result<Option<Answer>, AllocError> {
-    if !line.take(b"{\"") {
-        return Ok(None);
-    }
-    let Some(answer) = answer(alloc, line)? else {
-        return Ok(None);
-    };
-    if !line.take(b"}") {
-        return Ok(None);
-    }
-    Ok(Some(answer))
+/// The answer that seems to come next.
+pub(crate) fn guess_answer<'a>(alloc: Global, line: &mut Cursor<'a>) -> Option<RawAnswer<'a>> {
+    line.expect(b"{\"")?;
+    let answer = raw_answer(alloc, line)?;
+    line.expect(b"}")?;
+    Some(answer)
 }

@@ -1,9 +1,31 @@
 //! A guess at the call of an object that `print_record` made. Nothing is said of it.
 
 use crate::cursor::Cursor;
+use crate::digits::decoded;
 use ep_base::{Buffer, Call, Fd, Mask};
-use hex::FromHexError;
-use std::alloc::{AllocError, Global};
+use std::alloc::Global;
+
+/// A call as it stands in a line: the bytes of a write are left as their digits, since these may be many, and the rest
+/// of the line may be of another form.
+#[derive(Drop)]
+pub(crate) enum RawCall<'a> {
+    Write(Fd, &'a [u8]),
+    Whole(Call),
+}
+
+impl RawCall<'_> {
+    /// The call.
+    #[inline(always)]
+    pub(crate) fn whole(self, alloc: Global) -> Option<Call> {
+        match self {
+            RawCall::Write(fd, digits) => Some(Call::Write {
+                fd,
+                bytes: Buffer::new(decoded(alloc, digits)?),
+            }),
+            RawCall::Whole(call) => Some(call),
+        }
+    }
+}
 
 fn fd(line: &mut Cursor<'_>) -> Option<Fd> {
     Some(Fd(line.integer32()?))
@@ -14,9 +36,9 @@ fn settime(line: &mut Cursor<'_>) -> Option<Call> {
     line.expect(b",\"fd\":")?;
     let fd = fd(line)?;
     line.expect(b",\"interval\":")?;
-    let interval = line.natural();
+    let interval = line.natural()?;
     line.expect(b",\"op\":\"settime\",\"value\":")?;
-    let value = line.natural();
+    let value = line.natural()?;
     line.expect(b"}")?;
     Some(Call::SetTime {
         fd,
@@ -29,7 +51,7 @@ fn settime(line: &mut Cursor<'_>) -> Option<Call> {
 fn ctl(line: &mut Cursor<'_>) -> Option<Call> {
     let op = line.integer32()?;
     line.expect(b",\"data\":")?;
-    let tag = line.natural();
+    let tag = line.natural()?;
     line.expect(b",\"ep\":")?;
     let epfd = fd(line)?;
     line.expect(b",\"fd\":")?;
@@ -88,7 +110,7 @@ fn wait(line: &mut Cursor<'_>) -> Option<Call> {
     line.expect(b",\"max\":")?;
     let max = line.integer32()?;
     line.expect(b",\"op\":\"wait\",\"timeout\":")?;
-    let timeout = line.integer();
+    let timeout = line.integer()?;
     line.expect(b"}")?;
     Some(Call::EpollWait { epfd, max, timeout })
 }
@@ -99,21 +121,10 @@ fn read(line: &mut Cursor<'_>, fd: Fd) -> Option<Call> {
     Some(Call::Read { fd, n })
 }
 
-fn write(alloc: Global, line: &mut Cursor<'_>, fd: Fd) -> Result<Option<Call>, AllocError> {
-    let Some(digits) = line.text() else {
-        return Ok(None);
-    };
-    if !line.take(b",\"op\":\"write\"}") {
-        return Ok(None);
-    }
-    match hex::decode(alloc, digits) {
-        Ok(bytes) => Ok(Some(Call::Write {
-            fd,
-            bytes: Buffer::new(bytes),
-        })),
-        Err(FromHexError::OutOfMemory) => Err(AllocError),
-        Err(_) => Ok(None),
-    }
+fn write<'a>(line: &mut Cursor<'a>, fd: Fd) -> Option<RawCall<'a>> {
+    let digits = line.text()?;
+    line.expect(b",\"op\":\"write\"}")?;
+    Some(RawCall::Write(fd, digits))
 }
 
 fn dup2(line: &mut Cursor<'_>, from: Fd) -> Option<Call> {
@@ -139,17 +150,15 @@ fn plain(line: &mut Cursor<'_>, fd: Fd) -> Option<Call> {
     }
 }
 
-fn on_fd(alloc: Global, line: &mut Cursor<'_>) -> Result<Option<Call>, AllocError> {
-    let Some(fd) = fd(line) else {
-        return Ok(None);
-    };
+fn on_fd<'a>(line: &mut Cursor<'a>) -> Option<RawCall<'a>> {
+    let fd = fd(line)?;
     if line.take(b",\"n\":") {
-        return Ok(read(line, fd));
+        return Some(RawCall::Whole(read(line, fd)?));
     }
     if line.take(b",\"hex\":\"") {
-        return write(alloc, line, fd);
+        return write(line, fd);
     }
-    Ok(plain(line, fd))
+    Some(RawCall::Whole(plain(line, fd)?))
 }
 
 fn bare(line: &mut Cursor<'_>) -> Option<Call> {
@@ -184,10 +193,10 @@ fn other(line: &mut Cursor<'_>) -> Option<Call> {
     bare(line)
 }
 
-/// The call that seems to come next. An `Err` is want of memory.
-pub(crate) fn guess_call(alloc: Global, line: &mut Cursor<'_>) -> Result<Option<Call>, AllocError> {
+/// The call that seems to come next.
+pub(crate) fn guess_call<'a>(line: &mut Cursor<'a>) -> Option<RawCall<'a>> {
     if line.take(b"{\"fd\":") {
-        return on_fd(alloc, line);
+        return on_fd(line);
     }
-    Ok(other(line))
+    Some(RawCall::Whole(other(line)?))
 }

@@ -3,6 +3,7 @@
 
 mod bytes;
 mod cursor;
+mod digits;
 mod event;
 mod fields;
 mod guess;

@@ -14,7 +14,7 @@ use serde_json::Value;
 use std::alloc::{AllocError, Global};
 
 /// Room for a usual line.
-const USUAL_LINE: usize = 192;
+const USUAL_LINE: usize = 128;
 
 /// The line of a record, compact JSON without the byte 10 that ends it: `read_record` reads it as the same record.
 /// `AllocError` is want of memory.

@@ -1,34 +1,37 @@
 //! Reads many lines.
 ghost use Rattle.std.specs.Prelude.{◌≡◌, IfOk, IfSome, Some};
-ghost use Rattle.serde_json.specs.View.{view};
-ghost use Rattle.ep_history.specs.Records.{line_data, line_record};
+ghost use Rattle.ep_history.specs.Records.{line_record};
 
 use crate::guess::guess_record;
 use crate::print::push_record;
-use crate::record::{read_record, record_of};
+use crate::record::record_of;
 use ep_base::Record;
-use ep_text::whole_tree;
-use json::{Reader, Scratch};
-use serde_json::Value;
+use ep_json::{LONGEST_KEPT, ValueReader};
 use std::alloc::{AllocError, Global};
-
-/// The longest line that is read over room that is kept.
-const LONGEST: usize = 16_384;
 
 /// Reads lines one after another. It keeps the room that this takes from line to line, for lines of 16,384 bytes at
 /// most. A longer one is read as `read_record` reads it, and leaves no room behind.
 #[derive(Drop)]
 pub struct RecordReader {
-    scratch: Scratch,
+    values: ValueReader,
     // The line of the record that was guessed last.
     printed: Vec<u8>,
+}
+
+/// How much room is asked for where a line is printed over room that is kept; `None` where none is kept. It is a power
+/// of two: then lines that get longer and longer ask a few times only, and never for more than 16,384 bytes.
+fn room_for(line: &[u8]) -> Option<usize> {
+    if line.len() > LONGEST_KEPT {
+        return None;
+    }
+    Some(line.len().next_power_of_two())
 }
 
 impl RecordReader {
     /// It has no room for a line yet, and takes it as lines need it.
     pub fn new(alloc: Global) -> RecordReader {
         RecordReader {
-            scratch: Scratch::new(alloc),
+            values: ValueReader::new(alloc),
             printed: Vec::new(alloc),
         }
     }
@@ -37,28 +40,32 @@ impl RecordReader {
     pub fn read(&mut self, alloc: Global, line: &[u8]) -> Result<Option<Record>, AllocError>
         ensures { IfOk result (λ r. r ≡ line_record line.now) }
     {
-        if line.len() > LONGEST {
-            return read_record(alloc, line);
+        if let Some(record) = self.read_printed(alloc, line) {
+            return Ok(Some(record));
         }
-        match self.read_printed(alloc, line)? {
-            Some(record) => Ok(Some(record)),
-            None => self.read_any(alloc, line),
-        }
+        self.read_any(alloc, line)
     }
 
-    /// The record of a line that `print_record` made: a guess, whose own line is compared.
-    fn read_printed(&mut self, alloc: Global, line: &[u8]) -> Result<Option<Record>, AllocError>
-        ensures { IfOk result (λ r. IfSome r (λ x. line_record line.now ≡ Some x)) }
+    /// The record that `print_record` prints as this line, where the line is at most 16,384 bytes long and there is
+    /// memory. `None` says nothing of the line: it may be a record all the same, and then `read` has it. A line that is
+    /// not printed takes little time, and no memory for bytes that it may have.
+    pub fn read_printed(&mut self, alloc: Global, line: &[u8]) -> Option<Record>
+        ensures { IfSome result (λ r. line_record line.now ≡ Some r) }
     {
-        let Some(record) = guess_record(alloc, line)? else {
-            return Ok(None);
-        };
+        let room = room_for(line)?;
+        if !line.ends_with(b"]}") {
+            return None;
+        }
+        let record = guess_record(alloc, line)?;
         self.printed.clear();
-        push_record(&mut self.printed, &record)?;
+        self.printed.reserve_exact(room).ok()?;
+        let Ok(()) = push_record(&mut self.printed, &record) else {
+            return None;
+        };
         if self.printed.as_slice() == line {
-            Ok(Some(record))
+            Some(record)
         } else {
-            Ok(None)
+            None
         }
     }
 
@@ -66,22 +73,9 @@ impl RecordReader {
     fn read_any(&mut self, alloc: Global, line: &[u8]) -> Result<Option<Record>, AllocError>
         ensures { IfOk result (λ r. r ≡ line_record line.now) }
     {
-        match self.read_tree(alloc, line)? {
+        match self.values.read(alloc, line)? {
             Some(value) => record_of(alloc, &value),
-            None => read_record(alloc, line),
+            None => Ok(None),
         }
-    }
-
-    /// The value of a line whose numbers are all whole. Every line that `print_record` makes is.
-    fn read_tree(&mut self, alloc: Global, line: &[u8]) -> Result<Option<Value>, AllocError>
-        ensures { IfOk result (λ r. IfSome r (λ v. line_data line.now ≡ Some (view v))) }
-    {
-        let Ok(text) = std::str::from_utf8(line) else {
-            return Ok(None);
-        };
-        let Ok(mut reader) = Reader::new(text, &mut self.scratch) else {
-            return Ok(None);
-        };
-        whole_tree(alloc, &mut reader)
     }
 }

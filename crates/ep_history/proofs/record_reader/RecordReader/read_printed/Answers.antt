@@ -7,7 +7,7 @@ use Rattle.ep_history.proofs.record_reader.RecordReader.read_printed.Goals as go
 
 pub returns-then-eq : goal.returns-then-eq
 returns-then-eq c =
-    let r = c.in-Some.record in
-    let printed : c.push_record.new.out.items ≡ record_line r = c.in_ok-push_record.ensures.text ∙ ap (λ s. s ++ record_line r) c.clear.ensures.items in
+    let r = c.in_ok-record.record in
+    let printed : c.push_record.new.out.items ≡ record_line r = c.in-Ok.ensures.text ∙ ap (λ s. s ++ record_line r) (c.reserve_exact.ensures.items ∙ c.clear.ensures.items) in
     let same : c.as_slice.result.now ≡ c.args.line.now = (slice_eq-Decides Decides-eqb c.as_slice.result.now c.args.line.now c.eq.result c.eq.ensures).0 c.if-eq.true in
-    ap line_record (sym same ∙ c.as_slice.ensures.value ∙ printed) ∙ line_record-printed r c.in_ok-push_record.ensures.fits
+    ap line_record (sym same ∙ c.as_slice.ensures.value ∙ printed) ∙ line_record-printed r c.in-Ok.ensures.fits

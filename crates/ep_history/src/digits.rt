@@ -1,0 +1,37 @@
+//! Bytes from their digits, where these are written as `print_record` writes them.
+
+use std::alloc::Global;
+use std::simd::prelude::*;
+
+/// As many digits as are looked at at once.
+const BLOCK: usize = 32;
+
+/// Whether the printer writes these digits, which it does of no capital.
+fn is_printed(digits: &[u8; BLOCK]) -> bool {
+    let digits = u8x32::from_slice(digits);
+    let numerals = digits.simd_ge(u8x32::splat(b'0')) & digits.simd_le(u8x32::splat(b'9'));
+    let letters = digits.simd_ge(u8x32::splat(b'a')) & digits.simd_le(u8x32::splat(b'f'));
+    (numerals | letters).all()
+}
+
+/// Whether the printer writes all of these digits. Of less than a block it says nothing: these are soon decoded.
+fn may_be_printed(digits: &[u8]) -> bool {
+    let (blocks, _) = digits.as_chunks::<BLOCK>();
+    for block in blocks {
+        if !is_printed(block) {
+            return false;
+        }
+    }
+    match digits.last_chunk::<BLOCK>() {
+        Some(block) => is_printed(block),
+        None => true,
+    }
+}
+
+/// The bytes of these digits. Where the printer doesn't write such digits, none is decoded.
+pub(crate) fn decoded(alloc: Global, digits: &[u8]) -> Option<Vec<u8>> {
+    if !may_be_printed(digits) {
+        return None;
+    }
+    hex::decode(alloc, digits).ok()
+}
