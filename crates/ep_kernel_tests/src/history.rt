@@ -105,7 +105,7 @@ fn reads_no_script_without_the_file(rt: HostRuntime) -> Result<(), Fail> {
     let status = run_with(alloc, line, SCRIPT, &mut written, &mut errors);
     assert_eq!(rt; status, 1);
     assert!(rt; written.is_empty());
-    let wanted: &[u8] = b"epsim: cannot write the history\n";
+    let wanted: &[u8] = b"epsim: cannot write the history to \"h.jsonl\": unsupported\n";
     assert_eq!(rt; errors.as_slice(), wanted);
     Ok(())
 }

@@ -181,16 +181,23 @@ fn runs_scripts(rt: HostRuntime) -> Result<(), Fail> {
 }
 
 /// Words, the status, and what is written where the script can't be read: bad limits come first.
-const UNREAD: [(&[&str], u8, &str); 5] = [
+const UNREAD: [(&[&str], u8, &str); 4] = [
     (&[], 1, "epsim: cannot read the script\n"),
     (
         &["--explain"],
         1,
         "epsim: 0 of 0 lines were no command\nepsim: cannot read the script\n",
     ),
-    (&["--limits", "2,5,2,8,4096,1"], 2, "epsim: bad limits\n"),
-    (&["--limits", "6,5,2,8,4096"], 2, "epsim: bad limits\n"),
-    (&["--limits=", "--plain"], 2, "epsim: bad limits\n"),
+    (
+        &["--limits", "2,5,2,8,4096,1"],
+        2,
+        "epsim: bad limits: descriptors is 2, and goes from 3 to 65536\n",
+    ),
+    (
+        &["--limits=", "--plain", "--explain"],
+        2,
+        "epsim: bad limits: six numbers with commas between are wanted, and there are 0\n",
+    ),
 ];
 
 #[test]
@@ -350,15 +357,15 @@ const BAD_LIMITS: [(&str, &str); 16] = [
     ),
     (
         "",
-        "six numbers with commas between are wanted, and there are 1",
+        "six numbers with commas between are wanted, and there are 0",
     ),
 ];
 
 #[test]
 fn explains_bad_limits(rt: HostRuntime) -> Result<(), Fail> {
     for (text, wanted) in BAD_LIMITS {
-        let error = format!(in rt.alloc(); "epsim: bad limits\nepsim: bad limits: {wanted}\n")?;
-        let given = ["--explain", "--limits", text];
+        let error = format!(in rt.alloc(); "epsim: bad limits: {wanted}\n")?;
+        let given = ["--limits", text];
         expect_run(&rt, &given, Failing, 2, "", error.as_str())?;
     }
     Ok(())

@@ -69,7 +69,8 @@ fn judges_histories(rt: HostRuntime) -> Result<(), Fail> {
 #[test]
 fn has_no_verdict(rt: HostRuntime) -> Result<(), Fail> {
     let limits = ["--limits", "2,5,2,8,4096,1"];
-    expect_verdict(&rt, &limits, Failing, 2, "", "epaudit: bad limits\n")?;
+    let error = "epaudit: bad limits: descriptors is 2, and goes from 3 to 65536\n";
+    expect_verdict(&rt, &limits, Failing, 2, "", error)?;
     let error = "epaudit: cannot read the history\n";
     expect_verdict(&rt, &[], Failing, 2, "", error)?;
     let long = vec![in rt.alloc(); b' '; 65_537]?;

@@ -17,6 +17,8 @@ mod lines;
 #[cfg(test)]
 mod objects;
 #[cfg(test)]
+mod printed;
+#[cfg(test)]
 mod readers;
 #[cfg(test)]
 mod ready;

@@ -3,6 +3,7 @@
 
 use crate::histories::{PRINTED, REFUSED};
 use crate::lines::{COMMANDS, NO_COMMANDS};
+use ep_base::{CallerId, Event};
 use ep_history::{RecordReader, print_record, read_record};
 use ep_text::{LineReader, read_line};
 use std::process::Abort;
@@ -96,8 +97,123 @@ fn refuses_what_is_no_command_between_commands(rt: HostRuntime) -> Result<(), Fa
     Ok(())
 }
 
+/// Lines at which a reader takes another way, and how far each lets the clock go on, if it is a command.
+const TURNS: [(&str, Option<u64>); 32] = [
+    // Eight members, and nine.
+    (
+        "{\"op\":\"tick\",\"n\":0,\"n\":1,\"n\":2,\"n\":3,\"n\":4,\"n\":5,\"n\":6}",
+        Some(6),
+    ),
+    (
+        "{\"op\":\"tick\",\"n\":0,\"n\":1,\"n\":2,\"n\":3,\"n\":4,\"n\":5,\"n\":6,\"n\":7}",
+        Some(7),
+    ),
+    (
+        "{\"op\":\"tick\",\"n\":0,\"n\":1,\"n\":2,\"n\":3,\"n\":4,\"n\":5,\"n\":6,\"x\":7}",
+        None,
+    ),
+    // Bytes before and behind the braces.
+    (" {\"op\":\"tick\",\"n\":7}", Some(7)),
+    ("\t{\"op\":\"tick\",\"n\":7}", Some(7)),
+    ("{\"op\":\"tick\",\"n\":7} ", Some(7)),
+    ("{\"op\":\"tick\",\"n\":7}\r", Some(7)),
+    (",{\"op\":\"tick\",\"n\":7}", None),
+    ("{\"op\":\"tick\",\"n\":7},", None),
+    ("{\"op\":\"tick\",\"n\":7}}", None),
+    ("{{\"op\":\"tick\",\"n\":7}", None),
+    ("[{\"op\":\"tick\",\"n\":7}]", None),
+    ("\u{feff}{\"op\":\"tick\",\"n\":7}", None),
+    // A bracket, a point or an escape inside a text.
+    ("{\"op\":\"[\",\"op\":\"tick\",\"n\":7}", Some(7)),
+    ("{\"op\":\"1.5\",\"op\":\"tick\",\"n\":7}", Some(7)),
+    ("{\"op\":\"t\\u0069ck\",\"n\":7}", Some(7)),
+    ("{\"op\":\"tick[\",\"n\":7}", None),
+    ("{\"op\":\"tick.\",\"n\":7}", None),
+    // Values that no command has, and then one in their place.
+    ("{\"op\":\"tick\",\"n\":null,\"n\":7}", Some(7)),
+    ("{\"op\":\"tick\",\"n\":[0,{\"x\":[]}],\"n\":7}", Some(7)),
+    ("{\"op\":\"tick\",\"n\":{\"x\":null},\"n\":7}", Some(7)),
+    ("{\"op\":\"tick\",\"n\":1.5,\"n\":7}", Some(7)),
+    ("{\"op\":\"tick\",\"n\":-0,\"n\":7}", Some(7)),
+    ("{\"op\":\"tick\",\"n\":1e1,\"n\":7}", Some(7)),
+    ("{\"op\":\"tick\",\"n\":1e999,\"n\":7}", None),
+    // Such a value in the end.
+    ("{\"op\":\"tick\",\"n\":7,\"n\":-0}", None),
+    ("{\"op\":\"tick\",\"n\":7e0}", None),
+    ("{\"op\":\"tick\",\"n\":7,\"n\":null}", None),
+    // Broken in the end.
+    ("{\"op\":\"tick\",\"n\":7,}", None),
+    ("{\"op\":\"tick\",\"n\":[7,\"n\":7}", None),
+    ("{\"op\":\"tick\",\"n\":07}", None),
+    ("{\"op\":\"tick\",\"n\":7", None),
+];
+
+/// The reader and `read_line` both find a tick of this length, or both no command.
+fn expect_tick(
+    rt: &(impl AllocGlobal + Abort),
+    reader: &mut LineReader,
+    line: &str,
+    wanted: Option<u64>,
+) -> Result<(), Fail> {
+    let tick = wanted.map(|n| (CallerId(0), Event::Tick { n }));
+    let alone = read_line(rt.alloc(), line.as_bytes())?;
+    assert!(rt; alone == tick, "at {line}");
+    let found = reader.read(rt.alloc(), line.as_bytes())?;
+    assert!(rt; found == tick, "at {line}");
+    Ok(())
+}
+
+#[test]
+fn reads_lines_at_each_turn(rt: HostRuntime) -> Result<(), Fail> {
+    let mut reader = LineReader::new(rt.alloc());
+    for (line, wanted) in TURNS {
+        expect_tick(&rt, &mut reader, line, wanted)?;
+    }
+    Ok(())
+}
+
+fn push_times(line: &mut String, text: &str, times: usize) -> Result<(), Fail> {
+    for _ in 0..times {
+        line.push_str(text)?;
+    }
+    Ok(())
+}
+
+/// A tick whose first `n` is this often `open`, a 0 and as often `close`, before an `n` of 7.
+fn nested(
+    rt: &(impl AllocGlobal + Abort),
+    open: &str,
+    close: &str,
+    times: usize,
+) -> Result<String, Fail> {
+    let mut line = String::from_str(rt.alloc(), "{\"op\":\"tick\",\"n\":")?;
+    push_times(&mut line, open, times)?;
+    line.push_str("0")?;
+    push_times(&mut line, close, times)?;
+    line.push_str(",\"n\":7}")?;
+    Ok(line)
+}
+
+/// What is nested 127 deep is read, the object of the line among it, and what is nested 128 deep is not.
+const NESTED: [(usize, Option<u64>); 3] = [(125, Some(7)), (126, Some(7)), (127, None)];
+
+#[test]
+fn reads_nested_values(rt: HostRuntime) -> Result<(), Fail> {
+    let mut reader = LineReader::new(rt.alloc());
+    for (times, wanted) in NESTED {
+        let lists = nested(&rt, "[", "]", times)?;
+        expect_tick(&rt, &mut reader, lists.as_str(), wanted)?;
+        let objects = nested(&rt, "{\"n\":", "}", times)?;
+        expect_tick(&rt, &mut reader, objects.as_str(), wanted)?;
+    }
+    Ok(())
+}
+
 /// Lengths on both sides of the longest line that a reader reads over the room that it keeps.
 const LENGTHS: [usize; 5] = [16_382, 16_383, 16_384, 16_385, 16_386];
+
+/// Lengths on both sides of the longest line that a reader of commands tries without a tree.
+const SHORTER: [usize; 3] = [1_023, 1_024, 1_025];
 
 /// This text with spaces before its last byte, so that it has this length.
 fn lengthened(rt: &(impl AllocGlobal + Abort), text: &str, length: usize) -> Result<String, Fail> {
@@ -131,6 +247,19 @@ fn reads_long_commands(rt: HostRuntime) -> Result<(), Fail> {
         assert_eq!(rt; line.len(), length);
         expect_command(&rt, &mut reader, line.as_str())?;
         expect_command(&rt, &mut reader, "{\"op\":\"pipe\"}")?;
+    }
+    Ok(())
+}
+
+#[test]
+fn reads_commands_of_a_middle_length(rt: HostRuntime) -> Result<(), Fail> {
+    let mut reader = LineReader::new(rt.alloc());
+    for length in SHORTER {
+        let line = lengthened(&rt, "{\"op\":\"tick\",\"n\":7}", length)?;
+        assert_eq!(rt; line.len(), length);
+        expect_tick(&rt, &mut reader, line.as_str(), Some(7))?;
+        let broken = lengthened(&rt, "{\"op\":\"tick\",\"n\":7,}", length)?;
+        expect_tick(&rt, &mut reader, broken.as_str(), None)?;
     }
     Ok(())
 }
