@@ -7,7 +7,7 @@ use clap::error::ErrorKind;
 use ep_audit::{AuditFault, audit};
 use ep_base::{Limits, Record};
 use ep_history::print_record;
-use ep_script::{Watched, parse_limits, read_history};
+use ep_script::{Watched, parse_limits, read_history, read_limits};
 use std::alloc::Global;
 use std::io::{self, ErrorKind as IoKind, Read, Write};
 
@@ -36,6 +36,16 @@ pub fn no_words<E: Write>(error: &io::Error, errors: &mut E) -> u8
         return fail("out of memory", errors);
     }
     fail("a word of the command line is no UTF-8 text", errors)
+}
+
+/// Tells why a text is no limits. A write that fails changes nothing.
+fn refuse_limits<E: Write>(text: &str, errors: &mut E) -> u8
+    ensures { result ≡ 2 }
+{
+    if let Err(fault) = read_limits(text) {
+        let _ = write!(errors, "epaudit: bad limits: {fault}\n");
+    }
+    NO_VERDICT
 }
 
 fn write_text<W: Write>(text: &clap::Error, writer: &mut W) -> io::Result<()> {
@@ -164,6 +174,6 @@ pub fn run_with<R: Read + Drop, W: Write, E: Write>(
     };
     match limits {
         Some(limits) => read_and_judge(alloc, &limits, reader, output, errors),
-        None => fail("bad limits", errors),
+        None => refuse_limits(text.unwrap_or(""), errors),
     }
 }

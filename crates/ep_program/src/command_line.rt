@@ -74,7 +74,7 @@ fn explain_argument<'a>(alloc: Global) -> Arg<'a>
     Arg::new(alloc, "explain")
         .long("explain")
         .action(ArgAction::SetTrue)
-        .help("Says on standard error why a line is no command, or what is wrong with the limits")
+        .help("Says on standard error why a line is no command")
 }
 
 fn history_argument<'a>(alloc: Global) -> Arg<'a>

@@ -1,7 +1,6 @@
 //! The program `epsim` but for its `main`: its command line and its runs, over any reader and writers.
 #![tactic(auto)]
 
-mod bad_limits;
 mod command_line;
 mod explainer;
 mod files;

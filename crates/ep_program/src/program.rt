@@ -6,7 +6,6 @@ ghost use Rattle.ep_base.specs.Limits.{Limits as Numbers, default_limits};
 ghost use Rattle.ep_program.specs.Options.{is_mistake};
 ghost use Rattle.ep_text.specs.Limits.{IsLimitsText};
 
-use crate::bad_limits::explain_limits;
 use crate::command_line::{Settings, options};
 use crate::explainer::Explainer;
 use crate::files::{Create, NoFiles};
@@ -15,7 +14,8 @@ use ep_base::Limits;
 use ep_kernel::ReadyKernel;
 use ep_plain::{Kernel, PlainKernel};
 use ep_script::{
-    RecordedFault, ScriptFault, Summary, Watched, parse_limits, run_recorded, run_script,
+    RecordedFault, ScriptFault, Summary, Watched, parse_limits, read_limits, run_recorded,
+    run_script,
 };
 use std::alloc::{AllocError, Global};
 use std::io::{self, ErrorKind as IoKind, Read, Write};
@@ -64,15 +64,26 @@ pub fn no_words<E: Write>(error: &io::Error, errors: &mut E) -> u8
     BAD_WORDS
 }
 
-/// Tells that the text of `--limits` is none. A write that fails changes nothing.
+/// Tells why the text of `--limits` is none. A write that fails changes nothing.
 fn refuse_limits<E: Write>(settings: &Settings<'_>, errors: &mut E) -> u8
     ensures { result ≡ 2 }
 {
-    let _ = write!(errors, "epsim: bad limits\n");
-    if settings.explain {
-        explain_limits(settings.limits.unwrap_or(""), errors);
+    if let Err(fault) = read_limits(settings.limits.unwrap_or("")) {
+        let _ = write!(errors, "epsim: bad limits: {fault}\n");
     }
     BAD_LIMITS
+}
+
+/// Tells why the file of `--history` can't be made. A write that fails changes nothing.
+fn refuse_history<E: Write>(settings: &Settings<'_>, error: &io::Error, errors: &mut E) -> u8
+    ensures { result ≡ 1 }
+{
+    let path = settings.history.unwrap_or("");
+    let _ = write!(
+        errors,
+        "epsim: cannot write the history to {path:?}: {error}\n"
+    );
+    FAILED
 }
 
 fn write_text<W: Write>(text: &clap::Error, writer: &mut W) -> io::Result<()> {
@@ -201,18 +212,12 @@ fn run<R: Read + Drop, W: Write + Drop, E: Write + Drop, H: Write + Drop>(
     }
 }
 
-/// The writer of the history, where one is asked for. The error is that it can't be made.
-fn history_file<C: Create>(
-    settings: &Settings<'_>,
-    files: C,
-) -> Result<Option<C::File>, RecordedFault> {
+/// The writer of the history, where one is asked for. The error says why it can't be made.
+fn history_file<C: Create>(settings: &Settings<'_>, files: C) -> io::Result<Option<C::File>> {
     let Some(path) = settings.history else {
         return Ok(None);
     };
-    match files.create(path) {
-        Ok(file) => Ok(Some(file)),
-        Err(_) => Err(RecordedFault::History),
-    }
+    Ok(Some(files.create(path)?))
 }
 
 /// Runs what the words asked for, and tells how it failed.
@@ -231,7 +236,7 @@ fn run_settings<R: Read + Drop, W: Write, E: Write, C: Create>(
     };
     let history = match history_file(settings, files) {
         Ok(history) => history,
-        Err(fault) => return fail(&fault, errors),
+        Err(error) => return refuse_history(settings, &error, errors),
     };
     let explain_to = if settings.explain {
         Some(&mut *errors)
