@@ -20,72 +20,133 @@ FORWARD(sendmsg)
 FORWARD(shutdown)
 FORWARD(getsockname)
 FORWARD(getpeername)
-FORWARD(getsockopt)
 
 /* So much goes in one event, for epaudit reads lines of at most 65,536 bytes, two for each byte. */
 enum { MOST_AT_ONCE = 16384 };
 
 static size_t part_of(size_t count) { return count < MOST_AT_ONCE ? count : MOST_AT_ONCE; }
 
-/* Reads what is there. */
-static ssize_t read_some(int fd, struct description *description, char *bytes, size_t count) {
-    size_t done = 0, part;
-    ssize_t got;
-    do {
-        part = part_of(count - done);
-        got = nippersage_read(self(), fd - FIRST, bytes + done, part);
-        if (got > 0) done += (size_t)got;
-    } while (got == MOST_AT_ONCE && done < count);
-    atomic_fetch_sub(&description->unread, (long)done);
-    return done > 0 ? (ssize_t)done : got;
+static bool has_copy(const struct description *description) {
+    return description->kind == PIPE || description->kind == SOCKET;
 }
 
-/* Writes what has room. */
-static ssize_t write_some(int fd, struct description *description, const char *bytes, size_t count) {
-    size_t done = 0, part;
-    ssize_t taken;
-    do {
-        part = part_of(count - done);
-        taken = nippersage_write(self(), fd - FIRST, bytes + done, part);
-        if (taken > 0) done += (size_t)taken;
-    } while (taken == MOST_AT_ONCE && done < count);
-    count_written(description, (ssize_t)done);
-    return done > 0 ? (ssize_t)done : taken;
-}
-
-/* Reads; where nothing is there and `waits` holds, waits first. */
-static ssize_t take(int fd, void *bytes, size_t count, bool waits, const char *call) {
-    struct description *description = hold(fd);
-    struct block block = {-1};
-    ssize_t got;
-    if (!description) return -EBADF;
-    waits = waits && !description->is_nonblocking;
-    got = read_some(fd, description, bytes, count);
-    while (got == -EAGAIN && waits) {
-        int status = wait_for_arrival(&block, fd, EPOLLIN, call);
-        got = status < 0 ? status : read_some(fd, description, bytes, count);
-    }
-    end_block(&block);
-    let_go(description);
+/* One event. What waits is kept twice: see copies.c. */
+static ssize_t read_part(int fd, struct description *description, char *bytes, size_t count) {
+    ssize_t got = -EBADF;
+    lock_table();
+    if (names(fd, description)) got = nippersage_read(self(), fd - FIRST, bytes, count);
+    if (got > 0 && has_copy(description)) drop_waiting(&description->waiting, (size_t)got);
+    unlock_table();
     return got;
 }
 
-/* Writes; where `waits` holds, waits until all has been written. */
-static ssize_t give(int fd, const char *bytes, size_t count, bool waits, const char *call) {
-    struct description *description = hold(fd);
-    struct block block = {-1};
+static ssize_t write_part(int fd, const struct description *description, const char *bytes, size_t count) {
+    struct waiting *waiting;
+    ssize_t taken = -EBADF;
+    lock_table();
+    waiting = has_copy(description) && description->peer ? &description->peer->waiting : NULL;
+    if (names(fd, description))
+        taken = waiting && !make_room(waiting, count) ? -ENOMEM : nippersage_write(self(), fd - FIRST, bytes, count);
+    if (taken > 0 && waiting) add_waiting(waiting, bytes, (size_t)taken);
+    unlock_table();
+    return taken;
+}
+
+/* Reads what is there. */
+static ssize_t read_some(int fd, struct description *description, char *bytes, size_t count) {
+    size_t done = 0;
+    ssize_t got;
+    do {
+        got = read_part(fd, description, bytes + done, part_of(count - done));
+        if (got > 0) done += (size_t)got;
+    } while (got == MOST_AT_ONCE && done < count);
+    return done > 0 ? (ssize_t)done : got;
+}
+
+/* Shows what is there, and leaves it. Where nothing is, a read tells why, and takes nothing. */
+static ssize_t peek_some(int fd, const struct description *description, char *bytes, size_t count) {
+    ssize_t got = -EBADF;
+    char none;
+    lock_table();
+    if (names(fd, description)) got = (ssize_t)look_at_waiting(&description->waiting, bytes, count);
+    if (got == 0 && count > 0) got = nippersage_read(self(), fd - FIRST, &none, 1);
+    unlock_table();
+    return got;
+}
+
+/* Writes what has room. */
+static ssize_t write_some(int fd, const struct description *description, const char *bytes, size_t count) {
     size_t done = 0;
     ssize_t taken;
-    if (!description) return -EBADF;
-    waits = waits && !description->is_nonblocking;
-    taken = write_some(fd, description, bytes, count);
-    if (taken > 0) done = (size_t)taken;
-    while (waits && (taken == -EAGAIN || (taken > 0 && done < count && description->kind != EVENTFD))) {
-        int status = taken == -EAGAIN ? wait_for_arrival(&block, fd, EPOLLOUT, call) : 0;
-        taken = status < 0 ? status : write_some(fd, description, bytes + done, count - done);
+    do {
+        taken = write_part(fd, description, bytes + done, part_of(count - done));
         if (taken > 0) done += (size_t)taken;
+    } while (taken == MOST_AT_ONCE && done < count);
+    return done > 0 ? (ssize_t)done : taken;
+}
+
+/* The waits of a call that is to take at most so long; 0 is no end. One with an end is never begun again. */
+static struct block begin_block(int64_t most, const char *call) {
+    return (struct block){-1, call, most > 0 ? moment_now() + (uint64_t)most : FOREVER, most == 0};
+}
+
+static bool may_wait(const struct description *description, int flags) {
+    return !(flags & MSG_DONTWAIT) && !description->is_nonblocking;
+}
+
+ssize_t take(int fd, char *bytes, size_t count, int flags, const char *call) {
+    QUIET;
+    struct description *description = hold(fd);
+    struct block block;
+    size_t done = 0;
+    ssize_t got;
+    bool goes_on = true;
+    if (!description) return -EBADF;
+    block = begin_block(description->options.receive_time, call);
+    while (goes_on) {
+        got = flags & MSG_PEEK ? peek_some(fd, description, bytes, count)
+                               : read_some(fd, description, bytes + done, count - done);
+        if (got > 0) done += (size_t)got;
+        goes_on = got == -EAGAIN ? may_wait(description, flags) : got > 0 && (flags & MSG_WAITALL) && done < count;
+        if (got != -EAGAIN || !goes_on) continue;
+        got = wait_for_arrival(&block, fd, EPOLLIN);
+        goes_on = got == 0;
     }
     end_block(&block);
+    let_go(description);
+    return done > 0 ? (ssize_t)done : got;
+}
+
+/* Whether a write that answered this is to go on. An eventfd takes all or nothing. */
+static bool has_more(const struct description *description, ssize_t taken, bool is_done, int flags) {
+    if (taken == -EAGAIN) return may_wait(description, flags);
+    return taken > 0 && !is_done && description->kind != EVENTFD && may_wait(description, flags);
+}
+
+/* The signal comes unless a socket has taken something. */
+static void send_pipe_signal(const struct description *description, size_t done, int flags) {
+    if (!(flags & MSG_NOSIGNAL) && (done == 0 || description->kind == PIPE)) send_to_this_thread(SIGPIPE);
+}
+
+ssize_t give(int fd, const char *bytes, size_t count, int flags, const char *call) {
+    QUIET;
+    struct description *description = hold(fd);
+    struct block block;
+    size_t done = 0;
+    ssize_t taken;
+    bool goes_on = true;
+    if (!description) return -EBADF;
+    block = begin_block(description->options.send_time, call);
+    while (goes_on) {
+        taken = write_some(fd, description, bytes + done, count - done);
+        if (taken > 0) done += (size_t)taken;
+        goes_on = has_more(description, taken, done == count, flags);
+        if (taken != -EAGAIN || !goes_on) continue;
+        taken = wait_for_arrival(&block, fd, EPOLLOUT);
+        goes_on = taken == 0;
+    }
+    end_block(&block);
+    if (taken == -EPIPE) send_pipe_signal(description, done, flags);
     let_go(description);
     return done > 0 ? (ssize_t)done : taken;
 }
@@ -102,11 +163,12 @@ static ssize_t bytes_in(const struct iovec *vectors, int count) {
 }
 
 /* Vectors are one buffer: so a write of at most PIPE_BUF bytes to a pipe is whole. */
-static ssize_t take_vectors(int fd, const struct iovec *vectors, int count, bool waits, const char *call) {
+static ssize_t take_vectors(int fd, const struct iovec *vectors, int count, int flags, const char *call) {
+    QUIET;
     ssize_t size = bytes_in(vectors, count), got, done = 0;
     char *bytes = size < 0 ? NULL : malloc(size > 0 ? (size_t)size : 1);
     if (!bytes) return size < 0 ? size : -ENOMEM;
-    got = take(fd, bytes, (size_t)size, waits, call);
+    got = take(fd, bytes, (size_t)size, flags, call);
     for (int i = 0; done < got; i++) {
         size_t part = (size_t)(got - done) < vectors[i].iov_len ? (size_t)(got - done) : vectors[i].iov_len;
         if (part > 0) memcpy(vectors[i].iov_base, bytes + done, part);
@@ -116,7 +178,8 @@ static ssize_t take_vectors(int fd, const struct iovec *vectors, int count, bool
     return got;
 }
 
-static ssize_t give_vectors(int fd, const struct iovec *vectors, int count, bool waits, const char *call) {
+static ssize_t give_vectors(int fd, const struct iovec *vectors, int count, int flags, const char *call) {
+    QUIET;
     ssize_t size = bytes_in(vectors, count), taken;
     char *bytes = size < 0 ? NULL : malloc(size > 0 ? (size_t)size : 1), *next = bytes;
     if (!bytes) return size < 0 ? size : -ENOMEM;
@@ -124,7 +187,7 @@ static ssize_t give_vectors(int fd, const struct iovec *vectors, int count, bool
         if (vectors[i].iov_len > 0) memcpy(next, vectors[i].iov_base, vectors[i].iov_len);
         next += vectors[i].iov_len;
     }
-    taken = give(fd, bytes, (size_t)size, waits, call);
+    taken = give(fd, bytes, (size_t)size, flags, call);
     free(bytes);
     return taken;
 }
@@ -134,28 +197,32 @@ static ssize_t give_vectors(int fd, const struct iovec *vectors, int count, bool
 ssize_t read(int fd, void *bytes, size_t count) {
     ssize_t got;
     if (!is_simulated(fd)) return next_read()(fd, bytes, count);
-    got = take(fd, bytes, count, true, "read");
+    QUIET;
+    got = take(fd, bytes, count, 0, "read");
     return ANSWER(got, "read(%d, %s, %zu)", fd, bytes_text(TEXT, bytes, got), count);
 }
 
 ssize_t write(int fd, const void *bytes, size_t count) {
     ssize_t taken;
     if (!is_simulated(fd)) return next_write()(fd, bytes, count);
-    taken = give(fd, bytes, count, true, "write");
+    QUIET;
+    taken = give(fd, bytes, count, 0, "write");
     return ANSWER(taken, "write(%d, %s, %zu)", fd, bytes_text(TEXT, bytes, (ssize_t)count), count);
 }
 
 ssize_t readv(int fd, const struct iovec *vectors, int count) {
     ssize_t got;
     if (!is_simulated(fd)) return next_readv()(fd, vectors, count);
-    got = take_vectors(fd, vectors, count, true, "readv");
+    QUIET;
+    got = take_vectors(fd, vectors, count, 0, "readv");
     return ANSWER(got, "readv(%d, ..., %d)", fd, count);
 }
 
 ssize_t writev(int fd, const struct iovec *vectors, int count) {
     ssize_t taken;
     if (!is_simulated(fd)) return next_writev()(fd, vectors, count);
-    taken = give_vectors(fd, vectors, count, true, "writev");
+    QUIET;
+    taken = give_vectors(fd, vectors, count, 0, "writev");
     return ANSWER(taken, "writev(%d, ..., %d)", fd, count);
 }
 
@@ -180,15 +247,21 @@ static int not_a_socket(int fd) {
     return status;
 }
 
-/* Whether flags are simulated: no SIGPIPE ever comes, and MSG_DONTWAIT is as O_NONBLOCK. */
-static bool has_flags(int flags) { return (flags & ~(MSG_NOSIGNAL | MSG_DONTWAIT | MSG_CMSG_CLOEXEC)) == 0; }
+/* Whether flags are simulated. A look at all of so many bytes isn't. */
+static bool receives_with(int flags) {
+    if ((flags & MSG_PEEK) && (flags & MSG_WAITALL)) return false;
+    return (flags & ~(MSG_NOSIGNAL | MSG_DONTWAIT | MSG_CMSG_CLOEXEC | MSG_PEEK | MSG_WAITALL)) == 0;
+}
+
+static bool sends_with(int flags) { return (flags & ~(MSG_NOSIGNAL | MSG_DONTWAIT)) == 0; }
 
 ssize_t recvfrom(int fd, void *bytes, size_t count, int flags, struct sockaddr *from, socklen_t *size) {
     ssize_t got;
     if (!is_simulated(fd)) return next_recvfrom()(fd, bytes, count, flags, from, size);
-    if (!has_flags(flags)) return refuse(EOPNOTSUPP, "recv(%d) with flags %#x is not simulated", fd, flags);
+    QUIET;
+    if (!receives_with(flags)) return refuse(EOPNOTSUPP, "recv(%d) with flags %#x is not simulated", fd, flags);
     got = not_a_socket(fd);
-    if (got == 0) got = take(fd, bytes, count, !(flags & MSG_DONTWAIT), "recv");
+    if (got == 0) got = take(fd, bytes, count, flags, "recv");
     if (got >= 0 && from && size) *size = 0;
     return ANSWER(got, "recv(%d, %s, %zu, %#x)", fd, bytes_text(TEXT, bytes, got), count, flags);
 }
@@ -204,9 +277,10 @@ ssize_t __recv_chk(int fd, void *bytes, size_t count, size_t room, int flags) {
 ssize_t sendto(int fd, const void *bytes, size_t count, int flags, const struct sockaddr *to, socklen_t size) {
     ssize_t taken;
     if (!is_simulated(fd)) return next_sendto()(fd, bytes, count, flags, to, size);
-    if (!has_flags(flags)) return refuse(EOPNOTSUPP, "send(%d) with flags %#x is not simulated", fd, flags);
+    QUIET;
+    if (!sends_with(flags)) return refuse(EOPNOTSUPP, "send(%d) with flags %#x is not simulated", fd, flags);
     taken = to ? -EISCONN : not_a_socket(fd);
-    if (taken == 0) taken = give(fd, bytes, count, !(flags & MSG_DONTWAIT), "send");
+    if (taken == 0) taken = give(fd, bytes, count, flags, "send");
     return ANSWER(taken, "send(%d, %s, %zu, %#x)", fd, bytes_text(TEXT, bytes, (ssize_t)count), count, flags);
 }
 
@@ -215,10 +289,11 @@ ssize_t send(int fd, const void *bytes, size_t count, int flags) { return sendto
 ssize_t recvmsg(int fd, struct msghdr *message, int flags) {
     ssize_t got;
     if (!is_simulated(fd)) return next_recvmsg()(fd, message, flags);
-    if (!has_flags(flags)) return refuse(EOPNOTSUPP, "recvmsg(%d) with flags %#x is not simulated", fd, flags);
+    QUIET;
+    if (!receives_with(flags)) return refuse(EOPNOTSUPP, "recvmsg(%d) with flags %#x is not simulated", fd, flags);
     got = not_a_socket(fd);
     if (got == 0)
-        got = take_vectors(fd, message->msg_iov, (int)message->msg_iovlen, !(flags & MSG_DONTWAIT), "recvmsg");
+        got = take_vectors(fd, message->msg_iov, (int)message->msg_iovlen, flags, "recvmsg");
     if (got >= 0) message->msg_namelen = message->msg_controllen = message->msg_flags = 0;
     return ANSWER(got, "recvmsg(%d, ..., %#x)", fd, flags);
 }
@@ -226,21 +301,34 @@ ssize_t recvmsg(int fd, struct msghdr *message, int flags) {
 ssize_t sendmsg(int fd, const struct msghdr *message, int flags) {
     ssize_t taken;
     if (!is_simulated(fd)) return next_sendmsg()(fd, message, flags);
-    if (!has_flags(flags)) return refuse(EOPNOTSUPP, "sendmsg(%d) with flags %#x is not simulated", fd, flags);
+    QUIET;
+    if (!sends_with(flags)) return refuse(EOPNOTSUPP, "sendmsg(%d) with flags %#x is not simulated", fd, flags);
     if (message->msg_controllen > 0)
         return refuse(EOPNOTSUPP, "sendmsg(%d): control messages, as of descriptors, are not simulated", fd);
     taken = message->msg_name ? -EISCONN : not_a_socket(fd);
     if (taken == 0)
-        taken = give_vectors(fd, message->msg_iov, (int)message->msg_iovlen, !(flags & MSG_DONTWAIT), "sendmsg");
+        taken = give_vectors(fd, message->msg_iov, (int)message->msg_iovlen, flags, "sendmsg");
     return ANSWER(taken, "sendmsg(%d, ..., %#x)", fd, flags);
+}
+
+/* To shut a socket for reading is to shut its peer for writing. A peer that is closed is shut already. */
+static int shut(int fd, int how) {
+    struct description *description = hold(fd);
+    int status = !description ? -EBADF : description->kind != SOCKET ? -ENOTSOCK : 0, peer;
+    if (status == 0 && (how < SHUT_RD || how > SHUT_RDWR)) status = -EINVAL;
+    if (status == 0 && how != SHUT_RD) status = nippersage_shutdown(self(), fd - FIRST, SHUT_WR);
+    if (status == 0 && how != SHUT_WR) {
+        peer = number_of_peer(description);
+        if (peer >= 0) status = nippersage_shutdown(self(), peer, SHUT_WR);
+    }
+    if (description) let_go(description);
+    return status;
 }
 
 int shutdown(int fd, int how) {
     if (!is_simulated(fd)) return next_shutdown()(fd, how);
-    if (how == SHUT_RD || how == SHUT_RDWR)
-        return refuse(EOPNOTSUPP, "shutdown(%d, %s): only SHUT_WR is simulated", fd,
-                      how == SHUT_RD ? "SHUT_RD" : "SHUT_RDWR");
-    return (int)ANSWER(nippersage_shutdown(self(), fd - FIRST, how), "shutdown(%d, %d)", fd, how);
+    QUIET;
+    return (int)ANSWER(shut(fd, how), "shutdown(%d, %d)", fd, how);
 }
 
 /* The name of a socket that has none. */
@@ -256,32 +344,12 @@ static int tell_no_name(int fd, struct sockaddr *name, socklen_t *size) {
 
 int getsockname(int fd, struct sockaddr *name, socklen_t *size) {
     if (!is_simulated(fd)) return next_getsockname()(fd, name, size);
+    QUIET;
     return (int)ANSWER(tell_no_name(fd, name, size), "getsockname(%d)", fd);
 }
 
 int getpeername(int fd, struct sockaddr *name, socklen_t *size) {
     if (!is_simulated(fd)) return next_getpeername()(fd, name, size);
+    QUIET;
     return (int)ANSWER(tell_no_name(fd, name, size), "getpeername(%d)", fd);
-}
-
-/* The options that say what a socket is, each an int. Others answer -1. */
-static int option_of(int level, int option) {
-    if (level != SOL_SOCKET) return -1;
-    switch (option) {
-    case SO_DOMAIN: return AF_UNIX;
-    case SO_TYPE: return SOCK_STREAM;
-    case SO_PROTOCOL:
-    case SO_ERROR:
-    case SO_ACCEPTCONN: return 0;
-    default: return -1;
-    }
-}
-
-int getsockopt(int fd, int level, int option, void *value, socklen_t *size) {
-    int told = option_of(level, option), status;
-    if (!is_simulated(fd)) return next_getsockopt()(fd, level, option, value, size);
-    if (told < 0) return refuse(ENOPROTOOPT, "getsockopt(%d, %d, %d) is not simulated", fd, level, option);
-    status = *size < sizeof told ? -EINVAL : not_a_socket(fd);
-    if (status == 0) memcpy(value, &told, *size = sizeof told);
-    return (int)ANSWER(status, "getsockopt(%d, %d, %d)", fd, level, option);
 }

@@ -1,7 +1,8 @@
-/* The simulated clock, sleeping, and timers. CLOCK_MONOTONIC and its like begin at 0, CLOCK_REALTIME at
-   EPOCH_SECONDS. */
+/* The simulated clock, sleeping, and timers. CLOCK_MONOTONIC and its like are the kernel's clock, which is at START
+   when the program begins. CLOCK_REALTIME is EPOCH_SECONDS more. */
 #include "preload.h"
 
+#include <pthread.h>
 #include <stdlib.h>
 #include <sys/time.h>
 
@@ -9,7 +10,8 @@ FORWARD(clock_gettime)
 FORWARD(clock_nanosleep)
 
 uint64_t moment_now(void) {
-    uint64_t moment = 0;
+    uint64_t moment = START;
+    QUIET;
     nippersage_now(the_kernel(), &moment);
     return moment;
 }
@@ -25,42 +27,54 @@ struct timespec timespec_of(uint64_t count) {
 }
 
 /* A sleep of no time takes a millisecond: a program that yields until its clock has gone on comes to an end. */
-void sleep_for(int64_t count, const char *call) {
+int sleep_for(int64_t count, const char *call) {
     struct epoll_event none;
-    wait_at(sleeping_instance(), &none, 1, count == 0 ? 1 : count, call);
+    struct wait wait = {.instance = sleeping_instance(), .events = &none, .most = 1, .call = call};
+    wait.timeout = count == 0 ? 1 : count;
+    return wait_at(&wait);
 }
 
+/* One thread moves the clock at a time, or two would go too far. */
 void bring_clock_to(uint64_t moment) {
-    uint64_t now = moment_now();
+    static pthread_mutex_t lock = PTHREAD_MUTEX_INITIALIZER;
+    uint64_t now;
+    QUIET;
+    pthread_mutex_lock(&lock);
+    now = moment_now();
     if (now < moment) nippersage_tick(self(), moment - now);
+    pthread_mutex_unlock(&lock);
+    send_alarms();
 }
 
 /* ---- clocks ---- */
 
-/* Whether a clock is one of those that the simulated clock stands for. Those of processors are real. */
-static bool is_clock(clockid_t clock) {
+/* Those of processors are real. */
+bool is_clock(clockid_t clock) {
     return clock == CLOCK_REALTIME || clock == CLOCK_MONOTONIC || clock == CLOCK_MONOTONIC_RAW ||
            clock == CLOCK_BOOTTIME || clock == CLOCK_REALTIME_COARSE || clock == CLOCK_MONOTONIC_COARSE ||
            clock == CLOCK_TAI || clock == CLOCK_REALTIME_ALARM || clock == CLOCK_BOOTTIME_ALARM;
 }
 
-static bool is_of_day(clockid_t clock) {
+bool is_of_day(clockid_t clock) {
     return clock == CLOCK_REALTIME || clock == CLOCK_REALTIME_COARSE || clock == CLOCK_TAI ||
            clock == CLOCK_REALTIME_ALARM;
 }
 
-/* The clock for a program that asks. One that asks again and again, and does nothing else, waits for it to go on: at
-   each thousandth time it goes on by a millisecond. */
+/* The clock for a program that asks. One that asks again and again waits for it to go on: it goes on by a millisecond
+   at the thousandth time without another call in between, and at the ten thousandth time at one moment. */
 static uint64_t moment_asked(void) {
-    static _Thread_local unsigned long last;
-    static _Thread_local int times;
+    static _Thread_local unsigned long last_calls;
+    static _Thread_local uint64_t last_moment;
+    static _Thread_local int in_a_row, at_a_moment;
     uint64_t moment = moment_now();
-    times = calls() == last ? times + 1 : 0;
-    if (times == 1000) {
-        times = 0;
+    in_a_row = calls() == last_calls ? in_a_row + 1 : 0;
+    at_a_moment = moment == last_moment ? at_a_moment + 1 : 0;
+    if (in_a_row == 1000 || at_a_moment == 10000) {
+        in_a_row = at_a_moment = 0;
         bring_clock_to(++moment);
     }
-    last = calls();
+    last_calls = calls();
+    last_moment = moment;
     return moment;
 }
 
@@ -78,6 +92,10 @@ int gettimeofday(struct timeval *restrict time, void *restrict zone) {
     return 0;
 }
 
+int timespec_get(struct timespec *time, int base) {
+    return base == TIME_UTC && clock_gettime(CLOCK_REALTIME, time) == 0 ? base : 0;
+}
+
 time_t time(time_t *told) {
     time_t now = EPOCH_SECONDS + timespec_of(moment_asked()).tv_sec;
     if (told) *told = now;
@@ -86,18 +104,31 @@ time_t time(time_t *told) {
 
 /* ---- sleeping ---- */
 
+/* Sleeps so long: 0, or EINTR, and then how much is left. */
+static int sleep_or_break(int64_t count, struct timespec *left) {
+    uint64_t end = moment_now() + (uint64_t)count, now;
+    if (sleep_for(count, "clock_nanosleep") == 0) return 0;
+    now = moment_now();
+    if (left) *left = timespec_of(end > now ? end - now : 0);
+    return EINTR;
+}
+
 int clock_nanosleep(clockid_t clock, int flags, const struct timespec *time, struct timespec *left) {
     int64_t count = milliseconds(time), now = (int64_t)moment_now();
+    int error, saved = errno;
     if (!is_clock(clock)) return next_clock_nanosleep()(clock, flags, time, left);
     if (count < 0) return EINVAL;
+    QUIET;
     if (flags & TIMER_ABSTIME) {
         if (is_of_day(clock)) now += (int64_t)EPOCH_SECONDS * 1000;
         count = count > now ? count - now : 0;
+        left = NULL;
     }
-    sleep_for(count, "clock_nanosleep");
-    ANSWER(0, "clock_nanosleep(%s, %s, %s)", clock_text(TEXT, clock), flags & TIMER_ABSTIME ? "TIMER_ABSTIME" : "0",
-           time_text(TEXT, time));
-    return 0;
+    error = sleep_or_break(count, left);
+    ANSWER(-error, "clock_nanosleep(%s, %s, %s)", clock_text(TEXT, clock),
+           flags & TIMER_ABSTIME ? "TIMER_ABSTIME" : "0", time_text(TEXT, time));
+    errno = saved;
+    return error;
 }
 
 int nanosleep(const struct timespec *time, struct timespec *left) {
@@ -113,14 +144,13 @@ int usleep(useconds_t count) {
 }
 
 unsigned int sleep(unsigned int count) {
-    struct timespec time = {count, 0};
-    nanosleep(&time, NULL);
-    return 0;
+    struct timespec time = {count, 0}, left = {0, 0};
+    return nanosleep(&time, &left) == 0 ? 0 : (unsigned int)left.tv_sec;
 }
 
 /* ---- timers ---- */
 
-/* A moment of CLOCK_REALTIME by the kernel's clock, which began when that was EPOCH_SECONDS. What was before it is
+/* A moment of CLOCK_REALTIME by the kernel's clock, which is at 0 when that is EPOCH_SECONDS. What was before it is
    its first millisecond, for 0 would disarm. */
 static void from_day(struct timespec *time) {
     if (time->tv_sec == 0 && time->tv_nsec == 0) return;
@@ -133,13 +163,14 @@ static void from_day(struct timespec *time) {
 }
 
 int timerfd_settime(int fd, int flags, const struct itimerspec *value, struct itimerspec *before) {
+    QUIET;
     struct description *description = hold(fd);
-    struct itimerspec own;
+    struct itimerspec kept;
     int status = !description ? -EBADF : !value ? -EFAULT : 0;
     if (status == 0) {
-        own = *value;
-        if ((flags & TFD_TIMER_ABSTIME) && is_of_day(description->clock)) from_day(&own.it_value);
-        status = nippersage_timerfd_settime(self(), fd - FIRST, flags & ~TFD_TIMER_CANCEL_ON_SET, &own, before);
+        kept = *value;
+        if ((flags & TFD_TIMER_ABSTIME) && is_of_day(description->clock)) from_day(&kept.it_value);
+        status = nippersage_timerfd_settime(self(), fd - FIRST, flags & ~TFD_TIMER_CANCEL_ON_SET, &kept, before);
     }
     if (description) let_go(description);
     return (int)ANSWER(status, "timerfd_settime(%d, %s, %s, %s)", fd,
@@ -148,6 +179,7 @@ int timerfd_settime(int fd, int flags, const struct itimerspec *value, struct it
 }
 
 int timerfd_gettime(int fd, struct itimerspec *now) {
+    QUIET;
     struct description *description = hold(fd);
     int status = description ? nippersage_timerfd_gettime(self(), fd - FIRST, now) : -EBADF;
     if (description) let_go(description);

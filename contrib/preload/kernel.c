@@ -6,18 +6,18 @@
 #include <stdarg.h>
 #include <stdio.h>
 #include <stdlib.h>
-#include <sys/resource.h>
 
 FORWARD(_exit)
+FORWARD(pause)
+FORWARD(write)
 
-enum { STATUS_ENDLESS = 70, MOST_CALLERS = 1 << 30 };
+enum { MOST_CALLERS = 1 << 30 };
 
-static struct nippersage_kernel *kernel;
+static struct nippersage_kernel *_Atomic kernel;
 static pthread_once_t once = PTHREAD_ONCE_INIT;
+static _Thread_local bool is_starting;
 static atomic_uint callers;
 static atomic_ulong count;
-static atomic_uint waits;
-static _Thread_local uint32_t caller;
 static int sleeping;
 
 void *next_of(const char *name) {
@@ -31,13 +31,14 @@ void *next_of(const char *name) {
     return found;
 }
 
+/* Nothing here asks for a setting, for a setting may be what the line is about. */
 static void say_all(const char *format, va_list arguments) {
     char line[512];
     int size = snprintf(line, sizeof line, "nippersage: ");
     size += vsnprintf(line + size, sizeof line - (size_t)size - 1, format, arguments);
     if ((size_t)size > sizeof line - 2) size = sizeof line - 2;
     line[size++] = '\n';
-    if (write(STDERR_FILENO, line, (size_t)size) < 0) return;
+    if (next_write()(STDERR_FILENO, line, (size_t)size) < 0) return;
 }
 
 void say(const char *format, ...) {
@@ -58,47 +59,70 @@ int refuse(int error, const char *format, ...) {
     return -1;
 }
 
-/* Real descriptors stay below FIRST, so that no number is both. */
-static void bound_real_descriptors(void) {
-    struct rlimit limit;
-    if (getrlimit(RLIMIT_NOFILE, &limit) != 0 || limit.rlim_cur <= FIRST) return;
-    limit.rlim_cur = FIRST;
-    if (setrlimit(RLIMIT_NOFILE, &limit) != 0) say("the real descriptors can't be bounded: %s", strerror(errno));
-}
-
+/* Makes the kernel. Nothing here calls what the program may have replaced by a function that reads a clock or uses a
+   descriptor, as its allocator: the memory is memory.c's. */
 static void start(void) {
     struct nippersage_task first = {NULL, 1, 1};
-    int status = nippersage_open(NULL, &first.kernel);
+    int status;
+    is_starting = true;
+    bound_real_descriptors();
+    status = make_table();
+    if (status == 0) status = nippersage_open(&settings()->limits, &first.kernel);
     sleeping = status < 0 ? status : nippersage_epoll_create1(first, 0);
+    if (sleeping >= 0 && (status = nippersage_tick(first, START)) < 0) sleeping = status;
     if (sleeping < 0) {
-        say("no kernel can be made: %s", strerror(-sleeping));
+        say("no kernel can be made: %s", strerrordesc_np(-sleeping));
         next__exit()(STATUS_ENDLESS);
     }
     kernel = first.kernel;
-    bound_real_descriptors();
+    is_starting = false;
 }
 
+/* The history is full: the program ends before the machine is out of memory. What it has printed is written, unless
+   another thread is printing: this thread may hold a lock for which that one waits. */
+static _Noreturn void end_full(void) {
+    static atomic_flag is_told = ATOMIC_FLAG_INIT;
+    if (atomic_flag_test_and_set(&is_told))
+        for (;;) next_pause()();
+    say("the history has %zu records, as many as NIPPERSAGE_RECORDS allows; status %d", settings()->records,
+        STATUS_FULL);
+    if (ftrylockfile(stdout) == 0) {
+        fflush(stdout);
+        funlockfile(stdout);
+    }
+    _exit(STATUS_FULL);
+}
+
+static void look_at_records(void) {
+    size_t records = 0;
+    if (nippersage_records(kernel, &records) == 0 && records >= settings()->records) end_full();
+}
+
+/* While a thread makes the kernel, a handler that breaks into it finds none, and its calls answer EINVAL. */
 struct nippersage_task self(void) {
-    pthread_once(&once, start);
+    uint32_t *caller = &this_thread.callers[this_thread.depth];
+    if (!kernel && !is_starting) pthread_once(&once, start);
     atomic_fetch_add(&count, 1);
-    if (caller == 0) caller = atomic_fetch_add(&callers, 1) % MOST_CALLERS + 1;
-    return (struct nippersage_task){kernel, caller, 1};
+    if (*caller == 0) *caller = atomic_fetch_add(&callers, 1) % MOST_CALLERS + 1;
+    if (!this_thread.is_counted) join_threads();
+    if (settings()->records != SIZE_MAX) look_at_records();
+    return (struct nippersage_task){kernel, *caller, 1};
 }
 
 struct nippersage_kernel *the_kernel(void) {
-    pthread_once(&once, start);
     return kernel;
 }
 
 unsigned long calls(void) { return atomic_load(&count); }
 
 int sleeping_instance(void) {
+    QUIET;
     self();
     return sleeping;
 }
 
-static void write_history(void) {
-    const char *path = getenv("NIPPERSAGE_HISTORY");
+void keep_history(void) {
+    const char *path = variable("NIPPERSAGE_HISTORY");
     int fd, status;
     if (!path || !kernel) return;
     fd = open(path, O_WRONLY | O_CREAT | O_TRUNC | O_CLOEXEC, 0666);
@@ -109,14 +133,16 @@ static void write_history(void) {
 
 static void write_history_once(void) {
     static atomic_flag is_written = ATOMIC_FLAG_INIT;
-    if (!atomic_flag_test_and_set(&is_written)) write_history();
+    if (!atomic_flag_test_and_set(&is_written)) keep_history();
 }
 
 __attribute__((constructor)) static void begin(void) {
-    const char *path = getenv("NIPPERSAGE_LOG");
+    QUIET;
+    const char *path = variable("NIPPERSAGE_LOG");
     is_logged = path && (unlink(path) == 0 || errno == ENOENT);
     if (path && !is_logged) say("the log can't be made anew at %s: %s", path, strerror(errno));
     at_quick_exit(write_history_once);
+    this_thread.is_counted = true;
     self();
 }
 
@@ -129,26 +155,3 @@ void _exit(int status) {
 }
 
 void _Exit(int status) { _exit(status); }
-
-/* Nothing can end the wait of any thread: the program ends, and says so once. */
-static _Noreturn void end_endless(const char *call) {
-    static atomic_flag is_told = ATOMIC_FLAG_INIT;
-    if (atomic_flag_test_and_set(&is_told))
-        for (;;) pause();
-    say("%s waits for ever: every thread waits, and no time ends a wait; status %d", call, STATUS_ENDLESS);
-    fflush(NULL);
-    _exit(STATUS_ENDLESS);
-}
-
-int wait_at(int instance, struct epoll_event *events, int most, int64_t timeout, const char *call) {
-    struct timespec time = timespec_of(timeout < 0 ? 0 : (uint64_t)timeout);
-    struct nippersage_task task = self();
-    int result;
-    atomic_fetch_add(&waits, 1);
-    result = nippersage_epoll_pwait2(task, instance, events, most, timeout < 0 ? NULL : &time);
-    atomic_fetch_sub(&waits, 1);
-    if (result == -EDEADLK) end_endless(call);
-    return result;
-}
-
-bool is_anyone_waiting(void) { return atomic_load(&waits) > 0; }

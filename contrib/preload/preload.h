@@ -1,6 +1,6 @@
 /* What the files of the shim share. Its page is README.md.
  *
- * A program's descriptor FIRST + n is the simulated kernel's n. Lower numbers are the real kernel's: kernel.c bounds
+ * A program's descriptor FIRST + n is the simulated kernel's n. Lower numbers are the real kernel's: limits.c bounds
  * them by RLIMIT_NOFILE, so the two never meet. A function that takes descriptors asks is_simulated, and hands a real
  * one on to the C library's function of the same name. */
 #ifndef PRELOAD_H
@@ -10,6 +10,7 @@
 
 #include <errno.h>
 #include <fcntl.h>
+#include <signal.h>
 #include <stdatomic.h>
 #include <stdbool.h>
 #include <stddef.h>
@@ -22,16 +23,48 @@
 /* The functions that stand in for the C library's are seen from outside; these aren't. */
 #pragma GCC visibility push(hidden)
 
-/* NUMBERS is the limit on descriptors of a kernel with the limits by default, as epaudit takes them, too. */
-enum { FIRST = 512, NUMBERS = 1024 };
+/* With what status the shim ends a program: for a setting, for threads that wait for ever, for too many records. */
+enum { STATUS_SETTING = 2, STATUS_ENDLESS = 70, STATUS_FULL = 71 };
+
+/* ---- settings.c: what the environment says ---- */
+
+struct settings {
+    int first;                       /* NIPPERSAGE_REAL_DESCRIPTORS: so many numbers are real */
+    size_t records;                  /* NIPPERSAGE_RECORDS: the history may have fewer; SIZE_MAX where it isn't set */
+    uint64_t busy_waits;             /* NIPPERSAGE_BUSY_WAITS: so many take a millisecond; 0 is none */
+    uint64_t patience;               /* NIPPERSAGE_PATIENCE, in milliseconds */
+    struct nippersage_limits limits; /* NIPPERSAGE_LIMITS */
+};
+extern _Atomic(const struct settings *) read_settings;
+const struct settings *make_settings(void);
+static inline const struct settings *settings(void) {
+    const struct settings *read = atomic_load_explicit(&read_settings, memory_order_acquire);
+    return read ? read : make_settings();
+}
+/* A variable of the environment, or NULL: as getenv, which a program may have replaced. */
+const char *variable(const char *name);
+/* A variable that is a whole number, or `otherwise` if it isn't set. One out of its range ends the program. */
+uint64_t whole_number(const char *name, uint64_t least, uint64_t most, uint64_t otherwise);
+_Noreturn void end_for_setting(const char *name, const char *value, const char *why);
+
+/* The first simulated descriptor, and how many of them there may be. */
+#define FIRST (settings()->first)
+#define NUMBERS ((int)settings()->limits.descriptors)
 
 static inline bool is_simulated(int fd) { return fd >= FIRST; }
+
+/* ---- limits.c: the real descriptors stay below FIRST ---- */
+
+/* Bounds them, and ends the program if there is a higher one. */
+void bound_real_descriptors(void);
+/* getrlimit(2), setrlimit(2) and prlimit(2) of RLIMIT_NOFILE, by number. */
+long call_limit(long number, const long given[6]);
 
 /* ---- kernel.c: the kernel, who calls it, and the end ---- */
 
 /* The task of the thread that calls. The first call of all makes the kernel. */
 struct nippersage_task self(void);
-/* The kernel, for a question that is no call. */
+/* The kernel, for a question that is no call; NULL before it is made, and while it is. */
 struct nippersage_kernel *the_kernel(void);
 /* How many times self was called: what didn't change it made no call. */
 unsigned long calls(void);
@@ -48,13 +81,80 @@ void *next_of(const char *name);
 void say(const char *format, ...) __attribute__((format(printf, 1, 2)));
 /* The same, and -1 with this errno. */
 int refuse(int error, const char *format, ...) __attribute__((format(printf, 2, 3)));
-/* A wait at an instance, by the kernel's number, of so many milliseconds, without end below 0: the number of events,
-   or minus an error number. Ends the program if nothing can end the wait. */
-int wait_at(int instance, struct epoll_event *events, int most, int64_t timeout, const char *call);
-/* Whether any thread is inside of wait_at. */
-bool is_anyone_waiting(void);
+/* Writes the history as it is. */
+void keep_history(void);
 /* The instance in which nothing is ever registered: who waits there sleeps. */
 int sleeping_instance(void);
+
+/* ---- signals.c: handlers of signals, and when they run ---- */
+
+struct sleeper;
+enum { MOST_DEPTH = 8, MOST_HELD = 16 };
+/* What the shim keeps of a thread. A handler that breaks in may find any state of it but a wrong one. */
+struct thread_state {
+    int quiet;                 /* so many calls that hold handlers back are being made */
+    bool is_held_back;         /* all signals are blocked, until `mask` is set when handlers may run again */
+    int first_held, held_count;
+    siginfo_t held[MOST_HELD]; /* signals that came meanwhile */
+    bool is_counted;           /* the thread takes part: threads.c */
+    uint64_t mask;             /* of the real kernel's signals */
+    struct sleeper *innermost; /* the wait in which a handler would run now, or NULL */
+    unsigned long handlers;    /* so many have been run */
+    int depth;                 /* in so many waits of this thread handlers may run, or do */
+    uint32_t callers[MOST_DEPTH];
+};
+/* build says that it is there from the start, without a call of an allocator. */
+extern _Thread_local struct thread_state this_thread;
+/* As a system call, a function that begins so runs no handler of a signal before its end, except where it sleeps.
+   Who takes a lock of the shim, or calls the library, has to be in one. */
+#define QUIET __attribute__((cleanup(end_quiet), unused)) int is_quiet = begin_quiet()
+int begin_quiet(void);
+void end_quiet(const int *unused);
+/* The same for memory.c, which the library calls: nobody is woken at its end. */
+#define QUIET_WITHIN __attribute__((cleanup(end_quiet_within), unused)) int is_quiet = begin_quiet()
+void end_quiet_within(const int *unused);
+/* Runs what was held back, where this thread may run handlers again. */
+void let_handlers_run(void);
+/* The same within a quiet call, and whether there was any. */
+bool let_pending_run(void);
+/* Blocks other signals for the rest of a quiet call, and tells which were; the same back. */
+uint64_t swap_mask(const sigset_t *set);
+void put_mask_back(uint64_t before);
+/* Whether the program has a handler of a signal that others may send. */
+bool has_handlers(void);
+/* Writes the history if a signal that is about to be sent ends the program. */
+void keep_history_before(int signal);
+/* Sends a signal that this thread has earned, as SIGPIPE. */
+void send_to_this_thread(int signal);
+
+/* ---- sleepers.c: threads that sleep in waits, and who moves the clock ---- */
+
+struct wait {
+    int instance;               /* the kernel's number */
+    const void *place;          /* the description of the instance, or NULL where it is the shim's own */
+    struct epoll_event *events; /* room for `most` */
+    int most;
+    int64_t timeout; /* in milliseconds, without end below 0 */
+    const char *call;
+    bool restarts;      /* a handler of SA_RESTART doesn't end it */
+    bool awaits_signal; /* nothing but a signal is to end it */
+};
+/* The number of events, or minus an error number: -EINTR if a handler ended it. Ends the program if nothing can. */
+int wait_at(const struct wait *wait);
+/* Whether any thread is inside of wait_at. */
+bool is_anyone_waiting(void);
+/* The next moment of the simulated clock at which something happens. Whether there is one. */
+bool next_moment(uint64_t *moment);
+/* Gives those their answers whose waits have ended. */
+void wake_sleepers(void);
+/* As a signal arrives in a wait, before any lock is taken; then before and after its handler. */
+void disturb(struct sleeper *sleeper);
+void begin_handler_in(struct sleeper *sleeper, bool restarts);
+void end_handler_in(struct sleeper *sleeper);
+/* Ends those waits of this thread whose frames lie below an address of the stack, for a handler jumps there. */
+void leave_waits_below(uintptr_t address);
+/* So many threads more take part, or fewer. */
+void count_threads(int more);
 
 /* ---- log.c: a line for each call, as strace writes it ---- */
 
@@ -81,13 +181,30 @@ const char *reports_text(struct text *room, const struct epoll_event *events, in
 
 enum kind { PIPE, SOCKET, EVENTFD, TIMERFD, EPOLL };
 
+/* The bytes that wait at a pipe or a socket: copies.c. */
+struct waiting {
+    char *bytes;
+    size_t room, first, count;
+};
+
+/* What setsockopt has set: options.c. */
+struct options {
+    uint32_t switches; /* bit n is option n */
+    int send_room, receive_room, priority;
+    int64_t send_time, receive_time; /* in milliseconds; 0 is no end */
+    struct {
+        int on, seconds;
+    } linger;
+};
+
 /* An open file description. */
 struct description {
     enum kind kind;
     int access; /* O_RDONLY, O_WRONLY or O_RDWR */
     clockid_t clock;
     atomic_bool is_nonblocking;
-    atomic_long unread; /* bytes that wait here, at a pipe or a socket */
+    struct waiting waiting;
+    struct options options;
     struct description *peer;
     int holders; /* descriptors that name it, and calls that use it */
 };
@@ -95,19 +212,49 @@ struct description {
 /* The description of a descriptor, held until it is let go of, or NULL. */
 struct description *hold(int fd);
 void let_go(struct description *description);
-/* Counts bytes that were written to a description, or read from it. */
-void count_written(struct description *description, ssize_t count);
-/* The kernel's number of an instance of the shim's own, or minus an error number; its end. */
+/* Makes room for all descriptors: 0 or -ENOMEM. */
+int make_table(void);
+/* The kernel's number of an instance or an eventfd of the shim's own, or minus an error number; its end. */
 int make_own_instance(void);
-void end_own_instance(int number);
+int make_own_eventfd(unsigned int value);
+void end_own(int number);
+/* The lock of all descriptions, for a quiet function. No call that waits is made under it. */
+void lock_table(void);
+void unlock_table(void);
+/* Whether a descriptor still names a description, under the lock. */
+bool names(int fd, const struct description *description);
+/* A number of the kernel that names a description, or -1. The lock isn't held. */
+int number_that_names(const struct description *description);
+int number_of_peer(const struct description *description);
+
+/* ---- copies.c: all under the table's lock ---- */
+
+/* Makes room for so many bytes more. Whether there is memory for it. */
+bool make_room(struct waiting *waiting, size_t more);
+void add_waiting(struct waiting *waiting, const char *bytes, size_t count);
+/* The first of them, at most `count`: how many. They stay. */
+size_t look_at_waiting(const struct waiting *waiting, char *bytes, size_t count);
+void drop_waiting(struct waiting *waiting, size_t count);
+void end_waiting(struct waiting *waiting);
+
+/* ---- bytes.c ---- */
+
+/* Writes as send(2) with these flags does: how many bytes, or minus an error number. */
+ssize_t give(int fd, const char *bytes, size_t count, int flags, const char *call);
+/* Reads as recv(2) with these flags does. */
+ssize_t take(int fd, char *bytes, size_t count, int flags, const char *call);
 
 /* ---- waits.c ---- */
 
-/* Waits until an event arrives at a description, for a call that is to block. It is begun where none is. */
+/* The waits of a call that blocks, each until an event arrives at a description. The first one registers it. */
 struct block {
     int instance; /* -1 before the first wait */
+    const char *call;
+    uint64_t end;  /* when -EAGAIN is the answer; FOREVER where it isn't */
+    bool restarts; /* a handler of SA_RESTART doesn't end it */
 };
-int wait_for_arrival(struct block *block, int fd, uint32_t events, const char *call);
+#define FOREVER UINT64_MAX
+int wait_for_arrival(struct block *block, int fd, uint32_t events);
 void end_block(struct block *block);
 
 /* ---- clock.c ---- */
@@ -117,15 +264,39 @@ uint64_t moment_now(void);
 /* In milliseconds, rounded up; -1 where it is no time. */
 int64_t milliseconds(const struct timespec *time);
 struct timespec timespec_of(uint64_t milliseconds);
-/* Lets so much simulated time pass. */
-void sleep_for(int64_t milliseconds, const char *call);
-/* Moves the clock to a moment, if it isn't there yet. */
+/* Lets so much simulated time pass: 0, or -EINTR. */
+int sleep_for(int64_t milliseconds, const char *call);
+/* Moves the clock to a moment, if it isn't there yet, and sends the signals of alarms whose time has come. */
 void bring_clock_to(uint64_t moment);
-/* CLOCK_REALTIME when the simulated clock is at 0. */
-enum { EPOCH_SECONDS = 1000000000 };
+/* The simulated clock at the start, in milliseconds, and CLOCK_REALTIME when it was at 0, in seconds. */
+enum { START = 1000000, EPOCH_SECONDS = 1000000000 - START / 1000 };
+/* Whether a clock is one of those that the simulated clock stands for; whether it tells the time of day. */
+bool is_clock(clockid_t clock);
+bool is_of_day(clockid_t clock);
+
+/* ---- alarms.c ---- */
+
+/* Sends the signals of alarms that are due. */
+void send_alarms(void);
+/* The first moment at which one is due. Whether there is one. */
+bool next_alarm(uint64_t *moment);
+
+/* ---- harm.c: what would change the machine by a made-up value ---- */
+
+/* Whether an ioctl or an fcntl of a real descriptor may be made; if not, it is refused. */
+bool is_harmless_request(int fd, unsigned long request, const void *argument);
+bool is_harmless_command(int command, long argument);
+/* If the call of this number has a double in harm.c, calls that. */
+bool call_harmless(long number, const long given[6], long *result);
 
 /* ---- threads.c ---- */
 
+/* Whether a thread sleeps in the real kernel; one that has ended does. */
+bool is_thread_asleep(long thread);
+/* Begins to move the clock for threads that sleep in the real kernel. */
+void watch_threads(void);
+/* Takes the thread that calls among those that take part. */
+void join_threads(void);
 /* futex(2) with these six arguments, whose times are by the simulated clock. */
 long call_futex(const long given[6]);
 

@@ -1,13 +1,16 @@
 /* What has no double: each is refused with one line on standard error, where it would reach past the simulation. */
 #include "preload.h"
 
+#include <pty.h>
+#include <sched.h>
 #include <spawn.h>
 #include <stdarg.h>
 #include <stdio.h>
 #include <stdlib.h>
-#include <sys/sendfile.h>
+#include <sys/ioctl.h>
 #include <sys/socket.h>
 #include <sys/syscall.h>
+#include <sys/time.h>
 #include <sys/uio.h>
 
 /* ---- calls on descriptors ---- */
@@ -25,8 +28,6 @@ REAL_ONLY(int, accept4, (int fd, struct sockaddr *from, socklen_t *size, int fla
 REAL_ONLY(int, bind, (int fd, const struct sockaddr *to, socklen_t size), (fd, to, size), EINVAL)
 REAL_ONLY(int, connect, (int fd, const struct sockaddr *to, socklen_t size), (fd, to, size), EISCONN)
 REAL_ONLY(int, listen, (int fd, int most), (fd, most), EINVAL)
-REAL_ONLY(int, setsockopt, (int fd, int level, int option, const void *value, socklen_t size),
-          (fd, level, option, value, size), ENOPROTOOPT)
 REAL_ONLY(int, recvmmsg, (int fd, struct mmsghdr *to, unsigned int count, int flags, struct timespec *time),
           (fd, to, count, flags, time), EOPNOTSUPP)
 REAL_ONLY(int, sendmmsg, (int fd, struct mmsghdr *from, unsigned int count, int flags), (fd, from, count, flags),
@@ -46,10 +47,6 @@ REAL_ONLY(int, fdatasync, (int fd), (fd), EINVAL)
         return refuse(EINVAL, "%s(%d, %d) is not simulated", #name, first, second);        \
     }
 
-REAL_TWO(sendfile, (int to, int from, off_t *at, size_t count), to, from, (to, from, at, count))
-REAL_TWO(sendfile64, (int to, int from, off64_t *at, size_t count), to, from, (to, from, at, count))
-REAL_TWO(splice, (int from, off64_t *at, int to, off64_t *onto, size_t count, unsigned int flags), from, to,
-         (from, at, to, onto, count, flags))
 REAL_TWO(tee, (int from, int to, size_t count, unsigned int flags), from, to, (from, to, count, flags))
 
 FORWARD(lseek)
@@ -72,9 +69,34 @@ FILE *fdopen(int fd, const char *mode) {
 
 /* ---- processes ---- */
 
+FORWARD(unshare)
+
 pid_t fork(void) { return refuse(ENOSYS, "fork is not simulated: two processes can't share a simulated kernel"); }
 
 pid_t vfork(void) { return refuse(ENOSYS, "vfork is not simulated: two processes can't share a simulated kernel"); }
+
+pid_t _Fork(void) { return fork(); }
+
+int clone(int (*run)(void *), void *stack, int flags, void *argument, ...) {
+    (void)run, (void)stack, (void)flags, (void)argument;
+    return refuse(ENOSYS, "clone is not simulated: neither processes nor threads are made so");
+}
+
+int daemon(int stays, int keeps) {
+    (void)stays, (void)keeps;
+    return fork();
+}
+
+int forkpty(int *made, char *name, const struct termios *like, const struct winsize *size) {
+    (void)made, (void)name, (void)like, (void)size;
+    return fork();
+}
+
+/* Memory, files and names are the program's own business, but not a table of descriptors without the simulated ones. */
+int unshare(int flags) {
+    if (!(flags & CLONE_FILES)) return next_unshare()(flags);
+    return refuse(EINVAL, "unshare(CLONE_FILES) is not simulated: the simulated descriptors can't be copied");
+}
 
 static int refuse_program(const char *path) {
     return refuse(ENOSYS, "%s can't be run: another program can't share a simulated kernel", path);
@@ -113,6 +135,11 @@ int fexecve(int fd, char *const words[], char *const environment[]) {
     return refuse_program(words[0]);
 }
 
+int execveat(int folder, const char *path, char *const words[], char *const environment[], int flags) {
+    (void)folder, (void)words, (void)environment, (void)flags;
+    return refuse_program(path);
+}
+
 int posix_spawn(pid_t *restrict made, const char *restrict path, const posix_spawn_file_actions_t *restrict actions,
                 const posix_spawnattr_t *restrict attributes, char *const words[restrict],
                 char *const environment[restrict]) {
@@ -139,17 +166,53 @@ FILE *popen(const char *command, const char *mode) {
 
 FORWARD(syscall)
 
-/* Those that have a double, or would pass it by. libuv closes so. */
-long syscall(long number, ...) {
-    va_list arguments;
-    long given[6];
-    va_start(arguments, number);
-    for (int i = 0; i < 6; i++) given[i] = va_arg(arguments, long);
-    va_end(arguments);
+/* Those that tell the time, and let it pass. */
+static bool call_clock(long number, const long given[6], long *result) {
+    const struct timespec *until = (const struct timespec *)given[2];
     switch (number) {
-    case SYS_close: return close((int)given[0]);
-    case SYS_futex: return call_futex(given);
-    case SYS_io_uring_setup: return refuse(ENOSYS, "io_uring is not simulated");
+    case SYS_clock_gettime: *result = clock_gettime((clockid_t)given[0], (struct timespec *)given[1]); return true;
+    case SYS_gettimeofday: *result = gettimeofday((struct timeval *)given[0], (void *)given[1]); return true;
+    case SYS_nanosleep:
+        *result = nanosleep((const struct timespec *)given[0], (struct timespec *)given[1]);
+        return true;
+    case SYS_clock_nanosleep:
+        *result = -clock_nanosleep((clockid_t)given[0], (int)given[1], until, (struct timespec *)given[3]);
+        *result = plain_answer(*result);
+        return true;
+    case SYS_time: *result = (long)time((time_t *)given[0]); return true;
+    case SYS_alarm: *result = (long)alarm((unsigned int)given[0]); return true;
+    case SYS_setitimer:
+        *result = setitimer((__itimer_which_t)given[0], (const struct itimerval *)given[1], (struct itimerval *)until);
+        return true;
+    case SYS_getitimer: *result = getitimer((__itimer_which_t)given[0], (struct itimerval *)given[1]); return true;
+    case SYS_pause: *result = pause(); return true;
+    default: return false;
+    }
+}
+
+/* Those of descriptors that may be simulated, of times and of limits have the double that has their name. libuv closes
+   so. */
+static bool call_double(long number, const long given[6], long *result) {
+    switch (number) {
+    case SYS_close: *result = close((int)given[0]); return true;
+    case SYS_close_range:
+        *result = close_range((unsigned int)given[0], (unsigned int)given[1], (int)given[2]);
+        return true;
+    case SYS_dup: *result = dup((int)given[0]); return true;
+    case SYS_dup2: *result = dup2((int)given[0], (int)given[1]); return true;
+    case SYS_dup3: *result = dup3((int)given[0], (int)given[1], (int)given[2]); return true;
+    case SYS_fcntl: *result = fcntl((int)given[0], (int)given[1], given[2]); return true;
+    case SYS_ioctl: *result = ioctl((int)given[0], (unsigned long)given[1], given[2]); return true;
+    case SYS_futex: *result = call_futex(given); return true;
+    case SYS_getrlimit:
+    case SYS_setrlimit:
+    case SYS_prlimit64: *result = call_limit(number, given); return true;
+    default: return call_clock(number, given, result) || call_harmless(number, given, result);
+    }
+}
+
+static bool has_no_double(long number) {
+    switch (number) {
     case SYS_epoll_create:
     case SYS_epoll_create1:
     case SYS_epoll_ctl:
@@ -164,12 +227,30 @@ long syscall(long number, ...) {
     case SYS_pipe:
     case SYS_pipe2:
     case SYS_socketpair:
+    case SYS_rt_sigaction:
+    case SYS_timer_create:
+    case SYS_timer_settime:
+    case SYS_timer_gettime:
+    case SYS_timer_getoverrun:
+    case SYS_timer_delete:
     case SYS_fork:
     case SYS_vfork:
     case SYS_clone:
     case SYS_clone3:
     case SYS_execve:
-    case SYS_execveat: return refuse(ENOSYS, "syscall(%ld): this call by its number is not simulated", number);
-    default: return next_syscall()(number, given[0], given[1], given[2], given[3], given[4], given[5]);
+    case SYS_execveat: return true;
+    default: return false;
     }
+}
+
+long syscall(long number, ...) {
+    va_list arguments;
+    long given[6], result;
+    va_start(arguments, number);
+    for (int i = 0; i < 6; i++) given[i] = va_arg(arguments, long);
+    va_end(arguments);
+    if (number == SYS_io_uring_setup) return refuse(ENOSYS, "io_uring is not simulated");
+    if (has_no_double(number)) return refuse(ENOSYS, "syscall(%ld): this call by its number is not simulated", number);
+    if (call_double(number, given, &result)) return result;
+    return next_syscall()(number, given[0], given[1], given[2], given[3], given[4], given[5]);
 }

@@ -33,10 +33,16 @@ struct entry {
 /* The lock is held over the kernel's call that makes or frees a number and the change here. No call that waits holds
    it. */
 static pthread_mutex_t lock = PTHREAD_MUTEX_INITIALIZER;
-static struct entry table[NUMBERS];
+static struct entry *_Atomic table; /* NUMBERS of them, once there is a kernel */
+
+int make_table(void) {
+    table = calloc((size_t)NUMBERS, sizeof *table);
+    return table ? 0 : -ENOMEM;
+}
 
 static struct entry *entry_of(int fd) {
-    return fd >= FIRST && fd < FIRST + NUMBERS && table[fd - FIRST].description ? &table[fd - FIRST] : NULL;
+    struct entry *entry = table && fd >= FIRST && fd < FIRST + NUMBERS ? &table[fd - FIRST] : NULL;
+    return entry && entry->description ? entry : NULL;
 }
 
 /* ---- descriptions, under the lock ---- */
@@ -44,13 +50,23 @@ static struct entry *entry_of(int fd) {
 static void drop(struct description *description) {
     if (!description || --description->holders > 0) return;
     if (description->peer) description->peer->peer = NULL;
+    end_waiting(&description->waiting);
     free(description);
+}
+
+/* Says once that the kernel has no more, for a program that counts on more looks for the reason elsewhere. */
+static int say_if_full(int status) {
+    static atomic_flag is_told = ATOMIC_FLAG_INIT;
+    if ((status == -EMFILE || status == -ENFILE) && !atomic_flag_test_and_set(&is_told))
+        say("the simulated kernel has %u descriptors and %u files, and all are taken (NIPPERSAGE_LIMITS)",
+            settings()->limits.descriptors, settings()->limits.files);
+    return status;
 }
 
 /* A new number names a new description. Where there is no memory for it, the number is closed again. */
 static int put_new(int number, struct description like, int flags) {
     struct description *made;
-    if (number < 0) return number;
+    if (number < 0) return say_if_full(number);
     made = malloc(sizeof *made);
     if (!made) {
         nippersage_close(self(), number);
@@ -75,7 +91,7 @@ static int close_entry(int fd) {
 
 /* As put_new for two numbers, whose descriptions are each other's peers. */
 static int put_pair(int status, const int numbers[2], enum kind kind, const int accesses[2], int flags, int ends[2]) {
-    if (status < 0) return status;
+    if (status < 0) return say_if_full(status);
     for (int i = 0; i < 2; i++)
         ends[i] = put_new(numbers[i], (struct description){.kind = kind, .access = accesses[i]}, flags);
     if (ends[0] < 0 || ends[1] < 0) {
@@ -89,7 +105,7 @@ static int put_pair(int status, const int numbers[2], enum kind kind, const int 
 
 /* A number names the description of another one. */
 static int put_copy(int number, const struct entry *from, int flags) {
-    if (number < 0) return number;
+    if (number < 0) return say_if_full(number);
     from->description->holders++;
     drop(table[number].description);
     table[number] = (struct entry){from->description, flags & O_CLOEXEC, false};
@@ -98,6 +114,7 @@ static int put_copy(int number, const struct entry *from, int flags) {
 
 struct description *hold(int fd) {
     struct entry *entry;
+    QUIET;
     pthread_mutex_lock(&lock);
     entry = entry_of(fd);
     if (entry) entry->description->holders++;
@@ -106,19 +123,49 @@ struct description *hold(int fd) {
 }
 
 void let_go(struct description *description) {
+    QUIET;
     pthread_mutex_lock(&lock);
     drop(description);
     pthread_mutex_unlock(&lock);
 }
 
-void count_written(struct description *description, ssize_t count) {
+void lock_table(void) { pthread_mutex_lock(&lock); }
+
+void unlock_table(void) { pthread_mutex_unlock(&lock); }
+
+bool names(int fd, const struct description *description) {
+    struct entry *entry = entry_of(fd);
+    return entry && entry->description == description;
+}
+
+/* A number that names it, or -1. Under the lock. */
+static int number_of(const struct description *description) {
+    int number = 0;
+    while (number < NUMBERS && table[number].description != description) number++;
+    return number < NUMBERS ? number : -1;
+}
+
+int number_that_names(const struct description *description) {
+    int number;
+    QUIET;
     pthread_mutex_lock(&lock);
-    if (description->peer) atomic_fetch_add(&description->peer->unread, count);
+    number = number_of(description);
     pthread_mutex_unlock(&lock);
+    return number;
+}
+
+int number_of_peer(const struct description *description) {
+    int number;
+    QUIET;
+    pthread_mutex_lock(&lock);
+    number = description->peer ? number_of(description->peer) : -1;
+    pthread_mutex_unlock(&lock);
+    return number;
 }
 
 int make_own_instance(void) {
     int number;
+    QUIET;
     pthread_mutex_lock(&lock);
     number = nippersage_epoll_create1(self(), 0);
     if (number >= 0) table[number].is_own = true;
@@ -126,7 +173,18 @@ int make_own_instance(void) {
     return number;
 }
 
-void end_own_instance(int number) {
+int make_own_eventfd(unsigned int value) {
+    int number;
+    QUIET;
+    pthread_mutex_lock(&lock);
+    number = nippersage_eventfd(self(), value, 0);
+    if (number >= 0) table[number].is_own = true;
+    pthread_mutex_unlock(&lock);
+    return number;
+}
+
+void end_own(int number) {
+    QUIET;
     pthread_mutex_lock(&lock);
     nippersage_close(self(), number);
     table[number].is_own = false;
@@ -137,6 +195,7 @@ void end_own_instance(int number) {
 
 int epoll_create1(int flags) {
     int made;
+    QUIET;
     pthread_mutex_lock(&lock);
     made =
         put_new(nippersage_epoll_create1(self(), flags), (struct description){.kind = EPOLL, .access = O_RDWR}, flags);
@@ -152,6 +211,7 @@ int epoll_create(int size) {
 
 int eventfd(unsigned int count, int flags) {
     int made;
+    QUIET;
     pthread_mutex_lock(&lock);
     made = put_new(nippersage_eventfd(self(), count, flags), (struct description){.kind = EVENTFD, .access = O_RDWR},
                    flags);
@@ -162,6 +222,7 @@ int eventfd(unsigned int count, int flags) {
 int timerfd_create(clockid_t clock, int flags) {
     struct description like = {.kind = TIMERFD, .access = O_RDWR, .clock = clock};
     int kept = clock == CLOCK_BOOTTIME ? CLOCK_MONOTONIC : clock, made;
+    QUIET;
     pthread_mutex_lock(&lock);
     made = put_new(nippersage_timerfd_create(self(), kept, flags), like, flags);
     pthread_mutex_unlock(&lock);
@@ -171,6 +232,7 @@ int timerfd_create(clockid_t clock, int flags) {
 int pipe2(int ends[2], int flags) {
     static const int accesses[2] = {O_RDONLY, O_WRONLY};
     int numbers[2], status;
+    QUIET;
     pthread_mutex_lock(&lock);
     status = put_pair(nippersage_pipe2(self(), numbers, flags), numbers, PIPE, accesses, flags, ends);
     pthread_mutex_unlock(&lock);
@@ -184,6 +246,7 @@ int socketpair(int domain, int type, int protocol, int ends[2]) {
     static const int accesses[2] = {O_RDWR, O_RDWR};
     int flags = type & (SOCK_CLOEXEC | SOCK_NONBLOCK), numbers[2], status;
     if (domain != AF_UNIX) return next_socketpair()(domain, type, protocol, ends);
+    QUIET;
     if ((type & ~flags) != SOCK_STREAM)
         return refuse(ESOCKTNOSUPPORT, "socketpair: only SOCK_STREAM is simulated, not type %d", type & ~flags);
     pthread_mutex_lock(&lock);
@@ -217,6 +280,7 @@ static int copy_from(int fd, int least, int flags) {
 int dup(int fd) {
     int made;
     if (!is_simulated(fd)) return next_dup()(fd);
+    QUIET;
     pthread_mutex_lock(&lock);
     made = copy(fd, 0);
     pthread_mutex_unlock(&lock);
@@ -233,6 +297,7 @@ static int copy_to(int fd, int to, int flags) {
 int dup3(int fd, int to, int flags) {
     int made;
     if (!is_simulated(fd) && !is_simulated(to)) return next_dup3()(fd, to, flags);
+    QUIET;
     if (is_simulated(fd) != is_simulated(to))
         return refuse(EBADF, "dup2(%d, %d): one is real and one is simulated", fd, to);
     if (fd == to || (flags & ~O_CLOEXEC)) return (int)ANSWER(-EINVAL, "dup3(%d, %d, %#x)", fd, to, flags);
@@ -254,6 +319,7 @@ int dup2(int fd, int to) {
 int close(int fd) {
     int status;
     if (!is_simulated(fd)) return next_close()(fd);
+    QUIET;
     pthread_mutex_lock(&lock);
     status = close_entry(fd);
     pthread_mutex_unlock(&lock);
@@ -261,8 +327,9 @@ int close(int fd) {
 }
 
 static void close_simulated(unsigned int first, unsigned int last, int flags) {
+    QUIET;
     pthread_mutex_lock(&lock);
-    for (unsigned int fd = first; fd <= last && fd < FIRST + NUMBERS; fd++) {
+    for (unsigned int fd = first; fd <= last && fd < (unsigned int)(FIRST + NUMBERS); fd++) {
         struct entry *entry = entry_of((int)fd);
         if (entry && (flags & CLOSE_RANGE_CLOEXEC)) {
             entry->closes_on_exec = true;
@@ -273,9 +340,19 @@ static void close_simulated(unsigned int first, unsigned int last, int flags) {
     pthread_mutex_unlock(&lock);
 }
 
+/* The real kernel looks at the flags, and closes what is below the border. A copy of the table for this thread alone,
+   which it makes for CLOSE_RANGE_UNSHARE, would have no simulated part. */
 int close_range(unsigned int first, unsigned int last, int flags) {
-    if (first <= last) close_simulated(first < FIRST ? FIRST : first, last, flags);
-    return first < FIRST ? next_close_range()(first, last < FIRST ? last : FIRST - 1, flags) : 0;
+    unsigned int border = (unsigned int)FIRST;
+    int status;
+    if (first <= last && last >= border && (flags & CLOSE_RANGE_UNSHARE))
+        return refuse(EINVAL, "close_range(%u, %u): CLOSE_RANGE_UNSHARE of simulated descriptors is not simulated",
+                      first, last);
+    if (last < border || first > last) return next_close_range()(first, last, flags);
+    /* Above the border there is no real descriptor: that call asks for the flags alone. */
+    status = next_close_range()(first, first < border ? border - 1 : last, flags);
+    if (status == 0) close_simulated(first < border ? border : first, last, flags);
+    return (int)ANSWER(status < 0 ? -errno : 0, "close_range(%u, %u, %#x)", first, last, flags);
 }
 
 void closefrom(int first) { close_range(first < 0 ? 0 : (unsigned int)first, UINT_MAX, 0); }
@@ -302,11 +379,20 @@ static int control_simulated(int fd, int command, long argument) {
     int result;
     if (!is_known || (command == F_SETFL && (argument & O_ASYNC)))
         return refuse(EINVAL, "fcntl(%d, %d, %#lx) is not simulated", fd, command, argument);
+    QUIET;
     pthread_mutex_lock(&lock);
     entry = entry_of(fd);
     result = entry ? control(entry, fd, command, argument) : -EBADF;
     pthread_mutex_unlock(&lock);
     return (int)ANSWER(result, "fcntl(%d, %d, %#lx)", fd, command, argument);
+}
+
+/* A copy of a real descriptor gets a real number. */
+static int control_real(int fd, int command, long argument) {
+    if ((command == F_DUPFD || command == F_DUPFD_CLOEXEC) && (int)argument >= FIRST)
+        return refuse(EINVAL, "fcntl(%d, F_DUPFD, %d): a real descriptor can't have a simulated number", fd,
+                      (int)argument);
+    return is_harmless_command(command, argument) ? next_fcntl()(fd, command, argument) : -1;
 }
 
 int fcntl(int fd, int command, ...) {
@@ -315,7 +401,7 @@ int fcntl(int fd, int command, ...) {
     va_start(arguments, command);
     argument = va_arg(arguments, long);
     va_end(arguments);
-    return is_simulated(fd) ? control_simulated(fd, command, argument) : next_fcntl()(fd, command, argument);
+    return is_simulated(fd) ? control_simulated(fd, command, argument) : control_real(fd, command, argument);
 }
 
 int fcntl64(int fd, int command, ...) {
@@ -332,7 +418,7 @@ static int tell_unread(const struct description *description, int *count) {
     const struct description *at = description;
     if (at->kind != PIPE && at->kind != SOCKET) return -ENOTTY;
     if (at->access == O_WRONLY) at = at->peer;
-    *count = at ? (int)atomic_load(&at->unread) : 0;
+    *count = at ? (int)at->waiting.count : 0;
     return 0;
 }
 
@@ -354,7 +440,8 @@ int ioctl(int fd, unsigned long request, ...) {
     va_start(arguments, request);
     argument = va_arg(arguments, void *);
     va_end(arguments);
-    if (!is_simulated(fd)) return next_ioctl()(fd, request, argument);
+    if (!is_simulated(fd)) return is_harmless_request(fd, request, argument) ? next_ioctl()(fd, request, argument) : -1;
+    QUIET;
     pthread_mutex_lock(&lock);
     entry = entry_of(fd);
     result = entry ? request_of(entry, request, argument) : -EBADF;

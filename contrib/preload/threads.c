@@ -1,6 +1,7 @@
-/* Threads. The library counts those that take part, and moves the clock by itself while all of them sleep in its
-   waits. A thread may also sleep in the real kernel, as in pthread_cond_wait; then nobody would move the clock. So a
-   thread of the shim's own looks, each millisecond of real time, whether all others sleep, and moves it for them. */
+/* Threads. Those that take part are counted, and while all of them sleep in simulated waits, the last one moves the
+   clock: sleepers.c. A thread may also sleep in the real kernel, as in pthread_cond_wait; then nobody would move the
+   clock. So a thread of the shim's own looks, each millisecond of real time, whether all others sleep, and moves it for
+   them. */
 #include "preload.h"
 
 #include <dirent.h>
@@ -15,10 +16,11 @@
 FORWARD(pthread_create)
 FORWARD(clock_gettime)
 FORWARD(nanosleep)
+FORWARD(sigtimedwait)
 FORWARD(syscall)
 
 static pthread_key_t counted;
-static pthread_once_t once = PTHREAD_ONCE_INIT;
+static pthread_once_t once = PTHREAD_ONCE_INIT, once_watched = PTHREAD_ONCE_INIT;
 static atomic_bool is_watching;
 
 /* A wait with a time, as pthread_cond_timedwait. It sleeps in the real kernel, and ends once the simulated clock is
@@ -57,6 +59,16 @@ static bool is_asleep(int tasks, const char *thread) {
     return end && end[1] == ' ' && (end[2] == 'S' || end[2] == 'Z' || end[2] == 'X');
 }
 
+bool is_thread_asleep(long thread) {
+    int tasks = open("/proc/self/task", O_RDONLY | O_DIRECTORY | O_CLOEXEC);
+    char name[24];
+    bool so;
+    snprintf(name, sizeof name, "%ld", thread);
+    so = tasks >= 0 && is_asleep(tasks, name);
+    if (tasks >= 0) close(tasks);
+    return so;
+}
+
 /* Whether all threads but this one sleep. */
 static bool all_sleep(void) {
     DIR *tasks = opendir("/proc/self/task");
@@ -77,9 +89,18 @@ static void say_endless(int turns) {
         say("nothing has happened for a second: every thread sleeps, and no time ends a simulated wait");
 }
 
-/* Whether there is a moment to which the clock can go: the next one of the kernel, or the end of a wait with a time. */
-static bool find_moment(uint64_t *moment) {
+bool next_moment(uint64_t *moment) {
+    uint64_t alarm;
     bool has_one = nippersage_next_moment(the_kernel(), moment) == 1;
+    if (!next_alarm(&alarm) || (has_one && *moment <= alarm)) return has_one;
+    *moment = alarm;
+    return true;
+}
+
+/* Whether there is a moment to which the clock can go: the next one at which something happens, or the end of a wait
+   with a time. */
+static bool find_moment(uint64_t *moment) {
+    bool has_one = next_moment(moment);
     pthread_mutex_lock(&timed_lock);
     for (const struct timed *timed = all_timed; timed; timed = timed->next) {
         uint64_t end = (uint64_t)timed->end;
@@ -101,6 +122,7 @@ static void wake_timed(uint64_t moment) {
 /* Moves the clock on, if there is a moment to which it can go. */
 static bool move_clock(void) {
     uint64_t moment;
+    QUIET;
     if (!find_moment(&moment)) return false;
     bring_clock_to(moment);
     wake_timed(moment);
@@ -114,6 +136,7 @@ static _Noreturn void *watch(void *nothing) {
     unsigned long before = 0;
     int quiet = 0, still = 0; /* so many milliseconds without a call, and so many in which all slept, too */
     (void)nothing;
+    this_thread.is_counted = true; /* it takes no part */
     for (;;) {
         next_nanosleep()(&a_while, NULL);
         quiet = calls() == before ? quiet + 1 : 0;
@@ -130,9 +153,15 @@ static _Noreturn void *watch(void *nothing) {
 /* ---- threads that take part ---- */
 
 /* The last of a thread. */
-static void stop_counting(void *kernel) { nippersage_tasks(kernel, -1); }
+static void stop_counting(void *nothing) {
+    (void)nothing;
+    count_threads(-1);
+}
 
-static void count_this_thread(void) { pthread_setspecific(counted, self().kernel); }
+static void count_this_thread(void) {
+    this_thread.is_counted = true;
+    pthread_setspecific(counted, &this_thread);
+}
 
 /* Signals go to the program's own threads. */
 static void start_watching(void) {
@@ -149,12 +178,21 @@ static void start_watching(void) {
     pthread_sigmask(SIG_SETMASK, &before, NULL);
 }
 
-/* From the first pthread_create on threads are counted, the one that calls it among them. */
+void watch_threads(void) { pthread_once(&once_watched, start_watching); }
+
+/* The first thread is counted from the start. */
 static void start_counting(void) {
     if (pthread_key_create(&counted, stop_counting) != 0) abort();
-    nippersage_tasks(self().kernel, 1);
+    if (this_thread.is_counted) count_this_thread();
+    watch_threads();
+}
+
+/* One that pthread_create didn't make is counted from its first call on. */
+void join_threads(void) {
+    if (this_thread.is_counted) return;
+    pthread_once(&once, start_counting);
+    count_threads(1);
     count_this_thread();
-    start_watching();
 }
 
 struct thread {
@@ -162,32 +200,46 @@ struct thread {
     void *argument;
 };
 
-static void *run_counted(void *given) {
-    struct thread thread = *(struct thread *)given;
-    free(given);
+static struct thread *keep_thread(struct thread thread) {
+    struct thread *kept;
+    QUIET;
+    self();
+    kept = malloc(sizeof *kept);
+    if (kept) *kept = thread;
+    return kept;
+}
+
+static struct thread take_thread(struct thread *kept) {
+    struct thread thread = *kept;
+    QUIET;
     count_this_thread();
+    free(kept);
+    return thread;
+}
+
+static void *run_counted(void *kept) {
+    struct thread thread = take_thread(kept);
     return thread.run(thread.argument);
 }
 
 int pthread_create(pthread_t *made, const pthread_attr_t *attributes, void *(*run)(void *), void *argument) {
-    struct thread *thread = malloc(sizeof *thread);
+    struct thread *thread = keep_thread((struct thread){run, argument});
     int error;
     if (!thread) return EAGAIN;
-    *thread = (struct thread){run, argument};
     pthread_once(&once, start_counting);
-    nippersage_tasks(self().kernel, 1);
+    count_threads(1);
     error = next_pthread_create()(made, attributes, run_counted, thread);
     if (error != 0) {
-        nippersage_tasks(self().kernel, -1);
-        free(thread);
+        count_threads(-1);
+        take_thread(thread);
     }
     return error;
 }
 
 /* ---- waits with a time ---- */
 
-/* Which clock a time is by the time itself says: one begins at 0, the other at EPOCH_SECONDS. */
-static bool is_of_day(const struct timespec *time) { return time->tv_sec >= EPOCH_SECONDS / 2; }
+/* Which clock a time is by the time itself says: one begins at START, the other at EPOCH_SECONDS more. */
+static bool is_a_day(const struct timespec *time) { return time->tv_sec >= EPOCH_SECONDS / 2; }
 
 /* So much real time from now ends the wait's next sleep. */
 static void sleep_at_most(struct timed *timed, int64_t count) {
@@ -201,10 +253,11 @@ static void sleep_at_most(struct timed *timed, int64_t count) {
    end, for want of other threads, doesn't sleep. */
 static void begin_timed(struct timed *timed, const struct timespec *time, pthread_cond_t *changed) {
     int64_t now = (int64_t)moment_now(), end = milliseconds(time);
+    QUIET;
     *timed = (struct timed){.end = end, .changed = changed, .until = *time};
-    timed->clock = is_of_day(time) ? CLOCK_REALTIME : CLOCK_MONOTONIC;
+    timed->clock = is_a_day(time) ? CLOCK_REALTIME : CLOCK_MONOTONIC;
     if (end < 0) return;
-    if (is_of_day(time)) end -= (int64_t)EPOCH_SECONDS * 1000;
+    if (is_a_day(time)) end -= (int64_t)EPOCH_SECONDS * 1000;
     if (end < 0) end = 0;
     timed->end = end;
     timed->left = end <= now || !atomic_load(&is_watching) ? 0 : end - now + MORE;
@@ -232,10 +285,13 @@ static int error_of_timed(struct timed *timed, int error) {
 
 static void end_timed(const struct timed *timed) {
     struct timed **link = &all_timed;
+    int saved = errno;
+    QUIET;
     pthread_mutex_lock(&timed_lock);
     while (*link && *link != timed) link = &(*link)->next;
     if (*link) *link = timed->next;
     pthread_mutex_unlock(&timed_lock);
+    errno = saved;
 }
 
 /* A wait of the C library until `time`, which answers an error number; on a condition variable, or on NULL. */
@@ -287,20 +343,53 @@ TIMED_BY_ERRNO(sem_timedwait, int, (sem_t *restrict semaphore, const struct time
 TIMED_BY_ERRNO(sem_clockwait, int, (sem_t *restrict semaphore, clockid_t clock, const struct timespec *restrict time),
                (semaphore, clock, &timed.until))
 
-/* Rust's standard library waits so, until a moment; a FUTEX_WAIT is as long as it says. */
+/* One that is to last so long ends at this moment of CLOCK_MONOTONIC. */
+static struct timespec end_of(int64_t count) {
+    static const int64_t most = INT64_C(400000000000); /* 12 years */
+    return timespec_of(moment_now() + (uint64_t)(count < most ? count : most));
+}
+
+/* Until a moment waits FUTEX_WAIT_BITSET, as Rust's standard library does, and for so long FUTEX_WAIT, as that of C++
+   does. Both are FUTEX_WAIT_BITSET here. */
 long call_futex(const long given[6]) {
     const struct timespec *time = (const struct timespec *)given[3];
-    bool has_end = (given[1] & FUTEX_CMD_MASK) == FUTEX_WAIT_BITSET && time;
+    int command = (int)given[1] & FUTEX_CMD_MASK;
+    bool is_until = command == FUTEX_WAIT_BITSET, is_for = command == FUTEX_WAIT;
+    long operation = is_until ? given[1] : FUTEX_WAIT_BITSET | (given[1] & FUTEX_PRIVATE_FLAG);
+    long bits = is_until ? given[5] : (long)FUTEX_BITSET_MATCH_ANY, status;
+    struct timespec end;
     struct timed timed;
-    long status;
     int error = 0;
-    if (!has_end) return next_syscall()(SYS_futex, given[0], given[1], given[2], given[3], given[4], given[5]);
-    begin_timed(&timed, time, NULL);
+    if (!time || !(is_until || (is_for && milliseconds(time) >= 0)))
+        return next_syscall()(SYS_futex, given[0], given[1], given[2], given[3], given[4], given[5]);
+    end = is_until ? *time : end_of(milliseconds(time));
+    begin_timed(&timed, &end, NULL);
     do {
-        status = next_syscall()(SYS_futex, given[0], given[1], given[2], &timed.until, given[4], given[5]);
+        bool has_slept = error == SLEEP_ON;
+        status = next_syscall()(SYS_futex, given[0], operation, given[2], &timed.until, given[4], bits);
+        /* Who wakes it has changed the word, perhaps between two of its sleeps. */
+        if (status < 0 && errno == EAGAIN && has_slept) status = 0;
         if (status < 0) error = errno == ETIMEDOUT ? error_of_timed(&timed, ETIMEDOUT) : errno;
     } while (status < 0 && errno == ETIMEDOUT && error == SLEEP_ON);
     end_timed(&timed);
     if (status < 0) errno = error;
     return status;
+}
+
+/* A signal that is blocked wakes nobody but who asks for it, so this asks each millisecond. */
+int sigtimedwait(const sigset_t *restrict set, siginfo_t *restrict info, const struct timespec *restrict time) {
+    struct timespec slice = {0, 0}, end;
+    struct timed timed;
+    int signal, error = 0;
+    if (!time || milliseconds(time) < 0) return next_sigtimedwait()(set, info, time);
+    end = end_of(milliseconds(time));
+    begin_timed(&timed, &end, NULL);
+    do {
+        if (timed.left > 0) slice.tv_nsec = 1000000;
+        signal = next_sigtimedwait()(set, info, &slice);
+        if (signal < 0) error = errno == EAGAIN ? error_of_timed(&timed, ETIMEDOUT) : errno;
+    } while (signal < 0 && error == SLEEP_ON);
+    end_timed(&timed);
+    if (signal < 0) errno = error == ETIMEDOUT ? EAGAIN : error;
+    return signal;
 }

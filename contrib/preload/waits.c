@@ -14,7 +14,21 @@ FORWARD(pselect)
 
 /* A program that polls goes on until its clock has gone on. So a poll that finds nothing takes a millisecond. */
 static void take_a_while(int found, int64_t timeout) {
-    if (found == 0 && timeout == 0) nippersage_tick(self(), 1);
+    if (found == 0 && timeout == 0) bring_clock_to(moment_now() + 1);
+}
+
+/* A mask of signals for the time of a wait, if there is one. */
+struct masking {
+    const sigset_t *mask;
+    uint64_t before;
+};
+
+static struct masking begin_masking(const sigset_t *mask) {
+    return (struct masking){mask, mask ? swap_mask(mask) : 0};
+}
+
+static void end_masking(struct masking masking) {
+    if (masking.mask) put_mask_back(masking.before);
 }
 
 /* ---- epoll ---- */
@@ -36,6 +50,7 @@ static bool is_open(int fd) {
 
 int epoll_ctl(int epfd, int op, int fd, struct epoll_event *event) {
     int status = -EBADF;
+    QUIET;
     if (!is_simulated(epfd) && epfd >= 0)
         return refuse(EBADF, "epoll_ctl(%d): no simulated instance has this descriptor", epfd);
     if (!is_simulated(fd) && fd >= 0)
@@ -45,57 +60,89 @@ int epoll_ctl(int epfd, int op, int fd, struct epoll_event *event) {
                        event_text(TEXT, op == EPOLL_CTL_DEL ? NULL : event));
 }
 
-static int wait_in(int epfd, struct epoll_event *events, int most, int64_t timeout, const char *call) {
-    int count = is_open(epfd) ? wait_at(epfd - FIRST, events, most, timeout, call) : -EBADF;
+static int wait_in(int epfd, struct epoll_event *events, int most, int64_t timeout, const sigset_t *mask,
+                   const char *call) {
+    QUIET;
+    struct description *description = hold(epfd);
+    struct wait wait = {.instance = epfd - FIRST, .place = description, .events = events, .most = most,
+                        .timeout = timeout, .call = call};
+    struct masking masking = begin_masking(mask);
+    int count = -EBADF;
+    if (description) {
+        count = wait_at(&wait);
+        let_go(description);
+    }
+    end_masking(masking);
     take_a_while(count, timeout);
     return (int)ANSWER(count, "%s(%d, %s, %d, %lld)", call, epfd, reports_text(TEXT, events, count), most,
                        (long long)timeout);
 }
 
 int epoll_wait(int epfd, struct epoll_event *events, int most, int timeout) {
-    return wait_in(epfd, events, most, timeout, "epoll_wait");
+    return wait_in(epfd, events, most, timeout, NULL, "epoll_wait");
 }
 
 int epoll_pwait(int epfd, struct epoll_event *events, int most, int timeout, const sigset_t *mask) {
-    if (mask) return refuse(ENOSYS, "epoll_pwait(%d): masks of signals are not simulated", epfd);
-    return wait_in(epfd, events, most, timeout, "epoll_pwait");
+    return wait_in(epfd, events, most, timeout, mask, "epoll_pwait");
 }
 
 int epoll_pwait2(int epfd, struct epoll_event *events, int most, const struct timespec *timeout, const sigset_t *mask) {
     int64_t least = timeout ? milliseconds(timeout) : -1;
-    if (mask) return refuse(ENOSYS, "epoll_pwait2(%d): masks of signals are not simulated", epfd);
     if (timeout && least < 0) return (int)ANSWER(-EINVAL, "epoll_pwait2(%d)", epfd);
-    return wait_in(epfd, events, most, least, "epoll_pwait2");
+    return wait_in(epfd, events, most, least, mask, "epoll_pwait2");
 }
 
 /* ---- calls that block ---- */
 
-int wait_for_arrival(struct block *block, int fd, uint32_t events, const char *call) {
+/* 0, or minus an error number: -EAGAIN where the time is over, -EINTR after a handler. */
+int wait_for_arrival(struct block *block, int fd, uint32_t events) {
+    QUIET;
     struct epoll_event event = {.events = events | EPOLLET};
+    struct wait wait = {.events = &event, .most = 1, .timeout = -1, .call = block->call, .restarts = block->restarts};
+    uint64_t now = moment_now();
     int status = 0;
+    if (block->end != FOREVER) wait.timeout = block->end > now ? (int64_t)(block->end - now) : 0;
+    if (wait.timeout == 0) return -EAGAIN;
     if (block->instance < 0) {
         status = make_own_instance();
         if (status < 0) return status;
         block->instance = status;
         status = nippersage_epoll_ctl(self(), block->instance, EPOLL_CTL_ADD, fd - FIRST, &event);
     }
-    if (status < 0) return status;
-    return wait_at(block->instance, &event, 1, -1, call);
+    wait.instance = block->instance;
+    if (status == 0) status = wait_at(&wait);
+    return status > 0 ? 0 : status == 0 ? -EAGAIN : status;
 }
 
 void end_block(struct block *block) {
-    if (block->instance >= 0) end_own_instance(block->instance);
+    if (block->instance >= 0) end_own(block->instance);
 }
 
 /* ---- poll and select ---- */
 
-/* What is waited for, and what was found, by the kernel's number. */
+/* What is waited for, and what was found, by the kernel's number: NUMBERS of each, from the first simulated one on. */
 struct sought {
-    uint32_t wanted[NUMBERS];
-    uint32_t shown[NUMBERS];
+    uint32_t *wanted;
+    uint32_t *shown;
     int highest; /* no number above it is wanted */
-    bool has_simulated, has_real, has_closed;
+    bool has_simulated, has_real, has_closed, has_found, lacks_memory;
 };
+
+static bool begin_sought(struct sought *sought) {
+    if (!sought->wanted) {
+        sought->wanted = calloc(2 * (size_t)NUMBERS, sizeof *sought->wanted);
+        sought->shown = sought->wanted ? sought->wanted + NUMBERS : NULL;
+        sought->lacks_memory = !sought->wanted;
+    }
+    return !sought->lacks_memory;
+}
+
+static void end_sought(struct sought *sought) { free(sought->wanted); }
+
+/* Gives its room back at the end of the function, whichever that is. */
+#define SOUGHT __attribute__((cleanup(end_sought))) struct sought
+
+static bool finds_any(const struct sought *sought) { return sought->has_found || sought->has_closed; }
 
 /* Beside the events that are wanted of a number: it is wanted, though perhaps with no event. */
 enum { IS_WANTED = 1 << 16 };
@@ -111,6 +158,7 @@ static void want(struct sought *sought, int fd, uint32_t events) {
         sought->has_closed = true;
         return;
     }
+    if (!begin_sought(sought)) return;
     sought->wanted[fd - FIRST] |= events | IS_WANTED;
     if (fd - FIRST > sought->highest) sought->highest = fd - FIRST;
 }
@@ -142,22 +190,25 @@ struct source {
 };
 
 static int wait_once(struct sought *sought, const struct source *from, int64_t timeout, const char *call) {
-    int count = wait_at(from->instance, from->events, NUMBERS, sought->has_closed ? 0 : timeout, call);
+    struct wait wait = {.instance = from->instance, .events = from->events, .most = NUMBERS,
+                        .timeout = sought->has_closed ? 0 : timeout, .call = call};
+    int count = wait_at(&wait);
     for (int i = 0; i < count; i++) sought->shown[from->events[i].data.u64] = from->events[i].events;
+    sought->has_found = count > 0;
     if (!sought->has_closed) take_a_while(count, timeout);
     return count;
 }
 
 /* Waits until one of them shows something, or the time has passed. 0, or minus an error number. */
 static int seek(struct sought *sought, int64_t timeout, const char *call) {
-    struct source from = {-ENOMEM, malloc(NUMBERS * sizeof *from.events)};
+    struct source from = {-ENOMEM, sought->lacks_memory ? NULL : malloc((size_t)NUMBERS * sizeof *from.events)};
     int status;
     if (from.events) from.instance = make_own_instance();
     status = from.instance;
     if (from.instance >= 0) {
         status = register_all(sought, from.instance);
         if (status == 0) status = wait_once(sought, &from, timeout, call);
-        end_own_instance(from.instance);
+        end_own(from.instance);
     }
     free(from.events);
     return status < 0 ? status : 0;
@@ -165,7 +216,7 @@ static int seek(struct sought *sought, int64_t timeout, const char *call) {
 
 /* The answer to a wait on real descriptors only: while it passed, time went on here, too. */
 static int real_answer(int found, int64_t timeout) {
-    if (found == 0 && timeout > 0) nippersage_tick(self(), (uint64_t)timeout);
+    if (found == 0 && timeout > 0) bring_clock_to(moment_now() + (uint64_t)timeout);
     return found;
 }
 
@@ -184,13 +235,13 @@ static int put_shown(const struct sought *sought, struct pollfd *files, nfds_t c
     return found;
 }
 
-static int poll_simulated(struct sought *sought, struct pollfd *files, nfds_t count, int64_t timeout) {
-    int status = 0;
-    if (sought->has_simulated) {
-        status = seek(sought, timeout, "poll");
-    } else {
-        sleep_for(timeout, "poll");
-    }
+static int poll_simulated(struct sought *sought, struct pollfd *files, nfds_t count, int64_t timeout,
+                          const sigset_t *mask) {
+    QUIET;
+    struct masking masking = begin_masking(mask);
+    int status = sought->has_simulated ? seek(sought, timeout, "poll") : sleep_for(timeout, "poll");
+    if (status == 0 && mask && timeout == 0 && !finds_any(sought) && let_pending_run()) status = -EINTR;
+    end_masking(masking);
     if (status == 0) status = put_shown(sought, files, count);
     return (int)ANSWER(status, "poll(..., %lu, %lld)", count, (long long)timeout);
 }
@@ -200,22 +251,21 @@ static void want_all(struct sought *sought, struct pollfd *files, nfds_t count) 
 }
 
 int poll(struct pollfd *files, nfds_t count, int timeout) {
-    struct sought sought = {.highest = -1};
+    SOUGHT sought = {.highest = -1};
     want_all(&sought, files, count);
     if (sought.has_real && sought.has_simulated) return mixes("poll");
     if (sought.has_real) return real_answer(next_poll()(files, count, timeout), timeout);
-    return poll_simulated(&sought, files, count, timeout);
+    return poll_simulated(&sought, files, count, timeout, NULL);
 }
 
 int ppoll(struct pollfd *files, nfds_t count, const struct timespec *time, const sigset_t *mask) {
-    struct sought sought = {.highest = -1};
+    SOUGHT sought = {.highest = -1};
     int64_t timeout = time ? milliseconds(time) : -1;
     want_all(&sought, files, count);
     if (sought.has_real && sought.has_simulated) return mixes("ppoll");
     if (sought.has_real) return real_answer(next_ppoll()(files, count, time, mask), timeout);
-    if (mask) return refuse(ENOSYS, "ppoll: masks of signals are not simulated");
     if (time && timeout < 0) return (int)ANSWER(-EINVAL, "ppoll(..., %lu)", count);
-    return poll_simulated(&sought, files, count, timeout);
+    return poll_simulated(&sought, files, count, timeout, mask);
 }
 
 int __poll_chk(struct pollfd *files, nfds_t count, int timeout, size_t room);
@@ -252,13 +302,13 @@ static int put_sets(const struct sought *sought, int most, const struct sets *se
     return found;
 }
 
-static int select_simulated(struct sought *sought, int most, const struct sets *sets, int64_t timeout) {
-    int status = 0;
-    if (sought->has_simulated) {
-        status = seek(sought, timeout, "select");
-    } else {
-        sleep_for(timeout, "select");
-    }
+static int select_simulated(struct sought *sought, int most, const struct sets *sets, int64_t timeout,
+                            const sigset_t *mask) {
+    QUIET;
+    struct masking masking = begin_masking(mask);
+    int status = sought->has_simulated ? seek(sought, timeout, "select") : sleep_for(timeout, "select");
+    if (status == 0 && mask && timeout == 0 && !finds_any(sought) && let_pending_run()) status = -EINTR;
+    end_masking(masking);
     if (status == 0 && sought->has_closed) status = -EBADF;
     if (status == 0) status = put_sets(sought, most, sets);
     return (int)ANSWER(status, "select(%d, ..., %lld)", most, (long long)timeout);
@@ -267,7 +317,7 @@ static int select_simulated(struct sought *sought, int most, const struct sets *
 /* As Linux does, tells in *time how much of it is left. */
 int select(int most, fd_set *reads, fd_set *writes, fd_set *excepts, struct timeval *time) {
     struct sets sets = {{reads, writes, excepts}};
-    struct sought sought = {.highest = -1};
+    SOUGHT sought = {.highest = -1};
     struct timespec given = {time ? time->tv_sec : 0, time ? time->tv_usec * 1000 : 0};
     int64_t timeout = time ? milliseconds(&given) : -1;
     uint64_t end = moment_now() + (uint64_t)(timeout < 0 ? 0 : timeout), now;
@@ -276,7 +326,7 @@ int select(int most, fd_set *reads, fd_set *writes, fd_set *excepts, struct time
     if (sought.has_real && sought.has_simulated) return mixes("select");
     if (sought.has_real) return real_answer(next_select()(most, reads, writes, excepts, time), timeout);
     if (time && timeout < 0) return (int)ANSWER(-EINVAL, "select(%d)", most);
-    found = select_simulated(&sought, most, &sets, timeout);
+    found = select_simulated(&sought, most, &sets, timeout, NULL);
     now = moment_now();
     given = timespec_of(now < end ? end - now : 0);
     if (time) *time = (struct timeval){given.tv_sec, given.tv_nsec / 1000};
@@ -286,12 +336,11 @@ int select(int most, fd_set *reads, fd_set *writes, fd_set *excepts, struct time
 int pselect(int most, fd_set *reads, fd_set *writes, fd_set *excepts, const struct timespec *time,
             const sigset_t *mask) {
     struct sets sets = {{reads, writes, excepts}};
-    struct sought sought = {.highest = -1};
+    SOUGHT sought = {.highest = -1};
     int64_t timeout = time ? milliseconds(time) : -1;
     want_sets(&sought, most, &sets);
     if (sought.has_real && sought.has_simulated) return mixes("pselect");
     if (sought.has_real) return real_answer(next_pselect()(most, reads, writes, excepts, time, mask), timeout);
-    if (mask) return refuse(ENOSYS, "pselect: masks of signals are not simulated");
     if (time && timeout < 0) return (int)ANSWER(-EINVAL, "pselect(%d)", most);
-    return select_simulated(&sought, most, &sets, timeout);
+    return select_simulated(&sought, most, &sets, timeout, mask);
 }

@@ -8,6 +8,7 @@
 #include <stdlib.h>
 #include <sys/epoll.h>
 #include <sys/ioctl.h>
+#include <sys/sendfile.h>
 #include <sys/socket.h>
 #include <sys/syscall.h>
 #include <sys/uio.h>
@@ -27,14 +28,14 @@ static void descriptors(void) {
     tell("pipe", pipe(ends));
     tell("add a real one", epoll_ctl(instance, EPOLL_CTL_ADD, 0, &event));
     tell("add to a real one", epoll_ctl(0, EPOLL_CTL_ADD, ends[0], &event));
-    tell("signals", epoll_pwait(instance, &event, 1, 0, &mask));
     files[1].fd = ends[0];
     tell("poll of both", poll(files, 2, 0));
     tell("onto a real one", dup2(ends[1], 1));
     tell("lock", fcntl(ends[0], F_SETPIPE_SZ, 4096));
     tell("ioctl", ioctl(ends[0], TIOCGWINSZ, &mask));
     tell("pread", pread(ends[0], &mask, 1, 0));
-    tell("splice", splice(ends[0], NULL, 1, NULL, 1, 0));
+    tell("tee", tee(ends[0], ends[1], 1, 0));
+    tell("sendfile", sendfile(1, ends[0], NULL, 1));
     tell("stream", fdopen(ends[0], "r") ? 0 : -1);
     tell("a number of nobody", (close(ends[0]), read(ends[0], &mask, 1)));
 }
@@ -42,12 +43,23 @@ static void descriptors(void) {
 static void sockets(void) {
     char bytes[4];
     int sides[2], on = 1;
+    socklen_t size = sizeof on;
     tell("datagrams", socketpair(AF_UNIX, SOCK_DGRAM, 0, sides));
     tell("socketpair", socketpair(AF_UNIX, SOCK_STREAM, 0, sides));
-    tell("peek", recv(sides[0], bytes, 1, MSG_PEEK));
-    tell("option", setsockopt(sides[0], SOL_SOCKET, SO_RCVBUF, &on, sizeof on));
-    tell("shutdown", shutdown(sides[0], SHUT_RD));
+    tell("out of band", recv(sides[0], bytes, 1, MSG_OOB));
+    tell("out of band", send(sides[0], bytes, 1, MSG_OOB));
+    tell("peek at all", recv(sides[0], bytes, 1, MSG_PEEK | MSG_WAITALL));
+    tell("option", setsockopt(sides[0], SOL_SOCKET, SO_PASSCRED, &on, sizeof on));
+    tell("another one", getsockopt(sides[0], SOL_SOCKET, SO_PEERSEC, &on, &size));
     tell("accept", accept(sides[0], NULL, NULL));
+}
+
+static void timers(void) {
+    struct sigevent event = {.sigev_notify = SIGEV_THREAD};
+    timer_t timer;
+    tell("threads of a timer", timer_create(CLOCK_MONOTONIC, &event, &timer));
+    tell("timer by number", syscall(SYS_timer_create, CLOCK_MONOTONIC, NULL, &timer));
+    tell("handler by number", syscall(SYS_rt_sigaction, SIGUSR1, NULL, NULL, 8));
 }
 
 static void processes(void) {
@@ -63,6 +75,7 @@ int main(void) {
     struct epoll_event event;
     descriptors();
     sockets();
+    timers();
     processes();
     tell("no end", epoll_wait(epoll_create1(0), &event, 1, -1));
     return 0;

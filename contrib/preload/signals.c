@@ -1,0 +1,328 @@
+/* Handlers of signals. The real kernel sends signals and runs handlers, as ever; but each handler of the program is
+ * run by a function of this file, for two reasons.
+ *
+ * A call of the shim holds locks. So, as a system call does, it runs no handler: one that comes meanwhile is held back
+ * until the call ends or sleeps. Then no lock is held, and the handler may call what it likes.
+ *
+ * A wait has to know that a handler has run in it, for it answers EINTR then. */
+#include "preload.h"
+
+#include <pthread.h>
+#include <signal.h>
+#include <sys/syscall.h>
+#include <ucontext.h>
+
+FORWARD(sigaction)
+FORWARD(syscall)
+
+/* Signals as the real kernel keeps them: bit n - 1 for signal n. The C library's set is larger. */
+#define BIT(signal) (UINT64_C(1) << ((signal) - 1))
+/* All but the two that the C library keeps for itself. */
+#define ALL (~(BIT(32) | BIT(33)))
+#define FAULTS (BIT(SIGSEGV) | BIT(SIGBUS) | BIT(SIGFPE) | BIT(SIGILL) | BIT(SIGTRAP) | BIT(SIGSYS))
+enum { MOST_SIGNALS = 64 };
+
+_Thread_local struct thread_state this_thread;
+
+/* What the program asked for. The lock is held while all signals are blocked or held back. */
+static pthread_mutex_t lock = PTHREAD_MUTEX_INITIALIZER;
+static struct sigaction actions[MOST_SIGNALS + 1];
+static _Atomic uint64_t handled; /* the signals that have a handler */
+
+static uint64_t bits_of(const sigset_t *set) {
+    uint64_t bits;
+    memcpy(&bits, set, sizeof bits);
+    return bits & ~(BIT(32) | BIT(33));
+}
+
+static uint64_t set_mask(uint64_t mask) {
+    uint64_t before = 0;
+    next_syscall()(SYS_rt_sigprocmask, SIG_SETMASK, &mask, &before, sizeof mask);
+    return before;
+}
+
+/* ---- calls that hold handlers back ---- */
+
+int begin_quiet(void) {
+    this_thread.quiet++;
+    atomic_signal_fence(memory_order_seq_cst);
+    return 0;
+}
+
+void end_quiet_within(const int *unused) {
+    (void)unused;
+    atomic_signal_fence(memory_order_seq_cst);
+    this_thread.quiet--;
+    atomic_signal_fence(memory_order_seq_cst);
+    if (this_thread.quiet == 0) let_handlers_run();
+}
+
+void end_quiet(const int *unused) {
+    if (this_thread.quiet == 1) wake_sleepers();
+    end_quiet_within(unused);
+}
+
+/* What was held back is sent again, to this thread, while all signals are blocked: so the real kernel runs the handlers
+   as it would have. */
+static void send_held(void) {
+    while (this_thread.first_held < this_thread.held_count) {
+        siginfo_t info = this_thread.held[this_thread.first_held++];
+        if (this_thread.first_held == this_thread.held_count) this_thread.first_held = this_thread.held_count = 0;
+        if (next_syscall()(SYS_rt_tgsigqueueinfo, getpid(), next_syscall()(SYS_gettid), info.si_signo, &info) != 0)
+            say("a signal %d is lost: %s", info.si_signo, strerrordesc_np(errno));
+    }
+}
+
+void let_handlers_run(void) {
+    int saved = errno;
+    if (!this_thread.is_held_back) return;
+    send_held();
+    this_thread.is_held_back = false;
+    set_mask(this_thread.mask);
+    errno = saved;
+}
+
+bool let_pending_run(void) {
+    unsigned long before = this_thread.handlers;
+    int quiet = this_thread.quiet;
+    atomic_signal_fence(memory_order_seq_cst);
+    this_thread.quiet = 0;
+    atomic_signal_fence(memory_order_seq_cst);
+    let_handlers_run();
+    this_thread.quiet = quiet;
+    atomic_signal_fence(memory_order_seq_cst);
+    return this_thread.handlers != before;
+}
+
+/* From here on this thread has all signals blocked. Under valgrind it hasn't, so there is room for some more. */
+static void hold_back(int signal, siginfo_t *info, ucontext_t *interrupted) {
+    uint64_t all = ALL;
+    if (!this_thread.is_held_back) {
+        this_thread.is_held_back = true;
+        this_thread.mask = bits_of(&interrupted->uc_sigmask);
+    }
+    /* The real kernel's set here has 8 bytes: what is behind them isn't of the set. */
+    memcpy(&interrupted->uc_sigmask, &all, sizeof all);
+    if (this_thread.held_count == MOST_HELD) {
+        say("a signal %d is lost: too many came at once", signal);
+    } else {
+        this_thread.held[this_thread.held_count] = *info;
+        this_thread.held[this_thread.held_count++].si_signo = signal;
+    }
+}
+
+/* ---- running a handler ---- */
+
+static bool is_function(const struct sigaction *action) {
+    return action->sa_handler != SIG_DFL && action->sa_handler != SIG_IGN;
+}
+
+/* What the program asked for of a signal. That of SA_RESETHAND is forgotten. */
+static struct sigaction take_action(int signal) {
+    struct sigaction action, none = {.sa_handler = SIG_DFL};
+    pthread_mutex_lock(&lock);
+    action = actions[signal];
+    if (is_function(&action) && (action.sa_flags & (int)SA_RESETHAND)) {
+        actions[signal].sa_handler = SIG_DFL;
+        atomic_fetch_and(&handled, ~BIT(signal));
+        next_sigaction()(signal, &none, NULL);
+    }
+    pthread_mutex_unlock(&lock);
+    return action;
+}
+
+/* Runs with all signals blocked, as each action asks for. The handler runs with the mask that the program asked for. */
+static void run_handler(int signal, siginfo_t *info, ucontext_t *interrupted) {
+    struct sigaction action = take_action(signal);
+    uint64_t mask = bits_of(&interrupted->uc_sigmask) | bits_of(&action.sa_mask);
+    struct sleeper *in = this_thread.innermost;
+    if (!is_function(&action)) {
+        if (action.sa_handler == SIG_DFL) raise(signal);
+        return;
+    }
+    if (!(action.sa_flags & SA_NODEFER)) mask |= BIT(signal);
+    this_thread.handlers++;
+    if (in) begin_handler_in(in, action.sa_flags & SA_RESTART);
+    set_mask(mask);
+    if (action.sa_flags & SA_SIGINFO) {
+        action.sa_sigaction(signal, info, interrupted);
+    } else {
+        action.sa_handler(signal);
+    }
+    if (in) end_handler_in(in);
+}
+
+/* Faults can't wait: what follows them is wrong. */
+static void arrive(int signal, siginfo_t *info, void *context) {
+    bool is_fault = (FAULTS & BIT(signal)) && info->si_code > 0;
+    int saved = errno;
+    if (this_thread.quiet > 0 && !is_fault) {
+        hold_back(signal, info, context);
+    } else {
+        if (this_thread.innermost) disturb(this_thread.innermost);
+        run_handler(signal, info, context);
+    }
+    errno = saved;
+}
+
+/* ---- what the program asks for ---- */
+
+static struct sigaction real_action(const struct sigaction *asked) {
+    struct sigaction real = *asked;
+    if (!is_function(asked)) return real;
+    real.sa_sigaction = arrive;
+    real.sa_flags = (asked->sa_flags & ~(SA_NODEFER | (int)SA_RESETHAND)) | SA_SIGINFO;
+    sigfillset(&real.sa_mask);
+    return real;
+}
+
+static void keep_action(int signal, const struct sigaction *action) {
+    actions[signal] = *action;
+    if (is_function(action)) {
+        atomic_fetch_or(&handled, BIT(signal));
+    } else {
+        atomic_fetch_and(&handled, ~BIT(signal));
+    }
+}
+
+int sigaction(int signal, const struct sigaction *given, struct sigaction *before) {
+    struct sigaction was = {.sa_handler = SIG_DFL}, real, asked;
+    int status;
+    QUIET;
+    if (signal < 1 || signal > MOST_SIGNALS) return next_sigaction()(signal, given, before);
+    next_syscall(); /* is found now, and not in a handler */
+    if (given) {
+        asked = *given;
+        real = real_action(given);
+    }
+    pthread_mutex_lock(&lock);
+    status = next_sigaction()(signal, given ? &real : NULL, &was);
+    if (status == 0 && was.sa_sigaction == arrive) was = actions[signal];
+    if (status == 0 && given) keep_action(signal, &asked);
+    pthread_mutex_unlock(&lock);
+    if (status == 0 && before) *before = was;
+    return status;
+}
+
+/* The handler before, or SIG_ERR. */
+static sighandler_t set_handler(int signal, sighandler_t handler, int flags) {
+    struct sigaction action = {.sa_handler = handler, .sa_flags = flags}, before;
+    if (handler == SIG_ERR) {
+        errno = EINVAL;
+        return SIG_ERR;
+    }
+    if (!(flags & SA_NODEFER)) sigaddset(&action.sa_mask, signal);
+    return sigaction(signal, &action, &before) == 0 ? before.sa_handler : SIG_ERR;
+}
+
+static _Atomic uint64_t interrupting; /* the signals for which siginterrupt was called */
+
+sighandler_t signal(int signal, sighandler_t handler) {
+    bool breaks = signal >= 1 && signal <= MOST_SIGNALS && (atomic_load(&interrupting) & BIT(signal));
+    return set_handler(signal, handler, breaks ? 0 : SA_RESTART);
+}
+
+sighandler_t ssignal(int number, sighandler_t handler) { return signal(number, handler); }
+
+sighandler_t bsd_signal(int number, sighandler_t handler);
+sighandler_t bsd_signal(int number, sighandler_t handler) { return signal(number, handler); }
+
+sighandler_t sysv_signal(int signal, sighandler_t handler) {
+    return set_handler(signal, handler, (int)SA_RESETHAND | SA_NODEFER);
+}
+
+/* What signal is in a program that was compiled for System V. */
+sighandler_t __sysv_signal(int signal, sighandler_t handler) { return sysv_signal(signal, handler); }
+
+/* The mask is part of what it says and sets. */
+sighandler_t sigset(int signal, sighandler_t handler) {
+    struct sigaction action;
+    sigset_t one, before;
+    sigemptyset(&one);
+    if (sigaddset(&one, signal) != 0) return SIG_ERR;
+    if (handler != SIG_HOLD) {
+        sighandler_t was = set_handler(signal, handler, 0);
+        if (was == SIG_ERR || pthread_sigmask(SIG_UNBLOCK, &one, &before) != 0) return SIG_ERR;
+        return sigismember(&before, signal) ? SIG_HOLD : was;
+    }
+    if (sigaction(signal, NULL, &action) != 0 || pthread_sigmask(SIG_BLOCK, &one, &before) != 0) return SIG_ERR;
+    return sigismember(&before, signal) ? SIG_HOLD : action.sa_handler;
+}
+
+int sigignore(int signal) { return set_handler(signal, SIG_IGN, 0) == SIG_ERR ? -1 : 0; }
+
+int siginterrupt(int signal, int breaks) {
+    struct sigaction action;
+    if (sigaction(signal, NULL, &action) != 0) return -1;
+    if (breaks) {
+        atomic_fetch_or(&interrupting, BIT(signal));
+        action.sa_flags &= ~SA_RESTART;
+    } else {
+        atomic_fetch_and(&interrupting, ~BIT(signal));
+        action.sa_flags |= SA_RESTART;
+    }
+    return sigaction(signal, &action, NULL);
+}
+
+/* ---- for the rest of the shim ---- */
+
+uint64_t swap_mask(const sigset_t *set) {
+    uint64_t before = set_mask(ALL);
+    if (this_thread.is_held_back) before = this_thread.mask;
+    this_thread.is_held_back = true;
+    this_thread.mask = bits_of(set);
+    return before;
+}
+
+void put_mask_back(uint64_t before) {
+    set_mask(ALL);
+    this_thread.is_held_back = true;
+    this_thread.mask = before;
+}
+
+/* Such a signal does nothing, or stops the program, where it has no handler. */
+static bool ends_programs(int signal) {
+    return !((BIT(SIGCHLD) | BIT(SIGCONT) | BIT(SIGURG) | BIT(SIGWINCH) | BIT(SIGSTOP) | BIT(SIGTSTP) | BIT(SIGTTIN) |
+              BIT(SIGTTOU)) &
+             BIT(signal));
+}
+
+void keep_history_before(int signal) {
+    uint64_t mask = this_thread.mask;
+    struct sigaction action;
+    if (!this_thread.is_held_back) next_syscall()(SYS_rt_sigprocmask, SIG_BLOCK, NULL, &mask, sizeof mask);
+    if (!ends_programs(signal) || (mask & BIT(signal)) || next_sigaction()(signal, NULL, &action) != 0) return;
+    if (action.sa_handler == SIG_DFL) keep_history();
+}
+
+bool has_handlers(void) { return (atomic_load(&handled) & ~FAULTS) != 0; }
+
+void send_to_this_thread(int signal) {
+    keep_history_before(signal);
+    next_syscall()(SYS_tgkill, getpid(), next_syscall()(SYS_gettid), signal);
+}
+
+/* ---- waiting for a signal ---- */
+
+/* Sleeps until a handler has run. */
+static int await_handler(const char *call) {
+    struct epoll_event none;
+    struct wait wait = {.instance = sleeping_instance(), .events = &none, .most = 1, .timeout = -1, .call = call,
+                        .awaits_signal = true};
+    return wait_at(&wait);
+}
+
+int pause(void) {
+    QUIET;
+    return (int)ANSWER(await_handler("pause"), "pause()");
+}
+
+int sigsuspend(const sigset_t *set) {
+    uint64_t before;
+    int result;
+    QUIET;
+    before = swap_mask(set);
+    result = await_handler("sigsuspend");
+    put_mask_back(before);
+    return (int)ANSWER(result, "sigsuspend(...)");
+}

@@ -1,0 +1,168 @@
+/* What may not reach the real kernel: clocks that are set, files that get a made-up time, signals to everybody.
+   Simulated only; harm.out is what both streams have to say. A filter of the real kernel answers EXDEV to each of these
+   calls, so that none has an effect, whoever runs this and whatever the shim does. Without the filter nothing is
+   tried. */
+#include "trace.h"
+
+#include <fcntl.h>
+#include <linux/audit.h>
+#include <linux/filter.h>
+#include <linux/rtc.h>
+#include <linux/seccomp.h>
+#include <linux/sockios.h>
+#include <signal.h>
+#include <stddef.h>
+#include <stdlib.h>
+#include <sys/ioctl.h>
+#include <sys/prctl.h>
+#include <sys/stat.h>
+#include <sys/syscall.h>
+#include <sys/time.h>
+#include <sys/timex.h>
+#include <unistd.h>
+#include <utime.h>
+
+#define FIELD(name) (unsigned int)offsetof(struct seccomp_data, name)
+#define LOAD(name) BPF_STMT(BPF_LD | BPF_W | BPF_ABS, FIELD(name))
+#define REFUSED BPF_STMT(BPF_RET | BPF_K, SECCOMP_RET_ERRNO | EXDEV)
+#define ALLOWED BPF_STMT(BPF_RET | BPF_K, SECCOMP_RET_ALLOW)
+#define REFUSE(call) BPF_JUMP(BPF_JMP | BPF_JEQ | BPF_K, SYS_##call, 0, 1), REFUSED
+
+static int keep_from_harm(void) {
+    struct sock_filter filter[] = {
+        LOAD(nr),
+        REFUSE(clock_settime),
+        REFUSE(settimeofday),
+        REFUSE(adjtimex),
+        REFUSE(clock_adjtime),
+        /* kill and ioctl by what is asked of them */
+        BPF_JUMP(BPF_JMP | BPF_JEQ | BPF_K, SYS_kill, 0, 4),
+        LOAD(args[0]),
+        BPF_JUMP(BPF_JMP | BPF_JEQ | BPF_K, (unsigned int)-1, 1, 0),
+        BPF_JUMP(BPF_JMP | BPF_JEQ | BPF_K, 1, 0, 6),
+        REFUSED,
+        BPF_JUMP(BPF_JMP | BPF_JEQ | BPF_K, SYS_ioctl, 0, 4),
+        LOAD(args[1]),
+        BPF_JUMP(BPF_JMP | BPF_JEQ | BPF_K, (unsigned int)RTC_SET_TIME, 1, 0),
+        BPF_JUMP(BPF_JMP | BPF_JEQ | BPF_K, (unsigned int)RTC_ALM_SET, 0, 1),
+        REFUSED,
+        ALLOWED,
+    };
+    struct sock_fprog program = {sizeof filter / sizeof *filter, filter};
+    return prctl(PR_SET_NO_NEW_PRIVS, 1, 0, 0, 0) == 0 && prctl(PR_SET_SECCOMP, SECCOMP_MODE_FILTER, &program) == 0;
+}
+
+static void tell(const char *call, long result) {
+    printf("%s: %ld\n", call, outcome(result));
+    fflush(stdout);
+}
+
+/* Each sets a clock to the time that it has just told. */
+static void clocks(void) {
+    struct timespec now, again;
+    struct timeval day, by = {1, 0};
+    struct timex state = {.modes = ADJ_OFFSET, .offset = 1000};
+    struct ntptimeval told;
+    clock_gettime(CLOCK_REALTIME, &now);
+    gettimeofday(&day, NULL);
+    syscall(SYS_clock_gettime, CLOCK_REALTIME, &again);
+    printf("by number the same clock: %d\n", again.tv_sec - now.tv_sec <= 1);
+    fflush(stdout);
+    tell("clock_settime", clock_settime(CLOCK_REALTIME, &now));
+    tell("by number", syscall(SYS_clock_settime, CLOCK_REALTIME, &now));
+    tell("settimeofday", settimeofday(&day, NULL));
+    tell("by number", syscall(SYS_settimeofday, &day, NULL));
+    tell("adjtime", adjtime(&by, NULL));
+    tell("adjtimex", adjtimex(&state));
+    tell("by number", syscall(SYS_adjtimex, &state));
+    tell("ntp_adjtime", ntp_adjtime(&state));
+    tell("ntp_gettime", ntp_gettime(&told));
+    tell("clock_adjtime", clock_adjtime(CLOCK_REALTIME, &state));
+    tell("by number", syscall(SYS_clock_adjtime, CLOCK_REALTIME, &state));
+}
+
+static void machine_clock(void) {
+    int file = open("/dev/null", O_RDWR);
+    struct rtc_time time = {.tm_mday = 9, .tm_mon = 8, .tm_year = 101};
+    tell("RTC_SET_TIME", ioctl(file, RTC_SET_TIME, &time));
+    tell("by number", syscall(SYS_ioctl, file, RTC_SET_TIME, &time));
+    tell("RTC_ALM_SET", ioctl(file, RTC_ALM_SET, &time));
+    close(file);
+}
+
+/* Whether a file was changed in 2020 or later, and so not by a simulated clock. */
+static void tell_age(const char *path) {
+    struct stat status;
+    printf("time of the file: %s\n", stat(path, &status) == 0 && status.st_mtime > 1577836800 ? "real" : "made up");
+    fflush(stdout);
+}
+
+static void made_up_times(const char *path, int file) {
+    struct timespec now[2];
+    struct timeval day[2];
+    struct utimbuf old;
+    clock_gettime(CLOCK_REALTIME, &now[0]);
+    now[1] = now[0];
+    gettimeofday(&day[0], NULL);
+    day[1] = day[0];
+    old.actime = old.modtime = time(NULL);
+    tell("utimensat", utimensat(AT_FDCWD, path, now, 0));
+    tell("by number", syscall(SYS_utimensat, AT_FDCWD, path, now, 0));
+    tell("futimens", futimens(file, now));
+    tell("utimes", utimes(path, day));
+    tell("by number", syscall(SYS_utimes, path, day));
+    tell("lutimes", lutimes(path, day));
+    tell("futimes", futimes(file, day));
+    tell("futimesat", futimesat(AT_FDCWD, path, day));
+    tell("utime", utime(path, &old));
+    tell("by number", syscall(SYS_utime, path, &old));
+    now[0].tv_nsec = UTIME_OMIT;
+    tell("one of them", utimensat(AT_FDCWD, path, now, 0));
+    tell_age(path);
+}
+
+/* The real kernel's own time, and a time from elsewhere, as of another file. */
+static void other_times(const char *path, int file) {
+    struct timespec day[2] = {{1700000000, 5}, {1700000000, 5}}, present[2] = {{0, UTIME_NOW}, {0, UTIME_NOW}};
+    struct timeval short_day[2] = {{1700000001, 5}, {1700000001, 5}};
+    struct stat status;
+    tell("from elsewhere", utimensat(AT_FDCWD, path, day, 0));
+    stat(path, &status);
+    printf("has it: %d\n", status.st_mtime == 1700000000);
+    tell("by futimes", futimes(file, short_day));
+    stat(path, &status);
+    printf("has it: %d\n", status.st_mtime == 1700000001);
+    tell("now", futimens(file, present));
+    tell("now", utimes(path, NULL));
+    tell_age(path);
+}
+
+/* A program that takes fork's answer for a process. */
+static void signals(void) {
+    pid_t child = fork();
+    tell("kill", kill(child, SIGTERM));
+    tell("by number", syscall(SYS_kill, child, SIGTERM));
+    tell("its group", kill(-child, SIGTERM));
+    tell("killpg", killpg(1, SIGTERM));
+    tell("itself", kill(getpid(), SIGCONT));
+    tell("owner", fcntl(0, F_SETOWN, child));
+    tell("owner", ioctl(0, FIOSETOWN, &child));
+    tell("another owner", fcntl(0, F_SETOWN, getpid()));
+}
+
+int main(void) {
+    char path[] = "/tmp/nippersage-harm-XXXXXX";
+    int file;
+    if (!keep_from_harm()) {
+        printf("no filter\n");
+        return 0;
+    }
+    clocks();
+    machine_clock();
+    file = mkstemp(path);
+    made_up_times(path, file);
+    other_times(path, file);
+    unlink(path);
+    signals();
+    return 0;
+}
