@@ -43,12 +43,10 @@ class Band:
 
 
 class Picture:
-    """The picture of the records from `first` to `last`, which count from 0."""
+    """The picture of the records from `first` to `last`, which count from 0, of so many in all."""
 
-    def __init__(self, story, first, last, width):
-        self.story, self.first, self.last = story, first, last
-        if last - first + 1 > MOST_RECORDS:
-            raise TooMuch(f"{last - first + 1} records are too many for a picture, which has {MOST_RECORDS} at most")
+    def __init__(self, story, first, last, width, count):
+        self.story, self.first, self.last, self.count = story, first, last, count
         self.lives = self.played()
         self.waits = [it for it in story.waits if meets(it.began, it.ended, first, last)]
         self.registrations = [it for it in story.registrations if meets(it.added, it.gone, first, last)]
@@ -146,7 +144,7 @@ class Picture:
             y = self.draw_band(band, y) + BETWEEN
         width = self.width if len(self.bands) > 1 else max(self.bands[0].right + MARGIN, 620)
         height = self.draw_legend(y - 4, width)
-        lines = f"lines {self.first + 1} to {self.last + 1} of {len(self.story.records)}"
+        lines = f"lines {self.first + 1} to {self.last + 1} of {self.count}"
         return self.drawing.svg(width, height, f"A history: {lines}")
 
     def draw_band(self, band, y):

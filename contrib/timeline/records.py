@@ -1,6 +1,8 @@
 """Reads a history, a record a line, as docs/history.md has it. Needs Python 3.8."""
 
+import itertools
 import json
+import re
 from collections import namedtuple
 
 #: `line` counts from 1. `pid` and `call` are those of a call; `tick` is by how much a tick goes on; a resumption has
@@ -128,9 +130,40 @@ def read_record(line, raw):
     )
 
 
-def read_history(data):
-    """The records of these bytes. A line ends at byte 10, which the last may lack. Raises BadLine."""
+#: A tick that goes on, as `epsim` writes it.
+TICK = re.compile(rb'\{"answer":\{"done":true\},"caller":\d+,"event":\{"tick":(\d+)\},"picked":\[\]\}')
+
+
+def lines_of(data):
+    """The lines of these bytes. A line ends at byte 10, which the last may lack."""
     lines = data.split(b"\n")
     if lines[-1] == b"":
         lines.pop()
+    return lines
+
+
+def read_lines(lines):
+    """The records of these lines, which are the first of a history. Raises BadLine."""
     return [read_record(line, raw) for line, raw in enumerate(lines, 1)]
+
+
+def read_history(data):
+    """The records of these bytes. Raises BadLine."""
+    return read_lines(lines_of(data))
+
+
+def ticked(line, raw):
+    """By how much this line moves the clock on. Raises BadLine where it may be a tick and is no record."""
+    found = TICK.fullmatch(raw)
+    if found:
+        return int(found[1])
+    # (a tick in other words, or a key in disguise)
+    if b'"tick"' not in raw and b"\\" not in raw:
+        return 0
+    record = read_record(line, raw)
+    return record.tick if record.tick is not None and record.answer[0] == "done" else 0
+
+
+def moments(lines):
+    """The clock behind each of these lines, in milliseconds. It reads the ticks and no more. Raises BadLine."""
+    return itertools.accumulate(ticked(line, raw) for line, raw in enumerate(lines, 1))
