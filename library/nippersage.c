@@ -140,6 +140,13 @@ static struct nippersage_kernel *new_kernel(uint32_t watches) {
     return kernel;
 }
 
+/* What the library's builder says; who compiles this file by hand has proved nothing. */
+#ifndef NIPPERSAGE_MADE
+#define NIPPERSAGE_MADE "unproved"
+#endif
+
+const char *nippersage_version(void) { return NIPPERSAGE_MADE; }
+
 int nippersage_open(const struct nippersage_limits *limits, struct nippersage_kernel **kernel) {
     struct nippersage_kernel *made;
     struct ep_limits flat;
@@ -577,6 +584,16 @@ int nippersage_reserve(struct nippersage_kernel *kernel, size_t events) {
     if (!kernel) return -EINVAL;
     enter(kernel);
     result = ep_reserve(&kernel->handle, events);
+    leave(kernel);
+    return result;
+}
+
+int nippersage_records(struct nippersage_kernel *kernel, size_t *count) {
+    int result;
+    if (!kernel) return -EINVAL;
+    if (!count) return -EFAULT;
+    enter(kernel);
+    result = ep_records(&kernel->handle, count);
     leave(kernel);
     return result;
 }

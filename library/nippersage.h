@@ -57,6 +57,10 @@ struct nippersage_limits {
     uint32_t sock_bytes;  /* in one direction of a socket pair, 1 to 1,048,576; 65,536 */
 };
 
+/* The version of the library, and how it was made: "0.1.0, proved in logic .." where the kernel behind it was proved,
+ * "0.1.0, unproved" where nobody looked whether it can be. */
+const char *nippersage_version(void);
+
 struct nippersage_kernel;
 
 struct nippersage_task {
@@ -178,6 +182,9 @@ int nippersage_exit(struct nippersage_task task);
 
 /* Makes room for so many events more in the history, so that none asks for memory for its record. -ENOMEM. */
 int nippersage_reserve(struct nippersage_kernel *kernel, size_t events);
+
+/* How many records the history has: one for each event so far. */
+int nippersage_records(struct nippersage_kernel *kernel, size_t *count);
 
 /* Writes the history to a real descriptor, a record a line, as the program epaudit reads it. Minus the error of
  * write(2), and what stood before it has been written. Nothing else runs on the kernel meanwhile. */

@@ -4,6 +4,14 @@
 static struct nippersage_kernel *kernel;
 static struct nippersage_task one, two;
 
+/* The library says whether its kernel was proved. */
+static void version(void) {
+    const char *made = nippersage_version();
+    int length = (int)strcspn(made, ",");
+    IS(length > 4 && strspn(made, "0123456789.") == (size_t)length, 1);
+    IS(strcmp(made + length, ", unproved") == 0 || strncmp(made + length, ", proved in logic ", 18) == 0, 1);
+}
+
 static void opening(void) {
     struct nippersage_limits limits = {2, 4096, 64, 4096, 65536, 65536};
     struct nippersage_kernel *none = NULL;
@@ -248,8 +256,11 @@ static void history(void) {
                                 "\"pid\":1},\"picked\":[]}\n";
     char line[512];
     FILE *file = tmpfile();
-    int count = 0;
+    size_t count = 0, records = 0;
     IS(file != NULL, 1);
+    IS(nippersage_records(kernel, &records), 0);
+    IS(nippersage_records(NULL, &records), -EINVAL);
+    IS(nippersage_records(kernel, NULL), -EFAULT);
     IS(nippersage_reserve(kernel, 100), 0);
     IS(nippersage_reserve(kernel, SIZE_MAX), -ENOMEM);
     IS(nippersage_check(kernel), 0);
@@ -261,10 +272,12 @@ static void history(void) {
         count++;
     }
     IS(count > 50, 1);
+    IS(count, records);
     fclose(file);
 }
 
 int main(int argc, char **argv) {
+    version();
     opening();
     pipes();
     vectors();

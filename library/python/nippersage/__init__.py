@@ -19,7 +19,7 @@ refuses.
 """
 
 from ._kernel import Kernel, Part, Task
-from ._library import LIBRARY
+from ._library import LIBRARY, library_version
 from ._numbers import (
     ERR, ET, EXCLUSIVE, HUP, IN, ONESHOT, OUT, PRI, RDHUP, WAKEUP, Ended, Illegal, Limits,
 )
@@ -30,5 +30,5 @@ __version__ = "0.1.0"
 __all__ = [
     "IN", "PRI", "OUT", "ERR", "HUP", "RDHUP", "EXCLUSIVE", "WAKEUP", "ONESHOT", "ET",
     "Kernel", "Task", "Part", "Limits", "Ended", "Illegal", "audit",
-    "LIBRARY", "PROGRAM", "AUDITOR", "MOST_CALLS", "LONGEST_LINE",
+    "library_version", "LIBRARY", "PROGRAM", "AUDITOR", "MOST_CALLS", "LONGEST_LINE",
 ]

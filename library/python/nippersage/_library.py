@@ -101,8 +101,9 @@ _TAKEN: Dict[str, Tuple[Any, ...]] = {
     "write": (Who, c_int, c_char_p, c_size_t),
     "fork": (Who,),
     "free": (c_void_p,),
+    "version": (),
 }
-_ANSWERED = {"read": c_ssize_t, "write": c_ssize_t, "fork": c_int64, "free": None}
+_ANSWERED = {"read": c_ssize_t, "write": c_ssize_t, "fork": c_int64, "free": None, "version": c_char_p}
 
 
 class _Functions:
@@ -127,6 +128,12 @@ def _load(path: str) -> _Functions:
     if path not in _loaded:
         _loaded[path] = _Functions(path)
     return _loaded[path]
+
+
+def library_version() -> Optional[str]:
+    """The version of the library, and whether it was proved: `0.1.0, proved in logic ..` or `0.1.0, unproved`. None if
+    there is no library; a program tells its version by `--version`."""
+    return _load(LIBRARY).version().decode() if LIBRARY else None
 
 
 class _Holder:

@@ -22,7 +22,8 @@ FOLDER = os.path.dirname(os.path.dirname(os.path.abspath(__file__)))
 sys.path.insert(0, FOLDER)
 
 from nippersage import (
-    AUDITOR, ET, HUP, IN, LIBRARY, MOST_CALLS, OUT, PROGRAM, Ended, Illegal, Kernel, Limits, audit,
+    AUDITOR, ET, HUP, IN, LIBRARY, MOST_CALLS, OUT, PROGRAM, Ended, Illegal, Kernel, Limits, __version__, audit,
+    library_version,
 )
 
 
@@ -200,6 +201,11 @@ class Calls:
 class OverLibrary(Calls, Refusals):
     def make(self, **keys):
         return Kernel(**keys)
+
+    def test_version(self):
+        number, _, made = library_version().partition(", ")
+        self.assertEqual(number, __version__)
+        self.assertRegex(made, "^(unproved|proved in logic [0-9a-f]{16})$")
 
     def test_waits_by_themselves(self):
         with Kernel() as kernel:

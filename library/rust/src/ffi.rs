@@ -1,7 +1,7 @@
 //! What `nippersage.h` declares.
 
 use std::ffi::c_void;
-use std::os::raw::{c_int, c_uint};
+use std::os::raw::{c_char, c_int, c_uint};
 
 /// What a wait by hand answers while its caller is parked.
 pub const PARKED: c_int = -4096;
@@ -93,6 +93,7 @@ extern "C" {
     pub fn nippersage_tasks(kernel: *mut Kernel, more: c_int) -> c_int;
 
     pub fn nippersage_tick(task: Task, milliseconds: u64) -> c_int;
+    pub fn nippersage_version() -> *const c_char;
     pub fn nippersage_now(kernel: *mut Kernel, moment: *mut u64) -> c_int;
     pub fn nippersage_next_moment(kernel: *mut Kernel, moment: *mut u64) -> c_int;
     pub fn nippersage_first_marked(kernel: *mut Kernel, caller: *mut u32) -> c_int;

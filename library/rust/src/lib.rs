@@ -63,3 +63,11 @@ pub use kernel::{Kernel, Limits, Part};
 pub use owned::Owned;
 pub use task::{Clock, Fd, Flags, Pid, Task};
 pub use time::Setting;
+
+/// The version of the library, and whether it was proved: `0.1.0, proved in logic ..` or
+/// `0.1.0, unproved`.
+pub fn version() -> &'static str {
+    // The library answers a text of its own, which lives as long as it does, and ends with a 0.
+    let text = unsafe { std::ffi::CStr::from_ptr(ffi::nippersage_version()) };
+    text.to_str().unwrap_or_default()
+}

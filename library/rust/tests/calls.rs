@@ -12,6 +12,13 @@ const fn ms(count: u64) -> Duration {
 }
 
 #[test]
+fn version() {
+    let (number, made) = nippersage::version().split_once(", ").unwrap();
+    assert_eq!(number, env!("CARGO_PKG_VERSION"));
+    assert!(made == "unproved" || made.starts_with("proved in logic "), "{made}");
+}
+
+#[test]
 fn limits() {
     let small = Limits {
         descriptors: 6,
