@@ -10,9 +10,9 @@ use Rattle.ep_interest.specs.Registrations.{GainsKey, IsSound, Registrations, en
 use Rattle.ep_interest.specs.declared.entry.Entry.{Entry}
 use Rattle.ep_interest.proofs.RangeLemmas.{numbered_filter}
 use Rattle.ep_interest.proofs.PurgeLemmas.{numbered_number}
+use Rattle.ep_calls.specs.Ids.{HadOrAdds}
 use Rattle.ep_calls.proofs.AdditionLemmas.{found_passes}
 use Rattle.ep_kernel.proofs.EntryLemmas.{is_under}
-use Rattle.ep_kernel.specs.Turns.{HadOrAdds}
 use Rattle.ep_law.proofs.TestLemmas.{from_test, same_nat}
 
 -- one registration is set, and the others stay

@@ -1,23 +1,18 @@
 -- What the change of an event does to the lists, before the dead go and before what it raised climbs.
-use Rattle.std.specs.Prelude.{◌≡◌, ◌⊎◌, ◌++◌, ◌+◌, Bool, List, None, Some, false, filter, true, ℕ}
+use Rattle.std.specs.Prelude.{◌≡◌, ◌⊎◌, ◌++◌, Bool, List, None, Some, false, filter, true, ℕ}
 use Rattle.ep_base.specs.declared.call.Call.TheVariants.{EpollCtl}
 use Rattle.ep_base.specs.declared.call.Event.{Event}
 use Rattle.ep_base.specs.declared.call.Event.TheVariants.{Call as CallOf}
-use Rattle.ep_base.specs.declared.ids.EntryId.{EntryId}
+use Rattle.ep_calls.specs.Ids.{HadOrAdds}
 use Rattle.ep_calls.specs.Parts.{Parts}
 use Rattle.ep_calls.specs.Stands.{number_at}
-use Rattle.ep_interest.specs.Registrations.{Registrations, entry_under, number_under}
+use Rattle.ep_interest.specs.Registrations.{entry_under, number_under}
 use Rattle.ep_interest.specs.declared.entry.Entry.{Entry}
 use Rattle.ep_kernel.specs.Listed.{HavePlaces, MayStand, key_shows}
 use Rattle.ep_machine.specs.Files.{named_by}
 use Rattle.ep_machine.specs.Lists.{is_among}
 use Rattle.ep_machine.specs.Watches.{is_del}
 use Rattle.ep_ready.specs.ReadyLists.{Lists, entry_id, list_at, stands}
-
--- a key that has a registration had it before, or it is the one that was added
-abbrev pub HadOrAdds : Registrations → Registrations → Type 0
-HadOrAdds old new = (id : EntryId) (n : ℕ) → number_under new id ≡ Some n
-    → (number_under old id ≡ Some n) ⊎ ((number_under old id ≡ None) × (n ≡ old.added + 1))
 
 -- what an epoll_ctl added or modified stands on its list, where it is reportable
 abbrev pub AlteredStand : Event → Parts → Parts → Lists → Type 0
