@@ -61,3 +61,12 @@ pub fn parse_number(text: &str) -> Option<Number>
         without_minus(bytes)
     }
 }
+
+/// What `parse_number` answers, in a frame of its own. With `parse_number` inlined, `tree` would be so large that the
+/// compiler doesn't inline it any more.
+#[inline(never)]
+pub(crate) fn parse_number_apart(text: &str) -> Option<Number>
+    ensures { option_map number_view result ≡ number_of text.now }
+{
+    parse_number(text)
+}

@@ -6,7 +6,7 @@ ghost use Rattle.serde_json.specs.Read.{converted, max_depth, of_items, of_json,
 ghost use Rattle.serde_json.specs.View.{items_view, members_view, view};
 ghost use Rattle.ep_json.specs.Text.{whole};
 
-use crate::number::parse_number;
+use crate::number::parse_number_apart;
 use crate::refusal::Refusal;
 use json::{Reader, Token};
 use serde_json::{Map, Value};
@@ -28,7 +28,7 @@ fn tree(alloc: Global, reader: &mut Reader<'_>, depth: usize) -> Result<Value, R
     let token = reader.next().ok_or(Refusal::NoJson)?;
     match token {
         Token::String(text) => Ok(Value::String(String::from_str(alloc, text)?)),
-        Token::Number(text) => match parse_number(text) {
+        Token::Number(text) => match parse_number_apart(text) {
             Some(number) => Ok(Value::Number(number)),
             None => Err(Refusal::NoJson),
         },
