@@ -1,6 +1,5 @@
 //! The tests of both kernels and of what runs on them, in a crate of their own, since the gate proves a crate that
-//! has tests twice: sessions and threads, scripts over readers and writers that fail, and both programs. What a
-//! kernel answers is in the scripts of `ep_examples`.
+//! has tests twice: sessions, threads and both programs. What a kernel answers is in the scripts of `ep_examples`.
 #![tactic(auto)]
 
 #[cfg(test)]
@@ -18,12 +17,6 @@ mod pools;
 #[cfg(test)]
 mod program;
 #[cfg(test)]
-mod runs;
-#[cfg(test)]
 mod sessions;
 #[cfg(test)]
-mod stand_ins;
-#[cfg(test)]
 mod verdicts;
-#[cfg(test)]
-mod watched;

@@ -82,44 +82,45 @@ impl Read for Pieces<'_> {
     }
 }
 
-/// Takes so many bytes, so many at once, and then fails or takes none.
+/// How a writer fails once it has taken what it takes.
+#[derive(Clone, Copy)]
+pub(crate) enum Failure {
+    /// A write answers an error.
+    Write,
+    /// A write takes no byte.
+    NoByte,
+    /// A flush answers an error. Writes go on.
+    Flush,
+}
+
+/// Takes so many bytes, so many at once, and then fails.
 #[derive(Drop)]
 pub(crate) struct Narrow {
     pub(crate) taken: Vec<u8>,
     pub(crate) piece: usize,
     pub(crate) room: usize,
-    pub(crate) fails: bool,
+    pub(crate) failure: Failure,
 }
 
 impl Write for Narrow {
     fn write(&mut self, buf: &[u8]) -> io::Result<usize> {
         let left = self.room.saturating_sub(self.taken.len());
-        if left == 0 && self.fails {
-            return Err(io::Error::from(ErrorKind::Interrupted));
-        }
-        let count = left.min(self.piece).min(buf.len());
+        let most = match self.failure {
+            Failure::Write if left == 0 => return Err(io::Error::from(ErrorKind::Interrupted)),
+            Failure::Write | Failure::NoByte => left,
+            Failure::Flush => buf.len(),
+        };
+        let count = most.min(self.piece).min(buf.len());
         self.taken.extend_from_slice(&buf[..count])?;
         Ok(count)
     }
 
     fn flush(&mut self) -> io::Result<()> {
-        Ok(())
-    }
-}
-
-/// Takes every byte, and fails to pass them on.
-#[derive(Drop)]
-pub(crate) struct Unflushed {
-    pub(crate) taken: Vec<u8>,
-}
-
-impl Write for Unflushed {
-    fn write(&mut self, buf: &[u8]) -> io::Result<usize> {
-        self.taken.extend_from_slice(buf)?;
-        Ok(buf.len())
-    }
-
-    fn flush(&mut self) -> io::Result<()> {
-        Err(io::Error::from(ErrorKind::Other))
+        match self.failure {
+            Failure::Flush if self.taken.len() >= self.room => {
+                Err(io::Error::from(ErrorKind::Interrupted))
+            }
+            _ => Ok(()),
+        }
     }
 }

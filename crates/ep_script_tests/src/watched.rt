@@ -1,6 +1,6 @@
 //! A watched reader and a watched writer, beside the same ones unwatched.
 
-use crate::stand_ins::{Narrow, Pieces, Unflushed};
+use crate::stand_ins::{Failure, Narrow, Pieces};
 use ep_script::Watched;
 use std::alloc::Global;
 use std::io::{ErrorKind, Read, Write};
@@ -13,12 +13,12 @@ fn pieces(fails: bool) -> Pieces<'static> {
     }
 }
 
-fn narrow(alloc: Global, fails: bool) -> Narrow {
+fn narrow(alloc: Global, failure: Failure) -> Narrow {
     Narrow {
         taken: Vec::new(alloc),
         piece: 2,
         room: 5,
-        fails,
+        failure,
     }
 }
 
@@ -50,17 +50,10 @@ fn reads_as_the_one_inside(rt: HostRuntime) {
 
 #[test]
 fn writes_as_the_one_inside(rt: HostRuntime) {
-    for fails in [false, true] {
-        let mut plain = narrow(rt.alloc(), fails);
-        let mut watched = Watched::new(narrow(rt.alloc(), fails));
+    for failure in [Failure::Write, Failure::NoByte, Failure::Flush] {
+        let mut plain = narrow(rt.alloc(), failure);
+        let mut watched = Watched::new(narrow(rt.alloc(), failure));
         assert!(rt; four_writes(&mut watched) == four_writes(&mut plain));
         assert!(rt; watched.into_inner().taken == plain.taken);
     }
-}
-
-#[test]
-fn hands_a_failed_flush_on(rt: HostRuntime) {
-    let taken = Vec::new(rt.alloc());
-    let mut watched = Watched::new(Unflushed { taken });
-    assert!(rt; watched.flush().is_err());
 }

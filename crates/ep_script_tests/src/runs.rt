@@ -1,6 +1,6 @@
 //! Whole scripts, over a kernel without memory.
 
-use crate::stand_ins::{Narrow, NoMemory, Pieces, Unflushed};
+use crate::stand_ins::{Failure, Narrow, NoMemory, Pieces};
 use ep_base::Limits;
 use ep_script::{ScriptFault, Summary, Watched, run_script};
 use std::alloc::{AllocError, Global};
@@ -46,7 +46,7 @@ fn wide(alloc: Global) -> Narrow {
         taken: Vec::new(alloc),
         piece: usize::MAX,
         room: usize::MAX,
-        fails: false,
+        failure: Failure::Write,
     }
 }
 
@@ -91,7 +91,7 @@ fn reads_and_writes_single_bytes(rt: HostRuntime) {
         taken: Vec::new(rt.alloc()),
         piece: 1,
         room: usize::MAX,
-        fails: false,
+        failure: Failure::Write,
     };
     let ran = run(rt.alloc(), reader, writer);
     assert_eq!(rt; ran.outcome, summary(4, 1));
@@ -132,12 +132,12 @@ fn ends_at_a_failed_read(rt: HostRuntime) {
 #[test]
 fn ends_at_a_failed_write(rt: HostRuntime) {
     for room in 0..ANSWERS.len() {
-        for fails in [false, true] {
+        for failure in [Failure::Write, Failure::NoByte] {
             let writer = Narrow {
                 taken: Vec::new(rt.alloc()),
                 piece: 5,
                 room,
-                fails,
+                failure,
             };
             let ran = run(rt.alloc(), whole(SCRIPT), writer);
             assert_eq!(rt; ran.outcome, Err(ScriptFault::Write), "after {room} bytes");
@@ -154,18 +154,16 @@ fn ends_at_a_failed_write(rt: HostRuntime) {
 // Each answer is passed on before the next line is asked for.
 #[test]
 fn ends_at_a_failed_flush(rt: HostRuntime) {
-    let alloc = rt.alloc();
-    let mut kernel = NoMemory {
-        limits: Limits::default(),
+    let writer = Narrow {
+        taken: Vec::new(rt.alloc()),
+        piece: usize::MAX,
+        room: 0,
+        failure: Failure::Flush,
     };
-    let mut reader = Watched::new(SCRIPT);
-    let mut writer = Watched::new(Unflushed {
-        taken: Vec::new(alloc),
-    });
-    let outcome = run_script(alloc, &mut kernel, &mut reader, &mut writer);
-    assert_eq!(rt; outcome, Err(ScriptFault::Write));
-    assert!(rt; writer.failed());
-    assert_eq!(rt; writer.into_inner().taken.as_slice(), NO_MEMORY);
+    let ran = run(rt.alloc(), whole(SCRIPT), writer);
+    assert_eq!(rt; ran.outcome, Err(ScriptFault::Write));
+    assert!(rt; ran.writer_failed);
+    assert_eq!(rt; ran.written.as_slice(), NO_MEMORY);
 }
 
 /// What a run over these bytes and then so many others comes to, and what it writes.
