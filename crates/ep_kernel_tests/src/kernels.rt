@@ -2,10 +2,11 @@
 //! so one function owns a kernel of any kind.
 ghost use Rattle.std.specs.Prelude.{◌≡◌, [], IfOk};
 
+use ep_audit::audit;
 use ep_base::Limits;
 use ep_kernel::ReadyKernel;
 use ep_plain::{Kernel, PlainKernel};
-use std::alloc::AllocError;
+use std::alloc::{AllocError, Global};
 use std::process::Abort;
 use std::sync::Wait;
 
@@ -57,4 +58,11 @@ pub fn on_both_kernels<S: Script, R: Abort + AllocGlobal + Wait>(
 ) -> Result<(), AllocError> {
     on_scanning_kernel(rt, script)?;
     on_ready_kernel(rt, script)
+}
+
+/// Whether a kernel has a history of so many records, which is a run. Where memory for the audit is refused, it is
+/// asked for again.
+pub fn is_run<K: Kernel>(alloc: Global, kernel: &K, records: usize) -> bool {
+    let judged = || audit(alloc, kernel.limits(), kernel.history());
+    kernel.history().len() == records && judged().or_else(|_| judged()).is_ok()
 }

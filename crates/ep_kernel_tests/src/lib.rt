@@ -9,6 +9,8 @@ mod history;
 #[cfg(test)]
 mod kernels;
 #[cfg(test)]
+mod lists;
+#[cfg(test)]
 mod memory;
 #[cfg(test)]
 mod moments;

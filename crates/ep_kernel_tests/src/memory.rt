@@ -1,7 +1,8 @@
 //! A run of each kernel in which any request for memory may be refused: what is answered ENOMEM leaves the kernel as it
-//! was, and is asked again. The gate refuses none; `rt try --test --fail-alloc N` refuses the Nth.
+//! was, and is asked again. The history is judged at the end. The gate refuses none; `rt try --test --fail-alloc N`
+//! refuses the Nth.
 
-use crate::kernels::{Script, on_ready_kernel, on_scanning_kernel};
+use crate::kernels::{Script, is_run, on_ready_kernel, on_scanning_kernel};
 use ep_base::{Answer, CallerId, Errno};
 use ep_plain::Kernel;
 use ep_text::{push_answer, read_line};
@@ -117,6 +118,7 @@ impl Script for Refusals {
                 "at line {place}"
             );
         }
+        assert!(rt; is_run(rt.alloc(), &kernel, SCRIPT.lines().count()));
         Ok(())
     }
 }

@@ -1,6 +1,6 @@
 //! The moment at which something happens next, as both kernels tell it while a timer runs and a caller is parked.
 
-use crate::kernels::{Script, on_both_kernels};
+use crate::kernels::{Script, is_run, on_both_kernels};
 use ep_plain::Kernel;
 use ep_text::read_line;
 use std::alloc::AllocError;
@@ -56,6 +56,7 @@ impl Script for Moments {
             }
             assert!(rt; kernel.next_moment() == *moment, "at line {place}");
         }
+        assert!(rt; is_run(rt.alloc(), &kernel, MOMENTS.len()));
         Ok(())
     }
 }

@@ -2,7 +2,7 @@
 ghost use Rattle.std.specs.Prelude.{◌≡◌, [], IfOk};
 
 use crate::gates::{BothHere, Shut};
-use crate::sessions::PROCESS;
+use crate::sessions::{PROCESS, count_of};
 use ep_audit::audit;
 use ep_base::{Answer, Buffer, Call, CallerId, Fd, Limits, Mask, Record};
 use ep_kernel::ReadyKernel;
@@ -157,10 +157,13 @@ fn run_both<K: Kernel + Drop + Send, L: Ledger + Send + Sync, R: Threads + Wait 
     Ok(sessions)
 }
 
-/// A history of nine records, which is a run.
-fn is_whole(alloc: Global, history: &History) -> bool {
+/// A history of so many records of the two callers, which is a run.
+fn is_whole(alloc: Global, history: &History, first: usize, second: usize) -> bool {
     let records = history.records.as_slice();
-    records.len() == 9 && audit(alloc, &history.limits, records).is_ok()
+    records.len() == first.saturating_add(second)
+        && count_of(records, CallerId(1)) == first
+        && count_of(records, CallerId(2)) == second
+        && audit(alloc, &history.limits, records).is_ok()
 }
 
 fn one_wakes_the_other<K: Kernel + Drop + Send, L: Ledger + Send + Sync, R: Threads + Wait + Sync>(
@@ -181,7 +184,7 @@ fn one_wakes_the_other<K: Kernel + Drop + Send, L: Ledger + Send + Sync, R: Thre
     let back = run_both(rt, alloc, &shared, two_jobs(alloc, one, two)?)?;
     check(are_told(&back))?;
     match shared.finish(back) {
-        Ok(history) => check(is_whole(alloc, &history)),
+        Ok(history) => check(is_whole(alloc, &history, 6, 3)),
         Err(_) => Err(Fail::new("not finished")),
     }
 }
@@ -225,7 +228,7 @@ fn nobody_goes<K: Kernel + Drop + Send, L: Ledger + Send + Sync, R: Threads + Wa
     let jobs = vec![in alloc; one_step(alloc, one)?, one_step(alloc, two)?]?;
     let back = run_none(rt, alloc, &shared, jobs)?;
     match shared.finish(back) {
-        Ok(history) => check(history.records.is_empty()),
+        Ok(history) => check(is_whole(alloc, &history, 0, 0)),
         Err(_) => Err(Fail::new("not finished")),
     }
 }

@@ -176,7 +176,7 @@ fn sessions_that_asked<K: Kernel + Drop, L: Ledger, R: Abort + AllocGlobal + Wai
 }
 
 /// How many records of a caller there are.
-fn count_of(records: &[Record], caller: CallerId) -> usize {
+pub(crate) fn count_of(records: &[Record], caller: CallerId) -> usize {
     records.iter().filter(|r| r.caller == caller).count()
 }
 
