@@ -80,8 +80,8 @@ fn first_illegal_from_new(
 }
 
 /// Whether a list of records, asked and answered from the opening state on, is a run of the machine under these limits.
-/// `Illegal` names the first place where it is none any more, from 0; `Memory` says nothing of the list, and comes only
-/// where a growth was refused. A record answered ENOMEM is illegal, since want of memory leaves none.
+/// `Illegal` names the first place where it is none any more, from 0; `Memory` says nothing of the list: there was no
+/// memory for a verdict. A record answered ENOMEM is illegal, since want of memory leaves none.
 /// The list is gone through once, each record made again on a kernel of its own.
 pub fn audit(alloc: Global, limits: &Limits, records: &[Record]) -> Result<(), AuditFault>
     ensures ok { IfJudged result (IsOk result ↔ IsTrue (is_run limits.now records.now)) }
