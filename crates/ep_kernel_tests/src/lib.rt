@@ -3,6 +3,8 @@
 #![tactic(auto)]
 
 #[cfg(test)]
+mod behind;
+#[cfg(test)]
 mod gates;
 #[cfg(test)]
 mod history;

@@ -1,6 +1,6 @@
 //! Answers one line of a script.
 ghost use Rattle.std.specs.Io.KnownBytes.{Appends};
-ghost use Rattle.std.specs.Prelude.{◌≡◌, IfErr, IfOk, IsErrOf, List, OnErr, OnOk, ℕ, if◌then◌else◌, string_bytes, true};
+ghost use Rattle.std.specs.Prelude.{◌≡◌, IfErr, IfOk, IsErrOf, List, OnErr, OnOk, ℕ, false, if◌then◌else◌, string_bytes, true};
 ghost use Rattle.ep_calls.specs.Acts.{is_no_memory};
 ghost use Rattle.ep_text.specs.Event.{event};
 ghost use Rattle.ep_script.specs.Steps.{AnswerFault, MayGain, Tells};
@@ -86,6 +86,7 @@ pub(crate) fn answer_line<K: Kernel, W: Write>(
         × Tells (event line.now) number kind words (K.past kernel.old) (K.past kernel.new)
         × Appends (W.contents writer.old.inner) (W.contents writer.new.inner) words) }
     ensures flag { OnOk result (writer.new.failed ≡ writer.old.failed) }
+    ensures once { writer.old.failed ≡ false → writer.new.asked_after ≡ writer.old.asked_after }
     ensures err { IfErr result (λ e. AnswerFault e (event line.now) number
         (W.contents writer.old.inner) (W.contents writer.new.inner) (K.past kernel.old) (K.past kernel.new)) }
     ensures err_flag { IsErrOf result ScriptFault.Write → writer.new.failed ≡ true }

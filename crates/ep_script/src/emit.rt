@@ -1,6 +1,6 @@
 //! Writes bytes, all of them.
 ghost use Rattle.std.specs.Io.KnownBytes.{Appends};
-ghost use Rattle.std.specs.Prelude.{◌≡◌, ◌≤◌, ℕ, IfErr, OnOk, length, take, true};
+ghost use Rattle.std.specs.Prelude.{◌≡◌, ◌≤◌, ℕ, IfErr, OnOk, false, length, take, true};
 
 use crate::fault::ScriptFault;
 use crate::watched::Watched;
@@ -11,6 +11,7 @@ pub(crate) fn emit<W: Write>(writer: &mut Watched<W>, bytes: &[u8]) -> Result<()
     ensures ok { OnOk result
         (Appends (W.contents writer.old.inner) (W.contents writer.new.inner) bytes.now) }
     ensures flag { OnOk result (writer.new.failed ≡ writer.old.failed) }
+    ensures once { writer.old.failed ≡ false → writer.new.asked_after ≡ writer.old.asked_after }
     ensures err { IfErr result (λ e. (e ≡ ScriptFault.Write) × (writer.new.failed ≡ true)
         × ((n : ℕ) × (n ≤ length bytes.now) × Appends (W.contents writer.old.inner) (W.contents writer.new.inner) (take n bytes.now))) }
 {

@@ -70,6 +70,7 @@ impl Input {
             → Leads (R.remaining reader.old.inner) (R.remaining reader.new.inner)
             (λ xs ys. ys ≡ [])) }
         ensures flag { OnOk result (reader.new.failed ≡ reader.old.failed) }
+        ensures once { reader.old.failed ≡ false → reader.new.asked_after ≡ reader.old.asked_after }
         ensures err { IfErr result (λ e. (e ≡ ScriptFault.Read) × (reader.new.failed ≡ true)) }
         ensures kept { OnErr result
             (Leads (R.remaining reader.old.inner) (R.remaining reader.new.inner)
@@ -98,6 +99,7 @@ impl Input {
             (prepend_known (unread self.new) (R.remaining reader.new.inner))
             (λ xs ys. (xs ≡ []) × (ys ≡ []))) }
         ensures flag { OnOk result (reader.new.failed ≡ reader.old.failed) }
+        ensures once { reader.old.failed ≡ false → reader.new.asked_after ≡ reader.old.asked_after }
         ensures err { IfErr result (λ e. (e ≡ ScriptFault.Read) × (reader.new.failed ≡ true)) }
         ensures kept { OnErr result (Leads
             (prepend_known (unread self.old) (R.remaining reader.old.inner))

@@ -1,6 +1,6 @@
 //! Writes a record of the history.
 ghost use Rattle.std.specs.Io.KnownBytes.{Appends};
-ghost use Rattle.std.specs.Prelude.{◌≡◌, ◌⊎◌, ℕ, IfErr, IfOk, IsErrOf, OnErr, OnOk, Some, take, true};
+ghost use Rattle.std.specs.Prelude.{◌≡◌, ◌⊎◌, ℕ, IfErr, IfOk, IsErrOf, OnErr, OnOk, Some, false, take, true};
 ghost use Rattle.ep_script.specs.Recorded.{line_at, line_if};
 
 use crate::emit::emit;
@@ -33,6 +33,7 @@ pub(crate) fn keep_record<K: Kernel, H: Write>(
         (Appends (H.contents history.old.inner) (H.contents history.new.inner)
         (line_at place (K.past kernel.now))) }
     ensures flag { OnOk result (history.new.failed ≡ history.old.failed) }
+    ensures once { history.old.failed ≡ false → history.new.asked_after ≡ history.old.asked_after }
     ensures part { OnErr result
         ((n : ℕ) × Appends (H.contents history.old.inner) (H.contents history.new.inner)
         (take n (line_at place (K.past kernel.now)))) }

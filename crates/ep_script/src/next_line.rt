@@ -29,6 +29,7 @@ pub(crate) fn next_line<R: Read>(
         (λ xs ys. (xs ≡ []) × (ys ≡ []))) }
     ensures short { OnOk result (length line.new.items ≤ longest_line) }
     ensures flag { OnOk result (reader.new.failed ≡ reader.old.failed) }
+    ensures once { reader.old.failed ≡ false → reader.new.asked_after ≡ reader.old.asked_after }
     ensures cut { IsErrOf result ScriptFault.Read → Leads
         (prepend_known (unread input.old) (R.remaining reader.old.inner))
         (R.remaining reader.new.inner)

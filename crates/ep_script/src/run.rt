@@ -23,7 +23,8 @@ pub(crate) const MOST_LINES: u64 = 100_000;
 ///
 /// A line ends at byte 10, which the last may lack, and has at most 65,536 bytes; a script has at
 /// most 100,000 lines. Every error of the reader or the writer ends the run, and so does a write
-/// that takes no byte. An ENOMEM of the kernel is an answer as any other.
+/// that takes no byte: nothing more is asked of the one that failed. An ENOMEM of the kernel is an
+/// answer as any other.
 ///
 /// After `Read`, `Line`, `Lines` and `Memory` the answers to all lines before stand written, and
 /// nothing else; after `Write` a part of the next one may. Of what was read, after `Read` every
@@ -65,6 +66,10 @@ pub fn run_script<K: Kernel, R: Read, W: Write>(
         (K.past kernel.old) (K.past kernel.new)) }
     ensures read_flag { IsErrOf result ScriptFault.Read → reader.new.failed ≡ true }
     ensures write_flag { IsErrOf result ScriptFault.Write → writer.new.failed ≡ true }
+
+    // After its failure neither is asked again.
+    ensures reader_once { reader.new.asked_after ≡ reader.old.asked_after }
+    ensures writer_once { writer.new.asked_after ≡ writer.old.asked_after }
 {
     let Ok(mut input) = Input::new(alloc) else {
         return Err(ScriptFault::Memory);

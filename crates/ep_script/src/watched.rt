@@ -1,4 +1,4 @@
-//! A reader or a writer that remembers whether it ever failed.
+//! A reader or a writer that remembers whether it ever failed, and whether it was asked after that.
 ghost use Rattle.std.specs.Io.{ReadsAtMost, WritesAtMost};
 ghost use Rattle.std.specs.Io.KnownBytes.{Keeps, ReadConsumes, WriteAppends};
 ghost use Rattle.std.specs.Prelude.{◌≡◌, ◌||◌, false, is_err, length};
@@ -7,11 +7,13 @@ ghost use Rattle.ep_script.specs.Known.{write_failed};
 use std::io::{self, Read, Write};
 
 /// A reader or a writer that answers what the one inside answered, and remembers whether a read,
-/// a write or a flush answered an error, or a write of a byte or more took none.
+/// a write or a flush answered an error, or a write of a byte or more took none. It remembers, too,
+/// whether it was asked for anything after that.
 #[derive(Drop)]
 pub struct Watched<T> {
     inner: T,
     failed: bool,
+    asked_after: bool,
 }
 
 impl<T> Watched<T> {
@@ -19,10 +21,12 @@ impl<T> Watched<T> {
     pub fn new(inner: T) -> Watched<T>
         ensures inner { result.inner ≡ inner }
         ensures fresh { result.failed ≡ false }
+        ensures unasked { result.asked_after ≡ false }
     {
         Watched {
             inner,
             failed: false,
+            asked_after: false,
         }
     }
 
@@ -39,6 +43,14 @@ impl<T> Watched<T> {
     {
         self.failed
     }
+
+    /// Whether a read, a write or a flush was asked of it after it had failed. Such a call is handed on
+    /// as any other.
+    pub fn asked_after_failure(&self) -> bool
+        ensures { result ≡ self.now.asked_after }
+    {
+        self.asked_after
+    }
 }
 
 impl<R: Read> Read for Watched<R> {
@@ -49,7 +61,9 @@ impl<R: Read> Read for Watched<R> {
         ensures bytes { ReadConsumes (R.remaining self.old.inner) (R.remaining self.new.inner)
             result buf.new }
         ensures watched { self.new.failed ≡ (is_err result || self.old.failed) }
+        ensures after { self.new.asked_after ≡ (self.old.failed || self.old.asked_after) }
     {
+        self.asked_after |= self.failed;
         let result = self.inner.read(buf);
         if result.is_err() {
             self.failed = true;
@@ -67,7 +81,9 @@ impl<W: Write> Write for Watched<W> {
             buf.now }
         ensures watched { self.new.failed
             ≡ (write_failed result (length buf.now) || self.old.failed) }
+        ensures after { self.new.asked_after ≡ (self.old.failed || self.old.asked_after) }
     {
+        self.asked_after |= self.failed;
         let result = self.inner.write(buf);
         let failed = match &result {
             Ok(taken) => *taken == 0 && !buf.is_empty(),
@@ -82,7 +98,9 @@ impl<W: Write> Write for Watched<W> {
     fn flush(&mut self) -> io::Result<()>
         ensures bytes { Keeps (W.contents self.old.inner) (W.contents self.new.inner) }
         ensures watched { self.new.failed ≡ (is_err result || self.old.failed) }
+        ensures after { self.new.asked_after ≡ (self.old.failed || self.old.asked_after) }
     {
+        self.asked_after |= self.failed;
         let result = self.inner.flush();
         if result.is_err() {
             self.failed = true;

@@ -22,9 +22,10 @@ use std::io::{Read, Write};
 /// as `ep_history` prints it, flushed before the next line of the script is looked at.
 ///
 /// Every error of that writer ends the run, and so does a write that takes no byte, or want of
-/// memory for a line of the history: the answers to all lines up to then stand written. Whatever
-/// ends the run, what stands in the history's writer are the first bytes of the lines of the
-/// records that the kernel's history gained; where the run came to its end, all of them.
+/// memory for a line of the history: the answers to all lines up to then stand written. Nothing
+/// more is asked of a reader or writer that failed. Whatever ends the run, what stands in the
+/// history's writer are the first bytes of the lines of the records that the kernel's history
+/// gained; where the run came to its end, all of them.
 pub fn run_recorded<K: Kernel, R: Read, W: Write, H: Write>(
     alloc: Global,
     kernel: &mut K,
@@ -66,6 +67,13 @@ pub fn run_recorded<K: Kernel, R: Read, W: Write, H: Write>(
     ensures write_flag { IsErrOf result (RecordedFault.Script ScriptFault.Write)
         → writer.new.failed ≡ true }
     ensures history_fault_flag { IsErrOf result RecordedFault.History → history.new.failed ≡ true }
+
+    // After its failure none of the three is asked again.
+    ensures reader_once { reader.new.asked_after ≡ reader.old.asked_after }
+    ensures writer_once { writer.new.asked_after ≡ writer.old.asked_after }
+    ensures history_once { history.new.asked_after ≡ history.old.asked_after }
+
+    // What stands in the history's writer.
     ensures part { OnErr result
         (WritesPart (H.contents history.old.inner) (H.contents history.new.inner)
         (K.past kernel.old) (K.past kernel.new)) }

@@ -1,4 +1,4 @@
-use Rattle.std.proofs.Common.{◌≡◌, ◌≤◌, ◌-◌, length, take}
+use Rattle.std.proofs.Common.{false, ◌≡◌, ◌≤◌, ◌-◌, length, take}
 use Rattle.std.specs.Io.KnownBytes.{Appends}
 use Rattle.ep_script.proofs.emit.emit.Given as goal
 
@@ -7,6 +7,7 @@ invariant-loop-at g l = record {
   within : l.at ≤ length l.bytes;
   written : Appends (g.W.Write.contents l.fn.writer.inner) (g.W.Write.contents l.writer.inner) (take l.at l.bytes);
   flag : l.writer.failed ≡ l.fn.writer.failed;
+  once : l.fn.writer.failed ≡ false → l.writer.asked_after ≡ l.fn.writer.asked_after;
 }
 
 abbrev pub decreases-loop-at : goal.decreases-loop-at

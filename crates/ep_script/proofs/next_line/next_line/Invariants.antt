@@ -1,4 +1,4 @@
-use Rattle.std.proofs.Common.{length, ◌++◌, ◌-◌, ◌≡◌, ◌≤◌}
+use Rattle.std.proofs.Common.{false, length, ◌++◌, ◌-◌, ◌≡◌, ◌≤◌}
 use Rattle.std.specs.Io.KnownBytes.{prepend_known}
 use Rattle.ep_script.specs.Known.{Leads}
 use Rattle.ep_script.specs.Lines.{IsPlain, longest_line}
@@ -11,6 +11,7 @@ invariant-chunks g l = record {
   plain : IsPlain l.line.items;
   short : length l.line.items ≤ longest_line;
   flag : l.reader.failed ≡ l.fn.reader.failed;
+  once : l.fn.reader.failed ≡ false → l.reader.asked_after ≡ l.fn.reader.asked_after;
 }
 
 abbrev pub decreases-chunks : goal.decreases-chunks

@@ -22,6 +22,8 @@ loop-done-init g c = record {
   bad = omega arith;
   reader_flag = c.requires.fresh_reader;
   writer_flag = c.requires.fresh_writer;
+  reader_once = refl;
+  writer_once = refl;
   limits = refl;
 }
 
@@ -87,6 +89,8 @@ loop-done-preserved g c =
       bad = rw counted (omega (arith, few_bad c.loop-done.summary c.in-Ok-answer_line.kind));
       reader_flag = c.in-Ok-true.ensures.flag ∙ c.loop-done.invariant.reader_flag;
       writer_flag = c.in-Ok-answer_line.ensures.flag ∙ c.loop-done.invariant.writer_flag;
+      reader_once = c.in-Ok-true.ensures.once c.loop-done.invariant.reader_flag ∙ c.loop-done.invariant.reader_once;
+      writer_once = c.in-Ok-answer_line.ensures.once c.loop-done.invariant.writer_flag ∙ c.loop-done.invariant.writer_once;
       limits = c.answer_line.ensures.limits ∙ c.loop-done.invariant.limits;
     }
 

@@ -15,5 +15,7 @@ invariant-loop-done g l = record {
   bad : l.summary.bad ≤ l.done;
   reader_flag : l.reader.failed ≡ false;
   writer_flag : l.writer.failed ≡ false;
+  reader_once : l.reader.asked_after ≡ l.fn.reader.asked_after;
+  writer_once : l.writer.asked_after ≡ l.fn.writer.asked_after;
   limits : g.K.Kernel.bounds l.kernel ≡ g.K.Kernel.bounds l.fn.kernel;
 }

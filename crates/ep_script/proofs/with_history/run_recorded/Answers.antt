@@ -24,6 +24,9 @@ loop-done-init g c = record {
   reader_flag = c.requires.fresh_reader;
   writer_flag = c.requires.fresh_writer;
   history_flag = c.requires.fresh_history;
+  reader_once = refl;
+  writer_once = refl;
+  history_once = refl;
   writes = writes_nothing (g.H.Write.contents c.args.history.now.inner) (g.K.Kernel.past c.args.kernel.now);
   limits = refl;
 }
@@ -91,6 +94,9 @@ loop-done-preserved g c =
       reader_flag = c.in-Ok-true.ensures.flag ∙ c.loop-done.invariant.reader_flag;
       writer_flag = c.in-Ok-answer_line.ensures.flag ∙ c.loop-done.invariant.writer_flag;
       history_flag = c.in-Ok-keep_record.ensures.flag ∙ c.loop-done.invariant.history_flag;
+      reader_once = c.in-Ok-true.ensures.once c.loop-done.invariant.reader_flag ∙ c.loop-done.invariant.reader_once;
+      writer_once = c.in-Ok-answer_line.ensures.once c.loop-done.invariant.writer_flag ∙ c.loop-done.invariant.writer_once;
+      history_once = c.in-Ok-keep_record.ensures.once c.loop-done.invariant.history_flag ∙ c.loop-done.invariant.history_once;
       writes = writes_more (g.H.Write.contents c.args.history.now.inner) (g.H.Write.contents c.loop-done.history.inner) (g.H.Write.contents c.keep_record.new.history.inner)
           (g.K.Kernel.past c.args.kernel.now) (g.K.Kernel.past c.loop-done.kernel) (g.K.Kernel.past c.answer_line.new.kernel) told.1.outcome _
           c.loop-done.invariant.writes told.1.grows (ap length c.history-place.ensures.past) c.in-Ok-keep_record.ensures.ok;

@@ -17,6 +17,9 @@ invariant-loop-done g l = record {
   reader_flag : l.reader.failed ≡ false;
   writer_flag : l.writer.failed ≡ false;
   history_flag : l.history.failed ≡ false;
+  reader_once : l.reader.asked_after ≡ l.fn.reader.asked_after;
+  writer_once : l.writer.asked_after ≡ l.fn.writer.asked_after;
+  history_once : l.history.asked_after ≡ l.fn.history.asked_after;
   writes : Writes (g.H.Write.contents l.fn.history.inner) (g.H.Write.contents l.history.inner) (g.K.Kernel.past l.fn.kernel) (g.K.Kernel.past l.kernel);
   limits : g.K.Kernel.bounds l.kernel ≡ g.K.Kernel.bounds l.fn.kernel;
 }
