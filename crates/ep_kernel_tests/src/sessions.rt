@@ -3,7 +3,7 @@ ghost use Rattle.std.specs.Prelude.{◌≡◌, []};
 
 use crate::kernels::{Script, on_both_kernels};
 use ep_audit::audit;
-use ep_base::{Answer, Buffer, Call, CallerId, Errno, Fd, Limits, Mask, Pid, Record};
+use ep_base::{Answer, Buffer, Call, CallerId, Errno, Event, Fd, Limits, Mask, Pid, Record};
 use ep_plain::Kernel;
 use ep_shared::laws::same_parts;
 use ep_shared::{Book, FinishFault, History, Session, Shared};
@@ -247,6 +247,42 @@ fn is_refused<K: Kernel + Drop, L: Ledger>(
     matches!(book.close(limits, 2, sessions), Err(FinishFault::Limits))
 }
 
+/// Whether it is closed for these limits, with a history of one record, which is a run.
+fn is_closed<K: Kernel + Drop, L: Ledger>(
+    alloc: Global,
+    book: Book<K, L>,
+    limits: &Limits,
+    sessions: Vec<Session<L>>,
+) -> bool
+    requires { 2 ≡ L.parts }
+{
+    match book.close(limits, 2, sessions) {
+        Ok(history) => {
+            let records = history.records.as_slice();
+            records.len() == 1 && history.limits == *limits && audit(alloc, limits, records).is_ok()
+        }
+        Err(_) => false,
+    }
+}
+
+fn limits_agree<K: Kernel + Drop, L: Ledger, R: Abort + AllocGlobal>(
+    rt: &R,
+    blank: Blank,
+    kernel: K,
+) -> Result<(), AllocError>
+    requires name { blank.name ≡ L.name }
+    requires parts { blank.parts ≡ L.parts }
+    requires two { blank.parts ≡ 2 }
+    requires empty { K.past kernel ≡ [] }
+{
+    let (mut book, mut sessions) = Book::<K, L>::open(rt.alloc(), blank, kernel, 2)?;
+    if let Some(one) = sessions.first_mut() {
+        let _ = book.act(one, Event::Tick { n: 1 });
+    }
+    assert!(rt; is_closed(rt.alloc(), book, &Limits::default(), sessions));
+    Ok(())
+}
+
 fn limits_differ<K: Kernel + Drop, L: Ledger, R: Abort + AllocGlobal>(
     rt: &R,
     blank: Blank,
@@ -304,6 +340,19 @@ impl Script for OtherLimits {
     }
 }
 
+/// A book is closed with the limits of its kernel.
+struct SameLimits;
+
+impl Script for SameLimits {
+    fn run<K: Kernel + Drop, R: Abort + AllocGlobal + Wait>(
+        &self,
+        rt: &R,
+        kernel: K,
+    ) -> Result<(), AllocError> {
+        limits_agree::<K, Brand, R>(rt, Blank::new(2), kernel)
+    }
+}
+
 #[test]
 fn two_sessions_agree(rt: HostRuntime) -> Result<(), Fail> {
     Ok(on_both_kernels(&rt, &Whole)?)
@@ -317,4 +366,9 @@ fn a_session_is_missing(rt: HostRuntime) -> Result<(), Fail> {
 #[test]
 fn other_limits(rt: HostRuntime) -> Result<(), Fail> {
     Ok(on_both_kernels(&rt, &OtherLimits)?)
+}
+
+#[test]
+fn same_limits(rt: HostRuntime) -> Result<(), Fail> {
+    Ok(on_both_kernels(&rt, &SameLimits)?)
 }
