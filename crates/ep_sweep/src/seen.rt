@@ -1,0 +1,40 @@
+//! What a caller can see of a kernel.
+
+use ep_base::{CallerId, Limits};
+use ep_plain::Kernel;
+
+/// How many callers are looked at, from 0 on: all that the scripts name.
+const CALLERS: u32 = 32;
+
+/// What a caller can see of a kernel without a call that leaves a record. The callers are bits, by their numbers.
+#[derive(Clone, Copy, PartialEq, Eq)]
+pub(crate) struct Seen {
+    pub(crate) records: usize,
+    now: u64,
+    parked: u64,
+    marked: u64,
+    first_marked: Option<CallerId>,
+    next_moment: Option<u64>,
+    limits: Limits,
+}
+
+impl Seen {
+    /// What there is to see now.
+    pub(crate) fn of<K: Kernel>(kernel: &K) -> Seen {
+        let mut parked = 0u64;
+        let mut marked = 0u64;
+        for number in 0..CALLERS {
+            parked |= u64::from(kernel.is_parked(CallerId(number))) << number;
+            marked |= u64::from(kernel.is_marked(CallerId(number))) << number;
+        }
+        Seen {
+            records: kernel.history().len(),
+            now: kernel.now(),
+            parked,
+            marked,
+            first_marked: kernel.first_marked(),
+            next_moment: kernel.next_moment(),
+            limits: *kernel.limits(),
+        }
+    }
+}

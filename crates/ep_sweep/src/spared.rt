@@ -1,0 +1,30 @@
+//! Which events need nothing but the room for their record.
+
+use ep_base::{Call, Event};
+
+/// A read of so many bytes takes no memory.
+const SHORT: u32 = 16;
+
+/// Whether an event needs nothing but its record, whatever the kernel holds.
+pub(crate) fn is_spared(event: &Event) -> bool {
+    match event {
+        Event::Call { pid: _, call } => is_spared_call(call),
+        Event::Resume => false,
+        Event::Tick { .. } => true,
+    }
+}
+
+fn is_spared_call(call: &Call) -> bool {
+    match call {
+        Call::EpollCtl { op, .. } => *op != 1,
+        Call::Read { n, .. } => *n <= SHORT,
+        Call::Write { .. }
+        | Call::Shutdown { .. }
+        | Call::SetTime { .. }
+        | Call::GetTime { .. }
+        | Call::Close { .. }
+        | Call::Exec
+        | Call::Exit => true,
+        _ => false,
+    }
+}
