@@ -2,11 +2,15 @@
    makes the file REFUSED. Without REFUSE it refuses none. For .ci/sweep. */
 #include <dlfcn.h>
 #include <fcntl.h>
+#include <stdatomic.h>
 #include <stdlib.h>
 #include <unistd.h>
 
-/* How many requests are still granted before the refused one, and -1 before the first one came. */
-static long left = -1;
+/* How many requests came. Several threads may ask at once. */
+static atomic_long came;
+
+/* The number of the refused one, and -1 before the first one came. */
+static atomic_long refused = -1;
 
 static void tell(void)
 {
@@ -19,12 +23,12 @@ static void tell(void)
 
 static int is_refused(void)
 {
-    if (left < 0) {
+    if (refused < 0) {
         const char *number = getenv("REFUSE");
 
-        left = number ? atol(number) : 0;
+        refused = number ? atol(number) : 0;
     }
-    if (left == 0 || --left != 0)
+    if (++came != refused)
         return 0;
     tell();
     return 1;
