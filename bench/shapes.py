@@ -38,6 +38,12 @@ def filled(head, unit, tail, size=LONG):
     return head + unit * ((size - len(head) - len(tail)) // len(unit)) + tail
 
 
+def bad_of(count):
+    """The last line of a run over so many lines, none of which is a command."""
+    counted = "1 of 1 line was" if count == 1 else f"{count} of {count} lines were"
+    return f"epsim: {counted} no command; --explain says why"
+
+
 def broken_lines():
     """Long lines of scripts that are no commands: each has a number that is not whole as its last one, or is broken
     there, and ends as an object does."""
@@ -53,7 +59,7 @@ def broken_lines():
         head, _, tail = line.rpartition("{}")
         for how, last in (("with -0", "-0"), ("with a comma", "1,")):
             given = f"{head}{last}{tail}\n" * LINES
-            yield Shape(f"{kind} {how} last", "epsim", [], given=given, prints='{"bad":%d}' % LINES)
+            yield Shape(f"{kind} {how} last", "epsim", [], given=given, prints=bad_of(LINES))
 
 
 def record(call, answer):
@@ -95,7 +101,7 @@ def deep_lines():
     """Single lines of scripts that want a deep stack."""
     nested = '{"a":' * DEEPEST + "1" + "}" * (DEEPEST - 1)
     for name, line in {"nested deep": nested, "with a point": '{"op":"dup","fd":1.5}'}.items():
-        yield Shape(f"line {name}", "epsim", [], given=f"{line}\n", prints='{"bad":1}', has_stack=True)
+        yield Shape(f"line {name}", "epsim", [], given=f"{line}\n", prints=bad_of(1), has_stack=True)
 
 
 class Script:

@@ -56,7 +56,16 @@ const BAD_WORDS: [&[&str]; 6] = [
     &["--plain=yes"],
     &["--plain", "--plain"],
     &["--limits", "1", "--limits", "1"],
-    &["script.jsonl"],
+    &["script.jsonl", "-"],
+];
+
+/// Words, whether `--strict` is there, and the script that is named.
+const SCRIPTS: [(&[&str], bool, Option<&str>); 5] = [
+    (&["--plain"], false, None),
+    (&["--strict"], true, None),
+    (&["-"], false, Some("-")),
+    (&["script.jsonl", "--strict"], true, Some("script.jsonl")),
+    (&["--history", "h", "s"], false, Some("s")),
 ];
 
 #[test]
@@ -66,6 +75,11 @@ fn reads_the_options(rt: HostRuntime) -> Result<(), Fail> {
         let settings = options(rt.alloc(), line.as_slice())?;
         assert!(rt; settings.limits == limits);
         assert!(rt; settings.plain == plain && settings.explain == explain);
+    }
+    for (given, strict, script) in SCRIPTS {
+        let line = words(rt.alloc(), "epsim", given)?;
+        let settings = options(rt.alloc(), line.as_slice())?;
+        assert!(rt; settings.strict == strict && settings.script == script);
     }
     for given in BAD_WORDS {
         let line = words(rt.alloc(), "epsim", given)?;
@@ -149,12 +163,22 @@ epsim: line 4: unknown op \"pip\"
 epsim: 3 of 4 lines were no command
 ";
 
-const NO_REASON: &str = "epsim: 0 of 0 lines were no command\n";
+const COUNT: &str = "epsim: 3 of 4 lines were no command; --explain says why\n";
+
+const ONE_OF_ONE: &str = "epsim: 1 of 1 line was no command; --explain says why\n";
+
+const ONE_OF_TWO: &str = "epsim: 1 of 2 lines was no command; --explain says why\n";
 
 /// Words, a script, its answers, and what is written of its lines. Its status is 0.
-const RUNS: [(&[&str], &str, &str, &str); 12] = [
+const RUNS: [(&[&str], &str, &str, &str); 14] = [
     (&[], "", "", ""),
-    (&[], "{\"op\":\"pi", "{\"bad\":1}\n", ""),
+    (&[], "{\"op\":\"pi", "{\"bad\":1}\n", ONE_OF_ONE),
+    (
+        &["-"],
+        "\n{\"op\":\"pipe\"}",
+        "{\"bad\":1}\n{\"two\":[3,4]}\n",
+        ONE_OF_TWO,
+    ),
     (&[], SHORT, SHORT_ANSWERS, ""),
     (&["--plain"], SHORT, SHORT_ANSWERS, ""),
     (
@@ -167,9 +191,10 @@ const RUNS: [(&[&str], &str, &str, &str); 12] = [
     (&["--plain"], LEVEL, LEVEL_ANSWERS, ""),
     (&[], TWO, LISTED, ""),
     (&["--plain"], TWO, SCANNED, ""),
-    (&[], BAD, BAD_ANSWERS, ""),
+    (&[], BAD, BAD_ANSWERS, COUNT),
     (&["--explain"], BAD, BAD_ANSWERS, REASONS),
-    (&["--explain"], "", "", NO_REASON),
+    (&["--explain"], SHORT, SHORT_ANSWERS, ""),
+    (&["--strict"], SHORT, SHORT_ANSWERS, ""),
 ];
 
 #[test]
@@ -180,13 +205,28 @@ fn runs_scripts(rt: HostRuntime) -> Result<(), Fail> {
     Ok(())
 }
 
+/// The script is run to its end, though its first line is no command.
+#[test]
+fn fails_for_a_bad_line_where_that_is_asked_for(rt: HostRuntime) -> Result<(), Fail> {
+    let script = BAD.as_bytes();
+    expect_run(&rt, &["--strict"], script, 1, BAD_ANSWERS, COUNT)?;
+    let given = ["--strict", "--explain"];
+    expect_run(&rt, &given, script, 1, BAD_ANSWERS, REASONS)
+}
+
 /// Words, the status, and what is written where the script can't be read: bad limits come first.
-const UNREAD: [(&[&str], u8, &str); 4] = [
+const UNREAD: [(&[&str], u8, &str); 6] = [
     (&[], 1, "epsim: cannot read the script\n"),
+    (&["--explain"], 1, "epsim: cannot read the script\n"),
     (
-        &["--explain"],
+        &["s"],
         1,
-        "epsim: 0 of 0 lines were no command\nepsim: cannot read the script\n",
+        "epsim: cannot read the script \"s\": unsupported\n",
+    ),
+    (
+        &["--limits", "2,5,2,8,4096,1", "s"],
+        2,
+        "epsim: bad limits: descriptors is 2, and goes from 3 to 65536\n",
     ),
     (
         &["--limits", "2,5,2,8,4096,1"],
@@ -213,8 +253,13 @@ fn tells_a_line_that_is_too_long(rt: HostRuntime) -> Result<(), Fail> {
     let long = vec![in rt.alloc(); b'x'; 65_537]?;
     let error = "epsim: line 1 is longer than 65536 bytes\n";
     expect_run(&rt, &[], long.as_slice(), 1, "", error)?;
-    let errors = "epsim: 0 of 0 lines were no command\nepsim: line 1 is longer than 65536 bytes\n";
-    expect_run(&rt, &["--explain"], long.as_slice(), 1, "", errors)
+    expect_run(&rt, &["--explain"], long.as_slice(), 1, "", error)?;
+    let mut second = vec![in rt.alloc(); b'\n'; 1]?;
+    second.extend_from_slice(long.as_slice())?;
+    let errors =
+        "epsim: line 1: empty\nepsim: 1 of 1 line was no command\nepsim: line 2 is longer than 65536 bytes\n";
+    let answer = "{\"bad\":1}\n";
+    expect_run(&rt, &["--explain"], second.as_slice(), 1, answer, errors)
 }
 
 #[test]
@@ -280,10 +325,11 @@ fn reads_the_words_first(rt: HostRuntime) -> Result<(), Fail> {
 }
 
 /// Words, the status and the answers where nothing can be told of a fault.
-const UNHEARD: [(&[&str], u8, &str); 3] = [
+const UNHEARD: [(&[&str], u8, &str); 4] = [
     (&["--unknown"], 2, ""),
     (&["--limits", "2,5,2,8,4096,1"], 2, ""),
     (&["--explain"], 0, "{\"bad\":1}\n{\"bad\":2}\n"),
+    (&["--strict"], 1, "{\"bad\":1}\n{\"bad\":2}\n"),
 ];
 
 #[test]

@@ -21,9 +21,17 @@ plain_rule = record (new_rule (codes "plain")) { long = Some (codes "plain"); ac
 abbrev pub explain_rule : Rule
 explain_rule = record (new_rule (codes "explain")) { long = Some (codes "explain"); action = Some SetTrue }
 
+-- `--strict`
+abbrev pub strict_rule : Rule
+strict_rule = record (new_rule (codes "strict")) { long = Some (codes "strict"); action = Some SetTrue }
+
 -- `--history FILE`
 abbrev pub history_rule : Rule
 history_rule = record (new_rule (codes "history")) { long = Some (codes "history"); value_names = 1 }
+
+-- the script's name, which no option stands before
+abbrev pub script_rule : Rule
+script_rule = record (new_rule (codes "script")) { value_names = 1 }
 
 abbrev pub with_version : Shape → Shape
 with_version s = record s { has_version = true }
@@ -33,7 +41,8 @@ abbrev pub versioned : App
 versioned = on_top with_version (new_app (codes "epsim"))
 
 abbrev pub program : App
-program = with_rule (with_rule (with_rule (with_rule versioned limits_rule) plain_rule) explain_rule) history_rule
+program = with_rule (with_rule (with_rule (with_rule (with_rule (with_rule versioned
+    limits_rule) plain_rule) explain_rule) strict_rule) history_rule) script_rule
 
 -- what `clap` finds in words that it takes
 unfoldable pub rows_in : List Text → List Row

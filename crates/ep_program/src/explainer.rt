@@ -2,6 +2,7 @@
 ghost use Rattle.std.specs.Io.Buffered.{reader_remaining};
 ghost use Rattle.std.specs.Prelude.{◌≡◌, IfOk};
 
+use crate::bad_lines::tell_bad_lines;
 use ep_text::explain;
 use std::alloc::Global;
 use std::io::{self, BufReader, Read, Write};
@@ -77,18 +78,16 @@ impl<R: Read + Drop, E: Write> Explainer<R, E> {
         }
     }
 
-    /// Explains the last line, where the script was run to its end and that line lacks its own, and
-    /// says how many lines were no command.
+    /// Explains the last line, where the script was run to its end and that line lacks its own.
+    /// Where it wasn't, it says how many of the lines that were answered were no command.
     pub(crate) fn finish(&mut self, is_whole: bool) {
-        if is_whole && !self.is_stopped && !self.line.is_empty() {
-            self.explain_line();
+        if self.is_stopped {
+            return;
         }
-        if !self.is_stopped {
-            let _ = write!(
-                self.errors,
-                "epsim: {} of {} lines were no command\n",
-                self.bad, self.lines
-            );
+        if !is_whole {
+            tell_bad_lines(&mut self.errors, self.bad, self.lines, "");
+        } else if !self.line.is_empty() {
+            self.explain_line();
         }
     }
 }

@@ -1,14 +1,16 @@
 //! The program, over any reader and writers.
-ghost use Rattle.std.specs.Prelude.{◌≡◌, ◌≢◌, ◌≤◌, IfSome, IsNone, Some, false, true};
+ghost use Rattle.std.specs.Prelude.{◌≡◌, ◌≢◌, ◌<◌, ◌≤◌, IfSome, IsNone, Some, false, true};
 ghost use Rattle.std.specs.IoError.{error_kind};
 ghost use Rattle.clap.specs.Words.{kind_of};
 ghost use Rattle.ep_base.specs.Limits.{Limits as Numbers, default_limits};
 ghost use Rattle.ep_program.specs.Options.{is_mistake};
 ghost use Rattle.ep_text.specs.Limits.{IsLimitsText};
 
+use crate::bad_lines::tell_bad_lines;
 use crate::command_line::{Settings, options};
 use crate::explainer::Explainer;
-use crate::files::{Create, NoFiles};
+use crate::files::{Files, NoFiles};
+use crate::streams::Stream;
 use clap::error::ErrorKind;
 use ep_base::Limits;
 use ep_kernel::ReadyKernel;
@@ -23,7 +25,7 @@ use std::io::{self, ErrorKind as IoKind, Read, Write};
 /// The end of the input was reached, or help or the version was asked for.
 const DONE: u8 = 0;
 
-/// The script was not run to its end.
+/// The script was not run to its end, or with `--strict` it has a line that is no command.
 const FAILED: u8 = 1;
 
 /// The command line is bad.
@@ -32,12 +34,31 @@ const BAD_WORDS: u8 = 2;
 /// The text of `--limits` writes none.
 const BAD_LIMITS: u8 = 2;
 
-/// Which kernel a script is run on.
+/// How a script is run.
 #[derive(Clone, Copy)]
-struct Choice {
-    /// Whether it is the one that scans, in place of the one with ready lists.
+struct Plan {
+    /// Whether the kernel is the one that scans, in place of the one with ready lists.
     plain: bool,
+    /// Whether it is said why a line is no command.
+    explain: bool,
+    /// Whether such a line makes the status 1.
+    strict: bool,
     limits: Limits,
+}
+
+/// Why the history can't be written.
+#[derive(Drop)]
+enum Refusal {
+    /// Its file is this stream of the run.
+    Shared(Stream),
+    /// The file can't be looked at, or made.
+    Error(io::Error),
+}
+
+impl From<io::Error> for Refusal {
+    fn from(error: io::Error) -> Refusal {
+        Refusal::Error(error)
+    }
 }
 
 /// Tells a fault in one line. A write that fails changes nothing.
@@ -74,15 +95,25 @@ fn refuse_limits<E: Write>(settings: &Settings<'_>, errors: &mut E) -> u8
     BAD_LIMITS
 }
 
-/// Tells why the file of `--history` can't be made. A write that fails changes nothing.
-fn refuse_history<E: Write>(settings: &Settings<'_>, error: &io::Error, errors: &mut E) -> u8
+/// Tells why the script can't be opened. A write that fails changes nothing.
+fn refuse_script<E: Write>(settings: &Settings<'_>, error: &io::Error, errors: &mut E) -> u8
+    ensures { result ≡ 1 }
+{
+    let path = settings.script.unwrap_or("");
+    let _ = write!(errors, "epsim: cannot read the script {path:?}: {error}\n");
+    FAILED
+}
+
+/// Tells why the history can't be written. A write that fails changes nothing.
+fn refuse_history<E: Write>(settings: &Settings<'_>, refusal: &Refusal, errors: &mut E) -> u8
     ensures { result ≡ 1 }
 {
     let path = settings.history.unwrap_or("");
-    let _ = write!(
-        errors,
-        "epsim: cannot write the history to {path:?}: {error}\n"
-    );
+    let _ = write!(errors, "epsim: cannot write the history to {path:?}: ");
+    let _ = match refusal {
+        Refusal::Shared(stream) => write!(errors, "it is {stream}\n"),
+        Refusal::Error(error) => write!(errors, "{error}\n"),
+    };
     FAILED
 }
 
@@ -196,14 +227,14 @@ fn run_made<K: Kernel + Drop, R: Read + Drop, W: Write + Drop, E: Write + Drop, 
 /// Runs the script on a new kernel of the kind that was chosen.
 fn run<R: Read + Drop, W: Write + Drop, E: Write + Drop, H: Write + Drop>(
     alloc: Global,
-    choice: Choice,
+    plan: Plan,
     reader: R,
     output: W,
     explain_to: Option<E>,
     history: Option<H>,
 ) -> Result<Summary, RecordedFault> {
-    let Choice { plain, limits } = choice;
-    if plain {
+    let limits = plan.limits;
+    if plan.plain {
         let made = PlainKernel::new(alloc, limits);
         run_made(alloc, made, reader, output, explain_to, history)
     } else {
@@ -212,63 +243,132 @@ fn run<R: Read + Drop, W: Write + Drop, E: Write + Drop, H: Write + Drop>(
     }
 }
 
-/// The writer of the history, where one is asked for. The error says why it can't be made.
-fn history_file<C: Create>(settings: &Settings<'_>, files: C) -> io::Result<Option<C::File>> {
+/// Tells how many lines were no command, where the script was run to its end, and gives the status.
+fn end<E: Write>(plan: &Plan, summary: &Summary, errors: &mut E) -> u8
+    ensures bound { result ≤ 1 }
+    ensures strict { plan.now.strict ≡ true → 0 < summary.now.bad → result ≡ 1 }
+    ensures lenient { plan.now.strict ≡ false → result ≡ 0 }
+    ensures commands { summary.now.bad ≡ 0 → result ≡ 0 }
+{
+    let more = if plan.explain {
+        ""
+    } else {
+        "; --explain says why"
+    };
+    tell_bad_lines(errors, summary.bad, summary.lines, more);
+    if plan.strict && summary.bad > 0 {
+        FAILED
+    } else {
+        DONE
+    }
+}
+
+/// Runs the script, and tells how that ended.
+fn run_told<R: Read + Drop, W: Write, E: Write, H: Write + Drop>(
+    alloc: Global,
+    plan: Plan,
+    reader: R,
+    output: &mut W,
+    errors: &mut E,
+    history: Option<H>,
+) -> u8
+    ensures { result ≤ 2 }
+{
+    let explain_to = if plan.explain {
+        Some(&mut *errors)
+    } else {
+        None
+    };
+    match run(alloc, plan, reader, &mut *output, explain_to, history) {
+        Ok(summary) => end(&plan, &summary, errors),
+        Err(fault) => fail(&fault, errors),
+    }
+}
+
+/// The file of the script, where one is named. The error says why it can't be opened.
+fn script_file<F: Files>(settings: &Settings<'_>, files: &F) -> io::Result<Option<F::Script>> {
+    match settings.script {
+        None | Some("-") => Ok(None),
+        Some(path) => Ok(Some(files.open(path)?)),
+    }
+}
+
+/// The writer of the history, where one is asked for. No file is made or emptied that is a stream of
+/// the run.
+fn history_file<F: Files>(
+    settings: &Settings<'_>,
+    files: F,
+    script: Option<&F::Script>,
+) -> Result<Option<F::History>, Refusal> {
     let Some(path) = settings.history else {
         return Ok(None);
     };
+    if let Some(file) = files.find(path)? {
+        let streams = files.streams(script)?;
+        if let Some(stream) = streams.find(file) {
+            return Err(Refusal::Shared(stream));
+        }
+    }
     Ok(Some(files.create(path)?))
 }
 
 /// Runs what the words asked for, and tells how it failed.
-fn run_settings<R: Read + Drop, W: Write, E: Write, C: Create>(
+fn run_settings<R: Read + Drop, W: Write, E: Write, F: Files>(
     alloc: Global,
     settings: &Settings<'_>,
     reader: R,
     output: &mut W,
     errors: &mut E,
-    files: C,
+    files: F,
 ) -> u8
     ensures { result ≤ 2 }
 {
     let Some(limits) = limits_of(settings.limits) else {
         return refuse_limits(settings, errors);
     };
-    let history = match history_file(settings, files) {
+    let script = match script_file(settings, &files) {
+        Ok(script) => script,
+        Err(error) => return refuse_script(settings, &error, errors),
+    };
+    let history = match history_file(settings, files, script.as_ref()) {
         Ok(history) => history,
-        Err(error) => return refuse_history(settings, &error, errors),
+        Err(refusal) => return refuse_history(settings, &refusal, errors),
     };
-    let explain_to = if settings.explain {
-        Some(&mut *errors)
-    } else {
-        None
-    };
-    let choice = Choice {
+    let plan = Plan {
         plain: settings.plain,
+        explain: settings.explain,
+        strict: settings.strict,
         limits,
     };
-    match run(alloc, choice, reader, output, explain_to, history) {
-        Ok(_) => DONE,
-        Err(fault) => fail(&fault, errors),
+    match script {
+        Some(file) => run_told(alloc, plan, file, output, errors, history),
+        None => run_told(alloc, plan, reader, output, errors, history),
     }
 }
 
 /// Does what the words of the command line, the program's name first, ask for, and gives the
-/// status: 0 at the end of the script or for `--help` and `--version`, 1 where the script was not
-/// run to its end or such a text could not be written, 2 for a bad command line or limits that are
-/// none. The words are looked at first, then the limits, then the file of `--history` is made by
-/// `files`, and the script is read last, by a kernel with ready lists, or with `--plain` by one that
-/// scans: their answers differ at most in which of several reportable registrations a wait reports
-/// first. `--explain` changes what stands on `errors` alone, and `--history` only ends the run where
-/// its file can't be written. What went wrong is one line on `errors`, or the text of `clap`; a write
-/// there that fails changes no status.
-pub fn run_with_files<R: Read + Drop, W: Write, E: Write, C: Create>(
+/// status. It is
+/// - 0 at the end of the script, or for `--help` and `--version`,
+/// - 1 where the script was not run to its end, or such a text could not be written, or with
+///   `--strict` a line was no command,
+/// - 2 for a bad command line or limits that are none.
+///
+/// The words are looked at first, then the limits. Then the script is opened by `files`, if one is
+/// named that isn't `-`, else it is `reader`. Then `files` makes the file of `--history`, unless it
+/// is a stream of the run by what `files` tells of it: that ends the run. The script is read last,
+/// by a kernel with ready lists, or with `--plain` by one that scans: their answers differ at most
+/// in which of several reportable registrations a wait reports first. `--explain` changes what
+/// stands on `errors` alone, `--strict` the status alone, and `--history` only ends the run where its
+/// file can't be written. What went wrong is one line on `errors`, or the text of `clap`. A script
+/// that was run to its end has one, too, if a line was no command. A write there that fails changes
+/// no status.
+pub fn run_with_files<R: Read + Drop, W: Write, E: Write, F: Files>(
     alloc: Global,
     words: Vec<String>,
     reader: R,
     output: &mut W,
     errors: &mut E,
-    files: C,
+    files: F,
 ) -> u8
     ensures { result ≤ 2 }
 {
@@ -278,7 +378,8 @@ pub fn run_with_files<R: Read + Drop, W: Write, E: Write, C: Create>(
     }
 }
 
-/// As `run_with_files`, where no file can be made: `--history` ends the run before it begins.
+/// As `run_with_files`, where there are no files: a script's name and `--history` end the run before
+/// it begins.
 pub fn run_with<R: Read + Drop, W: Write, E: Write>(
     alloc: Global,
     words: Vec<String>,

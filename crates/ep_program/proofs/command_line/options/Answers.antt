@@ -25,10 +25,22 @@ returns-clause-explain c =
     sym (c.value_source-2.ensures ∙ source-rows (found_of c.in_ok-matches.matches) (codes "explain") ∙ ap (source_of (codes "explain")) rows) in
     rw source (search rules)
 
+pub returns-clause-strict : goal.returns-clause-strict
+returns-clause-strict c =
+    let rows = rows_found _ (map string_bytes c.args.words.now) c.in_ok-matches.matches c.in_ok-command.ensures c.in_ok-matches.ensures.matches in
+    let source : source_of (codes "strict") (rows_in (map string_bytes c.args.words.now)) ≡ c.value_source-3.result =
+    sym (c.value_source-3.ensures ∙ source-rows (found_of c.in_ok-matches.matches) (codes "strict") ∙ ap (source_of (codes "strict")) rows) in
+    rw source (search rules)
+
 pub returns-clause-history : goal.returns-clause-history
 returns-clause-history c =
     let rows = rows_found _ (map string_bytes c.args.words.now) c.in_ok-matches.matches c.in_ok-command.ensures c.in_ok-matches.ensures.matches in
     c.get_str-2.ensures ∙ first_value-rows (found_of c.in_ok-matches.matches) (codes "history") ∙ ap (first_of (codes "history")) rows
+
+pub returns-clause-script : goal.returns-clause-script
+returns-clause-script c =
+    let rows = rows_found _ (map string_bytes c.args.words.now) c.in_ok-matches.matches c.in_ok-command.ensures c.in_ok-matches.ensures.matches in
+    c.get_str-3.ensures ∙ first_value-rows (found_of c.in_ok-matches.matches) (codes "script") ∙ ap (first_of (codes "script")) rows
 
 pub returns-clause-fault : goal.returns-clause-fault
 returns-clause-fault c =
