@@ -94,28 +94,28 @@ read_fault (Some i) (Some r) w v h0 h s p = (lines_of r, still i r w v h0 h s p)
 
 -- ---- the next line is too long, or one too many
 
-from_front : (front r rest : List ℕ) → IsPlain front → longest_line < length front → r ≡ front ++ rest → (l : List ℕ) × (ls : List (List ℕ)) × (longest_line < length l) × (lines_of r ≡ l ∷ ls)
-from_front [] r rest plain long e = absurd (omega arith)
-from_front (x ∷ f) r rest plain long e =
+from_front : (most : ℕ) (front r rest : List ℕ) → IsPlain front → most < length front → r ≡ front ++ rest → (l : List ℕ) × (ls : List (List ℕ)) × (most < length l) × (lines_of r ≡ l ∷ ls)
+from_front most [] r rest plain long e = absurd (omega arith)
+from_front most (x ∷ f) r rest plain long e =
     let m = long_line x f rest plain in
     (m.0, m.1, omega (arith, long, m.2), ap lines_of e ∙ m.3)
 
-first_too_long : (r : List ℕ) → IsTooLong r → (l : List ℕ) × (ls : List (List ℕ)) × (longest_line < length l) × (lines_of r ≡ l ∷ ls)
-first_too_long r h = from_front h.front r h.rest h.plain h.long h.cut
+pub first_too_long : (most : ℕ) (r : List ℕ) → IsTooLong most r → (l : List ℕ) × (ls : List (List ℕ)) × (most < length l) × (lines_of r ≡ l ∷ ls)
+first_too_long most r h = from_front most h.front r h.rest h.plain h.long h.cut
 
-line_fault : (k l w v : Option (List ℕ)) (h0 h : List Record) (s : Summary) (n : ℕ) → Ran k l w v h0 h s → n ≡ s.lines + 1 → IfSome l (λ r. IsTooLong r)
+line_fault : (k l w v : Option (List ℕ)) (h0 h : List Record) (s : Summary) (n : ℕ) → Ran k l w v h0 h s → n ≡ s.lines + 1 → IfSome l (λ r. IsTooLong longest_line r)
     → IfSome k (λ i. Faulted (fault.Line n) i w v h0 h)
 line_fault None l w v h0 h s n p e q = tt
 line_fault (Some i) None w v h0 h s n p e q = absurd p
 line_fault (Some i) (Some r) w v h0 h s n p e q =
-    let first = first_too_long r q in
+    let first = first_too_long longest_line r q in
     let f = follows i r w v h0 h s first.0 first.1 p first.3 in
     (first.0, first.1, f.0, e ∙ ap (λ x. x + 1) (sym f.1), first.2)
 
 -- the next line did not come
 pub next_fault : (k l w v : Option (List ℕ)) (h0 h : List Record) (s : Summary) (n : ℕ) (X : Type 0) (e : ScriptFault) → Ran k l w v h0 h s → n ≡ s.lines + 1
     → ((e ≡ fault.Memory) ⊎ (((e ≡ fault.Read) × X) ⊎ (e ≡ fault.Line n)))
-    → (◌≡◌ {A = Result Bool ScriptFault} (Err e) (Err (fault.Line n)) → IfSome l (λ r. IsTooLong r))
+    → (◌≡◌ {A = Result Bool ScriptFault} (Err e) (Err (fault.Line n)) → IfSome l (λ r. IsTooLong longest_line r))
     → IfSome k (λ i. Faulted e i w v h0 h)
 next_fault k l w v h0 h s n X e p q (inl f) long = rw f (memory_fault k l w v v h0 h h s p (keeps_itself v) (gains_none h))
 next_fault k l w v h0 h s n X e p q (inr (inl f)) long = rw f.0 (read_fault k l w v h0 h s p)

@@ -3,8 +3,8 @@ use Rattle.std.proofs.Common.{List, None, Option, Some, IfSome, [], ap, append-n
 use Rattle.std.specs.Io.KnownBytes.{prepend_known}
 use Rattle.ep_script.specs.declared.chunk.Input.{Input}
 use Rattle.ep_script.specs.Known.{Leads}
-use Rattle.ep_script.specs.Lines.{IsPlain, longest_line, most_read}
-use Rattle.ep_script.specs.Outcome.{IsHeld}
+use Rattle.ep_script.specs.Lines.{IsPlain, most_read}
+use Rattle.ep_script.specs.Outcome.{IsHeldOf}
 use Rattle.ep_script.specs.Steps.{Behind, IsTooLong, TakesLine}
 use Rattle.ep_script.specs.Unread.{unread}
 
@@ -63,19 +63,19 @@ pub unread_few : (i : Input) → length (unread i) ≤ most_read
 unread_few i = omega (arith, length-take (i.end - i.start) (drop i.start i.chunk.items), i.within, i.is_full_size)
 
 -- a piece for which there was no memory
-pub holds_back : (k l m : Option (List ℕ)) (line : List ℕ) (i : Input) → Leads k l (λ xs ys. xs ≡ line ++ ys) → Leads l (prepend_known (unread i) m) (λ xs ys. xs ≡ ys)
-    → length line ≤ longest_line → Leads k m (λ xs ys. Behind IsHeld xs ys)
-holds_back None l m line i p q short = tt
-holds_back (Some xs) None m line i p q short = absurd p
-holds_back (Some xs) (Some ys) None line i p q short = q
-holds_back (Some xs) (Some ys) (Some zs) line i p q short = (
+pub holds_back : (most : ℕ) (k l m : Option (List ℕ)) (line : List ℕ) (i : Input) → Leads k l (λ xs ys. xs ≡ line ++ ys) → Leads l (prepend_known (unread i) m) (λ xs ys. xs ≡ ys)
+    → length line ≤ most → Leads k m (λ xs ys. Behind (IsHeldOf most) xs ys)
+holds_back most None l m line i p q short = tt
+holds_back most (Some xs) None m line i p q short = absurd p
+holds_back most (Some xs) (Some ys) None line i p q short = q
+holds_back most (Some xs) (Some ys) (Some zs) line i p q short = (
   line ++ unread i,
   omega (arith, short, length-append line (unread i), unread_few i),
   p ∙ ap (λ y. line ++ y) q ∙ sym (append_assoc line (unread i) zs),
 )
 
-held_line : (xs line ys : List ℕ) (i : Input) → TakesLine xs line (unread i ++ ys) → length line ≤ longest_line → Behind IsHeld xs ys
-held_line xs line ys i t short = elim t.cut [
+held_line : (most : ℕ) (xs line ys : List ℕ) (i : Input) → TakesLine xs line (unread i ++ ys) → length line ≤ most → Behind (IsHeldOf most) xs ys
+held_line most xs line ys i t short = elim t.cut [
   | inl e ↦ (line ++ 10 ∷ unread i, omega (arith, short, length-append line (10 ∷ unread i), unread_few i), e ∙ sym (append_assoc line (10 ∷ unread i) ys))
   | inr e ↦ (
     line ++ unread i,
@@ -85,14 +85,14 @@ held_line xs line ys i t short = elim t.cut [
 ]
 
 -- a line that was not answered
-pub holds_line : (k m : Option (List ℕ)) (line : List ℕ) (i : Input) → Leads k (prepend_known (unread i) m) (λ xs ys. TakesLine xs line ys) → length line ≤ longest_line
-    → Leads k m (λ xs ys. Behind IsHeld xs ys)
-holds_line None m line i p short = tt
-holds_line (Some xs) None line i p short = p
-holds_line (Some xs) (Some ys) line i p short = held_line xs line ys i p short
+pub holds_line : (most : ℕ) (k m : Option (List ℕ)) (line : List ℕ) (i : Input) → Leads k (prepend_known (unread i) m) (λ xs ys. TakesLine xs line ys) → length line ≤ most
+    → Leads k m (λ xs ys. Behind (IsHeldOf most) xs ys)
+holds_line most None m line i p short = tt
+holds_line most (Some xs) None line i p short = p
+holds_line most (Some xs) (Some ys) line i p short = held_line most xs line ys i p short
 
-too_long : (xs us zs : List ℕ) → IsTooLong us → xs ≡ us ++ zs → IsTooLong xs
-too_long xs us zs h e = record {
+too_long : (most : ℕ) (xs us zs : List ℕ) → IsTooLong most us → xs ≡ us ++ zs → IsTooLong most xs
+too_long most xs us zs h e = record {
   front = h.front;
   rest = h.rest ++ zs;
   plain = h.plain;
@@ -101,9 +101,9 @@ too_long xs us zs h e = record {
 }
 
 -- a piece that is too long
-pub overflows : (k l m : Option (List ℕ)) (line u : List ℕ) → Leads k l (λ xs ys. xs ≡ line ++ ys) → Leads l (prepend_known u m) (λ xs ys. xs ≡ ys) → IsTooLong (line ++ u)
-    → IfSome k (λ xs. IsTooLong xs)
-overflows None l m line u p q h = tt
-overflows (Some xs) None m line u p q h = absurd p
-overflows (Some xs) (Some ys) None line u p q h = absurd q
-overflows (Some xs) (Some ys) (Some zs) line u p q h = too_long xs (line ++ u) zs h (p ∙ ap (λ y. line ++ y) q ∙ sym (append_assoc line u zs))
+pub overflows : (most : ℕ) (k l m : Option (List ℕ)) (line u : List ℕ) → Leads k l (λ xs ys. xs ≡ line ++ ys) → Leads l (prepend_known u m) (λ xs ys. xs ≡ ys) → IsTooLong most (line ++ u)
+    → IfSome k (λ xs. IsTooLong most xs)
+overflows most None l m line u p q h = tt
+overflows most (Some xs) None m line u p q h = absurd p
+overflows most (Some xs) (Some ys) None line u p q h = absurd q
+overflows most (Some xs) (Some ys) (Some zs) line u p q h = too_long most xs (line ++ u) zs h (p ∙ ap (λ y. line ++ y) q ∙ sym (append_assoc line u zs))

@@ -71,9 +71,13 @@ Faulted fault.Lines input before written start history =
     × (length stopped.lines ≡ most_lines)
 Faulted fault.Write input before written start history = Broken input before written start history
 
--- what can be read and not answered: a line with its end, and what one read gave behind it
+-- a line of at most so many bytes with its end, and what one read gave behind it
+abbrev pub IsHeldOf : ℕ → List ℕ → Type 0
+IsHeldOf most part = length part ≤ most + 1 + most_read
+
+-- what can be read and not answered
 abbrev pub IsHeld : List ℕ → Type 0
-IsHeld part = length part ≤ longest_line + 1 + most_read
+IsHeld = IsHeldOf longest_line
 
 -- the lines that stand answered are all that was read but for a part behind them, of which P holds
 pub record Cut (P : List ℕ → Type 0) (most : ℕ) (input rest : List ℕ) (before written : Option (List ℕ)) (start history : List Record) : Type 0 where

@@ -8,7 +8,7 @@ use Rattle.ep_script.specs.declared.fault.ScriptFault.TheVariants as fault
 use Rattle.ep_script.specs.declared.summary.LineKind.{LineKind}
 use Rattle.ep_script.specs.declared.summary.LineKind.TheVariants as kind
 use Rattle.ep_text.specs.Event.{Command}
-use Rattle.ep_script.specs.Lines.{IsPlain, longest_line}
+use Rattle.ep_script.specs.Lines.{IsPlain}
 use Rattle.ep_script.specs.Transcript.{Grows, Outcome, command_in, said}
 
 -- the first line of xs, and what is behind it
@@ -20,12 +20,12 @@ pub record TakesLine (xs line ys : List ℕ) : Type 0 where
 abbrev pub Behind : (List ℕ → Type 0) → List ℕ → List ℕ → Type 0
 Behind P xs ys = (part : List ℕ) × P part × (xs ≡ part ++ ys)
 
--- xs begins with too many bytes that end no line
-pub record IsTooLong (xs : List ℕ) : Type 0 where
+-- xs begins with more bytes than so many, none of which ends a line
+pub record IsTooLong (most : ℕ) (xs : List ℕ) : Type 0 where
   pub front : List ℕ
   pub rest : List ℕ
   pub plain : IsPlain front
-  pub long : longest_line < length front
+  pub long : most < length front
   pub cut : xs ≡ front ++ rest
 
 abbrev pub kind_of : Outcome → LineKind

@@ -41,8 +41,8 @@ pub enum HistoryFault {
     /// The reader answered an error.
     #[error("cannot read the history")]
     Read,
-    /// The line of this number, counted from 1, is longer than 65,536 bytes.
-    #[error("line {0} is longer than 65536 bytes")]
+    /// The line of this number, counted from 1, is longer than 56,000,000 bytes.
+    #[error("line {0} is longer than 56000000 bytes")]
     Line(u64),
     /// The line of this number, counted from 1, is no record.
     #[error("line {0} is no record")]

@@ -2,7 +2,7 @@
 ghost use Rattle.std.specs.Io.KnownBytes.{prepend_known};
 ghost use Rattle.std.specs.Prelude.{◌≡◌, ◌+◌, ◌++◌, ◌<◌, ◌≤◌, ◌⊎◌, ◌∷◌, IfErr, IfOk, IsErrOf, OnErr, OnOk, [], drop, false, length, take, true};
 ghost use Rattle.ep_script.specs.Known.{Leads};
-ghost use Rattle.ep_script.specs.Lines.{IsPlain, longest_line};
+ghost use Rattle.ep_script.specs.Lines.{IsPlain};
 ghost use Rattle.ep_script.specs.Steps.{IsTooLong};
 ghost use Rattle.ep_script.specs.Unread.{unread};
 
@@ -16,8 +16,8 @@ use std::io::Read;
 /// How many bytes a read asks for at most.
 const CHUNK: usize = 65_536;
 
-/// The most bytes of a line, without the byte that ends it.
-const LONGEST_LINE: usize = 65_536;
+/// The most bytes of a script's line, without the byte that ends it.
+pub(crate) const LONGEST_LINE: usize = 65_536;
 
 /// How many bytes stand before the first byte 10, or how many there are where there is none.
 fn plain_front(bytes: &[u8]) -> usize
@@ -115,14 +115,16 @@ impl Input {
         }
     }
 
-    /// Moves bytes at hand behind the line, up to the byte that ends it, and says whether there was one.
+    /// Moves bytes at hand behind the line, up to the byte that ends it, and says whether there was one. The line gets
+    /// `most` bytes at most.
     pub(crate) fn take_piece(
         &mut self,
         line: &mut Vec<u8>,
         number: u64,
+        most: usize,
     ) -> Result<bool, ScriptFault>
         requires plain { IsPlain line.old.items }
-        requires short { length line.old.items ≤ longest_line }
+        requires short { length line.old.items ≤ most }
         ensures ended { IfOk result
             (λ is_whole. is_whole ≡ true
             → line.old.items ++ unread self.old ≡ line.new.items ++ 10 ∷ unread self.new) }
@@ -130,15 +132,15 @@ impl Input {
             (λ is_whole. is_whole ≡ false
             → (line.new.items ≡ line.old.items ++ unread self.old) × (unread self.new ≡ [])) }
         ensures plain { OnOk result (IsPlain line.new.items) }
-        ensures short { OnOk result (length line.new.items ≤ longest_line) }
+        ensures short { OnOk result (length line.new.items ≤ most) }
         ensures long { IsErrOf result (ScriptFault.Line number)
-            → IsTooLong (line.old.items ++ unread self.old) }
+            → IsTooLong most (line.old.items ++ unread self.old) }
         ensures err { IfErr result (λ e. (e ≡ ScriptFault.Memory) ⊎ (e ≡ ScriptFault.Line number)) }
     {
         let unread = self.unread();
         let count = plain_front(unread);
         let is_whole = count < unread.len();
-        if count > LONGEST_LINE - line.len() {
+        if count > most - line.len() {
             return Err(ScriptFault::Line(number));
         }
         if line.extend_from_slice(&unread[..count]).is_err() {

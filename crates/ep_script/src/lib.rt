@@ -5,6 +5,7 @@ mod answer;
 mod chunk;
 mod emit;
 mod fault;
+mod history_reader;
 mod input;
 mod keep;
 mod law;
@@ -16,6 +17,7 @@ mod watched;
 mod with_history;
 
 pub use crate::fault::{HistoryFault, RecordedFault, ScriptFault};
+pub use crate::history_reader::HistoryReader;
 pub use crate::law::cuts_into_lines;
 pub use crate::past::read_history;
 pub use crate::run::run_script;

@@ -1,60 +1,28 @@
 //! Reads a history from its lines.
 ghost use Rattle.std.specs.Io.KnownBytes.{prepend_known};
-ghost use Rattle.std.specs.Prelude.{◌≡◌, ◌≢◌, ◌++◌, ◌∷◌, ◌⊎◌, [], ℕ, IfErr, IfOk, IfSome, IsErrOf, None, OnOk, Some};
-ghost use Rattle.ep_base.specs.declared.record.Record.{Record as Entry};
-ghost use Rattle.ep_history.specs.Records.{line_record};
+ghost use Rattle.std.specs.Prelude.{◌≡◌, ◌++◌, ◌∷◌, [], ℕ, All, IfOk, IfSome, IsErrOf, OnOk};
 ghost use Rattle.ep_script.specs.Lines.{lines_of};
-ghost use Rattle.ep_script.specs.ReadHistory.{AreLinesOf, IsFirstBad};
+ghost use Rattle.ep_script.specs.ReadHistory.{AreLinesOf, FitsRecord, IsFirstBad, IsFirstLong};
 
-use crate::chunk::Input;
-use crate::fault::{HistoryFault, ScriptFault};
-use crate::next_line::next_line;
+use crate::fault::HistoryFault;
+use crate::history_reader::HistoryReader;
 use crate::watched::Watched;
 use ep_base::Record;
-use ep_history::RecordReader;
-use std::alloc::Global;
+use std::alloc::{AllocError, Global};
 use std::io::Read;
 
-/// The fault of a line that could not be had.
-fn of_reading(fault: ScriptFault) -> HistoryFault
-    ensures { (n : ℕ) → result ≢ HistoryFault.NoRecord n }
+/// Puts a record behind those before it.
+fn add_record(next: Record, records: &mut Vec<Record>) -> Result<(), AllocError>
+    ensures { OnOk result (records.new.items ≡ records.old.items ++ next ∷ []) }
 {
-    match fault {
-        ScriptFault::Line(number) => HistoryFault::Line(number),
-        ScriptFault::Memory => HistoryFault::Memory,
-        _ => HistoryFault::Read,
-    }
-}
-
-/// Puts the record of a line behind those before it.
-fn add_record(
-    alloc: Global,
-    reader: &mut RecordReader,
-    line: &[u8],
-    number: u64,
-    records: &mut Vec<Record>,
-) -> Result<(), HistoryFault>
-    ensures ok { OnOk result
-        ((r : Entry) × (line_record line.now ≡ Some r)
-        × (records.new.items ≡ records.old.items ++ r ∷ [])) }
-    ensures none { IsErrOf result (HistoryFault.NoRecord number) → line_record line.now ≡ None }
-    ensures err { IfErr result
-        (λ e. (e ≡ HistoryFault.Memory) ⊎ (e ≡ HistoryFault.NoRecord number)) }
-{
-    let Ok(found) = reader.read(alloc, line) else {
-        return Err(HistoryFault::Memory);
-    };
-    let Some(record) = found else {
-        return Err(HistoryFault::NoRecord(number));
-    };
-    match records.push(record) {
+    match records.push(next) {
         Ok(()) => Ok(()),
-        Err(_) => Err(HistoryFault::Memory),
+        Err(_) => Err(AllocError),
     }
 }
 
 /// Reads a history: a record a line, as `ep_history` prints it. A line ends at byte 10, which the
-/// last may lack, and has at most 65,536 bytes.
+/// last may lack, and has at most 56,000,000 bytes.
 ///
 /// `NoRecord(N)` says that line N, counted from 1, is the first that is no record; `Line(N)` that
 /// it is too long, `Read` that the reader answered an error, and `Memory` that a growth was refused.
@@ -67,24 +35,26 @@ pub fn read_history<R: Read>(
 ) -> Result<Vec<Record>, HistoryFault>
     ensures records { IfOk result (λ records. IfSome (R.remaining reader.old.inner) (λ input.
         AreLinesOf records.items (lines_of input))) }
+    ensures fit { IfOk result (λ _. IfSome (R.remaining reader.old.inner) (λ input.
+        All FitsRecord (lines_of input))) }
     ensures bad { (number : ℕ) → IsErrOf result (HistoryFault.NoRecord number) →
         IfSome (R.remaining reader.old.inner) (λ input. IsFirstBad number (lines_of input)) }
+    ensures long { (number : ℕ) → IsErrOf result (HistoryFault.Line number) →
+        IfSome (R.remaining reader.old.inner) (λ input. IsFirstLong number (lines_of input)) }
 {
-    let Ok(mut input) = Input::new(alloc) else {
+    let Ok(mut past) = HistoryReader::new(alloc) else {
         return Err(HistoryFault::Memory);
     };
-    let mut line = Vec::new(alloc);
     let mut records = Vec::new(alloc);
-    let mut lines = RecordReader::new(alloc);
     for done in 0..u64::MAX {
-        match next_line(reader, &mut input, &mut line, done + 1) {
-            Ok(true) => {}
-            Ok(false) => return Ok(records),
-            Err(fault) => return Err(of_reading(fault)),
-        }
-        match add_record(alloc, &mut lines, line.as_slice(), done + 1, &mut records) {
-            Ok(()) => {}
+        let record = match past.next_record(alloc, reader, done + 1) {
+            Ok(Some(record)) => record,
+            Ok(None) => return Ok(records),
             Err(fault) => return Err(fault),
+        };
+        match add_record(record, &mut records) {
+            Ok(()) => {}
+            Err(_) => return Err(HistoryFault::Memory),
         }
     }
     // So many records find no memory.

@@ -8,6 +8,7 @@ ghost use Rattle.ep_script.specs.Outcome.{Cut, Faulted, Gains, IsHeld, Whole};
 use crate::answer::{Desk, answer_line};
 use crate::chunk::Input;
 use crate::fault::ScriptFault;
+use crate::input::LONGEST_LINE;
 use crate::next_line::next_line;
 use crate::summary::Summary;
 use crate::watched::Watched;
@@ -82,7 +83,7 @@ pub fn run_script<K: Kernel, R: Read, W: Write>(
         bad: 0,
     };
     for done in 0..MOST_LINES {
-        match next_line(reader, &mut input, &mut line, done + 1) {
+        match next_line(reader, &mut input, &mut line, done + 1, LONGEST_LINE) {
             Ok(true) => {}
             Ok(false) => return Ok(summary),
             Err(fault) => return Err(fault),

@@ -9,6 +9,7 @@ ghost use Rattle.ep_script.specs.Recorded.{EndsBy, Writes, WritesPart};
 use crate::answer::{Desk, answer_line};
 use crate::chunk::Input;
 use crate::fault::{RecordedFault, ScriptFault};
+use crate::input::LONGEST_LINE;
 use crate::keep::keep_record;
 use crate::next_line::next_line;
 use crate::run::MOST_LINES;
@@ -89,7 +90,7 @@ pub fn run_recorded<K: Kernel, R: Read, W: Write, H: Write>(
         bad: 0,
     };
     for done in 0..MOST_LINES {
-        match next_line(reader, &mut input, &mut line, done + 1) {
+        match next_line(reader, &mut input, &mut line, done + 1, LONGEST_LINE) {
             Ok(true) => {}
             Ok(false) => return Ok(summary),
             Err(fault) => return Err(RecordedFault::Script(fault)),

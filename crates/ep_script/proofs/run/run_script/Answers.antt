@@ -70,7 +70,7 @@ returns-in-Err-answer_line-clause-memory g c = λ q.
     answer_cut (g.R.Read.remaining c.args.reader.now.inner) (prepend_known (unread c.loop-done.input) (g.R.Read.remaining c.loop-done.reader.inner)) (g.R.Read.remaining c.next_line.new.reader.inner)
     (g.W.Write.contents c.args.writer.now.inner) (g.W.Write.contents c.loop-done.writer.inner) (g.W.Write.contents c.answer_line.new.writer.inner)
     (g.K.Kernel.past c.args.kernel.now) (g.K.Kernel.past c.loop-done.kernel) (g.K.Kernel.past c.answer_line.new.kernel) c.loop-done.summary _ _ c.in-Err-answer_line.fault
-    c.loop-done.invariant.ran (holds_line _ _ c.next_line.new.line.items c.next_line.new.input (c.in-Ok-true.ensures.line c.in-Ok-true.field-0-test) c.in-Ok-true.ensures.short)
+    c.loop-done.invariant.ran (holds_line _ _ _ c.next_line.new.line.items c.next_line.new.input (c.in-Ok-true.ensures.line c.in-Ok-true.field-0-test) c.in-Ok-true.ensures.short)
     c.in-Err-answer_line.ensures.err (err_same _ _ q)
 
 pub loop-done-preserved : goal.loop-done-preserved
