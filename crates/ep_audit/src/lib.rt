@@ -1,6 +1,8 @@
 //! Tells of a list of records whether the machine allows it.
 #![tactic(auto)]
 
+mod auditor;
 mod verdict;
 
+pub use crate::auditor::Auditor;
 pub use crate::verdict::{AuditFault, audit};

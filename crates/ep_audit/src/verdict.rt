@@ -41,7 +41,7 @@ fn is_answered(answer: &Answer, next: &Record) -> Result<bool, AllocError>
 
 /// Makes the step that a record tells of: whether the machine has it here, with the record's answer.
 /// After false and after an `Err`, which is want of memory, the kernel is in any state.
-fn follow(kernel: &mut PlainKernel, next: &Record) -> Result<bool, AllocError>
+pub(crate) fn follow(kernel: &mut PlainKernel, next: &Record) -> Result<bool, AllocError>
     ensures limits { kernel.new.limits ≡ kernel.old.limits }
     ensures goes { IfOk result
         (Follows kernel.old.limits (state_of kernel.old) (state_of kernel.new) next.now) }

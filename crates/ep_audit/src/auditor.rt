@@ -1,0 +1,38 @@
+//! Judges records one after another.
+ghost use Rattle.std.specs.Prelude.{◌++◌, ◌∷◌, [], IfOk, List};
+ghost use Rattle.ep_base.specs.Limits.{Limits as Bounds};
+ghost use Rattle.ep_base.specs.declared.record.Record.{Record as Entry};
+ghost use Rattle.ep_audit.specs.Auditor.{HasAllowed, Judges};
+
+use crate::verdict::follow;
+use ep_base::{Limits, Record};
+use ep_plain::PlainKernel;
+use std::alloc::{AllocError, Global};
+
+/// Judges records one after another, as `audit` judges a list: so a reader of a long history needs no list of it.
+#[derive(Drop)]
+pub struct Auditor {
+    kernel: PlainKernel,
+}
+
+impl Auditor {
+    /// It has allowed no record yet.
+    pub fn new(alloc: Global, limits: &Limits) -> Result<Auditor, AllocError>
+        ensures { IfOk result (λ auditor. HasAllowed limits.now [] auditor) }
+    {
+        Ok(Auditor {
+            kernel: PlainKernel::new(alloc, *limits)?,
+        })
+    }
+
+    /// Whether the records that it has allowed are still a run of the machine with this one behind them. Then it has
+    /// allowed this one, too. After false and after an `Err`, which is want of memory, it says nothing of more records.
+    /// It takes the time of a step of the scanning kernel, and keeps the record.
+    pub fn allows(&mut self, next: &Record) -> Result<bool, AllocError>
+        ensures { IfOk result (λ allowed. (limits : Bounds) (records : List Entry) →
+            HasAllowed limits records self.old
+            → Judges limits (records ++ next.now ∷ []) self.new allowed) }
+    {
+        follow(&mut self.kernel, next)
+    }
+}
