@@ -21,7 +21,7 @@ FORWARD(shutdown)
 FORWARD(getsockname)
 FORWARD(getpeername)
 
-/* So much goes in one event, for epaudit reads lines of at most 65,536 bytes, two for each byte. */
+/* So much goes in one event. So a line of the history stays short, two digits a byte; epaudit reads longer ones. */
 enum { MOST_AT_ONCE = 16384 };
 
 static size_t part_of(size_t count) { return count < MOST_AT_ONCE ? count : MOST_AT_ONCE; }

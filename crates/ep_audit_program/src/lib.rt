@@ -3,6 +3,8 @@
 #![tactic(auto)]
 
 mod command_line;
+mod judge;
 mod program;
+mod verdict;
 
 pub use crate::program::{no_words, run_with};

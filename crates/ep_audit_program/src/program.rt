@@ -3,11 +3,11 @@ ghost use Rattle.std.specs.Prelude.{◌≡◌, ◌≢◌, ◌≤◌};
 ghost use Rattle.std.specs.IoError.{error_kind};
 
 use crate::command_line::limits_word;
+use crate::judge::Verdict;
+use crate::verdict::judge_history;
 use clap::error::ErrorKind;
-use ep_audit::{AuditFault, audit};
-use ep_base::{Limits, Record};
-use ep_history::print_record;
-use ep_script::{Watched, parse_limits, read_history, read_limits};
+use ep_base::Limits;
+use ep_script::{Watched, parse_limits, read_limits};
 use std::alloc::Global;
 use std::io::{self, ErrorKind as IoKind, Read, Write};
 
@@ -70,12 +70,12 @@ fn tell<W: Write, E: Write>(found: &clap::Error, output: &mut W, errors: &mut E)
     }
 }
 
-fn write_legal<W: Write>(count: usize, output: &mut W) -> io::Result<()> {
+fn write_legal<W: Write>(count: u64, output: &mut W) -> io::Result<()> {
     write!(output, "ok {count} records\n")?;
     output.flush()
 }
 
-fn write_illegal<W: Write>(place: usize, line: &[u8], output: &mut W) -> io::Result<()> {
+fn write_illegal<W: Write>(place: u64, line: &[u8], output: &mut W) -> io::Result<()> {
     write!(
         output,
         "illegal at record {place}: the machine does not allow this answer here\n"
@@ -85,45 +85,17 @@ fn write_illegal<W: Write>(place: usize, line: &[u8], output: &mut W) -> io::Res
     output.flush()
 }
 
-/// Tells the first record that is not allowed, with its line.
-fn tell_illegal<W: Write, E: Write>(
-    alloc: Global,
-    records: &[Record],
-    place: usize,
-    output: &mut W,
-    errors: &mut E,
-) -> u8
+/// Tells the verdict. If it can't be written there is none.
+fn tell_verdict<W: Write, E: Write>(found: &Verdict, output: &mut W, errors: &mut E) -> u8
     ensures { result ≤ 2 }
 {
-    let Some(entry) = records.get(place) else {
-        return fail("no such record", errors);
+    let (status, written) = match found {
+        Verdict::Legal(count) => (LEGAL, write_legal(*count, output)),
+        Verdict::Illegal(at) => (ILLEGAL, write_illegal(at.place, at.line.as_slice(), output)),
     };
-    let Ok(line) = print_record(alloc, entry) else {
-        return fail("out of memory", errors);
-    };
-    match write_illegal(place, line.as_slice(), output) {
-        Ok(()) => ILLEGAL,
+    match written {
+        Ok(()) => status,
         Err(_) => fail("cannot write the verdict", errors),
-    }
-}
-
-/// Judges the records.
-fn judge<W: Write, E: Write>(
-    alloc: Global,
-    limits: &Limits,
-    records: &[Record],
-    output: &mut W,
-    errors: &mut E,
-) -> u8
-    ensures { result ≤ 2 }
-{
-    match audit(alloc, limits, records) {
-        Ok(()) => match write_legal(records.len(), output) {
-            Ok(()) => LEGAL,
-            Err(_) => fail("cannot write the verdict", errors),
-        },
-        Err(AuditFault::Illegal(place)) => tell_illegal(alloc, records, place, output, errors),
-        Err(AuditFault::Memory) => fail("out of memory", errors),
     }
 }
 
@@ -140,8 +112,8 @@ where
     ensures { result ≤ 2 }
 {
     let mut reader = Watched::new(reader);
-    match read_history(alloc, &mut reader) {
-        Ok(records) => judge(alloc, limits, records.as_slice(), output, errors),
+    match judge_history(alloc, limits, &mut reader) {
+        Ok(found) => tell_verdict(&found, output, errors),
         Err(fault) => {
             let _ = write!(errors, "epaudit: {fault}\n");
             NO_VERDICT

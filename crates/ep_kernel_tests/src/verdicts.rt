@@ -24,16 +24,39 @@ const ILLEGAL_AT_0: &str = "illegal at record 0: the machine does not allow this
 {\"answer\":{\"two\":[3,4]},\"caller\":0,\"event\":{\"call\":{\"cloexec\":false,\"op\":\"pipe\"},\"pid\":1},\"picked\":[]}
 ";
 
-/// A record, and a line that is none.
+/// A record that no run begins with, and a line that is none, which is told first.
 const CUT: &str =
     "{\"answer\":{\"two\":[3,5]},\"caller\":0,\"event\":{\"call\":{\"cloexec\":false,\"op\":\"pipe\"},\"pid\":1},\"picked\":[]}
 {\"answer\":";
 
+/// A pipe takes the two bytes of the second record, which has its members in another order and one of them twice,
+/// blanks between and behind them, and capitals as digits. The third is none of a run either.
+const SPELLED: &str =
+    "{\"answer\":{\"two\":[3,4]},\"caller\":0,\"event\":{\"call\":{\"cloexec\":false,\"op\":\"pipe\"},\"pid\":1},\"picked\":[]}
+{\"picked\": [],\"event\":{\"pid\":1, \"call\":{\"op\":\"write\",\"hex\":\"4aBC\",\"fd\":4}},\"caller\":0,\"caller\":0,\"answer\":{\"num\":3}} \t
+{\"answer\":{\"two\":[8,9]},\"caller\":0,\"event\":{\"call\":{\"cloexec\":false,\"op\":\"pipe\"},\"pid\":1},\"picked\":[]}
+";
+
+const ILLEGAL_AS_SPELLED: &str = "illegal at record 1: the machine does not allow this answer here
+{\"picked\": [],\"event\":{\"pid\":1, \"call\":{\"op\":\"write\",\"hex\":\"4aBC\",\"fd\":4}},\"caller\":0,\"caller\":0,\"answer\":{\"num\":3}} \t
+";
+
+/// The last line has no byte 10, and stands behind a blank.
+const UNENDED: &str =
+    "{\"answer\":{\"two\":[3,4]},\"caller\":0,\"event\":{\"call\":{\"cloexec\":false,\"op\":\"pipe\"},\"pid\":1},\"picked\":[]}
+ {\"answer\":{\"num\":9},\"caller\":0,\"event\":{\"call\":{\"cloexec\":false,\"op\":\"epoll\"},\"pid\":1},\"picked\":[]}";
+
+const ILLEGAL_UNENDED: &str = "illegal at record 1: the machine does not allow this answer here
+ {\"answer\":{\"num\":9},\"caller\":0,\"event\":{\"call\":{\"cloexec\":false,\"op\":\"epoll\"},\"pid\":1},\"picked\":[]}
+";
+
 /// Words, a history, the status, what is written, and what is written of a fault.
-const VERDICTS: [(&[&str], &str, u8, &str, &str); 6] = [
+const VERDICTS: [(&[&str], &str, u8, &str, &str); 8] = [
     (&[], "", 0, "ok 0 records\n", ""),
     (&[], PIPE, 0, "ok 1 records\n", ""),
     (&[], WRONG, 1, ILLEGAL_AT_1, ""),
+    (&[], SPELLED, 1, ILLEGAL_AS_SPELLED, ""),
+    (&[], UNENDED, 1, ILLEGAL_UNENDED, ""),
     (&["--limits", "4,9,2,8,4096,1"], PIPE, 1, ILLEGAL_AT_0, ""),
     (&[], "\n", 2, "", "epaudit: line 1 is no record\n"),
     (&[], CUT, 2, "", "epaudit: line 2 is no record\n"),
@@ -72,8 +95,19 @@ fn has_no_verdict(rt: HostRuntime) -> Result<(), Fail> {
     let error = "epaudit: bad limits: descriptors is 2, and goes from 3 to 65536\n";
     expect_verdict(&rt, &limits, Failing, 2, "", error)?;
     let error = "epaudit: cannot read the history\n";
-    expect_verdict(&rt, &[], Failing, 2, "", error)?;
-    let long = vec![in rt.alloc(); b' '; 65_537]?;
-    let error = "epaudit: line 1 is longer than 65536 bytes\n";
-    expect_verdict(&rt, &[], long.as_slice(), 2, "", error)
+    expect_verdict(&rt, &[], Failing, 2, "", error)
+}
+
+/// Of a line as long as one may be, and of one byte more: a record with blanks behind it.
+#[test]
+fn reads_the_longest_line(rt: HostRuntime) -> Result<(), Fail> {
+    let mut line = Vec::new(rt.alloc());
+    line.extend_from_slice(PIPE.as_bytes())?;
+    // The byte 10 at its end.
+    line.pop();
+    line.resize(56_000_000, b' ')?;
+    expect_verdict(&rt, &[], line.as_slice(), 0, "ok 1 records\n", "")?;
+    line.push(b' ')?;
+    let error = "epaudit: line 1 is longer than 56000000 bytes\n";
+    expect_verdict(&rt, &[], line.as_slice(), 2, "", error)
 }

@@ -1,0 +1,47 @@
+//! The verdict on a history that is read from its lines.
+ghost use Rattle.std.specs.Io.KnownBytes.{prepend_known};
+ghost use Rattle.std.specs.Prelude.{◌≡◌, ℕ, IfOk, IfSome, IsErrOf};
+ghost use Rattle.ep_script.specs.Lines.{lines_of};
+ghost use Rattle.ep_script.specs.ReadHistory.{IsFirstBad, IsFirstLong};
+ghost use Rattle.ep_audit_program.specs.Verdict.{Judged};
+
+use crate::judge::{Judge, Verdict};
+use ep_base::Limits;
+use ep_script::{HistoryFault, HistoryReader, Watched};
+use std::alloc::Global;
+use std::io::Read;
+
+/// Reads a history to its end, and judges each record as its line is read. So it keeps no line but the one at hand, and
+/// the first illegal one. A line that is no record is told before an illegal record in front of it.
+pub(crate) fn judge_history<R: Read>(
+    alloc: Global,
+    limits: &Limits,
+    reader: &mut Watched<R>,
+) -> Result<Verdict, HistoryFault>
+    ensures verdict { IfOk result (λ found. IfSome (R.remaining reader.old.inner) (λ input.
+        Judged limits.now (lines_of input) found)) }
+    ensures bad { (number : ℕ) → IsErrOf result (HistoryFault.NoRecord number) →
+        IfSome (R.remaining reader.old.inner) (λ input. IsFirstBad number (lines_of input)) }
+    ensures long { (number : ℕ) → IsErrOf result (HistoryFault.Line number) →
+        IfSome (R.remaining reader.old.inner) (λ input. IsFirstLong number (lines_of input)) }
+{
+    let Ok(mut past) = HistoryReader::new(alloc) else {
+        return Err(HistoryFault::Memory);
+    };
+    let Ok(mut judge) = Judge::new(alloc, limits) else {
+        return Err(HistoryFault::Memory);
+    };
+    for done in 0..u64::MAX {
+        let record = match past.next_record(alloc, reader, done + 1) {
+            Ok(Some(record)) => record,
+            Ok(None) => return Ok(judge.verdict(done)),
+            Err(fault) => return Err(fault),
+        };
+        match judge.tell(alloc, &record, past.line(), done) {
+            Ok(()) => {}
+            Err(_) => return Err(HistoryFault::Memory),
+        }
+    }
+    // So many records find no memory.
+    Err(HistoryFault::Memory)
+}
