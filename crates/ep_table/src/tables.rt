@@ -9,7 +9,7 @@ ghost use Rattle.ep_machine.specs.Files.{named_by, numbers_of, object_of, openin
 ghost use Rattle.ep_machine.specs.Bits.{raises};
 ghost use Rattle.ep_machine.specs.Objects.{advance, object_present};
 ghost use Rattle.ep_machine.specs.FilesCalls.{close_of, dup2_of, dup_of, fork_of, one_of, pipe_of, socketpair_of, two_of};
-ghost use Rattle.ep_machine.specs.Tables.{close, create_refusals, dup, exec, exit, fork, is_in_range, second_free, two_refusals};
+ghost use Rattle.ep_machine.specs.Tables.{close, create_refusals, dup, exec, exit, fork, is_in_range, one_refusals, second_free, two_refusals};
 ghost use Rattle.ep_machine.specs.Timer.{last_moment};
 ghost use Rattle.ep_table.specs.Closing.{IsAt, Takes, across};
 ghost use Rattle.ep_table.specs.Live.{live_ids};
@@ -157,6 +157,14 @@ impl<A: Allocator> Tables<A> {
         None
     }
 
+    /// What `create` refuses with, before it makes anything: EMFILE if none of the process's numbers is free, ENFILE
+    /// if the limit of live descriptions is reached, and `None` if it refuses nothing.
+    pub fn refuses_one(&self, pid: Pid) -> Option<Errno>
+        ensures { result ≡ first (one_refusals self.now.limits self.now.files pid.0) }
+    {
+        self.refuses(lowest(&self.processes, pid), 1)
+    }
+
     /// The same for two descriptions at the two lowest free numbers of a process.
     fn refuses_two(&self, pid: Pid) -> Option<Errno>
         ensures first { result ≡ first (two_refusals self.now.limits self.now.files pid.0) }
@@ -210,12 +218,14 @@ impl<A: Allocator> Tables<A> {
     /// is the answer: eventfd(2), timerfd_create(2), epoll_create(2). Refused, with nothing changed:
     /// EMFILE where none of its numbers is free, ENFILE where the limit of live descriptions is
     /// reached. An `AllocError`, which comes for want of memory or where 2^64 - 1 descriptions or
-    /// objects were made, leaves the tables.
+    /// objects were made, leaves the tables. It comes only if nothing refuses the call.
     pub fn create(&mut self, pid: Pid, cloexec: bool, object: Object) -> Result<Answer, AllocError>
         requires { IsSome (table_of self.old.files pid.0) }
         ensures ok { IfOk result
             (λ answer. Does (one_of self.old.limits self.old.files pid.0 object cloexec) answer
             self.old self.new) }
+        ensures last { OnErr result
+            (first (one_refusals self.old.limits self.old.files pid.0) ≡ None) }
         ensures err { OnErr result (self.new ≡ self.old) }
     {
         let number = lowest(&self.processes, pid);
@@ -247,12 +257,14 @@ impl<A: Allocator> Tables<A> {
     /// limits have how many bytes it holds. Refused, with nothing changed: EMFILE where fewer than two
     /// of its numbers are free, ENFILE where fewer than two descriptions are left of the limit. An
     /// `AllocError`, which comes for want of memory or where 2^64 - 2 descriptions or 2^64 - 1 objects
-    /// were made, leaves the tables.
+    /// were made, leaves the tables. It comes only if nothing refuses the call.
     pub fn pipe(&mut self, alloc: Global, pid: Pid, cloexec: bool) -> Result<Answer, AllocError>
         requires { IsSome (table_of self.old.files pid.0) }
         ensures ok { IfOk result
             (λ answer. Does (pipe_of self.old.limits self.old.files pid.0 cloexec) answer self.old
             self.new) }
+        ensures last { OnErr result
+            (first (two_refusals self.old.limits self.old.files pid.0) ≡ None) }
         ensures err { OnErr result (self.new ≡ self.old) }
     {
         if let Some(errno) = self.refuses_two(pid) {
@@ -275,6 +287,8 @@ impl<A: Allocator> Tables<A> {
         ensures ok { IfOk result
             (λ answer. Does (socketpair_of self.old.limits self.old.files pid.0 cloexec) answer
             self.old self.new) }
+        ensures last { OnErr result
+            (first (two_refusals self.old.limits self.old.files pid.0) ≡ None) }
         ensures err { OnErr result (self.new ≡ self.old) }
     {
         if let Some(errno) = self.refuses_two(pid) {
@@ -309,12 +323,14 @@ impl<A: Allocator> Tables<A> {
     /// dup(2): another descriptor of what `fd` names, at the lowest free number of a process that is
     /// there, which is the answer; its close-on-exec flag is off. Refused, with nothing changed: EBADF
     /// where `fd` names nothing, EMFILE where none of its numbers is free. An `AllocError` leaves the
-    /// tables.
+    /// tables, and comes only if nothing refuses the call.
     pub fn dup(&mut self, pid: Pid, fd: Fd) -> Result<Answer, AllocError>
         requires { IsSome (table_of self.old.files pid.0) }
         ensures ok { IfOk result
             (λ answer. Does (dup_of self.old.limits self.old.files pid.0 fd.0) answer self.old
             self.new) }
+        ensures last { OnErr result
+            (first (dup_of self.old.limits self.old.files pid.0 fd.0).refusals ≡ None) }
         ensures err { OnErr result (self.new ≡ self.old) }
     {
         let Some(description) = self.lookup(pid, fd) else {
@@ -372,12 +388,15 @@ impl<A: Allocator> Tables<A> {
     /// dup2(2): in a process that is there `to` names what `fd` names, with the close-on-exec flag off,
     /// and is the answer. What it named before is closed first, silently; where `to` is `fd`, nothing
     /// is done. Refused, with nothing changed: EBADF where `fd` names nothing, EBADF where `to` is out
-    /// of range. An `AllocError` leaves the tables. The time is that of growing the table up to `to`.
+    /// of range. An `AllocError` leaves the tables, and comes only if nothing refuses the call. The time is
+    /// that of growing the table up to `to`.
     pub fn dup2(&mut self, pid: Pid, fd: Fd, to: Fd) -> Result<Answer, AllocError>
         requires { IsSome (table_of self.old.files pid.0) }
         ensures ok { IfOk result
             (λ answer. Does (dup2_of self.old.limits self.old.files pid.0 fd.0 to.0) answer self.old
             self.new) }
+        ensures last { OnErr result
+            (first (dup2_of self.old.limits self.old.files pid.0 fd.0 to.0).refusals ≡ None) }
         ensures err { OnErr result (self.new ≡ self.old) }
     {
         let Some(description) = self.lookup(pid, fd) else {
@@ -416,7 +435,7 @@ impl<A: Allocator> Tables<A> {
     /// fork(2): a new process with a copy of the table of a process that is there, flags included, which
     /// shares the descriptions. The answer is its number, which is never used again. Refused, with
     /// nothing changed: EAGAIN where as many processes live as the limit allows. An `AllocError` leaves
-    /// the tables. The time is that of going through its table.
+    /// the tables, and comes only if nothing refuses the call. The time is that of going through its table.
     pub fn fork(&mut self, pid: Pid) -> Result<Answer, AllocError>
     where
         A: Copy,
@@ -424,6 +443,8 @@ impl<A: Allocator> Tables<A> {
         ensures ok { IfOk result
             (λ answer. Does (fork_of self.old.limits self.old.files pid.0) answer self.old
             self.new) }
+        ensures last { OnErr result
+            (first (fork_of self.old.limits self.old.files pid.0).refusals ≡ None) }
         ensures err { OnErr result (self.new ≡ self.old) }
     {
         if self.limits.processes() as usize <= self.living {

@@ -4,6 +4,7 @@ use Rattle.ep_machine.specs.FilesCalls.{dup_of}
 use Rattle.ep_table.specs.Value.{Seen, number_of}
 use Rattle.ep_table.proofs.DoesLemmas.{does_done, does_refused, dup_rest, found_is, free_is, full_is, succeeds_dup}
 use Rattle.ep_table.proofs.LookupLemmas.{one_is}
+use Rattle.ep_table.proofs.ProcessesLemmas.{on_err}
 use Rattle.ep_table.proofs.UnnameLemmas.{under_named}
 use Rattle.ep_table.proofs.tables.Tables.dup.Goals as goal
 
@@ -31,3 +32,12 @@ returns-clause-ok g c =
     does_done (dup_of v.limits v.files p c.args.fd.0) _ v c.add_name.new.self
     (dup_rest v p c.lowest-free.result (number_of v c.in-Some.description) c.args.fd.0 x n ∙ f)
     (succeeds_dup v c.add_name.new.self p c.lowest-free.result (number_of v c.in-Some.description) c.args.fd.0 x n c.in_ok-add_name.ensures.ok)
+
+pub returns-in_err-add_name-clause-last : goal.returns-in_err-add_name-clause-last
+returns-in_err-add_name-clause-last g c =
+    let v = c.args.self.now in
+    let p = c.args.pid.0 in
+    let n = one_is c.self.inside v p c.lowest-free.result c.deref.result.now c.self.view_is c.deref.ensures.value c.lowest-free.ensures in
+    let x = found_is v p c.args.fd.0 c.in-Some.description c.in-Some.ensures.number c.in-Some.ensures.live in
+    let f = free_is v.limits.descriptors c.lowest-free.result (omega (arith, c.descriptors.ensures.value, ap (λ (w : Seen). w.limits.descriptors) c.self.view_is)) in
+    on_err c.from_residual.result _ (dup_rest v p c.lowest-free.result (number_of v c.in-Some.description) c.args.fd.0 x n ∙ f)
