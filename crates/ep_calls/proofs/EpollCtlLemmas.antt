@@ -163,7 +163,7 @@ module _ {ws : List Waiter} (g : List Link) (limits : Limits) (v : Seen) (r : Re
   there : is_there s (named_by s.files p args.epfd.0) (number_in args.fd.0) (named_by s.files p args.fd.0) ≡ list_any (has_key named.instance args.fd named.desc) r.entries
   there = (λ i. is_there s (instance_is i) (number_in args.fd.0) (desc_is i)) ∙ there_is v r now s named.instance named.desc args.fd.0 sound stands linked names.instance_lives names.desc_lives under_number
 
-  left_to_refuse : is_refused_op args.op args.mask.0 ≡ false → first (ctl_refusals limits s p args.epfd.0 args.op args.fd.0 args.mask.0) ≡ first (room_refusals (is_add args.op) (list_any (has_key named.instance args.fd named.desc) r.entries) deep limits.watches (length r.entries))
+  pub left_to_refuse : is_refused_op args.op args.mask.0 ≡ false → first (ctl_refusals limits s p args.epfd.0 args.op args.fd.0 args.mask.0) ≡ first (room_refusals (is_add args.op) (list_any (has_key named.instance args.fd named.desc) r.entries) deep limits.watches (length r.entries))
   left_to_refuse h =
       refused_room limits s p args.epfd.0 args.op args.fd.0 args.mask.0 accepted h ∙ (λ i. first (room_refusals (is_add args.op) (there i) (deep_is i) limits.watches (count_is v r now s stands i)))
 

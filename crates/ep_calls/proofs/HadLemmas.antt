@@ -1,5 +1,5 @@
 -- Which keys of registrations the change of an event leaves.
-use Rattle.std.proofs.Common.{◌≡◌, ◌≢◌, ◌⊎◌, ◌+◌, ◌==◌, ◌∙◌, ℕ, Bool, true, false, List, None, Option, Some, ap, inl, inr, slice_index_or, sym}
+use Rattle.std.proofs.Common.{◌≡◌, ◌≢◌, ◌⊎◌, ◌+◌, ◌==◌, ◌∙◌, ℕ, Bool, true, false, List, None, Option, Some, ap, inl, inr, refl, slice_index_or, sym}
 use Rattle.std.specs.Prelude.{MatchBool}
 use Rattle.std.proofs.lemmas.Bool.{cases_Bool, false≢true}
 use Rattle.ep_base.specs.declared.ids.EntryId.{EntryId}
@@ -46,6 +46,12 @@ changes_had Modify (Some key) named args old new h id n is = had_keys old new h.
 changes_if : (b : Bool) (operation : Operation) (found : Option EntryId) (named : Named) (args : Control) (old new : Registrations) → MatchBool b (Changes operation found named args old new) (new ≡ old) → HadOrAdds old new
 changes_if true operation found named args old new h = changes_had operation found named args old new h
 changes_if false operation found named args old new h = had_same old new h
+
+-- only an ADD may add
+pub adds_none : (operation : Operation) (old new : Parts) → (operation ≡ Add → new ≡ old) → (operation ≢ Add → new.interest.added ≡ old.interest.added) → new.interest.added ≡ old.interest.added
+adds_none Add old new h i = ap (λ (p : Parts). p.interest.added) (h refl)
+adds_none Delete old new h i = i (λ e. cc)
+adds_none Modify old new h i = i (λ e. cc)
 
 -- what an epoll_ctl leaves
 pub control_had : (plan : Plan) (args : Control) (outcome : Outcome) (old new : Parts) → Controls plan args outcome old new → HadOrAdds old.interest new.interest

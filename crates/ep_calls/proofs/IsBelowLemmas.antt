@@ -26,7 +26,7 @@ use Rattle.ep_nest.specs.declared.link.Way.TheVariants.{Down}
 use Rattle.ep_table.specs.Value.{Seen, Sound as SoundTables, number_under}
 use Rattle.ep_view.specs.KernelView.{KernelWatch, ready_now, ready_within, shows}
 use Rattle.ep_calls.specs.Climb.{AreNested, is_nested, is_nested_key, link_of}
-use Rattle.ep_calls.specs.Control.{Changes, IsBelow, IsFound, IsPlan, TellsBelow, next_entry}
+use Rattle.ep_calls.specs.Control.{Changes, IsBelow, IsFound, TellsBelow, next_entry}
 use Rattle.ep_calls.specs.Parts.{Parts}
 use Rattle.ep_calls.specs.Readiness.{entry_bits, entry_shows, readiness, shown_over, watches_of}
 use Rattle.ep_calls.specs.Stands.{AreLinked, IsLinked, number_at, watch_at}
@@ -34,7 +34,6 @@ use Rattle.ep_calls.specs.declared.control.Control.{Control}
 use Rattle.ep_calls.specs.declared.control.Named.{Named}
 use Rattle.ep_calls.specs.declared.control.Operation.{Operation}
 use Rattle.ep_calls.specs.declared.control.Operation.TheVariants.{Add, Delete, Modify}
-use Rattle.ep_calls.specs.declared.control.Plan.{Plan}
 use Rattle.ep_calls.proofs.FindLemmas.{found_by_test, has_number}
 use Rattle.ep_calls.proofs.KeyLemmas.{same_keys}
 use Rattle.ep_calls.proofs.ReadinessLemmas.{shown_below}

@@ -11,19 +11,17 @@ use Rattle.ep_machine.specs.Refusal.{refusals}
 use Rattle.ep_machine.specs.Run.{run}
 use Rattle.ep_machine.specs.State.{State, opening}
 use Rattle.ep_machine.specs.Step.{next_event, change, step}
-use Rattle.ep_law.proofs.GraphLemmas.{graph_stays_legal}
-use Rattle.ep_view.proofs.AtRestLemmas.{quiet_begun, quiet_opening}
-use Rattle.ep_law.proofs.SoundLemmas.{sound_begun, sound_opening}
+use Rattle.ep_view.proofs.AtRestLemmas.{quiet_opening}
+use Rattle.ep_law.proofs.SoundLemmas.{sound_opening}
 use Rattle.ep_law.proofs.StepLemmas.{run_next}
 use Rattle.ep_calls.specs.Acts.{Adds}
 use Rattle.ep_calls.specs.Burial.{Burial}
 use Rattle.ep_calls.specs.Climb.{Climbs}
-use Rattle.ep_calls.specs.Moves.{Goes, StandFor}
+use Rattle.ep_calls.specs.Moves.{Goes}
 use Rattle.ep_calls.specs.Parking.{ready_key}
 use Rattle.ep_calls.specs.Raising.{IsRaising, Raises, Stirs}
 use Rattle.ep_calls.specs.Stands.{waiters_at, watch_at}
 use Rattle.ep_calls.specs.declared.raising.Raising.{Raising}
-use Rattle.ep_calls.specs.Does.{DoesEvent}
 use Rattle.ep_calls.specs.Keeps.{Keeps}
 use Rattle.ep_calls.specs.Parts.{AreCoherent, AreOpening, Parts}
 use Rattle.ep_calls.specs.declared.outcome.Outcome.{Outcome}

@@ -44,3 +44,4 @@ pub mod NextArrivalLemmas
 pub mod NextMomentLemmas
 pub mod FirstMarkedLemmas
 pub mod SparedLemmas
+pub mod LastLemmas

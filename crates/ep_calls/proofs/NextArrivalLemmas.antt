@@ -17,7 +17,7 @@ use Rattle.ep_law.proofs.TestLemmas.{or_right}
 use Rattle.ep_object.specs.Next.{IsNextMoment}
 use Rattle.ep_table.specs.Live.{key_of, live_from, live_ids}
 use Rattle.ep_table.specs.Value.{Seen, Sound, number_under, unwrapped}
-use Rattle.std.proofs.lemmas.List.Elements.{All-head, All-tail}
+use Rattle.std.proofs.lemmas.List.Elements.{All-tail}
 
 -- What is there, each with its number.
 next_number : (j i : ℕ) → j + 1 + i ≡ j + suc i

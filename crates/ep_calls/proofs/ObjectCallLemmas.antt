@@ -134,23 +134,28 @@ past_first false e rest h = refl
 past_first true e rest h = absurd (false≢true (sym h))
 
 -- and so the call is one on the object of the description under its number
-module _ (old new : Seen) (p : ℕ) (fd : ℤ) (desc : DescId) (now : ℕ) (call : Call) (answer : Answer)
-    (found : number_under old desc ≡ under old.files p fd) (there : IsSome (number_under old desc)) (lives : IsSome (object_of old.files (number_of old desc))) where
-  number_is : named_by old.files p fd ≡ number_of old desc
+module _ (v : Seen) (p : ℕ) (fd : ℤ) (desc : DescId) (found : number_under v desc ≡ under v.files p fd) (there : IsSome (number_under v desc)) where
+  number_is : named_by v.files p fd ≡ number_of v desc
   number_is = ap (λ (o : Option ℕ). unwrap_or o 0) (sym found)
 
-  names_some : names_nothing old.files p fd ≡ false
-  names_some = ap (λ (o : Option ℕ). is_none o) (sym found) ∙ named_some (number_under old desc) there
+  names_some : names_nothing v.files p fd ≡ false
+  names_some = ap (λ (o : Option ℕ). is_none o) (sym found) ∙ named_some (number_under v desc) there
 
-  pub calls_object : answer ≡ (effect_at old.files (number_of old desc) now call).0
-      → new ≡ record old { files = with_object old.files (object_number (place_of old.files (number_of old desc))) (effect_at old.files (number_of old desc) now call).1 }
-      → Does (object_call_of old.files p fd now call) answer old new
-  calls_object is tables =
-      let c = object_call_of old.files p fd now call in
-      let f = old.files in
-      let told = ap (λ (d : ℕ). (object_effect (content_of f d) (side_of f d) now call).0) number_is in
-      let left = ap (λ (d : ℕ). affected f d (object_effect (content_of f d) (side_of f d) now call)) number_is in
-      let refusals = past_first (names_nothing f p fd) Ebadf (object_refusals (object_under f p fd) (side_under f p fd) now call) names_some
-      ∙ ap (λ (d : ℕ). first (object_refusals (content_of f d) (side_of f d) now call)) number_is in
-      let P : Option Errno → Type 0 = λ r. MatchOption r (Succeeds c answer old new) (λ e. Refuses e answer old new) in
-      subst P (sym refusals) (does_by old new (number_of old desc) now call answer lives c told left _ is tables)
+  pub refusals_are : (now : ℕ) (call : Call) → first (object_call_of v.files p fd now call).refusals ≡ first (object_refusals (content_of v.files (number_of v desc)) (side_of v.files (number_of v desc)) now call)
+  refusals_are now call =
+      let f = v.files in
+      past_first (names_nothing f p fd) Ebadf (object_refusals (object_under f p fd) (side_under f p fd) now call) names_some
+      ∙ ap (λ (d : ℕ). first (object_refusals (content_of f d) (side_of f d) now call)) number_is
+
+pub calls_object : (old new : Seen) (p : ℕ) (fd : ℤ) (desc : DescId) (now : ℕ) (call : Call) (answer : Answer) → number_under old desc ≡ under old.files p fd → IsSome (number_under old desc) → IsSome (object_of old.files (number_of old desc))
+    → answer ≡ (effect_at old.files (number_of old desc) now call).0
+    → new ≡ record old { files = with_object old.files (object_number (place_of old.files (number_of old desc))) (effect_at old.files (number_of old desc) now call).1 }
+    → Does (object_call_of old.files p fd now call) answer old new
+calls_object old new p fd desc now call answer found there lives is tables =
+    let c = object_call_of old.files p fd now call in
+    let f = old.files in
+    let number = number_is old p fd desc found there in
+    let told = ap (λ (d : ℕ). (object_effect (content_of f d) (side_of f d) now call).0) number in
+    let left = ap (λ (d : ℕ). affected f d (object_effect (content_of f d) (side_of f d) now call)) number in
+    let P : Option Errno → Type 0 = λ r. MatchOption r (Succeeds c answer old new) (λ e. Refuses e answer old new) in
+    subst P (sym (refusals_are old p fd desc found there now call)) (does_by old new (number_of old desc) now call answer lives c told left _ is tables)

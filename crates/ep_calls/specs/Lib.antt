@@ -5,6 +5,7 @@ pub mod Stands
 pub mod Parts
 pub mod Moves
 pub mod Does
+pub mod Last
 pub mod Keeps
 pub mod Book
 pub mod Control

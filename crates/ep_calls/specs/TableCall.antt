@@ -24,6 +24,11 @@ IsTableCall Exec = Unit {0}
 IsTableCall Exit = Unit {0}
 IsTableCall call = ⊥
 
+-- a call that makes a timer
+abbrev pub MakesTimer : Call → Type 0
+MakesTimer (TimerFd clock cloexec) = Unit {0}
+MakesTimer call = ⊥
+
 -- what the machine has of such a call, with these waiters
 abbrev pub called : Seen → List Waiter → ℕ → Call → FilesCall
 called v ws p call = files_call v.limits v.files p (list_any (is_of p) ws) call

@@ -1,5 +1,5 @@
 //! epoll_ctl.
-ghost use Rattle.std.specs.Prelude.{All, ◌≡◌, ◌≢◌, ◌==◌, ◌+◌, ◌++◌, ◌∷◌, ◌≤◌, ◌||◌, ℕ, [], if◌then◌else◌, IfErr, IfNone, IfOk, IfSome, IsOk, IsSome, List, MatchResult, None, OnErr, Some, false, not, true, unwrap_or};
+ghost use Rattle.std.specs.Prelude.{All, ◌≡◌, ◌≢◌, ◌==◌, ◌+◌, ◌++◌, ◌∷◌, ◌≤◌, ◌||◌, ℕ, [], if◌then◌else◌, IfErr, IfNone, IfOk, IfSome, IsOk, IsSome, List, MatchResult, None, OnErr, Some, false, length, not, true, unwrap_or};
 ghost use Rattle.std.specs.List.{list_any};
 ghost use Rattle.ep_base.specs.Answer.{FitsInline};
 ghost use Rattle.ep_machine.specs.Effect.{first};
@@ -8,7 +8,8 @@ ghost use Rattle.ep_machine.specs.State.{Waiter};
 ghost use Rattle.ep_machine.specs.Watches.{is_add, is_legal};
 ghost use Rattle.ep_nest.specs.Links.{edges, without};
 ghost use Rattle.ep_calls.specs.Climb.{AreNested, KeepsLinks};
-ghost use Rattle.ep_calls.specs.Control.{Alters, ChangesIf, Controls, EntersAt, IsBelow, IsPlan, Names, TellsBelow, addition, code_of, control_call, is_deep_at, is_done, is_refused_op, raising_of_ctl, naming_refusals, next_entry, next_link, raising_after};
+ghost use Rattle.ep_calls.specs.Control.{Alters, ChangesIf, Controls, EntersAt, IsBelow, IsPlan, Names, TellsBelow, addition, code_of, control_call, is_deep_at, is_done, is_refused_op, raising_of_ctl, naming_refusals, next_entry, next_link, raising_after, room_refusals};
+ghost use Rattle.ep_calls.specs.Last.{NothingRefusesCall};
 ghost use Rattle.ep_interest.specs.Registrations.{GainsKey, has_key, number_under as number_of_entry};
 ghost use Rattle.ep_machine.specs.Timer.{last_moment};
 ghost use Rattle.ep_calls.specs.Does.{DoesCall};
@@ -74,6 +75,9 @@ pub struct Plan {
     /// Whether its target is an instance that is ready, which ADD and MOD want to know. `Parts::plan` leaves it
     /// `false`, so that a kernel can ask in its own way.
     pub below: bool,
+    /// Whether the kernel has room for what it keeps of a registration. Without it an ADD that nothing refuses is want
+    /// of memory. `Parts::plan` sets it `true`.
+    pub has_room: bool,
 }
 
 /// The instance and the description that are named, or the refusal that comes first.
@@ -265,30 +269,43 @@ fn may_watch(graph: &mut Graph, named: Named, is_nested: bool) -> bool
 
 /// Adds a registration that is not there. ENOENT for any other operation, ELOOP where instances would watch each other
 /// in a loop or in too long a chain, and ENOSPC past `watches`.
-/// A refusal and an `Err`, which is want of memory and comes only of ADD, leave the registrations.
+/// A refusal and an `Err` leave the registrations. An `Err` is want of memory, or of the room that the plan tells of.
+/// It comes only of an ADD that nothing refuses.
 fn enter(
     tables: &Tables,
     interest: &mut Interest,
     graph: &mut Graph,
-    named: Named,
-    operation: Operation,
+    plan: Plan,
     args: Control,
 ) -> Result<Answer, AllocError>
-    requires desc { IsSome (number_under tables.now named.desc) }
-    requires absent { list_any (has_key named.instance args.fd named.desc) interest.old.entries
-        ≡ false }
+    requires desc { IsSome (number_under tables.now plan.named.desc) }
+    requires absent { list_any (has_key plan.named.instance args.fd plan.named.desc)
+        interest.old.entries ≡ false }
     requires nested { AreNested tables.now interest.old graph.old }
     ensures ok { IfOk result
-        (λ answer. EntersAt operation tables.now graph.old named args interest.old interest.new
-        answer) }
+        (λ answer. EntersAt plan.operation tables.now graph.old plan.named args interest.old
+        interest.new answer) }
     ensures changes { IfOk result
-        (λ answer. ChangesIf answer operation None named args interest.old interest.new) }
+        (λ answer. ChangesIf answer plan.operation None plan.named args interest.old
+        interest.new) }
     ensures nested { AreNested tables.now interest.new graph.new }
     ensures inline { IfOk result FitsInline }
     ensures real { IfOk result (λ answer. is_no_memory answer ≡ false) }
-    ensures spared { operation ≢ Add → IsOk result }
+    ensures last { OnErr result
+        (first (room_refusals (is_add (code_of plan.operation)) false
+        (is_deep_at tables.now graph.old plan.named) tables.now.limits.watches
+        (length interest.old.entries)) ≡ None) }
+    ensures room { plan.has_room ≡ false
+        → (interest.new ≡ interest.old) × (graph.new ≡ graph.old) }
+    ensures stays { plan.operation ≢ Add → interest.new ≡ interest.old }
+    ensures spared { plan.operation ≢ Add → IsOk result }
     ensures err { OnErr result ((interest.new ≡ interest.old) × (graph.new ≡ graph.old)) }
 {
+    let Plan {
+        named,
+        operation,
+        ..
+    } = plan;
     let Operation::Add = operation else {
         return Ok(Answer::Refused(Errno::Enoent));
     };
@@ -299,6 +316,9 @@ fn enter(
     }
     if tables.limits().watches() as usize <= interest.count() {
         return Ok(Answer::Refused(Errno::Enospc));
+    }
+    if !plan.has_room {
+        return Err(AllocError);
     }
     add(interest, graph, named, is_nested, args)?;
     interest.known();
@@ -363,9 +383,11 @@ impl Parts {
     /// What an epoll_ctl with these arguments is about. Where they alone refuse it, its outcome, by the refusal that
     /// comes first: EBADF where a descriptor names nothing, EPERM for a target that can't be polled, EINVAL where
     /// `epfd` is no instance or both name the same, and EINVAL for an operation or a mask that this version doesn't
-    /// accept. It doesn't ask whether the target is an instance that is ready.
+    /// accept. It doesn't ask whether the target is an instance that is ready, and takes it that the kernel has room
+    /// for what it keeps of a registration.
     pub fn plan(&self, pid: Pid, args: Control) -> Result<Plan, Outcome>
         ensures ok { IfOk result (IsPlan self.now pid.0 args) }
+        ensures room { IfOk result (λ plan. plan.has_room ≡ true) }
         ensures err { IfErr result
             (λ outcome. (n caller : ℕ)
             → DoesCall n caller pid.0 (control_call args) outcome self.now self.now) }
@@ -386,6 +408,7 @@ impl Parts {
             operation,
             found,
             below: false,
+            has_room: true,
         })
     }
 
@@ -408,8 +431,8 @@ impl Parts {
     /// DEL of what is not there, EEXIST for ADD of what is, ELOOP where instances would watch each other in a loop or
     /// in a chain of more than five, and ENOSPC past `watches`. What is added or modified and reportable at once
     /// raises IN at its instance. It looks at links between instances only where the target is an instance, and at no
-    /// registration of that one. A refusal and an `Err`, which is want of memory and comes only of ADD, leave the
-    /// parts.
+    /// registration of that one. A refusal and an `Err` leave the parts. An `Err` is want of memory, or of the room
+    /// that the plan tells of. It comes only of an ADD that nothing refuses.
     pub fn control(&mut self, pid: Pid, args: Control, plan: Plan) -> Result<Outcome, AllocError>
         requires plan { IsPlan self.old pid.0 args plan }
         requires below { TellsBelow plan.operation plan.below self.old plan.named.desc }
@@ -417,6 +440,10 @@ impl Parts {
             (λ outcome. (n caller : ℕ)
             → DoesCall n caller pid.0 (control_call args) outcome self.old self.new) }
         ensures controls { IfOk result (λ outcome. Controls plan args outcome self.old self.new) }
+        ensures last { OnErr result (NothingRefusesCall self.old pid.0 (control_call args)) }
+        ensures room { plan.operation ≡ Add → plan.has_room ≡ false → self.new ≡ self.old }
+        ensures added { plan.operation ≢ Add
+            → self.new.interest.added ≡ self.old.interest.added }
         ensures spared { plan.operation ≢ Add → IsOk result }
         ensures err { OnErr result (self.new ≡ self.old) }
     {
@@ -440,8 +467,7 @@ impl Parts {
                     &self.tables,
                     &mut self.interest,
                     &mut self.graph,
-                    plan.named,
-                    plan.operation,
+                    plan,
                     args,
                 )?;
                 self.graph.known();
@@ -452,13 +478,21 @@ impl Parts {
 
     /// epoll_ctl(2): adds, modifies or deletes a registration, or answers the refusal that comes first: those of
     /// `plan`, and then those of `control`. What is added or modified and reportable at once raises IN at its
-    /// instance. Each registration that was there and is left keeps its key. A refusal and an `Err`, which is want of
-    /// memory and comes only of ADD, leave the parts.
-    pub fn epoll_ctl(&mut self, pid: Pid, args: Control) -> Result<Outcome, AllocError>
+    /// instance. Each registration that was there and is left keeps its key. `has_room`: the kernel has room for what
+    /// it keeps of a registration, without which none is added. A refusal and an `Err` leave the parts. An `Err` is
+    /// want of memory or of that room. It comes only of an ADD that nothing refuses.
+    pub fn epoll_ctl(
+        &mut self,
+        pid: Pid,
+        args: Control,
+        has_room: bool,
+    ) -> Result<Outcome, AllocError>
         ensures ok { IfOk result
             (λ outcome. (n caller : ℕ)
             → DoesCall n caller pid.0 (control_call args) outcome self.old self.new) }
         ensures ids { HadOrAdds self.old.interest self.new.interest }
+        ensures last { OnErr result (NothingRefusesCall self.old pid.0 (control_call args)) }
+        ensures room { has_room ≡ false → self.new.interest.added ≡ self.old.interest.added }
         ensures spared { is_add args.op ≡ false → IsOk result }
         ensures err { OnErr result (self.new ≡ self.old) }
     {
@@ -467,6 +501,7 @@ impl Parts {
             Err(refused) => return Ok(refused),
         };
         plan.below = self.is_below_ready(plan.operation, plan.named.desc);
+        plan.has_room = has_room;
         let outcome = self.control(pid, args, plan)?;
         Ok(outcome)
     }

@@ -1,11 +1,14 @@
 //! What every kernel promises.
-ghost use Rattle.std.specs.Prelude.{◌≡◌, ◌+◌, ◌<◌, ◌≤◌, ℕ, List, OnOk, Some, false, length};
+ghost use Rattle.std.specs.Prelude.{◌≡◌, ◌+◌, ◌<◌, ◌≤◌, ℕ, List, None, OnOk, Some, false, length, true};
 ghost use Rattle.std.specs.Option.{option_map};
 ghost use Rattle.ep_base.specs.Limits.{Limits as Numbers};
 ghost use Rattle.ep_base.specs.declared.record.Record.{Record as Entry};
+ghost use Rattle.ep_machine.specs.Effect.{first};
+ghost use Rattle.ep_machine.specs.Refusal.{refusals};
 ghost use Rattle.ep_machine.specs.Run.{run};
 ghost use Rattle.ep_machine.specs.Waits.{is_marked, is_parked};
 ghost use Rattle.ep_machine.specs.State.{State, opening};
+ghost use Rattle.ep_machine.specs.Step.{next_event};
 ghost use Rattle.ep_calls.specs.Acts.{Acts, is_no_memory};
 ghost use Rattle.ep_calls.specs.Driver.{TellsNext, first_marked};
 ghost use Rattle.ep_calls.specs.KeptRecords.{KeepsRecord};
@@ -38,11 +41,16 @@ pub trait Kernel {
     /// more wait. Once `reserve(n)` has answered Ok, there is room until there are n further records. What else these
     /// events need was taken by what made, added or parked. All others may be answered ENOMEM: creations, dup, dup2,
     /// fork, ADD, longer reads, waits and resumptions.
+    ///
+    /// ENOMEM comes last: if there is room for the record, no refusal of the machine holds.
     fn step(&mut self, caller: CallerId, event: Event) -> Answer
         ensures limits { bounds self.new ≡ bounds self.old }
         ensures capacity { capacity self.old ≤ capacity self.new }
         ensures spared { IsSpared (state self.old).files event
             → length (past self.old) < capacity self.old → is_no_memory result ≡ false }
+        ensures last { is_no_memory result ≡ true → length (past self.old) < capacity self.old
+            → first (refusals (bounds self.old) (next_event (state self.old)) caller.0 event)
+            ≡ None }
         ensures acts { Acts (bounds self.old) caller event result (state self.old) (state self.new)
             (past self.old) (past self.new) };
 

@@ -10,6 +10,7 @@ ghost use Rattle.ep_calls.specs.Stands.{KeepsHolds};
 ghost use Rattle.ep_calls.specs.Clock.{ClockStays};
 ghost use Rattle.ep_calls.specs.Does.{DoesCall};
 ghost use Rattle.ep_calls.specs.Kept.{IsKept};
+ghost use Rattle.ep_calls.specs.Last.{NothingRefusesCall};
 ghost use Rattle.ep_calls.specs.ObjectCall.{CallsObject, FitsRoom, fd_of, waiting_at};
 ghost use Rattle.ep_calls.specs.Acts.{is_no_memory};
 ghost use Rattle.ep_calls.specs.Raising.{IsRaising, RaisesByCall};
@@ -119,7 +120,8 @@ impl Parts {
     /// read(2), write(2), shutdown(2), timerfd_settime(2) or timerfd_gettime(2) of what a descriptor names, at the end
     /// that it names: EBADF where it names nothing, else what the object answers. `kept`: a second record of it is
     /// asked for.
-    /// An `Err` is want of memory and leaves the parts. It comes only of a read of more than 16 bytes where more wait.
+    /// An `Err` is want of memory and leaves the parts. It comes only of a read of more than 16 bytes where more wait,
+    /// which nothing refuses.
     pub fn object_call(
         &mut self,
         pid: Pid,
@@ -141,6 +143,7 @@ impl Parts {
         ensures kept { IfOk result (λ outcome. IsKept kept outcome) }
         ensures short { min (asked_of call.now) (waiting_under self.old.tables.files pid.0 fd.0)
             ≤ 16 → IsOk result }
+        ensures last { OnErr result (NothingRefusesCall self.old pid.0 call.now) }
         ensures err { OnErr result (self.new ≡ self.old) }
     {
         let Some(desc) = self.tables.lookup(pid, fd) else {

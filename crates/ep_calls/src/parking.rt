@@ -7,6 +7,7 @@ ghost use Rattle.ep_park.specs.Waiters.{is_caller, parked, without};
 ghost use Rattle.ep_calls.specs.Clock.{ClockStays};
 ghost use Rattle.ep_calls.specs.Does.{DoesEvent, DoesResume};
 ghost use Rattle.ep_calls.specs.Kept.{IsKept};
+ghost use Rattle.ep_calls.specs.Last.{NothingRefuses};
 ghost use Rattle.ep_calls.specs.Stands.{AreHeld, ArePlaced};
 ghost use Rattle.ep_calls.specs.Wait.{AreKeyed, numbers_of, with_report};
 ghost use Rattle.ep_table.specs.Value.{number_of, number_under};
@@ -70,7 +71,7 @@ impl Parts {
     /// A parked caller that is marked gets the reports of those that it picks, and is no longer parked. Where there are
     /// none, it gets none at its deadline, and before that loses its mark and stays parked. `kept`: a second record of
     /// it is asked for.
-    /// An `Err` is want of memory and leaves the parts.
+    /// An `Err` is want of memory and leaves the parts. Nothing refuses the event then, since the caller is parked.
     pub fn resume_with(
         &mut self,
         step: u64,
@@ -94,6 +95,7 @@ impl Parts {
             (λ outcome. DoesResume step caller.0 waiter chosen.now outcome self.old self.new) }
         ensures picked { IfOk result (λ outcome. outcome.picked ≡ numbers_of chosen.now) }
         ensures kept { IfOk result (λ outcome. IsKept kept outcome) }
+        ensures last { OnErr result (NothingRefuses self.old caller.0 Resume) }
         ensures err { OnErr result (self.new ≡ self.old) }
     {
         self.tables.known();

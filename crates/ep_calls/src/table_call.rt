@@ -1,13 +1,15 @@
 //! Calls on the tables alone: those that open descriptors of a new object, and those on descriptors and processes.
 ghost use Rattle.std.specs.List.{list_any};
-ghost use Rattle.std.specs.Prelude.{ℕ, ◌≡◌, [], IfOk, IsOk, IsSome, OnErr, is_some, true};
+ghost use Rattle.std.specs.Prelude.{ℕ, ◌≡◌, [], IfOk, IsOk, IsSome, None, OnErr, false, is_some, true};
+ghost use Rattle.ep_machine.specs.Effect.{first};
 ghost use Rattle.ep_machine.specs.Files.{table_of};
 ghost use Rattle.ep_machine.specs.FilesCalls.{exec_of, exit_of, timerfd_of};
 ghost use Rattle.ep_park.specs.Waiters.{is_of};
 ghost use Rattle.ep_calls.specs.Clock.{ClockStays};
 ghost use Rattle.ep_calls.specs.Does.{DoesCall};
+ghost use Rattle.ep_calls.specs.Last.{NothingRefusesCall};
 ghost use Rattle.ep_calls.specs.Spared.{Frees};
-ghost use Rattle.ep_calls.specs.TableCall.{IsTableCall, called};
+ghost use Rattle.ep_calls.specs.TableCall.{IsTableCall, MakesTimer, called};
 ghost use Rattle.ep_table.specs.Value.{Does};
 
 use crate::raising::Raising;
@@ -19,22 +21,32 @@ use ep_table::Tables;
 use std::alloc::{AllocError, Global};
 
 /// timerfd_create(2): a disarmed timer at the lowest free number, or EINVAL for a clock other than 0 and 1,
-/// EMFILE or ENFILE. An `Err`, which is that of `Tables::create`, leaves the tables.
+/// EMFILE or ENFILE. `has_room`: there is room for its moment. An `Err`, which is that of `Tables::create` or comes
+/// for want of that room, leaves the tables. It comes only if nothing refuses the call.
 fn create_timer(
     alloc: Global,
     tables: &mut Tables,
     pid: Pid,
     clock: i32,
     cloexec: bool,
+    has_room: bool,
 ) -> Result<Answer, AllocError>
     requires { IsSome (table_of tables.old.files pid.0) }
     ensures ok { IfOk result
         (λ answer. Does (timerfd_of tables.old.limits tables.old.files pid.0 clock cloexec) answer
         tables.old tables.new) }
+    ensures last { OnErr result
+        (first (timerfd_of tables.old.limits tables.old.files pid.0 clock cloexec).refusals
+        ≡ None) }
+    ensures room { has_room ≡ false → tables.new ≡ tables.old }
     ensures err { OnErr result (tables.new ≡ tables.old) }
 {
     if clock != 0 && clock != 1 {
         return Ok(Answer::Refused(Errno::Einval));
+    }
+    if !has_room {
+        let errno = tables.refuses_one(pid).ok_or(AllocError)?;
+        return Ok(Answer::Refused(errno));
     }
     tables.create(pid, cloexec, Object::timer(alloc))
 }
@@ -65,20 +77,26 @@ fn exit(tables: &mut Tables, waiters: &Park, pid: Pid) -> Answer
     Answer::Done
 }
 
-/// What a call on the tables alone is answered, which asks who is parked only for exec and exit. An `Err`, which
-/// comes for want of memory or of a number for what is made, leaves the tables. It comes of no close, exec or exit.
+/// What a call on the tables alone is answered, which asks who is parked only for exec and exit. `has_room`: there is
+/// room for the moment of a timer, which only timerfd_create wants. An `Err`, which comes for want of that room, of
+/// memory or of a number for what is made, leaves the tables. It comes of no close, exec or exit, and only if nothing
+/// refuses the call.
 fn answer_of(
     alloc: Global,
     tables: &mut Tables,
     waiters: &Park,
     pid: Pid,
     call: &Call,
+    has_room: bool,
 ) -> Result<Answer, AllocError>
     requires call { IsTableCall call.now }
     requires process { IsSome (table_of tables.old.files pid.0) }
     ensures ok { IfOk result
         (λ answer. Does (called tables.old waiters.now pid.0 call.now) answer tables.old
         tables.new) }
+    ensures last { OnErr result
+        (first (called tables.old waiters.now pid.0 call.now).refusals ≡ None) }
+    ensures room { has_room ≡ false → MakesTimer call.now → tables.new ≡ tables.old }
     ensures frees { Frees call.now → IsOk result }
     ensures err { OnErr result (tables.new ≡ tables.old) }
 {
@@ -93,7 +111,9 @@ fn answer_of(
             let counter = Object::counter(alloc, init, semaphore);
             tables.create(pid, cloexec, counter)
         }
-        Call::TimerFd { clock, cloexec } => create_timer(alloc, tables, pid, clock, cloexec),
+        Call::TimerFd { clock, cloexec } => create_timer(
+            alloc, tables, pid, clock, cloexec, has_room,
+        ),
         Call::Plain { cloexec } => tables.create(pid, cloexec, Object::plain(alloc)),
         Call::EpollCreate { cloexec } => tables.create(pid, cloexec, Object::instance()),
         Call::Dup { fd } => tables.dup(pid, fd),
@@ -107,9 +127,16 @@ fn answer_of(
 }
 
 impl Parts {
-    /// A call that opens descriptors of a new object, or one on descriptors or the process. An `Err`, which comes for
-    /// want of memory or of a number for what is made, leaves the parts. It comes of no close, exec or exit.
-    pub fn table_call(&mut self, pid: Pid, call: &Call) -> Result<Outcome, AllocError>
+    /// A call that opens descriptors of a new object, or one on descriptors or the process. `has_room`: the kernel has
+    /// room for what it keeps of a timer, without which none is made. An `Err`, which comes for want of that room, of
+    /// memory or of a number for what is made, leaves the parts. It comes of no close, exec or exit, and only if
+    /// nothing refuses the call.
+    pub fn table_call(
+        &mut self,
+        pid: Pid,
+        call: &Call,
+        has_room: bool,
+    ) -> Result<Outcome, AllocError>
         requires call { IsTableCall call.now }
         requires process { is_some (table_of self.old.tables.files pid.0) ≡ true }
         ensures interest { self.new.interest ≡ self.old.interest }
@@ -122,10 +149,20 @@ impl Parts {
         ensures ok { IfOk result
             (λ outcome. (n caller : ℕ)
             → DoesCall n caller pid.0 call.now outcome self.old self.new) }
+        ensures last { OnErr result (NothingRefusesCall self.old pid.0 call.now) }
+        ensures room { has_room ≡ false → MakesTimer call.now
+            → self.new.tables ≡ self.old.tables }
         ensures frees { Frees call.now → IsOk result }
         ensures err { OnErr result (self.new ≡ self.old) }
     {
-        let answer = answer_of(self.alloc, &mut self.tables, &self.waiters, pid, call)?;
+        let answer = answer_of(
+            self.alloc,
+            &mut self.tables,
+            &self.waiters,
+            pid,
+            call,
+            has_room,
+        )?;
         Ok(Outcome::settled(self.alloc, answer, Raising::Nowhere))
     }
 }

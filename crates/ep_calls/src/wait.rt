@@ -7,6 +7,7 @@ ghost use Rattle.ep_park.specs.Waiters.{is_caller};
 ghost use Rattle.ep_calls.specs.Clock.{ClockStays};
 ghost use Rattle.ep_calls.specs.Does.{DoesCall, DoesWait};
 ghost use Rattle.ep_calls.specs.Kept.{IsKept};
+ghost use Rattle.ep_calls.specs.Last.{NothingRefusesCall};
 ghost use Rattle.ep_calls.specs.Wait.{AreKeyed, Waits, deadline_of, numbers_of, wait_call, wait_tests, with_report};
 
 use crate::parking::park;
@@ -77,7 +78,7 @@ impl Parts {
     /// A wait at an instance, with those of its registrations that it picks: it reports them. Where there are none, it
     /// makes no report with a timeout of 0, and else the caller is parked until it is marked, `timeout` milliseconds at
     /// most, and without end where that is negative.
-    /// An `Err` is want of memory and leaves the parts.
+    /// An `Err` is want of memory and leaves the parts. Nothing refuses the call then, since the instance was found.
     #[inline(always)]
     pub fn wait_with(
         &mut self,
@@ -101,6 +102,8 @@ impl Parts {
             (λ outcome. DoesWait step caller.0 args instance chosen.now outcome self.old self.new) }
         ensures picked { IfOk result (λ outcome. outcome.picked ≡ numbers_of chosen.now) }
         ensures kept { IfOk result (λ outcome. IsKept args.kept outcome) }
+        ensures last { OnErr result
+            (NothingRefusesCall self.old args.pid.0 (wait_call args)) }
         ensures err { OnErr result (self.new ≡ self.old) }
     {
         self.tables.known();

@@ -275,7 +275,7 @@ pub record IsOther (call : Call) : Type 0 where
   pub gets : (fd : Fd) → call ≡ GetTime fd → ⊥
 
 -- Once an event has changed the parts.
-module _ (event : Event) (outcome : Outcome) (q : Parts) (a : Moments) (were : WereSet event outcome q a) (sound_now : SoundTables q.tables) where
+module _ (event : Event) (outcome : Outcome) (has_room : Bool) (q : Parts) (a : Moments) (were : WereSet event outcome has_room q a) (sound_now : SoundTables q.tables) where
   abbrev p : Parts
   p = were.before
 

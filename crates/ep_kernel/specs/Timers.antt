@@ -1,11 +1,11 @@
 -- What an event does to timers and the clock before the dead go, and the moments of timers meanwhile.
-use Rattle.std.specs.Prelude.{◌≡◌, ◌≤◌, ◌<◌, ◌^◌, ◌⊎◌, IsSome, None, is_some, pos, true, ℕ, ℤ}
+use Rattle.std.specs.Prelude.{◌≡◌, ◌≤◌, ◌<◌, ◌^◌, ◌⊎◌, Bool, IsSome, None, false, is_some, pos, true, ℕ, ℤ}
 use Rattle.ep_alarms.specs.Alarms.{AreSet, AreSetBut, IsKept}
 use Rattle.ep_alarms.specs.Timers.{timer_under}
 use Rattle.ep_base.specs.declared.answer.Answer.{Answer}
 use Rattle.ep_base.specs.declared.answer.Answer.TheVariants.{Num}
 use Rattle.ep_base.specs.declared.call.Call.{Call}
-use Rattle.ep_base.specs.declared.call.Call.TheVariants.{EpollCtl, EpollWait, GetTime, Read, SetTime, Shutdown, TimerFd, Write}
+use Rattle.ep_base.specs.declared.call.Call.TheVariants.{EpollCtl, EpollWait, GetTime, Read, SetTime, Shutdown, Write}
 use Rattle.ep_base.specs.declared.call.Event.{Event}
 use Rattle.ep_base.specs.declared.call.Event.TheVariants.{Call as CallOf, Tick}
 use Rattle.ep_base.specs.declared.errno.Errno.{Errno}
@@ -13,7 +13,7 @@ use Rattle.ep_base.specs.declared.ids.DescId.{DescId}
 use Rattle.ep_calls.specs.Clock.{ClockStays}
 use Rattle.ep_calls.specs.ObjectCall.{CallsObject}
 use Rattle.ep_calls.specs.Parts.{Parts}
-use Rattle.ep_calls.specs.TableCall.{called}
+use Rattle.ep_calls.specs.TableCall.{MakesTimer, called}
 use Rattle.ep_calls.specs.declared.outcome.Outcome.{Outcome}
 use Rattle.ep_calls.specs.declared.raising.Raising.{Raising}
 use Rattle.ep_calls.specs.declared.raising.Raising.TheVariants.{Clock}
@@ -63,8 +63,13 @@ abbrev pub AreSetSince : Raising → Seen → ℕ → Moments → Type 0
 AreSetSince (Clock since) v now a = (since ≤ now) × AreSet v since a
 AreSetSince raising v now a = AreSet v now a
 
--- the timers have the moments that they had before an event
-pub record WereSet (event : Event) (outcome : Outcome) (q : Parts) (a : Moments) : Type 0 where
+-- the event may create a timer
+abbrev pub MayCreate : Event → Type 0
+MayCreate (CallOf pid call) = MakesTimer call
+MayCreate event = ⊥
+
+-- the timers have the moments that they had before an event, which creates none without room for it
+pub record WereSet (event : Event) (outcome : Outcome) (has_room : Bool) (q : Parts) (a : Moments) : Type 0 where
   pub before : Parts
   pub sound : SoundTables before.tables
   pub ends : HaveOwnEnds before.tables.files
@@ -72,6 +77,7 @@ pub record WereSet (event : Event) (outcome : Outcome) (q : Parts) (a : Moments)
   pub tables : TouchesTables event outcome.answer before q
   pub clock : MovesClock event outcome.raising before.clock q.clock
   pub keys : KeepsKeys before.tables q.tables
+  pub left : has_room ≡ false → MayCreate event → q.tables ≡ before.tables
 
 -- each timer has its moment, but for the description that a descriptor names
 pub record AreSetBeside (q : Parts) (pid : ℕ) (fd : ℤ) (a : Moments) : Type 0 where
@@ -91,8 +97,3 @@ pub record IsCreated (q : Parts) (pid n : ℕ) (a : Moments) : Type 0 where
 abbrev pub CreatesTimer : Answer → Parts → ℕ → Moments → Type 0
 CreatesTimer (Num n) q pid a = IsCreated q pid n a
 CreatesTimer answer q pid a = AreSet q.tables q.clock a
-
--- the event may create a timer
-abbrev pub MayCreate : Event → Type 0
-MayCreate (CallOf pid (TimerFd clock cloexec)) = Unit {0}
-MayCreate event = ⊥

@@ -4,9 +4,11 @@ ghost use Rattle.std.specs.List.{list_any};
 ghost use Rattle.ep_base.specs.declared.call.Event.TheVariants.{Call as CallOf};
 ghost use Rattle.ep_calls.specs.Clock.{ClockStays};
 ghost use Rattle.ep_calls.specs.Kept.{KeepsCall, KeepsEvent};
+ghost use Rattle.ep_calls.specs.Last.{NothingRefuses, NothingRefusesCall};
 ghost use Rattle.ep_calls.specs.Spared.{IsSpared, TakesNoMemory};
+ghost use Rattle.ep_calls.specs.TableCall.{MakesTimer};
 ghost use Rattle.ep_kernel.specs.Listed.{HopesFor, IsListed};
-ghost use Rattle.ep_kernel.specs.Timers.{CallsTables, MovesClock, TouchesTables};
+ghost use Rattle.ep_kernel.specs.Timers.{CallsTables, MayCreate, MovesClock, TouchesTables};
 ghost use Rattle.ep_kernel.specs.Turns.{HopesGo, Turns};
 ghost use Rattle.ep_kernel.specs.Wait.{DoesCallFairly, DoesEventFairly, ReportsInOrder};
 ghost use Rattle.ep_machine.specs.Files.{table_of};
@@ -30,11 +32,13 @@ pub struct Request {
     pub caller: CallerId,
     /// Whether a second record of it is asked for.
     pub kept: bool,
+    /// Whether there is room for the timer that it may create.
+    pub has_room: bool,
 }
 
 /// A call of a process that is there.
-/// A refusal and an `Err`, which is want of memory, leave the parts and the lists. No `Err` comes of a call that
-/// `TakesNoMemory` names.
+/// A refusal and an `Err`, which is want of memory, leave the parts and the lists. An `Err` comes only if nothing
+/// refuses the call, and of none that `TakesNoMemory` names.
 fn make_call(
     parts: &mut Parts,
     lists: &mut ReadyLists,
@@ -55,6 +59,9 @@ fn make_call(
     ensures clock { IfOk result
         (λ outcome. ClockStays outcome.raising parts.old.clock parts.new.clock) }
     ensures kept { IfOk result (λ outcome. KeepsCall call.now request.kept outcome) }
+    ensures last { OnErr result (NothingRefusesCall parts.old pid.0 call.now) }
+    ensures room { request.has_room ≡ false → MakesTimer call.now
+        → parts.new.tables ≡ parts.old.tables }
     ensures spared { TakesNoMemory parts.old.tables.files pid.0 call.now → IsOk result }
     ensures turns { IfOk result
         (λ outcome. Turns (CallOf pid call.now) outcome.picked parts.old lists.old parts.new
@@ -97,14 +104,14 @@ fn make_call(
         | Call::Shutdown { fd }
         | Call::SetTime { fd, .. }
         | Call::GetTime { fd } => parts.object_call(pid, fd, call, request.kept),
-        _ => parts.table_call(pid, call),
+        _ => parts.table_call(pid, call, request.has_room),
     }
 }
 
 /// One event: its refusal, ESRCH first for a call, or its change, and what that does to the ready lists before anything
 /// climbs.
-/// A refusal and an `Err`, which is want of memory, leave the parts and the lists. No `Err` comes of an event that
-/// `IsSpared` names.
+/// A refusal and an `Err`, which is want of memory, leave the parts and the lists. An `Err` comes only if nothing
+/// refuses the event, and of none that `IsSpared` names.
 pub fn act(
     parts: &mut Parts,
     lists: &mut ReadyLists,
@@ -122,6 +129,9 @@ pub fn act(
     ensures clock { IfOk result
         (λ outcome. MovesClock event.now outcome.raising parts.old.clock parts.new.clock) }
     ensures kept { IfOk result (λ outcome. KeepsEvent event.now request.kept outcome) }
+    ensures last { OnErr result (NothingRefuses parts.old request.caller.0 event.now) }
+    ensures room { request.has_room ≡ false → MayCreate event.now
+        → parts.new.tables ≡ parts.old.tables }
     ensures spared { IsSpared parts.old.tables.files event.now → IsOk result }
     ensures turns { IfOk result
         (λ outcome. Turns event.now outcome.picked parts.old lists.old parts.new lists.new) }

@@ -1,8 +1,9 @@
 //! epoll_ctl: the places that come and go with registrations.
-ghost use Rattle.std.specs.Prelude.{◌≡◌, ◌≢◌, ℕ, IfOk, IsOk, IsSome, None, OnErr, OnOk, false};
+ghost use Rattle.std.specs.Prelude.{◌≡◌, ◌≢◌, [], ℕ, IfOk, IsOk, IsSome, None, OnErr, OnOk, false, true};
 ghost use Rattle.ep_base.specs.declared.call.Event.TheVariants.{Call as CallOf};
 ghost use Rattle.ep_calls.specs.Control.{IsPlan, TellsBelow, control_call};
 ghost use Rattle.ep_calls.specs.Does.{DoesCall};
+ghost use Rattle.ep_calls.specs.Last.{NothingRefusesCall};
 ghost use Rattle.ep_calls.specs.declared.control.Operation.TheVariants.{Add};
 ghost use Rattle.ep_interest.specs.Registrations.{entry_under};
 ghost use Rattle.ep_kernel.specs.Control.{Settles};
@@ -61,6 +62,22 @@ fn make_places(
     }
 }
 
+/// Makes room for what an ADD keeps: the places of its registration, and what its instance answers. `false` is want of
+/// memory, and leaves the lists and the hopes.
+fn make_room_for(lists: &mut ReadyLists, asked: &mut Asked, instance: DescId, id: EntryId) -> bool
+    requires free { instance_at lists.old id ≡ None }
+    requires hope { instance_at asked.old.hopes id ≡ None }
+    ensures made { result ≡ true → GainsPlace lists.old lists.new instance.0 id }
+    ensures hoped { result ≡ true → GainsPlace asked.old.hopes asked.new.hopes instance.0 id }
+    ensures refused { result ≡ false
+        → Same lists.old lists.new × Same asked.old.hopes asked.new.hopes }
+{
+    if asked.make_room(instance).is_err() {
+        return false;
+    }
+    make_places(lists, &mut asked.hopes, instance, id).is_ok()
+}
+
 /// Whether the instance that an ADD or a MOD is about is ready; `false` for what is no instance. DEL asks nothing.
 /// Only the hopes of the instance and of those below are looked at, as `is_ready` says.
 fn is_below_ready(parts: &Parts, asked: &mut Asked, operation: Operation, desc: DescId) -> bool
@@ -98,6 +115,7 @@ fn alter(
         (λ outcome. (n caller : ℕ)
         → DoesCall n caller pid.0 (control_call args) outcome parts.old parts.new) }
     ensures leaves { IfOk result (λ outcome. LeavesFiles outcome.raising parts.old parts.new) }
+    ensures last { OnErr result (NothingRefusesCall parts.old pid.0 (control_call args)) }
     ensures turns { IfOk result
         (λ outcome. Turns (CallOf pid (control_call args)) outcome.picked parts.old lists.old
         parts.new lists.new) }
@@ -118,8 +136,26 @@ fn alter(
     Ok(outcome)
 }
 
+/// An ADD for which there is no room: the refusal that comes first, or an `Err`, which is want of that room and comes
+/// only if nothing refuses the call. Either leaves the parts.
+fn refuse(parts: &mut Parts, pid: Pid, args: Control, mut plan: Plan) -> Result<Outcome, AllocError>
+    requires plan { IsPlan parts.old pid.0 args plan }
+    requires below { TellsBelow plan.operation plan.below parts.old plan.named.desc }
+    requires adds { plan.operation ≡ Add }
+    ensures ok { IfOk result
+        (λ outcome. (n caller : ℕ)
+        → DoesCall n caller pid.0 (control_call args) outcome parts.old parts.new) }
+    ensures leaves { IfOk result (λ outcome. LeavesFiles outcome.raising parts.old parts.new) }
+    ensures picked { IfOk result (λ outcome. outcome.picked ≡ []) }
+    ensures last { OnErr result (NothingRefusesCall parts.old pid.0 (control_call args)) }
+    ensures stays { parts.new ≡ parts.old }
+{
+    plan.has_room = false;
+    parts.control(pid, args, plan)
+}
+
 /// Adds a registration that is not there, with its places, and makes room for what its instance answers. An `Err` is
-/// want of memory and leaves the parts and the lists.
+/// want of memory and leaves the parts and the lists. It comes only if nothing refuses the call.
 fn add(
     parts: &mut Parts,
     lists: &mut ReadyLists,
@@ -138,6 +174,7 @@ fn add(
         (λ outcome. (n caller : ℕ)
         → DoesCall n caller pid.0 (control_call args) outcome parts.old parts.new) }
     ensures leaves { IfOk result (λ outcome. LeavesFiles outcome.raising parts.old parts.new) }
+    ensures last { OnErr result (NothingRefusesCall parts.old pid.0 (control_call args)) }
     ensures turns { IfOk result
         (λ outcome. Turns (CallOf pid (control_call args)) outcome.picked parts.old lists.old
         parts.new lists.new) }
@@ -149,8 +186,10 @@ fn add(
     lists.known();
     let id = parts.interest.next_key();
     asked.hopes.known();
-    asked.make_room(plan.named.instance)?;
-    make_places(lists, &mut asked.hopes, plan.named.instance, id)?;
+    if !make_room_for(lists, asked, plan.named.instance, id) {
+        let refused = refuse(parts, pid, args, plan)?;
+        return Ok(refused);
+    }
     let outcome = match parts.control(pid, args, plan) {
         Ok(outcome) => outcome,
         Err(error) => {
@@ -184,6 +223,7 @@ fn enter(
         (λ outcome. (n caller : ℕ)
         → DoesCall n caller pid.0 (control_call args) outcome parts.old parts.new) }
     ensures leaves { IfOk result (λ outcome. LeavesFiles outcome.raising parts.old parts.new) }
+    ensures last { OnErr result (NothingRefusesCall parts.old pid.0 (control_call args)) }
     ensures turns { IfOk result
         (λ outcome. Turns (CallOf pid (control_call args)) outcome.picked parts.old lists.old
         parts.new lists.new) }
@@ -201,7 +241,7 @@ fn enter(
 /// epoll_ctl(2), as `Parts::epoll_ctl`, with the ready lists: a registration that is added gets a place, and one that
 /// is deleted loses it; what is added or modified and reportable comes to the end of its list. The same goes for the
 /// hopes. Of the instances below its target only the hopes are looked at, as `is_ready` says. A refusal leaves the
-/// parts and the lists, and so does an `Err`, which is want of memory and comes only of ADD.
+/// parts and the lists, and so does an `Err`. That is want of memory, and comes only of an ADD that nothing refuses.
 pub fn epoll_ctl(
     parts: &mut Parts,
     lists: &mut ReadyLists,
@@ -215,6 +255,7 @@ pub fn epoll_ctl(
         (λ outcome. (n caller : ℕ)
         → DoesCall n caller pid.0 (control_call args) outcome parts.old parts.new) }
     ensures leaves { IfOk result (λ outcome. LeavesFiles outcome.raising parts.old parts.new) }
+    ensures last { OnErr result (NothingRefusesCall parts.old pid.0 (control_call args)) }
     ensures turns { IfOk result
         (λ outcome. Turns (CallOf pid (control_call args)) outcome.picked parts.old lists.old
         parts.new lists.new) }

@@ -1,12 +1,15 @@
 //! The kernel with ready lists.
-ghost use Rattle.std.specs.Prelude.{◌≡◌, ◌<◌, ◌≤◌, [], All, IfOk, IsOk, OnErr, false, length, true, ℕ};
+ghost use Rattle.std.specs.Prelude.{◌≡◌, ◌<◌, ◌≤◌, [], All, IfOk, IsOk, None, OnErr, false, length, true, ℕ};
 ghost use Rattle.ep_calls.specs.Acts.{Acts, Adds, is_no_memory};
 ghost use Rattle.ep_calls.specs.KeptRecords.{Gains, HasRecord, KeepsRecord};
 ghost use Rattle.ep_calls.specs.Spared.{IsSpared};
 ghost use Rattle.ep_kernel.specs.ReadyBook.{ActsOnLists, MayBeListed, TurnsLists, listed, state_of};
 ghost use Rattle.ep_law.specs.Laws.{is_reportable_in};
+ghost use Rattle.ep_machine.specs.Effect.{first};
 ghost use Rattle.ep_machine.specs.Files.{object_of};
 ghost use Rattle.ep_machine.specs.Lists.{are_distinct, is_among};
+ghost use Rattle.ep_machine.specs.Refusal.{refusals};
+ghost use Rattle.ep_machine.specs.Step.{next_event};
 ghost use Rattle.ep_view.specs.AtRest.{IsSteady, kind_of};
 
 use crate::act::{Request, act};
@@ -85,7 +88,8 @@ impl ReadyKernel {
     }
 
     /// One event. `kept`: what a second record of it is made of is asked for.
-    /// An `AllocError` has changed nothing, but that there may be more room for records.
+    /// An `AllocError` has changed nothing, but that there may be more room for records. It comes only if nothing
+    /// refuses the event, or for want of room for the record.
     #[inline(always)]
     fn try_step(
         &mut self,
@@ -104,12 +108,15 @@ impl ReadyKernel {
             (λ r. kept ≡ true → HasRecord caller event r.1 self.old.book.past self.new.book.past) }
         ensures spared { IsSpared (state_of self.old).files event
             → length self.old.book.past < self.old.book.capacity → IsOk result }
+        ensures last { length self.old.book.past < self.old.book.capacity → OnErr result
+            (first (refusals self.old.book.limits (next_event (state_of self.old)) caller.0 event)
+            ≡ None) }
         ensures err { OnErr result
             (self.new.book ≡ record self.old.book { capacity = self.new.book.capacity }) }
         ensures err_lists { OnErr result (self.new.lists ≡ self.old.lists) }
     {
         self.history.reserve(1)?;
-        make_room(&mut self.alarms, &event)?;
+        let has_room = make_room(&mut self.alarms, &event);
         let step = self.history.len() as u64 + 1;
         lists_go_on();
         ends_are_apart();
@@ -118,7 +125,12 @@ impl ReadyKernel {
         know(&self.parts);
         self.lists.known();
         let resumed = resumed_at(&self.parts, caller, &event);
-        let request = Request { step, caller, kept };
+        let request = Request {
+            step,
+            caller,
+            kept,
+            has_room,
+        };
         let outcome = act(
             &mut self.parts,
             &mut self.lists,
@@ -126,7 +138,7 @@ impl ReadyKernel {
             request,
             &event,
         )?;
-        follow(&self.parts, &mut self.alarms, &event, &outcome);
+        follow(&self.parts, &mut self.alarms, &event, &outcome, has_room);
         let raising = outcome.raising;
         let (answer, spare, record) = outcome.into_record(caller, event, kept);
         settle(
@@ -206,6 +218,10 @@ impl Kernel for ReadyKernel {
         ensures capacity { self.old.book.capacity ≤ self.new.book.capacity }
         ensures spared { IsSpared (state_of self.old).files event
             → length self.old.book.past < self.old.book.capacity → is_no_memory result ≡ false }
+        ensures last { is_no_memory result ≡ true
+            → length self.old.book.past < self.old.book.capacity
+            → first (refusals self.old.book.limits (next_event (state_of self.old)) caller.0 event)
+            ≡ None }
         ensures acts { Acts self.old.book.limits caller event result (state_of self.old)
             (state_of self.new) self.old.book.past self.new.book.past }
         ensures lists { ActsOnLists caller event result self.old self.new }

@@ -1,5 +1,5 @@
 //! The moments of timers over an event: of the one that it creates, sets or reads, and of those that the clock reaches.
-ghost use Rattle.std.specs.Prelude.{◌≡◌, ◌≤◌, IsOk, OnOk};
+ghost use Rattle.std.specs.Prelude.{◌≡◌, ◌≤◌, true};
 ghost use Rattle.ep_alarms.specs.Alarms.{AreSet};
 ghost use Rattle.ep_calls.specs.Raising.{IsRaising, Stirs};
 ghost use Rattle.ep_calls.specs.Spared.{IsSpared};
@@ -11,21 +11,20 @@ use ep_alarms::Alarms;
 use ep_base::{Answer, Call, Event, Fd, Pid};
 use ep_calls::{Outcome, Parts, Raising};
 use ep_table::Tables;
-use std::alloc::AllocError;
 
-/// Makes room for the timer that an event may create, and for nothing else. `AllocError` where there is no memory; no
-/// moment changes.
-pub fn make_room(alarms: &mut Alarms, event: &Event) -> Result<(), AllocError>
-    ensures room { OnOk result (MayCreate event.now → HasRoom alarms.new) }
+/// Makes room for the timer that an event may create, and for nothing else. `false` is want of memory; no moment
+/// changes.
+pub fn make_room(alarms: &mut Alarms, event: &Event) -> bool
+    ensures room { result ≡ true → MayCreate event.now → HasRoom alarms.new }
     ensures kept { SameMoments alarms.old alarms.new }
-    ensures spared { (files : Files) → IsSpared files event.now → IsOk result }
+    ensures spared { (files : Files) → IsSpared files event.now → result ≡ true }
 {
     match event {
         Event::Call {
             call: Call::TimerFd { .. },
             ..
-        } => alarms.reserve(),
-        _ => Ok(()),
+        } => alarms.reserve().is_ok(),
+        _ => true,
     }
 }
 
@@ -60,10 +59,11 @@ fn know_limits(tables: &Tables)
     let _descriptors = tables.limits().descriptors();
 }
 
-/// Gives the timer that an event created, set or read its next moment.
-pub fn follow(parts: &Parts, alarms: &mut Alarms, event: &Event, outcome: &Outcome)
-    requires before { WereSet event.now outcome.now parts.now alarms.old }
-    requires room { MayCreate event.now → HasRoom alarms.old }
+/// Gives the timer that an event created, set or read its next moment. `has_room`: there was room for one that it may
+/// create, without which it creates none.
+pub fn follow(parts: &Parts, alarms: &mut Alarms, event: &Event, outcome: &Outcome, has_room: bool)
+    requires before { WereSet event.now outcome.now has_room parts.now alarms.old }
+    requires room { has_room ≡ true → MayCreate event.now → HasRoom alarms.old }
     ensures { AreSetSince outcome.now.raising parts.now.tables parts.now.clock alarms.new }
 {
     parts.known();
@@ -77,7 +77,11 @@ pub fn follow(parts: &Parts, alarms: &mut Alarms, event: &Event, outcome: &Outco
         | Call::Shutdown { fd }
         | Call::SetTime { fd, .. }
         | Call::GetTime { fd } => set(parts, alarms, *pid, *fd),
-        Call::TimerFd { .. } => add(parts, alarms, *pid, &outcome.answer),
+        Call::TimerFd { .. } => {
+            if has_room {
+                add(parts, alarms, *pid, &outcome.answer);
+            }
+        }
         _ => {}
     }
 }

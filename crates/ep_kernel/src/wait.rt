@@ -3,6 +3,7 @@ ghost use Rattle.std.specs.Prelude.{◌≡◌, IfOk, OnErr, false, true};
 ghost use Rattle.std.specs.List.{list_any};
 ghost use Rattle.ep_base.specs.declared.call.Event.TheVariants.{Call as CallOf, Resume};
 ghost use Rattle.ep_calls.specs.Kept.{IsKept};
+ghost use Rattle.ep_calls.specs.Last.{NothingRefuses, NothingRefusesCall};
 ghost use Rattle.ep_calls.specs.Wait.{wait_call};
 ghost use Rattle.ep_kernel.specs.Listed.{HopesFor, IsListed};
 ghost use Rattle.ep_kernel.specs.Timers.{LeavesFiles};
@@ -32,7 +33,7 @@ fn most(max: i32) -> usize
 /// Where nothing is, no report with a timeout of 0, and else the caller is parked until it is marked, `timeout`
 /// milliseconds at most, and without end where that is negative. Refused with EINVAL for a `max` below 1 or no
 /// instance, and with EBADF where `epfd` names nothing. A refusal and an `Err`, which is want of memory, leave the
-/// parts and the lists.
+/// parts and the lists. An `Err` comes only if nothing refuses the call.
 pub fn epoll_wait(
     parts: &mut Parts,
     lists: &mut ReadyLists,
@@ -56,6 +57,7 @@ pub fn epoll_wait(
         (λ outcome. ReportsInOrder lists.old step caller.0 (CallOf args.pid (wait_call args))
         outcome parts.old parts.new lists.new) }
     ensures hopes { HopesGo (CallOf args.pid (wait_call args)) parts.old parts.new asked.new.hopes }
+    ensures last { OnErr result (NothingRefusesCall parts.old args.pid.0 (wait_call args)) }
     ensures err { OnErr result (parts.new ≡ parts.old) }
     ensures err_lists { OnErr result (lists.new ≡ lists.old) }
 {
@@ -76,6 +78,7 @@ pub fn epoll_wait(
 /// one gets at most as many reports as it asked for, in the order of the ready list, and is no longer parked; where
 /// nothing is reportable, it gets none at its deadline, and before that loses its mark and stays parked. `kept`: a
 /// second record of it is asked for. A refusal and an `Err`, which is want of memory, leave the parts and the lists.
+/// An `Err` comes only if nothing refuses it.
 pub fn resume(
     parts: &mut Parts,
     lists: &mut ReadyLists,
@@ -96,6 +99,7 @@ pub fn resume(
         (λ outcome. ReportsInOrder lists.old step caller.0 Resume outcome parts.old parts.new
         lists.new) }
     ensures hopes { HopesGo Resume parts.old parts.new asked.new.hopes }
+    ensures last { OnErr result (NothingRefuses parts.old caller.0 Resume) }
     ensures err { OnErr result (parts.new ≡ parts.old) }
     ensures err_lists { OnErr result (lists.new ≡ lists.old) }
 {

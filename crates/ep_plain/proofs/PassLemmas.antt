@@ -15,7 +15,7 @@ use Rattle.ep_law.specs.Laws.{Member, passes_on_of}
 use Rattle.ep_machine.specs.Deaths.{buried as buried_of, die_all, dying, is_kept}
 use Rattle.ep_machine.specs.Files.{Files}
 use Rattle.ep_machine.specs.Settle.{settle}
-use Rattle.ep_machine.specs.Spread.{is_reached, passes_on_by, raised_alive}
+use Rattle.ep_machine.specs.Spread.{passes_on_by, raised_alive}
 use Rattle.ep_machine.specs.State.{Change, State, Watch}
 use Rattle.ep_table.specs.Value.{Sound as SoundTables}
 use Rattle.ep_view.proofs.ClimbLemmas.{passes_as_noted, reached_same}

@@ -19,6 +19,7 @@ use Rattle.ep_machine.specs.State.{State, opening}
 use Rattle.ep_view.proofs.AtRestLemmas.{quiet_begun}
 use Rattle.ep_view.proofs.KernelViewLemmas.{any_kept, readiness as machine_readiness, ready_kept}
 use Rattle.ep_view.specs.KernelView.{KernelWatch, ready_now, shows, shows_in}
+use Rattle.ep_calls.proofs.RaiseLemmas.{stirs_added}
 use Rattle.ep_calls.specs.Does.{DoesEventIf}
 use Rattle.ep_calls.specs.Ids.{HadOrAdds}
 use Rattle.ep_calls.specs.Moves.{Goes, MovesBy}
@@ -26,7 +27,7 @@ use Rattle.ep_calls.specs.Raising.{Raises}
 use Rattle.ep_calls.specs.Stands.{KeepsKeys, number_at, watch_at}
 use Rattle.ep_plain.proofs.EndLemmas.{ready_settled, rested, rests_so, settles, shows_settled}
 use Rattle.ep_plain.proofs.ReasonLemmas.{have_reasons}
-use Rattle.ep_plain.specs.Altered.{NamesAltered, is_adding}
+use Rattle.ep_plain.specs.Altered.{NamesAltered, NeedsRoom, is_adding}
 use Rattle.ep_plain.proofs.AddedLemmas.{step_adds_none}
 use Rattle.ep_plain.specs.Dating.{AreListed, Dated, dated_count, dated_of}
 use Rattle.ep_plain.specs.Ends.{Rests, Spreads}
@@ -169,14 +170,21 @@ module _ (past : List Record) (old mid left : Parts) (d : Dating) (standing : St
   pub room : left.interest.added < length longer
   room = room_then (rested left) (rests_so left)
 
-  -- and for its key, where one that is added was reckoned with
-  pub key_room : (cap : ℕ) → old.interest.added < cap → (is_adding event ≡ true → old.interest.added + 1 < cap) → left.interest.added < cap
-  key_room cap lt more =
+  -- what follows the change adds no registration
+  added_left : left.interest.added ≡ mid.interest.added
+  added_left = spreads.rises.added ∙ (spreads.burial.buries.added ∙ stirs_added outcome.raising mid.tables mid.clock n mid.interest spreads.noted.interest spreads.stirs)
+
+  -- and for its key, where there was room for one that is added, or none was added
+  pub key_room : (cap : ℕ) (has_room : Bool) → old.interest.added < cap → NeedsRoom event has_room old.interest mid.interest → (has_room ≡ true → is_adding event ≡ true → old.interest.added + 1 < cap) → left.interest.added < cap
+  key_room cap has_room lt needs more =
       let t = keeps_new (rested left) (rests_so left) in
       let is = goes (rested left) (rests_so left) in
       let one = step_adds_one old.tables.limits standing.keeps.state t.state caller.0 event outcome.picked outcome.answer is in
       elim (cases_Bool (is_adding event)) [
-        | inl adds ↦ let enough = more adds in omega (arith, enough, one.1, standing.keeps.stands.added, t.stands.added)
+        | inl adds ↦ elim (cases_Bool has_room) [
+          | inl has ↦ let enough = more has adds in omega (arith, enough, one.1, standing.keeps.stands.added, t.stands.added)
+          | inr none ↦ let same = needs adds none in omega (arith, lt, same, added_left)
+        ]
         | inr none ↦
             let same = step_adds_none old.tables.limits standing.keeps.state t.state caller.0 event outcome.picked outcome.answer none is in
             omega (arith, lt, same, standing.keeps.stands.added, t.stands.added)

@@ -1,12 +1,15 @@
 //! One event.
 ghost use Rattle.std.specs.Prelude.{◌≡◌, IfOk, IsOk, OnErr, false, is_some, true};
 ghost use Rattle.std.specs.List.{list_any};
+ghost use Rattle.ep_base.specs.declared.call.Event.TheVariants.{Call as CallOf};
 ghost use Rattle.ep_machine.specs.Files.{table_of};
 ghost use Rattle.ep_park.specs.Waiters.{is_caller};
 ghost use Rattle.ep_calls.specs.Does.{DoesCall, DoesEvent};
 ghost use Rattle.ep_calls.specs.Ids.{HadOrAdds};
 ghost use Rattle.ep_calls.specs.Kept.{KeepsCall, KeepsEvent};
+ghost use Rattle.ep_calls.specs.Last.{NothingRefuses, NothingRefusesCall};
 ghost use Rattle.ep_calls.specs.Spared.{IsSpared, TakesNoMemory};
+ghost use Rattle.ep_plain.specs.Altered.{NeedsRoom};
 ghost use Rattle.ep_plain.specs.Choose.{Tells};
 ghost use Rattle.ep_plain.specs.Dating.{dated_of};
 
@@ -17,7 +20,8 @@ use ep_base::{Call, Errno, Event, Pid};
 use ep_calls::{Control, Outcome, Parts, Wait};
 use std::alloc::AllocError;
 
-/// A call of a process that is there. `kept`: a second record of it is asked for.
+/// A call of a process that is there. `kept`: a second record of it is asked for. An `Err` is want of memory, or of
+/// room for the key of what it would add. It leaves the parts, and comes only if nothing refuses the call.
 fn make_call(
     parts: &mut Parts,
     stamp: Stamp,
@@ -35,7 +39,10 @@ fn make_call(
         parts.new) }
     ensures ids { HadOrAdds parts.old.interest parts.new.interest }
     ensures kept { IfOk result (λ outcome. KeepsCall call.now kept outcome) }
+    ensures room { NeedsRoom (CallOf pid call.now) stamp.has_room parts.old.interest
+        parts.new.interest }
     ensures spared { TakesNoMemory parts.old.tables.files pid.0 call.now → IsOk result }
+    ensures last { OnErr result (NothingRefusesCall parts.old pid.0 call.now) }
     ensures err { OnErr result (parts.new ≡ parts.old) }
 {
     match *call {
@@ -53,7 +60,7 @@ fn make_call(
                 mask,
                 tag,
             };
-            parts.epoll_ctl(pid, args)
+            parts.epoll_ctl(pid, args, stamp.has_room)
         }
         Call::EpollWait { epfd, max, timeout } => {
             let args = Wait {
@@ -70,12 +77,13 @@ fn make_call(
         | Call::Shutdown { fd }
         | Call::SetTime { fd, .. }
         | Call::GetTime { fd } => parts.object_call(pid, fd, call, kept),
-        _ => parts.table_call(pid, call),
+        _ => parts.table_call(pid, call, true),
     }
 }
 
 /// One event: its refusal, ESRCH first for a call, or its change. `kept`: a second record of it is asked for.
-/// An `Err` is want of memory and leaves the parts. It comes of no event that `IsSpared` names.
+/// An `Err` is want of memory, or of room for the key of what it would add. It leaves the parts. It comes of no event
+/// that `IsSpared` names, and only if nothing refuses the event.
 pub fn act(
     parts: &mut Parts,
     stamp: Stamp,
@@ -89,7 +97,9 @@ pub fn act(
         (λ outcome. DoesEvent stamp.step stamp.caller.0 event.now outcome parts.old parts.new) }
     ensures ids { HadOrAdds parts.old.interest parts.new.interest }
     ensures kept { IfOk result (λ outcome. KeepsEvent event.now kept outcome) }
+    ensures room { NeedsRoom event.now stamp.has_room parts.old.interest parts.new.interest }
     ensures spared { IsSpared parts.old.tables.files event.now → IsOk result }
+    ensures last { OnErr result (NothingRefuses parts.old stamp.caller.0 event.now) }
     ensures err { OnErr result (parts.new ≡ parts.old) }
 {
     match event {

@@ -4,7 +4,9 @@ ghost use Rattle.ep_calls.specs.Acts.{Adds, is_no_memory};
 ghost use Rattle.ep_calls.specs.Book.{state_of};
 ghost use Rattle.ep_calls.specs.KeptRecords.{Gains, HasRecord};
 ghost use Rattle.ep_calls.specs.Spared.{IsSpared};
-ghost use Rattle.ep_machine.specs.Step.{step as step_of};
+ghost use Rattle.ep_machine.specs.Effect.{first};
+ghost use Rattle.ep_machine.specs.Refusal.{refusals};
+ghost use Rattle.ep_machine.specs.Step.{next_event, step as step_of};
 ghost use Rattle.ep_plain.specs.StepWith.{AddsBy, HasStep, StepsWith};
 
 use crate::altered::{count_added, find_altered, is_adding};
@@ -57,7 +59,9 @@ impl PlainKernel {
 
     /// One event whose report is of these registrations, in this order, and of the longest unreported where none are
     /// given: then `kept` asks for what a second record of it is made of.
-    /// An `AllocError` has changed nothing, but that there may be more room for records.
+    /// An `AllocError` has changed nothing, but that there may be more room for records. If there was room for the
+    /// record, it comes only if nothing refuses the event: without room for the key of a registration the event goes on
+    /// until it would add one.
     fn try_step(
         &mut self,
         caller: CallerId,
@@ -79,15 +83,23 @@ impl PlainKernel {
         ensures spared { option_copied picks.entry ≡ None
             → IsSpared (state_of self.old).files event
             → length self.old.past < self.old.capacity → IsOk result }
+        ensures last { OnErr result (length self.old.past < self.old.capacity
+            → first (refusals self.old.limits (next_event (state_of self.old)) caller.0 event)
+            ≡ None) }
         ensures err { OnErr result (self.new ≡ record self.old { capacity = self.new.capacity }) }
     {
         self.history.reserve(1)?;
+        self.dating.make_place()?;
         let added = count_added(&self.parts);
-        self.dating.make_room(is_adding(&event), added)?;
+        let has_room = self.dating.make_key_room(is_adding(&event), added);
         let step = self.history.len() as u64 + 1;
         let altered = find_altered(&self.parts, &event);
         reportables_are_spread();
-        let stamp = Stamp { step, caller };
+        let stamp = Stamp {
+            step,
+            caller,
+            has_room,
+        };
         let outcome = act_with(&mut self.parts, stamp, &event, &self.dating, picks, kept)?;
         let raising = outcome.raising;
         let (answer, spare, record) = outcome.into_record(caller, event, kept);
@@ -110,11 +122,16 @@ impl PlainKernel {
     /// The step of an event whose report is of the registrations of these numbers, in this order; of none for an
     /// event that makes no report. `None` exactly where the machine has no such step, and then nothing changes.
     /// ENOMEM is want of memory: nothing changes, and there is such a step. In both cases there may be more room for
-    /// records. ENOMEM may come of any event, also while there is room for records: only `step` says of which it
-    /// doesn't. The time grows as the product of how many are given and how many registrations the instance has.
+    /// records. While there is room for records, ENOMEM comes only of an event that nothing refuses, but it may come of
+    /// those that `step` spares. The time grows as the product of how many are given and how many registrations the
+    /// instance has.
     pub fn step_with(&mut self, caller: CallerId, event: Event, picks: &[u64]) -> Option<Answer>
         ensures limits { self.new.limits ≡ self.old.limits }
         ensures capacity { self.old.capacity ≤ self.new.capacity }
+        ensures last { IfSome result
+            (λ answer. is_no_memory answer ≡ true → length self.old.past < self.old.capacity
+            → first (refusals self.old.limits (next_event (state_of self.old)) caller.0 event)
+            ≡ None) }
         ensures steps { StepsWith self.old.limits caller event picks.now result (state_of self.old)
             (state_of self.new) self.old.past self.new.past }
     {

@@ -41,26 +41,36 @@ impl Dating {
         Ok(Dating { since, keys })
     }
 
-    /// Makes room for one number more, and where the event adds a registration, for the keys of one more than there
-    /// ever were. What removes or closes something asks for no key.
-    pub fn make_room(&mut self, is_adding: bool, added: u64) -> Result<(), AllocError>
-        requires { added < length self.old.since.items }
+    /// Makes room for one number more. An `Err` is want of memory, and leaves as much room as before.
+    pub fn make_place(&mut self) -> Result<(), AllocError>
         ensures dates { dated_of self.new ≡ dated_of self.old }
         ensures since { OnOk result
             (length self.new.since.items + 1 ≤ vec_capacity self.new.since) }
-        ensures keys { OnOk result
-            (is_adding ≡ true → added + 1 < vec_capacity self.new.keys) }
         ensures since_stays { vec_capacity self.old.since ≤ vec_capacity self.new.since }
-        ensures keys_stay { vec_capacity self.old.keys ≤ vec_capacity self.new.keys }
-        ensures spared { is_adding ≡ false
-            → length self.old.since.items + 1 ≤ vec_capacity self.old.since → IsOk result }
+        ensures keys_stay { vec_capacity self.new.keys ≡ vec_capacity self.old.keys }
+        ensures spared { length self.old.since.items + 1 ≤ vec_capacity self.old.since
+            → IsOk result }
     {
-        self.since.reserve(1)?;
+        self.since.reserve(1)
+    }
+
+    /// Makes room for the keys of one registration more than there ever were, and answers whether there is. `false` is
+    /// want of memory, and leaves as much room as before. An event that adds no registration asks for none.
+    pub fn make_key_room(&mut self, is_adding: bool, added: u64) -> bool
+        requires { added < length self.old.since.items }
+        ensures dates { dated_of self.new ≡ dated_of self.old }
+        ensures keys { result ≡ true → is_adding ≡ true
+            → added + 1 < vec_capacity self.new.keys }
+        ensures since_stays { vec_capacity self.new.since ≡ vec_capacity self.old.since }
+        ensures keys_stay { vec_capacity self.old.keys ≤ vec_capacity self.new.keys }
+    {
         if !is_adding {
-            return Ok(());
+            return true;
         }
         let places = added as usize + 2;
-        self.keys.reserve(places.saturating_sub(self.keys.len()))
+        self.keys
+            .reserve(places.saturating_sub(self.keys.len()))
+            .is_ok()
     }
 }
 

@@ -1,12 +1,14 @@
-//! Which event is made, and by whom.
+//! Which event is made, by whom, and with what room.
 
 use ep_base::CallerId;
 
-/// The number of an event, and its caller.
+/// The number of an event, its caller, and the room for what it adds.
 #[derive(Clone, Copy)]
 pub struct Stamp {
     /// The number of the event.
     pub step: u64,
     /// Who makes it.
     pub caller: CallerId,
+    /// Whether the key of a registration that it adds has room. Without it, none is added.
+    pub has_room: bool,
 }

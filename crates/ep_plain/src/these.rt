@@ -9,8 +9,10 @@ ghost use Rattle.ep_park.specs.Waiters.{is_caller, parked};
 ghost use Rattle.ep_calls.specs.Does.{DoesCallIf, DoesEventIf};
 ghost use Rattle.ep_calls.specs.Ids.{HadOrAdds};
 ghost use Rattle.ep_calls.specs.Kept.{KeepsEvent};
+ghost use Rattle.ep_calls.specs.Last.{NothingRefuses, NothingRefusesCall};
 ghost use Rattle.ep_calls.specs.Spared.{IsSpared};
 ghost use Rattle.ep_calls.specs.Wait.{AreKeyed, Waits, wait_call};
+ghost use Rattle.ep_plain.specs.Altered.{NeedsRoom};
 ghost use Rattle.ep_plain.specs.Choose.{Tells, reportables_at};
 ghost use Rattle.ep_plain.specs.Dating.{dated_of};
 ghost use Rattle.ep_plain.specs.Since.{IsDated};
@@ -110,6 +112,7 @@ fn wait_these(
     ensures picked { IfOk result
         (λ outcome. WherePicked parts.old instance (number_in args.max) picks.now
         (outcome.picked ≡ picks.now)) }
+    ensures last { OnErr result (NothingRefusesCall parts.old args.pid.0 (wait_call args)) }
     ensures err { OnErr result (parts.new ≡ parts.old) }
 {
     parts.tables.known();
@@ -138,6 +141,7 @@ fn resume_these(
     ensures picked { IfOk result
         (λ outcome. WherePicked parts.old waiter.instance (number_in waiter.max) picks.now
         (outcome.picked ≡ picks.now)) }
+    ensures last { OnErr result (NothingRefuses parts.old stamp.caller.0 Resume) }
     ensures err { OnErr result (parts.new ≡ parts.old) }
 {
     parts.tables.known();
@@ -146,7 +150,8 @@ fn resume_these(
     Ok(outcome)
 }
 
-/// One event whose report is of these registrations, in this order. An `Err` is want of memory and leaves the parts.
+/// One event whose report is of these registrations, in this order. An `Err` is want of memory, or of room for the key
+/// of what it would add. It leaves the parts, and comes only if nothing refuses the event.
 fn act_these(
     parts: &mut Parts,
     stamp: Stamp,
@@ -163,6 +168,8 @@ fn act_these(
     ensures picked { IfOk result
         (λ outcome. PicksThese stamp.step parts.old stamp.caller.0 event.now picks.now
         outcome.picked) }
+    ensures room { NeedsRoom event.now stamp.has_room parts.old.interest parts.new.interest }
+    ensures last { OnErr result (NothingRefuses parts.old stamp.caller.0 event.now) }
     ensures err { OnErr result (parts.new ≡ parts.old) }
 {
     match find_waiting(parts, stamp.caller, event) {
@@ -175,8 +182,9 @@ fn act_these(
 }
 
 /// One event whose report is of these registrations, in this order, and of the longest unreported where none are
-/// given: then `kept` asks for what a second record of it is made of. An `Err` is want of memory and leaves the
-/// parts; where none are given, it comes of no event that `IsSpared` names.
+/// given: then `kept` asks for what a second record of it is made of. An `Err` is want of memory, or of room for the
+/// key of what it would add. It leaves the parts, and comes only if nothing refuses the event. Where none are given,
+/// it comes of no event that `IsSpared` names.
 pub fn act_with(
     parts: &mut Parts,
     stamp: Stamp,
@@ -197,8 +205,10 @@ pub fn act_with(
         (option_copied picks.entry) outcome.picked) }
     ensures kept { IfOk result
         (λ outcome. IfNone (option_copied picks.entry) (KeepsEvent event.now kept outcome)) }
+    ensures room { NeedsRoom event.now stamp.has_room parts.old.interest parts.new.interest }
     ensures spared { option_copied picks.entry ≡ None → IsSpared parts.old.tables.files event.now
         → IsOk result }
+    ensures last { OnErr result (NothingRefuses parts.old stamp.caller.0 event.now) }
     ensures err { OnErr result (parts.new ≡ parts.old) }
 {
     match picks {

@@ -5,6 +5,7 @@ ghost use Rattle.ep_base.specs.declared.call.Event.TheVariants.{Resume};
 ghost use Rattle.ep_park.specs.Waiters.{is_caller};
 ghost use Rattle.ep_calls.specs.Does.{DoesCall, DoesEvent};
 ghost use Rattle.ep_calls.specs.Kept.{IsKept};
+ghost use Rattle.ep_calls.specs.Last.{NothingRefuses, NothingRefusesCall};
 ghost use Rattle.ep_calls.specs.Wait.{wait_call};
 ghost use Rattle.ep_plain.specs.Choose.{Tells};
 ghost use Rattle.ep_plain.specs.Dating.{dated_of};
@@ -20,7 +21,7 @@ use std::alloc::AllocError;
 /// nothing is, no report with a timeout of 0, and else the caller is parked until it is marked, `timeout`
 /// milliseconds at most, and without end where that is negative. Refused with EINVAL for a `max` below 1 or no
 /// instance, and with EBADF where `epfd` names nothing. A refusal and an `Err`, which is want of memory, leave the
-/// parts.
+/// parts. An `Err` comes only if nothing refuses the call.
 pub fn epoll_wait(
     parts: &mut Parts,
     stamp: Stamp,
@@ -35,6 +36,7 @@ pub fn epoll_wait(
         parts.old parts.new) }
     ensures ids { parts.new.interest.keys ≡ parts.old.interest.keys }
     ensures kept { IfOk result (λ outcome. IsKept args.kept outcome) }
+    ensures last { OnErr result (NothingRefusesCall parts.old args.pid.0 (wait_call args)) }
     ensures err { OnErr result (parts.new ≡ parts.old) }
 {
     let instance = match find_instance(&parts.tables, args) {
@@ -50,7 +52,7 @@ pub fn epoll_wait(
 /// A parked caller asks whether it may go on: EINVAL where it is not parked, `Still` where it isn't marked. A marked
 /// one gets at most as many reports as it asked for and is no longer parked; where nothing is reportable, it gets
 /// none at its deadline, and before that loses its mark and stays parked. `kept`: a second record of it is asked for.
-/// A refusal and an `Err`, which is want of memory, leave the parts.
+/// A refusal and an `Err`, which is want of memory, leave the parts. An `Err` comes only of a caller that is parked.
 pub fn resume(
     parts: &mut Parts,
     stamp: Stamp,
@@ -63,6 +65,7 @@ pub fn resume(
         (λ outcome. DoesEvent stamp.step stamp.caller.0 Resume outcome parts.old parts.new) }
     ensures ids { parts.new.interest.keys ≡ parts.old.interest.keys }
     ensures kept { IfOk result (λ outcome. IsKept kept outcome) }
+    ensures last { OnErr result (NothingRefuses parts.old stamp.caller.0 Resume) }
     ensures err { OnErr result (parts.new ≡ parts.old) }
 {
     let Some(waiter) = parts.waiters.waiter(stamp.caller) else {

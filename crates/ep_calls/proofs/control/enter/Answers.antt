@@ -15,7 +15,7 @@ returns-clause-nested c =
     let old = c.args.interest.now in
     let new = c.add.new.interest in
     let tables = c.args.tables.now in
-    let named = c.args.named in
+    let named = c.args.plan.named in
     let is : is_nested_key tables named.desc ≡ c.is_instance-is_nested.result = search rules in
     let x : Entry = next_entry old named c.args.args in
     c.in_ok-add.ensures.linked

@@ -1,11 +1,13 @@
 use Rattle.std.proofs.Common.{◌≡◌, ◌∙◌, ℕ, ap, false, inl, inr, is_some, refl, subst, sym, true}
 use Rattle.std.specs.List.{list_any}
-use Rattle.std.proofs.lemmas.Result.{IfOk-weaker}
+use Rattle.std.proofs.lemmas.Result.{IfOk-weaker, on_err_weaker}
 use Rattle.ep_base.specs.declared.call.Event.{Event}
 use Rattle.ep_base.specs.declared.call.Event.TheVariants.{Call as CallOf, Tick}
 use Rattle.ep_base.specs.declared.errno.Errno.TheVariants.{Ebusy, Esrch}
 use Rattle.ep_calls.proofs.ActLemmas.{busy, past_does_if, refused_does, tick_does}
 use Rattle.ep_calls.specs.Does.{DoesEvent, DoesEventIf}
+use Rattle.ep_calls.specs.Last.{NothingRefuses}
+use Rattle.ep_calls.proofs.LastLemmas.{past_last}
 use Rattle.ep_calls.specs.Parts.{Parts}
 use Rattle.ep_kernel.proofs.PickLemmas.{event_does_if}
 use Rattle.ep_kernel.proofs.ReportsFirstLemmas.{is_wait, other_reports, refused_reports}
@@ -17,7 +19,7 @@ use Rattle.ep_calls.specs.Clock.{ClockStays}
 use Rattle.ep_calls.specs.declared.raising.Raising.{Raising}
 use Rattle.ep_calls.specs.declared.raising.Raising.TheVariants.{Nowhere}
 use Rattle.ep_kernel.proofs.TimersLemmas.{tick_moves}
-use Rattle.ep_kernel.specs.Timers.{MovesClock, TouchesTables}
+use Rattle.ep_kernel.specs.Timers.{MayCreate, MovesClock, TouchesTables}
 use Rattle.ep_kernel.proofs.act.act.Goals as goal
 use Rattle.ep_kernel.specs.Listed.{AreFair}
 use Rattle.ep_kernel.specs.Turns.{AlteredStand}
@@ -54,6 +56,21 @@ returns-else-is_parked-clause-ok c =
     let free = subst (λ (q : Parts). list_any (is_caller caller) q.parked ≡ false) c.parts.view_is (sym c.is_parked.ensures ∙ c.if-is_parked.false) in
     IfOk-weaker c.make_call.result _ _ (λ outcome does. subst (λ (event : Event). DoesEventIf fair c.args.request.step caller event outcome p c.make_call.new.parts) (sym c.in-Call.is)
     (past_does_if p caller pid c.in-Call.call there fair c.args.request.step c.make_call.new.parts outcome free does)) c.make_call.ensures.ok
+
+pub returns-else-is_parked-clause-last : goal.returns-else-is_parked-clause-last
+returns-else-is_parked-clause-last c =
+    let pid = c.in-Call.pid in
+    let caller = c.args.request.caller.0 in
+    let p = c.args.parts.now in
+    let there = subst (λ (q : Parts). is_some (table_of q.tables.files pid.0) ≡ true) c.parts.view_is (sym c.has_process.ensures ∙ c.if-not-has_process.false) in
+    let free = subst (λ (q : Parts). list_any (is_caller caller) q.parked ≡ false) c.parts.view_is (sym c.is_parked.ensures ∙ c.if-is_parked.false) in
+    on_err_weaker c.make_call.result (λ last. subst (NothingRefuses p caller) (sym c.in-Call.is) (past_last p caller pid c.in-Call.call there free last)) c.make_call.ensures.last
+
+pub returns-else-is_parked-clause-room : goal.returns-else-is_parked-clause-room
+returns-else-is_parked-clause-room c none creates = c.make_call.ensures.room none (subst MayCreate c.in-Call.is creates)
+
+pub returns-in-Resume-clause-last : goal.returns-in-Resume-clause-last
+returns-in-Resume-clause-last c = on_err_weaker c.resume.result (λ last. subst (NothingRefuses c.args.parts.now c.args.request.caller.0) (sym c.in-Resume.is) last) c.resume.ensures.last
 
 pub returns-in-Tick-clause-ok : goal.returns-in-Tick-clause-ok
 returns-in-Tick-clause-ok c =

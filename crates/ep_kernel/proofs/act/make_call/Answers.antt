@@ -8,6 +8,7 @@ use Rattle.ep_base.specs.declared.call.Event.TheVariants.{Call as CallOf}
 use Rattle.ep_calls.proofs.KeptLemmas.{table_call_kept}
 use Rattle.ep_calls.proofs.SparedLemmas.{table_call_frees}
 use Rattle.ep_calls.specs.Does.{DoesCallIf}
+use Rattle.ep_calls.specs.Last.{NothingRefusesCall}
 use Rattle.ep_calls.specs.ObjectCall.{fd_of}
 use Rattle.ep_calls.specs.TableCall.{IsTableCall}
 use Rattle.ep_kernel.proofs.PickLemmas.{call_does_if}
@@ -36,6 +37,8 @@ returns-in_default c =
       turns = IfOk-weaker c.table_call.result _ _ (λ outcome none. same_turns (CallOf c.args.pid call) outcome.picked p c.table_call.new.self l c.requires.listed c.table_call.ensures.interest none (table_altered c.args.pid call p c.table_call.new.self l on_tables)) c.table_call.ensures.picked;
       order = IfOk-weaker c.table_call.result _ _ (λ outcome none. other_reports l c.args.request.step c.args.request.caller.0 (CallOf c.args.pid call) outcome p c.table_call.new.self l (table_waits c.args.pid call on_tables)) c.table_call.ensures.picked;
       hopes = hopes_same (CallOf c.args.pid call) p c.table_call.new.self c.args.asked.now.hopes c.requires.hopes c.table_call.ensures.interest (table_altered c.args.pid call p c.table_call.new.self c.args.asked.now.hopes on_tables);
+      last = c.table_call.ensures.last;
+      room = c.table_call.ensures.room;
       spared = λ h. c.table_call.ensures.frees (table_call_frees p.tables.files c.args.pid.0 call on_tables h);
       err = on_err_weaker c.table_call.result (λ same. (same, same_lists l)) c.table_call.ensures.err;
     }
@@ -67,6 +70,13 @@ returns-in-EpollCtl-clause-ok c =
     IfOk-weaker c.epoll_ctl.result _ _ (λ outcome h.
     let P : Call → Type 0 = λ call. DoesCallIf fair step caller c.args.pid.0 call outcome p q in
     subst P (sym x.is) (subst (λ (z : ℤ). P (EpollCtl x.epfd z x.fd x.mask x.tag)) (to_z-of_z w32 x.op fits) (call_does_if fair step caller c.args.pid.0 (EpollCtl x.epfd (to_z w32 (of_z w32 x.op)) x.fd x.mask x.tag) outcome p q (h step caller)))) c.epoll_ctl.ensures.ok
+
+pub returns-in-EpollCtl-clause-last : goal.returns-in-EpollCtl-clause-last
+returns-in-EpollCtl-clause-last c =
+    let x = c.in-EpollCtl in
+    let Last : Call → Type 0 = NothingRefusesCall c.args.parts.now c.args.pid.0 in
+    let fits : SFits w32 x.op = search rules in
+    on_err_weaker c.epoll_ctl.result (λ last. subst Last (sym x.is) (subst (λ (z : ℤ). Last (EpollCtl x.epfd z x.fd x.mask x.tag)) (to_z-of_z w32 x.op fits) last)) c.epoll_ctl.ensures.last
 
 pub returns-in-Read-clause-order : goal.returns-in-Read-clause-order
 returns-in-Read-clause-order c =

@@ -5,18 +5,18 @@ use Rattle.ep_kernel.proofs.TimersLemmas.{call_creates, object_beside, other_cal
 use Rattle.ep_kernel.proofs.timers.follow.Goals as goal
 
 pub returns-in_default : goal.returns-in_default
-returns-in_default c = other_event c.args.event.now c.args.outcome.now c.args.parts.now c.args.alarms.now c.requires.before c.known.ensures.sound c.in_default.not-Call
+returns-in_default c = other_event c.args.event.now c.args.outcome.now c.args.has_room c.args.parts.now c.args.alarms.now c.requires.before c.known.ensures.sound c.in_default.not-Call
 
 pub set-requires : goal.set-requires
 set-requires c =
     let on : fd_of c.in-Call.call ≡ Some c.in-Read.fd = search rules in
-    object_beside c.args.event.now c.args.outcome.now c.args.parts.now c.args.alarms.now c.requires.before c.known.ensures.sound c.in-Call.pid c.in-Call.call c.in-Call.is c.in-Read.fd on
+    object_beside c.args.event.now c.args.outcome.now c.args.has_room c.args.parts.now c.args.alarms.now c.requires.before c.known.ensures.sound c.in-Call.pid c.in-Call.call c.in-Call.is c.in-Read.fd on
 
 pub add-requires-clause-created : goal.add-requires-clause-created
-add-requires-clause-created c = call_creates c.args.event.now c.args.outcome.now c.args.parts.now c.args.alarms.now c.requires.before c.known.ensures.sound c.in-Call.pid c.in-Call.call c.in-Call.is _ _ c.in-TimerFd.is (subst (λ (r : Parts). r.tables.limits.descriptors ≤ 65536) c.parts.view_is c.know_limits.ensures)
+add-requires-clause-created c = call_creates c.args.event.now c.args.outcome.now c.args.has_room c.args.parts.now c.args.alarms.now c.requires.before c.known.ensures.sound c.in-Call.pid c.in-Call.call c.in-Call.is _ _ c.in-TimerFd.is (subst (λ (r : Parts). r.tables.limits.descriptors ≤ 65536) c.parts.view_is c.know_limits.ensures)
 
 pub returns-in_default-call : goal.returns-in_default-call
-returns-in_default-call c = other_call c.args.event.now c.args.outcome.now c.args.parts.now c.args.alarms.now c.requires.before c.known.ensures.sound c.in-Call.pid c.in-Call.call c.in-Call.is
+returns-in_default-call c = other_call c.args.event.now c.args.outcome.now c.args.has_room c.args.parts.now c.args.alarms.now c.requires.before c.known.ensures.sound c.in-Call.pid c.in-Call.call c.in-Call.is
     record {
       creates = c.in_default-call.not-TimerFd;
       reads = c.in_default-call.not-Read;

@@ -10,6 +10,8 @@ use Rattle.ep_kernel.proofs.ReportsFirstLemmas.{first_reported, refused_reports,
 use Rattle.ep_kernel.proofs.HopesGoLemmas.{hopes_kept, hopes_stay}
 use Rattle.ep_kernel.proofs.WaitTurnsLemmas.{places_reported, refused_turns, wait_turns}
 use Rattle.ep_kernel.proofs.wait.epoll_wait.Goals as goal
+use Rattle.ep_calls.proofs.LastLemmas.{wait_last}
+use Rattle.ep_nest.proofs.AdjacentLemmas.{on_err}
 use Rattle.ep_kernel.specs.Listed.{AreFair}
 use Rattle.ep_kernel.specs.Take.{SetsList, key_stays, taken}
 use Rattle.ep_machine.specs.Refusal.{call_refusals}
@@ -88,6 +90,9 @@ returns-in-Err-clause-hopes c = hopes_stay (CallOf c.args.args.pid (wait_call c.
 
 pub returns-in_err-found-clause-hopes : goal.returns-in_err-found-clause-hopes
 returns-in_err-found-clause-hopes c = hopes_stay (CallOf c.args.args.pid (wait_call c.args.args)) c.args.parts.now c.args.parts.now c.choose.new.asked.hopes refl c.choose.ensures.hopes
+
+pub returns-in_err-found-clause-last : goal.returns-in_err-found-clause-last
+returns-in_err-found-clause-last c = on_err c.from_residual.result (wait_last c.args.parts.now c.args.args c.in-Ok.instance (subst (λ (q : Parts). Waits q.tables c.args.args c.in-Ok.instance) c.parts.view_is c.in-Ok.ensures))
 
 pub returns-in_err-outcome-clause-hopes : goal.returns-in_err-outcome-clause-hopes
 returns-in_err-outcome-clause-hopes c = hopes_stay (CallOf c.args.args.pid (wait_call c.args.args)) c.args.parts.now c.wait_with.new.self c.choose.new.asked.hopes c.in_err-outcome.ensures.err c.choose.ensures.hopes

@@ -17,6 +17,8 @@ use Rattle.ep_kernel.proofs.ReportsFirstLemmas.{first_reported, refused_reports,
 use Rattle.ep_kernel.proofs.HopesGoLemmas.{hopes_kept, hopes_stay}
 use Rattle.ep_kernel.proofs.WaitTurnsLemmas.{places_reported, refused_turns, wait_turns}
 use Rattle.ep_kernel.proofs.wait.resume.Goals as goal
+use Rattle.ep_nest.proofs.AdjacentLemmas.{on_err}
+use Rattle.ep_calls.proofs.LastLemmas.{resume_last}
 use Rattle.ep_kernel.specs.Listed.{AreFair}
 use Rattle.ep_kernel.specs.Take.{SetsList, key_stays, taken}
 use Rattle.ep_machine.specs.Refusal.{refusals}
@@ -144,6 +146,12 @@ returns-then-not-waiter-clause-hopes c = hopes_stay Resume c.args.parts.now c.ar
 
 pub returns-in_err-found-clause-hopes : goal.returns-in_err-found-clause-hopes
 returns-in_err-found-clause-hopes c = hopes_stay Resume c.args.parts.now c.args.parts.now c.choose.new.asked.hopes refl c.choose.ensures.hopes
+
+pub returns-in_err-found-clause-last : goal.returns-in_err-found-clause-last
+returns-in_err-found-clause-last c =
+    let caller = c.args.caller.0 in
+    let w = c.in-Some.waiter in
+    on_err c.from_residual.result (resume_last c.args.parts.now caller w (subst (λ (q : Parts). find (is_caller caller) q.parked ≡ Some (parked caller w)) c.parts.view_is (sym c.in-Some.ensures)))
 
 pub returns-in_err-outcome-clause-hopes : goal.returns-in_err-outcome-clause-hopes
 returns-in_err-outcome-clause-hopes c = hopes_stay Resume c.args.parts.now c.resume_with.new.self c.choose.new.asked.hopes c.in_err-outcome.ensures.err c.choose.ensures.hopes

@@ -1,4 +1,4 @@
-use Rattle.std.proofs.Common.{ℤ, rules, subst, sym, w32}
+use Rattle.std.proofs.Common.{◌∙◌, ℤ, OnErr, ap, rules, subst, sym, w32}
 use Rattle.std.proofs.lemmas.Int.{to_z-of_z}
 use Rattle.std.proofs.lemmas.Result.{IfOk-weaker}
 use mir.Val.{SFits}
@@ -6,7 +6,9 @@ use Rattle.ep_base.specs.declared.call.Call.{Call}
 use Rattle.ep_base.specs.declared.call.Call.TheVariants.{EpollCtl}
 use Rattle.ep_calls.specs.Does.{DoesCall}
 use Rattle.ep_calls.specs.Kept.{KeepsCall}
+use Rattle.ep_calls.specs.Last.{NothingRefusesCall}
 use Rattle.ep_calls.specs.TableCall.{IsTableCall}
+use Rattle.ep_interest.specs.Registrations.{Registrations}
 use Rattle.ep_calls.proofs.HadLemmas.{had_keys, had_same}
 use Rattle.ep_calls.proofs.KeptLemmas.{any_call, table_call_kept}
 use Rattle.ep_calls.proofs.SparedLemmas.{table_call_frees}
@@ -20,6 +22,8 @@ returns-in_default c =
       kept = IfOk-weaker c.table_call.result _ _ (λ outcome h. table_call_kept c.args.call.now c.args.kept outcome on_tables) c.table_call.ensures.ok;
       spared = λ h. c.table_call.ensures.frees (table_call_frees c.args.parts.now.tables.files c.args.pid.0 c.args.call.now on_tables h);
       ids = had_same c.args.parts.now.interest c.table_call.new.self.interest c.table_call.ensures.interest;
+      room = λ adds none. ap (λ (r : Registrations). r.added) c.table_call.ensures.interest;
+      last = c.table_call.ensures.last;
       err = c.table_call.ensures.err;
     }
 
@@ -48,3 +52,9 @@ returns-in-Read-clause-ids c = had_same c.args.parts.now.interest c.object_call.
 
 pub returns-in-EpollWait-clause-ids : goal.returns-in-EpollWait-clause-ids
 returns-in-EpollWait-clause-ids c = had_keys c.args.parts.now.interest c.epoll_wait.new.parts.interest c.epoll_wait.ensures.ids
+
+pub returns-in-EpollCtl-clause-last : goal.returns-in-EpollCtl-clause-last
+returns-in-EpollCtl-clause-last c =
+    let x = c.in-EpollCtl in
+    let fits : SFits w32 x.op = search rules in
+    subst (λ (call : Call). OnErr c.epoll_ctl.result (NothingRefusesCall c.args.parts.now c.args.pid.0 call)) (ap (λ (z : ℤ). EpollCtl x.epfd z x.fd x.mask x.tag) (to_z-of_z w32 x.op fits) ∙ sym x.is) c.epoll_ctl.ensures.last

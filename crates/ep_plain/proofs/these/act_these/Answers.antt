@@ -1,6 +1,10 @@
-use Rattle.std.proofs.Common.{Some, subst}
-use Rattle.std.proofs.lemmas.Result.{IfOk-weaker}
+use Rattle.std.proofs.Common.{Some, subst, sym}
+use Rattle.std.proofs.lemmas.Result.{IfOk-weaker, on_err_weaker}
+use Rattle.ep_base.specs.declared.call.Event.{Event}
+use Rattle.ep_calls.specs.Last.{NothingRefuses}
+use Rattle.ep_calls.specs.Wait.{wait_call}
 use Rattle.ep_plain.proofs.ActWithLemmas.{call_does, call_picks, none_picks, resume_does, resume_picks}
+use Rattle.ep_calls.proofs.LastLemmas.{past_last}
 use Rattle.ep_plain.specs.These.{AsksFor, CallsWait, Resumes}
 use Rattle.ep_plain.specs.declared.waiting.Waiting.{Waiting}
 use Rattle.ep_plain.proofs.these.act_these.Goals as goal
@@ -34,3 +38,11 @@ returns-in-Some-Parked-clause-picked c =
 pub returns-in-None-clause-picked : goal.returns-in-None-clause-picked
 returns-in-None-clause-picked c =
     IfOk-weaker c.act.result _ _ (λ outcome does. none_picks c.args.parts.now c.act.new.parts c.args.stamp.step c.args.stamp.caller.0 c.args.event.now c.args.picks.now outcome c.in-None.ensures does) c.act.ensures.ok
+
+pub returns-in-Some-Call-clause-last : goal.returns-in-Some-Call-clause-last
+returns-in-Some-Call-clause-last c =
+    let q = c.args.parts.now in
+    let x = c.in-Some-Call in
+    let caller = c.args.stamp.caller.0 in
+    let of = calls c in
+    on_err_weaker c.wait_these.result (λ none. subst (λ (event : Event). NothingRefuses q caller event) (sym of.is) (past_last q caller x.args.pid (wait_call x.args) of.there of.free none)) c.wait_these.ensures.last

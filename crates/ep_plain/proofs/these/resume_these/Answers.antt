@@ -16,7 +16,9 @@ use Rattle.ep_calls.specs.Wait.{AreKeyed, IsPick, numbers_of}
 use Rattle.ep_calls.specs.declared.wait.Reportable.{Reportable}
 use Rattle.ep_plain.specs.Choose.{reportables_at}
 use Rattle.ep_plain.specs.These.{MayPick}
+use Rattle.ep_nest.proofs.AdjacentLemmas.{on_err}
 use Rattle.ep_plain.proofs.ActWithLemmas.{does_where}
+use Rattle.ep_calls.proofs.LastLemmas.{resume_last}
 use Rattle.ep_plain.proofs.TakeLemmas.{taken_numbers}
 use Rattle.ep_plain.proofs.these.resume_these.Goals as goal
 
@@ -52,3 +54,6 @@ returns-clause-ok c =
 
 pub returns-clause-picked : goal.returns-clause-picked
 returns-clause-picked c s sound legal stands may = c.in_ok-outcome.ensures.picked ∙ taken c s stands may
+
+pub returns-in_err-chosen-clause-last : goal.returns-in_err-chosen-clause-last
+returns-in_err-chosen-clause-last c = on_err c.from_residual.result (resume_last c.args.parts.now c.args.stamp.caller.0 c.args.waiter c.requires.parked)

@@ -16,7 +16,9 @@ use Rattle.ep_calls.specs.Wait.{AreKeyed, IsPick}
 use Rattle.ep_plain.specs.Choose.{IsChosen}
 use Rattle.ep_calls.specs.declared.wait.Reportable.{Reportable}
 use Rattle.ep_calls.proofs.ActLemmas.{does_all}
+use Rattle.ep_nest.proofs.AdjacentLemmas.{on_err}
 use Rattle.ep_plain.proofs.ChooseLemmas.{chosen_is_pick}
+use Rattle.ep_calls.proofs.LastLemmas.{resume_last}
 use Rattle.ep_calls.proofs.OutcomeLemmas.{goes_told}
 use Rattle.ep_calls.proofs.ParkLemmas.{found_all}
 use Rattle.ep_calls.proofs.ResumeLemmas.{goes_still, goes_unparked, is_off}
@@ -77,3 +79,9 @@ returns-clause-ok c =
     chosen_is_pick k.tables k.clock k.interest s w.instance (number_in w.max) chosen sound stands c.parts.invariant.linked c.known.ensures placed.instance chooses in
     does_all (IsPick q.tables w.instance (number_in w.max) chosen) c.args.stamp.step (λ s. refusals q.tables.limits s caller Resume) (λ s picked. change q.tables.limits s caller Resume picked) c.in_ok-outcome.outcome q c.resume_with.new.self
     c.in_ok-outcome.ensures.ok (subst (λ (r : Parts). MovesBy c.args.stamp.step r (IsPick r.tables w.instance (number_in w.max) chosen)) c.parts.view_is pick)
+
+pub returns-in_err-chosen-clause-last : goal.returns-in_err-chosen-clause-last
+returns-in_err-chosen-clause-last c =
+    let k = c.parts.inside in
+    let p : Parts = record { tables = k.tables; interest = k.interest; graph = k.graph; parked = k.waiters; clock = k.clock } in
+    rw (← c.parts.view_is) (on_err c.from_residual.result (resume_last p c.args.stamp.caller.0 c.in-Some.waiter (sym c.in-Some.ensures)))

@@ -15,6 +15,8 @@ use Rattle.ep_calls.proofs.FindLemmas.{has_number}
 use Rattle.ep_calls.proofs.IsBelowLemmas.{told_below}
 use Rattle.ep_table.specs.Value.{Seen, number_under as number_of_key}
 use Rattle.ep_calls.proofs.ControlLemmas.{controls_told, ctl_does, found_as, watched_altered, watched_entered}
+use Rattle.ep_table.proofs.ProcessesLemmas.{on_err}
+use Rattle.ep_calls.proofs.LastLemmas.{control_last}
 use Rattle.ep_calls.proofs.parts.Parts.control.Goals as goal
 
 lives_if : (v : Seen) (now : ℕ) (r : Registrations) (named : Named) (fd : Fd) (b : Bool) → IsSome (number_of_key v named.instance) → IsRaising (if b then raising_of_ctl v now r named fd else Nowhere) v
@@ -183,3 +185,11 @@ controlled-requires-in-None-clause-below c = λ done.
     let found = found_as r named a.fd c.args.plan.found None plan.found c.in-None.is in
     let changes = subst (λ (b : Bool). MatchBool b (Changes operation None named a r new) (new ≡ r)) done e.changes in
     told_below p new c.enter.new.graph named a c.args.plan.below c.known.ensures c.known-2.ensures linked e.nested c.known-in-None.ensures.legal plan.names.instance_lives plan.names.desc_lives operation None found changes told
+
+pub returns-in_err-answer-in-None-clause-last : goal.returns-in_err-answer-in-None-clause-last
+returns-in_err-answer-in-None-clause-last c =
+    let k = c.self.inside in
+    let p : Parts = record { tables = k.tables; interest = k.interest; graph = k.graph; parked = k.waiters; clock = k.clock } in
+    let plan : IsPlan p c.args.pid.0 c.args.args c.args.plan = subst (λ (q : Parts). IsPlan q c.args.pid.0 c.args.args c.args.plan) (sym c.self.view_is) c.requires.plan in
+    let absent = sym (found_as k.interest c.args.plan.named c.args.args.fd c.args.plan.found None plan.found c.in-None.is).there in
+    rw (← c.self.view_is) (on_err c.from_residual.result _ (control_last p c.args.pid.0 c.args.args c.args.plan c.self.invariant c.known.ensures plan absent c.in_err-answer-in-None.ensures.last))

@@ -1,5 +1,8 @@
-use Rattle.ep_calls.proofs.HadLemmas.{control_had}
+use Rattle.ep_calls.proofs.HadLemmas.{adds_none, control_had}
 use Rattle.ep_calls.proofs.parts.Parts.epoll_ctl.Goals as goal
 
 pub returns-clause-ids : goal.returns-clause-ids
 returns-clause-ids c = control_had _ _ _ _ _ c.in_ok-outcome.ensures.controls
+
+pub returns-clause-room : goal.returns-clause-room
+returns-clause-room c = λ h. adds_none c.in-Ok.plan.operation c.args.self.now c.control.new.self (λ e. c.control.ensures.room e h) c.control.ensures.added

@@ -13,6 +13,9 @@ use Rattle.ep_calls.specs.declared.raising.Raising.TheVariants.{Object}
 use Rattle.ep_calls.proofs.ObjectCallLemmas.{calls_object, fits}
 use Rattle.ep_calls.proofs.ObjectRaiseLemmas.{raises_object}
 use Rattle.ep_table.specs.Value.{Seen, content_of, holds_of, number_of}
+use Rattle.ep_table.proofs.ProcessesLemmas.{on_err}
+use Rattle.ep_calls.proofs.LastLemmas.{object_last}
+use Rattle.std.proofs.lemmas.Bool.{false≢true}
 use Rattle.ep_calls.proofs.parts.Parts.object_call.Goals as goal
 
 pub outcome_of-requires-clause-fits : goal.outcome_of-requires-clause-fits
@@ -70,3 +73,24 @@ returns-clause-ok c =
     rw (← c.self.view_is) (object_does p new c.args.pid.0 c.args.fd c.args.call.now c.outcome_of.result c.self.invariant c.requires
     (subst (λ (a : Answer). CallsObject c.args.pid.0 c.args.fd k.clock c.args.call.now a v new) (sym o.answer) (calls c))
     (subst (λ (r : Raising). RaisesByCall v new c.args.pid.0 c.args.fd.0 k.clock c.args.call.now r) (sym o.raising) raises) o.picked (subst (λ (r : Raising). IsRaising r new) (sym o.raising) lives))
+
+pub returns-in_err-room-clause-last : goal.returns-in_err-room-clause-last
+returns-in_err-room-clause-last c =
+    let k = c.self.inside in
+    let p : Parts = record { tables = k.tables; interest = k.interest; graph = k.graph; parked = k.waiters; clock = k.clock } in
+    let found = c.in-Some.ensures in
+    rw (← c.self.view_is) (on_err c.from_residual.result _ (object_last p c.args.pid.0 c.args.fd c.in-Some.desc c.args.call.now c.requires found.number found.live (λ h. false≢true (c.in_err-room.ensures.short h))))
+
+pub returns-in_err-more-clause-last : goal.returns-in_err-more-clause-last
+returns-in_err-more-clause-last c =
+    let k = c.self.inside in
+    let p : Parts = record { tables = k.tables; interest = k.interest; graph = k.graph; parked = k.waiters; clock = k.clock } in
+    let found = c.in-Some.ensures in
+    rw (← c.self.view_is) (on_err c.from_residual-in_err-more.result _ (object_last p c.args.pid.0 c.args.fd c.in-Some.desc c.args.call.now c.requires found.number found.live (λ h. false≢true (c.in_err-more.ensures.short h))))
+
+pub returns-in_err-answer-clause-last : goal.returns-in_err-answer-clause-last
+returns-in_err-answer-clause-last c =
+    let k = c.self.inside in
+    let p : Parts = record { tables = k.tables; interest = k.interest; graph = k.graph; parked = k.waiters; clock = k.clock } in
+    let found = c.in-Some.ensures in
+    rw (← c.self.view_is) (on_err c.from_residual-in_err-answer.result _ (object_last p c.args.pid.0 c.args.fd c.in-Some.desc c.args.call.now c.requires found.number found.live (λ h. false≢true (c.in_err-answer.ensures.inline h))))

@@ -19,6 +19,8 @@ use Rattle.ep_calls.proofs.ResumeLemmas.{goes_left, goes_unmarked}
 use Rattle.ep_calls.proofs.WaitLemmas.{coherent_parked, coherent_reported, resume_does}
 use Rattle.ep_calls.proofs.PickLemmas.{noted_none}
 use Rattle.ep_calls.proofs.ReportLemmas.{no_numbers}
+use Rattle.ep_table.proofs.ProcessesLemmas.{on_err}
+use Rattle.ep_calls.proofs.LastLemmas.{resume_last}
 use Rattle.ep_calls.proofs.parts.Parts.resume_with.Goals as goal
 use Rattle.ep_calls.proofs.parts.Parts.resume_with.Goals.{else-is_empty-via-then-is_empty+else-not-is_due, else-is_empty-via-else-is_empty}
 
@@ -92,3 +94,6 @@ returns-then-not-is_due-clause-entries c =
 
 pub returns-then-not-is_due-clause-picked : goal.returns-then-not-is_due-clause-picked
 returns-then-not-is_due-clause-picked c = c.settled.ensures.picked ∙ sym (no_numbers c.args.chosen.now (sym c.if-is_empty.ensures))
+
+pub returns-in_err-outcome-clause-last : goal.returns-in_err-outcome-clause-last
+returns-in_err-outcome-clause-last c = on_err c.from_residual.result _ (resume_last c.args.self.now c.args.caller.0 c.args.waiter c.requires.parked)

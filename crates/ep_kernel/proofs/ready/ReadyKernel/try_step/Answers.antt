@@ -1,10 +1,10 @@
-use Rattle.std.proofs.Common.{◌≡◌, ◌+◌, ◌++◌, [], ◌∷◌, Err, List, Ok, OnErr, Option, Result, ap, length, ◌∙◌, arith, subst, sym, vec_capacity}
-use Rattle.std.proofs.lemmas.Bool.{false≢true}
-use Rattle.std.specs.Prelude.{is_ok}
+use Rattle.std.proofs.Common.{◌≡◌, ◌+◌, ◌++◌, [], ◌∷◌, List, None, Option, ap, length, ◌∙◌, arith, subst, sym, vec_capacity}
 use Rattle.ep_alarms.specs.Alarms.{AreSet}
 use Rattle.ep_base.specs.declared.answer.Answer.{Answer}
 use Rattle.ep_base.specs.declared.ids.DescId.{DescId}
 use Rattle.ep_base.specs.declared.record.Record.{Record}
+use Rattle.ep_machine.specs.Effect.{first}
+use Rattle.ep_machine.specs.Refusal.{refusals}
 use Rattle.ep_machine.specs.Step.{next_event}
 use Rattle.ep_calls.specs.Acts.{Adds}
 use Rattle.ep_calls.specs.Book.{Book, state_of}
@@ -18,6 +18,8 @@ use Rattle.ep_kernel.specs.Mark.{AreLookedAt, attends}
 use Rattle.ep_kernel.specs.Running.{Ends, Runs, book_of}
 use Rattle.ep_kernel.proofs.AreLookedAtLemmas.{are_looked_at}
 use Rattle.ep_kernel.proofs.HopesForLemmas.{hopes_climbed}
+use Rattle.ep_calls.proofs.LastLemmas.{event_last}
+use Rattle.ep_nest.proofs.AdjacentLemmas.{on_err}
 use Rattle.ep_kernel.proofs.HopesGoLemmas.{hopes_again}
 use Rattle.ep_kernel.proofs.MarkLemmas.{hopes_marked}
 use Rattle.ep_kernel.proofs.RunLemmas.{added_on, adds_on, does_fairly, few_on, first_on, runs_on, runs_same}
@@ -32,25 +34,28 @@ invariant_of-self-in_err-outcome c =
     let k = c.self.inside in
     let same = c.in_err-outcome.ensures.err in
     let runs = runs_same k.history.items c.act.new.parts k.lists c.act.new.lists same.1 (subst (λ (p : Parts). Runs k.history.items p k.lists) (sym same.0) c.self.invariant.runs) in
-    let set = set_same k.parts.tables k.parts.clock k.alarms c.make_room.new.alarms c.make_room.ensures.kept c.self.invariant.set in
+    let set = set_same k.parts.tables k.parts.clock k.alarms c.make_room-has_room.new.alarms c.make_room-has_room.ensures.kept c.self.invariant.set in
     record {
       runs = subst (λ (rs : List Record). Runs rs c.act.new.parts c.act.new.lists) (sym c.reserve.ensures.items) runs;
-      set = subst (λ (p : Parts). AreSet p.tables p.clock c.make_room.new.alarms) (sym same.0) set;
+      set = subst (λ (p : Parts). AreSet p.tables p.clock c.make_room-has_room.new.alarms) (sym same.0) set;
       hopes = hopes_again c.args.event k.parts c.act.new.parts c.act.new.asked.hopes same.0 c.act.ensures.hopes;
     }
-
--- what holds holds of an error
-if_err : {T E P : Type 0} (r : Result T E) → P → OnErr r P
-if_err (Ok x) p = tt
-if_err (Err e) p = p
 
 pub returns-in_err-outcome-clause-err_lists : goal.returns-in_err-outcome-clause-err_lists
 returns-in_err-outcome-clause-err_lists c =
     let k = c.self.inside in
     let same = c.in_err-outcome.ensures.err in
-    if_err c.from_residual-in_err-outcome.result
+    on_err c.from_residual-in_err-outcome.result
     (subst (λ (b : ReadyBook). lists_of c.act.new.parts c.act.new.lists ≡ b.lists) c.self.view_is
     (ap (λ (p : Parts). lists_of p c.act.new.lists) same.0 ∙ same_lists k.parts k.lists c.act.new.lists same.1))
+
+pub returns-in_err-outcome-clause-last : goal.returns-in_err-outcome-clause-last
+returns-in_err-outcome-clause-last c room =
+    let k = c.self.inside in
+    let caller = c.args.caller.0 in
+    on_err c.from_residual-in_err-outcome.result
+    (subst (λ (b : ReadyBook). first (refusals b.book.limits (next_event (state_of b.book)) caller c.args.event) ≡ None) c.self.view_is
+    (event_last k.history.items k.parts c.self.invariant.runs.keeps caller c.args.event c.in_err-outcome.ensures.last))
 
 -- where a second record is asked for, there is a copy, or none is needed
 pub into_record-answer-requires : goal.into_record-answer-requires
@@ -145,9 +150,3 @@ returns-clause-lists c =
       arrives =
           subst (λ (rs : List Record). AreAdded k.parts.tables.limits c.args.caller.0 c.args.event outcome.picked (state_of (book_of k).book) (state_of (record book { past = rs })) (list_of (lists_of k.parts k.lists)) (listed new)) (sym (records c)) added;
     }))
-
--- no timer is created
-pub returns-in_err-make_room-clause-spared : goal.returns-in_err-make_room-clause-spared
-returns-in_err-make_room-clause-spared c spared room =
-    let ok = c.make_room.ensures.spared (state_of c.args.self.now.book).files spared in
-    absurd (false≢true (sym (ap is_ok c.in_err-make_room.was) ∙ ok))

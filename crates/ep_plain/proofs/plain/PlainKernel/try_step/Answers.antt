@@ -1,8 +1,9 @@
-use Rattle.std.proofs.Common.{◌≡◌, ◌<◌, ◌+◌, ◌++◌, [], ◌∷◌, List, ℕ, ap, length, ◌∙◌, arith, option_copied, subst, sym, vec_capacity}
-use Rattle.std.proofs.lemmas.List.{length-append}
+use Rattle.std.proofs.Common.{◌≡◌, ◌<◌, ◌+◌, ◌++◌, [], ◌∷◌, List, None, ℕ, ap, length, ◌∙◌, arith, option_copied, subst, sym, vec_capacity}
 use Rattle.ep_base.specs.declared.answer.Answer.{Answer}
 use Rattle.ep_base.specs.declared.ids.EntryId.{EntryId}
 use Rattle.ep_base.specs.declared.record.Record.{Record}
+use Rattle.ep_machine.specs.Effect.{first}
+use Rattle.ep_machine.specs.Refusal.{refusals}
 use Rattle.ep_machine.specs.Step.{next_event}
 use Rattle.ep_calls.specs.Book.{Book, state_of}
 use Rattle.ep_calls.proofs.KeepsLemmas.{DoesAt, record_of}
@@ -10,7 +11,9 @@ use Rattle.ep_calls.proofs.KeptLemmas.{inline_event}
 use Rattle.ep_calls.specs.Kept.{KeepsEvent}
 use Rattle.ep_calls.specs.Parts.{Parts}
 use Rattle.ep_calls.specs.Readiness.{entry_shows, readiness}
+use Rattle.ep_nest.proofs.AdjacentLemmas.{on_err}
 use Rattle.ep_plain.proofs.DatingLemmas.{count_more}
+use Rattle.ep_calls.proofs.LastLemmas.{event_last}
 use Rattle.ep_plain.specs.Dating.{AreListed, Dated, dated_count, dated_of}
 use Rattle.ep_plain.specs.Reason.{HaveReasons}
 use Rattle.ep_plain.specs.Since.{Dates, event_at}
@@ -67,23 +70,27 @@ act_with-requires c =
       shown = dated_shown p.tables p.clock p.interest keeps.state c.self.inside.dating.since.items keeps.stands c.self.invariant.dated;
       listed = c.self.invariant.listed;
     } in
-    record { told = subst (λ (d : Dated). Tells p.tables p.clock p.interest d) (sym c.make_room.ensures.dates) told }
+    record { told = subst (λ (d : Dated). Tells p.tables p.clock p.interest d) (sym (c.make_key_room-has_room.ensures.dates ∙ c.make_place.ensures.dates)) told }
 
-pub make_room-requires : goal.make_room-requires
-make_room-requires c =
+pub make_key_room-has_room-requires : goal.make_key_room-has_room-requires
+make_key_room-has_room-requires c =
     let k = c.self.inside in
-    subst (λ (n : ℕ). n < length k.dating.since.items) (sym c.count_added-added.ensures) (has_places k.history.items k.parts k.dating c.self.invariant)
+    let places = has_places k.history.items k.parts k.dating c.self.invariant in
+    omega (arith, places, c.count_added-added.ensures, ap (λ (d : Dated). length d.since) c.make_place.ensures.dates)
 
-pub invariant_of-self-in_err-make_room : goal.invariant_of-self-in_err-make_room
-invariant_of-self-in_err-make_room c =
+pub invariant_of-self-in_err-make_place : goal.invariant_of-self-in_err-make_place
+invariant_of-self-in_err-make_place c =
     let k = c.self.inside in
-    subst (λ (rs : List Record). Standing rs k.parts c.make_room.new.self) (sym c.reserve.ensures.items) (standing_room k.history.items k.parts k.dating c.make_room.new.self c.make_room.ensures.dates c.make_room.ensures.keys_stay c.self.invariant)
+    subst (λ (rs : List Record). Standing rs k.parts c.make_place.new.self) (sym c.reserve.ensures.items)
+    (standing_room k.history.items k.parts k.dating c.make_place.new.self c.make_place.ensures.dates (omega (arith, c.make_place.ensures.keys_stay)) c.self.invariant)
 
 pub invariant_of-self-in_err-outcome : goal.invariant_of-self-in_err-outcome
 invariant_of-self-in_err-outcome c =
     let k = c.self.inside in
-    subst (λ (rs : List Record). Standing rs c.act_with.new.parts c.make_room.new.self) (sym c.reserve.ensures.items)
-    (subst (λ (p : Parts). Standing k.history.items p c.make_room.new.self) (sym c.in_err-outcome.ensures.err) (standing_room k.history.items k.parts k.dating c.make_room.new.self c.make_room.ensures.dates c.make_room.ensures.keys_stay c.self.invariant))
+    let d = c.make_key_room-has_room.new.self in
+    subst (λ (rs : List Record). Standing rs c.act_with.new.parts d) (sym c.reserve.ensures.items)
+    (subst (λ (p : Parts). Standing k.history.items p d) (sym c.in_err-outcome.ensures.err)
+    (standing_room k.history.items k.parts k.dating d (c.make_key_room-has_room.ensures.dates ∙ c.make_place.ensures.dates) (omega (arith, c.make_key_room-has_room.ensures.keys_stay, c.make_place.ensures.keys_stay)) c.self.invariant))
 
 pub date-requires-clause-fits : goal.date-requires-clause-fits
 date-requires-clause-fits c =
@@ -94,17 +101,18 @@ date-requires-clause-fits c =
     (subst (λ (b : Book). HasStep b.limits (state_of b) c.args.caller c.args.event (option_copied c.args.picks)) (sym c.self.view_is) c.requires.there) in
     let done =
     does_with k.history.items k.parts c.self.invariant.keeps (c.len.result + 1) n (MayReport k.parts c.args.caller.0 c.args.event (option_copied c.args.picks)) c.args.caller.0 c.args.event c.in_ok-outcome.outcome c.act_with.new.parts c.in_ok-outcome.ensures.ok go in
-    let longer = c.push_reserved.ensures.items ∙ ap (λ (d : Dated). d.since ++ 0 ∷ []) c.make_room.ensures.dates in
-    let keys = ap (λ (d : Dated). d.keys) c.make_room.ensures.dates in
+    let longer = c.push_reserved.ensures.items ∙ ap (λ (d : Dated). d.since ++ 0 ∷ []) (c.make_key_room-has_room.ensures.dates ∙ c.make_place.ensures.dates) in
+    let keys = ap (λ (d : Dated). d.keys) (c.make_key_room-has_room.ensures.dates ∙ c.make_place.ensures.dates) in
     let here = room k.history.items k.parts c.act_with.new.parts c.spread.new.parts k.dating c.self.invariant c.args.caller c.args.event c.in_ok-outcome.outcome (c.len.result + 1) n done c.spread.ensures in
     let count = c.self.invariant.count in
     record {
       places = subst (λ (xs : List ℕ). c.spread.new.parts.interest.added < length xs) (sym longer) here;
       count = omega (arith, count, ap (λ (ks : List EntryId). length ks) keys, ap dated_count longer, count_more k.dating.since.items);
       later = λ i lt. ap (λ (xs : List ℕ). event_at xs i) longer ∙ later_left k.history.items k.parts c.act_with.new.parts c.spread.new.parts k.dating c.self.invariant c.args.caller c.args.event c.in_ok-outcome.outcome (c.len.result + 1) n done c.spread.ensures i lt;
-      room = key_room k.history.items k.parts c.act_with.new.parts c.spread.new.parts k.dating c.self.invariant c.args.caller c.args.event c.in_ok-outcome.outcome (c.len.result + 1) n done c.spread.ensures (vec_capacity c.make_room.new.self.keys)
-          (omega (arith, c.self.invariant.room, c.make_room.ensures.keys_stay))
-          (λ adds. let enough = c.in_ok-make_room.ensures.keys (c.is_adding.ensures ∙ adds) in omega (arith, enough, c.count_added-added.ensures));
+      room = key_room k.history.items k.parts c.act_with.new.parts c.spread.new.parts k.dating c.self.invariant c.args.caller c.args.event c.in_ok-outcome.outcome (c.len.result + 1) n done c.spread.ensures (vec_capacity c.make_key_room-has_room.new.self.keys) c.make_key_room-has_room.result
+          (omega (arith, c.self.invariant.room, c.make_key_room-has_room.ensures.keys_stay, c.make_place.ensures.keys_stay))
+          c.act_with.ensures.room
+          (λ has adds. let enough = c.make_key_room-has_room.ensures.keys has (c.is_adding.ensures ∙ adds) in omega (arith, enough, c.count_added-added.ensures));
     }
 
 pub date-requires-clause-listed : goal.date-requires-clause-listed
@@ -116,8 +124,8 @@ date-requires-clause-listed c =
     (subst (λ (b : Book). HasStep b.limits (state_of b) c.args.caller c.args.event (option_copied c.args.picks)) (sym c.self.view_is) c.requires.there) in
     let done =
     does_with k.history.items k.parts c.self.invariant.keeps (c.len.result + 1) n (MayReport k.parts c.args.caller.0 c.args.event (option_copied c.args.picks)) c.args.caller.0 c.args.event c.in_ok-outcome.outcome c.act_with.new.parts c.in_ok-outcome.ensures.ok go in
-    let longer = c.push_reserved.ensures.items ∙ ap (λ (d : Dated). d.since ++ 0 ∷ []) c.make_room.ensures.dates in
-    let keys = ap (λ (d : Dated). d.keys) c.make_room.ensures.dates in
+    let longer = c.push_reserved.ensures.items ∙ ap (λ (d : Dated). d.since ++ 0 ∷ []) (c.make_key_room-has_room.ensures.dates ∙ c.make_place.ensures.dates) in
+    let keys = ap (λ (d : Dated). d.keys) (c.make_key_room-has_room.ensures.dates ∙ c.make_place.ensures.dates) in
     let here =
     listed_left k.history.items k.parts c.act_with.new.parts c.spread.new.parts k.dating c.self.invariant c.args.caller c.args.event c.in_ok-outcome.outcome (c.len.result + 1) n done c.spread.ensures c.act_with.ensures.ids in
     subst (λ (d : Dated). AreListed c.spread.new.parts.interest d) (λ i. record { since = sym longer i; keys = sym keys i }) here
@@ -131,8 +139,8 @@ date-requires-clause-reasons c =
     (subst (λ (b : Book). HasStep b.limits (state_of b) c.args.caller c.args.event (option_copied c.args.picks)) (sym c.self.view_is) c.requires.there) in
     let done =
     does_with k.history.items k.parts c.self.invariant.keeps (c.len.result + 1) n (MayReport k.parts c.args.caller.0 c.args.event (option_copied c.args.picks)) c.args.caller.0 c.args.event c.in_ok-outcome.outcome c.act_with.new.parts c.in_ok-outcome.ensures.ok go in
-    let longer = c.push_reserved.ensures.items ∙ ap (λ (d : Dated). d.since ++ 0 ∷ []) c.make_room.ensures.dates in
-    let keys = ap (λ (d : Dated). d.keys) c.make_room.ensures.dates in
+    let longer = c.push_reserved.ensures.items ∙ ap (λ (d : Dated). d.since ++ 0 ∷ []) (c.make_key_room-has_room.ensures.dates ∙ c.make_place.ensures.dates) in
+    let keys = ap (λ (d : Dated). d.keys) (c.make_key_room-has_room.ensures.dates ∙ c.make_place.ensures.dates) in
     let q = c.spread.new.parts in
     let here =
     reasons k.history.items k.parts c.act_with.new.parts q k.dating c.self.invariant c.args.caller c.args.event c.in_ok-outcome.outcome (c.len.result + 1) n done c.spread.ensures
@@ -148,7 +156,7 @@ rest-requires c =
     (subst (λ (b : Book). HasStep b.limits (state_of b) c.args.caller c.args.event (option_copied c.args.picks)) (sym c.self.view_is) c.requires.there) in
     let done =
     does_with k.history.items k.parts c.self.invariant.keeps (c.len.result + 1) n (MayReport k.parts c.args.caller.0 c.args.event (option_copied c.args.picks)) c.args.caller.0 c.args.event c.in_ok-outcome.outcome c.act_with.new.parts c.in_ok-outcome.ensures.ok go in
-    let longer = c.push_reserved.ensures.items ∙ ap (λ (d : Dated). d.since ++ 0 ∷ []) c.make_room.ensures.dates in
+    let longer = c.push_reserved.ensures.items ∙ ap (λ (d : Dated). d.since ++ 0 ∷ []) (c.make_key_room-has_room.ensures.dates ∙ c.make_place.ensures.dates) in
     let q = c.spread.new.parts in
     let d = c.date.new.dating in
     let dates = subst (λ (xs : List ℕ). Dates (entry_shows (readiness q.tables q.clock q.interest) q.tables q.clock) (c.len.result + 1) q.interest xs d.since.items) longer c.date.ensures.dates in
@@ -156,7 +164,7 @@ rest-requires c =
 
 -- Once they are.
 longer_then : (c : goal.After-push_reserved-2) → c.push_reserved.new.self.items ≡ c.self.inside.dating.since.items ++ 0 ∷ []
-longer_then c = c.push_reserved.ensures.items ∙ ap (λ (d : Dated). d.since ++ 0 ∷ []) c.make_room.ensures.dates
+longer_then c = c.push_reserved.ensures.items ∙ ap (λ (d : Dated). d.since ++ 0 ∷ []) (c.make_key_room-has_room.ensures.dates ∙ c.make_place.ensures.dates)
 
 pub invariant_of-self-2 : goal.invariant_of-self-2
 invariant_of-self-2 c =
@@ -181,3 +189,11 @@ returns-clause-ok c =
     subst (λ (a : Answer). AddsBy old.limits c.args.caller c.args.event given a (state_of old) (state_of new) old.past new.past) (sym c.into_record-answer.ensures.answer)
     (subst (λ (b : Book). AddsBy b.limits c.args.caller c.args.event given outcome.answer (state_of b) (state_of new) b.past new.past) c.self.view_is
     (subst (λ (rs : List Record). AddsBy k.parts.tables.limits c.args.caller c.args.event given outcome.answer (state_of (book_of k)) (state_of (record new { past = rs })) k.history.items rs) (sym (records c)) adds))
+
+-- An event that finds no memory is one that nothing refuses.
+pub returns-in_err-outcome-clause-last : goal.returns-in_err-outcome-clause-last
+returns-in_err-outcome-clause-last c =
+    let k = c.self.inside in
+    on_err c.from_residual-in_err-outcome.result
+    (λ room. subst (λ (b : Book). first (refusals b.limits (next_event (state_of b)) c.args.caller.0 c.args.event) ≡ None) c.self.view_is
+    (event_last k.history.items k.parts c.self.invariant.keeps c.args.caller.0 c.args.event c.in_err-outcome.ensures.last))
