@@ -11,6 +11,9 @@ use std::alloc::{AllocError, Global};
 /// How often something is asked. One request for memory is refused, so the second time suffices.
 pub(crate) const TRIES: u32 = 4;
 
+/// How the line of a refusal begins.
+const REFUSAL: &str = "{\"err\":";
+
 /// How a line is asked.
 #[derive(Clone, Copy, PartialEq, Eq)]
 pub(crate) enum Way {
@@ -153,7 +156,7 @@ impl Asker {
             }
             let before = Seen::of(kernel);
             let kept = self.kept.len();
-            let spared = is_spared(&event);
+            let spared = is_spared(&event) || wanted.starts_with(REFUSAL);
             let answer = self.step(kernel, caller, event);
             if !answer.is_no_memory() {
                 return self.judge(kernel, &before, &answer, wanted);

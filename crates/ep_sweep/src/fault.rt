@@ -27,7 +27,7 @@ pub(crate) enum Fault {
     /// ENOMEM as often as it was asked.
     #[error("line {0} is refused for want of memory again and again")]
     Again(usize),
-    /// ENOMEM to an event that needs nothing but its record, for which there is room.
+    /// ENOMEM to an event that needs nothing but its record, or is refused, and there is room for its record.
     #[error("line {0} is refused for want of memory, and has room for its record")]
     Spared(usize),
     /// An answer without a record, or with more than one.

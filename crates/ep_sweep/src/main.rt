@@ -4,7 +4,8 @@
 //!
 //! - `KERNEL step NAME`: the script of the files `NAME.jsonl`, `NAME.answers` and `NAME.limits` of this folder
 //! - `KERNEL kept NAME`: the same by `step_kept`
-//! - `KERNEL reserved NAME`: the same, with room for each record; an event that needs nothing else is not refused
+//! - `KERNEL reserved NAME`: the same, with room for each record; then ENOMEM answers no event that needs nothing else,
+//!   and none that is refused
 //! - `KERNEL room`: `reserve` of too much, and of five records for five events
 //! - `KERNEL sessions`: two sessions in one thread
 //! - `KERNEL threads`: two sessions with a thread each
