@@ -68,8 +68,8 @@ def record(call, answer):
 
 
 def traffic(size, hex_pair):
-    """The records of a pipe through which so many bytes go again and again."""
-    digits = hex_pair * size
+    """The records of a pipe through which so many bytes go again and again. They are no run of one byte."""
+    digits = "00" + hex_pair * (size - 1)
     write = record(f'{{"fd":4,"hex":"{digits}","op":"write"}}', f'{{"num":{size}}}')
     read = record(f'{{"fd":3,"n":{size},"op":"read"}}', f'{{"bytes":"{digits}"}}')
     return [record('{"cloexec":false,"op":"pipe"}', '{"two":[3,4]}'), *[write, read] * RECORDS]

@@ -40,6 +40,11 @@ def list_of(fits, length=None):
     return lambda value: type(value) is list and length in (None, len(value)) and all(map(fits, value))
 
 
+def is_fill(value):
+    """A byte, and how often it comes."""
+    return list_of(U64, 2)(value) and value[0] < 256
+
+
 def is_report(value):
     return list_of(U64, 2)(value) and U32(value[0])
 
@@ -66,6 +71,9 @@ CALLS = {
     **dict.fromkeys(["fork", "exec", "exit"], {}),
 }
 
+#: Those of a write of one byte over and over.
+RUN = {"fd": I32, "fill": is_fill}
+
 ANSWERS = {
     **dict.fromkeys(["done", "parked", "still"], lambda value: value is True),
     "num": U64,
@@ -84,7 +92,7 @@ def has_keys(value, keys):
 def is_call(call):
     if type(call) is not dict or type(call.get("op")) is not str or call["op"] not in CALLS:
         return False
-    keys = CALLS[call["op"]]
+    keys = RUN if call["op"] == "write" and "fill" in call else CALLS[call["op"]]
     return has_keys(call, ["op", *keys]) and all(fits(call[key]) for key, fits in keys.items())
 
 

@@ -1,1 +1,2 @@
+pub mod BufferLemmas
 pub mod SameLemmas

@@ -1,4 +1,5 @@
-pub mod Limits
-pub mod Errno
 pub mod Answer
+pub mod Buffer
 pub mod Call
+pub mod Errno
+pub mod Limits

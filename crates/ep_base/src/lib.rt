@@ -16,7 +16,7 @@ mod short_list;
 
 pub use crate::answer::{Answer, Report};
 pub use crate::bounds::{LAST_MOMENT, LONGEST_CHAIN};
-pub use crate::buffer::Buffer;
+pub use crate::buffer::{Buffer, Content, is_filled};
 pub use crate::call::{Call, Event};
 pub use crate::counts::Counts;
 pub use crate::errno::Errno;

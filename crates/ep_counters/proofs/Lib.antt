@@ -1,2 +1,3 @@
 pub mod Expirations
 pub mod Arrivals
+mod Written

@@ -1,9 +1,9 @@
 -- The law of what is raised, and what holds of a timer's next arrival.
-use Rattle.std.specs.Prelude.{Bool, Option, None, Some, bit_and, false, nat_le, true, ℕ, ◌≡◌, ◌≤◌, List}
+use Rattle.std.specs.Prelude.{Bool, Option, None, Some, false, nat_le, true, ℕ, ◌≡◌, ◌≤◌, List}
 use Rattle.ep_base.specs.declared.object.End.TheVariants.{First}
 use Rattle.ep_base.specs.declared.object.Raised.{Raised}
 use Rattle.ep_counters.specs.Timer.{IsNextArrival}
-use Rattle.ep_machine.specs.Bits.{IN, at_end, IsCovered, beginning, when}
+use Rattle.ep_machine.specs.Bits.{IN, at_end, IsCovered, when}
 use Rattle.ep_machine.specs.Counters.{Counter, counter_present, counter_read, counter_read_refusals, counter_write, counter_write_refusals}
 use Rattle.ep_machine.specs.Effect.{attempt}
 use Rattle.ep_machine.specs.Timer.{Timer, timer_advance, timer_present, timer_read, timer_read_refusals, timer_set_refusals, timer_settime}

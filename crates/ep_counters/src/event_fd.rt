@@ -4,7 +4,7 @@ ghost use Rattle.ep_machine.specs.Counters.{counter_present, counter_read, count
 ghost use Rattle.ep_machine.specs.Effect.{attempt};
 
 use crate::outcome::{raised, refused, value_bytes};
-use ep_base::{Answer, Errno, Mask, Raised};
+use ep_base::{Answer, Buffer, Content, Errno, Mask, Raised};
 use std::alloc::Global;
 use std::marker::Model;
 
@@ -67,7 +67,7 @@ impl EventFd {
     ///
     /// EINVAL below 8 bytes, then EINVAL for 2^64 - 1, then EAGAIN where the sum would pass 2^64 - 2;
     /// a refusal changes and raises nothing.
-    pub fn write(&mut self, bytes: &[u8]) -> (Answer, Raised)
+    pub fn write(&mut self, bytes: &Buffer) -> (Answer, Raised)
         ensures { (result.0, self.new, result.1)
             ≡ attempt (counter_write_refusals self.old bytes.now) self.old
             (counter_write self.old bytes.now) }
@@ -101,10 +101,17 @@ impl EventFd {
 }
 
 // The number that the first 8 bytes stand for, or `None` where there are fewer.
-fn written_value(bytes: &[u8]) -> Option<u64>
+#[tactic(auto, using(crate::proofs::Written::filled_value))]
+fn written_value(bytes: &Buffer) -> Option<u64>
     ensures few { IsNone result ↔ (length bytes.now < 8) }
     ensures value { IfSome result (λ value. value ≡ written bytes.now) }
 {
-    let (first, _) = bytes.split_first_chunk::<8>()?;
-    Some(u64::from_le_bytes(*first))
+    match bytes.content() {
+        Content::Listed(listed) => {
+            let (first, _) = listed.split_first_chunk::<8>()?;
+            Some(u64::from_le_bytes(*first))
+        }
+        Content::Filled(byte, count) if count >= 8 => Some(u64::from_le_bytes([byte; 8])),
+        Content::Filled(_, _) => None,
+    }
 }

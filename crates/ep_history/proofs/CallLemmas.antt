@@ -1,19 +1,20 @@
 -- Calls and records that read back as what they were printed from, where their parts do.
-use Rattle.std.proofs.Common.{Bool, List, SFits, Some, arith, negsuc, pos, refl, w32, w64, ℕ, ℤ, ◌<◌, ◌^◌, ◌≡◌}
+use Rattle.std.proofs.Common.{Bool, List, SFits, Some, arith, false, length, negsuc, pos, refl, replicate, slice_index, true, w32, w64, ℕ, ℤ, ◌<◌, ◌^◌, ◌≡◌}
 use Rattle.std.proofs.lemmas.Bool.{lt-ltb}
 use Rattle.std.proofs.lemmas.Grind.{common_steps}
-use Rattle.hex.specs.Hex.{encode_lower}
+use Rattle.hex.specs.Hex.{IsBytes, encode_lower}
 use Rattle.serde_json.specs.Data.{string}
 use Rattle.ep_base.specs.declared.call.Call.TheVariants.{Close, Dup, Dup2, EpollCtl, EpollWait, GetTime, Read, SetTime, Shutdown, Write}
 use Rattle.ep_base.specs.declared.ids.Fd.{Fd}
 use Rattle.ep_base.specs.declared.mask.Mask.{Mask}
 use Rattle.ep_base.specs.declared.record.Record.{Record}
 use Rattle.ep_history.specs.Answers.{answer_data, answer_of}
-use Rattle.ep_history.specs.Bytes.{hex_value}
-use Rattle.ep_history.specs.Calls.{call_data, call_of}
-use Rattle.ep_history.specs.Fields.{i32_value, i64_value, integer, natural, u32_value}
+use Rattle.ep_history.specs.Bytes.{hex_value, is_run}
+use Rattle.ep_history.specs.Calls.{call_data, call_of, of_write}
+use Rattle.ep_history.specs.Fields.{i32_value, i64_value, integer, natural, size, u32_value}
 use Rattle.ep_history.specs.Records.{event_data, event_of, record_data, record_of}
 use Rattle.ep_history.proofs.FieldLemmas.{naturals_printed}
+use Rattle.ep_history.proofs.RunLemmas.{run_is_filled}
 
 pub again_u32 : (n : ℕ) → n < 2 ^ 32 → u32_value (natural n) ≡ Some n
 again_u32 n h = rw (lt-ltb n (2 ^ 32) h) refl
@@ -38,9 +39,24 @@ wait_again epfd max timeout e m t = rw (e, again_i32 max m, again_i64 timeout t)
 pub read_again : (fd : Fd) (n : ℕ) → i32_value (integer fd.0) ≡ Some fd.0 → n < 2 ^ 32 → call_of (call_data (Read fd n)) ≡ Some (Read fd n)
 read_again fd n f m = rw (f, again_u32 n m) refl
 
+write_size : (fd : ℤ) (bytes : List ℕ) (b : Bool) → size (of_write fd bytes b) ≡ 3
+write_size fd bytes true = refl
+write_size fd bytes false = refl
+
+digits_again : (fd : Fd) (bytes : List ℕ) → i32_value (integer fd.0) ≡ Some fd.0 → hex_value (string (encode_lower bytes)) ≡ Some bytes
+    → call_of (of_write fd.0 bytes false) ≡ Some (Write fd bytes)
+digits_again fd bytes f h = rw (f, h, write_size fd.0 bytes (is_run bytes)) refl
+
+run_again : (fd : Fd) (bytes : List ℕ) → i32_value (integer fd.0) ≡ Some fd.0 → slice_index bytes 0 < 256
+    → replicate (length bytes) (slice_index bytes 0) ≡ bytes → call_of (of_write fd.0 bytes true) ≡ Some (Write fd bytes)
+run_again fd bytes f byte same = rw (f, lt-ltb (slice_index bytes 0) 256 byte, same, write_size fd.0 bytes (is_run bytes)) refl
+
 pub write_again : (fd : Fd) (bytes : List ℕ) → i32_value (integer fd.0) ≡ Some fd.0 → hex_value (string (encode_lower bytes)) ≡ Some bytes
-    → call_of (call_data (Write fd bytes)) ≡ Some (Write fd bytes)
-write_again fd bytes f h = rw (f, h) refl
+    → IsBytes bytes → call_of (call_data (Write fd bytes)) ≡ Some (Write fd bytes)
+write_again fd bytes f h fits = either (is_run bytes) refl where
+  either : (b : Bool) → is_run bytes ≡ b → call_of (of_write fd.0 bytes b) ≡ Some (Write fd bytes)
+  either true e = run_again fd bytes f (fits 0) (run_is_filled bytes e)
+  either false e = digits_again fd bytes f h
 
 pub settime_again : (fd : Fd) (absolute : Bool) (value interval : ℕ) → i32_value (integer fd.0) ≡ Some fd.0
     → call_of (call_data (SetTime fd absolute value interval)) ≡ Some (SetTime fd absolute value interval)

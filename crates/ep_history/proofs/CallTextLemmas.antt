@@ -1,13 +1,13 @@
 -- The texts of calls, their members in the order of the keys.
-use Rattle.std.proofs.Common.{Bool, ap, List, append_assoc, codes, decimal, refl, ℕ, ℤ, ◌++◌, ◌∷◌, ◌≡◌, []}
+use Rattle.std.proofs.Common.{Bool, ap, List, append_assoc, codes, decimal, false, length, refl, slice_index, true, ℕ, ℤ, ◌++◌, ◌∷◌, ◌≡◌, ◌∙◌, []}
 use Rattle.json.specs.Print.{escape, escape_byte}
 use Rattle.hex.specs.Hex.{encode_lower}
 use Rattle.serde_json.specs.Data.{boolean}
 use Rattle.serde_json.specs.Written.{compact_text}
-use Rattle.ep_base.specs.declared.call.Call.TheVariants.{Dup2, EpollCtl, EpollWait, EventFd, Read, SetTime, TimerFd, Write}
+use Rattle.ep_base.specs.declared.call.Call.TheVariants.{Dup2, EpollCtl, EpollWait, EventFd, Read, SetTime, TimerFd}
 use Rattle.ep_base.specs.declared.ids.Fd.{Fd}
 use Rattle.ep_base.specs.declared.mask.Mask.{Mask}
-use Rattle.ep_history.specs.Calls.{call_data}
+use Rattle.ep_history.specs.Calls.{call_data, of_write}
 use Rattle.ep_history.specs.Fields.{integer}
 
 pub eventfd_text : (init : ℕ) (semaphore cloexec : Bool) → compact_text (call_data (EventFd init semaphore cloexec))
@@ -35,10 +35,18 @@ pub read_text : (fd : Fd) (n : ℕ) → compact_text (call_data (Read fd n))
 unfolding escape_byte
 read_text fd n = refl
 
-pub write_text : (fd : Fd) (bytes : List ℕ) → compact_text (call_data (Write fd bytes))
-    ≡ codes "{\"fd\":" ++ (compact_text (integer fd.0) ++ (codes ",\"hex\":\"" ++ (escape (encode_lower bytes) ++ codes "\",\"op\":\"write\"}")))
+pub run_text : (fd : ℤ) (bytes : List ℕ) → compact_text (of_write fd bytes true)
+    ≡ codes "{\"fd\":" ++ (compact_text (integer fd) ++ (codes ",\"fill\":[" ++ (decimal (slice_index bytes 0) ++ (codes "," ++ (decimal (length bytes) ++ codes "],\"op\":\"write\"}")))))
 unfolding escape_byte
-write_text fd bytes = ap (λ t. codes "{\"fd\":" ++ (compact_text (integer fd.0) ++ (codes ",\"hex\":\"" ++ t))) (append_assoc (escape (encode_lower bytes)) (34 ∷ []) (codes ",\"op\":\"write\"}"))
+run_text fd bytes =
+    ap (λ t. codes "{\"fd\":" ++ (compact_text (integer fd) ++ (codes ",\"fill\":[" ++ t)))
+    (append_assoc (decimal (slice_index bytes 0)) (44 ∷ (decimal (length bytes) ++ 93 ∷ [])) (codes ",\"op\":\"write\"}")
+    ∙ ap (λ t. decimal (slice_index bytes 0) ++ 44 ∷ t) (append_assoc (decimal (length bytes)) (93 ∷ []) (codes ",\"op\":\"write\"}")))
+
+pub digits_text : (fd : ℤ) (bytes : List ℕ) → compact_text (of_write fd bytes false)
+    ≡ codes "{\"fd\":" ++ (compact_text (integer fd) ++ (codes ",\"hex\":\"" ++ (escape (encode_lower bytes) ++ codes "\",\"op\":\"write\"}")))
+unfolding escape_byte
+digits_text fd bytes = ap (λ t. codes "{\"fd\":" ++ (compact_text (integer fd) ++ (codes ",\"hex\":\"" ++ t))) (append_assoc (escape (encode_lower bytes)) (34 ∷ []) (codes ",\"op\":\"write\"}"))
 
 pub settime_text : (fd : Fd) (absolute : Bool) (value interval : ℕ) → compact_text (call_data (SetTime fd absolute value interval))
     ≡ codes "{\"abs\":" ++ (compact_text (boolean absolute) ++ (codes ",\"fd\":" ++ (compact_text (integer fd.0) ++ (codes ",\"interval\":" ++ (decimal interval ++ (codes ",\"op\":\"settime\",\"value\":" ++ (decimal value ++ codes "}")))))))

@@ -1,5 +1,5 @@
 -- How deep a record nests.
-use Rattle.std.proofs.Common.{List, [], arith, map, ℕ, ◌∷◌, ◌≤◌}
+use Rattle.std.proofs.Common.{Bool, List, [], arith, false, map, true, ℕ, ℤ, ◌∷◌, ◌≤◌}
 use Rattle.serde_json.specs.Data.{depth}
 use Rattle.serde_json.specs.Read.{max_depth}
 use Rattle.ep_base.specs.declared.answer.Answer.{Answer}
@@ -11,11 +11,16 @@ use Rattle.ep_base.specs.declared.call.Event.{Event}
 use Rattle.ep_base.specs.declared.call.Event.TheVariants.{Call as CallOf, Resume, Tick}
 use Rattle.ep_base.specs.declared.record.Record.{Record}
 use Rattle.ep_history.specs.Answers.{answer_data, report_data}
-use Rattle.ep_history.specs.Calls.{call_data}
+use Rattle.ep_history.specs.Calls.{call_data, of_write}
+use Rattle.ep_history.specs.Bytes.{is_run}
 use Rattle.ep_history.specs.Fields.{array_of, natural}
 use Rattle.ep_history.specs.Records.{event_data, record_data}
 
-call_nests : (c : Call) → depth (call_data c) ≤ 1
+write_nests : (fd : ℤ) (bytes : List ℕ) (b : Bool) → depth (of_write fd bytes b) ≤ 2
+write_nests fd bytes true = omega arith
+write_nests fd bytes false = omega arith
+
+call_nests : (c : Call) → depth (call_data c) ≤ 2
 call_nests (Pipe cloexec) = omega arith
 call_nests (SocketPair cloexec) = omega arith
 call_nests (Plain cloexec) = omega arith
@@ -25,7 +30,7 @@ call_nests (TimerFd clock cloexec) = omega arith
 call_nests (EpollCtl epfd op fd mask tag) = omega arith
 call_nests (EpollWait epfd max timeout) = omega arith
 call_nests (Read fd n) = omega arith
-call_nests (Write fd bytes) = omega arith
+call_nests (Write fd bytes) = write_nests fd.0 bytes (is_run bytes)
 call_nests (Shutdown fd) = omega arith
 call_nests (SetTime fd absolute value interval) = omega arith
 call_nests (GetTime fd) = omega arith
@@ -36,7 +41,7 @@ call_nests Fork = omega arith
 call_nests Exec = omega arith
 call_nests Exit = omega arith
 
-event_nests : (e : Event) → depth (event_data e) ≤ 2
+event_nests : (e : Event) → depth (event_data e) ≤ 3
 event_nests (CallOf pid call) =
     let inner = call_nests call in
     omega (arith, inner)

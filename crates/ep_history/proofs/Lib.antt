@@ -1,4 +1,5 @@
 pub mod NumberLemmas
+pub mod RunLemmas
 pub mod CallLemmas
 pub mod DataLemmas
 pub mod FieldLemmas

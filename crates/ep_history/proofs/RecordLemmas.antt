@@ -1,5 +1,5 @@
 -- Records whose numbers fit are read back from their lines.
-use Rattle.std.proofs.Common.{List, SFits, Some, [], append-nil, ap, ap₂, arith, map, max, option_and_then, refl, suc, sym, true, w32, w64, ℕ, ℤ, ◌<◌, ◌^◌, ◌∷◌, ◌≡◌, ◌≤◌, ◌∙◌}
+use Rattle.std.proofs.Common.{Bool, List, SFits, Some, [], append-nil, ap, ap₂, arith, map, max, false, length, option_and_then, refl, slice_index, suc, sym, true, w32, w64, ℕ, ℤ, ◌<◌, ◌^◌, ◌∷◌, ◌≡◌, ◌≤◌, ◌∙◌}
 use Rattle.std.specs.List.{AllByRecursion}
 use Rattle.std.proofs.lemmas.Bool.{lt-ltb}
 use Rattle.std.proofs.lemmas.List.Elements.{recursion_from_All}
@@ -26,8 +26,8 @@ use Rattle.ep_base.specs.declared.errno.Errno.{Errno}
 use Rattle.ep_base.specs.declared.errno.Errno.TheVariants.{Eagain, Ebadf, Ebusy, Eexist, Einval, Eloop, Emfile, Enfile, Enoent, Enomem, Enospc, Enotsock, Eperm, Epipe, Esrch}
 use Rattle.ep_base.specs.declared.record.Record.{Record}
 use Rattle.ep_history.specs.Answers.{answer_data, answer_of, report_data, report_of}
-use Rattle.ep_history.specs.Bytes.{accepted, hex_value}
-use Rattle.ep_history.specs.Calls.{call_data, call_of}
+use Rattle.ep_history.specs.Bytes.{accepted, hex_value, is_run}
+use Rattle.ep_history.specs.Calls.{call_data, call_of, of_write}
 use Rattle.ep_history.specs.Fields.{natural}
 use Rattle.ep_history.specs.Fits.{AnswerFits, AreLongs, CallFits, EventFits, RecordFits, ReportFits}
 use Rattle.ep_history.specs.Records.{event_data, event_of, line_data, line_record, record_data, record_line, record_of}
@@ -48,6 +48,12 @@ short_fits z h = let long : SFits w64 z = grind arith in integer_fits z long
 below_64 : (n : ℕ) → n < 2 ^ 32 → n < 2 ^ 64
 below_64 n h = omega arith
 
+write_told : (fd : ℤ) (bytes : List ℕ) (b : Bool) → SFits w32 fd → IsBytes bytes → length bytes < 2 ^ 64 → is_told (of_write fd bytes b) ≡ true
+write_told fd bytes true f fits long =
+    let byte : slice_index bytes 0 < 256 = fits 0 in
+    rw (short_fits fd f, lt-ltb (slice_index bytes 0) (2 ^ 64) (omega (arith, byte)), lt-ltb (length bytes) (2 ^ 64) long) refl
+write_told fd bytes false f fits long = rw (short_fits fd f, hex_ascii bytes fits) refl
+
 call_told : (c : Call) → CallFits c → is_told (call_data c) ≡ true
 call_told (Pipe cloexec) h = refl
 call_told (SocketPair cloexec) h = refl
@@ -59,7 +65,7 @@ call_told (EpollCtl epfd op fd mask tag) h =
     rw (short_fits epfd.0 h.0, short_fits op h.1, short_fits fd.0 h.2, lt-ltb mask.0 (2 ^ 64) (below_64 mask.0 h.3), lt-ltb tag (2 ^ 64) h.4) refl
 call_told (EpollWait epfd max timeout) h = rw (short_fits epfd.0 h.0, short_fits max h.1, integer_fits timeout h.2) refl
 call_told (Read fd n) h = rw (short_fits fd.0 h.0, lt-ltb n (2 ^ 64) (below_64 n h.1)) refl
-call_told (Write fd bytes) h = rw (short_fits fd.0 h.0, hex_ascii bytes h.1) refl
+call_told (Write fd bytes) h = write_told fd.0 bytes (is_run bytes) h.0 h.1 h.2
 call_told (Shutdown fd) h = rw (short_fits fd.0 h) refl
 call_told (SetTime fd absolute value interval) h = rw (short_fits fd.0 h.0, lt-ltb value (2 ^ 64) h.1, lt-ltb interval (2 ^ 64) h.2) refl
 call_told (GetTime fd) h = rw (short_fits fd.0 h) refl
@@ -156,7 +162,7 @@ call_again (TimerFd clock cloexec) h = rw (again_i32 clock h) refl
 call_again (EpollCtl epfd op fd mask tag) h = ctl_again epfd op fd mask tag (again_i32 epfd.0 h.0) h.1 (again_i32 fd.0 h.2) (again_u32 mask.0 h.3)
 call_again (EpollWait epfd max timeout) h = wait_again epfd max timeout (again_i32 epfd.0 h.0) h.1 h.2
 call_again (Read fd n) h = read_again fd n (again_i32 fd.0 h.0) h.1
-call_again (Write fd bytes) h = write_again fd bytes (again_i32 fd.0 h.0) (hex_again bytes h.1)
+call_again (Write fd bytes) h = write_again fd bytes (again_i32 fd.0 h.0) (hex_again bytes h.1) h.1
 call_again (Shutdown fd) h = shutdown_again fd (again_i32 fd.0 h)
 call_again (SetTime fd absolute value interval) h = settime_again fd absolute value interval (again_i32 fd.0 h.0)
 call_again (GetTime fd) h = gettime_again fd (again_i32 fd.0 h)

@@ -1,13 +1,13 @@
 -- A call as an object: its operation under `op`, and each field under its key.
-use Rattle.std.specs.Prelude.{Bool, List, None, Option, Some, [], codes, if◌then◌else◌, ℕ, ℤ, ◌==◌, ◌∷◌}
+use Rattle.std.specs.Prelude.{Bool, List, None, Option, Some, [], codes, false, if◌then◌else◌, length, slice_index, true, ℕ, ℤ, ◌==◌, ◌∷◌}
 use Rattle.serde_json.specs.Data.{Data, boolean, string}
-use Rattle.serde_json.specs.Find.{as_bool, as_str}
+use Rattle.serde_json.specs.Find.{as_bool, as_str, get}
 use Rattle.ep_base.specs.declared.call.Call.{Call}
 use Rattle.ep_base.specs.declared.call.Call.TheVariants.{Close, Dup, Dup2, EpollCreate, EpollCtl, EpollWait, EventFd, Exec, Exit, Fork, GetTime, Pipe, Plain, Read, SetTime, Shutdown, SocketPair, TimerFd, Write}
 use Rattle.ep_base.specs.declared.ids.Fd.{Fd}
 use Rattle.hex.specs.Hex.{encode_lower}
-use Rattle.ep_history.specs.Fields.{i32_value, i64_value, integer, named, natural, object_of, required, size, u32_value, u64_value, ◌>>=◌}
-use Rattle.ep_history.specs.Bytes.{hex_value}
+use Rattle.ep_history.specs.Fields.{i32_value, i64_value, integer, named, natural, object_of, pair, required, size, u32_value, u64_value, ◌>>=◌}
+use Rattle.ep_history.specs.Bytes.{is_run, written}
 
 -- ---- what is printed
 
@@ -29,6 +29,12 @@ abbrev pub of_wait : ℤ → ℤ → ℤ → Data
 of_wait epfd max timeout =
     operation (codes "wait") ((codes "ep", integer epfd) ∷ (codes "max", integer max) ∷ (codes "timeout", integer timeout) ∷ [])
 
+-- a write of a run, or of other bytes
+abbrev pub of_write : ℤ → List ℕ → Bool → Data
+of_write fd bytes true =
+    operation (codes "write") ((codes "fd", integer fd) ∷ (codes "fill", pair (natural (slice_index bytes 0)) (natural (length bytes))) ∷ [])
+of_write fd bytes false = operation (codes "write") ((codes "fd", integer fd) ∷ (codes "hex", string (encode_lower bytes)) ∷ [])
+
 abbrev pub call_data : Call → Data
 call_data (Pipe cloexec) = of_flag (codes "pipe") cloexec
 call_data (SocketPair cloexec) = of_flag (codes "socketpair") cloexec
@@ -41,8 +47,7 @@ call_data (TimerFd clock cloexec) =
 call_data (EpollCtl epfd op fd mask tag) = of_ctl epfd.0 op fd.0 mask.0 tag
 call_data (EpollWait epfd max timeout) = of_wait epfd.0 max timeout
 call_data (Read fd n) = operation (codes "read") ((codes "fd", integer fd.0) ∷ (codes "n", natural n) ∷ [])
-call_data (Write fd bytes) =
-    operation (codes "write") ((codes "fd", integer fd.0) ∷ (codes "hex", string (encode_lower bytes)) ∷ [])
+call_data (Write fd bytes) = of_write fd.0 bytes (is_run bytes)
 call_data (Shutdown fd) = of_fd (codes "shutdown") fd.0
 call_data (SetTime fd absolute value interval) =
     operation (codes "settime") ((codes "fd", integer fd.0) ∷ (codes "abs", boolean absolute) ∷
@@ -129,7 +134,7 @@ read_call d = do
 abbrev pub write_call : Data → Option Call
 write_call d = do
   fd ← required (codes "fd") i32_value d
-  bytes ← required (codes "hex") hex_value d
+  bytes ← written (get (codes "hex") d) (get (codes "fill") d)
   Some (Write (record { 0 = fd }) bytes)
 
 abbrev pub settime_call : Data → Option Call

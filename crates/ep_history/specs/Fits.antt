@@ -1,7 +1,7 @@
 -- The numbers of a record are those that its types can hold.
 use Rattle.std.specs.Int.{w32, w64}
 use Rattle.std.specs.List.{slice_index}
-use Rattle.std.specs.Prelude.{All, FitsSigned, List, ⊤, ◌<◌, ◌^◌, ℕ}
+use Rattle.std.specs.Prelude.{All, FitsSigned, List, length, ⊤, ◌<◌, ◌^◌, ℕ}
 use Rattle.hex.specs.Hex.{IsBytes}
 use Rattle.ep_base.specs.declared.answer.Answer.{Answer}
 use Rattle.ep_base.specs.declared.answer.Answer.TheVariants.{Bytes, Done, Events, Num, Parked, Refused, Still, Time, Two}
@@ -30,7 +30,7 @@ CallFits (TimerFd clock cloexec) = FitsSigned w32 clock
 CallFits (EpollCtl epfd op fd mask tag) = FdFits epfd × FitsSigned w32 op × FdFits fd × (mask.0 < 2 ^ 32) × (tag < 2 ^ 64)
 CallFits (EpollWait epfd max timeout) = FdFits epfd × FitsSigned w32 max × FitsSigned w64 timeout
 CallFits (Read fd n) = FdFits fd × (n < 2 ^ 32)
-CallFits (Write fd bytes) = FdFits fd × IsBytes bytes
+CallFits (Write fd bytes) = FdFits fd × IsBytes bytes × (length bytes < 2 ^ 64)
 CallFits (Shutdown fd) = FdFits fd
 CallFits (SetTime fd absolute value interval) = FdFits fd × (value < 2 ^ 64) × (interval < 2 ^ 64)
 CallFits (GetTime fd) = FdFits fd

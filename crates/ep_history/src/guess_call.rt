@@ -127,6 +127,18 @@ fn write<'a>(line: &mut Cursor<'a>, fd: Fd) -> Option<RawCall<'a>> {
     Some(RawCall::Write(fd, digits))
 }
 
+/// A write of one byte, so many times.
+fn fill(line: &mut Cursor<'_>, fd: Fd) -> Option<Call> {
+    let byte = u8::try_from(line.natural()?).ok()?;
+    line.expect(b",")?;
+    let count = line.natural()?;
+    line.expect(b"],\"op\":\"write\"}")?;
+    Some(Call::Write {
+        fd,
+        bytes: Buffer::filled(byte, count as usize),
+    })
+}
+
 fn dup2(line: &mut Cursor<'_>, from: Fd) -> Option<Call> {
     let to = fd(line)?;
     line.expect(b"}")?;
@@ -157,6 +169,9 @@ fn on_fd<'a>(line: &mut Cursor<'a>) -> Option<RawCall<'a>> {
     }
     if line.take(b",\"hex\":\"") {
         return write(line, fd);
+    }
+    if line.take(b",\"fill\":[") {
+        return Some(RawCall::Whole(fill(line, fd)?));
     }
     Some(RawCall::Whole(plain(line, fd)?))
 }

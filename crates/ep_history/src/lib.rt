@@ -13,6 +13,7 @@ mod picks;
 mod print;
 mod print_answer;
 mod print_call;
+mod print_write;
 mod push;
 mod read_answer;
 mod read_call;

@@ -2,12 +2,13 @@
 ghost use Rattle.std.specs.Prelude.{◌≡◌, ◌++◌, OnOk, codes};
 ghost use Rattle.serde_json.specs.Data.{boolean};
 ghost use Rattle.serde_json.specs.Written.{compact_text};
-ghost use Rattle.ep_base.specs.declared.call.Call.TheVariants.{Dup2, EpollCtl, EpollWait, EventFd, Read, SetTime, TimerFd, Write};
+ghost use Rattle.ep_base.specs.declared.call.Call.TheVariants.{Dup2, EpollCtl, EpollWait, EventFd, Read, SetTime, TimerFd};
 ghost use Rattle.ep_history.specs.Calls.{call_data};
 ghost use Rattle.ep_history.specs.Fields.{integer};
 ghost use Rattle.ep_history.specs.Fits.{CallFits, FdFits};
 
-use crate::push::{push_descriptor, push_flag, push_hex, push_integer, push_natural};
+use crate::print_write::push_write;
+use crate::push::{push_descriptor, push_flag, push_integer, push_natural};
 use ep_base::{Call, Fd, Mask};
 use std::alloc::AllocError;
 
@@ -104,17 +105,6 @@ fn push_read(out: &mut Vec<u8>, fd: Fd, n: u32) -> Result<(), AllocError>
     Ok(())
 }
 
-fn push_write(out: &mut Vec<u8>, fd: Fd, bytes: &[u8]) -> Result<(), AllocError>
-    ensures text { OnOk result (out.new.items
-        ≡ out.old.items ++ compact_text (call_data (Write fd bytes.now))) }
-    ensures fits { OnOk result (CallFits (Write fd bytes.now)) }
-{
-    push_descriptor(out, b"{\"fd\":", fd)?;
-    push_hex(out, b",\"hex\":\"", bytes)?;
-    out.extend_from_slice(b"\",\"op\":\"write\"}")?;
-    Ok(())
-}
-
 fn push_settime(
     out: &mut Vec<u8>,
     fd: Fd,
@@ -172,7 +162,7 @@ pub(crate) fn push_call(out: &mut Vec<u8>, call: &Call) -> Result<(), AllocError
         } => push_ctl(out, *epfd, *op, *fd, *mask, *tag),
         Call::EpollWait { epfd, max, timeout } => push_wait(out, *epfd, *max, *timeout),
         Call::Read { fd, n } => push_read(out, *fd, *n),
-        Call::Write { fd, bytes } => push_write(out, *fd, bytes.as_slice()),
+        Call::Write { fd, bytes } => push_write(out, *fd, bytes),
         Call::Shutdown { fd } => push_fd(out, *fd, b",\"op\":\"shutdown\"}"),
         Call::SetTime {
             fd,

@@ -5,9 +5,9 @@ ghost use Rattle.ep_history.specs.Calls.{call_of, close_call, ctl_call, dup2_cal
 ghost use Rattle.ep_history.specs.Calls.{call_data};
 ghost use Rattle.ep_history.specs.Fields.{named, size};
 
-use crate::bytes::hex_bytes;
+use crate::bytes::written;
 use crate::fields::{required_flag, required_i32, required_i64, required_u32, required_u64, size};
-use ep_base::{Buffer, Call, Fd, Mask};
+use ep_base::{Call, Fd, Mask};
 use serde_json::Value;
 use std::alloc::{AllocError, Global};
 
@@ -100,16 +100,10 @@ fn write_call(alloc: Global, value: &Value) -> Result<Option<Call>, AllocError>
     let Some(fd) = required_i32(value, "fd") else {
         return Ok(None);
     };
-    let Some(hex) = value.get("hex") else {
+    let Some(bytes) = written(alloc, value)? else {
         return Ok(None);
     };
-    let Some(bytes) = hex_bytes(alloc, hex)? else {
-        return Ok(None);
-    };
-    Ok(Some(Call::Write {
-        fd: Fd(fd),
-        bytes: Buffer::new(bytes),
-    }))
+    Ok(Some(Call::Write { fd: Fd(fd), bytes }))
 }
 
 fn shutdown_call(value: &Value) -> Option<Call>

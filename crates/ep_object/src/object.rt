@@ -9,7 +9,7 @@ ghost use Rattle.ep_machine.specs.Timer.{last_moment, new_timer, timer_set_refus
 ghost use Rattle.ep_object.specs.Memory.{asked_of, object_waiting};
 ghost use Rattle.ep_object.specs.Next.{IsNextMoment};
 
-use ep_base::{Answer, Bytes, Call, Errno, Mask};
+use ep_base::{Answer, Buffer, Bytes, Call, Errno, Mask};
 use ep_counters::{EventFd, Timer};
 use ep_stream::{End, Pipe, Raised, SockPair};
 use std::alloc::{AllocError, Global};
@@ -213,7 +213,7 @@ impl Object {
     {
         match *call {
             Call::Read { n, .. } => self.read(end, now, n),
-            Call::Write { ref bytes, .. } => Ok(self.write(end, bytes.as_slice())),
+            Call::Write { ref bytes, .. } => Ok(self.write(end, bytes)),
             Call::Shutdown { .. } => Ok(self.shutdown(end)),
             Call::SetTime {
                 absolute,
@@ -245,7 +245,7 @@ impl Object {
     }
 
     /// write(2) of these bytes at this end.
-    fn write(&mut self, end: End, bytes: &[u8]) -> (Answer, Raised)
+    fn write(&mut self, end: End, bytes: &Buffer) -> (Answer, Raised)
         ensures { (result.0, self.new, result.1) ≡
             attempt (write_refusals self.old end bytes.now) self.old (write self.old end bytes.now) }
     {

@@ -3,5 +3,6 @@ mod Laws
 mod PairArrivals
 mod Peers
 mod Prefixes
+mod Runs
 mod Truths
 mod Unions

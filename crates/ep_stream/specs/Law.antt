@@ -1,9 +1,9 @@
 -- The law of what is raised: a bit that begins to hold at an end is raised there.
-use Rattle.std.specs.Prelude.{Bool, IsTrue, List, bit_and, not, ℕ, ◌≡◌}
+use Rattle.std.specs.Prelude.{Bool, IsTrue, List, not, ℕ}
 use Rattle.ep_base.specs.declared.object.End.{End}
 use Rattle.ep_base.specs.declared.object.End.TheVariants.{First, Second}
 use Rattle.ep_base.specs.declared.object.Raised.{Raised}
-use Rattle.ep_machine.specs.Bits.{at_end, IsCovered, beginning}
+use Rattle.ep_machine.specs.Bits.{at_end, IsCovered}
 use Rattle.ep_machine.specs.Effect.{attempt}
 use Rattle.ep_machine.specs.Pipe.{Pipe, pipe_close, pipe_present, pipe_read, pipe_read_refusals, pipe_write, pipe_write_refusals}
 use Rattle.ep_machine.specs.Sockets.{SocketPair, own, pair_close, pair_present, pair_read, pair_read_refusals, pair_shutdown, pair_write, pair_write_refusals}

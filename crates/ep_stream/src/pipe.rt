@@ -6,9 +6,9 @@ ghost use Rattle.ep_stream.specs.Waiting.{pipe_waiting};
 
 use crate::bits::{NONE, beginning, intersection, union, when};
 use crate::ends::raises;
-use crate::queue::take_front;
+use crate::queue::{put_back, take_front};
 use circular_buffer::HeapCircularBuffer;
-use ep_base::{Answer, End, Errno, Mask, Raised};
+use ep_base::{Answer, Buffer, End, Errno, Mask, Raised};
 use std::alloc::{AllocError, Global};
 use std::marker::Model;
 
@@ -71,14 +71,14 @@ impl Pipe {
     /// takes no memory. Refusals, which leave the pipe and raise nothing: EBADF at the first end; else,
     /// for one byte or more, EPIPE where the reader is gone; EAGAIN where they don't fit and are at
     /// most 4,096, or where none fits. Above 4,096 bytes it takes as many as fit.
-    pub fn write(&mut self, end: End, bytes: &[u8]) -> (Answer, Raised)
+    pub fn write(&mut self, end: End, bytes: &Buffer) -> (Answer, Raised)
         ensures { (result.0, self.new, result.1) ≡
             attempt (pipe_write_refusals self.old end bytes.now) self.old (pipe_write self.old bytes.now) }
     {
         if let Some(errno) = self.write_refusal(end, bytes) {
             return (Answer::Refused(errno), raises(NONE, NONE));
         }
-        let count = self.buffer.fill_from_slice(bytes);
+        let count = put_back(&mut self.buffer, bytes);
         let raised = raises(when(!bytes.is_empty(), Mask::IN), NONE);
         (Answer::Num(count as u64), raised)
     }
@@ -148,7 +148,7 @@ impl Pipe {
     }
 
     /// The error of a write of these bytes at this end.
-    fn write_refusal(&self, end: End, bytes: &[u8]) -> Option<Errno>
+    fn write_refusal(&self, end: End, bytes: &Buffer) -> Option<Errno>
         ensures { result ≡ first (pipe_write_refusals self.now end bytes.now) }
     {
         if end == End::First {

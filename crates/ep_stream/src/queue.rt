@@ -1,11 +1,14 @@
 //! Bytes that wait to be read, in a circular buffer.
-ghost use Rattle.std.specs.Prelude.{◌≡◌, ◌≤◌, drop, length, min, take, IfOk, IsOk, OnErr, OnOk};
+ghost use Rattle.std.specs.Prelude.{◌≡◌, ◌≤◌, ◌-◌, ◌++◌, drop, length, min, replicate, take, IfOk, IsOk, OnErr, OnOk};
 ghost use Rattle.circular_buffer.specs.Buffer.{buffer};
 
 use circular_buffer::HeapCircularBuffer;
-use ep_base::Bytes;
+use ep_base::{Buffer, Bytes, Content};
 use smallvec::SmallVec;
 use std::alloc::AllocError;
+
+/// How many bytes of a run are put at once.
+const CHUNK: usize = 256;
 
 /// The first `count` bytes, which stay. At most 16 of them take no memory.
 #[tactic(auto, using(crate::proofs::Prefixes::take_parts))]
@@ -34,4 +37,33 @@ pub(crate) fn take_front(queue: &mut HeapCircularBuffer<u8>, n: u32) -> Result<B
     let bytes = first_bytes(queue, count)?;
     queue.truncate_front(queue.len() - count);
     Ok(Bytes::new(bytes))
+}
+
+/// Puts this byte behind the others, so many times or as often as it fits, and answers how often.
+#[inline(never)]
+fn put_run(queue: &mut HeapCircularBuffer<u8>, byte: u8, count: usize) -> usize
+    ensures count { result ≡ min count (queue.old.capacity - length queue.old.items) }
+    ensures items { queue.new ≡ buffer (queue.old.items ++ replicate result byte) queue.old.capacity }
+{
+    let fitting = count.min(queue.capacity() - queue.len());
+    let chunk = [byte; CHUNK];
+    let mut left = fitting;
+    while left > 0 {
+        let put = left.min(CHUNK);
+        queue.fill_from_slice(&chunk[..put]);
+        left -= put;
+    }
+    fitting
+}
+
+/// Puts these bytes behind the others, as many as fit, and answers how many.
+#[inline(always)]
+pub(crate) fn put_back(queue: &mut HeapCircularBuffer<u8>, bytes: &Buffer) -> usize
+    ensures count { result ≡ min (length bytes.now) (queue.old.capacity - length queue.old.items) }
+    ensures items { queue.new ≡ buffer (queue.old.items ++ take result bytes.now) queue.old.capacity }
+{
+    match bytes.content() {
+        Content::Listed(listed) => queue.fill_from_slice(listed),
+        Content::Filled(byte, count) => put_run(queue, byte, count),
+    }
 }

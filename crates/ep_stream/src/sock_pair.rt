@@ -7,9 +7,9 @@ ghost use Rattle.ep_stream.specs.Waiting.{pair_waiting};
 
 use crate::bits::{NONE, beginning, intersection, union, when};
 use crate::ends::{opposite, raised_ends, raises};
-use crate::queue::take_front;
+use crate::queue::{put_back, take_front};
 use circular_buffer::HeapCircularBuffer;
-use ep_base::{Answer, End, Errno, Mask, Raised};
+use ep_base::{Answer, Buffer, End, Errno, Mask, Raised};
 use std::alloc::{AllocError, Global};
 use std::marker::Model;
 use std::mem;
@@ -148,7 +148,7 @@ impl SockPair {
     /// write(2) of these bytes at this end, and what it raises. It takes as many as fit in the peer's
     /// queue, answers how many, and takes no memory. Refusals of one byte or more, which leave the pair
     /// and raise nothing: EPIPE where this end shut its writing or the peer closed; EAGAIN where none fits.
-    pub fn write(&mut self, end: End, bytes: &[u8]) -> (Answer, Raised)
+    pub fn write(&mut self, end: End, bytes: &Buffer) -> (Answer, Raised)
         ensures { (result.0, self.new, result.1) ≡
             attempt (pair_write_refusals self.old end bytes.now) self.old (pair_write self.old end bytes.now) }
     {
@@ -156,8 +156,8 @@ impl SockPair {
             return (Answer::Refused(errno), raises(NONE, NONE));
         }
         let count = match end {
-            End::First => self.second_end.queue.fill_from_slice(bytes),
-            End::Second => self.first_end.queue.fill_from_slice(bytes),
+            End::First => put_back(&mut self.second_end.queue, bytes),
+            End::Second => put_back(&mut self.first_end.queue, bytes),
         };
         let raised = raised_ends(end, NONE, when(!bytes.is_empty(), Mask::IN));
         (Answer::Num(count as u64), raised)
@@ -244,7 +244,7 @@ impl SockPair {
     }
 
     /// The error of a write of these bytes at this end.
-    fn write_refusal(&self, end: End, bytes: &[u8]) -> Option<Errno>
+    fn write_refusal(&self, end: End, bytes: &Buffer) -> Option<Errno>
         ensures { result ≡ first (pair_write_refusals self.now end bytes.now) }
     {
         if bytes.is_empty() {

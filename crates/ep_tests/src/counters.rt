@@ -1,7 +1,8 @@
 //! A counter and a timer: each call once. Their bounds are in the scripts of `ep_examples`.
 
-use ep_base::{Answer, Mask, Raised};
+use ep_base::{Answer, Buffer, Errno, Mask, Raised};
 use ep_counters::{EventFd, Timer};
+use std::test::Fail;
 
 /// These bits at the one end.
 fn at_first(bits: Mask) -> Raised {
@@ -20,13 +21,37 @@ pub(crate) fn is_value(answer: &Answer, number: u8) -> bool {
 }
 
 #[test]
-fn a_counter_adds_and_gives_its_sum(rt: HostRuntime) {
+fn a_counter_adds_and_gives_its_sum(rt: HostRuntime) -> Result<(), Fail> {
     let mut counter = EventFd::new(rt.alloc(), 2, false);
-    let (written, raised) = counter.write(&[3, 0, 0, 0, 0, 0, 0, 0]);
+    let three = Buffer::new([3, 0, 0, 0, 0, 0, 0, 0].to_vec(rt.alloc())?);
+    let (written, raised) = counter.write(&three);
     assert!(rt; written == Answer::Num(8) && raised == at_first(Mask::IN));
     assert!(rt; counter.present() == Mask(5));
     let (read, raised) = counter.read(8);
     assert!(rt; is_value(&read, 5) && raised == at_first(Mask::OUT));
+    Ok(())
+}
+
+/// 9 times the byte 1 is 72,340,172,838,076,673, of which the ninth is left out; 7 bytes are too few, and 255 over and
+/// over is 2^64 - 1.
+#[test]
+fn a_counter_adds_one_byte_over_and_over(rt: HostRuntime) {
+    let mut counter = EventFd::new(rt.alloc(), 0, false);
+    let (written, _) = counter.write(&Buffer::filled(1, 9));
+    assert!(rt; written == Answer::Num(8));
+    let (read, _) = counter.read(8);
+    assert!(rt; is_ones(&read));
+    let (refused, _) = counter.write(&Buffer::filled(0, 7));
+    assert!(rt; refused == Answer::Refused(Errno::Einval));
+    let (refused, _) = counter.write(&Buffer::filled(255, 8));
+    assert!(rt; refused == Answer::Refused(Errno::Einval));
+}
+
+fn is_ones(answer: &Answer) -> bool {
+    match answer {
+        Answer::Bytes(bytes) => bytes.as_slice() == [1; 8].as_slice(),
+        _ => false,
+    }
 }
 
 /// Set at 10, it expires at 15 and then after each 2.

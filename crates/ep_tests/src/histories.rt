@@ -6,7 +6,7 @@ use std::process::Abort;
 use std::test::Fail;
 
 /// Lines of records as they are printed: each operation and each answer.
-pub(crate) const PRINTED: [&str; 24] = [
+pub(crate) const PRINTED: [&str; 25] = [
     "{\"answer\":{\"two\":[3,4]},\"caller\":0,\"event\":{\"call\":{\"cloexec\":true,\"op\":\"pipe\"},\"pid\":1},\"picked\":[]}",
     "{\"answer\":{\"err\":[24,\"EMFILE\"]},\"caller\":0,\"event\":{\"call\":{\"cloexec\":false,\"op\":\"socketpair\"},\"pid\":1},\"picked\":[]}",
     "{\"answer\":{\"err\":[23,\"ENFILE\"]},\"caller\":0,\"event\":{\"call\":{\"cloexec\":false,\"op\":\"plain\"},\"pid\":1},\"picked\":[]}",
@@ -36,10 +36,11 @@ pub(crate) const PRINTED: [&str; 24] = [
     "{\"answer\":{\"err\":[3,\"ESRCH\"]},\"caller\":0,\"event\":{\"call\":{\"op\":\"exit\"},\"pid\":0},\"picked\":[]}",
     "{\"answer\":{\"still\":true},\"caller\":2,\"event\":{\"resume\":true},\"picked\":[]}",
     "{\"answer\":{\"done\":true},\"caller\":1,\"event\":{\"tick\":1000000000000},\"picked\":[]}",
+    "{\"answer\":{\"num\":4096},\"caller\":1,\"event\":{\"call\":{\"fd\":4,\"fill\":[97,4097],\"op\":\"write\"},\"pid\":1},\"picked\":[]}",
 ];
 
 /// Lines that are no record.
-pub(crate) const REFUSED: [&str; 22] = [
+pub(crate) const REFUSED: [&str; 33] = [
     "",
     "{}",
     "{\"answer\":{\"done\":true},\"caller\":1,\"event\":{\"tick\":5}}",
@@ -62,6 +63,17 @@ pub(crate) const REFUSED: [&str; 22] = [
     "{\"answer\":{\"done\":true},\"caller\":1,\"event\":{\"call\":{\"fd\":1,\"op\":\"fork\"},\"pid\":1},\"picked\":[]}",
     "{\"answer\":{\"done\":true},\"caller\":1,\"event\":{\"call\":{\"op\":\"close\"},\"pid\":1},\"picked\":[]}",
     "{\"answer\":{\"done\":true},\"caller\":1,\"event\":{\"call\":{\"op\":\"pipe\"},\"pid\":1},\"picked\":[]}",
+    "{\"answer\":{\"num\":1},\"caller\":0,\"event\":{\"call\":{\"fd\":4,\"fill\":[256,16],\"op\":\"write\"},\"pid\":1},\"picked\":[]}",
+    "{\"answer\":{\"num\":1},\"caller\":0,\"event\":{\"call\":{\"fd\":4,\"fill\":[-1,16],\"op\":\"write\"},\"pid\":1},\"picked\":[]}",
+    "{\"answer\":{\"num\":1},\"caller\":0,\"event\":{\"call\":{\"fd\":4,\"fill\":[97],\"op\":\"write\"},\"pid\":1},\"picked\":[]}",
+    "{\"answer\":{\"num\":1},\"caller\":0,\"event\":{\"call\":{\"fd\":4,\"fill\":[97,16,1],\"op\":\"write\"},\"pid\":1},\"picked\":[]}",
+    "{\"answer\":{\"num\":1},\"caller\":0,\"event\":{\"call\":{\"fd\":4,\"fill\":[\"97\",16],\"op\":\"write\"},\"pid\":1},\"picked\":[]}",
+    "{\"answer\":{\"num\":1},\"caller\":0,\"event\":{\"call\":{\"fd\":4,\"fill\":[97,16.0],\"op\":\"write\"},\"pid\":1},\"picked\":[]}",
+    "{\"answer\":{\"num\":1},\"caller\":0,\"event\":{\"call\":{\"fd\":4,\"fill\":[97,-1],\"op\":\"write\"},\"pid\":1},\"picked\":[]}",
+    "{\"answer\":{\"num\":1},\"caller\":0,\"event\":{\"call\":{\"fd\":4,\"fill\":[97,18446744073709551616],\"op\":\"write\"},\"pid\":1},\"picked\":[]}",
+    "{\"answer\":{\"num\":1},\"caller\":0,\"event\":{\"call\":{\"fd\":4,\"fill\":97,\"op\":\"write\"},\"pid\":1},\"picked\":[]}",
+    "{\"answer\":{\"num\":1},\"caller\":0,\"event\":{\"call\":{\"fd\":4,\"fill\":[97,16],\"hex\":\"61\",\"op\":\"write\"},\"pid\":1},\"picked\":[]}",
+    "{\"answer\":{\"num\":1},\"caller\":0,\"event\":{\"call\":{\"fd\":4,\"op\":\"write\"},\"pid\":1},\"picked\":[]}",
 ];
 
 fn expect_again(rt: &(impl AllocGlobal + Abort), line: &str) -> Result<(), Fail> {
@@ -94,6 +106,19 @@ fn reads_keys_in_any_order(rt: HostRuntime) -> Result<(), Fail> {
     let line =
         " {\"caller\":1, \"event\":{\"tick\":5}, \"picked\":[], \"answer\":{\"done\":true}} ";
     assert!(rt; read_record(rt.alloc(), line.as_bytes())?.is_some());
+    Ok(())
+}
+
+/// Of a few bytes that are all the same one, `fill` says the same as `hex`.
+#[test]
+fn reads_a_short_run(rt: HostRuntime) -> Result<(), Fail> {
+    let alloc = rt.alloc();
+    let filled =
+        b"{\"answer\":{\"num\":3},\"caller\":1,\"event\":{\"call\":{\"fd\":4,\"fill\":[97,3],\"op\":\"write\"},\"pid\":1},\"picked\":[]}";
+    let listed =
+        b"{\"answer\":{\"num\":3},\"caller\":1,\"event\":{\"call\":{\"fd\":4,\"hex\":\"616161\",\"op\":\"write\"},\"pid\":1},\"picked\":[]}";
+    let found = read_record(alloc, filled)?;
+    assert!(rt; found.is_some() && found == read_record(alloc, listed)?);
     Ok(())
 }
 

@@ -1,7 +1,7 @@
 //! Lines of records in the form in which they are printed, and nearly in it, as the reader of many lines reads them.
 
 use crate::histories::PRINTED;
-use ep_base::{Answer, Call, Event, Record};
+use ep_base::{Answer, Buffer, Call, CallerId, Errno, Event, Fd, Picked, Pid, Record};
 use ep_history::{RecordReader, print_record, read_record};
 use std::process::Abort;
 use std::test::Fail;
@@ -74,18 +74,18 @@ fn write_line_of(rt: &(impl AllocGlobal + Abort), digits: &str) -> Result<String
     Ok(line)
 }
 
-/// The bytes that a record has, of a read's answer or of a write.
-fn bytes_of(entry: &Record) -> &[u8] {
-    match &entry.event {
+/// Whether a record has these bytes, of a read's answer or of a write.
+fn has_bytes(rt: &impl AllocGlobal, entry: &Record, wanted: &[u8]) -> Result<bool, Fail> {
+    Ok(match &entry.event {
         Event::Call {
             call: Call::Write { bytes, .. },
             ..
-        } => bytes.as_slice(),
+        } => *bytes == Buffer::new(wanted.to_vec(rt.alloc())?),
         _ => match &entry.answer {
-            Answer::Bytes(bytes) => bytes.as_slice(),
-            _ => &[],
+            Answer::Bytes(bytes) => bytes.as_slice() == wanted,
+            _ => false,
         },
-    }
+    })
 }
 
 fn expect_bytes(
@@ -94,7 +94,7 @@ fn expect_bytes(
     wanted: &[u8],
 ) -> Result<(), Fail> {
     match found {
-        Some(entry) => assert!(rt; bytes_of(entry) == wanted),
+        Some(entry) => assert!(rt; has_bytes(rt, entry, wanted)?),
         None => return Err(Fail::from("no record")),
     }
     Ok(())
@@ -187,15 +187,98 @@ fn reads_printed_lines_with_a_space_inside(rt: HostRuntime) -> Result<(), Fail> 
 /// A write of 4,000 bytes, each way: a reader's room is asked for anew for it.
 #[test]
 fn finds_a_long_write(rt: HostRuntime) -> Result<(), Fail> {
-    let mut digits = String::new(rt.alloc());
-    for _ in 0..4_000 {
+    let mut digits = String::from_str(rt.alloc(), "00")?;
+    for _ in 1..4_000 {
         digits.push_str("a5")?;
     }
-    let bytes = vec![in rt.alloc(); 165_u8; 4_000]?;
+    let mut bytes = vec![in rt.alloc(); 165_u8; 4_000]?;
+    bytes[0] = 0;
     let line = write_line_of(&rt, digits.as_str())?;
     let other = spaced(&rt, line.as_str())?;
     expect_spellings(&rt, line.as_str(), other.as_str(), bytes.as_slice())?;
     expect_between(&rt, line.as_str(), "", "\r")
+}
+
+/// The record of a write of these bytes, which was refused.
+fn refused_write(rt: &impl AllocGlobal, bytes: Buffer) -> Record {
+    Record {
+        caller: CallerId(0),
+        event: Event::Call {
+            pid: Pid(1),
+            call: Call::Write { fd: Fd(4), bytes },
+        },
+        answer: Answer::Refused(Errno::Ebadf),
+        picked: Picked::empty(rt.alloc()),
+    }
+}
+
+/// The text of a printed line.
+fn text_of(line: &[u8]) -> Result<&str, Fail> {
+    match std::str::from_utf8(line) {
+        Ok(text) => Ok(text),
+        Err(_) => Err(Fail::from("no text")),
+    }
+}
+
+/// A byte that comes 16 times or more is printed with its count, however the write has it, and no guess misses it.
+#[test]
+fn finds_each_run(rt: HostRuntime) -> Result<(), Fail> {
+    let mut reader = RecordReader::new(rt.alloc());
+    let mut missed = 0_u32;
+    for count in [16, 17, 255, 4_096, 65_536, 1_048_576, usize::MAX] {
+        for byte in [0, 9, 10, 97, 255] {
+            let entry = refused_write(&rt, Buffer::filled(byte, count));
+            let line = print_record(rt.alloc(), &entry)?;
+            assert!(rt; line.len() < 160);
+            match reader.read_printed(rt.alloc(), line.as_slice()) {
+                Some(found) => assert!(rt; found == entry, "{byte} {count} times"),
+                None => missed = missed.saturating_add(1),
+            }
+            let read = read_record(rt.alloc(), line.as_slice())?;
+            assert!(rt; read == Some(entry), "{byte} {count} times");
+        }
+    }
+    assert_eq!(rt; missed, 0);
+    Ok(())
+}
+
+/// Both ways to keep the bytes of a write, around the count from which they are printed as a run.
+#[test]
+fn prints_both_ways_to_keep_bytes_alike(rt: HostRuntime) -> Result<(), Fail> {
+    for (count, wanted) in [
+        (0, "\"hex\":\"\","),
+        (1, "\"hex\":\"61\","),
+        (15, "\"hex\":\"616161616161616161616161616161\","),
+        (16, "\"fill\":[97,16],"),
+        (17, "\"fill\":[97,17],"),
+    ] {
+        let filled = refused_write(&rt, Buffer::filled(97, count));
+        let listed = vec![in rt.alloc(); 97_u8; count]?;
+        let listed = refused_write(&rt, Buffer::new(listed));
+        assert!(rt; filled == listed && listed == filled, "{count} times");
+        let line = print_record(rt.alloc(), &filled)?;
+        assert_eq!(rt;
+            print_record(rt.alloc(), &listed)?.as_slice(),
+            line.as_slice()
+        );
+        let text = text_of(line.as_slice())?;
+        assert!(rt; text.contains(wanted), "{text}");
+    }
+    Ok(())
+}
+
+/// 16 bytes of which only the last is another one are no run.
+#[test]
+fn prints_the_digits_of_other_bytes(rt: HostRuntime) -> Result<(), Fail> {
+    for at in [0, 1, 15] {
+        let mut bytes = vec![in rt.alloc(); 97_u8; 16]?;
+        bytes[at] = 98;
+        let entry = refused_write(&rt, Buffer::new(bytes));
+        let line = print_record(rt.alloc(), &entry)?;
+        let text = text_of(line.as_slice())?;
+        assert!(rt; text.contains("\"hex\""), "{text}");
+    }
+    Ok(())
 }
 
 /// Lines that are no record, and that only a part of tells from a printed one.

@@ -2,7 +2,7 @@
 //! of `ep_examples`.
 
 use ep_base::End::{First, Second};
-use ep_base::{Answer, Mask, Raised};
+use ep_base::{Answer, Buffer, Errno, Mask, Raised};
 use ep_stream::{Pipe, SockPair};
 use std::alloc::AllocError;
 use std::process::Abort;
@@ -32,8 +32,9 @@ fn a_pipe_carries_bytes(rt: HostRuntime) -> Result<(), Fail> {
     Ok(())
 }
 
-fn goes_through(rt: &impl Abort, pipe: &mut Pipe) -> Result<(), AllocError> {
-    assert!(rt; is_so(pipe.write(Second, &MANY), Answer::Num(20), 1, 0));
+fn goes_through(rt: &(impl Abort + AllocGlobal), pipe: &mut Pipe) -> Result<(), AllocError> {
+    let many = Buffer::new(MANY.to_vec(rt.alloc())?);
+    assert!(rt; is_so(pipe.write(Second, &many), Answer::Num(20), 1, 0));
     assert!(rt; pipe.waiting(First) == 20 && pipe.present(First) == Mask::IN);
     let (read, _) = pipe.read(First, 64)?;
     assert!(rt; are_many(&read));
@@ -51,8 +52,9 @@ fn a_pair_carries_bytes(rt: HostRuntime) -> Result<(), Fail> {
     Ok(())
 }
 
-fn goes_across(rt: &impl Abort, pair: &mut SockPair) -> Result<(), AllocError> {
-    assert!(rt; is_so(pair.write(Second, &MANY), Answer::Num(20), 1, 0));
+fn goes_across(rt: &(impl Abort + AllocGlobal), pair: &mut SockPair) -> Result<(), AllocError> {
+    let many = Buffer::new(MANY.to_vec(rt.alloc())?);
+    assert!(rt; is_so(pair.write(Second, &many), Answer::Num(20), 1, 0));
     assert!(rt; pair.waiting(First) == 20 && pair.present(First) == Mask(5));
     let (read, _) = pair.read(First, 64)?;
     assert!(rt; are_many(&read));
@@ -60,5 +62,78 @@ fn goes_across(rt: &impl Abort, pair: &mut SockPair) -> Result<(), AllocError> {
     let shut = pair.shutdown(First);
     assert!(rt; shut.first == Mask::HUP && shut.second == Mask(8_209));
     assert!(rt; pair.close_end(Second).first == Mask(8_209));
+    Ok(())
+}
+
+/// Whether an answer is so many bytes, all of them this one.
+fn are_all(answer: &Answer, byte: u8, count: usize) -> bool {
+    match answer {
+        Answer::Bytes(bytes) => {
+            let bytes = bytes.as_slice();
+            bytes.len() == count && bytes.iter().all(|each| *each == byte)
+        }
+        _ => false,
+    }
+}
+
+/// One byte, over and over, goes through a pipe behind two others, with pieces of it round the end of its room.
+#[test]
+fn a_pipe_carries_a_run(rt: HostRuntime) -> Result<(), Fail> {
+    for count in [0, 1, 255, 256, 257, 4_096] {
+        let mut pipe = Pipe::new(rt.alloc(), 5_000)?;
+        assert!(rt; pipe.write(Second, &Buffer::filled(1, 2_000)).0 == Answer::Num(2_000));
+        let (before, _) = pipe.read(First, 1_998)?;
+        assert!(rt; are_all(&before, 1, 1_998));
+        let wanted = if count == 0 { 0 } else { 1 };
+        assert!(rt;
+            is_so(
+                pipe.write(Second, &Buffer::filled(9, count)),
+                Answer::Num(count as u64),
+                wanted,
+                0
+            )
+        );
+        let (before, _) = pipe.read(First, 2)?;
+        assert!(rt; are_all(&before, 1, 2) && pipe.waiting(First) == count);
+        let (read, _) = pipe.read(First, 5_000)?;
+        if count > 0 {
+            assert!(rt; are_all(&read, 9, count));
+        }
+    }
+    Ok(())
+}
+
+/// Of more than 4,096 bytes as many are taken as fit, of fewer all or none; then none fits.
+#[test]
+fn a_pipe_takes_what_fits_of_a_run(rt: HostRuntime) -> Result<(), Fail> {
+    let mut pipe = Pipe::new(rt.alloc(), 5_000)?;
+    assert!(rt; pipe.write(Second, &Buffer::filled(7, 3_000)).0 == Answer::Num(3_000));
+    let full = Answer::Refused(Errno::Eagain);
+    assert!(rt; is_so(pipe.write(Second, &Buffer::filled(7, 4_096)), full, 0, 0));
+    assert!(rt; pipe.write(Second, &Buffer::filled(7, usize::MAX)).0 == Answer::Num(2_000));
+    let full = Answer::Refused(Errno::Eagain);
+    assert!(rt;
+        is_so(
+            pipe.write(Second, &Buffer::filled(7, usize::MAX)),
+            full,
+            0,
+            0
+        )
+    );
+    let (read, _) = pipe.read(First, 9_999)?;
+    assert!(rt; are_all(&read, 7, 5_000));
+    Ok(())
+}
+
+/// A pair takes as many as fit of any write.
+#[test]
+fn a_pair_takes_what_fits_of_a_run(rt: HostRuntime) -> Result<(), Fail> {
+    let mut pair = SockPair::new(rt.alloc(), 600)?;
+    assert!(rt; pair.write(First, &Buffer::filled(3, 500)).0 == Answer::Num(500));
+    assert!(rt; pair.write(First, &Buffer::filled(3, 500)).0 == Answer::Num(100));
+    let full = Answer::Refused(Errno::Eagain);
+    assert!(rt; is_so(pair.write(First, &Buffer::filled(3, 1)), full, 0, 0));
+    let (read, _) = pair.read(Second, 9_999)?;
+    assert!(rt; are_all(&read, 3, 600));
     Ok(())
 }

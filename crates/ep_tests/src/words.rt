@@ -23,8 +23,7 @@ fn copies_of_events(rt: HostRuntime) -> Result<(), Fail> {
         return Err(Fail::from("another call"));
     };
     assert_eq!(rt; fd, Fd(4));
-    assert_eq!(rt; bytes.as_slice(), b"abc".as_slice());
-    assert_eq!(rt; bytes.into_vec().as_slice(), b"abc".as_slice());
+    assert!(rt; bytes == Buffer::new(b"abc".to_vec(alloc)?));
     let tick = Event::Tick { n: 5 };
     assert!(rt; matches!(tick.copy()?, Event::Tick { n: 5 }));
     assert!(rt; matches!(Event::Resume.copy()?, Event::Resume));

@@ -2,7 +2,6 @@
 ghost use Rattle.std.specs.Prelude.{◌≡◌, IfOk, option_map, replicate};
 ghost use Rattle.serde_json.specs.View.{items_view};
 ghost use Rattle.ep_text.specs.Bytes.{bytes_in, fill_value, hex_value, one_of, repeated};
-ghost use Rattle.ep_text.specs.Keys.{ok_map};
 ghost use Rattle.ep_text.specs.Source.{found_data, source_data};
 
 use crate::fields::fit;
@@ -10,6 +9,7 @@ use crate::key::Key;
 use crate::reason::Reason;
 use crate::source::{Found, Source};
 use crate::value_kind::ValueKind;
+use ep_base::Buffer;
 use hex::FromHexError;
 use serde_json::Value;
 use std::alloc::{AllocError, Global};
@@ -17,14 +17,14 @@ use std::alloc::{AllocError, Global};
 /// The greatest count of a `fill`.
 const MAX_FILL: u64 = 1_048_576;
 
-fn hex_bytes(alloc: Global, value: &Found<'_>) -> Result<Option<Vec<u8>>, AllocError>
-    ensures { IfOk result (λ b. option_map (λ v. v.items) b ≡ hex_value (found_data value.now)) }
+fn hex_bytes(alloc: Global, value: &Found<'_>) -> Result<Option<Buffer>, AllocError>
+    ensures { IfOk result (λ b. b ≡ hex_value (found_data value.now)) }
 {
     let Some(text) = value.as_str() else {
         return Ok(None);
     };
     match hex::decode(alloc, text) {
-        Ok(bytes) => Ok(Some(bytes)),
+        Ok(bytes) => Ok(Some(Buffer::new(bytes))),
         Err(FromHexError::OutOfMemory) => Err(AllocError),
         Err(_) => Ok(None),
     }
@@ -45,25 +45,19 @@ fn byte_and_count(items: &Vec<Value>) -> Option<(u8, usize)>
     }
 }
 
-fn fill_bytes(alloc: Global, value: &Found<'_>) -> Result<Option<Vec<u8>>, AllocError>
-    ensures { IfOk result (λ b. option_map (λ v. v.items) b ≡ fill_value (found_data value.now)) }
+fn fill_bytes(value: &Found<'_>) -> Option<Buffer>
+    ensures { result ≡ fill_value (found_data value.now) }
 {
-    let Some(items) = value.as_array() else {
-        return Ok(None);
-    };
-    let Some((byte, count)) = byte_and_count(items) else {
-        return Ok(None);
-    };
-    let bytes = vec![in alloc; byte; count]?;
-    Ok(Some(bytes))
+    let (byte, count) = byte_and_count(value.as_array()?)?;
+    Some(Buffer::filled(byte, count))
 }
 
 fn one_of(
     alloc: Global,
     hex: Option<Found<'_>>,
     fill: Option<Found<'_>>,
-) -> Result<Result<Vec<u8>, Reason>, AllocError>
-    ensures { IfOk result (λ b. ok_map (λ v. v.items) b
+) -> Result<Result<Buffer, Reason>, AllocError>
+    ensures { IfOk result (λ b. b
         ≡ one_of (option_map found_data hex.entry) (option_map found_data fill.entry)) }
 {
     match (hex, fill) {
@@ -72,7 +66,7 @@ fn one_of(
             Ok(fit(bytes, &hex, Key::Hex, ValueKind::Hex))
         }
         (None, Some(fill)) => {
-            let bytes = fill_bytes(alloc, &fill)?;
+            let bytes = fill_bytes(&fill);
             Ok(fit(bytes, &fill, Key::Fill, ValueKind::Fill))
         }
         (None, None) => Ok(Err(Reason::NeitherHexNorFill)),
@@ -84,8 +78,8 @@ fn one_of(
 pub(crate) fn bytes_in(
     alloc: Global,
     line: &Source<'_>,
-) -> Result<Result<Vec<u8>, Reason>, AllocError>
-    ensures { IfOk result (λ b. ok_map (λ v. v.items) b ≡ bytes_in (source_data line.now)) }
+) -> Result<Result<Buffer, Reason>, AllocError>
+    ensures { IfOk result (λ b. b ≡ bytes_in (source_data line.now)) }
 {
     one_of(alloc, line.get(Key::Hex), line.get(Key::Fill))
 }

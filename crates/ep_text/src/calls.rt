@@ -13,7 +13,7 @@ use crate::masks::{mask_or_empty, required_operation};
 use crate::op::CallOp;
 use crate::reason::Reason;
 use crate::source::Source;
-use ep_base::{Buffer, Call, Fd};
+use ep_base::{Call, Fd};
 use std::alloc::{AllocError, Global};
 
 fn pipe_call(value: &Source<'_>) -> Result<Call, Reason>
@@ -107,10 +107,7 @@ fn write_call(alloc: Global, value: &Source<'_>) -> Result<Result<Call, Reason>,
         Err(reason) => return Ok(Err(reason)),
     };
     match bytes_in(alloc, value)? {
-        Ok(bytes) => Ok(Ok(Call::Write {
-            fd: Fd(fd),
-            bytes: Buffer::new(bytes),
-        })),
+        Ok(bytes) => Ok(Ok(Call::Write { fd: Fd(fd), bytes })),
         Err(reason) => Ok(Err(reason)),
     }
 }
