@@ -3,9 +3,10 @@
 
 use crate::histories::{PRINTED, REFUSED};
 use crate::lines::{COMMANDS, NO_COMMANDS};
-use ep_base::{CallerId, Event};
+use crate::reasons::FILL;
+use ep_base::{Buffer, Call, CallerId, Event, Fd, Pid};
 use ep_history::{RecordReader, print_record, read_record};
-use ep_text::{LineReader, read_line};
+use ep_text::{LineReader, explain, read_line};
 use std::process::Abort;
 use std::test::Fail;
 
@@ -260,6 +261,94 @@ fn reads_commands_of_a_middle_length(rt: HostRuntime) -> Result<(), Fail> {
         expect_tick(&rt, &mut reader, line.as_str(), Some(7))?;
         let broken = lengthened(&rt, "{\"op\":\"tick\",\"n\":7,}", length)?;
         expect_tick(&rt, &mut reader, broken.as_str(), None)?;
+    }
+    Ok(())
+}
+
+/// Values of a `fill`, and the byte and the count of each that has them.
+const FILLS: [(&str, Option<(u8, usize)>); 32] = [
+    ("[97,4096]", Some((97, 4_096))),
+    ("[0,0]", Some((0, 0))),
+    ("[255,1]", Some((255, 1))),
+    ("[0,1048576]", Some((0, 1_048_576))),
+    // Blanks.
+    ("[ 97 , 4 ]", Some((97, 4))),
+    ("[\t97\t,\t4\t]", Some((97, 4))),
+    (" [97,4] ", Some((97, 4))),
+    // The last value of a key holds.
+    ("[1,2],\"fill\":[97,4]", Some((97, 4))),
+    ("[1,2,3],\"fill\":[97,4]", Some((97, 4))),
+    ("[97,4],\"fill\":[1,2,3]", None),
+    // A byte or a count that is too large or below 0.
+    ("[256,4]", None),
+    ("[97,1048577]", None),
+    ("[-1,4]", None),
+    ("[97,-1]", None),
+    ("[97,18446744073709551615]", None),
+    ("[97,18446744073709551616]", None),
+    (
+        "[97,400000000000000000000000000000000000000000000000000]",
+        None,
+    ),
+    // Numbers that are not written as whole ones.
+    ("[1.5,4]", None),
+    ("[97,1.5]", None),
+    ("[97.0,4]", None),
+    ("[97,4e0]", None),
+    ("[-0,4]", None),
+    ("[97,-0]", None),
+    // More and less than two.
+    ("[]", None),
+    ("[97]", None),
+    ("[97,4,4]", None),
+    // Other items.
+    ("[97,\"4\"]", None),
+    ("[\"a\",4]", None),
+    ("[97,[4]]", None),
+    ("[[97],4]", None),
+    ("[[97,4]]", None),
+    ("[97,null]", None),
+];
+
+/// The reader and `read_line` both find such a write, or both no command; and then the value is what is wrong.
+fn expect_fill(
+    rt: &(impl AllocGlobal + Abort),
+    reader: &mut LineReader,
+    value: &str,
+    wanted: Option<(u8, usize)>,
+) -> Result<(), Fail> {
+    let alloc = rt.alloc();
+    let line = format!(in alloc; "{{\"op\":\"write\",\"fd\":1,\"fill\":{value}}}")?;
+    let write = wanted.map(|(byte, count)| (
+        CallerId(0),
+        Event::Call {
+            pid: Pid(1),
+            call: Call::Write {
+                fd: Fd(1),
+                bytes: Buffer::filled(byte, count),
+            },
+        },
+    ));
+    let alone = read_line(alloc, line.as_bytes())?;
+    assert!(rt; alone == write, "at {value}");
+    let found = reader.read(alloc, line.as_bytes())?;
+    assert!(rt; found == write, "at {value}");
+    let reason = explain(alloc, line.as_bytes())?;
+    assert!(rt; reason.is_none() == wanted.is_some(), "at {value}");
+    let Some(reason) = reason else {
+        return Ok(());
+    };
+    let found = format!(in alloc; "{reason}")?;
+    let told = format!(in alloc; "key \"fill\" is out of range: {FILL}")?;
+    assert_eq!(rt; found.as_str(), told.as_str(), "at {value}");
+    Ok(())
+}
+
+#[test]
+fn reads_fills(rt: HostRuntime) -> Result<(), Fail> {
+    let mut reader = LineReader::new(rt.alloc());
+    for (value, wanted) in FILLS {
+        expect_fill(&rt, &mut reader, value, wanted)?;
     }
     Ok(())
 }

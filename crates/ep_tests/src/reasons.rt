@@ -17,7 +17,7 @@ const ACT: &str = "\"add\", \"del\", \"mod\" or a whole number from -2147483648 
 
 const HEX: &str = "a text of an even number of hexadecimal digits";
 
-const FILL: &str = "a list of a byte, 0 to 255, and a count, 0 to 1048576";
+pub(crate) const FILL: &str = "a list of a byte, 0 to 255, and a count, 0 to 1048576";
 
 fn expect(rt: &(impl AllocGlobal + Abort), line: &[u8], wanted: &str) -> Result<(), Fail> {
     let Some(reason) = explain(rt.alloc(), line)? else {

@@ -5,15 +5,15 @@ use Rattle.std.specs.Ordering.{match_ordering, nat_cmp}
 use Rattle.std.specs.declared.cmp.Ordering.{Ordering}
 use Rattle.std.specs.declared.cmp.Ordering.TheVariants.{Equal, Greater, Less}
 use Rattle.std.proofs.lemmas.List.{take_more}
-use Rattle.json.specs.Json.{members, parse_map, value}
+use Rattle.json.specs.Json.{Json, Parse, after_end_array, items, members, parse_map, value}
 use Rattle.json.specs.Token.{Token}
-use Rattle.json.proofs.Grammar.{value-begin_object}
-use Rattle.serde_json.specs.Data.{Data, Members, member, no_members, object, put}
-use Rattle.serde_json.specs.Find.{get_member}
-use Rattle.serde_json.specs.Read.{converted, of_json, of_members}
+use Rattle.json.proofs.Grammar.{value-begin_array, value-begin_object}
+use Rattle.serde_json.specs.Data.{Data, Items, Members, Num, array, float, item, member, negative, no_items, no_members, object, put, unsigned}
+use Rattle.serde_json.specs.Find.{as_u64, get_member}
+use Rattle.serde_json.specs.Read.{converted, of_items, of_json, of_members}
 use Rattle.serde_json.proofs.Views.{get_member-put, get_member-put_other}
 use Rattle.ep_json.specs.Text.{whole}
-use Rattle.ep_json.proofs.TreeLemmas.{converted_object, whole_read}
+use Rattle.ep_json.proofs.TreeLemmas.{converted_array, converted_object, item_read, items_over, whole_read}
 use Rattle.ep_text.specs.declared.key.Key.{Key}
 use Rattle.ep_text.specs.declared.key.Key.TheVariants as key
 use Rattle.ep_text.specs.declared.source.Member.{Member}
@@ -123,6 +123,27 @@ pub other_put : (ks : List Key) (name : List ℕ) (d : Data) (ms : Members) → 
 other_put ks name d no_members among none = rw among refl
 other_put ks name d (member l x ms) among none =
     other_put_at (slice_cmp nat_cmp name l) ks name l d x ms among none (other_put ks name d ms among (split (is_among ks l) (first_other ks ms) l none).1)
+
+-- ---- a list of two whole numbers
+
+pub unsigned_of : (a : Num) (n : ℕ) → as_u64 a ≡ Some n → a ≡ unsigned n
+unsigned_of (unsigned m) n e = cc
+unsigned_of (negative z) n e = absurd (cc)
+unsigned_of (float x) n e = absurd (cc)
+
+-- each item is shorter than what it is read from, so the count of the tokens is enough for both and the bracket
+pub two_read : (p : Parse Json) (ts r s rest : List Token) (a b : Data) → (after_end_array ts ≡ None) × (converted of_json (p ts) ≡ Some (a, r)) × (length r < length ts)
+    → (after_end_array r ≡ None) × (converted of_json (p r) ≡ Some (b, s)) × (length s < length r) → after_end_array s ≡ Some rest
+    → converted of_items (items p (length ts) ts) ≡ Some (item a (item b no_items), rest)
+two_read p ts r s rest a b first second closed =
+    let n = length ts in
+    item_read p n ts r a (omega (arith, first.2)) first.0 first.1
+    ∙ ap (parse_map (item a)) (item_read p (n - 1) r s b (omega (arith, first.2, second.2)) second.0 second.1
+    ∙ ap (parse_map (item b)) (items_over p (n - 1 - 1) s rest (omega (arith, first.2, second.2)) closed))
+
+pub list_read : (ts rest : List Token) (ds : Items) → converted of_items (items (value 125) (length ts) ts) ≡ Some (ds, rest)
+    → converted of_json (value flat_depth (Token.begin_array ∷ ts)) ≡ Some (array ds, rest)
+list_read ts rest ds e = ap (converted of_json) (value-begin_array flat_depth ts (omega arith)) ∙ converted_array (items (value 125) (length ts) ts) ∙ ap (parse_map array) e
 
 -- ---- an object that is all of a text
 

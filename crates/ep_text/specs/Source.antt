@@ -1,6 +1,6 @@
 -- What a line has under its keys, as the value that it would be in a tree.
-use Rattle.std.specs.Prelude.{List, [], ◌∷◌}
-use Rattle.serde_json.specs.Data.{Data, Members, boolean, no_members, number, object, put, string}
+use Rattle.std.specs.Prelude.{List, [], ◌∷◌, ℕ}
+use Rattle.serde_json.specs.Data.{Data, Items, Members, array, boolean, item, no_items, no_members, number, object, put, string, unsigned}
 use Rattle.serde_json.specs.View.{number_view, view}
 use Rattle.ep_text.specs.declared.source.Found.{Found}
 use Rattle.ep_text.specs.declared.source.Found.TheVariants as found
@@ -9,10 +9,15 @@ use Rattle.ep_text.specs.declared.source.Source.{Source}
 use Rattle.ep_text.specs.declared.source.Source.TheVariants as source
 use Rattle.ep_text.specs.Key.{key_name}
 
+-- the items of a list of two whole numbers
+abbrev pub pair_items : ℕ → ℕ → Items
+pair_items m n = item (number (unsigned m)) (item (number (unsigned n)) no_items)
+
 abbrev pub found_data : Found → Data
 found_data (found.Truth b) = boolean b
 found_data (found.Number n) = number (number_view n)
 found_data (found.Text s) = string s.now
+found_data (found.Pair m n) = array (pair_items m n)
 found_data (found.Tree v) = view v.now
 
 -- the members go in one after another, so the last value of a key stays

@@ -2,7 +2,7 @@
 ghost use Rattle.std.specs.Prelude.{◌≡◌, IfOk, option_map, replicate};
 ghost use Rattle.serde_json.specs.View.{items_view};
 ghost use Rattle.ep_text.specs.Bytes.{bytes_in, fill_value, hex_value, one_of, repeated};
-ghost use Rattle.ep_text.specs.Source.{found_data, source_data};
+ghost use Rattle.ep_text.specs.Source.{found_data, pair_items, source_data};
 
 use crate::fields::fit;
 use crate::key::Key;
@@ -30,14 +30,11 @@ fn hex_bytes(alloc: Global, value: &Found<'_>) -> Result<Option<Buffer>, AllocEr
     }
 }
 
-fn byte_and_count(items: &Vec<Value>) -> Option<(u8, usize)>
-    ensures { option_map (λ p. replicate p.1 p.0) result ≡ repeated (items_view items.now.items) }
+/// These two numbers, if they are a byte and a count that a `fill` may have.
+fn byte_and_count(byte: u64, count: u64) -> Option<(u8, usize)>
+    ensures { option_map (λ p. replicate p.1 p.0) result ≡ repeated (pair_items byte count) }
 {
-    if items.len() != 2 {
-        return None;
-    }
-    let byte = u8::try_from(items[0].as_u64()?).ok()?;
-    let count = items[1].as_u64()?;
+    let byte = u8::try_from(byte).ok()?;
     if count <= MAX_FILL {
         Some((byte, count as usize))
     } else {
@@ -45,10 +42,24 @@ fn byte_and_count(items: &Vec<Value>) -> Option<(u8, usize)>
     }
 }
 
+/// The byte and the count of a list, if it is a `fill`.
+fn byte_and_count_of(items: &Vec<Value>) -> Option<(u8, usize)>
+    ensures { option_map (λ p. replicate p.1 p.0) result ≡ repeated (items_view items.now.items) }
+{
+    if items.len() != 2 {
+        return None;
+    }
+    byte_and_count(items[0].as_u64()?, items[1].as_u64()?)
+}
+
 fn fill_bytes(value: &Found<'_>) -> Option<Buffer>
     ensures { result ≡ fill_value (found_data value.now) }
 {
-    let (byte, count) = byte_and_count(value.as_array()?)?;
+    let (byte, count) = match value {
+        Found::Pair(byte, count) => byte_and_count(*byte, *count)?,
+        Found::Tree(value) => byte_and_count_of(value.as_array()?)?,
+        _ => return None,
+    };
     Some(Buffer::filled(byte, count))
 }
 

@@ -1,11 +1,11 @@
 //! Objects whose values need no memory, read a token at a time.
-ghost use Rattle.std.specs.Prelude.{◌≡◌, ◌<◌, IfOk, OnOk, Some, [], length};
-ghost use Rattle.json.specs.Json.{members, value};
-ghost use Rattle.serde_json.specs.Data.{no_members};
-ghost use Rattle.serde_json.specs.Read.{converted, max_depth, of_json, of_members};
+ghost use Rattle.std.specs.Prelude.{◌≡◌, ◌<◌, ◌-◌, IfOk, None, OnOk, Some, [], length};
+ghost use Rattle.json.specs.Json.{after_end_array, items, members, value};
+ghost use Rattle.serde_json.specs.Data.{no_members, number, unsigned};
+ghost use Rattle.serde_json.specs.Read.{converted, max_depth, of_items, of_json, of_members};
 ghost use Rattle.ep_json.specs.Text.{whole};
 ghost use Rattle.ep_text.specs.Flat.{flat_depth};
-ghost use Rattle.ep_text.specs.Source.{flat_data, found_data, put_all};
+ghost use Rattle.ep_text.specs.Source.{flat_data, found_data, pair_items, put_all};
 
 use crate::key::Key;
 use crate::source::{Found, Member};
@@ -22,7 +22,43 @@ pub(crate) type Members<'a> = ArrayVec<Member<'a>, MOST_MEMBERS>;
 #[derive(Clone, Copy)]
 pub(crate) struct NotFlat;
 
-/// A value that is no list and no object, and not null.
+/// A number without a sign, a point or an exponent that has 64 bits.
+fn whole_number(reader: &mut Reader<'_>) -> Result<u64, NotFlat>
+    ensures value { IfOk result (λ n. converted of_json (value (flat_depth - 1) reader.old)
+        ≡ Some (number (unsigned n), reader.new)) }
+    ensures item { OnOk result (after_end_array reader.old ≡ None) }
+    ensures shorter { OnOk result (length reader.new < length reader.old) }
+{
+    let Some(Token::Number(text)) = reader.next() else {
+        return Err(NotFlat);
+    };
+    let Some(number) = parse_number(text) else {
+        return Err(NotFlat);
+    };
+    match number.as_u64() {
+        Some(whole) => Ok(whole),
+        None => Err(NotFlat),
+    }
+}
+
+/// The rest of a list of just two whole numbers, behind the bracket that opens it.
+#[inline(never)]
+fn number_pair(reader: &mut Reader<'_>) -> Result<(u64, u64), NotFlat>
+    ensures value { IfOk result (λ p. converted of_items
+        (items (value (flat_depth - 1)) (length reader.old) reader.old)
+        ≡ Some (pair_items p.0 p.1, reader.new)) }
+    ensures shorter { OnOk result (length reader.new < length reader.old) }
+{
+    let first = whole_number(reader)?;
+    let second = whole_number(reader)?;
+    if reader.take_end_array() {
+        Ok((first, second))
+    } else {
+        Err(NotFlat)
+    }
+}
+
+/// A truth value, a number, a text, or a list of two whole numbers.
 fn plain_value<'a>(reader: &mut Reader<'a>) -> Result<Found<'a>, NotFlat>
     ensures value { IfOk result (λ found. converted of_json (value flat_depth reader.old)
         ≡ Some (found_data found, reader.new)) }
@@ -38,6 +74,10 @@ fn plain_value<'a>(reader: &mut Reader<'a>) -> Result<Found<'a>, NotFlat>
             None => Err(NotFlat),
         },
         Token::Bool(is_true) => Ok(Found::Truth(is_true)),
+        Token::BeginArray => {
+            let (first, second) = number_pair(reader)?;
+            Ok(Found::Pair(first, second))
+        }
         _ => Err(NotFlat),
     }
 }

@@ -78,13 +78,21 @@ fn flat_command(
     }
 }
 
+/// Whether a list may be one of two whole numbers: it begins with a digit or a blank.
+fn may_be_pair(list: &[u8]) -> bool {
+    matches!(list.get(1), Some(b'0'..=b'9' | b' '))
+}
+
 /// Whether a line may well be an object whose values need no memory: it is short, begins and ends as an object does,
-/// and has no list.
+/// and has no list, or the first may be one of two whole numbers.
 fn may_be_flat(line: &[u8]) -> bool {
     line.len() <= LONGEST_FLAT
         && line.first().copied() == Some(b'{')
         && matches!(line.last(), Some(b'}' | b'\r'))
-        && memchr(b'[', line).is_none()
+        && match memchr(b'[', line) {
+            Some(at) => may_be_pair(&line[at..]),
+            None => true,
+        }
 }
 
 impl LineReader {

@@ -2,7 +2,6 @@
 ghost use Rattle.std.specs.Prelude.{◌≡◌, is_some, option_map};
 ghost use Rattle.serde_json.specs.Find.{as_array, as_bool, as_number, as_str, get, get_member};
 ghost use Rattle.serde_json.specs.Data.{no_members};
-ghost use Rattle.serde_json.specs.View.{items_view};
 ghost use Rattle.ep_text.specs.Key.{key_name};
 ghost use Rattle.ep_text.specs.Source.{found_data, put_all, source_data};
 ghost use Rattle.ep_text.specs.Values.{i64_value, u64_value};
@@ -16,6 +15,8 @@ pub(crate) enum Found<'a> {
     Truth(bool),
     Number(Number),
     Text(&'a str),
+    /// A list of two whole numbers of 64 bits.
+    Pair(u64, u64),
     /// Any value, as a tree.
     Tree(&'a Value),
 }
@@ -61,15 +62,6 @@ impl<'a> Found<'a> {
         }
     }
 
-    pub(crate) fn as_array(&self) -> Option<&'a Vec<Value>>
-        ensures { option_map (λ v. items_view v.now.items) result ≡ as_array (found_data self.now) }
-    {
-        match self {
-            Found::Tree(value) => value.as_array(),
-            _ => None,
-        }
-    }
-
     pub(crate) fn is_boolean(&self) -> bool
         ensures { result ≡ is_some (as_bool (found_data self.now)) }
     {
@@ -85,7 +77,11 @@ impl<'a> Found<'a> {
     pub(crate) fn is_array(&self) -> bool
         ensures { result ≡ is_some (as_array (found_data self.now)) }
     {
-        self.as_array().is_some()
+        match self {
+            Found::Pair(_, _) => true,
+            Found::Tree(value) => value.is_array(),
+            _ => false,
+        }
     }
 
     pub(crate) fn is_number(&self) -> bool
