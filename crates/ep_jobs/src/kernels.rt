@@ -68,7 +68,6 @@ pub(crate) fn judge<K: Kernel>(
 ) -> Result<Done, Fault> {
     run_server(run, kernel, plan, records)?;
     let text = text_of(run.alloc, kernel.history())?;
-    run.digest.note_bytes(text.as_slice());
     let count = judge_text(run.alloc, kernel.limits(), text.as_slice())?;
     run.digest.note(count as u64);
     Ok(Done {

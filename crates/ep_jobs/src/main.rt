@@ -8,7 +8,8 @@
 //! - `nest WIDTH SEED`: five levels of instances are built
 //! - `each`: all of these in small, which the gate runs
 //!
-//! Each prints what it did and a digest of all that was answered; `each` prints no digests.
+//! Each prints what it did and a digest of all that was answered; `each` prints no digests. The text of a history is in
+//! no digest, since its form may change while its records stay.
 #![tactic(auto)]
 
 mod digest;
