@@ -132,7 +132,7 @@ pub enum Call {
 }
 
 impl Call {
-    /// The same call once more; it can fail for a write of bytes alone.
+    /// The same call once more; it can fail only for a write that lists its bytes.
     pub fn copy(&self) -> Result<Call, AllocError>
         ensures ok { IfOk result (λ copy. copy ≡ self.now) }
         ensures no_bytes { HasNoBytes self.now → IsOk result }
@@ -240,7 +240,7 @@ pub enum Event {
 }
 
 impl Event {
-    /// The same event once more; it can fail for a write of bytes alone.
+    /// The same event once more; it can fail only for a write that lists its bytes.
     pub fn copy(&self) -> Result<Event, AllocError>
         ensures ok { IfOk result (λ copy. copy ≡ self.now) }
         ensures no_bytes { EventHasNoBytes self.now → IsOk result }

@@ -39,7 +39,8 @@ pub(crate) fn take_front(queue: &mut HeapCircularBuffer<u8>, n: u32) -> Result<B
     Ok(Bytes::new(bytes))
 }
 
-/// Puts this byte behind the others, so many times or as often as it fits, and answers how often.
+/// Puts this byte behind the others, so many times or as often as it fits, and answers how often. It stands out of the
+/// way of listed bytes, which most writes have.
 #[inline(never)]
 fn put_run(queue: &mut HeapCircularBuffer<u8>, byte: u8, count: usize) -> usize
     ensures count { result ≡ min count (queue.old.capacity - length queue.old.items) }

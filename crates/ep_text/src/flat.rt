@@ -41,7 +41,8 @@ fn whole_number(reader: &mut Reader<'_>) -> Result<u64, NotFlat>
     }
 }
 
-/// The rest of a list of just two whole numbers, behind the bracket that opens it.
+/// The rest of a list of just two whole numbers, behind the bracket that opens it. It stands out of the way of the
+/// other values, since few lines have a list.
 #[inline(never)]
 fn number_pair(reader: &mut Reader<'_>) -> Result<(u64, u64), NotFlat>
     ensures value { IfOk result (λ p. converted of_items
