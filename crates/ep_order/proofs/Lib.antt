@@ -6,3 +6,7 @@ pub mod ReachLemmas
 pub mod RaisedLemmas
 pub mod MarkLemmas
 pub mod EventLemmas
+pub mod OwnEndLemmas
+pub mod PresentLemmas
+pub mod EndingLemmas
+pub mod NeededLemmas

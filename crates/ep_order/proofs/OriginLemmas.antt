@@ -45,6 +45,7 @@ pub record Modified (b : State) (event : Event) (x : Watch) : Type 0 where
   pub rep : x.rep ≡ was.rep
   pub from : x.from ≡ was.from
   pub altered : IsAltered b event x
+  pub was_altered : IsAltered b event was
 
 -- one that the event added
 pub record Added (b : State) (event : Event) (x : Watch) : Type 0 where
@@ -157,7 +158,7 @@ module _ (b : State) (event : Event) where
           let w = member_of_map (modified e fd d mask tag) b.watches x m in
           let made : Watch = record (w.0) { mask = mask; tag = tag; armed = true; seen = None } in
           subst (Origin b event []) w.2 (elim (has_key e fd d w.0) as (λ c. has_key e fd d w.0 ≡ c → Origin b event [] (cond c made w.0)) [
-            | true ↦ λ is. inr (refl, inr (inl (record { was = w.0; there = w.1; number = refl; instance = refl; rep = refl; from = refl; altered = alters made is })))
+            | true ↦ λ is. inr (refl, inr (inl (record { was = w.0; there = w.1; number = refl; instance = refl; rep = refl; from = refl; altered = alters made is; was_altered = alters w.0 is })))
             | false ↦ λ is. inr (refl, inl w.1)
           ] refl),
     )

@@ -8,7 +8,7 @@ use Rattle.ep_base.specs.declared.errno.Errno.{Errno}
 use Rattle.ep_machine.specs.Deaths.{buried, die_all, dying, is_kept}
 use Rattle.ep_machine.specs.Effect.{first}
 use Rattle.ep_view.specs.KernelView.{kernel_watches, kernel_watch, ready_now, shows}
-use Rattle.ep_law.specs.Laws.{Member}
+use Rattle.ep_law.specs.Laws.{IsNoted, Member}
 use Rattle.ep_machine.specs.Lists.{is_among}
 use Rattle.ep_machine.specs.Readiness.{is_reportable}
 use Rattle.ep_machine.specs.Refusal.{refusals}
@@ -38,6 +38,7 @@ pub record Stood (b after : State) (rises : List (ℕ × ℕ)) (y : Watch) : Typ
   pub number : y.number ≡ x.number
   pub instance : y.instance ≡ x.instance
   pub rep : y.rep ≡ x.rep
+  pub noted : IsNoted x y
   pub from : is_reportable (settle b after rises) y ≡ true → y.from ≡ cond (is_among (reportable_numbers b) y.number) x.from after.n
 
 -- the end of the event
@@ -78,11 +79,11 @@ module _ (b after : State) (rises : List (ℕ × ℕ)) where
       let z : Watch = record x { from = mid.n } in
       let P : Watch → Type 0 = λ w. Stood b after rises w in
       elim (cases_Bool (not (is_among earlier x.number) && is_reportable mid x)) [
-        | inl new ↦ subst P (ap (λ (c : Bool). cond c z x) (sym new) ∙ from.2) (record { x = x; there = there; number = refl; instance = refl; rep = refl; from = λ r. sym (ap (λ (c : Bool). cond c x.from after.n) (not_among _ _ new)) })
+        | inl new ↦ subst P (ap (λ (c : Bool). cond c z x) (sym new) ∙ from.2) (record { x = x; there = there; number = refl; instance = refl; rep = refl; noted = (mid.n, refl); from = λ r. sym (ap (λ (c : Bool). cond c x.from after.n) (not_among _ _ new)) })
         | inr old ↦
             let ready : is_reportable t x ≡ true → is_reportable mid x ≡ true = λ r. sym (shows_as x x refl) ∙ r in
             subst P (ap (λ (c : Bool). cond c z x) (sym old) ∙ from.2)
-            (record { x = x; there = there; number = refl; instance = refl; rep = refl; from = λ r. sym (ap (λ (c : Bool). cond c x.from after.n) (was_among (is_among earlier x.number) (is_reportable mid x) old (ready r))) })
+            (record { x = x; there = there; number = refl; instance = refl; rep = refl; noted = (x.from, refl); from = λ r. sym (ap (λ (c : Bool). cond c x.from after.n) (was_among (is_among earlier x.number) (is_reportable mid x) old (ready r))) })
       ] where
         not_among : (a r : Bool) → (not a && r) ≡ true → a ≡ false
         not_among false r h = refl

@@ -4,3 +4,4 @@ pub mod Step
 pub mod Reach
 pub mod Mark
 pub mod Event
+pub mod Ending

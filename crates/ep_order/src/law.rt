@@ -1,4 +1,5 @@
 //! The laws. Each is the contract of a function that does nothing.
+ghost use Rattle.ep_order.specs.Ending.{CallEndsHereOnly, ClockEndsNothing, CloseEndsNothing, UntouchedStayReportable};
 ghost use Rattle.ep_order.specs.Event.{BeginningKeepsTurns, DeadListsAreEmpty, ListsGoOn};
 ghost use Rattle.ep_order.specs.Mark.{UnmarkedAreReached};
 ghost use Rattle.ep_order.specs.Order.{FirstAreFair, StaysComplete, StaysFair};
@@ -71,3 +72,21 @@ pub fn lists_go_on()
 pub fn dead_lists_are_empty()
     ensures law { DeadListsAreEmpty }
 {}
+
+/// A bit ends only at the end of an object on which a call is made: a call on one end ends no bit at the other, a close
+/// ends none at either, and none ends as the clock goes on. Does nothing.
+pub fn bits_end_where_called()
+    ensures call { CallEndsHereOnly }
+    ensures close { CloseEndsNothing }
+    ensures clock { ClockEndsNothing }
+{}
+
+/// A registration that is reportable before an event is so after it, if it is still there and the event doesn't touch
+/// it: the event neither reports, adds or modifies it, nor is a call on what it watches. If it watches an instance,
+/// that has to be ready at the end. Which instances were said to be ready before plays no part. It rests on the law that
+/// each description has an end of its own. Does nothing.
+pub fn untouched_stay_reportable()
+    ensures law { UntouchedStayReportable }
+{
+    ep_law::laws::ends_are_apart();
+}

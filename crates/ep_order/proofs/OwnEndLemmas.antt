@@ -1,0 +1,274 @@
+-- A bit ends only at the end of an object on which a call is made.
+use Rattle.std.proofs.Common.{◌≡◌, ◌≢◌, ◌≤◌, ◌<◌, ◌+◌, ◌-◌, ◌/◌, ◌==◌, ◌&&◌, ◌||◌, ◌++◌, ◌∙◌, ℕ, Bool, true, false, List, [], ◌∷◌, None, Option, Some, ap, arith, drop, inl, inr, length, nat_lt, if◌then◌else◌, not, refl}
+use Rattle.std.specs.Prelude.{bit_or, nat_le}
+use Rattle.std.specs.Int.{bit_at}
+use Rattle.std.proofs.lemmas.Bool.{false≢true}
+use Rattle.std.proofs.lemmas.Bool.Decides.{nat_tests}
+use Rattle.std.proofs.lemmas.List.{length-drop}
+use Rattle.std.proofs.lemmas.Nat.{le-div}
+use Rattle.std.proofs.Math.Nat.{div-mul-le_self}
+use Rattle.ep_base.specs.declared.call.Call.{Call}
+use Rattle.ep_base.specs.declared.call.Call.TheVariants.{Close, Dup, Dup2, EpollCreate, EpollCtl, EpollWait, EventFd, Exec, Exit, Fork, GetTime, Pipe as PipeCall, Plain, Read, SetTime, Shutdown, SocketPair, TimerFd, Write}
+use Rattle.ep_base.specs.declared.errno.Errno.{Errno}
+use Rattle.ep_base.specs.declared.object.End.{End}
+use Rattle.ep_base.specs.declared.object.End.TheVariants.{First, Second}
+use Rattle.ep_law.proofs.BitLemmas.{Covers, from_bits}
+use Rattle.ep_law.proofs.RaiseLemmas.{covers_self, either_bit, first_bit, last_bit, no_bit}
+use Rattle.ep_machine.specs.Bits.{ERR, HUP, IN, OUT, RDHUP, when}
+use Rattle.ep_machine.specs.Effect.{Effect, attempt, first, unless}
+use Rattle.ep_machine.specs.Lists.{is_empty}
+use Rattle.ep_machine.specs.Objects.{Object, close_end, counter, gettime, instance, object_effect, object_present, object_refusals, pair, pipe, plain, read, read_refusals, settime, shutdown, timer, write, write_refusals}
+use Rattle.ep_machine.specs.Pipe.{Pipe, pipe_present, pipe_room, pipe_taken}
+use Rattle.ep_machine.specs.Sockets.{Socket, is_over, socket_present}
+use Rattle.ep_machine.specs.Timer.{Timer, expirations_from, unread}
+use Rattle.ep_object.specs.Law.{object_has}
+use Rattle.ep_order.specs.Ending.{CallEndsHereOnly, ClockEndsNothing, CloseEndsNothing}
+
+-- each bit of the old ones is among the new
+abbrev pub Stay : ℕ → ℕ → Type 0
+Stay new old = Covers new old 0
+
+pub when_stays : (new old : Bool) (n : ℕ) → (old ≡ true → new ≡ true) → Stay (when new n) (when old n)
+when_stays new true n h i at = inl (ap (λ (b : Bool). bit_at (when b n) i) (h refl) ∙ at)
+when_stays new false n h i at = absurd (no_bit i at)
+
+or_stays : (a b c d : ℕ) → Stay a c → Stay b d → Stay (bit_or a b) (bit_or c d)
+or_stays a b c d one two i at = elim (either_bit c d i at) [
+  | inl here ↦ elim (one i here) [ inl stays ↦ inl (first_bit a b i stays) | inr none ↦ inr none ]
+  | inr there ↦ elim (two i there) [ inl stays ↦ inl (last_bit a b i stays) | inr none ↦ inr none ]
+]
+
+-- Bools.
+or_first : (a b c : Bool) → (a ≡ true → c ≡ true) → (a || b) ≡ true → (c || b) ≡ true
+or_first true b c h e = ap (λ (x : Bool). x || b) (h refl)
+or_first false b true h e = refl
+or_first false b false h e = e
+
+or_last : (a b c : Bool) → (b ≡ true → c ≡ true) → (a || b) ≡ true → (a || c) ≡ true
+or_last true b c h e = refl
+or_last false b c h e = h e
+
+and_last : (a b c : Bool) → (b ≡ true → c ≡ true) → (a && b) ≡ true → (a && c) ≡ true
+and_last true b c h e = h e
+and_last false b c h e = e
+
+-- Queues.
+some_more : (xs ys : List ℕ) → not (is_empty xs) ≡ true → not (is_empty (xs ++ ys)) ≡ true
+some_more [] ys h = absurd (false≢true h)
+some_more (x ∷ xs) ys h = refl
+
+room_left : (capacity n k : ℕ) → nat_le 4096 (capacity - k) ≡ true → nat_le 4096 (capacity - (k - n)) ≡ true
+room_left capacity n k h = grind (arith, nat_tests, h)
+
+fits_still : (capacity n k : ℕ) → nat_lt k capacity ≡ true → nat_lt (k - n) capacity ≡ true
+fits_still capacity n k h = grind (arith, nat_tests, h)
+
+-- Pipes.
+pipe_reader : (p : Pipe) (n : ℕ) → Stay (pipe_present (pipe_taken p n) Second) (pipe_present p Second)
+pipe_reader p n =
+    let room : nat_le 4096 (pipe_room p) ≡ true → nat_le 4096 (pipe_room (pipe_taken p n)) ≡ true =
+    λ h. ap (λ (k : ℕ). nat_le 4096 (p.capacity - k)) (length-drop n p.bytes) ∙ room_left p.capacity n (length p.bytes) h in
+    or_stays _ _ _ _ (when_stays _ _ OUT room) (covers_self _ 0)
+
+pipe_writer : (p : Pipe) (more : List ℕ) → Stay (pipe_present (record p { bytes = p.bytes ++ more }) First) (pipe_present p First)
+pipe_writer p more = or_stays _ _ _ _ (when_stays _ _ IN (some_more p.bytes more)) (covers_self _ 0)
+
+-- What an end of a pair shows, as the two ends become others.
+abbrev has_in : Socket → Socket → Bool
+has_in mine other = not (is_empty mine.queue) || is_over other
+
+abbrev has_hup : Socket → Socket → Bool
+has_hup mine other = other.is_closed || mine.is_shut && other.is_shut
+
+abbrev has_out : ℕ → Socket → Bool
+has_out capacity other = other.is_closed || nat_lt (length other.queue) capacity
+
+socket_stays : (capacity : ℕ) (mine other left right : Socket)
+    → (has_in mine other ≡ true → has_in left right ≡ true)
+    → (is_over other ≡ true → is_over right ≡ true)
+    → (has_hup mine other ≡ true → has_hup left right ≡ true)
+    → (has_out capacity other ≡ true → has_out capacity right ≡ true)
+    → Stay (socket_present capacity left right) (socket_present capacity mine other)
+socket_stays capacity mine other left right in_stays rdhup_stays hup_stays out_stays =
+    or_stays _ _ _ _ (when_stays (has_in left right) (has_in mine other) IN in_stays)
+    (or_stays _ _ _ _ (when_stays (is_over right) (is_over other) RDHUP rdhup_stays)
+    (or_stays _ _ _ _ (when_stays (has_hup left right) (has_hup mine other) HUP hup_stays)
+    (or_stays _ 0 _ 0 (when_stays (has_out capacity right) (has_out capacity other) OUT out_stays) (covers_self 0 0))))
+
+module _ (capacity : ℕ) (mine other : Socket) where
+  abbrev shown : ℕ
+  shown = socket_present capacity mine other
+
+  peer_reads : (n : ℕ) → Stay (socket_present capacity mine (record other { queue = drop n other.queue })) shown
+  peer_reads n =
+      let room : nat_lt (length other.queue) capacity ≡ true → nat_lt (length (drop n other.queue)) capacity ≡ true =
+      λ h. ap (λ (k : ℕ). nat_lt k capacity) (length-drop n other.queue) ∙ fits_still capacity n (length other.queue) h in
+      socket_stays capacity mine other mine (record other { queue = drop n other.queue }) (λ h. h) (λ h. h) (λ h. h) (or_last other.is_closed _ _ room)
+
+  peer_writes : (more : List ℕ) → Stay (socket_present capacity (record mine { queue = mine.queue ++ more }) other) shown
+  peer_writes more =
+      socket_stays capacity mine other (record mine { queue = mine.queue ++ more }) other (or_first _ (is_over other) _ (some_more mine.queue more)) (λ h. h) (λ h. h) (λ h. h)
+
+  peer_shuts : Stay (socket_present capacity mine (record other { is_shut = true })) shown
+  peer_shuts =
+      socket_stays capacity mine other mine (record other { is_shut = true })
+      (or_last (not (is_empty mine.queue)) _ _ (λ h. refl))
+      (λ h. refl)
+      (or_last other.is_closed _ _ (and_last mine.is_shut _ _ (λ h. refl)))
+      (λ h. h)
+
+  peer_closes : Stay (socket_present capacity mine (record other { is_closed = true })) shown
+  peer_closes =
+      let over : (other.is_shut || true) ≡ true = or_true other.is_shut in
+      socket_stays capacity mine other mine (record other { is_closed = true }) (or_last (not (is_empty mine.queue)) _ _ (λ h. over)) (λ h. over) (λ h. refl) (λ h. refl)
+    where
+      or_true : (b : Bool) → (b || true) ≡ true
+      or_true true = refl
+      or_true false = refl
+
+-- Calls.
+-- object x, of which a call makes y, shows at this end what it showed
+abbrev pub Shows : Object → Object → End → ℕ → ℕ → Type 0
+Shows x y o old new = Stay (object_present y o new) (object_present x o old)
+
+-- a call that is refused changes nothing
+unless_stays : (refusal : Option Errno) (x : Object) (f : Effect Object) (o : End) (now : ℕ) → Shows x f.1 o now now → Shows x (unless refusal x f).1 o now now
+unless_stays None x f o now h = h
+unless_stays (Some e) x f o now h = covers_self _ 0
+
+-- at an object that has the first end alone, no other end is called
+one_end : {P : Type 0} (e o : End) → e ≢ o → object_has instance e ≡ true → object_has instance o ≡ true → P
+one_end First First ne h k = absurd (ne refl)
+one_end First Second ne h k = absurd (false≢true k)
+one_end Second o ne h k = absurd (false≢true h)
+
+read_stays : (x : Object) (e o : End) (n now : ℕ) → e ≢ o → object_has x e ≡ true → object_has x o ≡ true → Shows x (attempt (read_refusals x e n now) x (read x e n now)).1 o now now
+read_stays plain e o n now ne h k = covers_self _ 0
+read_stays (pipe p) First First n now ne h k = absurd (ne refl)
+read_stays (pipe p) First Second n now ne h k = unless_stays _ (pipe p) (read (pipe p) First n now) Second now (pipe_reader p n)
+read_stays (pipe p) Second o n now ne h k = covers_self _ 0
+read_stays (pair p) First First n now ne h k = absurd (ne refl)
+read_stays (pair p) First Second n now ne h k = unless_stays _ (pair p) (read (pair p) First n now) Second now (peer_reads p.capacity p.second_end p.first_end n)
+read_stays (pair p) Second First n now ne h k = unless_stays _ (pair p) (read (pair p) Second n now) First now (peer_reads p.capacity p.first_end p.second_end n)
+read_stays (pair p) Second Second n now ne h k = absurd (ne refl)
+read_stays (counter c) e o n now ne h k = one_end e o ne h k
+read_stays (timer t) e o n now ne h k = one_end e o ne h k
+read_stays instance e o n now ne h k = covers_self _ 0
+
+write_stays : (x : Object) (e o : End) (bytes : List ℕ) (now : ℕ) → e ≢ o → object_has x e ≡ true → object_has x o ≡ true → Shows x (attempt (write_refusals x e bytes) x (write x e bytes)).1 o now now
+write_stays plain e o bytes now ne h k = covers_self _ 0
+write_stays (pipe p) First o bytes now ne h k = covers_self _ 0
+write_stays (pipe p) Second First bytes now ne h k = unless_stays (first (write_refusals (pipe p) Second bytes)) (pipe p) (write (pipe p) Second bytes) First now (pipe_writer p _)
+write_stays (pipe p) Second Second bytes now ne h k = absurd (ne refl)
+write_stays (pair p) First First bytes now ne h k = absurd (ne refl)
+write_stays (pair p) First Second bytes now ne h k = unless_stays (first (write_refusals (pair p) First bytes)) (pair p) (write (pair p) First bytes) Second now (peer_writes p.capacity p.second_end p.first_end _)
+write_stays (pair p) Second First bytes now ne h k = unless_stays (first (write_refusals (pair p) Second bytes)) (pair p) (write (pair p) Second bytes) First now (peer_writes p.capacity p.first_end p.second_end _)
+write_stays (pair p) Second Second bytes now ne h k = absurd (ne refl)
+write_stays (counter c) e o bytes now ne h k = one_end e o ne h k
+write_stays (timer t) e o bytes now ne h k = one_end e o ne h k
+write_stays instance e o bytes now ne h k = covers_self _ 0
+
+shutdown_stays : (x : Object) (e o : End) (now : ℕ) → e ≢ o → Shows x (shutdown x e).1 o now now
+shutdown_stays plain e o now ne = covers_self _ 0
+shutdown_stays (pipe p) e o now ne = covers_self _ 0
+shutdown_stays (pair p) First First now ne = absurd (ne refl)
+shutdown_stays (pair p) First Second now ne = peer_shuts p.capacity p.second_end p.first_end
+shutdown_stays (pair p) Second First now ne = peer_shuts p.capacity p.first_end p.second_end
+shutdown_stays (pair p) Second Second now ne = absurd (ne refl)
+shutdown_stays (counter c) e o now ne = covers_self _ 0
+shutdown_stays (timer t) e o now ne = covers_self _ 0
+shutdown_stays instance e o now ne = covers_self _ 0
+
+settime_stays : (x : Object) (e o : End) (absolute : Bool) (value interval now : ℕ) → e ≢ o → object_has x e ≡ true → object_has x o ≡ true → Shows x (settime x absolute value interval now).1 o now now
+settime_stays plain e o absolute value interval now ne h k = covers_self _ 0
+settime_stays (pipe p) e o absolute value interval now ne h k = covers_self _ 0
+settime_stays (pair p) e o absolute value interval now ne h k = covers_self _ 0
+settime_stays (counter c) e o absolute value interval now ne h k = covers_self _ 0
+settime_stays (timer t) e o absolute value interval now ne h k = one_end e o ne h k
+settime_stays instance e o absolute value interval now ne h k = covers_self _ 0
+
+gettime_stays : (x : Object) (o : End) (now : ℕ) → Shows x (gettime x now).1 o now now
+gettime_stays plain o now = covers_self _ 0
+gettime_stays (pipe p) o now = covers_self _ 0
+gettime_stays (pair p) o now = covers_self _ 0
+gettime_stays (counter c) o now = covers_self _ 0
+gettime_stays (timer t) o now = covers_self _ 0
+gettime_stays instance o now = covers_self _ 0
+
+-- any call, at the other end
+pub call_stays : (x : Object) (e o : End) (now : ℕ) (call : Call) → e ≢ o → object_has x e ≡ true → object_has x o ≡ true → Shows x (attempt (object_refusals x e now call) x (object_effect x e now call)).1 o now now
+call_stays x e o now (Read fd n) ne h k = read_stays x e o n now ne h k
+call_stays x e o now (Write fd bytes) ne h k = write_stays x e o bytes now ne h k
+call_stays x e o now (Shutdown fd) ne h k = unless_stays (first (object_refusals x e now (Shutdown fd))) x (shutdown x e) o now (shutdown_stays x e o now ne)
+call_stays x e o now (SetTime fd absolute value interval) ne h k =
+    unless_stays (first (object_refusals x e now (SetTime fd absolute value interval))) x (settime x absolute value interval now) o now (settime_stays x e o absolute value interval now ne h k)
+call_stays x e o now (GetTime fd) ne h k = unless_stays (first (object_refusals x e now (GetTime fd))) x (gettime x now) o now (gettime_stays x o now)
+call_stays x e o now (PipeCall cloexec) ne h k = covers_self _ 0
+call_stays x e o now (EventFd init semaphore cloexec) ne h k = covers_self _ 0
+call_stays x e o now (TimerFd clock cloexec) ne h k = covers_self _ 0
+call_stays x e o now (SocketPair cloexec) ne h k = covers_self _ 0
+call_stays x e o now (Plain cloexec) ne h k = covers_self _ 0
+call_stays x e o now (EpollCreate cloexec) ne h k = covers_self _ 0
+call_stays x e o now (EpollCtl epfd op fd mask tag) ne h k = covers_self _ 0
+call_stays x e o now (EpollWait epfd most timeout) ne h k = covers_self _ 0
+call_stays x e o now (Dup fd) ne h k = covers_self _ 0
+call_stays x e o now (Dup2 fd to) ne h k = covers_self _ 0
+call_stays x e o now (Close fd) ne h k = covers_self _ 0
+call_stays x e o now Fork ne h k = covers_self _ 0
+call_stays x e o now Exec ne h k = covers_self _ 0
+call_stays x e o now Exit ne h k = covers_self _ 0
+
+-- Closes.
+pub close_stays : (x : Object) (e o : End) (now : ℕ) → Shows x (close_end x e).0 o now now
+close_stays plain e o now = covers_self _ 0
+close_stays (pipe p) First First now = covers_self _ 0
+close_stays (pipe p) First Second now = or_stays _ _ _ _ (covers_self _ 0) (or_stays _ _ _ _ (when_stays true (not p.has_reader) ERR (λ h. refl)) (covers_self _ 0))
+close_stays (pipe p) Second First now = or_stays _ _ _ _ (covers_self _ 0) (or_stays _ _ _ _ (when_stays true (not p.has_writer) HUP (λ h. refl)) (covers_self _ 0))
+close_stays (pipe p) Second Second now = covers_self _ 0
+close_stays (pair p) First First now = covers_self _ 0
+close_stays (pair p) First Second now = peer_closes p.capacity p.second_end p.first_end
+close_stays (pair p) Second First now = peer_closes p.capacity p.first_end p.second_end
+close_stays (pair p) Second Second now = covers_self _ 0
+close_stays (counter c) e o now = covers_self _ 0
+close_stays (timer t) e o now = covers_self _ 0
+close_stays instance e o now = covers_self _ 0
+
+-- The clock.
+div_grows : (a b k : ℕ) → 0 < k → a ≤ b → a / k ≤ b / k
+div_grows a b k some le = let part = div-mul-le_self a k in le-div (a / k) b k some (omega (arith, part, le))
+
+expirations_grow : (moment : Option ℕ) (interval old new : ℕ) → old ≤ new → expirations_from moment interval old ≤ expirations_from moment interval new
+expirations_grow None interval old new le = omega arith
+expirations_grow (Some m) interval old new le = by (nat_lt old m) (nat_lt new m) (interval == 0) refl refl refl where
+  by : (a b z : Bool) → nat_lt old m ≡ a → nat_lt new m ≡ b → (interval == 0) ≡ z
+      → (if a then 0 else (if z then 1 else 1 + (old - m) / interval)) ≤ (if b then 0 else (if z then 1 else 1 + (new - m) / interval))
+  by true true z p q r = omega arith
+  by true false true p q r = omega arith
+  by true false false p q r = omega arith
+  by false true z p q r = let no : ⊥ = grind (arith, nat_tests, le, p, q) in absurd no
+  by false false true p q r = omega arith
+  by false false false p q r =
+      let some : 0 < interval = grind (arith, nat_tests, r) in
+      let grows = div_grows (old - m) (new - m) interval some (omega (arith, le)) in
+      omega (arith, grows)
+
+timer_stays : (t : Timer) (old new : ℕ) → old ≤ new → nat_lt 0 (unread t old) ≡ true → nat_lt 0 (unread t new) ≡ true
+timer_stays t old new le h = let more = expirations_grow t.first_moment t.interval old new le in grind (arith, nat_tests, more, h)
+
+pub clock_stays : (x : Object) (e : End) (old new : ℕ) → old ≤ new → Shows x x e old new
+clock_stays plain e old new le = covers_self _ 0
+clock_stays (pipe p) e old new le = covers_self _ 0
+clock_stays (pair p) e old new le = covers_self _ 0
+clock_stays (counter c) e old new le = covers_self _ 0
+clock_stays (timer t) e old new le = when_stays _ _ IN (timer_stays t old new le)
+clock_stays instance e old new le = covers_self _ 0
+
+-- The laws.
+pub call_ends_here_only : CallEndsHereOnly
+call_ends_here_only x e o now call ne h k = from_bits _ _ 0 (call_stays x e o now call ne h k)
+
+pub close_ends_nothing : CloseEndsNothing
+close_ends_nothing x e o now = from_bits _ _ 0 (close_stays x e o now)
+
+pub clock_ends_nothing : ClockEndsNothing
+clock_ends_nothing x e old new le = from_bits _ _ 0 (clock_stays x e old new le)

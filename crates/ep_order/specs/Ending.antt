@@ -1,0 +1,70 @@
+-- What an event doesn't touch stays reportable: a bit ends only at the end of an object on which a call is made.
+use Rattle.std.specs.Prelude.{◌≡◌, ◌≢◌, ◌≤◌, ◌==◌, Bool, IsTrue, List, None, Some, false, true, ℕ}
+use Rattle.ep_base.specs.Limits.{Limits}
+use Rattle.ep_base.specs.declared.call.Call.{Call}
+use Rattle.ep_base.specs.declared.call.Call.TheVariants.{GetTime, Read, SetTime, Shutdown, Write}
+use Rattle.ep_base.specs.declared.call.Event.{Event}
+use Rattle.ep_base.specs.declared.call.Event.TheVariants.{Call as CallOf}
+use Rattle.ep_base.specs.declared.object.End.{End}
+use Rattle.ep_base.specs.declared.record.Record.{Record}
+use Rattle.ep_law.specs.Laws.{Member}
+use Rattle.ep_machine.specs.Bits.{IsCovered}
+use Rattle.ep_machine.specs.Effect.{attempt, first}
+use Rattle.ep_machine.specs.Files.{named_by, object_of}
+use Rattle.ep_machine.specs.Lists.{is_among}
+use Rattle.ep_machine.specs.Objects.{Object, close_end, instance, object_effect, object_present, object_refusals}
+use Rattle.ep_machine.specs.Readiness.{is_reportable_by}
+use Rattle.ep_machine.specs.Refusal.{refusals}
+use Rattle.ep_machine.specs.Run.{run}
+use Rattle.ep_machine.specs.State.{Change, State, Watch, opening}
+use Rattle.ep_machine.specs.Step.{change, next_event}
+use Rattle.ep_object.specs.Law.{object_has}
+use Rattle.ep_order.specs.Event.{IsAltered, end_of}
+
+-- each bit that holds at this end of object x at the old moment holds there at the new one, x having become y
+abbrev pub EndsNothing : Object → Object → End → ℕ → ℕ → Type 0
+EndsNothing x y e old new = IsCovered (object_present y e new) (object_present x e old) 0
+
+-- a call on one end of an object ends no bit at the other end
+abbrev pub CallEndsHereOnly : Type 0
+CallEndsHereOnly = (x : Object) (e o : End) (now : ℕ) (call : Call)
+    → e ≢ o → IsTrue (object_has x e) → IsTrue (object_has x o)
+    → EndsNothing x (attempt (object_refusals x e now call) x (object_effect x e now call)).1 o now now
+
+-- a close of one end ends no bit at either
+abbrev pub CloseEndsNothing : Type 0
+CloseEndsNothing = (x : Object) (e o : End) (now : ℕ) → EndsNothing x (close_end x e).0 o now now
+
+-- as the clock goes on, no bit ends
+abbrev pub ClockEndsNothing : Type 0
+ClockEndsNothing = (x : Object) (e : End) (old new : ℕ) → old ≤ new → EndsNothing x x e old new
+
+-- the event is a call on the object of this description
+abbrev pub is_called : State → Event → ℕ → Bool
+is_called s (CallOf p (Read fd n)) d = named_by s.files p.0 fd.0 == d
+is_called s (CallOf p (Write fd bytes)) d = named_by s.files p.0 fd.0 == d
+is_called s (CallOf p (Shutdown fd)) d = named_by s.files p.0 fd.0 == d
+is_called s (CallOf p (SetTime fd absolute value interval)) d = named_by s.files p.0 fd.0 == d
+is_called s (CallOf p (GetTime fd)) d = named_by s.files p.0 fd.0 == d
+is_called s event d = false
+
+-- an event that picks these numbers doesn't touch registration x, if `later` says which instances are ready at its end
+pub record IsUntouched (s : State) (event : Event) (picked : List ℕ) (later : ℕ → Bool) (x : Watch) : Type 0 where
+  -- it doesn't report x,
+  pub unpicked : is_among picked x.number ≡ false
+  -- nor add or modify it,
+  pub unaltered : IsAltered s event x → ⊥
+  -- nor is it a call on what x watches;
+  pub uncalled : is_called s event x.target ≡ false
+  -- and if x watches an instance, that is ready at the end
+  pub below : object_of s.files x.target ≡ Some instance → later x.target ≡ true
+
+-- a registration that an event doesn't touch stays reportable if it stays, whatever was said of the instances before
+abbrev pub UntouchedStayReportable : Type 0
+UntouchedStayReportable = (limits : Limits) (past : List Record) (s : State) (caller : ℕ) (event : Event)
+    (picked : List ℕ) (c : Change) (ready later : ℕ → Bool) (x y : Watch)
+    → run limits opening past ≡ Some s → first (refusals limits (next_event s) caller event) ≡ None
+    → change limits (next_event s) caller event picked ≡ Some c
+    → Member x s.watches → Member y (end_of s c).watches → y.number ≡ x.number
+    → IsUntouched s event picked later x
+    → is_reportable_by ready s x ≡ true → is_reportable_by later (end_of s c) y ≡ true
