@@ -6,7 +6,7 @@ use Rattle.std.proofs.lemmas.List.Elements.{All-head, All-tail}
 use Rattle.std.specs.List.{AllByRecursion}
 use Rattle.ep_base.specs.declared.ids.DescId.{DescId}
 use Rattle.ep_base.specs.declared.mask.Mask.{Mask}
-use Rattle.ep_calls.proofs.DueLemmas.{raises_begins}
+use Rattle.ep_calls.proofs.DueLemmas.{live_all}
 use Rattle.ep_calls.specs.Raising.{bits_of, due_bits, raised_each}
 use Rattle.ep_counters.specs.Law.{NextStays, NextTellsAdvance, is_by}
 use Rattle.ep_counters.specs.Timer.{IsNextArrival}
@@ -81,7 +81,7 @@ module _ (since now : ℕ) (tells : NextTellsAdvance) where
   pub due_begins : NextStays → since ≤ now → (v : Seen) (n : ℕ) (old : Registrations) (a : Moments) → AreSet v since a → RaisesDue v since now n old a old
   due_begins stays le v n old a set = record {
     set = λ k. since_set stays le (timer_under v k) (moment_of a k) (set k);
-    told = each_same (left_bits v since now a) (due_bits v since now) n (live_ids v.keys) old.entries (each_told v a set (live_ids v.keys) (raises_begins v since now n old).live);
+    told = each_same (left_bits v since now a) (due_bits v since now) n (live_ids v.keys) old.entries (each_told v a set (live_ids v.keys) (live_all v.keys));
     keys = refl;
     added = refl;
   }

@@ -7,3 +7,4 @@ pub mod BurialLemmas
 pub mod AreSetLemmas
 pub mod FilesCallLemmas
 pub mod ObjectEffectLemmas
+pub mod ChangesLemmas

@@ -1,3 +1,4 @@
 pub mod Timers
 pub mod Alarms
+pub mod Changes
 pub mod Law

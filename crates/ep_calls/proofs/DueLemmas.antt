@@ -1,14 +1,13 @@
 -- What the clock raises, at one live description after another.
 use Rattle.std.proofs.Common.{true, false, ◌≡◌, ◌≢◌, ◌∙◌, ◌+◌, ℕ, suc, All, Bool, IsSome, List, [], ◌∷◌, None, Option, Some, ap, arith, cond, get_or, map, refl, rules, slice_index_or, subst, sym}
-use Rattle.std.proofs.lemmas.List.Elements.{All-cons, All-head, All-tail}
+use Rattle.std.proofs.lemmas.List.Elements.{All-cons}
 use Rattle.ep_base.specs.declared.ids.DescId.{DescId}
 use Rattle.ep_base.specs.declared.mask.Mask.{Mask}
-use Rattle.ep_interest.specs.Registrations.{Registrations, is_on, raised_on}
+use Rattle.ep_interest.specs.Registrations.{is_on, raised_on}
 use Rattle.ep_interest.specs.declared.entry.Entry.{Entry}
 use Rattle.ep_calls.proofs.OtherEndLemmas.{noted, zero_noted}
-use Rattle.ep_calls.specs.Raising.{due_bits, raised_each, raised_there}
+use Rattle.ep_calls.specs.Raising.{raised_there}
 use Rattle.ep_table.specs.Live.{key_of, live_from, live_ids}
-use Rattle.ep_table.specs.Value.{Seen, number_under}
 
 abbrev HasNumber : List (Option ℕ) → DescId → Type 0
 HasNumber keys id = IsSome (slice_index_or keys id.0 None)
@@ -29,13 +28,6 @@ pub raised_nowhere : (o : Option DescId) (bits : Mask) (n : ℕ) (xs : List Entr
 raised_nowhere o bits n [] h = refl
 raised_nowhere None bits n (x ∷ xs) h = ap (λ (ys : List Entry). x ∷ ys) (raised_nowhere None bits n xs h)
 raised_nowhere (Some k) bits n (x ∷ xs) h = absurd (h k refl)
-
--- those that are left are live, and with them the registrations come to what all would make of them
-pub record Raises (v : Seen) (since now n : ℕ) (old : Registrations) (left : List DescId) (new : Registrations) : Type 0 where
-  pub live : All (λ id. IsSome (number_under v id)) left
-  pub told : raised_each (due_bits v since now) n left new.entries ≡ raised_each (due_bits v since now) n (live_ids v.keys) old.entries
-  pub keys : new.keys ≡ old.keys
-  pub added : new.added ≡ old.added
 
 next_key : (j i : ℕ) → j + 1 + i ≡ j + suc i
 next_key j i = omega arith
@@ -65,18 +57,3 @@ zero_plus k = omega arith
 
 pub live_all : (keys : List (Option ℕ)) → All (HasNumber keys) (live_ids keys)
 live_all keys = live_after keys 0 keys (λ i. ap (λ (n : ℕ). slice_index_or keys n None) (zero_plus i))
-
-pub raises_begins : (v : Seen) (since now n : ℕ) (old : Registrations) → Raises v since now n old (live_ids v.keys) old
-raises_begins v since now n old = record { live = live_all v.keys; told = refl; keys = refl; added = refl }
-
-pub first_live : (v : Seen) (since now n : ℕ) (old new : Registrations) (id : DescId) (left : List DescId) → Raises v since now n old (id ∷ left) new → IsSome (number_under v id)
-first_live v since now n old new id left h = All-head (λ k. IsSome (number_under v k)) id left h.live
-
-pub raises_more : (v : Seen) (since now n : ℕ) (old mid new : Registrations) (id : DescId) (left : List DescId) → Raises v since now n old (id ∷ left) mid
-    → new.entries ≡ map (raised_on id (due_bits v since now id) n) mid.entries → new.keys ≡ mid.keys → new.added ≡ mid.added → Raises v since now n old left new
-raises_more v since now n old mid new id left h entries keys added = record {
-  live = All-tail (λ k. IsSome (number_under v k)) id left h.live;
-  told = ap (raised_each (due_bits v since now) n left) entries ∙ h.told;
-  keys = keys ∙ h.keys;
-  added = added ∙ h.added;
-}

@@ -34,6 +34,7 @@ pub mod PartsLemmas
 pub mod DeathLemmas
 pub mod ActLemmas
 pub mod ObjectLemmas
+pub mod ClockLemmas
 pub mod ControlLemmas
 pub mod KeepsLemmas
 pub mod StepLemmas

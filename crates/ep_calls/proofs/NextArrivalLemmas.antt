@@ -1,5 +1,5 @@
 -- What arrives at timers, by the keys of the descriptions that live and by their numbers.
-use Rattle.std.proofs.Common.{◌≡◌, ◌∙◌, ◌+◌, ◌||◌, ℕ, zero, suc, All, Bool, true, false, IsSome, List, [], ◌∷◌, None, Option, Some, ap, arith, get_or, inl, inr, is_some, nat_lt, refl, sym, unwrap_or}
+use Rattle.std.proofs.Common.{◌≡◌, ◌∙◌, ◌+◌, ◌||◌, ℕ, zero, suc, Bool, true, false, IsSome, List, [], ◌∷◌, None, Option, Some, ap, arith, get_or, inl, inr, is_some, nat_lt, refl, sym, unwrap_or}
 use Rattle.std.specs.List.{list_any}
 use Rattle.std.proofs.lemmas.Bool.{cases_Bool, false≢true}
 use Rattle.ep_base.specs.declared.ids.DescId.{DescId}
@@ -9,15 +9,12 @@ use Rattle.ep_machine.specs.Files.{Place, object_at, place_of}
 use Rattle.ep_machine.specs.Lists.{numbered}
 use Rattle.ep_machine.specs.Objects.{Object, advance, counter, instance, pair, pipe, plain, timer}
 use Rattle.ep_machine.specs.Waits.{is_due}
-use Rattle.ep_calls.proofs.DueLemmas.{live_all}
-use Rattle.ep_calls.proofs.FindLemmas.{same_bools}
 use Rattle.ep_calls.specs.Arrivals.{arrives_at, arrives_by}
 use Rattle.ep_calls.specs.Raising.{clock_bits}
 use Rattle.ep_law.proofs.TestLemmas.{or_right}
 use Rattle.ep_object.specs.Next.{IsNextMoment}
-use Rattle.ep_table.specs.Live.{key_of, live_from, live_ids}
+use Rattle.ep_table.specs.Live.{key_of}
 use Rattle.ep_table.specs.Value.{Seen, Sound, number_under, unwrapped}
-use Rattle.std.proofs.lemmas.List.Elements.{All-tail}
 
 -- What is there, each with its number.
 next_number : (j i : ℕ) → j + 1 + i ≡ j + suc i
@@ -54,11 +51,6 @@ module _ {X : Type 0} (test : ℕ × X → Bool) where
   any_passing j (suc i) x (None ∷ xs) there h = any_passing (j + 1) i x xs there (ap (λ (k : ℕ). test (k, x)) (next_number j i) ∙ h)
   any_passing j (suc i) x (Some y ∷ xs) there h =
       or_right (test (j, y)) (list_any test (numbered (j + 1) xs)) (any_passing (j + 1) i x xs there (ap (λ (k : ℕ). test (k, x)) (next_number j i) ∙ h))
-
-any_live : (p : DescId → Bool) (j : ℕ) (keys : List (Option ℕ)) → list_any p (live_from j keys) ≡ list_any (λ x. p (key_of x.0)) (numbered j keys)
-any_live p j [] = refl
-any_live p j (None ∷ keys) = any_live p (j + 1) keys
-any_live p j (Some n ∷ keys) = ap (λ (b : Bool). p (key_of j) || b) (any_live p (j + 1) keys)
 
 zero_plus : (k : ℕ) → 0 + k ≡ k
 zero_plus k = omega arith
@@ -113,10 +105,6 @@ module _ (v : Seen) (since now : ℕ) (sound : Sound v) where
       let one = passing of_key 0 v.keys (to_keys h) in
       record { key = one.place; number = one.thing; is = one.there; arrives = ap (λ (k : ℕ). arrives_at v since now (key_of k)) (sym (zero_plus one.place)) ∙ one.passes }
 
-  -- by keys as by numbers
-  pub arrives_by_keys : list_any (arrives_at v since now) (live_ids v.keys) ≡ arrives_by v.files since now
-  arrives_by_keys = any_live (arrives_at v since now) 0 v.keys ∙ same_bools (list_any of_key (numbered 0 v.keys)) (arrives_by v.files since now) to_numbers to_keys
-
 -- What one object tells of its next moment.
 bit_is : (b : Bool) → nat_lt 0 (when b IN) ≡ b
 bit_is true = refl
@@ -136,32 +124,3 @@ arrival_told law (pair p) since now next h = never next now h
 arrival_told law (counter c) since now next h = never next now h
 arrival_told law (timer t) since now next h = ap (λ (bits : ℕ). nat_lt 0 bits) (law t since now next h) ∙ (bit_is (is_by next now) ∙ by_is_due next now)
 arrival_told law instance since now next h = never next now h
-
--- those that are left are live, and with them the moments come to what all tell
-pub record Arrives (v : Seen) (since : ℕ) (left : List DescId) (first : Option ℕ) : Type 0 where
-  pub live : All (λ id. IsSome (number_under v id)) left
-  pub told : (now : ℕ) → (is_due now first || list_any (arrives_at v since now) left) ≡ list_any (arrives_at v since now) (live_ids v.keys)
-
-pub arrives_begins : (v : Seen) (since : ℕ) → Arrives v since (live_ids v.keys) None
-arrives_begins v since = record { live = live_all v.keys; told = λ now. refl }
-
-or_in_turn : (a b c : Bool) → (a || b || c) ≡ (a || (b || c))
-or_in_turn true b c = refl
-or_in_turn false b c = refl
-
-pub arrives_more : (v : Seen) (since : ℕ) (id : DescId) (left : List DescId) (first next new : Option ℕ) → Arrives v since (id ∷ left) first
-    → ((now : ℕ) → arrives_at v since now id ≡ is_due now next) → ((now : ℕ) → is_due now new ≡ (is_due now first || is_due now next)) → Arrives v since left new
-arrives_more v since id left first next new h one earlier = record {
-  live = All-tail (λ k. IsSome (number_under v k)) id left h.live;
-  told = λ now.
-      let rest = list_any (arrives_at v since now) left in
-      ap (λ (b : Bool). b || rest) (earlier now ∙ ap (λ (b : Bool). is_due now first || b) (sym (one now)))
-      ∙ (or_in_turn (is_due now first) (arrives_at v since now id) rest ∙ h.told now);
-}
-
-or_false : (b : Bool) → (b || false) ≡ b
-or_false true = refl
-or_false false = refl
-
-pub arrives_ends : (v : Seen) (since : ℕ) (first : Option ℕ) → Sound v → Arrives v since [] first → (now : ℕ) → is_due now first ≡ arrives_by v.files since now
-arrives_ends v since first sound h now = sym (or_false (is_due now first)) ∙ (h.told now ∙ arrives_by_keys v since now sound)

@@ -16,7 +16,7 @@ use Rattle.ep_machine.specs.Bits.{IN, asked, at_end, when}
 use Rattle.ep_machine.specs.Counts.{brings}
 use Rattle.ep_machine.specs.Files.{Place, object_at, object_number, place_of, side_of}
 use Rattle.ep_machine.specs.Objects.{advance, plain}
-use Rattle.ep_calls.specs.Raising.{IsRaising, Stirs, bits_of, clock_bits, due_bits, object_bits, raised_bits, raised_each, raised_there}
+use Rattle.ep_calls.specs.Raising.{IsRaising, IsUntimed, Stirs, bits_of, clock_bits, due_bits, object_bits, raised_bits, raised_each, raised_there}
 use Rattle.ep_calls.specs.Stands.{AreLinked, IsLinked, number_at, watch_at}
 use Rattle.ep_calls.specs.declared.raising.Raising.{Raising}
 use Rattle.ep_calls.specs.declared.raising.Raising.TheVariants.{Clock, Instance, Nowhere, Object}
@@ -229,3 +229,10 @@ stirs_added Nowhere v now n old new h = ap (λ (r : Registrations). r.added) h
 stirs_added (Object desc raised) v now n old new h = h.added
 stirs_added (Instance desc) v now n old new h = h.1
 stirs_added (Clock since) v now n old new h = h.1
+
+-- what isn't raised by the clock
+pub untimed : (raising : Raising) → ((since : ℕ) → raising ≡ Clock since → ⊥) → IsUntimed raising
+untimed Nowhere none = tt
+untimed (Object desc raised) none = tt
+untimed (Instance desc) none = tt
+untimed (Clock since) none = none since refl

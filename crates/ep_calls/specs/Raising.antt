@@ -34,6 +34,11 @@ IsRaising (Object desc raised) v =
 IsRaising (Instance desc) v = IsSome (number_under v desc)
 IsRaising (Clock since) v = since ≤ last_moment
 
+-- the clock is not what raises
+abbrev pub IsUntimed : Raising → Type 0
+IsUntimed (Clock since) = ⊥
+IsUntimed raising = Unit {0}
+
 -- at a description, where there is one
 abbrev pub raised_there : Option DescId → Mask → ℕ → Entry → Entry
 raised_there None bits n x = x

@@ -8,6 +8,7 @@ ghost use Rattle.ep_machine.specs.State.{Waiter};
 ghost use Rattle.ep_machine.specs.Watches.{is_add, is_legal};
 ghost use Rattle.ep_nest.specs.Links.{edges, without};
 ghost use Rattle.ep_calls.specs.Climb.{AreNested, KeepsLinks};
+ghost use Rattle.ep_calls.specs.Clock.{ClockStays};
 ghost use Rattle.ep_calls.specs.Control.{Alters, ChangesIf, Controls, EntersAt, IsBelow, IsPlan, Names, TellsBelow, addition, code_of, control_call, is_deep_at, is_done, is_refused_op, raising_of_ctl, naming_refusals, next_entry, next_link, raising_after, room_refusals};
 ghost use Rattle.ep_calls.specs.Last.{NothingRefusesCall};
 ghost use Rattle.ep_interest.specs.Registrations.{GainsKey, has_key, number_under as number_of_entry};
@@ -491,6 +492,9 @@ impl Parts {
             (λ outcome. (n caller : ℕ)
             → DoesCall n caller pid.0 (control_call args) outcome self.old self.new) }
         ensures ids { HadOrAdds self.old.interest self.new.interest }
+        ensures tables { self.new.tables ≡ self.old.tables }
+        ensures clock { IfOk result
+            (λ outcome. ClockStays outcome.raising self.old.clock self.new.clock) }
         ensures last { OnErr result (NothingRefusesCall self.old pid.0 (control_call args)) }
         ensures room { has_room ≡ false → self.new.interest.added ≡ self.old.interest.added }
         ensures spared { is_add args.op ≡ false → IsOk result }

@@ -6,7 +6,6 @@ mod bury;
 mod clock;
 mod control;
 mod driver;
-mod due;
 mod kernel;
 mod object_call;
 mod outcome;

@@ -1,15 +1,12 @@
 //! What an event raises, and the registrations that it makes fresh.
-ghost use Rattle.std.specs.Prelude.{◌≡◌, ◌≤◌, IsSome, length, map};
+ghost use Rattle.std.specs.Prelude.{◌≡◌, IsSome, map, ℕ};
 ghost use Rattle.ep_interest.specs.Registrations.{raised_on};
 ghost use Rattle.ep_machine.specs.Bits.{at_end as bits_at};
-ghost use Rattle.ep_machine.specs.Timer.{last_moment};
-ghost use Rattle.ep_calls.specs.Raising.{IsRaising, RaisesObject, Stirs, due_bits, raised_each, raised_there};
+ghost use Rattle.ep_calls.specs.Raising.{IsRaising, IsUntimed, RaisesObject, Stirs, raised_there};
 ghost use Rattle.ep_table.specs.Closing.{opposite};
-ghost use Rattle.ep_table.specs.Live.{live_ids};
 ghost use Rattle.ep_table.specs.Value.{number_under};
 
 use crate::Parts;
-use crate::due::raise_due;
 use bitflags::Flags;
 use ep_base::{DescId, End, Mask, Raised};
 use ep_interest::Interest;
@@ -87,31 +84,32 @@ fn raise_object(tables: &Tables, interest: &mut Interest, desc: DescId, raised: 
     );
 }
 
-/// Notes in registrations what an event raised.
-fn raise_all(tables: &Tables, interest: &mut Interest, raising: Raising, now: u64, step: u64)
+/// Notes in registrations what an event raised other than by the clock.
+fn raise_all(tables: &Tables, interest: &mut Interest, raising: Raising, step: u64)
     requires raising { IsRaising raising tables.now }
-    requires now { now ≤ last_moment }
-    ensures stirs { Stirs raising tables.now now step interest.old interest.new }
+    requires untimed { IsUntimed raising }
+    ensures stirs { (now : ℕ) → Stirs raising tables.now now step interest.old interest.new }
     ensures keys { interest.new.keys ≡ interest.old.keys }
 {
     match raising {
         Raising::Nowhere => {}
         Raising::Object { desc, raised } => raise_object(tables, interest, desc, raised, step),
         Raising::Instance { desc } => raise_at(interest, desc, Mask::IN, step),
-        Raising::Clock { since } => raise_due(tables, interest, since, now, step),
+        Raising::Clock { .. } => unreachable!(),
     }
 }
 
 impl Parts {
-    /// Notes in registrations what an event raised.
+    /// Notes in registrations what an event raised other than by the clock.
     pub fn raise(&mut self, step: u64, raising: Raising)
-        requires { IsRaising raising self.old.tables }
+        requires raises { IsRaising raising self.old.tables }
+        requires untimed { IsUntimed raising }
         ensures stirs { Stirs raising self.old.tables self.old.clock step self.old.interest
             self.new.interest }
         ensures ids { self.new.interest.keys ≡ self.old.interest.keys }
         ensures others { self.new ≡ record self.old { interest = self.new.interest } }
     {
         self.tables.known();
-        raise_all(&self.tables, &mut self.interest, raising, self.clock, step);
+        raise_all(&self.tables, &mut self.interest, raising, step);
     }
 }

@@ -30,7 +30,6 @@ pub mod HopesGoLemmas
 pub mod HopesForLemmas
 pub mod ReadinessLemmas
 pub mod MarkLemmas
-pub mod TimersLemmas
 pub mod WaitedLemmas
 pub mod ArriveLemmas
 pub mod FewLemmas

@@ -11,5 +11,4 @@ pub mod Reach
 pub mod Turns
 pub mod Control
 pub mod Wait
-pub mod Timers
 pub mod Running

@@ -8,7 +8,7 @@ ghost use Rattle.ep_calls.specs.Last.{NothingRefuses, NothingRefusesCall};
 ghost use Rattle.ep_calls.specs.Spared.{IsSpared, TakesNoMemory};
 ghost use Rattle.ep_calls.specs.TableCall.{MakesTimer};
 ghost use Rattle.ep_kernel.specs.Listed.{HopesFor, IsListed};
-ghost use Rattle.ep_kernel.specs.Timers.{CallsTables, MayCreate, MovesClock, TouchesTables};
+ghost use Rattle.ep_alarms.specs.Changes.{CallsTables, MayCreate, MovesClock, TouchesTables};
 ghost use Rattle.ep_kernel.specs.Turns.{HopesGo, Turns};
 ghost use Rattle.ep_kernel.specs.Wait.{DoesCallFairly, DoesEventFairly, ReportsInOrder};
 ghost use Rattle.ep_machine.specs.Files.{table_of};

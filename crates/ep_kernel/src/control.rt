@@ -8,7 +8,7 @@ ghost use Rattle.ep_calls.specs.declared.control.Operation.TheVariants.{Add};
 ghost use Rattle.ep_interest.specs.Registrations.{entry_under};
 ghost use Rattle.ep_kernel.specs.Control.{Settles};
 ghost use Rattle.ep_kernel.specs.Listed.{HopesFor, IsListed};
-ghost use Rattle.ep_kernel.specs.Timers.{LeavesFiles};
+ghost use Rattle.ep_alarms.specs.Changes.{LeavesFiles};
 ghost use Rattle.ep_kernel.specs.Turns.{HopesGo, Turns};
 ghost use Rattle.ep_machine.specs.Watches.{is_add};
 ghost use Rattle.ep_ready.specs.ReadyLists.{GainsPlace, Same, instance_at};

@@ -14,7 +14,6 @@ mod readiness;
 mod ready;
 mod settle;
 mod take;
-mod timers;
 mod wait;
 
 pub use crate::ready::ReadyKernel;

@@ -16,7 +16,6 @@ use crate::act::{Request, act};
 use crate::asked::Asked;
 use crate::mark::{attend, mark, resumed_at};
 use crate::settle::{know, settle};
-use crate::timers::{follow, make_room};
 use ep_alarms::Alarms;
 use ep_base::{Answer, CallerId, Errno, Event, Limits, Record};
 use ep_calls::{Kernel, Parts, Spare};
@@ -116,7 +115,7 @@ impl ReadyKernel {
         ensures err_lists { OnErr result (self.new.lists ≡ self.old.lists) }
     {
         self.history.reserve(1)?;
-        let has_room = make_room(&mut self.alarms, &event);
+        let has_room = self.alarms.make_room(&event);
         let step = self.history.len() as u64 + 1;
         lists_go_on();
         ends_are_apart();
@@ -138,7 +137,7 @@ impl ReadyKernel {
             request,
             &event,
         )?;
-        follow(&self.parts, &mut self.alarms, &event, &outcome, has_room);
+        self.alarms.follow(&self.parts, &event, &outcome, has_room);
         let raising = outcome.raising;
         let (answer, spare, record) = outcome.into_record(caller, event, kept);
         settle(

@@ -6,13 +6,12 @@ ghost use Rattle.ep_calls.specs.Raising.{IsRaising};
 ghost use Rattle.ep_interest.specs.Registrations.{IsSound};
 ghost use Rattle.ep_kernel.specs.Listed.{HavePlaces};
 ghost use Rattle.ep_kernel.specs.Running.{SettledBoth};
-ghost use Rattle.ep_kernel.specs.Timers.{AreSetSince};
+ghost use Rattle.ep_alarms.specs.Changes.{AreSetSince};
 ghost use Rattle.ep_table.specs.Value.{Sound};
 
 use crate::asked::Asked;
 use crate::climb::climb;
 use crate::places::drop_dying;
-use crate::timers::raise;
 use ep_alarms::{Alarms, burial_leaves_alarms};
 use ep_calls::{Parts, Raising};
 use ep_ready::ReadyLists;
@@ -48,7 +47,7 @@ pub fn settle(
     ensures set { AreSet parts.new.tables parts.new.clock alarms.new }
 {
     know(parts);
-    raise(parts, alarms, step, raising);
+    alarms.raise(parts, step, raising);
     know(parts);
     drop_dying(parts, lists, &mut asked.hopes);
     burial_leaves_alarms();

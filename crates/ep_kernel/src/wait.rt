@@ -6,7 +6,7 @@ ghost use Rattle.ep_calls.specs.Kept.{IsKept};
 ghost use Rattle.ep_calls.specs.Last.{NothingRefuses, NothingRefusesCall};
 ghost use Rattle.ep_calls.specs.Wait.{wait_call};
 ghost use Rattle.ep_kernel.specs.Listed.{HopesFor, IsListed};
-ghost use Rattle.ep_kernel.specs.Timers.{LeavesFiles};
+ghost use Rattle.ep_alarms.specs.Changes.{LeavesFiles};
 ghost use Rattle.ep_kernel.specs.Turns.{HopesGo, Turns};
 ghost use Rattle.ep_kernel.specs.Wait.{DoesCallFairly, DoesEventFairly, ReportsInOrder};
 ghost use Rattle.ep_machine.specs.Waits.{is_positive};

@@ -2,6 +2,7 @@
 use Rattle.std.proofs.Common.{◌≡◌, ◌∙◌, ◌==◌, ◌&&◌, ◌||◌, ℕ, zero, suc, All, Bool, List, [], ◌∷◌, None, Option, ap, map, nat_lt, refl, slice_index_or, subst, sym}
 use Rattle.std.specs.List.{list_any}
 use Rattle.std.proofs.lemmas.List.Elements.{All-cons, All-head, All-tail}
+use Rattle.ep_alarms.specs.Alarms.{AreSet}
 use Rattle.ep_calls.proofs.KeepsLemmas.{Settles}
 use Rattle.ep_calls.specs.Climb.{Climbs}
 use Rattle.ep_calls.specs.Parking.{ready_key}
@@ -9,6 +10,7 @@ use Rattle.ep_calls.specs.Parts.{Parts}
 use Rattle.ep_calls.specs.Readiness.{entry_shows, readiness}
 use Rattle.ep_calls.specs.Stands.{IsLinked, number_at, watch_at}
 use Rattle.ep_calls.specs.declared.raising.Raising.{Raising}
+use Rattle.ep_due.specs.DueMap.{Moments}
 use Rattle.ep_interest.specs.Registrations.{Registrations, settled}
 use Rattle.ep_interest.specs.declared.entry.Entry.{Entry}
 use Rattle.ep_machine.specs.Files.{Files}
@@ -122,3 +124,9 @@ rests_so p = record {
   marks = refl;
   marked_others = refl;
 }
+
+-- each timer keeps its moment
+pub set_rested : (old new : Parts) (a : Moments) → Rests old new → AreSet old.tables old.clock a → AreSet new.tables new.clock a
+set_rested old new a rests set =
+    subst (λ (p : Parts). AreSet p.tables p.clock a) (sym rests.marked_others)
+    (subst (λ (p : Parts). AreSet p.tables p.clock a) (sym rests.others) set)

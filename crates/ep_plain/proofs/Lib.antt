@@ -8,6 +8,7 @@ pub mod DatingLemmas
 pub mod EachWaiterLemmas
 pub mod EndLemmas
 pub mod EntryLemmas
+pub mod LeavesLemmas
 pub mod MarkLemmas
 pub mod PassLemmas
 pub mod ReasonLemmas

@@ -1,5 +1,6 @@
 -- What contracts see of the kernel, and what holds of it.
 use Rattle.std.specs.Prelude.{List, length, min, vec_capacity, ℕ, ◌+◌, ◌-◌, ◌<◌, ◌≤◌}
+use Rattle.ep_alarms.specs.Alarms.{AreSet}
 use Rattle.ep_base.specs.declared.record.Record.{Record}
 use Rattle.ep_calls.specs.Book.{Book}
 use Rattle.ep_calls.specs.Keeps.{Keeps}
@@ -25,5 +26,7 @@ pub record Standing (past : List Record) (p : Parts) (d : Dating) : Type 0 where
   pub count : length d.keys.items ≤ dated_count d.since.items
   pub room : p.interest.added < vec_capacity d.keys
 
-abbrev pub IsStanding : Inside → Type 0
-IsStanding k = Standing k.history.items k.parts k.dating
+-- the same, and each timer has its moment
+pub record IsStanding (k : Inside) : Type 0 where
+  pub standing : Standing k.history.items k.parts k.dating
+  pub set : AreSet k.parts.tables k.parts.clock k.alarms

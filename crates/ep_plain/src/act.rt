@@ -1,14 +1,17 @@
 //! One event.
 ghost use Rattle.std.specs.Prelude.{◌≡◌, IfOk, IsOk, OnErr, false, is_some, true};
 ghost use Rattle.std.specs.List.{list_any};
+ghost use Rattle.ep_alarms.specs.Changes.{CallsTables, MayCreate, MovesClock, TouchesTables};
 ghost use Rattle.ep_base.specs.declared.call.Event.TheVariants.{Call as CallOf};
 ghost use Rattle.ep_machine.specs.Files.{table_of};
 ghost use Rattle.ep_park.specs.Waiters.{is_caller};
+ghost use Rattle.ep_calls.specs.Clock.{ClockStays};
 ghost use Rattle.ep_calls.specs.Does.{DoesCall, DoesEvent};
 ghost use Rattle.ep_calls.specs.Ids.{HadOrAdds};
 ghost use Rattle.ep_calls.specs.Kept.{KeepsCall, KeepsEvent};
 ghost use Rattle.ep_calls.specs.Last.{NothingRefuses, NothingRefusesCall};
 ghost use Rattle.ep_calls.specs.Spared.{IsSpared, TakesNoMemory};
+ghost use Rattle.ep_calls.specs.TableCall.{MakesTimer};
 ghost use Rattle.ep_plain.specs.Altered.{NeedsRoom};
 ghost use Rattle.ep_plain.specs.Choose.{Tells};
 ghost use Rattle.ep_plain.specs.Dating.{dated_of};
@@ -21,7 +24,7 @@ use ep_calls::{Control, Outcome, Parts, Wait};
 use std::alloc::AllocError;
 
 /// A call of a process that is there. `kept`: a second record of it is asked for. An `Err` is want of memory, or of
-/// room for the key of what it would add. It leaves the parts, and comes only if nothing refuses the call.
+/// room for what it would add. It leaves the parts, and comes only if nothing refuses the call.
 fn make_call(
     parts: &mut Parts,
     stamp: Stamp,
@@ -37,6 +40,12 @@ fn make_call(
     ensures ok { IfOk result
         (λ outcome. DoesCall stamp.step stamp.caller.0 pid.0 call.now outcome parts.old
         parts.new) }
+    ensures tables { IfOk result
+        (λ outcome. CallsTables pid.0 call.now outcome.answer parts.old parts.new) }
+    ensures clock { IfOk result
+        (λ outcome. ClockStays outcome.raising parts.old.clock parts.new.clock) }
+    ensures timers { stamp.has_room ≡ false → MakesTimer call.now
+        → parts.new.tables ≡ parts.old.tables }
     ensures ids { HadOrAdds parts.old.interest parts.new.interest }
     ensures kept { IfOk result (λ outcome. KeepsCall call.now kept outcome) }
     ensures room { NeedsRoom (CallOf pid call.now) stamp.has_room parts.old.interest
@@ -77,13 +86,13 @@ fn make_call(
         | Call::Shutdown { fd }
         | Call::SetTime { fd, .. }
         | Call::GetTime { fd } => parts.object_call(pid, fd, call, kept),
-        _ => parts.table_call(pid, call, true),
+        _ => parts.table_call(pid, call, stamp.has_room),
     }
 }
 
 /// One event: its refusal, ESRCH first for a call, or its change. `kept`: a second record of it is asked for.
-/// An `Err` is want of memory, or of room for the key of what it would add. It leaves the parts. It comes of no event
-/// that `IsSpared` names, and only if nothing refuses the event.
+/// An `Err` is want of memory, or of room for what it would add. It leaves the parts. It comes of no event that
+/// `IsSpared` names, and only if nothing refuses the event.
 pub fn act(
     parts: &mut Parts,
     stamp: Stamp,
@@ -95,6 +104,12 @@ pub fn act(
         (dated_of dating.now) }
     ensures ok { IfOk result
         (λ outcome. DoesEvent stamp.step stamp.caller.0 event.now outcome parts.old parts.new) }
+    ensures tables { IfOk result
+        (λ outcome. TouchesTables event.now outcome.answer parts.old parts.new) }
+    ensures clock { IfOk result
+        (λ outcome. MovesClock event.now outcome.raising parts.old.clock parts.new.clock) }
+    ensures timers { stamp.has_room ≡ false → MayCreate event.now
+        → parts.new.tables ≡ parts.old.tables }
     ensures ids { HadOrAdds parts.old.interest parts.new.interest }
     ensures kept { IfOk result (λ outcome. KeepsEvent event.now kept outcome) }
     ensures room { NeedsRoom event.now stamp.has_room parts.old.interest parts.new.interest }

@@ -9,6 +9,7 @@ mod each_waiter;
 mod mark;
 mod pick;
 mod plain;
+mod room;
 mod settle;
 mod since;
 mod stamp;

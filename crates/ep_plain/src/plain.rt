@@ -9,24 +9,28 @@ ghost use Rattle.ep_machine.specs.Refusal.{refusals};
 ghost use Rattle.ep_machine.specs.Step.{next_event, step as step_of};
 ghost use Rattle.ep_plain.specs.StepWith.{AddsBy, HasStep, StepsWith};
 
-use crate::altered::{count_added, find_altered, is_adding};
-use crate::settle::{rest, spread};
+use crate::altered::{count_added, find_altered};
+use crate::room::make_room;
+use crate::settle::{know, rest, spread};
 use crate::since::{Dating, date};
 use crate::stamp::Stamp;
 use crate::these::{act_with, allows};
+use ep_alarms::Alarms;
 use ep_base::{Answer, CallerId, Errno, Event, Limits, Record};
 use ep_calls::{Kernel, Parts, Spare};
-use ep_law::laws::reportables_are_spread;
+use ep_law::laws::{ends_are_apart, reportables_are_spread};
 use std::alloc::{AllocError, Global};
 use std::marker::Model;
 
-/// A kernel that keeps no ready list: a wait looks at each registration of its instance.
+/// A kernel that keeps no ready list: a wait looks at each registration of its instance. Of timers a tick looks only at
+/// those whose moment has come.
 /// Contracts see its limits, its history, and how many records fit.
 #[derive(Drop)]
 pub struct PlainKernel {
     parts: Parts,
     history: Vec<Record>,
     dating: Dating,
+    alarms: Alarms,
 }
 
 impl Model for PlainKernel {
@@ -54,14 +58,15 @@ impl PlainKernel {
             parts,
             history: Vec::new(alloc),
             dating,
+            alarms: Alarms::new(alloc),
         })
     }
 
     /// One event whose report is of these registrations, in this order, and of the longest unreported where none are
     /// given: then `kept` asks for what a second record of it is made of.
     /// An `AllocError` has changed nothing, but that there may be more room for records. If there was room for the
-    /// record, it comes only if nothing refuses the event: without room for the key of a registration the event goes on
-    /// until it would add one.
+    /// record, it comes only if nothing refuses the event: without room for the key of a registration or the moment of a
+    /// timer the event goes on until it would add one.
     fn try_step(
         &mut self,
         caller: CallerId,
@@ -91,19 +96,22 @@ impl PlainKernel {
         self.history.reserve(1)?;
         self.dating.make_place()?;
         let added = count_added(&self.parts);
-        let has_room = self.dating.make_key_room(is_adding(&event), added);
+        let has_room = make_room(&mut self.dating, &mut self.alarms, &event, added);
         let step = self.history.len() as u64 + 1;
         let altered = find_altered(&self.parts, &event);
+        ends_are_apart();
         reportables_are_spread();
+        know(&self.parts);
         let stamp = Stamp {
             step,
             caller,
             has_room,
         };
         let outcome = act_with(&mut self.parts, stamp, &event, &self.dating, picks, kept)?;
+        self.alarms.follow(&self.parts, &event, &outcome, has_room);
         let raising = outcome.raising;
         let (answer, spare, record) = outcome.into_record(caller, event, kept);
-        spread(&mut self.parts, step, raising);
+        spread(&mut self.parts, &mut self.alarms, step, raising);
         self.dating.since.push_reserved(0);
         date(&self.parts, step, altered, &mut self.dating);
         rest(&mut self.parts, &self.dating);
@@ -238,6 +246,7 @@ impl Kernel for PlainKernel {
     }
 
     fn next_moment(&self) -> Option<u64> {
-        self.parts.next_moment()
+        know(&self.parts);
+        self.parts.next_moment_with(self.alarms.earliest())
     }
 }

@@ -1,5 +1,7 @@
 //! The end of an event.
 ghost use Rattle.std.specs.Prelude.{◌≡◌, map};
+ghost use Rattle.ep_alarms.specs.Alarms.{AreSet};
+ghost use Rattle.ep_alarms.specs.Changes.{AreSetSince};
 ghost use Rattle.ep_calls.specs.Raising.{IsRaising};
 ghost use Rattle.ep_calls.specs.Parts.{AreCoherent};
 ghost use Rattle.ep_interest.specs.Registrations.{IsSound, settled};
@@ -11,10 +13,11 @@ ghost use Rattle.ep_table.specs.Value.{Sound as SoundTables};
 use crate::climb::climb_instances;
 use crate::mark::mark_waiters;
 use crate::since::Dating;
+use ep_alarms::{Alarms, burial_leaves_alarms};
 use ep_calls::{Parts, Raising};
 
 /// Does nothing. What holds of the parts between calls, with their registrations; a fact for proofs.
-fn know(parts: &Parts)
+pub fn know(parts: &Parts)
     ensures coherent { AreCoherent parts.now }
     ensures tables { SoundTables parts.now.tables }
     ensures interest { IsSound parts.now.interest }
@@ -33,13 +36,18 @@ fn forget(parts: &mut Parts)
     parts.interest.settle();
 }
 
-/// Notes what an event raised, takes the dead away, and lets what was raised climb through instances.
-pub fn spread(parts: &mut Parts, step: u64, raising: Raising)
-    requires { IsRaising raising parts.old.tables }
-    ensures { Spreads step raising parts.old parts.new }
+/// Notes what an event raised, takes the dead away with their moments, and lets what was raised climb through
+/// instances.
+pub fn spread(parts: &mut Parts, alarms: &mut Alarms, step: u64, raising: Raising)
+    requires raises { IsRaising raising parts.old.tables }
+    requires set { AreSetSince raising parts.old.tables parts.old.clock alarms.old }
+    ensures spreads { Spreads step raising parts.old parts.new }
+    ensures set { AreSet parts.new.tables parts.new.clock alarms.new }
 {
     know(parts);
-    parts.raise(step, raising);
+    alarms.raise(parts, step, raising);
+    burial_leaves_alarms();
+    alarms.drop_dying(&parts.tables);
     parts.bury(step);
     know(parts);
     climb_instances(parts, step);

@@ -9,6 +9,7 @@ pub struct Stamp {
     pub step: u64,
     /// Who makes it.
     pub caller: CallerId,
-    /// Whether the key of a registration that it adds has room. Without it, none is added.
+    /// Whether there is room for what it adds: the key of a registration, or the moment of a timer. Without it, neither
+    /// is added.
     pub has_room: bool,
 }

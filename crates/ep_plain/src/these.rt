@@ -1,6 +1,7 @@
 //! Waits that report given registrations.
 ghost use Rattle.std.specs.List.{filter_map, find, list_any};
 ghost use Rattle.std.specs.Prelude.{◌≡◌, ◌==◌, IfNone, IfOk, IsOk, OnErr, None, Some, false, map, option_copied, true};
+ghost use Rattle.ep_alarms.specs.Changes.{LeavesFiles, MayCreate, MovesClock, TouchesTables};
 ghost use Rattle.ep_base.specs.declared.call.Event.TheVariants.{Resume};
 ghost use Rattle.ep_interest.specs.Registrations.{numbered};
 ghost use Rattle.ep_law.specs.Sound.{Sound};
@@ -108,6 +109,7 @@ fn wait_these(
     ensures ok { IfOk result
         (λ outcome. DoesCallIf (MayPick parts.old instance (number_in args.max) picks.now)
         stamp.step stamp.caller.0 args.pid.0 (wait_call args) outcome parts.old parts.new) }
+    ensures leaves { IfOk result (λ outcome. LeavesFiles outcome.raising parts.old parts.new) }
     ensures ids { parts.new.interest.keys ≡ parts.old.interest.keys }
     ensures picked { IfOk result
         (λ outcome. WherePicked parts.old instance (number_in args.max) picks.now
@@ -137,6 +139,7 @@ fn resume_these(
     ensures ok { IfOk result
         (λ outcome. DoesEventIf (MayPick parts.old waiter.instance (number_in waiter.max) picks.now)
         stamp.step stamp.caller.0 Resume outcome parts.old parts.new) }
+    ensures leaves { IfOk result (λ outcome. LeavesFiles outcome.raising parts.old parts.new) }
     ensures ids { parts.new.interest.keys ≡ parts.old.interest.keys }
     ensures picked { IfOk result
         (λ outcome. WherePicked parts.old waiter.instance (number_in waiter.max) picks.now
@@ -150,8 +153,8 @@ fn resume_these(
     Ok(outcome)
 }
 
-/// One event whose report is of these registrations, in this order. An `Err` is want of memory, or of room for the key
-/// of what it would add. It leaves the parts, and comes only if nothing refuses the event.
+/// One event whose report is of these registrations, in this order. An `Err` is want of memory, or of room for what it
+/// would add. It leaves the parts, and comes only if nothing refuses the event.
 fn act_these(
     parts: &mut Parts,
     stamp: Stamp,
@@ -164,6 +167,12 @@ fn act_these(
     ensures ok { IfOk result
         (λ outcome. DoesEventIf (MayGo parts.old stamp.caller.0 event.now picks.now) stamp.step
         stamp.caller.0 event.now outcome parts.old parts.new) }
+    ensures tables { IfOk result
+        (λ outcome. TouchesTables event.now outcome.answer parts.old parts.new) }
+    ensures clock { IfOk result
+        (λ outcome. MovesClock event.now outcome.raising parts.old.clock parts.new.clock) }
+    ensures timers { stamp.has_room ≡ false → MayCreate event.now
+        → parts.new.tables ≡ parts.old.tables }
     ensures ids { HadOrAdds parts.old.interest parts.new.interest }
     ensures picked { IfOk result
         (λ outcome. PicksThese stamp.step parts.old stamp.caller.0 event.now picks.now
@@ -181,10 +190,10 @@ fn act_these(
     }
 }
 
-/// One event whose report is of these registrations, in this order, and of the longest unreported where none are
-/// given: then `kept` asks for what a second record of it is made of. An `Err` is want of memory, or of room for the
-/// key of what it would add. It leaves the parts, and comes only if nothing refuses the event. Where none are given,
-/// it comes of no event that `IsSpared` names.
+/// One event whose report is of these registrations, in this order, and of the longest unreported where none are given:
+/// then `kept` asks for what a second record of it is made of. An `Err` is want of memory, or of room for what it would
+/// add. It leaves the parts, and comes only if nothing refuses the event. Where none are given, it comes of no event
+/// that `IsSpared` names.
 pub fn act_with(
     parts: &mut Parts,
     stamp: Stamp,
@@ -199,6 +208,12 @@ pub fn act_with(
         (λ outcome. DoesEventIf
         (MayReport parts.old stamp.caller.0 event.now (option_copied picks.entry)) stamp.step
         stamp.caller.0 event.now outcome parts.old parts.new) }
+    ensures tables { IfOk result
+        (λ outcome. TouchesTables event.now outcome.answer parts.old parts.new) }
+    ensures clock { IfOk result
+        (λ outcome. MovesClock event.now outcome.raising parts.old.clock parts.new.clock) }
+    ensures timers { stamp.has_room ≡ false → MayCreate event.now
+        → parts.new.tables ≡ parts.old.tables }
     ensures ids { HadOrAdds parts.old.interest parts.new.interest }
     ensures picked { IfOk result
         (λ outcome. ReportsThese stamp.step parts.old stamp.caller.0 event.now

@@ -3,6 +3,7 @@ ghost use Rattle.std.specs.Prelude.{◌≡◌, IfOk, OnErr, false};
 ghost use Rattle.std.specs.List.{list_any};
 ghost use Rattle.ep_base.specs.declared.call.Event.TheVariants.{Resume};
 ghost use Rattle.ep_park.specs.Waiters.{is_caller};
+ghost use Rattle.ep_alarms.specs.Changes.{LeavesFiles};
 ghost use Rattle.ep_calls.specs.Does.{DoesCall, DoesEvent};
 ghost use Rattle.ep_calls.specs.Kept.{IsKept};
 ghost use Rattle.ep_calls.specs.Last.{NothingRefuses, NothingRefusesCall};
@@ -34,6 +35,7 @@ pub fn epoll_wait(
     ensures ok { IfOk result
         (λ outcome. DoesCall stamp.step stamp.caller.0 args.pid.0 (wait_call args) outcome
         parts.old parts.new) }
+    ensures leaves { IfOk result (λ outcome. LeavesFiles outcome.raising parts.old parts.new) }
     ensures ids { parts.new.interest.keys ≡ parts.old.interest.keys }
     ensures kept { IfOk result (λ outcome. IsKept args.kept outcome) }
     ensures last { OnErr result (NothingRefusesCall parts.old args.pid.0 (wait_call args)) }
@@ -63,6 +65,7 @@ pub fn resume(
         (dated_of dating.now) }
     ensures ok { IfOk result
         (λ outcome. DoesEvent stamp.step stamp.caller.0 Resume outcome parts.old parts.new) }
+    ensures leaves { IfOk result (λ outcome. LeavesFiles outcome.raising parts.old parts.new) }
     ensures ids { parts.new.interest.keys ≡ parts.old.interest.keys }
     ensures kept { IfOk result (λ outcome. IsKept kept outcome) }
     ensures last { OnErr result (NothingRefuses parts.old stamp.caller.0 Resume) }

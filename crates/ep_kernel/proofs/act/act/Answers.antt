@@ -1,4 +1,4 @@
-use Rattle.std.proofs.Common.{◌≡◌, ◌∙◌, ℕ, ap, false, inl, inr, is_some, refl, subst, sym, true}
+use Rattle.std.proofs.Common.{◌≡◌, ◌∙◌, ap, false, inl, inr, is_some, refl, subst, sym, true}
 use Rattle.std.specs.List.{list_any}
 use Rattle.std.proofs.lemmas.Result.{IfOk-weaker, on_err_weaker}
 use Rattle.ep_base.specs.declared.call.Event.{Event}
@@ -13,13 +13,8 @@ use Rattle.ep_kernel.proofs.PickLemmas.{event_does_if}
 use Rattle.ep_kernel.proofs.ReportsFirstLemmas.{is_wait, other_reports, refused_reports}
 use Rattle.ep_kernel.proofs.HopesGoLemmas.{hopes_same, hopes_stay}
 use Rattle.ep_kernel.proofs.WaitTurnsLemmas.{refused_turns, same_turns}
-use Rattle.ep_base.specs.declared.call.Call.{Call}
-use Rattle.ep_base.specs.declared.ids.Pid.{Pid}
-use Rattle.ep_calls.specs.Clock.{ClockStays}
-use Rattle.ep_calls.specs.declared.raising.Raising.{Raising}
-use Rattle.ep_calls.specs.declared.raising.Raising.TheVariants.{Nowhere}
-use Rattle.ep_kernel.proofs.TimersLemmas.{tick_moves}
-use Rattle.ep_kernel.specs.Timers.{MayCreate, MovesClock, TouchesTables}
+use Rattle.ep_alarms.proofs.ChangesLemmas.{refused_moves, tick_moves}
+use Rattle.ep_alarms.specs.Changes.{MayCreate, MovesClock, TouchesTables}
 use Rattle.ep_kernel.proofs.act.act.Goals as goal
 use Rattle.ep_kernel.specs.Listed.{AreFair}
 use Rattle.ep_kernel.specs.Turns.{AlteredStand}
@@ -136,15 +131,11 @@ returns-in-Tick-clause-tables c =
     subst (λ (event : Event). TouchesTables event c.tick.result.answer p c.tick.new.self) (sym c.in-Tick.is) (ap (λ (q : Parts). q.tables.files) c.tick.ensures.others)
 
 -- the clock
-by_refusal : (event : Event) (pid : Pid) (call : Call) (raising : Raising) (now : ℕ) → event ≡ CallOf pid call → raising ≡ Nowhere → MovesClock event raising now now
-by_refusal event pid call raising now is nowhere =
-    subst (λ (e : Event). MovesClock e raising now now) (sym is) (subst (λ (r : Raising). ClockStays r now now) (sym nowhere) refl)
-
 pub returns-then-not-has_process-clause-clock : goal.returns-then-not-has_process-clause-clock
-returns-then-not-has_process-clause-clock c = by_refusal c.args.event.now c.in-Call.pid c.in-Call.call c.refused.result.raising c.args.parts.now.clock c.in-Call.is c.refused.ensures.raising
+returns-then-not-has_process-clause-clock c = refused_moves c.args.event.now c.in-Call.pid c.in-Call.call c.refused.result.raising c.args.parts.now.clock c.in-Call.is c.refused.ensures.raising
 
 pub returns-then-is_parked-clause-clock : goal.returns-then-is_parked-clause-clock
-returns-then-is_parked-clause-clock c = by_refusal c.args.event.now c.in-Call.pid c.in-Call.call c.refused-then-is_parked.result.raising c.args.parts.now.clock c.in-Call.is c.refused-then-is_parked.ensures.raising
+returns-then-is_parked-clause-clock c = refused_moves c.args.event.now c.in-Call.pid c.in-Call.call c.refused-then-is_parked.result.raising c.args.parts.now.clock c.in-Call.is c.refused-then-is_parked.ensures.raising
 
 pub returns-else-is_parked-clause-clock : goal.returns-else-is_parked-clause-clock
 returns-else-is_parked-clause-clock c =

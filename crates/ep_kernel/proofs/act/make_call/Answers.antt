@@ -15,8 +15,8 @@ use Rattle.ep_kernel.proofs.PickLemmas.{call_does_if}
 use Rattle.ep_kernel.proofs.ReportsFirstLemmas.{is_wait, object_waits, other_reports, table_waits}
 use Rattle.ep_kernel.proofs.HopesGoLemmas.{hopes_same}
 use Rattle.ep_kernel.proofs.WaitTurnsLemmas.{object_altered, same_lists, same_turns, table_altered}
-use Rattle.ep_kernel.proofs.TimersLemmas.{as_object, as_table}
-use Rattle.ep_kernel.specs.Timers.{CallsTables}
+use Rattle.ep_alarms.proofs.ChangesLemmas.{as_object, as_table}
+use Rattle.ep_alarms.specs.Changes.{CallsTables}
 use Rattle.ep_kernel.proofs.act.make_call.Goals as goal
 use Rattle.ep_kernel.specs.Listed.{AreFair}
 use Rattle.ep_kernel.specs.Wait.{ReportsInOrder}

@@ -1,4 +1,4 @@
-use Rattle.ep_kernel.proofs.TimersLemmas.{controls_leave}
+use Rattle.ep_alarms.proofs.ChangesLemmas.{controls_leave}
 use Rattle.ep_kernel.proofs.ControlTurnsLemmas.{next_at, none_placed, same_again, settled_at, some_placed, sound_at, turns_added, vacant_at}
 use Rattle.std.proofs.Common.{List, refl, subst, sym, ℕ}
 use Rattle.ep_base.specs.declared.call.Event.TheVariants.{Call as CallOf}

@@ -1,4 +1,4 @@
-use Rattle.ep_kernel.proofs.TimersLemmas.{controls_leave}
+use Rattle.ep_alarms.proofs.ChangesLemmas.{controls_leave}
 use Rattle.ep_kernel.proofs.ControlTurnsLemmas.{found_placed, settled_at, sound_at, turns_altered}
 use Rattle.ep_kernel.proofs.HopesGoLemmas.{hopes_altered, hopes_stay}
 use Rattle.ep_base.specs.declared.call.Event.TheVariants.{Call as CallOf}

@@ -1,4 +1,4 @@
-use Rattle.ep_kernel.proofs.TimersLemmas.{controls_leave}
+use Rattle.ep_alarms.proofs.ChangesLemmas.{controls_leave}
 use Rattle.std.proofs.lemmas.Result.{IfOk-weaker, on_err_weaker}
 use Rattle.ep_base.specs.declared.call.Event.TheVariants.{Call as CallOf}
 use Rattle.ep_calls.specs.Control.{control_call}

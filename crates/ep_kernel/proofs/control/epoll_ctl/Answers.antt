@@ -1,4 +1,4 @@
-use Rattle.ep_kernel.proofs.TimersLemmas.{nowhere_leaves}
+use Rattle.ep_alarms.proofs.ChangesLemmas.{nowhere_leaves}
 use Rattle.std.proofs.Common.{ℕ, List, refl, subst, sym}
 use Rattle.ep_base.specs.declared.call.Event.TheVariants.{Call as CallOf}
 use Rattle.ep_calls.specs.Control.{control_call}

@@ -70,7 +70,7 @@ pub returns-clause-set : goal.returns-clause-set
 returns-clause-set c =
     let noted = c.raise.new.parts in
     let buried = c.bury.new.self in
-    let a = c.raise.new.alarms in
+    let a = c.raise.new.self in
     let b = c.drop_dying-2.new.self in
     let set = c.burial_leaves_alarms.ensures c.args.step noted.tables buried.tables noted.interest buried.interest noted.clock a b c.bury.ensures.burial c.know-3.ensures.tables c.raise.ensures.set (subst (λ (p : Parts). LosesTimers p.tables a b) c.parts.view_is c.drop_dying-2.ensures) in
     subst (λ (p : Parts). AreSet p.tables p.clock b) (sym c.climb.ensures.others) (subst (λ (n : ℕ). AreSet buried.tables n b) (sym c.bury.ensures.clock) set)

@@ -1,4 +1,4 @@
-use Rattle.ep_kernel.proofs.TimersLemmas.{nowhere_leaves}
+use Rattle.ep_alarms.proofs.ChangesLemmas.{nowhere_leaves}
 use Rattle.std.proofs.Common.{◌≡◌, ◌∙◌, ℤ, Some, true, SFits, ap, find, refl, rules, subst, sym, w32}
 use Rattle.std.proofs.lemmas.Int.{to_z-of_z}
 use Rattle.ep_base.specs.declared.answer.Answer.TheVariants.{Refused, Still}

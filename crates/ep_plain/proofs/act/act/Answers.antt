@@ -1,10 +1,12 @@
-use Rattle.std.proofs.Common.{◌≡◌, ◌∙◌, false, true, is_some, subst, sym}
+use Rattle.std.proofs.Common.{◌≡◌, ◌∙◌, ap, false, true, inl, inr, is_some, refl, subst, sym}
 use Rattle.std.specs.List.{list_any}
 use Rattle.ep_park.specs.Waiters.{is_caller}
 use Rattle.ep_base.specs.declared.call.Event.TheVariants.{Call as CallOf, Tick}
+use Rattle.ep_alarms.proofs.ChangesLemmas.{refused_moves, tick_moves}
+use Rattle.ep_alarms.specs.Changes.{MayCreate, MovesClock, TouchesTables}
 use Rattle.std.proofs.lemmas.Result.{IfOk-weaker, on_err_weaker}
 use Rattle.ep_base.specs.declared.call.Event.{Event}
-use Rattle.ep_base.specs.declared.errno.Errno.TheVariants.{Ebusy}
+use Rattle.ep_base.specs.declared.errno.Errno.TheVariants.{Ebusy, Esrch}
 use Rattle.ep_machine.specs.Files.{table_of}
 use Rattle.ep_calls.specs.Does.{DoesEvent}
 use Rattle.ep_calls.specs.Last.{NothingRefuses}
@@ -45,3 +47,58 @@ returns-else-is_parked-clause-last c =
     let here = subst (λ (p : Parts). is_some (table_of p.tables.files pid.0) ≡ true) c.parts.view_is (sym c.has_process.ensures ∙ c.if-not-has_process.false) in
     let free = subst (λ (p : Parts). list_any (is_caller caller) p.parked ≡ false) c.parts.view_is (sym c.is_parked.ensures ∙ c.if-is_parked.false) in
     on_err_weaker c.make_call.result (λ none. subst (λ (event : Event). NothingRefuses q caller event) (sym c.in-Call.is) (past_last q caller pid c.in-Call.call here free none)) c.make_call.ensures.last
+
+-- the tables
+pub returns-then-not-has_process-clause-tables : goal.returns-then-not-has_process-clause-tables
+returns-then-not-has_process-clause-tables c =
+    let p = c.args.parts.now in
+    subst (λ (event : Event). TouchesTables event c.refused.result.answer p p) (sym c.in-Call.is) (inl (Esrch, record { answers = c.refused.ensures.answer; tables = refl }))
+
+pub returns-then-is_parked-clause-tables : goal.returns-then-is_parked-clause-tables
+returns-then-is_parked-clause-tables c =
+    let p = c.args.parts.now in
+    let refused = c.refused-then-is_parked in
+    subst (λ (event : Event). TouchesTables event refused.result.answer p p) (sym c.in-Call.is) (inl (Ebusy, record { answers = refused.ensures.answer; tables = refl }))
+
+pub returns-else-is_parked-clause-tables : goal.returns-else-is_parked-clause-tables
+returns-else-is_parked-clause-tables c =
+    let p = c.args.parts.now in
+    let there = subst (λ (q : Parts). is_some (table_of q.tables.files c.in-Call.pid.0) ≡ true) c.parts.view_is (sym c.has_process.ensures ∙ c.if-not-has_process.false) in
+    IfOk-weaker c.make_call.result _ _ (λ outcome did. subst (λ (event : Event). TouchesTables event outcome.answer p c.make_call.new.parts) (sym c.in-Call.is) (inr (there, did))) c.make_call.ensures.tables
+
+pub returns-in-Resume-clause-tables : goal.returns-in-Resume-clause-tables
+returns-in-Resume-clause-tables c =
+    let p = c.args.parts.now in
+    IfOk-weaker c.resume.result _ _ (λ outcome leaves. subst (λ (event : Event). TouchesTables event outcome.answer p c.resume.new.parts) (sym c.in-Resume.is) leaves.files) c.resume.ensures.leaves
+
+pub returns-in-Tick-clause-tables : goal.returns-in-Tick-clause-tables
+returns-in-Tick-clause-tables c =
+    let p = c.args.parts.now in
+    subst (λ (event : Event). TouchesTables event c.tick.result.answer p c.tick.new.self) (sym c.in-Tick.is) (ap (λ (q : Parts). q.tables.files) c.tick.ensures.others)
+
+-- the clock
+pub returns-then-not-has_process-clause-clock : goal.returns-then-not-has_process-clause-clock
+returns-then-not-has_process-clause-clock c = refused_moves c.args.event.now c.in-Call.pid c.in-Call.call c.refused.result.raising c.args.parts.now.clock c.in-Call.is c.refused.ensures.raising
+
+pub returns-then-is_parked-clause-clock : goal.returns-then-is_parked-clause-clock
+returns-then-is_parked-clause-clock c = refused_moves c.args.event.now c.in-Call.pid c.in-Call.call c.refused-then-is_parked.result.raising c.args.parts.now.clock c.in-Call.is c.refused-then-is_parked.ensures.raising
+
+pub returns-else-is_parked-clause-clock : goal.returns-else-is_parked-clause-clock
+returns-else-is_parked-clause-clock c =
+    let p = c.args.parts.now in
+    IfOk-weaker c.make_call.result _ _ (λ outcome stays. subst (λ (event : Event). MovesClock event outcome.raising p.clock c.make_call.new.parts.clock) (sym c.in-Call.is) stays) c.make_call.ensures.clock
+
+pub returns-in-Resume-clause-clock : goal.returns-in-Resume-clause-clock
+returns-in-Resume-clause-clock c =
+    let p = c.args.parts.now in
+    IfOk-weaker c.resume.result _ _ (λ outcome leaves. subst (λ (event : Event). MovesClock event outcome.raising p.clock c.resume.new.parts.clock) (sym c.in-Resume.is) leaves.clock) c.resume.ensures.leaves
+
+pub returns-in-Tick-clause-clock : goal.returns-in-Tick-clause-clock
+returns-in-Tick-clause-clock c =
+    let p = c.args.parts.now in
+    let now = c.tick.new.self.clock in
+    subst (λ (event : Event). MovesClock event c.tick.result.raising p.clock now) (sym c.in-Tick.is) (tick_moves c.in-Tick.n p.clock now c.tick.result.answer c.tick.result.raising c.tick.ensures.ticks c.tick.ensures.raising)
+
+-- a timer that has no room is not created
+pub returns-else-is_parked-clause-timers : goal.returns-else-is_parked-clause-timers
+returns-else-is_parked-clause-timers c none creates = c.make_call.ensures.timers none (subst MayCreate c.in-Call.is creates)

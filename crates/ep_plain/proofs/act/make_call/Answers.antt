@@ -1,14 +1,18 @@
-use Rattle.std.proofs.Common.{◌∙◌, ℤ, OnErr, ap, rules, subst, sym, w32}
+use Rattle.std.proofs.Common.{◌≡◌, ◌∙◌, ℤ, OnErr, Some, ap, rules, subst, sym, w32}
 use Rattle.std.proofs.lemmas.Int.{to_z-of_z}
 use Rattle.std.proofs.lemmas.Result.{IfOk-weaker}
 use mir.Val.{SFits}
+use Rattle.ep_alarms.proofs.ChangesLemmas.{as_object, as_table}
+use Rattle.ep_alarms.specs.Changes.{CallsTables}
 use Rattle.ep_base.specs.declared.call.Call.{Call}
 use Rattle.ep_base.specs.declared.call.Call.TheVariants.{EpollCtl}
 use Rattle.ep_calls.specs.Does.{DoesCall}
 use Rattle.ep_calls.specs.Kept.{KeepsCall}
 use Rattle.ep_calls.specs.Last.{NothingRefusesCall}
+use Rattle.ep_calls.specs.ObjectCall.{fd_of}
 use Rattle.ep_calls.specs.TableCall.{IsTableCall}
 use Rattle.ep_interest.specs.Registrations.{Registrations}
+use Rattle.ep_table.specs.Value.{Seen}
 use Rattle.ep_calls.proofs.HadLemmas.{had_keys, had_same}
 use Rattle.ep_calls.proofs.KeptLemmas.{any_call, table_call_kept}
 use Rattle.ep_calls.proofs.SparedLemmas.{table_call_frees}
@@ -21,6 +25,9 @@ returns-in_default c =
       ok = IfOk-weaker c.table_call.result _ _ (λ outcome h. h c.args.stamp.step c.args.stamp.caller.0) c.table_call.ensures.ok;
       kept = IfOk-weaker c.table_call.result _ _ (λ outcome h. table_call_kept c.args.call.now c.args.kept outcome on_tables) c.table_call.ensures.ok;
       spared = λ h. c.table_call.ensures.frees (table_call_frees c.args.parts.now.tables.files c.args.pid.0 c.args.call.now on_tables h);
+      tables = IfOk-weaker c.table_call.result _ _ (λ outcome did. as_table c.args.pid.0 c.args.call.now outcome.answer c.args.parts.now c.table_call.new.self on_tables did) c.table_call.ensures.tables;
+      clock = c.table_call.ensures.clock;
+      timers = c.table_call.ensures.room;
       ids = had_same c.args.parts.now.interest c.table_call.new.self.interest c.table_call.ensures.interest;
       room = λ adds none. ap (λ (r : Registrations). r.added) c.table_call.ensures.interest;
       last = c.table_call.ensures.last;
@@ -58,3 +65,28 @@ returns-in-EpollCtl-clause-last c =
     let x = c.in-EpollCtl in
     let fits : SFits w32 x.op = search rules in
     subst (λ (call : Call). OnErr c.epoll_ctl.result (NothingRefusesCall c.args.parts.now c.args.pid.0 call)) (ap (λ (z : ℤ). EpollCtl x.epfd z x.fd x.mask x.tag) (to_z-of_z w32 x.op fits) ∙ sym x.is) c.epoll_ctl.ensures.last
+
+pub returns-in-Read-clause-tables : goal.returns-in-Read-clause-tables
+returns-in-Read-clause-tables c =
+    let p = c.args.parts.now in
+    let q = c.object_call.new.self in
+    let call = c.args.call.now in
+    let fd = c.in-Read-1.fd in
+    let on : fd_of call ≡ Some fd = search rules in
+    IfOk-weaker c.object_call.result _ _ (λ outcome did. as_object c.args.pid.0 call fd outcome.answer p q on did) c.object_call.ensures.tables
+
+pub returns-in-EpollCtl-clause-tables : goal.returns-in-EpollCtl-clause-tables
+returns-in-EpollCtl-clause-tables c =
+    let p = c.args.parts.now in
+    let q = c.epoll_ctl.new.self in
+    let files : q.tables.files ≡ p.tables.files = ap (λ (v : Seen). v.files) c.epoll_ctl.ensures.tables in
+    IfOk-weaker c.epoll_ctl.result _ _ (λ outcome stays. subst (λ (call : Call). CallsTables c.args.pid.0 call outcome.answer p q) (sym c.in-EpollCtl.is) files) c.epoll_ctl.ensures.clock
+
+pub returns-in-EpollWait-clause-tables : goal.returns-in-EpollWait-clause-tables
+returns-in-EpollWait-clause-tables c =
+    let p = c.args.parts.now in
+    let q = c.epoll_wait.new.parts in
+    IfOk-weaker c.epoll_wait.result _ _ (λ outcome leaves. subst (λ (call : Call). CallsTables c.args.pid.0 call outcome.answer p q) (sym c.in-EpollWait.is) leaves.files) c.epoll_wait.ensures.leaves
+
+pub returns-in-EpollWait-clause-clock : goal.returns-in-EpollWait-clause-clock
+returns-in-EpollWait-clause-clock c = IfOk-weaker c.epoll_wait.result _ _ (λ outcome leaves. leaves.clock) c.epoll_wait.ensures.leaves

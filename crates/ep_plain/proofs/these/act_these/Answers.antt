@@ -4,6 +4,7 @@ use Rattle.ep_base.specs.declared.call.Event.{Event}
 use Rattle.ep_calls.specs.Last.{NothingRefuses}
 use Rattle.ep_calls.specs.Wait.{wait_call}
 use Rattle.ep_plain.proofs.ActWithLemmas.{call_does, call_picks, none_picks, resume_does, resume_picks}
+use Rattle.ep_plain.proofs.LeavesLemmas.{resume_creates, resume_moves, resume_touches, wait_creates, wait_moves, wait_touches}
 use Rattle.ep_calls.proofs.LastLemmas.{past_last}
 use Rattle.ep_plain.specs.These.{AsksFor, CallsWait, Resumes}
 use Rattle.ep_plain.specs.declared.waiting.Waiting.{Waiting}
@@ -46,3 +47,33 @@ returns-in-Some-Call-clause-last c =
     let caller = c.args.stamp.caller.0 in
     let of = calls c in
     on_err_weaker c.wait_these.result (λ none. subst (λ (event : Event). NothingRefuses q caller event) (sym of.is) (past_last q caller x.args.pid (wait_call x.args) of.there of.free none)) c.wait_these.ensures.last
+
+pub returns-in-Some-Call-clause-tables : goal.returns-in-Some-Call-clause-tables
+returns-in-Some-Call-clause-tables c =
+    let x = c.in-Some-Call in
+    IfOk-weaker c.wait_these.result _ _ (λ outcome leaves. wait_touches c.args.parts.now c.wait_these.new.parts c.args.stamp.caller.0 c.args.event.now x.args x.instance (calls c) outcome leaves) c.wait_these.ensures.leaves
+
+pub returns-in-Some-Call-clause-clock : goal.returns-in-Some-Call-clause-clock
+returns-in-Some-Call-clause-clock c =
+    let x = c.in-Some-Call in
+    IfOk-weaker c.wait_these.result _ _ (λ outcome leaves. wait_moves c.args.parts.now c.wait_these.new.parts c.args.stamp.caller.0 c.args.event.now x.args x.instance (calls c) outcome leaves) c.wait_these.ensures.leaves
+
+pub returns-in-Some-Call-clause-timers : goal.returns-in-Some-Call-clause-timers
+returns-in-Some-Call-clause-timers c none creates =
+    let x = c.in-Some-Call in
+    absurd (wait_creates c.args.parts.now c.wait_these.new.parts c.args.stamp.caller.0 c.args.event.now x.args x.instance (calls c) creates)
+
+pub returns-in-Some-Parked-clause-tables : goal.returns-in-Some-Parked-clause-tables
+returns-in-Some-Parked-clause-tables c =
+    let x = c.in-Some-Parked in
+    IfOk-weaker c.resume_these.result _ _ (λ outcome leaves. resume_touches c.args.parts.now c.resume_these.new.parts c.args.stamp.caller.0 c.args.event.now x.waiter (resumes c) outcome leaves) c.resume_these.ensures.leaves
+
+pub returns-in-Some-Parked-clause-clock : goal.returns-in-Some-Parked-clause-clock
+returns-in-Some-Parked-clause-clock c =
+    let x = c.in-Some-Parked in
+    IfOk-weaker c.resume_these.result _ _ (λ outcome leaves. resume_moves c.args.parts.now c.resume_these.new.parts c.args.stamp.caller.0 c.args.event.now x.waiter (resumes c) outcome leaves) c.resume_these.ensures.leaves
+
+pub returns-in-Some-Parked-clause-timers : goal.returns-in-Some-Parked-clause-timers
+returns-in-Some-Parked-clause-timers c none creates =
+    let x = c.in-Some-Parked in
+    absurd (resume_creates c.args.parts.now c.resume_these.new.parts c.args.stamp.caller.0 c.args.event.now x.waiter (resumes c) creates)

@@ -57,3 +57,6 @@ returns-clause-picked c s sound legal stands may = c.in_ok-outcome.ensures.picke
 
 pub returns-in_err-chosen-clause-last : goal.returns-in_err-chosen-clause-last
 returns-in_err-chosen-clause-last c = on_err c.from_residual.result (resume_last c.args.parts.now c.args.stamp.caller.0 c.args.waiter c.requires.parked)
+
+pub returns-clause-leaves : goal.returns-clause-leaves
+returns-clause-leaves c = record { files = c.resume_with.ensures.files; clock = c.in_ok-outcome.ensures.clock }

@@ -49,3 +49,6 @@ returns-clause-ok c =
 
 pub returns-clause-picked : goal.returns-clause-picked
 returns-clause-picked c s sound legal stands may = c.in_ok-outcome.ensures.picked ∙ taken c s stands may
+
+pub returns-clause-leaves : goal.returns-clause-leaves
+returns-clause-leaves c = record { files = c.wait_with.ensures.files; clock = c.in_ok-outcome.ensures.clock }

@@ -1,3 +1,4 @@
+use Rattle.ep_alarms.proofs.ChangesLemmas.{nowhere_leaves}
 use Rattle.std.proofs.Common.{ℤ, List, SFits, rules, subst, sym, w32}
 use Rattle.std.proofs.lemmas.Int.{to_z-of_z}
 use Rattle.ep_machine.specs.Refusal.{call_refusals}
@@ -33,3 +34,9 @@ returns-clause-ok c =
     chosen_is_pick k.tables k.clock k.interest s instance (number_in x.max) chosen sound stands c.parts.invariant.linked c.known.ensures c.in-Ok.ensures.lives chooses in
     does_all (IsPick q.tables instance (number_in x.max) chosen) c.args.stamp.step (λ s. call_refusals q.tables.limits s x.pid.0 (wait_call x)) (λ s picked. call_change q.tables.limits s c.args.stamp.caller.0 x.pid.0 (wait_call x) picked) c.in_ok-outcome.outcome q c.wait_with.new.self
     c.in_ok-outcome.ensures.ok (subst (λ (r : Parts). MovesBy c.args.stamp.step r (IsPick r.tables instance (number_in x.max) chosen)) c.parts.view_is pick)
+
+pub returns-in-Err-clause-leaves : goal.returns-in-Err-clause-leaves
+returns-in-Err-clause-leaves c = nowhere_leaves c.refused.result.raising c.args.parts.now c.refused.ensures.raising
+
+pub returns-clause-leaves : goal.returns-clause-leaves
+returns-clause-leaves c = record { files = c.wait_with.ensures.files; clock = c.in_ok-outcome.ensures.clock }

@@ -1,3 +1,4 @@
+use Rattle.ep_alarms.proofs.ChangesLemmas.{nowhere_leaves}
 use Rattle.std.proofs.Common.{◌≡◌, ℤ, true, List, SFits, refl, rules, subst, sym, w32}
 use Rattle.std.proofs.lemmas.Int.{to_z-of_z}
 use Rattle.ep_base.specs.declared.answer.Answer.TheVariants.{Refused, Still}
@@ -85,3 +86,12 @@ returns-in_err-chosen-clause-last c =
     let k = c.parts.inside in
     let p : Parts = record { tables = k.tables; interest = k.interest; graph = k.graph; parked = k.waiters; clock = k.clock } in
     rw (← c.parts.view_is) (on_err c.from_residual.result (resume_last p c.args.stamp.caller.0 c.in-Some.waiter (sym c.in-Some.ensures)))
+
+pub returns-in_default-clause-leaves : goal.returns-in_default-clause-leaves
+returns-in_default-clause-leaves c = nowhere_leaves c.refused.result.raising c.args.parts.now c.refused.ensures.raising
+
+pub returns-then-not-waiter-clause-leaves : goal.returns-then-not-waiter-clause-leaves
+returns-then-not-waiter-clause-leaves c = nowhere_leaves c.settled.result.raising c.args.parts.now c.settled.ensures.raising
+
+pub returns-clause-leaves : goal.returns-clause-leaves
+returns-clause-leaves c = record { files = c.resume_with.ensures.files; clock = c.in_ok-outcome.ensures.clock }

@@ -3,7 +3,7 @@ use Rattle.ep_base.specs.declared.record.Record.{Record}
 use Rattle.ep_kernel.specs.Running.{Runs}
 use Rattle.ep_kernel.proofs.ReadyBookLemmas.{no_lists}
 use Rattle.ep_kernel.proofs.RunLemmas.{hopes_opening, runs_opening}
-use Rattle.ep_kernel.proofs.TimersLemmas.{set_opening}
+use Rattle.ep_alarms.proofs.ChangesLemmas.{set_opening}
 use Rattle.ep_kernel.proofs.ready.ReadyKernel.new.Goals as goal
 
 pub invariant_of-result : goal.invariant_of-result

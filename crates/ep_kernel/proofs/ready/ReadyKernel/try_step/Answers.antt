@@ -24,7 +24,7 @@ use Rattle.ep_kernel.proofs.HopesGoLemmas.{hopes_again}
 use Rattle.ep_kernel.proofs.MarkLemmas.{hopes_marked}
 use Rattle.ep_kernel.proofs.RunLemmas.{added_on, adds_on, does_fairly, few_on, first_on, runs_on, runs_same}
 use Rattle.ep_kernel.proofs.SettledLemmas.{ends_of}
-use Rattle.ep_kernel.proofs.TimersLemmas.{set_same}
+use Rattle.ep_alarms.proofs.ChangesLemmas.{set_same}
 use Rattle.ep_kernel.proofs.ready.ReadyKernel.try_step.Goals as goal
 use Rattle.ep_kernel.proofs.ready.ReadyKernel.try_step.Goals.{After-attend-attended}
 
@@ -34,10 +34,10 @@ invariant_of-self-in_err-outcome c =
     let k = c.self.inside in
     let same = c.in_err-outcome.ensures.err in
     let runs = runs_same k.history.items c.act.new.parts k.lists c.act.new.lists same.1 (subst (λ (p : Parts). Runs k.history.items p k.lists) (sym same.0) c.self.invariant.runs) in
-    let set = set_same k.parts.tables k.parts.clock k.alarms c.make_room-has_room.new.alarms c.make_room-has_room.ensures.kept c.self.invariant.set in
+    let set = set_same k.parts.tables k.parts.clock k.alarms c.make_room-has_room.new.self c.make_room-has_room.ensures.kept c.self.invariant.set in
     record {
       runs = subst (λ (rs : List Record). Runs rs c.act.new.parts c.act.new.lists) (sym c.reserve.ensures.items) runs;
-      set = subst (λ (p : Parts). AreSet p.tables p.clock c.make_room-has_room.new.alarms) (sym same.0) set;
+      set = subst (λ (p : Parts). AreSet p.tables p.clock c.make_room-has_room.new.self) (sym same.0) set;
       hopes = hopes_again c.args.event k.parts c.act.new.parts c.act.new.asked.hopes same.0 c.act.ensures.hopes;
     }
 

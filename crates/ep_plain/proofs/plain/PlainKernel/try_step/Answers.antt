@@ -1,4 +1,6 @@
 use Rattle.std.proofs.Common.{◌≡◌, ◌<◌, ◌+◌, ◌++◌, [], ◌∷◌, List, None, ℕ, ap, length, ◌∙◌, arith, option_copied, subst, sym, vec_capacity}
+use Rattle.ep_alarms.proofs.ChangesLemmas.{set_same}
+use Rattle.ep_alarms.specs.Alarms.{AreSet}
 use Rattle.ep_base.specs.declared.answer.Answer.{Answer}
 use Rattle.ep_base.specs.declared.ids.EntryId.{EntryId}
 use Rattle.ep_base.specs.declared.record.Record.{Record}
@@ -20,6 +22,7 @@ use Rattle.ep_plain.specs.Since.{Dates, event_at}
 use Rattle.ep_plain.specs.Standing.{Standing, book_of}
 use Rattle.ep_plain.specs.StepWith.{AddsBy, HasStep}
 use Rattle.ep_plain.specs.These.{MayReport}
+use Rattle.ep_plain.proofs.EndLemmas.{set_rested}
 use Rattle.ep_plain.proofs.AllowLemmas.{dated_shown}
 use Rattle.ep_plain.specs.Choose.{Tells}
 use Rattle.ep_plain.proofs.StandingLemmas.{adds_by, does_with, has_places, kept_of, key_room, later_left, listed_left, may_report, reasons, reports, room, standing_next, standing_room, tells_left}
@@ -30,17 +33,17 @@ number : (c : goal.After-push_reserved-2) → c.len.result + 1 ≡ length c.self
 number c = omega (arith, c.len.ensures, c.reserve.ensures.len)
 
 -- the machine has a step that reports what is given
-may : (c : goal.After-push_reserved-2) → MayReport c.self.inside.parts c.args.caller.0 c.args.event (option_copied c.args.picks) (next_event c.self.invariant.keeps.state)
+may : (c : goal.After-push_reserved-2) → MayReport c.self.inside.parts c.args.caller.0 c.args.event (option_copied c.args.picks) (next_event c.self.invariant.standing.keeps.state)
 may c =
     let k = c.self.inside in
-    may_report k.history.items k.parts c.self.invariant.keeps c.args.caller c.args.event (option_copied c.args.picks)
+    may_report k.history.items k.parts c.self.invariant.standing.keeps c.args.caller c.args.event (option_copied c.args.picks)
     (subst (λ (b : Book). HasStep b.limits (state_of b) c.args.caller c.args.event (option_copied c.args.picks)) (sym c.self.view_is) c.requires.there)
 
 -- what the event did
-does : (c : goal.After-push_reserved-2) → DoesAt (next_event c.self.invariant.keeps.state) c.args.caller.0 c.args.event c.in_ok-outcome.outcome c.self.inside.parts c.act_with.new.parts
+does : (c : goal.After-push_reserved-2) → DoesAt (next_event c.self.invariant.standing.keeps.state) c.args.caller.0 c.args.event c.in_ok-outcome.outcome c.self.inside.parts c.act_with.new.parts
 does c =
     let k = c.self.inside in
-    does_with k.history.items k.parts c.self.invariant.keeps (c.len.result + 1) (number c) (MayReport k.parts c.args.caller.0 c.args.event (option_copied c.args.picks)) c.args.caller.0 c.args.event c.in_ok-outcome.outcome c.act_with.new.parts
+    does_with k.history.items k.parts c.self.invariant.standing.keeps (c.len.result + 1) (number c) (MayReport k.parts c.args.caller.0 c.args.event (option_copied c.args.picks)) c.args.caller.0 c.args.event c.in_ok-outcome.outcome c.act_with.new.parts
     c.in_ok-outcome.ensures.ok (may c)
 
 -- where a second record is asked for, there is a copy, or none is needed
@@ -50,12 +53,12 @@ into_record-answer-requires c asked none =
     let o = c.in_ok-outcome.outcome in
     let n : c.len.result + 1 ≡ length k.history.items + 1 = omega (arith, c.len.ensures, c.reserve.ensures.len) in
     let go =
-    may_report k.history.items k.parts c.self.invariant.keeps c.args.caller c.args.event (option_copied c.args.picks)
+    may_report k.history.items k.parts c.self.invariant.standing.keeps c.args.caller c.args.event (option_copied c.args.picks)
     (subst (λ (b : Book). HasStep b.limits (state_of b) c.args.caller c.args.event (option_copied c.args.picks)) (sym c.self.view_is) c.requires.there) in
     let done =
-    does_with k.history.items k.parts c.self.invariant.keeps (c.len.result + 1) n (MayReport k.parts c.args.caller.0 c.args.event (option_copied c.args.picks)) c.args.caller.0 c.args.event o c.act_with.new.parts c.in_ok-outcome.ensures.ok go in
+    does_with k.history.items k.parts c.self.invariant.standing.keeps (c.len.result + 1) n (MayReport k.parts c.args.caller.0 c.args.event (option_copied c.args.picks)) c.args.caller.0 c.args.event o c.act_with.new.parts c.in_ok-outcome.ensures.ok go in
     let keeps : KeepsEvent c.args.event c.args.kept o = kept_of (option_copied c.args.picks) c.args.kept c.requires.kept asked c.in_ok-outcome.ensures.kept in
-    inline_event k.parts.tables.limits (next_event c.self.invariant.keeps.state) c.args.caller.0 o c.args.kept asked none c.args.event c.act_with.new.parts done.goes keeps
+    inline_event k.parts.tables.limits (next_event c.self.invariant.standing.keeps.state) c.args.caller.0 o c.args.kept asked none c.args.event c.act_with.new.parts done.goes keeps
 
 -- the history has its record
 records : (c : goal.After-push_reserved-2) → c.push_reserved-2.new.self.items ≡ c.self.inside.history.items ++ record_of c.args.caller c.args.event c.in_ok-outcome.outcome ∷ []
@@ -65,54 +68,62 @@ records c =
 pub act_with-requires : goal.act_with-requires
 act_with-requires c =
     let p = c.self.inside.parts in
-    let keeps = c.self.invariant.keeps in
+    let keeps = c.self.invariant.standing.keeps in
     let told : Tells p.tables p.clock p.interest (dated_of c.self.inside.dating) = record {
-      shown = dated_shown p.tables p.clock p.interest keeps.state c.self.inside.dating.since.items keeps.stands c.self.invariant.dated;
-      listed = c.self.invariant.listed;
+      shown = dated_shown p.tables p.clock p.interest keeps.state c.self.inside.dating.since.items keeps.stands c.self.invariant.standing.dated;
+      listed = c.self.invariant.standing.listed;
     } in
-    record { told = subst (λ (d : Dated). Tells p.tables p.clock p.interest d) (sym (c.make_key_room-has_room.ensures.dates ∙ c.make_place.ensures.dates)) told }
+    record { told = subst (λ (d : Dated). Tells p.tables p.clock p.interest d) (sym (c.make_room-has_room.ensures.dates ∙ c.make_place.ensures.dates)) told }
 
-pub make_key_room-has_room-requires : goal.make_key_room-has_room-requires
-make_key_room-has_room-requires c =
+pub make_room-has_room-requires : goal.make_room-has_room-requires
+make_room-has_room-requires c =
     let k = c.self.inside in
-    let places = has_places k.history.items k.parts k.dating c.self.invariant in
+    let places = has_places k.history.items k.parts k.dating c.self.invariant.standing in
     omega (arith, places, c.count_added-added.ensures, ap (λ (d : Dated). length d.since) c.make_place.ensures.dates)
 
 pub invariant_of-self-in_err-make_place : goal.invariant_of-self-in_err-make_place
 invariant_of-self-in_err-make_place c =
     let k = c.self.inside in
-    subst (λ (rs : List Record). Standing rs k.parts c.make_place.new.self) (sym c.reserve.ensures.items)
-    (standing_room k.history.items k.parts k.dating c.make_place.new.self c.make_place.ensures.dates (omega (arith, c.make_place.ensures.keys_stay)) c.self.invariant)
+    record {
+      standing = subst (λ (rs : List Record). Standing rs k.parts c.make_place.new.self) (sym c.reserve.ensures.items)
+          (standing_room k.history.items k.parts k.dating c.make_place.new.self c.make_place.ensures.dates (omega (arith, c.make_place.ensures.keys_stay)) c.self.invariant.standing);
+      set = c.self.invariant.set;
+    }
 
 pub invariant_of-self-in_err-outcome : goal.invariant_of-self-in_err-outcome
 invariant_of-self-in_err-outcome c =
     let k = c.self.inside in
-    let d = c.make_key_room-has_room.new.self in
-    subst (λ (rs : List Record). Standing rs c.act_with.new.parts d) (sym c.reserve.ensures.items)
-    (subst (λ (p : Parts). Standing k.history.items p d) (sym c.in_err-outcome.ensures.err)
-    (standing_room k.history.items k.parts k.dating d (c.make_key_room-has_room.ensures.dates ∙ c.make_place.ensures.dates) (omega (arith, c.make_key_room-has_room.ensures.keys_stay, c.make_place.ensures.keys_stay)) c.self.invariant))
+    let d = c.make_room-has_room.new.dating in
+    let a = c.make_room-has_room.new.alarms in
+    let same = c.in_err-outcome.ensures.err in
+    let room = standing_room k.history.items k.parts k.dating d (c.make_room-has_room.ensures.dates ∙ c.make_place.ensures.dates) (omega (arith, c.make_room-has_room.ensures.keys_stay, c.make_place.ensures.keys_stay)) c.self.invariant.standing in
+    let set = set_same k.parts.tables k.parts.clock k.alarms a c.make_room-has_room.ensures.same c.self.invariant.set in
+    record {
+      standing = subst (λ (rs : List Record). Standing rs c.act_with.new.parts d) (sym c.reserve.ensures.items) (subst (λ (p : Parts). Standing k.history.items p d) (sym same) room);
+      set = subst (λ (p : Parts). AreSet p.tables p.clock a) (sym same) set;
+    }
 
 pub date-requires-clause-fits : goal.date-requires-clause-fits
 date-requires-clause-fits c =
     let k = c.self.inside in
     let n : c.len.result + 1 ≡ length k.history.items + 1 = omega (arith, c.len.ensures, c.reserve.ensures.len) in
     let go =
-    may_report k.history.items k.parts c.self.invariant.keeps c.args.caller c.args.event (option_copied c.args.picks)
+    may_report k.history.items k.parts c.self.invariant.standing.keeps c.args.caller c.args.event (option_copied c.args.picks)
     (subst (λ (b : Book). HasStep b.limits (state_of b) c.args.caller c.args.event (option_copied c.args.picks)) (sym c.self.view_is) c.requires.there) in
     let done =
-    does_with k.history.items k.parts c.self.invariant.keeps (c.len.result + 1) n (MayReport k.parts c.args.caller.0 c.args.event (option_copied c.args.picks)) c.args.caller.0 c.args.event c.in_ok-outcome.outcome c.act_with.new.parts c.in_ok-outcome.ensures.ok go in
-    let longer = c.push_reserved.ensures.items ∙ ap (λ (d : Dated). d.since ++ 0 ∷ []) (c.make_key_room-has_room.ensures.dates ∙ c.make_place.ensures.dates) in
-    let keys = ap (λ (d : Dated). d.keys) (c.make_key_room-has_room.ensures.dates ∙ c.make_place.ensures.dates) in
-    let here = room k.history.items k.parts c.act_with.new.parts c.spread.new.parts k.dating c.self.invariant c.args.caller c.args.event c.in_ok-outcome.outcome (c.len.result + 1) n done c.spread.ensures in
-    let count = c.self.invariant.count in
+    does_with k.history.items k.parts c.self.invariant.standing.keeps (c.len.result + 1) n (MayReport k.parts c.args.caller.0 c.args.event (option_copied c.args.picks)) c.args.caller.0 c.args.event c.in_ok-outcome.outcome c.act_with.new.parts c.in_ok-outcome.ensures.ok go in
+    let longer = c.push_reserved.ensures.items ∙ ap (λ (d : Dated). d.since ++ 0 ∷ []) (c.make_room-has_room.ensures.dates ∙ c.make_place.ensures.dates) in
+    let keys = ap (λ (d : Dated). d.keys) (c.make_room-has_room.ensures.dates ∙ c.make_place.ensures.dates) in
+    let here = room k.history.items k.parts c.act_with.new.parts c.spread.new.parts k.dating c.self.invariant.standing c.args.caller c.args.event c.in_ok-outcome.outcome (c.len.result + 1) n done c.spread.ensures.spreads in
+    let count = c.self.invariant.standing.count in
     record {
       places = subst (λ (xs : List ℕ). c.spread.new.parts.interest.added < length xs) (sym longer) here;
       count = omega (arith, count, ap (λ (ks : List EntryId). length ks) keys, ap dated_count longer, count_more k.dating.since.items);
-      later = λ i lt. ap (λ (xs : List ℕ). event_at xs i) longer ∙ later_left k.history.items k.parts c.act_with.new.parts c.spread.new.parts k.dating c.self.invariant c.args.caller c.args.event c.in_ok-outcome.outcome (c.len.result + 1) n done c.spread.ensures i lt;
-      room = key_room k.history.items k.parts c.act_with.new.parts c.spread.new.parts k.dating c.self.invariant c.args.caller c.args.event c.in_ok-outcome.outcome (c.len.result + 1) n done c.spread.ensures (vec_capacity c.make_key_room-has_room.new.self.keys) c.make_key_room-has_room.result
-          (omega (arith, c.self.invariant.room, c.make_key_room-has_room.ensures.keys_stay, c.make_place.ensures.keys_stay))
+      later = λ i lt. ap (λ (xs : List ℕ). event_at xs i) longer ∙ later_left k.history.items k.parts c.act_with.new.parts c.spread.new.parts k.dating c.self.invariant.standing c.args.caller c.args.event c.in_ok-outcome.outcome (c.len.result + 1) n done c.spread.ensures.spreads i lt;
+      room = key_room k.history.items k.parts c.act_with.new.parts c.spread.new.parts k.dating c.self.invariant.standing c.args.caller c.args.event c.in_ok-outcome.outcome (c.len.result + 1) n done c.spread.ensures.spreads (vec_capacity c.make_room-has_room.new.dating.keys) c.make_room-has_room.result
+          (omega (arith, c.self.invariant.standing.room, c.make_room-has_room.ensures.keys_stay, c.make_place.ensures.keys_stay))
           c.act_with.ensures.room
-          (λ has adds. let enough = c.make_key_room-has_room.ensures.keys has (c.is_adding.ensures ∙ adds) in omega (arith, enough, c.count_added-added.ensures));
+          (λ has adds. let enough = c.make_room-has_room.ensures.keys has adds in omega (arith, enough, c.count_added-added.ensures));
     }
 
 pub date-requires-clause-listed : goal.date-requires-clause-listed
@@ -120,14 +131,14 @@ date-requires-clause-listed c =
     let k = c.self.inside in
     let n : c.len.result + 1 ≡ length k.history.items + 1 = omega (arith, c.len.ensures, c.reserve.ensures.len) in
     let go =
-    may_report k.history.items k.parts c.self.invariant.keeps c.args.caller c.args.event (option_copied c.args.picks)
+    may_report k.history.items k.parts c.self.invariant.standing.keeps c.args.caller c.args.event (option_copied c.args.picks)
     (subst (λ (b : Book). HasStep b.limits (state_of b) c.args.caller c.args.event (option_copied c.args.picks)) (sym c.self.view_is) c.requires.there) in
     let done =
-    does_with k.history.items k.parts c.self.invariant.keeps (c.len.result + 1) n (MayReport k.parts c.args.caller.0 c.args.event (option_copied c.args.picks)) c.args.caller.0 c.args.event c.in_ok-outcome.outcome c.act_with.new.parts c.in_ok-outcome.ensures.ok go in
-    let longer = c.push_reserved.ensures.items ∙ ap (λ (d : Dated). d.since ++ 0 ∷ []) (c.make_key_room-has_room.ensures.dates ∙ c.make_place.ensures.dates) in
-    let keys = ap (λ (d : Dated). d.keys) (c.make_key_room-has_room.ensures.dates ∙ c.make_place.ensures.dates) in
+    does_with k.history.items k.parts c.self.invariant.standing.keeps (c.len.result + 1) n (MayReport k.parts c.args.caller.0 c.args.event (option_copied c.args.picks)) c.args.caller.0 c.args.event c.in_ok-outcome.outcome c.act_with.new.parts c.in_ok-outcome.ensures.ok go in
+    let longer = c.push_reserved.ensures.items ∙ ap (λ (d : Dated). d.since ++ 0 ∷ []) (c.make_room-has_room.ensures.dates ∙ c.make_place.ensures.dates) in
+    let keys = ap (λ (d : Dated). d.keys) (c.make_room-has_room.ensures.dates ∙ c.make_place.ensures.dates) in
     let here =
-    listed_left k.history.items k.parts c.act_with.new.parts c.spread.new.parts k.dating c.self.invariant c.args.caller c.args.event c.in_ok-outcome.outcome (c.len.result + 1) n done c.spread.ensures c.act_with.ensures.ids in
+    listed_left k.history.items k.parts c.act_with.new.parts c.spread.new.parts k.dating c.self.invariant.standing c.args.caller c.args.event c.in_ok-outcome.outcome (c.len.result + 1) n done c.spread.ensures.spreads c.act_with.ensures.ids in
     subst (λ (d : Dated). AreListed c.spread.new.parts.interest d) (λ i. record { since = sym longer i; keys = sym keys i }) here
 
 pub date-requires-clause-reasons : goal.date-requires-clause-reasons
@@ -135,15 +146,15 @@ date-requires-clause-reasons c =
     let k = c.self.inside in
     let n : c.len.result + 1 ≡ length k.history.items + 1 = omega (arith, c.len.ensures, c.reserve.ensures.len) in
     let go =
-    may_report k.history.items k.parts c.self.invariant.keeps c.args.caller c.args.event (option_copied c.args.picks)
+    may_report k.history.items k.parts c.self.invariant.standing.keeps c.args.caller c.args.event (option_copied c.args.picks)
     (subst (λ (b : Book). HasStep b.limits (state_of b) c.args.caller c.args.event (option_copied c.args.picks)) (sym c.self.view_is) c.requires.there) in
     let done =
-    does_with k.history.items k.parts c.self.invariant.keeps (c.len.result + 1) n (MayReport k.parts c.args.caller.0 c.args.event (option_copied c.args.picks)) c.args.caller.0 c.args.event c.in_ok-outcome.outcome c.act_with.new.parts c.in_ok-outcome.ensures.ok go in
-    let longer = c.push_reserved.ensures.items ∙ ap (λ (d : Dated). d.since ++ 0 ∷ []) (c.make_key_room-has_room.ensures.dates ∙ c.make_place.ensures.dates) in
-    let keys = ap (λ (d : Dated). d.keys) (c.make_key_room-has_room.ensures.dates ∙ c.make_place.ensures.dates) in
+    does_with k.history.items k.parts c.self.invariant.standing.keeps (c.len.result + 1) n (MayReport k.parts c.args.caller.0 c.args.event (option_copied c.args.picks)) c.args.caller.0 c.args.event c.in_ok-outcome.outcome c.act_with.new.parts c.in_ok-outcome.ensures.ok go in
+    let longer = c.push_reserved.ensures.items ∙ ap (λ (d : Dated). d.since ++ 0 ∷ []) (c.make_room-has_room.ensures.dates ∙ c.make_place.ensures.dates) in
+    let keys = ap (λ (d : Dated). d.keys) (c.make_room-has_room.ensures.dates ∙ c.make_place.ensures.dates) in
     let q = c.spread.new.parts in
     let here =
-    reasons k.history.items k.parts c.act_with.new.parts q k.dating c.self.invariant c.args.caller c.args.event c.in_ok-outcome.outcome (c.len.result + 1) n done c.spread.ensures
+    reasons k.history.items k.parts c.act_with.new.parts q k.dating c.self.invariant.standing c.args.caller c.args.event c.in_ok-outcome.outcome (c.len.result + 1) n done c.spread.ensures.spreads
     c.reportables_are_spread.ensures.law c.in_ok-outcome.ensures.ok.keys c.find_altered-altered.result c.find_altered-altered.ensures in
     subst (λ (xs : List ℕ). HaveReasons (entry_shows (readiness q.tables q.clock q.interest) q.tables q.clock) q.tables c.find_altered-altered.result xs q.interest.entries) (sym longer) here
 
@@ -152,19 +163,19 @@ rest-requires c =
     let k = c.self.inside in
     let n : c.len.result + 1 ≡ length k.history.items + 1 = omega (arith, c.len.ensures, c.reserve.ensures.len) in
     let go =
-    may_report k.history.items k.parts c.self.invariant.keeps c.args.caller c.args.event (option_copied c.args.picks)
+    may_report k.history.items k.parts c.self.invariant.standing.keeps c.args.caller c.args.event (option_copied c.args.picks)
     (subst (λ (b : Book). HasStep b.limits (state_of b) c.args.caller c.args.event (option_copied c.args.picks)) (sym c.self.view_is) c.requires.there) in
     let done =
-    does_with k.history.items k.parts c.self.invariant.keeps (c.len.result + 1) n (MayReport k.parts c.args.caller.0 c.args.event (option_copied c.args.picks)) c.args.caller.0 c.args.event c.in_ok-outcome.outcome c.act_with.new.parts c.in_ok-outcome.ensures.ok go in
-    let longer = c.push_reserved.ensures.items ∙ ap (λ (d : Dated). d.since ++ 0 ∷ []) (c.make_key_room-has_room.ensures.dates ∙ c.make_place.ensures.dates) in
+    does_with k.history.items k.parts c.self.invariant.standing.keeps (c.len.result + 1) n (MayReport k.parts c.args.caller.0 c.args.event (option_copied c.args.picks)) c.args.caller.0 c.args.event c.in_ok-outcome.outcome c.act_with.new.parts c.in_ok-outcome.ensures.ok go in
+    let longer = c.push_reserved.ensures.items ∙ ap (λ (d : Dated). d.since ++ 0 ∷ []) (c.make_room-has_room.ensures.dates ∙ c.make_place.ensures.dates) in
     let q = c.spread.new.parts in
     let d = c.date.new.dating in
     let dates = subst (λ (xs : List ℕ). Dates (entry_shows (readiness q.tables q.clock q.interest) q.tables q.clock) (c.len.result + 1) q.interest xs d.since.items) longer c.date.ensures.dates in
-    tells_left k.history.items k.parts c.act_with.new.parts q k.dating c.self.invariant c.args.caller c.args.event c.in_ok-outcome.outcome (c.len.result + 1) n done c.spread.ensures d dates c.date.ensures.listed
+    tells_left k.history.items k.parts c.act_with.new.parts q k.dating c.self.invariant.standing c.args.caller c.args.event c.in_ok-outcome.outcome (c.len.result + 1) n done c.spread.ensures.spreads d dates c.date.ensures.listed
 
 -- Once they are.
 longer_then : (c : goal.After-push_reserved-2) → c.push_reserved.new.self.items ≡ c.self.inside.dating.since.items ++ 0 ∷ []
-longer_then c = c.push_reserved.ensures.items ∙ ap (λ (d : Dated). d.since ++ 0 ∷ []) (c.make_key_room-has_room.ensures.dates ∙ c.make_place.ensures.dates)
+longer_then c = c.push_reserved.ensures.items ∙ ap (λ (d : Dated). d.since ++ 0 ∷ []) (c.make_room-has_room.ensures.dates ∙ c.make_place.ensures.dates)
 
 pub invariant_of-self-2 : goal.invariant_of-self-2
 invariant_of-self-2 c =
@@ -172,9 +183,10 @@ invariant_of-self-2 c =
     let q = c.spread.new.parts in
     let d = c.date.new.dating in
     let dates = subst (λ (xs : List ℕ). Dates (entry_shows (readiness q.tables q.clock q.interest) q.tables q.clock) (c.len.result + 1) q.interest xs d.since.items) (longer_then c) c.date.ensures.dates in
-    subst (λ (rs : List Record). Standing rs c.rest.new.parts d) (sym (records c))
-    (standing_next k.history.items k.parts c.act_with.new.parts q k.dating c.self.invariant c.args.caller c.args.event c.in_ok-outcome.outcome (c.len.result + 1) (number c) (does c) c.spread.ensures c.rest.new.parts c.rest.ensures d
-    dates c.date.ensures.listed c.date.ensures.fits.count c.date.ensures.fits.room)
+    let standing = subst (λ (rs : List Record). Standing rs c.rest.new.parts d) (sym (records c))
+    (standing_next k.history.items k.parts c.act_with.new.parts q k.dating c.self.invariant.standing c.args.caller c.args.event c.in_ok-outcome.outcome (c.len.result + 1) (number c) (does c) c.spread.ensures.spreads c.rest.new.parts c.rest.ensures d
+    dates c.date.ensures.listed c.date.ensures.fits.count c.date.ensures.fits.room) in
+    record { standing = standing; set = set_rested q c.rest.new.parts c.spread.new.alarms c.rest.ensures c.spread.ensures.set }
 
 pub returns-clause-ok : goal.returns-clause-ok
 returns-clause-ok c =
@@ -182,9 +194,9 @@ returns-clause-ok c =
     let outcome = c.in_ok-outcome.outcome in
     let given = option_copied c.args.picks in
     let new : Book = record { limits = c.rest.new.parts.tables.limits; past = c.push_reserved-2.new.self.items; capacity = vec_capacity c.push_reserved-2.new.self } in
-    let told = reports k.history.items k.parts c.self.invariant.keeps c.args.caller c.args.event (c.len.result + 1) (number c) given outcome.picked (may c) c.in_ok-outcome.ensures.picked in
+    let told = reports k.history.items k.parts c.self.invariant.standing.keeps c.args.caller c.args.event (c.len.result + 1) (number c) given outcome.picked (may c) c.in_ok-outcome.ensures.picked in
     let adds =
-    adds_by k.history.items k.parts c.act_with.new.parts c.spread.new.parts k.dating c.self.invariant c.args.caller c.args.event outcome (c.len.result + 1) (number c) (does c) c.spread.ensures c.rest.new.parts c.rest.ensures given told in
+    adds_by k.history.items k.parts c.act_with.new.parts c.spread.new.parts k.dating c.self.invariant.standing c.args.caller c.args.event outcome (c.len.result + 1) (number c) (does c) c.spread.ensures.spreads c.rest.new.parts c.rest.ensures given told in
     let old = c.args.self.now in
     subst (λ (a : Answer). AddsBy old.limits c.args.caller c.args.event given a (state_of old) (state_of new) old.past new.past) (sym c.into_record-answer.ensures.answer)
     (subst (λ (b : Book). AddsBy b.limits c.args.caller c.args.event given outcome.answer (state_of b) (state_of new) b.past new.past) c.self.view_is
@@ -196,4 +208,4 @@ returns-in_err-outcome-clause-last c =
     let k = c.self.inside in
     on_err c.from_residual-in_err-outcome.result
     (λ room. subst (λ (b : Book). first (refusals b.limits (next_event (state_of b)) c.args.caller.0 c.args.event) ≡ None) c.self.view_is
-    (event_last k.history.items k.parts c.self.invariant.keeps c.args.caller.0 c.args.event c.in_err-outcome.ensures.last))
+    (event_last k.history.items k.parts c.self.invariant.standing.keeps c.args.caller.0 c.args.event c.in_err-outcome.ensures.last))

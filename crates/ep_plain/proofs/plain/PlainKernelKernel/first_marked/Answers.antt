@@ -7,6 +7,6 @@ use Rattle.ep_plain.proofs.plain.PlainKernelKernel.first_marked.Goals as goal
 pub returns : goal.returns
 returns c =
     let k = c.self.inside in
-    let keeps = c.self.invariant.keeps in
+    let keeps = c.self.invariant.standing.keeps in
     c.first_marked.ensures keeps.state keeps.stands
     ∙ (ap first_marked (sym (state_is k.history.items k.parts keeps)) ∙ ap (λ (b : Book). first_marked (state_of b)) c.self.view_is)

@@ -13,7 +13,7 @@ pub returns : goal.returns
 returns c =
     let k = c.self.inside in
     let p = k.parts in
-    let keeps = c.self.invariant.keeps in
+    let keeps = c.self.invariant.standing.keeps in
     let caller = c.args.caller.0 in
     c.is_parked.ensures
     ∙ (ap (λ (j : Inside). list_any (is_caller caller) j.parts.parked) c.self-inside.view_is

@@ -11,4 +11,7 @@ invariant_of-self-2 c =
     let k = c.self.inside in
     let d : Dating = record { since = c.reserve-2.new.self; keys = k.dating.keys } in
     let same : dated_of d ≡ dated_of k.dating = ap (λ (xs : List ℕ). record { since = xs; keys = k.dating.keys.items }) c.reserve-2.ensures.items in
-    subst (λ (rs : List Record). Standing rs k.parts d) (sym c.reserve.ensures.items) (standing_room k.history.items k.parts k.dating d same (omega arith) c.self.invariant)
+    record {
+      standing = subst (λ (rs : List Record). Standing rs k.parts d) (sym c.reserve.ensures.items) (standing_room k.history.items k.parts k.dating d same (omega arith) c.self.invariant.standing);
+      set = c.self.invariant.set;
+    }

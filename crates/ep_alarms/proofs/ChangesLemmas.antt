@@ -1,5 +1,5 @@
 -- The moments of timers over an event.
-use Rattle.std.proofs.Common.{◌≡◌, ◌≢◌, ◌≤◌, ◌+◌, ◌<◌, ◌^◌, ◌∙◌, ℕ, ℤ, pos, zero, suc, false, true, IsSome, Bool, List, [], ◌∷◌, None, Option, Some, add-one, ap, arith, filter, get_or, if◌then◌else◌, inl, inr, is_none, is_some, length, nat_le, nat_lt, not, refl, slice_index_or, subst, sym, unwrap_or}
+use Rattle.std.proofs.Common.{◌≡◌, ◌≢◌, ◌≤◌, ◌+◌, ◌<◌, ◌^◌, ◌∙◌, ℕ, ℤ, pos, zero, suc, false, true, IsSome, Bool, List, [], ◌∷◌, None, Option, Some, add-one, ap, arith, get_or, inl, inr, is_none, is_some, length, nat_le, nat_lt, not, refl, slice_index_or, subst, sym, unwrap_or}
 use Rattle.std.specs.Prelude.{MatchOption}
 use Rattle.std.specs.List.{list_any}
 use Rattle.std.proofs.lemmas.Bool.{cases_lt, false≢true, leb-false}
@@ -9,15 +9,14 @@ use Rattle.ep_base.specs.declared.call.Call.TheVariants.{Close, Dup, Dup2, Epoll
 use Rattle.ep_base.specs.declared.call.Event.{Event}
 use Rattle.ep_base.specs.declared.call.Event.TheVariants.{Call as CallOf, Resume, Tick}
 use Rattle.ep_base.specs.declared.ids.Pid.{Pid}
+use Rattle.ep_calls.proofs.ClockLemmas.{controls_stay, nowhere_stays}
 use Rattle.ep_calls.proofs.FilesCallLemmas.{does_limits}
 use Rattle.ep_calls.specs.TableCall.{IsTableCall, called}
 use Rattle.ep_park.specs.Waiters.{is_of}
-use Rattle.ep_calls.specs.Control.{Controls, is_done}
-use Rattle.ep_calls.specs.Readiness.{entry_shows, readiness}
+use Rattle.ep_calls.specs.Control.{Controls}
 use Rattle.ep_calls.specs.declared.control.Control.{Control}
 use Rattle.ep_calls.specs.declared.control.Plan.{Plan}
 use Rattle.ep_calls.specs.declared.outcome.Outcome.{Outcome}
-use Rattle.ep_interest.specs.Registrations.{has_key}
 use Rattle.ep_machine.specs.Objects.{Object as Content, object_refusals, timer}
 use Rattle.ep_machine.specs.Tables.{create_one, one_free, one_refusals, slot}
 use Rattle.ep_alarms.proofs.AreSetLemmas.{set_but, set_kept, timer_in}
@@ -39,7 +38,7 @@ use Rattle.ep_calls.specs.Parts.{AreOpening, Parts}
 use Rattle.ep_calls.specs.declared.raising.Raising.{Raising}
 use Rattle.ep_calls.specs.declared.raising.Raising.TheVariants.{Clock, Instance, Nowhere, Object as ObjectOf}
 use Rattle.ep_due.specs.DueMap.{Moments, SameMoments, moment_of}
-use Rattle.ep_kernel.specs.Timers.{AreSetBeside, AreSetSince, CallsTables, CreatesTimer, GoesOn, IsCreated, IsRefused, LeavesFiles, MovesClock, TouchesTables, WereSet}
+use Rattle.ep_alarms.specs.Changes.{AreSetBeside, AreSetSince, CallsTables, CreatesTimer, GoesOn, IsCreated, IsRefused, LeavesFiles, MovesClock, TouchesTables, WereSet}
 use Rattle.ep_law.specs.Laws.{HaveOwnEnds}
 use Rattle.ep_machine.specs.Effect.{first}
 use Rattle.ep_machine.specs.Files.{Files, Place, Slot, Table, description_in, is_live, live, named_by, names_nothing, numbers_of, object_at, opening_files, object_under, place_of, side_under, table_of, under}
@@ -92,20 +91,14 @@ some_is None h = absurd (false≢true (sym h))
 some_is (Some x) h = (x, refl)
 
 -- What leaves the files.
-raised_there : (a b : Bool) (desc : DescId) (before now : ℕ) → now ≡ before → ClockStays (if a then (if b then Instance desc else Nowhere) else Nowhere) before now
-raised_there true true desc before now same = same
-raised_there true false desc before now same = same
-raised_there false b desc before now same = same
-
 pub controls_leave : (plan : Plan) (args : Control) (outcome : Outcome) (p q : Parts) → Controls plan args outcome p q → LeavesFiles outcome.raising p q
 controls_leave plan args outcome p q controls = record {
   files = ap (λ (v : Seen). v.files) controls.tables;
-  clock = subst (λ (r : Raising). ClockStays r p.clock q.clock) (sym controls.raising)
-      (raised_there (is_done outcome.answer) (list_any (entry_shows (readiness q.tables q.clock q.interest) q.tables q.clock) (filter (has_key plan.named.instance args.fd plan.named.desc) q.interest.entries)) plan.named.instance p.clock q.clock controls.clock);
+  clock = controls_stay plan args outcome p q controls;
 }
 
 pub nowhere_leaves : (raising : Raising) (p : Parts) → raising ≡ Nowhere → LeavesFiles raising p p
-nowhere_leaves raising p is = record { files = refl; clock = subst (λ (r : Raising). ClockStays r p.clock p.clock) (sym is) refl }
+nowhere_leaves raising p is = record { files = refl; clock = nowhere_stays raising p.clock is }
 
 -- A number that a new description got.
 entered : {X : Type 0} (xs : List (Option X)) (x : X) → get_or (enter xs x) (lowest_free xs) None ≡ Some x
@@ -387,3 +380,7 @@ tick_moves n before now answer raising = by (first ((nat_lt last_moment (before 
   by : (o : Option Errno) → MatchOption o ((answer ≡ Done) × (now ≡ before + n)) (λ e. (answer ≡ Refused e) × (now ≡ before)) → MatchOption o (raising ≡ Clock before) (λ e. raising ≡ Nowhere) → GoesOn raising before now
   by None ticks sets = subst (λ (r : Raising). GoesOn r before now) (sym sets) (refl, subst (λ (k : ℕ). before ≤ k) (sym ticks.1) (omega arith))
   by (Some e) ticks sets = subst (λ (r : Raising). GoesOn r before now) (sym sets) ticks.1
+
+-- A call that is refused.
+pub refused_moves : (event : Event) (pid : Pid) (call : Call) (raising : Raising) (now : ℕ) → event ≡ CallOf pid call → raising ≡ Nowhere → MovesClock event raising now now
+refused_moves event pid call raising now is nowhere = subst (λ (e : Event). MovesClock e raising now now) (sym is) (nowhere_stays raising now nowhere)
