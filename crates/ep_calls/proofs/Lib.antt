@@ -36,7 +36,13 @@ pub mod ActLemmas
 pub mod ObjectLemmas
 pub mod ClockLemmas
 pub mod ControlLemmas
+pub mod ClimbLemmas
+pub mod MappedLemmas
 pub mod KeepsLemmas
+pub mod EndLemmas
+pub mod PassLemmas
+pub mod EntryLemmas
+pub mod CauseLemmas
 pub mod StepLemmas
 pub mod KeptLemmas
 pub mod IdLemmas

@@ -19,6 +19,8 @@ pub mod Wait
 pub mod Reports
 pub mod Burial
 pub mod Climb
+pub mod Ends
+pub mod Causes
 pub mod TableCall
 pub mod Ids
 pub mod Arrivals

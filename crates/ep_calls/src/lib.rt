@@ -6,6 +6,7 @@ mod bury;
 mod clock;
 mod control;
 mod driver;
+mod forget;
 mod kernel;
 mod object_call;
 mod outcome;

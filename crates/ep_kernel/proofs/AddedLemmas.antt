@@ -1,4 +1,6 @@
 -- What comes to a list over an event, was reached by its spread, or altered by an ADD or MOD.
+use Rattle.ep_law.proofs.GraphLemmas.{member_of_map}
+use Rattle.ep_calls.proofs.EntryLemmas.{holds_under}
 use Rattle.std.proofs.Common.{◌≡◌, ◌∙◌, ◌+◌, ◌==◌, ◌&&◌, ◌⊎◌, ℕ, true, false, IsSome, List, [], None, Option, Some, ap, filter, inl, inr, length, nat_lt, refl, subst, sym, unwrap_or}
 use Rattle.std.specs.Prelude.{MatchOption}
 use Rattle.std.proofs.lemmas.Bool.{false≢true}
@@ -21,13 +23,13 @@ use Rattle.ep_calls.specs.declared.outcome.Outcome.{Outcome}
 use Rattle.ep_interest.specs.Registrations.{entry_under, number_under}
 use Rattle.ep_interest.specs.declared.entry.Entry.{Entry}
 use Rattle.ep_kernel.proofs.ArriveLemmas.{came_from}
-use Rattle.ep_kernel.proofs.EntryLemmas.{holds_under, is_under}
+use Rattle.ep_kernel.proofs.EntryLemmas.{is_under}
 use Rattle.ep_kernel.proofs.JoinLemmas.{Follows, leaves, loses, old_number, places_after, same_instance, settled, settled_is}
 use Rattle.ep_kernel.proofs.NextLemmas.{goes, keeps_after, runs_next, stands_after, to_state}
 use Rattle.ep_kernel.proofs.NumberLemmas.{among_numbers, entry_at, number_member}
 use Rattle.ep_kernel.proofs.ReadyBookLemmas.{complete_listed, listed_by, listed_of, number_is, sound_listed}
 use Rattle.ep_kernel.proofs.SurvivalLemmas.{climb, climbed_back, left_back, or_cases, stood}
-use Rattle.ep_kernel.proofs.ViewLemmas.{Views, entry_views, mapped_from, view_member}
+use Rattle.ep_kernel.proofs.ViewLemmas.{Views, entry_views, view_member}
 use Rattle.ep_kernel.proofs.WaitedLemmas.{ready_in, rest_files, rest_passes}
 use Rattle.ep_kernel.specs.Listed.{IsListed, key_shows, lists_of, order_at, shows_found}
 use Rattle.ep_kernel.specs.Push.{comes_in, is_home}
@@ -103,7 +105,7 @@ module _ (n : ℕ) (event : Event) (outcome : Outcome) (old mid noted buried cli
   keys = buried.tables.keys
 
   abbrev to_end : KernelWatch → KernelWatch
-  to_end = climb n buried climbed.interest follows.settles.climbs follows.climbed_keys follows.left follows.now follows.settles.coherent_buried follows.settles.sound_buried
+  to_end = climb n buried climbed.interest follows.settles.climbs follows.climbed_keys follows.leaves.left follows.now follows.settles.coherent_buried follows.settles.sound_buried
 
   -- a number on the list at the end that was not there before
   pub record HasCome (number : ℕ) : Type 0 where
@@ -141,7 +143,7 @@ module _ (n : ℕ) (event : Event) (outcome : Outcome) (old mid noted buried cli
       let j = number_member climbed.interest (list_at l3 i.0) number (among_member (order_at climbed.interest l3 i.0) number on) in
       let k = j.0 in
       let y = entry_at left t stands_after follows.now f.climbs.linked f.sound_buried l3 (places_after n event outcome old mid noted buried climbed new l0 l1 l2 l3 follows) follows.lists_after i.0 k j.1 in
-      let z = climbed_back n buried climbed.interest f.climbs follows.climbed_keys follows.left follows.now f.coherent_buried f.sound_buried k (watch_at keys y.0) (entry_views keys climbed.interest k y.0 y.1) in
+      let z = climbed_back n buried climbed.interest f.climbs follows.climbed_keys follows.leaves.left follows.now f.coherent_buried f.sound_buried k (watch_at keys y.0) (entry_views keys climbed.interest k y.0 y.1) in
       let is : y.0.number ≡ number = sym (ap (λ (o : Option ℕ). unwrap_or o 0) (is_under climbed.interest (entry_id k) y.0 y.1).number) ∙ j.2 in
       let not_before : is_among (list_at l0 i.0) k ≡ true → ⊥ = λ h. false≢true (sym absent ∙ (ap (is_among (list_of (lists_of old l0) e)) (sym is) ∙ stood_before k y.0 y.1 h)) in
       let from = sym (follows.gains.each i.0 k) ∙ among k (list_at l3 i.0) j.1 in
@@ -171,7 +173,7 @@ module _ (n : ℕ) (event : Event) (outcome : Outcome) (old mid noted buried cli
   watch_is : (sound : Sound t) (number : ℕ) (come : HasCome number) (x : Watch) → Member x t.watches → x.number ≡ number → kernel_watch t x ≡ to_end come.v
   watch_is sound number come x m is =
       let there = view_member keys climbed.interest come.k (watch_at keys come.y) (entry_views keys climbed.interest come.k come.y come.under) in
-      let w = mapped_from (kernel_watch t) t.watches (watch_at keys come.y) (subst (Member (watch_at keys come.y)) (sym stands_after.watches) there) in
+      let w = member_of_map (kernel_watch t) t.watches (watch_at keys come.y) (subst (Member (watch_at keys come.y)) (sym stands_after.watches) there) in
       let number_too : w.0.number ≡ number = ap (λ (z : KernelWatch). z.number) w.2 ∙ come.number_is in
       let same : x ≡ w.0 = one_number t.watches x w.0 sound.numbers m w.1 (is ∙ sym number_too) in
       ap (kernel_watch t) same ∙ (w.2 ∙ come.is)
@@ -183,7 +185,7 @@ module _ (n : ℕ) (event : Event) (outcome : Outcome) (old mid noted buried cli
     passing comes =
         let f = follows.settles in
         let from =
-        came_from n outcome.raising mid noted.interest buried (leaves n event outcome old mid noted buried climbed new l0 l1 l2 l3 follows) (f.parked ∙ ap (λ (p : Parts). p.parked) f.noted_others) (f.clock ∙ ap (λ (p : Parts). p.clock) f.noted_others) f.sound_buried
+        came_from n outcome.raising mid noted.interest buried (leaves n event outcome old mid noted buried climbed new l0 l1 l2 l3 follows)
         b c made changed settled_change at counted as_raised same_files f.coherent_buried come.k come.views.x come.views.under comes in
         let same = from.2 ∙ come.views.is in
         (from.0, from.3, ap (λ (z : KernelWatch). z.armed) same, ap (λ (z : KernelWatch). z.mask) same, ap (λ (z : KernelWatch). z.target) same)
@@ -193,7 +195,7 @@ module _ (n : ℕ) (event : Event) (outcome : Outcome) (old mid noted buried cli
     altered_there altered =
         let u = left_back n outcome.raising mid noted.interest buried (leaves n event outcome old mid noted buried climbed new l0 l1 l2 l3 follows) come.k come.v come.views in
         let there = subst (Member u.0) (sym made.watches) (view_member mid.tables.keys mid.interest come.k u.0 u.1) in
-        let w = mapped_from (kernel_watch c.1) c.1.watches u.0 there in
+        let w = member_of_map (kernel_watch c.1) c.1.watches u.0 there in
         let view : Views mid.tables.keys mid.interest come.k (kernel_watch c.1 w.0) = subst (Views mid.tables.keys mid.interest come.k) (sym w.2) u.1 in
         let shows_key = altered_shows old mid event come.k view.x view.under altered in
         let ready : is_reportable c.1 w.0 ≡ true =

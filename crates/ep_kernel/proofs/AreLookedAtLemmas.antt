@@ -33,14 +33,15 @@ use Rattle.ep_calls.specs.declared.outcome.Outcome.{Outcome}
 use Rattle.ep_calls.specs.declared.raising.Raising.{Raising}
 use Rattle.ep_calls.specs.declared.raising.Raising.TheVariants.{Clock, Instance, Nowhere, Object as AtObject}
 use Rattle.ep_interest.specs.Registrations.{IsSound}
-use Rattle.ep_kernel.proofs.MarkLemmas.{lives_where, with_parked}
-use Rattle.ep_kernel.proofs.PassLemmas.{reached_is}
+use Rattle.ep_kernel.proofs.MarkLemmas.{lives_where}
+use Rattle.ep_calls.proofs.EndLemmas.{readiness_settled, rested, rests_so}
+use Rattle.ep_calls.proofs.PassLemmas.{reached_is}
 use Rattle.ep_kernel.proofs.RunLemmas.{does_at, runs_on, step_on}
-use Rattle.ep_kernel.proofs.SettledLemmas.{ends_of}
-use Rattle.ep_kernel.proofs.SurvivalLemmas.{Leaves}
+use Rattle.ep_calls.specs.Ends.{Leaves, Rests, Spreads}
 use Rattle.ep_kernel.specs.Listed.{AreFair}
 use Rattle.ep_kernel.specs.Mark.{AreLookedAt, attended, attends, resumed_at}
-use Rattle.ep_kernel.specs.Running.{Ends, Runs, Settled}
+use Rattle.ep_kernel.specs.Reach.{AreReached}
+use Rattle.ep_kernel.specs.Running.{ListsSpread, Runs}
 use Rattle.ep_kernel.specs.Turns.{Turns}
 use Rattle.ep_law.proofs.ListLemmas.{among_split, any_same, member_map}
 use Rattle.ep_law.proofs.MarkLemmas.{ready_marked, ready_same}
@@ -52,7 +53,6 @@ use Rattle.ep_machine.specs.Bits.{IN, at_end, nothing, when}
 use Rattle.ep_machine.specs.Effect.{first}
 use Rattle.ep_machine.specs.Files.{Files, Place, object_at, object_number, object_of, place_of}
 use Rattle.ep_machine.specs.Lists.{is_among}
-use Rattle.ep_machine.specs.Marks.{marked_by}
 use Rattle.ep_machine.specs.Objects.{Object, advance, instance, is_instance, plain}
 use Rattle.ep_machine.specs.Readiness.{is_ready}
 use Rattle.ep_machine.specs.Refusal.{refusals}
@@ -187,17 +187,17 @@ pub same_state : (o : Option (Answer × State)) (a b : Answer) (u v : State) →
 same_state o a b u v h k = ap (λ (q : Option (Answer × State)). unwrap_or (option_map (λ (r : Answer × State). r.1) q) u) (sym h ∙ k)
 
 -- One event, up to its marks.
-module _ (law : ListsGoOn) (reach : UnmarkedAreReached) (past : List Record) (old mid climbed : Parts) (l0 l1 l3 : Lists) (runs : Runs past old l0) (coherent : AreCoherent old) (tables : SoundTables old.tables) (was : IsSound old.interest) (before : AreSoundLists l0) (after : AreSoundLists l3)
+module _ (law : ListsGoOn) (reach : UnmarkedAreReached) (past : List Record) (old mid left : Parts) (l0 l1 l3 : Lists) (runs : Runs past old l0) (coherent : AreCoherent old) (tables : SoundTables old.tables) (was : IsSound old.interest) (before : AreSoundLists l0) (after : AreSoundLists l3)
     (caller : CallerId) (event : Event) (outcome : Outcome) (n : ℕ) (at : n ≡ length past + 1) (does : DoesEventIf (λ s. AreFair s old l0) n caller.0 event outcome old mid)
-    (turns : Turns event outcome.picked old l0 mid l1) (settled : Settled n outcome.raising mid l1 climbed l3) where
+    (turns : Turns event outcome.picked old l0 mid l1) (spreads : Spreads n outcome.raising mid left) (lists : ListsSpread n mid spreads.noted spreads.buried l1 l3) (reaches : AreReached n spreads.buried.tables spreads.buried.interest l3.reached) where
   abbrev marked : Parts
-  marked = with_parked climbed (marked_by (ready_key climbed.tables climbed.clock climbed.interest) climbed.clock climbed.parked)
+  marked = rested left
 
-  abbrev ends : Ends n outcome.raising mid l1 marked l3
-  ends = ends_of n outcome.raising mid l1 climbed l3 marked settled refl refl
+  rests : Rests left marked
+  rests = rests_so left
 
   runs_marked : Runs (past ++ record_of caller event outcome ∷ []) marked l3
-  runs_marked = runs_on law past old mid marked l0 l1 l3 runs coherent tables was before after caller event outcome n at does turns ends
+  runs_marked = runs_on law past old mid marked l0 l1 l3 runs coherent tables was before after caller event outcome n at does turns left spreads lists rests
 
   abbrev s : State
   s = runs.keeps.state
@@ -207,37 +207,26 @@ module _ (law : ListsGoOn) (reach : UnmarkedAreReached) (past : List Record) (ol
 
   goes : step old.tables.limits s caller.0 event outcome.picked ≡ Some (outcome.answer, t)
   goes =
-      step_on law past old mid marked l0 l1 l3 runs coherent tables was before after caller event outcome n at does turns ends
+      step_on law past old mid marked l0 l1 l3 runs coherent tables was before after caller event outcome n at does turns left spreads lists rests
       ∙ ap (λ (u : State). Some (outcome.answer, u)) (state_is (past ++ record_of caller event outcome ∷ []) marked runs_marked.keeps)
 
   abbrev buried : Parts
-  buried = settled.buried
+  buried = spreads.buried
 
-  mid_parked : climbed.parked ≡ mid.parked
-  mid_parked = ap (λ (p : Parts). p.parked) settled.climbed_others ∙ (settled.parked ∙ ap (λ (p : Parts). p.parked) settled.noted_others)
+  abbrev leaves : Leaves n outcome.raising mid spreads.noted buried
+  leaves = spreads.leaves
 
-  climbed_tables : climbed.tables ≡ buried.tables
-  climbed_tables = ap (λ (p : Parts). p.tables) settled.climbed_others
+  mid_parked : left.parked ≡ mid.parked
+  mid_parked = ap (λ (p : Parts). p.parked) spreads.others ∙ leaves.parked
 
-  burial : Burial n mid.tables settled.noted.interest buried.tables buried.interest
-  burial = subst (λ (p : Parts). Burial n p.tables p.interest buried.tables buried.interest) settled.noted_others settled.burial
+  left_tables : left.tables ≡ buried.tables
+  left_tables = ap (λ (p : Parts). p.tables) spreads.others
 
-  leaves : Leaves n outcome.raising mid settled.noted.interest buried
-  leaves = record {
-    coherent = settled.coherent;
-    tables = settled.tables;
-    raises = does.raising;
-    stirs = settled.stirs;
-    keys = settled.noted_keys;
-    burial = burial;
-    ids = settled.ids;
-    was = settled.sound;
-    then_sound = settled.noted_sound;
-    left = settled.sound_buried;
-  }
+  burial : Burial n mid.tables spreads.noted buried.tables buried.interest
+  burial = leaves.burial
 
   -- a ready instance at which somebody waits, none of them marked once the due are
-  module _ (e : ℕ) (waits : waits_at climbed.parked e ≡ true) (none_marked : is_marked_at (map (marked_if_due climbed.clock) climbed.parked) e ≡ false) (ready : ready_key climbed.tables climbed.clock climbed.interest e ≡ true) where
+  module _ (e : ℕ) (waits : waits_at left.parked e ≡ true) (none_marked : is_marked_at (map (marked_if_due left.clock) left.parked) e ≡ false) (ready : ready_key left.tables left.clock left.interest e ≡ true) where
     abbrev i : DescId
     i = record { 0 = e }
 
@@ -248,12 +237,11 @@ module _ (law : ListsGoOn) (reach : UnmarkedAreReached) (past : List Record) (ol
     waits_mid = ap (λ (ws : List Waiter). waits_at ws e) (sym mid_parked) ∙ waits
 
     unmarked_mid : is_marked_at mid.parked e ≡ false
-    unmarked_mid = ap (λ (ws : List Waiter). is_marked_at ws e) (sym mid_parked) ∙ still_marked climbed.clock climbed.parked e none_marked
+    unmarked_mid = ap (λ (ws : List Waiter). is_marked_at ws e) (sym mid_parked) ∙ still_marked left.clock left.parked e none_marked
 
     is_buried : desc_number buried.tables i ≡ Some d
     is_buried =
-        let same : buried.parked ≡ mid.parked = settled.parked ∙ ap (λ (p : Parts). p.parked) settled.noted_others in
-        some_of (desc_number buried.tables i) d (lives_where buried.tables buried.parked e settled.coherent_buried.placed (ap (λ (ws : List Waiter). waits_at ws e) same ∙ waits_mid)) refl
+        some_of (desc_number buried.tables i) d (lives_where buried.tables buried.parked e leaves.coherent_buried.placed (ap (λ (ws : List Waiter). waits_at ws e) leaves.parked ∙ waits_mid)) refl
 
     is_mid : desc_number mid.tables i ≡ Some d
     is_mid = burial.buries.keys i d is_buried
@@ -271,7 +259,7 @@ module _ (law : ListsGoOn) (reach : UnmarkedAreReached) (past : List Record) (ol
     unmarked_in u stands =
         ap (λ (ws : List Waiter). is_marked_at ws d) stands.waiters
         ∙ (ap (is_marked_at (waiters_at mid.tables.keys mid.parked)) (sym number_mid)
-        ∙ (marks_numbered (λ k. number_at mid.tables.keys (record { 0 = k })) mid.parked e (numbers_apart_at mid.tables settled.tables mid.parked settled.coherent.placed) waits_mid
+        ∙ (marks_numbered (λ k. number_at mid.tables.keys (record { 0 = k })) mid.parked e (numbers_apart_at mid.tables leaves.tables mid.parked leaves.coherent.placed) waits_mid
         ∙ unmarked_mid))
 
     ready_now_there : is_ready t d ≡ true
@@ -279,7 +267,8 @@ module _ (law : ListsGoOn) (reach : UnmarkedAreReached) (past : List Record) (ol
         let stands = runs_marked.keeps.stands in
         ready_kept t d
         ∙ ((λ j. ready_now (stands.files j) (stands.now j) (stands.watches j) d)
-        ∙ (ap (λ (v : Seen). ready_now climbed.tables.files climbed.clock (watches_of climbed.tables climbed.interest) (number_at v.keys i)) (sym climbed_tables) ∙ ready))
+        ∙ (ap (λ (ready : ℕ → Bool). ready d) (readiness_settled left.tables left.clock left.interest marked.interest refl)
+        ∙ (ap (λ (v : Seen). ready_now left.tables.files left.clock (watches_of left.tables left.interest) (number_at v.keys i)) (sym left_tables) ∙ ready)))
 
     abbrev attend : Option DescId
     attend = attends (resumed_at old.parked caller.0 event) outcome.raising
@@ -301,12 +290,10 @@ module _ (law : ListsGoOn) (reach : UnmarkedAreReached) (past : List Record) (ol
         let begins : s.n + 1 ≡ n = ap (λ (k : ℕ). k + 1) runs.keeps.n ∙ sym at in
         let at_c : c.1.n ≡ n = change_n limits (next_event s) caller.0 event outcome.picked c is ∙ begins in
         let counted : (0 == n) ≡ false = ap (λ (k : ℕ). 0 == k) (sym begins) ∙ after_first s.n in
-        let same_parked : buried.parked ≡ mid.parked = settled.parked ∙ ap (λ (p : Parts). p.parked) settled.noted_others in
-        let same_clock : buried.clock ≡ mid.clock = settled.clock ∙ ap (λ (p : Parts). p.clock) settled.noted_others in
-        let same_files : (end_of s c).files ≡ buried.tables.files = ap (λ (u : State). u.files) (sym to_end) ∙ (runs_marked.keeps.stands.files ∙ ap (λ (v : Seen). v.files) climbed_tables) in
-        let by_key = reached_is n outcome.raising mid settled.noted.interest buried leaves same_parked same_clock settled.tables_buried (next_event s) c stands changed settled_change at_c counted as_raised same_files in
+        let same_files : (end_of s c).files ≡ buried.tables.files = ap (λ (u : State). u.files) (sym to_end) ∙ (runs_marked.keeps.stands.files ∙ ap (λ (v : Seen). v.files) left_tables) in
+        let by_key = reached_is n outcome.raising mid spreads.noted buried leaves (next_event s) c stands changed settled_change at_c counted as_raised same_files in
         among_split l3.reached (attended attend) e
-        ∙ or_left _ _ (settled.reached i ∙ both (ap is_some is_buried) (ap (λ (r : ℕ → Bool). r d) (sym by_key) ∙ reached)) where
+        ∙ or_left _ _ (reaches i ∙ both (ap is_some is_buried) (ap (λ (r : ℕ → Bool). r d) (sym by_key) ∙ reached)) where
           both : {a b : Bool} → a ≡ true → b ≡ true → (a && b) ≡ true
           both h k = λ j. h j && k j
 
@@ -316,14 +303,14 @@ module _ (law : ListsGoOn) (reach : UnmarkedAreReached) (past : List Record) (ol
         let watched : can_be_watched (object_of c.1.files d) ≡ true = ap can_be_watched here in
         let here_mid : object_of mid.tables.files d ≡ Some instance = ap (λ (f : Files). object_of f d) (sym stands.files) ∙ here in
         let bit = ap (λ (k : ℕ). bit_at k 0) (sym (as_raised d watched)) ∙ raised in
-        let at_i = raised_there mid.tables settled.tables i d mid.clock is_mid here_mid outcome.raising does.raising bit in
+        let at_i = raised_there mid.tables leaves.tables i d mid.clock is_mid here_mid outcome.raising does.raising bit in
         let none = not_resumed old.tables.limits (next_event s) caller.0 event outcome.picked c mid.tables mid.clock d old.parked allowed is watched raised in
         attended_there (λ j. attends (none j) (at_i j))
 
     by_resumption : ResumesAt (next_event s) caller.0 event d → IsLookedAt
     by_resumption h =
         let r = resumes_there old.tables old.parked coherent.placed caller.0 (next_event s) runs.keeps.stands.waiters event d h in
-        let one : r.0.0 ≡ e = settled.tables.one r.0 i d (does.keys r.0 d r.2) is_mid in
+        let one : r.0.0 ≡ e = leaves.tables.one r.0 i d (does.keys r.0 d r.2) is_mid in
         attended_there (ap (λ (o : Option DescId). attends o outcome.raising) r.1 ∙ (λ j. Some (record { 0 = one j })))
 
     by_refusal : (error : Errno) → first (refusals old.tables.limits (next_event s) caller.0 event) ≡ Some error → Refuses (next_event s) error outcome.answer outcome.picked mid → IsLookedAt
@@ -358,8 +345,8 @@ module _ (law : ListsGoOn) (reach : UnmarkedAreReached) (past : List Record) (ol
 
     is_looked_at : IsLookedAt
     is_looked_at =
-        let one = does_at law past old mid marked l0 l1 l3 runs coherent tables was before after caller event outcome n at does turns ends in
+        let one = does_at law past old mid marked l0 l1 l3 runs coherent tables was before after caller event outcome n at does turns left spreads lists rests in
         by_cases (first (refusals old.tables.limits (next_event s) caller.0 event)) refl one.goes one.raises
 
-  pub are_looked_at : AreLookedAt climbed l3 (attends (resumed_at old.parked caller.0 event) outcome.raising)
+  pub are_looked_at : AreLookedAt left l3 (attends (resumed_at old.parked caller.0 event) outcome.raising)
   are_looked_at = is_looked_at

@@ -1,4 +1,5 @@
 -- What comes to the end of its list in the climb, passes something on in the machine.
+use Rattle.ep_law.proofs.GraphLemmas.{member_of_map}
 use Rattle.std.proofs.Common.{◌≡◌, ◌∙◌, ◌==◌, ◌&&◌, ℕ, Bool, true, false, List, Option, Some, ap, filter, if◌then◌else◌, inl, inr, map, nat_lt, subst, sym, unwrap_or}
 use Rattle.std.proofs.lemmas.Bool.{false≢true}
 use Rattle.ep_calls.specs.Climb.{is_nested, link_of}
@@ -10,9 +11,10 @@ use Rattle.ep_calls.specs.declared.raising.Raising.{Raising}
 use Rattle.ep_interest.specs.Passes.{has_id}
 use Rattle.ep_interest.specs.Registrations.{Registrations, entry_under, ids, is_on, lets_in}
 use Rattle.ep_interest.specs.declared.entry.Entry.{Entry}
-use Rattle.ep_kernel.proofs.PassLemmas.{by_machine, kept_watches, noted_watch, passes_is}
-use Rattle.ep_kernel.proofs.SurvivalLemmas.{Leaves, or_cases}
-use Rattle.ep_kernel.proofs.ViewLemmas.{among_ids, entry_views, mapped_from, view_member}
+use Rattle.ep_calls.proofs.PassLemmas.{by_machine, kept_watches, noted_watch, passes_is}
+use Rattle.ep_calls.specs.Ends.{Leaves}
+use Rattle.ep_kernel.proofs.SurvivalLemmas.{or_cases}
+use Rattle.ep_kernel.proofs.ViewLemmas.{among_ids, entry_views, view_member}
 use Rattle.ep_kernel.specs.Listed.{may_stand}
 use Rattle.ep_kernel.specs.Push.{comes_by, comes_in, passes_found}
 use Rattle.ep_law.proofs.ListLemmas.{any_member, filtered_passes}
@@ -26,9 +28,8 @@ use Rattle.ep_machine.specs.Settle.{settle}
 use Rattle.ep_machine.specs.Spread.{raised_of}
 use Rattle.ep_machine.specs.State.{Change, State, Watch}
 use Rattle.ep_nest.specs.declared.link.Link.{Link}
-use Rattle.ep_plain.specs.Climb.{is_reached_key}
+use Rattle.ep_calls.specs.Climb.{is_reached_key}
 use Rattle.ep_ready.specs.ReadyLists.{entry_id}
-use Rattle.ep_table.specs.Value.{Sound as SoundTables}
 use Rattle.ep_view.specs.AtRest.{Changed, Settles}
 use Rattle.ep_view.specs.KernelView.{KernelWatch, carries, freshened, kernel_watch, kernel_watches, reached_now, watches_instance}
 
@@ -37,7 +38,7 @@ stamped : (n : ℕ) (b : Bool) → nat_lt 0 (if b then n else 0) ≡ true → ((
 stamped n true h = same_nat n
 stamped n false h = absurd (false≢true h)
 
-module _ (n : ℕ) (raising : Raising) (mid : Parts) (noted : Registrations) (buried : Parts) (leaves : Leaves n raising mid noted buried) (parked : buried.parked ≡ mid.parked) (clock : buried.clock ≡ mid.clock) (sound_buried : SoundTables buried.tables)
+module _ (n : ℕ) (raising : Raising) (mid : Parts) (noted : Registrations) (buried : Parts) (leaves : Leaves n raising mid noted buried)
     (b : State) (c : Change) (stands : StandFor mid c.1) (changed : Changed c.1) (settled : Settles c.1 c.2 (settle b c.1 c.2)) (at : c.1.n ≡ n) (counted : (0 == n) ≡ false)
     (as_raised : AsRaisedIn c.1.files raising mid.tables mid.clock c.2) (same_files : (settle b c.1 c.2).files ≡ buried.tables.files) (coherent : AreCoherent buried) where
   abbrev keys : List (Option ℕ)
@@ -47,13 +48,13 @@ module _ (n : ℕ) (raising : Raising) (mid : Parts) (noted : Registrations) (bu
   reached = reached_now buried.tables.files n (map (watch_at keys) buried.interest.entries)
 
   abbrev note : Watch → KernelWatch
-  note = noted_watch n raising mid noted buried leaves parked clock sound_buried b c stands changed settled at counted as_raised same_files
+  note = noted_watch n raising mid noted buried leaves b c stands changed settled at counted as_raised same_files
 
   -- a registration of a link of the graph is on an instance
   link_from : (l : Link) → Member l buried.graph → (x : Entry) × (l.inner ≡ x.desc) × (is_nested buried.tables x ≡ true)
   link_from l m =
       let nested = filter (is_nested buried.tables) buried.interest.entries in
-      let y = mapped_from (link_of buried.interest) nested l (subst (Member l) coherent.nested m) in
+      let y = member_of_map (link_of buried.interest) nested l (subst (Member l) coherent.nested m) in
       (y.0, ap (λ (j : Link). j.inner) (sym y.2), filtered_passes (is_nested buried.tables) buried.interest.entries y.0 y.1)
 
   comes_carries : (k : ℕ) (x : Entry) → entry_under buried.interest (entry_id k) ≡ Some x → (nat_lt 0 x.passes_in ≡ true → (x.passes_in == n) ≡ true) → comes_in n buried k ≡ true → carries reached buried.tables.files n (watch_at keys x) ≡ true
@@ -78,17 +79,17 @@ module _ (n : ℕ) (raising : Raising) (mid : Parts) (noted : Registrations) (bu
       → (w : Watch) × Member w (buried_of c.1 c.2).0.watches × (note w ≡ watch_at keys x) × (passes_on_of c w ≡ true)
   came_from k x is t =
       let kept : List Watch = (buried_of c.1 c.2).0.watches in
-      let bits = by_machine n raising mid noted buried leaves parked clock sound_buried b c stands changed settled at counted as_raised same_files in
+      let bits = by_machine n raising mid noted buried leaves b c stands changed settled at counted as_raised same_files in
       let there = view_member keys buried.interest k (watch_at keys x) (entry_views keys buried.interest k x is) in
-      let same = kept_watches n raising mid noted buried leaves parked clock sound_buried b c stands changed settled at counted as_raised same_files in
-      let v = mapped_from (freshened n bits) (kernel_watches c.1 kept) (watch_at keys x) (subst (Member (watch_at keys x)) (sym same) there) in
-      let w = mapped_from (kernel_watch c.1) kept v.0 v.1 in
+      let same = kept_watches n raising mid noted buried leaves b c stands changed settled at counted as_raised same_files in
+      let v = member_of_map (freshened n bits) (kernel_watches c.1 kept) (watch_at keys x) (subst (Member (watch_at keys x)) (sym same) there) in
+      let w = member_of_map (kernel_watch c.1) kept v.0 v.1 in
       let view : note w.0 ≡ watch_at keys x = ap (freshened n bits) w.2 ∙ v.2 in
       let stamp : nat_lt 0 x.passes_in ≡ true → (x.passes_in == n) ≡ true = λ positive.
       subst (λ (u : KernelWatch). nat_lt 0 u.passes_in ≡ true → (u.passes_in == n) ≡ true) view (stamped n (w.0.armed && nat_lt 0 (asked w.0.mask (raised_of bits w.0.target)))) positive in (
         w.0,
         w.1,
         view,
-        passes_is n raising mid noted buried leaves parked clock sound_buried b c stands changed settled at counted as_raised same_files w.0 w.1
+        passes_is n raising mid noted buried leaves b c stands changed settled at counted as_raised same_files w.0 w.1
             ∙ (ap (carries reached buried.tables.files n) view ∙ comes_carries k x is stamp t),
       )

@@ -3,7 +3,7 @@ use Rattle.std.proofs.Common.{◌≡◌, ◌∙◌, ◌==◌, ◌&&◌, ◌||◌
 use Rattle.std.proofs.lemmas.List.{map_more}
 use Rattle.ep_base.specs.declared.ids.DescId.{DescId}
 use Rattle.ep_calls.specs.Stands.{AreLinked, IsLinked, number_at, watch_at}
-use Rattle.ep_interest.specs.Registrations.{Registrations, settled}
+use Rattle.ep_interest.specs.Registrations.{Registrations}
 use Rattle.ep_interest.specs.declared.entry.Entry.{Entry}
 use Rattle.ep_kernel.specs.Reach.{AreReached}
 use Rattle.ep_law.proofs.ListLemmas.{all_member}
@@ -13,10 +13,10 @@ use Rattle.ep_machine.specs.Counts.{brings}
 use Rattle.ep_machine.specs.Files.{object_of}
 use Rattle.ep_machine.specs.Lists.{is_among}
 use Rattle.ep_machine.specs.Objects.{is_instance, plain}
-use Rattle.ep_plain.proofs.ClimbLemmas.{among_keys, climbs_on}
-use Rattle.ep_plain.specs.Climb.{is_reached_key}
+use Rattle.ep_calls.proofs.ClimbLemmas.{among_keys, climbs_on}
+use Rattle.ep_calls.specs.Climb.{is_reached_key, risen}
 use Rattle.ep_table.specs.Value.{Seen}
-use Rattle.ep_view.specs.KernelView.{climbed, climbed_all, reached_now}
+use Rattle.ep_view.specs.KernelView.{reached_now}
 
 abbrev pub desc_ids : List ℕ → List DescId
 desc_ids ks = map (λ (k : ℕ). record { 0 = k }) ks
@@ -45,14 +45,14 @@ fresh_same a r k b f e = ap (λ (t : Bool). t && k && b || f) e ∙ swap r k whe
   swap false false = refl
 
 module _ (v : Seen) (reached : ℕ → Bool) (ks : List ℕ) where
-  fresh_is : (xs : List Entry) → ((x : Entry) → Member x xs → is_among ks x.desc.0 ≡ reached (number_at v.keys x.desc)) → map (watch_at v.keys) (map settled (map (fresh_on v ks) xs)) ≡ map (climbed reached v.files) (map (watch_at v.keys) xs)
+  fresh_is : (xs : List Entry) → ((x : Entry) → Member x xs → is_among ks x.desc.0 ≡ reached (number_at v.keys x.desc)) → map (fresh_on v ks) xs ≡ map (risen reached v) xs
   fresh_is [] h = refl
   fresh_is (x ∷ xs) h =
       let rest = fresh_is xs (λ y m. h y (inr m)) in
       let one = fresh_same (among_keys (desc_ids ks) x.desc) (reached (number_at v.keys x.desc)) (is_kind v (number_at v.keys x.desc)) (brings x.mask.0 IN) x.fresh (among_descs ks x.desc ∙ h x (inl refl)) in
-      λ i. record (watch_at v.keys x) { fresh = one i; passes_in = 0 } ∷ rest i
+      λ i. record x { fresh = one i } ∷ rest i
 
-pub freshened_is : (n : ℕ) (v : Seen) (old : Registrations) (ks : List ℕ) → AreLinked v old → AreReached n v old ks → map (watch_at v.keys) (map settled (map (fresh_on v ks) old.entries)) ≡ climbed_all n v.files (map (watch_at v.keys) old.entries)
+pub freshened_is : (n : ℕ) (v : Seen) (old : Registrations) (ks : List ℕ) → AreLinked v old → AreReached n v old ks → map (fresh_on v ks) old.entries ≡ map (risen (reached_now v.files n (map (watch_at v.keys) old.entries)) v) old.entries
 freshened_is n v old ks linked exact =
     fresh_is v (reached_now v.files n (map (watch_at v.keys) old.entries)) ks old.entries (λ x m.
     exact x.desc ∙ ap (λ (b : Bool). b && is_reached_key n v old x.desc) (all_member (IsLinked v.keys) old.entries x linked m).desc)

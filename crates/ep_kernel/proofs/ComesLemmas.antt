@@ -1,4 +1,5 @@
 -- What comes through the instances that a walk reached.
+use Rattle.ep_law.proofs.GraphLemmas.{member_of_map}
 use Rattle.std.proofs.Common.{◌≡◌, ◌∙◌, ◌&&◌, ◌||◌, ◌<◌, ℕ, zero, suc, Bool, true, List, [], ◌∷◌, None, Option, Some, ap, arith, filter, get_or, is_some, length, refl, subst, sym}
 use Rattle.std.specs.List.{list_any}
 use Rattle.std.proofs.lemmas.Bool.{false≢true}
@@ -11,7 +12,7 @@ use Rattle.ep_interest.specs.Registrations.{IsSound, Registrations, entry_under,
 use Rattle.ep_interest.specs.declared.entry.Entry.{Entry}
 use Rattle.ep_kernel.proofs.EntryLemmas.{is_under}
 use Rattle.ep_kernel.proofs.PushLemmas.{gains_both, gains_same}
-use Rattle.ep_kernel.proofs.ViewLemmas.{among_ids, any_of, find_entry, mapped_from, same_bools}
+use Rattle.ep_kernel.proofs.ViewLemmas.{among_ids, any_of, find_entry, same_bools}
 use Rattle.ep_kernel.specs.Push.{Gains, comes_by, comes_in, comes_on, passes_found}
 use Rattle.ep_kernel.specs.Reach.{AreLive, AreReached}
 use Rattle.ep_law.proofs.ListLemmas.{all_member, among, among_member, any_member, filtered_member, filtered_passes, member_filter, member_map}
@@ -19,7 +20,7 @@ use Rattle.ep_law.proofs.TestLemmas.{both_true, from_test, or_left, or_right, sa
 use Rattle.ep_law.specs.Laws.{Member}
 use Rattle.ep_machine.specs.Lists.{is_among}
 use Rattle.ep_nest.specs.declared.link.Link.{Link}
-use Rattle.ep_plain.specs.Climb.{is_reached_key}
+use Rattle.ep_calls.specs.Climb.{is_reached_key}
 use Rattle.ep_ready.specs.ReadyLists.{Lists, entry_id}
 use Rattle.ep_table.specs.Value.{Seen, number_under}
 
@@ -66,7 +67,7 @@ module _ (n : ℕ) (p : Parts) (coherent : AreCoherent p) (sound : IsSound p.int
       let l = found.0 in
       let here = both_true (is_reached_key n p.tables r l.inner) (on l.inner k && lets k) found.2 in
       let nests = filter (is_nested p.tables) r.entries in
-      let y = mapped_from (link_of r) nests l (subst (Member l) coherent.nested found.1) in
+      let y = member_of_map (link_of r) nests l (subst (Member l) coherent.nested found.1) in
       let inner : l.inner ≡ y.0.desc = ap (λ (j : Link). j.inner) (sym y.2) in
       let link = all_member (IsLinked p.tables.keys) r.entries y.0 coherent.linked (filtered_member (is_nested p.tables) r.entries y.0 y.1) in
       let lives : is_some (number_under p.tables l.inner) ≡ true = ap (λ (d : DescId). is_some (number_under p.tables d)) inner ∙ link.desc in

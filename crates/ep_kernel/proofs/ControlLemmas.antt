@@ -1,4 +1,5 @@
 -- What an epoll_ctl leaves of the ready lists, and of the hopes.
+use Rattle.ep_calls.proofs.EntryLemmas.{holds_under}
 use Rattle.std.proofs.Common.{◌≡◌, ◌≢◌, ◌++◌, ◌&&◌, ◌||◌, ◌⊎◌, ◌==◌, ◌∙◌, ℕ, ℤ, Bool, true, false, IsSome, List, [], ◌∷◌, None, Option, Some, ap, append-nil, cond, filter, inl, inr, not, pos, refl, subst, sym, unwrap_or}
 use Rattle.std.specs.List.{list_any}
 use Rattle.std.specs.Option.{option_map}
@@ -26,7 +27,7 @@ use Rattle.ep_kernel.specs.Control.{Settles, is_at_instance}
 use Rattle.ep_kernel.specs.Listed.{HavePlaces, HopesFor, IsListed, key_shows, may_stand, shows_found}
 use Rattle.ep_kernel.specs.Push.{Gains, is_home}
 use Rattle.ep_kernel.specs.Turns.{AlteredStand, HopesGo, IsAlteredKey, Turns}
-use Rattle.ep_kernel.proofs.EntryLemmas.{holds_under, is_under}
+use Rattle.ep_kernel.proofs.EntryLemmas.{is_under}
 use Rattle.ep_kernel.proofs.PrunesLemmas.{stands_left}
 use Rattle.ep_kernel.proofs.PushLemmas.{gains_none, gains_one, gains_same, have_still}
 use Rattle.ep_kernel.proofs.SetLemmas.{Clears, Sets, apart_nat, some_of}

@@ -28,7 +28,7 @@ use Rattle.ep_kernel.proofs.NumberLemmas.{entry_at, number_member}
 use Rattle.ep_kernel.proofs.ReadyBookLemmas.{listed_of}
 use Rattle.ep_kernel.proofs.ReportsFirstLemmas.{waits_begun}
 use Rattle.ep_kernel.proofs.SurvivalLemmas.{climb, climbed_back, left_back, or_cases, stood}
-use Rattle.ep_kernel.proofs.ViewLemmas.{Views, entry_views, mapped_from, view_member}
+use Rattle.ep_kernel.proofs.ViewLemmas.{Views, entry_views, view_member}
 use Rattle.ep_kernel.proofs.WaitedLemmas.{IsReport, end, ends_reportable, passes_nothing, resumed, same_files, still_shows, waited}
 use Rattle.ep_kernel.specs.Listed.{lists_of, order_at}
 use Rattle.ep_kernel.specs.Push.{comes_in, is_home}
@@ -36,7 +36,7 @@ use Rattle.ep_kernel.specs.ReadyBook.{LeavesReportable, WaitsAt, list_of}
 use Rattle.ep_kernel.specs.Running.{Runs}
 use Rattle.ep_kernel.specs.Take.{key_stays, stays_found}
 use Rattle.ep_kernel.specs.Wait.{LeavesStaying}
-use Rattle.ep_law.proofs.GraphLemmas.{graph_stays_legal}
+use Rattle.ep_law.proofs.GraphLemmas.{graph_stays_legal, member_of_map}
 use Rattle.ep_law.proofs.ListLemmas.{all_member, among, among_member, among_split, member_map}
 use Rattle.ep_law.proofs.NamedLivesLemmas.{named_lives}
 use Rattle.ep_law.proofs.SoundLemmas.{sound_begun}
@@ -109,7 +109,7 @@ module _ (n : ℕ) (event : Event) (outcome : Outcome) (old mid noted buried cli
       elim (or_cases (is_among tables d) (is_among (places b.waiters) d) held) [
         | inl there ↦ among_split tables (places report.ws) d ∙ or_left _ _ there
         | inr waits ↦
-            let w = mapped_from (λ (v : Waiter). v.instance) b.waiters d (among_member (places b.waiters) d waits) in
+            let w = member_of_map (λ (v : Waiter). v.instance) b.waiters d (among_member (places b.waiters) d waits) in
             elim (report.stay w.0 w.1) [
               | inl here ↦ ap (is_among (named told_state)) (sym w.2 ∙ here) ∙ named_here
               | inr stays ↦
@@ -160,7 +160,7 @@ module _ (n : ℕ) (event : Event) (outcome : Outcome) (old mid noted buried cli
     i = key_after.0.0
 
     -- one that stood on the list after the change
-    stood_reportable : (k : ℕ) (y : Entry) → entry_under climbed.interest (entry_id k) ≡ Some y → (v : KernelWatch) → Views keys buried.interest k v → watch_at keys y ≡ climb n buried climbed.interest follows.settles.climbs follows.climbed_keys follows.left follows.now follows.settles.coherent_buried follows.settles.sound_buried v
+    stood_reportable : (k : ℕ) (y : Entry) → entry_under climbed.interest (entry_id k) ≡ Some y → (v : KernelWatch) → Views keys buried.interest k v → watch_at keys y ≡ climb n buried climbed.interest follows.settles.climbs follows.climbed_keys follows.leaves.left follows.now follows.settles.coherent_buried follows.settles.sound_buried v
         → is_among (list_at l2 i) k ≡ true → is_reportable_in t (number_at keys y.instance) y.number ≡ true
     stood_reportable k y under v views is on =
         let before = stood n outcome.raising mid noted.interest buried (leaves n event outcome old mid noted buried climbed new l0 l1 l2 l3 follows) l1 l2 (loses n event outcome old mid noted buried climbed new l0 l1 l2 l3 follows) follows.turns.places i k on in
@@ -170,7 +170,7 @@ module _ (n : ℕ) (event : Event) (outcome : Outcome) (old mid noted buried cli
         let all = both_true (x.reported_in == n && x.armed) (not (has_bit x.mask.0 ET)) (sym (ap (stays_found n) u.1.under) ∙ stay) in
         let two = both_true (x.reported_in == n) x.armed all.0 in
         let there = subst (Member u.0) (sym made.watches) (view_member mid.tables.keys mid.interest k u.0 u.1) in
-        let w = mapped_from (kernel_watch c.1) c.1.watches u.0 there in
+        let w = member_of_map (kernel_watch c.1) c.1.watches u.0 there in
         let same : kernel_watch c.1 w.0 ≡ watch_at mid.tables.keys x = w.2 ∙ sym u.1.is in
         let instance : number_at keys y.instance ≡ w.0.instance = ap (λ (z : KernelWatch). z.instance) is ∙ (ap (λ (z : KernelWatch). z.instance) u.3 ∙ ap (λ (z : KernelWatch). z.instance) (sym w.2)) in
         let number : y.number ≡ w.0.number = ap (λ (z : KernelWatch). z.number) is ∙ (ap (λ (z : KernelWatch). z.number) u.3 ∙ ap (λ (z : KernelWatch). z.number) (sym w.2)) in
@@ -183,7 +183,7 @@ module _ (n : ℕ) (event : Event) (outcome : Outcome) (old mid noted buried cli
         let j = number_member climbed.interest (list_at l3 i) number (among_member (order_at climbed.interest l3 i) number on) in
         let k = j.0 in
         let y = entry_at left t stands_after follows.now f.climbs.linked f.sound_buried l3 (places_after n event outcome old mid noted buried climbed new l0 l1 l2 l3 follows) follows.lists_after i k j.1 in
-        let z = climbed_back n buried climbed.interest f.climbs follows.climbed_keys follows.left follows.now f.coherent_buried f.sound_buried k (watch_at keys y.0) (entry_views keys climbed.interest k y.0 y.1) in
+        let z = climbed_back n buried climbed.interest f.climbs follows.climbed_keys follows.leaves.left follows.now f.coherent_buried f.sound_buried k (watch_at keys y.0) (entry_views keys climbed.interest k y.0 y.1) in
         let instance : number_at keys y.0.instance ≡ e = ap (λ (d : ℕ). number_at keys (record { 0 = d })) y.2 ∙ ap (λ (o : Option ℕ). unwrap_or o 0) key_after.1 in
         let is : y.0.number ≡ number = sym (ap (λ (o : Option ℕ). unwrap_or o 0) (is_under climbed.interest (entry_id k) y.0 y.1).number) ∙ j.2 in
         let there = sym (follows.gains.each i k) ∙ among k (list_at l3 i) j.1 in
@@ -191,7 +191,7 @@ module _ (n : ℕ) (event : Event) (outcome : Outcome) (old mid noted buried cli
           | inl stood_there ↦ (λ d. is_reportable_in t (sym instance d) (sym is d)) ∙ stood_reportable k y.0 y.1 z.0 z.1 z.3 stood_there
           | inr came ↦
               let from =
-              came_from n outcome.raising mid noted.interest buried (leaves n event outcome old mid noted buried climbed new l0 l1 l2 l3 follows) (f.parked ∙ ap (λ (p : Parts). p.parked) f.noted_others) (f.clock ∙ ap (λ (p : Parts). p.clock) f.noted_others) f.sound_buried
+              came_from n outcome.raising mid noted.interest buried (leaves n event outcome old mid noted buried climbed new l0 l1 l2 l3 follows)
               b c made changed settled_change at counted as_raised (ap (λ (u : State). u.files) (sym ends) ∙ stands_after.files) f.coherent_buried k z.1.x z.1.under (both_true (comes_in n buried k) (is_home i (instance_at l2 (entry_id k))) came).0 in
               absurd (false≢true (sym (nothing_passes from.0) ∙ from.3))
         ]

@@ -1,4 +1,5 @@
 -- An event as a whole: what its phases do to the ready lists, one after another.
+use Rattle.ep_calls.proofs.EntryLemmas.{holds_under}
 use Rattle.std.proofs.Common.{◌≡◌, ◌∙◌, ◌+◌, ◌==◌, ◌&&◌, ◌||◌, ◌⊎◌, ◌++◌, ◌≤◌, ℕ, Bool, true, false, not, IsSome, List, [], ◌∷◌, None, Option, Some, ap, arith, cond, filter, inl, inr, map, nat_lt, refl, slice_index_or, subst, sym, unwrap_or}
 use Rattle.std.specs.Option.{option_map}
 use Rattle.std.proofs.lemmas.Bool.{cases_Bool, false≢true}
@@ -10,17 +11,16 @@ use Rattle.ep_base.specs.declared.ids.EntryId.{EntryId}
 use Rattle.ep_calls.proofs.KeepsLemmas.{Settles}
 use Rattle.ep_calls.proofs.KeyLemmas.{number_kept}
 use Rattle.ep_calls.specs.Burial.{Burial}
-use Rattle.ep_calls.specs.Ids.{KeepsIds}
 use Rattle.ep_calls.specs.Moves.{StandFor}
 use Rattle.ep_calls.specs.Parts.{AreCoherent, Parts}
-use Rattle.ep_calls.specs.Raising.{IsRaising}
 use Rattle.ep_calls.specs.Stands.{IsLinked, KeepsKeys, number_at, watch_at}
 use Rattle.ep_calls.specs.declared.outcome.Outcome.{Outcome}
 use Rattle.ep_interest.specs.Registrations.{IsSound, Registrations, entry_under, number_under}
 use Rattle.ep_interest.specs.declared.entry.Entry.{Entry}
-use Rattle.ep_kernel.proofs.EntryLemmas.{holds_under, is_under}
+use Rattle.ep_kernel.proofs.EntryLemmas.{is_under}
 use Rattle.ep_kernel.proofs.NumberLemmas.{AreNumbered, among_numbers, distinct_order, entry_at, kept_numbers, key_is, list_numbered, number_member, numbers_at, same_numbers, shown_of, stays_by, stays_is}
-use Rattle.ep_kernel.proofs.SurvivalLemmas.{Leaves, gone, gone_is, places_climbed, places_left, sound_climbed, sound_left, was_under}
+use Rattle.ep_calls.specs.Ends.{Leaves}
+use Rattle.ep_kernel.proofs.SurvivalLemmas.{gone, gone_is, places_climbed, places_left, sound_climbed, sound_left, was_under}
 use Rattle.ep_kernel.proofs.ViewLemmas.{Views, entry_views, some_entry}
 use Rattle.ep_kernel.specs.Listed.{HavePlaces, MayStand, key_shows, order_at}
 use Rattle.ep_kernel.specs.Places.{LosesDying}
@@ -35,7 +35,7 @@ use Rattle.ep_calls.proofs.KeyLemmas.{same_keys}
 use Rattle.ep_calls.specs.Raising.{AsRaisedIn}
 use Rattle.ep_calls.specs.Readiness.{entry_shows, readiness}
 use Rattle.ep_interest.specs.Registrations.{entry_found}
-use Rattle.ep_kernel.proofs.PassLemmas.{left_member, noted_watch, passes_is}
+use Rattle.ep_calls.proofs.PassLemmas.{left_member, noted_watch, passes_is}
 use Rattle.ep_kernel.proofs.SurvivalLemmas.{climb, climbed_back, comes_if, may_watch}
 use Rattle.ep_kernel.proofs.ViewLemmas.{one_view, view_at}
 use Rattle.ep_kernel.specs.Listed.{shows_found}
@@ -89,15 +89,10 @@ pub record Follows (n : ℕ) (event : Event) (outcome : Outcome) (old mid noted 
   pub coherent : AreCoherent old
   pub tables : SoundTables old.tables
   pub keys : KeepsKeys old.tables mid.tables
-  pub raises : IsRaising outcome.raising mid.tables
+  pub leaves : Leaves n outcome.raising mid noted.interest buried
   pub settles : Settles n outcome.raising mid noted buried climbed new
-  pub noted_keys : noted.interest.keys ≡ mid.interest.keys
-  pub ids : KeepsIds noted.interest buried.interest
   pub climbed_keys : climbed.interest.keys ≡ buried.interest.keys
   pub was : IsSound old.interest
-  pub changed : IsSound mid.interest
-  pub stirred : IsSound noted.interest
-  pub left : IsSound buried.interest
   pub now : IsSound climbed.interest
   pub turns : Turns event outcome.picked old l0 mid l1
   pub loses : LosesDying noted.tables noted.interest l1 l2
@@ -110,21 +105,10 @@ module _ (n : ℕ) (event : Event) (outcome : Outcome) (old mid noted buried cli
   settles = follows.settles
 
   pub burial : Burial n mid.tables noted.interest buried.tables buried.interest
-  burial = subst (λ (p : Parts). Burial n p.tables p.interest buried.tables buried.interest) settles.noted_others settles.burial
+  burial = follows.leaves.burial
 
   abbrev pub leaves : Leaves n outcome.raising mid noted.interest buried
-  leaves = record {
-    coherent = settles.coherent;
-    tables = settles.sound;
-    raises = follows.raises;
-    stirs = settles.stirs;
-    keys = follows.noted_keys;
-    burial = burial;
-    ids = follows.ids;
-    was = follows.changed;
-    then_sound = follows.stirred;
-    left = follows.left;
-  }
+  leaves = follows.leaves
 
   pub loses : LosesDying mid.tables noted.interest l1 l2
   loses = subst (λ (p : Parts). LosesDying p.tables p.interest l1 l2) settles.noted_others follows.loses
@@ -137,12 +121,12 @@ module _ (n : ℕ) (event : Event) (outcome : Outcome) (old mid noted buried cli
 
   pub places_after : HavePlaces climbed.interest l3
   places_after =
-      places_climbed n buried climbed.interest settles.climbs follows.climbed_keys follows.left follows.now settles.coherent_buried settles.sound_buried
+      places_climbed n buried climbed.interest settles.climbs follows.climbed_keys follows.leaves.left follows.now settles.coherent_buried settles.sound_buried
       l3 (λ id. follows.gains.places id ∙ places_buried id)
 
   pub sound_after : MayStand climbed.interest l3
   sound_after =
-      sound_climbed n buried climbed.interest settles.climbs follows.climbed_keys follows.left follows.now settles.coherent_buried settles.sound_buried
+      sound_climbed n buried climbed.interest settles.climbs follows.climbed_keys follows.leaves.left follows.now settles.coherent_buried settles.sound_buried
       l2 l3 places_buried (sound_left n outcome.raising mid noted.interest buried leaves l1 l2 loses follows.turns.places follows.turns.sound) follows.gains
 
   -- the parts that are left
@@ -160,9 +144,9 @@ module _ (n : ℕ) (event : Event) (outcome : Outcome) (old mid noted buried cli
   mid_number k m h =
       let read = λ (ks : List (Option ℕ)). slice_index_or ks k None in
       let buried_number : number_under buried.interest (entry_id k) ≡ Some m = sym (ap read follows.climbed_keys) ∙ h in
-      elim (follows.ids (entry_id k)) [
+      elim (follows.leaves.ids (entry_id k)) [
         | inl none ↦ absurd (none_some m _ none buried_number)
-        | inr same ↦ sym (ap read follows.noted_keys) ∙ (sym same ∙ buried_number)
+        | inr same ↦ sym (ap read follows.leaves.keys) ∙ (sym same ∙ buried_number)
       ]
 
   -- and before it, or is the one that was added
@@ -173,7 +157,7 @@ module _ (n : ℕ) (event : Event) (outcome : Outcome) (old mid noted buried cli
   pub not_gone : (k m : ℕ) → number_under climbed.interest (entry_id k) ≡ Some m → is_gone k ≡ false
   not_gone k m h =
       let buried_number : number_under buried.interest (entry_id k) ≡ Some m = sym (ap (λ (ks : List (Option ℕ)). slice_index_or ks k None) follows.climbed_keys) ∙ h in
-      let y = some_entry buried.tables.keys buried.interest follows.left k m buried_number in
+      let y = some_entry buried.tables.keys buried.interest follows.leaves.left k m buried_number in
       let w = was_under n outcome.raising mid noted.interest buried leaves (entry_id k) y.0 y.1 in
       gone_is n outcome.raising mid noted.interest buried leaves l1 l2 loses k (watch_at mid.tables.keys w.x) (entry_views mid.tables.keys mid.interest k w.x w.under) ∙ ap not w.untouched
 
@@ -330,12 +314,6 @@ module _ (n : ℕ) (event : Event) (outcome : Outcome) (old mid noted buried cli
         same_files : (end_of s c).files ≡ buried.tables.files
         same_files = ap (λ (u : State). u.files) (sym ends) ∙ stands_after.files
 
-        same_parked : buried.parked ≡ mid.parked
-        same_parked = settles.parked ∙ ap (λ (p : Parts). p.parked) settles.noted_others
-
-        same_clock : buried.clock ≡ mid.clock
-        same_clock = settles.clock ∙ ap (λ (p : Parts). p.clock) settles.noted_others
-
         -- a registration of the machine that is reportable at the end, by its key
         pub record Ends (x : Watch) : Type 0 where
           pub k : ℕ
@@ -356,7 +334,7 @@ module _ (n : ℕ) (event : Event) (outcome : Outcome) (old mid noted buried cli
             let w : Member (kernel_watch c.1 x) (map (watch_at mid.tables.keys) mid.interest.entries) = subst (Member (kernel_watch c.1 x)) made.watches (member_map (kernel_watch c.1) x c.1.watches r.there) in
             record {
               k = k;
-              first = view_at mid.tables.keys mid.interest follows.changed k (kernel_watch c.1 x) w (mid_number k x.number key.1);
+              first = view_at mid.tables.keys mid.interest follows.leaves.was k (kernel_watch c.1 x) w (mid_number k x.number key.1);
               now = key.1;
               y = y.x;
               under = under;
@@ -394,17 +372,17 @@ module _ (n : ℕ) (event : Event) (outcome : Outcome) (old mid noted buried cli
         comes_on x r on =
             let h = ends_of x r in
             let keys = buried.tables.keys in
-            let climb_to = climb n buried climbed.interest settles.climbs follows.climbed_keys follows.left follows.now settles.coherent_buried settles.sound_buried in
-            let w = noted_watch n outcome.raising mid noted.interest buried leaves same_parked same_clock settles.sound_buried (next_event s) c made changed settled_change at counted as_raised same_files x in
-            let there = left_member n outcome.raising mid noted.interest buried leaves same_parked same_clock settles.sound_buried (next_event s) c made changed settled_change at counted as_raised same_files x r.left in
+            let climb_to = climb n buried climbed.interest settles.climbs follows.climbed_keys follows.leaves.left follows.now settles.coherent_buried settles.sound_buried in
+            let w = noted_watch n outcome.raising mid noted.interest buried leaves (next_event s) c made changed settled_change at counted as_raised same_files x in
+            let there = left_member n outcome.raising mid noted.interest buried leaves (next_event s) c made changed settled_change at counted as_raised same_files x r.left in
             let number : number_under buried.interest (entry_id h.k) ≡ Some x.number = sym (ap (λ (ks : List (Option ℕ)). slice_index_or ks h.k None) follows.climbed_keys) ∙ h.now in
-            let v = view_at keys buried.interest follows.left h.k w there number in
-            let z = climbed_back n buried climbed.interest settles.climbs follows.climbed_keys follows.left follows.now settles.coherent_buried settles.sound_buried h.k (watch_at keys h.y) (entry_views keys climbed.interest h.k h.y h.under) in
+            let v = view_at keys buried.interest follows.leaves.left h.k w there number in
+            let z = climbed_back n buried climbed.interest settles.climbs follows.climbed_keys follows.leaves.left follows.now settles.coherent_buried settles.sound_buried h.k (watch_at keys h.y) (entry_views keys climbed.interest h.k h.y h.under) in
             let is : watch_at keys h.y ≡ climb_to (watch_at keys v.x) = z.3 ∙ ap climb_to (one_view keys buried.interest h.k z.0 w z.1 v ∙ sym v.is) in
             let may : may_watch (climb_to (watch_at keys v.x)) ≡ true = ap may_watch (sym is) ∙ may_of h.y.armed _ (not (has_bit h.y.mask.0 ET) || h.y.fresh) h.shows in
             let carried = ap (carries (reached_now buried.tables.files n (map (watch_at keys) buried.interest.entries)) buried.tables.files n) v.is
-            ∙ (sym (passes_is n outcome.raising mid noted.interest buried leaves same_parked same_clock settles.sound_buried (next_event s) c made changed settled_change at counted as_raised same_files x r.left) ∙ on) in
-            comes_if n buried climbed.interest settles.climbs follows.climbed_keys follows.left follows.now settles.coherent_buried settles.sound_buried h.k v.x counted v.under carried may
+            ∙ (sym (passes_is n outcome.raising mid noted.interest buried leaves (next_event s) c made changed settled_change at counted as_raised same_files x r.left) ∙ on) in
+            comes_if n buried climbed.interest settles.climbs follows.climbed_keys follows.leaves.left follows.now settles.coherent_buried settles.sound_buried h.k v.x counted v.under carried may
 
         passes : (x : Watch) → EndsReportable s c e x → passes_on_of c x ≡ true → is_among order_after x.number ≡ true
         passes x r on =

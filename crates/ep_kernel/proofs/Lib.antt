@@ -17,13 +17,11 @@ pub mod ReportsFirstLemmas
 pub mod WaitTurnsLemmas
 pub mod ViewLemmas
 pub mod SurvivalLemmas
-pub mod PassLemmas
 pub mod JoinLemmas
 pub mod AlteredLemmas
 pub mod NextLemmas
 pub mod RunLemmas
 pub mod AreLookedAtLemmas
-pub mod SettledLemmas
 pub mod AskedLemmas
 pub mod PrunesLemmas
 pub mod HopesGoLemmas

@@ -1,4 +1,5 @@
 -- What holds between two events, over one event.
+use Rattle.ep_calls.proofs.EntryLemmas.{holds_under}
 use Rattle.std.proofs.Common.{◌≡◌, ◌∙◌, ◌+◌, ◌==◌, ◌⊎◌, ◌++◌, ℕ, Bool, true, false, IsSome, List, [], ◌∷◌, None, Option, Some, ap, cond, filter, inl, inr, length, map, refl, subst, sym, unwrap_or}
 use Rattle.std.specs.Option.{option_map}
 use Rattle.std.specs.Prelude.{MatchOption}
@@ -16,11 +17,10 @@ use Rattle.ep_calls.specs.Parts.{Parts}
 use Rattle.ep_calls.specs.Raising.{AsRaised, AsRaisedIn}
 use Rattle.ep_calls.specs.Stands.{IsLinked, number_at}
 use Rattle.ep_calls.specs.declared.outcome.Outcome.{Outcome}
-use Rattle.ep_kernel.proofs.AlteredLemmas.{altered_stands}
-use Rattle.ep_kernel.proofs.EntryLemmas.{holds_under}
+use Rattle.ep_kernel.proofs.AlteredLemmas.{IsOf, altered_next, altered_stands}
 use Rattle.ep_kernel.proofs.JoinLemmas.{Follows, apart, burial, keeps_number, left_picked, more_numbers, order_is, places_after, relists, same_instance, settled, settled_is, sound_after}
 use Rattle.ep_kernel.proofs.NumberLemmas.{complete_order, entry_at, has_reportables}
-use Rattle.ep_kernel.specs.Listed.{AreFair, HasReportables, IsListed, order_at}
+use Rattle.ep_kernel.specs.Listed.{AreFair, HasReportables, IsListed, key_shows, order_at}
 use Rattle.ep_kernel.specs.Running.{Runs}
 use Rattle.ep_law.proofs.ListLemmas.{among, among_member, among_split, filtered_member, member_filter}
 use Rattle.ep_law.proofs.StepLemmas.{after_first, change_counted, change_n, refused_step, step_changed}
@@ -30,13 +30,15 @@ use Rattle.ep_machine.specs.Effect.{first}
 use Rattle.ep_machine.specs.Files.{Files, is_live}
 use Rattle.ep_machine.specs.Lists.{is_among}
 use Rattle.ep_machine.specs.Refusal.{refusals}
-use Rattle.ep_machine.specs.State.{Change, State}
+use Rattle.ep_machine.specs.State.{Change, State, Watch}
 use Rattle.ep_machine.specs.Step.{change, next_event, step}
 use Rattle.ep_order.proofs.EventLemmas.{beginning_keeps_turns, dead_lists_are_empty}
-use Rattle.ep_order.specs.Event.{ListsGoOn, end_of}
+use Rattle.ep_order.specs.Event.{IsAltered, ListsGoOn, end_of}
 use Rattle.ep_order.specs.Order.{IsComplete, IsFairOrder, Turns}
 use Rattle.ep_order.specs.Pick.{turns_of}
-use Rattle.ep_ready.specs.ReadyLists.{Lists, entry_id, list_at}
+use Rattle.ep_kernel.proofs.ViewLemmas.{Views}
+use Rattle.ep_view.specs.KernelView.{KernelWatch, kernel_watch}
+use Rattle.ep_ready.specs.ReadyLists.{Lists, entry_id, list_at, stands}
 use Rattle.ep_calls.proofs.KeyLemmas.{under_key}
 use Rattle.ep_interest.specs.Registrations.{number_under}
 use Rattle.ep_table.specs.Value.{number_under as desc_number}
@@ -167,7 +169,9 @@ module _ (law : ListsGoOn) (past : List Record) (n : ℕ) (event : Event) (outco
         let begins : s.n + 1 ≡ n = ap (λ (k : ℕ). k + 1) runs.keeps.n ∙ sym at in
         let at_c : c.1.n ≡ n = change_n limits (next_event s) caller.0 event outcome.picked c m.is ∙ begins in
         let counted : (0 == n) ≡ false = ap (λ (k : ℕ). 0 == k) (sym begins) ∙ after_first s.n in
-        let alters = altered_stands old mid follows.keys follows.tables follows.settles.sound follows.settles.coherent.linked limits s c.1 runs.keeps.stands.files caller.0 event l1 allowed follows.turns.altered in
+        let alters : (k : ℕ) (x : Watch) → Views mid.tables.keys mid.interest k (kernel_watch c.1 x) → IsAltered s event x → key_shows mid k ≡ true → stands l1 (entry_id k) ≡ true = λ k x view is.
+        let of : IsOf mid view.x x = record { instance = ap (λ (w : KernelWatch). w.instance) view.is; fd = ap (λ (w : KernelWatch). w.fd) view.is; target = ap (λ (w : KernelWatch). w.target) view.is } in
+        altered_stands old mid follows.keys follows.tables follows.settles.sound follows.settles.coherent.linked limits (next_event s) runs.keeps.stands.files caller.0 event l1 allowed follows.turns.altered k view.x view.under x of (altered_next s event x is) in
         let lists = relists n event outcome old mid noted buried climbed new l0 l1 l2 l3 follows s t runs.keeps.stands stands_after runs.listed.places i lives c m.stands ends changed settled_change at_c counted (raises c m.is) alters in
         let on = law limits past s caller.0 event outcome.picked c runs.keeps.leads allowed m.is e before now fair_before complete_before lists in
         subst (λ (u : State). IsFairOrder (turns_of u e) now × IsComplete (turns_of u e) now) (sym ends) on

@@ -1,4 +1,5 @@
 -- Lists of keys, and the lists of numbers that the machine knows them by.
+use Rattle.ep_calls.proofs.EntryLemmas.{holds_under}
 use Rattle.std.proofs.Common.{◌≡◌, ◌≢◌, ◌≤◌, ◌<◌, ◌∙◌, ◌==◌, ◌&&◌, ◌||◌, ℕ, Bool, true, false, not, IsSome, List, [], ◌∷◌, None, Option, Some, ap, arith, cond, filter, inl, inr, map, refl, slice_index_or, subst, sym, unwrap_or}
 use Rattle.std.specs.Option.{option_map}
 use Rattle.std.proofs.lemmas.Bool.{cases_Bool, false≢true}
@@ -11,7 +12,7 @@ use Rattle.ep_calls.specs.Readiness.{entry_shows, readiness}
 use Rattle.ep_calls.specs.Stands.{AreLinked, IsLinked, Stands, number_at, watch_at}
 use Rattle.ep_interest.specs.Registrations.{IsSound, Registrations, RisesFrom, entry_found, entry_under, number_under, numbered}
 use Rattle.ep_interest.specs.declared.entry.Entry.{Entry}
-use Rattle.ep_kernel.proofs.EntryLemmas.{holds_under, is_under}
+use Rattle.ep_kernel.proofs.EntryLemmas.{is_under}
 use Rattle.ep_kernel.specs.Listed.{HasReportables, HavePlaces, key_shows, order_at, shows_found}
 use Rattle.ep_law.proofs.ListLemmas.{among, among_member, filtered_member, filtered_passes, member_filter, member_map}
 use Rattle.ep_law.proofs.TestLemmas.{both_true, from_test, same_nat, same_test}

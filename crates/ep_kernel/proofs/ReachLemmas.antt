@@ -1,4 +1,6 @@
 -- What a walk reaches is what IN reaches.
+use Rattle.ep_law.proofs.GraphLemmas.{member_of_map}
+use Rattle.ep_calls.proofs.EntryLemmas.{holds_under}
 use Rattle.std.proofs.Common.{◌≡◌, ◌∙◌, ◌==◌, ◌&&◌, ◌⊎◌, ◌↔◌, ℕ, zero, suc, All, Bool, true, false, Contains, List, [], ◌∷◌, None, Option, Some, ap, cond, filter, inl, inr, is_some, map, nat_lt, refl, subst, sym}
 use Rattle.std.proofs.lemmas.Bool.{cases_Bool}
 use Rattle.std.proofs.lemmas.List.Elements.{All-contains, All-from_recursion}
@@ -11,8 +13,7 @@ use Rattle.ep_calls.specs.Climb.{AreNested, is_nested, link_of}
 use Rattle.ep_calls.specs.Stands.{AreLinked, IsLinked, watch_at}
 use Rattle.ep_interest.specs.Registrations.{IsSound, Registrations, entry_found, entry_under, id_of, lets_in, number_under, numbered}
 use Rattle.ep_interest.specs.declared.entry.Entry.{Entry}
-use Rattle.ep_kernel.proofs.EntryLemmas.{holds_under}
-use Rattle.ep_kernel.proofs.ViewLemmas.{entry_views, mapped_from, same_bools, view_member}
+use Rattle.ep_kernel.proofs.ViewLemmas.{entry_views, same_bools, view_member}
 use Rattle.ep_kernel.specs.Listed.{HavePlaces}
 use Rattle.ep_kernel.specs.Reach.{AreHome, AreReached, IsFrom, Walks, open_edges, passed_by}
 use Rattle.ep_law.proofs.ListLemmas.{all_member}
@@ -30,7 +31,7 @@ use Rattle.ep_nest.specs.declared.link.Link.{Link}
 use Rattle.ep_nest.specs.declared.link.Way.TheVariants.{Down}
 use Rattle.ep_order.proofs.ReachLemmas.{all_reached}
 use Rattle.ep_order.specs.Reach.{IsReachedFrom, lets_by, open_links}
-use Rattle.ep_plain.specs.Climb.{is_reached_key}
+use Rattle.ep_calls.specs.Climb.{is_reached_key}
 use Rattle.ep_ready.specs.ReadyLists.{Lists, entry_id}
 use Rattle.ep_table.specs.Value.{Seen, Sound as SoundTables, number_under as desc_number}
 use Rattle.ep_view.specs.KernelView.{KernelWatch, reached_now}
@@ -189,7 +190,7 @@ module _ (v : Seen) (tables : SoundTables v) (r : Registrations) (sound : IsSoun
       from i t =
           let holds = both_true (is_some (desc_number v i)) (is_reached_key n v r i) t in
           let w = (law (number v i.0)).0 holds.1 in
-          let x = mapped_from (watch_at v.keys) r.entries w.0 w.1 in
+          let x = member_of_map (watch_at v.keys) r.entries w.0 w.1 in
           let found : IsFound x.0 = all_member IsFound r.entries x.0 each_found x.1 in
           let key = sound.has_one x.0.number x.0 found in
           let at : entry_under r key.0 ≡ Some x.0 = ap (entry_found r.entries) key.1 ∙ found in

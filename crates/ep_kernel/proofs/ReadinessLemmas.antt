@@ -1,4 +1,5 @@
 -- What is reportable at an instance stands among its hopes, so looking along them finds it.
+use Rattle.ep_calls.proofs.EntryLemmas.{holds_under}
 use Rattle.std.proofs.Common.{◌≡◌, ◌<◌, ◌∙◌, ◌==◌, ◌&&◌, ◌-◌, ℕ, zero, suc, Bool, true, false, Contains, IsSome, List, None, Option, Some, ap, arith, if◌then◌else◌, inl, inr, refl, subst, sym, unwrap_or}
 use Rattle.std.specs.List.{list_any}
 use Rattle.std.specs.Option.{option_map}
@@ -13,7 +14,7 @@ use Rattle.ep_calls.specs.Readiness.{entry_shows, readiness, watches_of}
 use Rattle.ep_calls.specs.Stands.{IsLinked, number_at, watch_at}
 use Rattle.ep_interest.specs.Registrations.{IsSound, entry_under}
 use Rattle.ep_interest.specs.declared.entry.Entry.{Entry}
-use Rattle.ep_kernel.proofs.EntryLemmas.{holds_under, is_under}
+use Rattle.ep_kernel.proofs.EntryLemmas.{is_under}
 use Rattle.ep_kernel.proofs.ViewLemmas.{any_of, entry_views, find_entry, same_bools, view_member, view_of}
 use Rattle.ep_kernel.specs.Listed.{HopesFor, key_shows, shows_found}
 use Rattle.ep_kernel.specs.Readiness.{EndsWithin, found_shows, nested_found}

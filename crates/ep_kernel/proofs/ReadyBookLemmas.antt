@@ -1,4 +1,6 @@
 -- What contracts see of the ready lists.
+use Rattle.ep_law.proofs.GraphLemmas.{member_of_map}
+use Rattle.ep_calls.proofs.EntryLemmas.{holds_under}
 use Rattle.std.proofs.Common.{◌≡◌, ◌∙◌, ◌==◌, ◌||◌, ◌⊎◌, ℕ, zero, suc, Bool, true, false, not, List, [], ◌∷◌, None, Option, Some, ap, cond, inl, inr, map, refl, slice_index_or, subst, sym, unwrap_or}
 use Rattle.std.proofs.lemmas.Bool.{cases_Bool, false≢true}
 use Rattle.ep_base.specs.declared.ids.DescId.{DescId}
@@ -8,9 +10,9 @@ use Rattle.ep_calls.specs.Parts.{Parts}
 use Rattle.ep_calls.specs.Stands.{AreLinked, IsLinked, number_at, watch_at}
 use Rattle.ep_interest.specs.Registrations.{IsSound, entry_found, entry_under}
 use Rattle.ep_interest.specs.declared.entry.Entry.{Entry}
-use Rattle.ep_kernel.proofs.EntryLemmas.{holds_under, is_under}
+use Rattle.ep_kernel.proofs.EntryLemmas.{is_under}
 use Rattle.ep_kernel.proofs.NumberLemmas.{complete_order, distinct_order, entry_at, number_member, shown_of}
-use Rattle.ep_kernel.proofs.ViewLemmas.{find_entry, mapped_from}
+use Rattle.ep_kernel.proofs.ViewLemmas.{find_entry}
 use Rattle.ep_kernel.specs.Listed.{IsListed, lists_of, lists_under, order_at, with_first}
 use Rattle.ep_kernel.specs.ReadyBook.{InstanceList, MayBeListed, list_of}
 use Rattle.ep_law.proofs.ListLemmas.{among, among_member, member_map}
@@ -159,7 +161,7 @@ module _ (p : Parts) (l : Lists) (s : State) (stands_for : StandFor p s) (linked
   watch_of : (x : Entry) (k : ℕ) → entry_under p.interest (entry_id k) ≡ Some x → (w : Watch) × Member w s.watches × (kernel_watch s w ≡ watch_at p.tables.keys x)
   watch_of x k is =
       let there = find_entry p.tables.keys p.interest p.interest.entries x.number x (is_under p.interest (entry_id k) x is).there in
-      mapped_from (kernel_watch s) s.watches (watch_at p.tables.keys x)
+      member_of_map (kernel_watch s) s.watches (watch_at p.tables.keys x)
       (subst (Member (watch_at p.tables.keys x)) (sym stands_for.watches) (member_map (watch_at p.tables.keys) x p.interest.entries there))
 
   at_key : (i : DescId) (e n : ℕ) → number_under p.tables i ≡ Some e → is_among (order_at p.interest l i.0) n ≡ true → MayBeListed s e n

@@ -6,9 +6,12 @@ use Rattle.ep_base.specs.declared.call.Event.{Event}
 use Rattle.ep_base.specs.declared.ids.CallerId.{CallerId}
 use Rattle.ep_base.specs.declared.ids.EntryId.{EntryId}
 use Rattle.ep_base.specs.declared.record.Record.{Record}
+use Rattle.ep_calls.proofs.EndLemmas.{settles}
 use Rattle.ep_calls.proofs.KeepsLemmas.{DoesAt, Settles, adds_next, keeps_opening, record_of, state_is, step_next}
 use Rattle.ep_calls.specs.Acts.{Adds}
+use Rattle.ep_calls.proofs.MappedLemmas.{sound_settled}
 use Rattle.ep_calls.specs.Does.{DoesEventIf}
+use Rattle.ep_calls.specs.Ends.{Rests, Spreads}
 use Rattle.ep_calls.specs.Moves.{StandFor}
 use Rattle.ep_calls.specs.Parts.{AreCoherent, AreOpening, Parts}
 use Rattle.ep_calls.specs.Stands.{number_at}
@@ -23,7 +26,7 @@ use Rattle.std.specs.Option.{option_map}
 use Rattle.ep_kernel.proofs.ReportsFirstLemmas.{waits_begun}
 use Rattle.ep_kernel.specs.Listed.{AreFair, HavePlaces, HopesFor, key_shows, lists_of, order_at, shows_found}
 use Rattle.ep_kernel.specs.ReadyBook.{AreAdded, LeavesReportable, ReportsFirst, WaitsAt, list_of}
-use Rattle.ep_kernel.specs.Running.{Ends, Runs}
+use Rattle.ep_kernel.specs.Running.{ListsSpread, Runs}
 use Rattle.ep_kernel.specs.Turns.{Turns}
 use Rattle.ep_kernel.specs.Wait.{ReportsInOrder}
 use Rattle.ep_law.proofs.GraphLemmas.{graph_stays_legal}
@@ -99,42 +102,31 @@ does_fairly past old new l runs n caller event outcome at does =
 
 module _ (law : ListsGoOn) (past : List Record) (old mid new : Parts) (l0 l1 l3 : Lists) (runs : Runs past old l0) (coherent : AreCoherent old) (tables : SoundTables old.tables) (was : IsSound old.interest) (before : AreSoundLists l0) (after : AreSoundLists l3)
     (caller : CallerId) (event : Event) (outcome : Outcome) (n : ℕ) (at : n ≡ length past + 1) (does : DoesEventIf (λ s. AreFair s old l0) n caller.0 event outcome old mid)
-    (turns : Turns event outcome.picked old l0 mid l1) (ends : Ends n outcome.raising mid l1 new l3) where
-  settles : Settles n outcome.raising mid ends.noted ends.buried ends.climbed new
-  settles = record {
-    coherent = ends.coherent;
-    sound = ends.tables;
-    stirs = ends.stirs;
-    noted_others = ends.noted_others;
-    burial = ends.burial;
-    parked = ends.parked;
-    clock = ends.clock;
-    coherent_buried = ends.coherent_buried;
-    sound_buried = ends.tables_buried;
-    climbs = ends.climbs;
-    climbed_others = ends.climbed_others;
-    marks = ends.marks;
-    marked_others = ends.marked_others;
-  }
+    (turns : Turns event outcome.picked old l0 mid l1) (left : Parts) (spreads : Spreads n outcome.raising mid left) (lists : ListsSpread n mid spreads.noted spreads.buried l1 l3) (rests : Rests left new) where
+  -- once what the event raised was noted
+  abbrev pub noted : Parts
+  noted = record mid { interest = spreads.noted }
 
-  pub follows : Follows n event outcome old mid ends.noted ends.buried ends.climbed new l0 l1 ends.between l3
+  -- once what was passed on is forgotten, before marks are set
+  abbrev pub climbed : Parts
+  climbed = record left { interest = new.interest }
+
+  settled_so : Settles n outcome.raising mid noted spreads.buried climbed new
+  settled_so = settles n outcome.raising mid left new spreads rests
+
+  pub follows : Follows n event outcome old mid noted spreads.buried climbed new l0 l1 lists.between l3
   follows = record {
     coherent = coherent;
     tables = tables;
     keys = does.keys;
-    raises = does.raising;
-    settles = settles;
-    noted_keys = ends.noted_keys;
-    ids = ends.ids;
-    climbed_keys = ends.climbed_keys;
+    leaves = spreads.leaves;
+    settles = settled_so;
+    climbed_keys = rests.keys ∙ spreads.keys;
     was = was;
-    changed = ends.sound;
-    stirred = ends.noted_sound;
-    left = ends.sound_buried;
-    now = ends.climbed_sound;
+    now = sound_settled left.interest new.interest rests.entries rests.keys rests.added spreads.sound;
     turns = turns;
-    loses = ends.loses;
-    gains = ends.gains;
+    loses = lists.loses;
+    gains = lists.gains;
     lists_before = before;
     lists_after = after;
   }
@@ -143,13 +135,13 @@ module _ (law : ListsGoOn) (past : List Record) (old mid new : Parts) (l0 l1 l3 
   does_at = does_fairly past old mid l0 runs n caller.0 event outcome at does
 
   pub runs_on : Runs (past ++ record_of caller event outcome ∷ []) new l3
-  runs_on = runs_next law past n event outcome old mid ends.noted ends.buried ends.climbed new l0 l1 ends.between l3 follows caller at runs does_at
+  runs_on = runs_next law past n event outcome old mid noted spreads.buried climbed new l0 l1 lists.between l3 follows caller at runs does_at
 
   pub adds_on : Adds old.tables.limits caller event outcome.answer (unwrap_or (run old.tables.limits opening past) opening) (unwrap_or (run new.tables.limits opening (past ++ record_of caller event outcome ∷ [])) opening) past (past ++ record_of caller event outcome ∷ [])
-  adds_on = adds_next past old mid ends.noted ends.buried ends.climbed new runs.keeps caller event outcome n at does_at settles
+  adds_on = adds_next past old mid noted spreads.buried climbed new runs.keeps caller event outcome n at does_at settled_so
 
   pub step_on : step old.tables.limits runs.keeps.state caller.0 event outcome.picked ≡ Some (outcome.answer, unwrap_or (run new.tables.limits opening (past ++ record_of caller event outcome ∷ [])) opening)
-  step_on = step_next past old mid ends.noted ends.buried ends.climbed new runs.keeps caller event outcome n at does_at settles
+  step_on = step_next past old mid noted spreads.buried climbed new runs.keeps caller event outcome n at does_at settled_so
 
   -- it reports in the order of the lists
   pub first_on : ReportsInOrder l0 n caller.0 event outcome old mid l1 → ReportsFirst (unwrap_or (run old.tables.limits opening past) opening) caller.0 event outcome.answer outcome.picked (list_of (lists_of old l0))
@@ -174,8 +166,8 @@ module _ (law : ListsGoOn) (past : List Record) (old mid new : Parts) (l0 l1 l3 
       let legal = graph_stays_legal old.tables.limits past s keeps.leads in
       let stand : StandFor old (next_event s) = record { now = keeps.stands.now; files = keeps.stands.files; watches = keeps.stands.watches; added = keeps.stands.added; waiters = keeps.stands.waiters } in
       let leaves = (told (next_event s) begins (sound_begun s keeps.sound) (quiet_begun s keeps.quiet) legal stand).1 in
-      let few = few_reportable law past n event outcome old mid ends.noted ends.buried ends.climbed new l0 l1 ends.between l3 follows caller at runs does_at leaves in
-      let after = keeps_after law past n event outcome old mid ends.noted ends.buried ends.climbed new l0 l1 ends.between l3 follows caller at runs does_at in
+      let few = few_reportable law past n event outcome old mid noted spreads.buried climbed new l0 l1 lists.between l3 follows caller at runs does_at leaves in
+      let after = keeps_after law past n event outcome old mid noted spreads.buried climbed new l0 l1 lists.between l3 follows caller at runs does_at in
       (λ e most reports is. subst (λ (u : State). (v : State) → v ≡ after.state → WaitsAt u caller.0 event e most → length reports < most → is_live v.files e ≡ true → (k : ℕ) → is_among (list_of (lists_of new l3) e) k ≡ true → is_reportable_in v e k ≡ true) (sym (state_is past old keeps))
       (λ v same waits short live k on. ap (λ (w : State). is_reportable_in w e k) same ∙ few e most reports is waits short (ap (λ (w : State). is_live w.files e) (sym same) ∙ live) k on)
       _ (state_is (past ++ record_of caller event outcome ∷ []) new after))
@@ -183,7 +175,7 @@ module _ (law : ListsGoOn) (past : List Record) (old mid new : Parts) (l0 l1 l3 
   -- what comes to a list was added to it
   pub added_on : AreAdded old.tables.limits caller.0 event outcome.picked (unwrap_or (run old.tables.limits opening past) opening) (unwrap_or (run new.tables.limits opening (past ++ record_of caller event outcome ∷ [])) opening) (list_of (lists_of old l0)) (list_of (lists_of new l3))
   added_on =
-      let after = keeps_after law past n event outcome old mid ends.noted ends.buried ends.climbed new l0 l1 ends.between l3 follows caller at runs does_at in
-      let added = all_added law past n event outcome old mid ends.noted ends.buried ends.climbed new l0 l1 ends.between l3 follows caller at runs does_at in
+      let after = keeps_after law past n event outcome old mid noted spreads.buried climbed new l0 l1 lists.between l3 follows caller at runs does_at in
+      let added = all_added law past n event outcome old mid noted spreads.buried climbed new l0 l1 lists.between l3 follows caller at runs does_at in
       subst (λ (u : State). AreAdded old.tables.limits caller.0 event outcome.picked u (unwrap_or (run new.tables.limits opening (past ++ record_of caller event outcome ∷ [])) opening) (list_of (lists_of old l0)) (list_of (lists_of new l3))) (sym (state_is past old runs.keeps))
       (subst (λ (v : State). AreAdded old.tables.limits caller.0 event outcome.picked runs.keeps.state v (list_of (lists_of old l0)) (list_of (lists_of new l3))) (sym (state_is (past ++ record_of caller event outcome ∷ []) new after)) added)

@@ -10,6 +10,7 @@ use Rattle.ep_interest.specs.Registrations.{GainsKey, IsSound, Registrations, en
 use Rattle.ep_interest.specs.declared.entry.Entry.{Entry}
 use Rattle.ep_interest.proofs.RangeLemmas.{numbered_filter}
 use Rattle.ep_interest.proofs.PurgeLemmas.{numbered_number}
+use Rattle.ep_calls.proofs.MappedLemmas.{numbered_mapped}
 use Rattle.ep_calls.specs.Ids.{HadOrAdds}
 use Rattle.ep_calls.proofs.AdditionLemmas.{found_passes}
 use Rattle.ep_kernel.proofs.EntryLemmas.{is_under}
@@ -101,13 +102,7 @@ modified_number : (n : ℕ) (mask : Mask) (tag : ℕ) (x : Entry) → (modified 
 modified_number n mask tag x = elim (x.number == n) as (λ b. (cond b (record x { mask = mask; tag = tag; armed = true; fresh = true }) x).number ≡ x.number) [ true ↦ refl | false ↦ refl ]
 
 numbered_modified : (n : ℕ) (mask : Mask) (tag : ℕ) (xs : List Entry) (m : ℕ) → numbered (map (modified n mask tag) xs) m ≡ option_map (modified n mask tag) (numbered xs m)
-numbered_modified n mask tag [] m = refl
-numbered_modified n mask tag (x ∷ xs) m =
-    ap (λ (k : ℕ). cond (k == m) (Some (modified n mask tag x)) (numbered (map (modified n mask tag) xs) m)) (modified_number n mask tag x)
-    ∙ elim (x.number == m) as (λ b. cond b (Some (modified n mask tag x)) (numbered (map (modified n mask tag) xs) m) ≡ option_map (modified n mask tag) (cond b (Some x) (numbered xs m))) [
-      | true ↦ refl
-      | false ↦ numbered_modified n mask tag xs m
-    ]
+numbered_modified n mask tag = numbered_mapped (modified n mask tag) (modified_number n mask tag)
 
 found_modified : (n : ℕ) (mask : Mask) (tag : ℕ) (xs : List Entry) (o : Option ℕ) → entry_found (map (modified n mask tag) xs) o ≡ option_map (modified n mask tag) (entry_found xs o)
 found_modified n mask tag xs None = refl

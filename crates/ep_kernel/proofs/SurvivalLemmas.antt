@@ -1,4 +1,6 @@
 -- What an event leaves of registrations and of their places, once the dead are gone.
+use Rattle.ep_law.proofs.GraphLemmas.{member_of_map}
+use Rattle.ep_calls.proofs.EntryLemmas.{holds_under}
 use Rattle.std.proofs.Common.{◌≡◌, ◌∙◌, ◌==◌, ◌&&◌, ◌||◌, ◌⊎◌, ◌++◌, ℕ, Bool, true, false, not, IsSome, List, [], ◌∷◌, None, Option, Some, ap, append-nil, arith, cond, filter, inl, inr, map, nat_lt, refl, slice_index_or, subst, sym, unwrap_or}
 use Rattle.std.specs.List.{list_any}
 use Rattle.std.specs.Option.{option_map}
@@ -7,16 +9,16 @@ use Rattle.ep_base.specs.declared.ids.DescId.{DescId}
 use Rattle.ep_base.specs.declared.ids.EntryId.{EntryId}
 use Rattle.ep_calls.proofs.KeyLemmas.{number_kept, same_keys, some_kept}
 use Rattle.ep_calls.proofs.RaiseLemmas.{Freshens, stirs_watches}
-use Rattle.ep_calls.specs.Burial.{Burial, is_untouched}
+use Rattle.ep_calls.specs.Burial.{is_untouched}
+use Rattle.ep_calls.specs.Ends.{Leaves}
 use Rattle.ep_calls.specs.Ids.{KeepsIds}
 use Rattle.ep_calls.specs.Parts.{AreCoherent, Parts}
-use Rattle.ep_calls.specs.Raising.{IsRaising, Stirs, raised_bits}
+use Rattle.ep_calls.specs.Raising.{raised_bits}
 use Rattle.ep_calls.specs.Stands.{AreLinked, IsLinked, number_at, watch_at}
 use Rattle.ep_calls.specs.declared.raising.Raising.{Raising}
 use Rattle.ep_interest.specs.Registrations.{IsSound, Registrations, entry_under, is_of, is_on}
 use Rattle.ep_interest.specs.declared.entry.Entry.{Entry}
-use Rattle.ep_kernel.proofs.EntryLemmas.{holds_under}
-use Rattle.ep_kernel.proofs.ViewLemmas.{Views, among_ids, any_of, back, entry_views, forth, mapped_from}
+use Rattle.ep_kernel.proofs.ViewLemmas.{Views, among_ids, any_of, back, entry_views, forth}
 use Rattle.ep_kernel.specs.Listed.{HavePlaces, MayStand, may_stand}
 use Rattle.ep_kernel.specs.Places.{LosesDying, touches}
 use Rattle.ep_law.proofs.ListLemmas.{among, among_member, filtered_member}
@@ -38,7 +40,7 @@ use Rattle.ep_machine.specs.Objects.{is_instance, plain}
 use Rattle.ep_machine.specs.Files.{object_of}
 use Rattle.ep_machine.specs.Bits.{IN, asked}
 use Rattle.ep_nest.specs.declared.link.Link.{Link}
-use Rattle.ep_plain.specs.Climb.{is_reached_key}
+use Rattle.ep_calls.specs.Climb.{is_reached_key}
 use Rattle.ep_law.proofs.ListLemmas.{any_member, filtered_passes}
 use Rattle.ep_law.proofs.TestLemmas.{both_true}
 use Rattle.ep_kernel.proofs.ViewLemmas.{brings_asked, find_entry}
@@ -98,19 +100,6 @@ module _ (v : Seen) (r : Registrations) (tables : SoundTables v) (sound : IsSoun
 none_either : (b : Bool) (o : Option ℕ) → o ≡ None → cond b None o ≡ None
 none_either true o h = refl
 none_either false o h = h
-
--- the phases of an event from its change to the deaths: what it raised is noted, and the dead are gone
-pub record Leaves (n : ℕ) (raising : Raising) (mid : Parts) (noted : Registrations) (buried : Parts) : Type 0 where
-  pub coherent : AreCoherent mid
-  pub tables : SoundTables mid.tables
-  pub raises : IsRaising raising mid.tables
-  pub stirs : Stirs raising mid.tables mid.clock n mid.interest noted
-  pub keys : noted.keys ≡ mid.interest.keys
-  pub burial : Burial n mid.tables noted buried.tables buried.interest
-  pub ids : KeepsIds noted buried.interest
-  pub was : IsSound mid.interest
-  pub then_sound : IsSound noted
-  pub left : IsSound buried.interest
 
 pub or_cases : (a b : Bool) → (a || b) ≡ true → (a ≡ true) ⊎ (b ≡ true)
 or_cases true b h = inl refl
@@ -284,7 +273,7 @@ module _ (n : ℕ) (buried : Parts) (climbed : Registrations) (climbs : Climbs n
   link_from : (l : Link) → Member l buried.graph → (x : Entry) × (l.inner ≡ x.desc) × (is_nested buried.tables x ≡ true)
   link_from l m =
       let nested = filter (is_nested buried.tables) buried.interest.entries in
-      let y = mapped_from (link_of buried.interest) nested l (subst (Member l) coherent.nested m) in
+      let y = member_of_map (link_of buried.interest) nested l (subst (Member l) coherent.nested m) in
       (y.0, ap (λ (j : Link). j.inner) (sym y.2), filtered_passes (is_nested buried.tables) buried.interest.entries y.0 y.1)
 
   four : (a b c d : Bool) → a ≡ true → b ≡ true → c ≡ true → (a && b && c || d) ≡ true

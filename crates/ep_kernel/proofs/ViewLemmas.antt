@@ -1,4 +1,5 @@
 -- The registration under a key, as the machine has it.
+use Rattle.ep_law.proofs.GraphLemmas.{member_of_map}
 use Rattle.std.proofs.Common.{◌≡◌, ◌∙◌, ◌==◌, ◌&&◌, ◌||◌, ℕ, Bool, true, false, not, IsSome, List, [], ◌∷◌, None, Option, Some, ap, arith, bit_and, cond, filter, inl, inr, map, nat_eq, nat_lt, refl, subst, sym}
 use Rattle.std.specs.List.{list_any}
 use Rattle.std.proofs.lemmas.Bool.{cases_Bool, false≢true}
@@ -24,11 +25,6 @@ use Rattle.ep_view.specs.KernelView.{KernelWatch}
 use Rattle.std.proofs.lemmas.List.Elements.{All-from_recursion}
 
 -- Members.
-pub mapped_from : {X Y : Type 0} (f : X → Y) (xs : List X) (y : Y) → Member y (map f xs) → (x : X) × Member x xs × (f x ≡ y)
-mapped_from f [] y m = absurd m
-mapped_from f (x ∷ xs) y (inl e) = (x, inl refl, sym e)
-mapped_from f (x ∷ xs) y (inr m) = let r = mapped_from f xs y m in (r.0, inr r.1, r.2)
-
 pub any_of : {X : Type 0} (f : X → Bool) (xs : List X) (x : X) → Member x xs → f x ≡ true → list_any f xs ≡ true
 any_of f [] x m t = absurd m
 any_of f (y ∷ ys) x (inl e) t = or_left _ _ (ap f (sym e) ∙ t)
@@ -105,13 +101,13 @@ module _ (keys : List (Option ℕ)) (r : Registrations) where
 
     pub view_at : (k : ℕ) (w : KernelWatch) → Member w (map (watch_at keys) r.entries) → number_under r (entry_id k) ≡ Some w.number → Views keys r k w
     view_at k w m h =
-        let y = mapped_from (watch_at keys) r.entries w m in
+        let y = member_of_map (watch_at keys) r.entries w m in
         let number : y.0.number ≡ w.number = ap (λ (u : KernelWatch). u.number) y.2 in
         record { x = y.0; under = ap (entry_found r.entries) h ∙ (ap (numbered r.entries) (sym number) ∙ found y.0 y.1); is = y.2 }
 
     pub view_of : (w : KernelWatch) → Member w (map (watch_at keys) r.entries) → (k : ℕ) × Views keys r k w
     view_of w m =
-        let y = mapped_from (watch_at keys) r.entries w m in
+        let y = member_of_map (watch_at keys) r.entries w m in
         let number : y.0.number ≡ w.number = ap (λ (u : KernelWatch). u.number) y.2 in
         let key = sound.has_one y.0.number y.0 (found y.0 y.1) in
         (key.0.0, view_at key.0.0 w m (key.1 ∙ ap (λ (n : ℕ). Some n) number))
@@ -134,8 +130,8 @@ module _ (keys : List (Option ℕ)) (r : Registrations) where
       there : has_id (ids r (filter q r.entries)) k ≡ true → q x ≡ true
       there t =
           let m = any_member (nat_eq k) (key_numbers (ids r (filter q r.entries))) t in
-          let i = mapped_from (λ (id : EntryId). id.0) (ids r (filter q r.entries)) m.0 m.1 in
-          let y = mapped_from (λ (z : Entry). id_of r z.number) (filter q r.entries) i.0 i.1 in
+          let i = member_of_map (λ (id : EntryId). id.0) (ids r (filter q r.entries)) m.0 m.1 in
+          let y = member_of_map (λ (z : Entry). id_of r z.number) (filter q r.entries) i.0 i.1 in
           let key : k ≡ (id_of r y.0.number).0 = from_test k m.0 m.2 ∙ (sym i.2 ∙ ap (λ (id : EntryId). id.0) (sym y.2)) in
           let in_all = filtered_member q r.entries y.0 y.1 in
           let keyed : number_under r (id_of r y.0.number) ≡ Some y.0.number = all_member (λ (z : Entry). number_under r (id_of r z.number) ≡ Some z.number) r.entries y.0 (each_keyed r sound) in_all in
@@ -158,7 +154,7 @@ module _ (olds news : List (Option ℕ)) (r q : Registrations) (was : IsSound r)
   pub back : (k : ℕ) (w : KernelWatch) → Views news q k w → (v : KernelWatch) × Views olds r k v × (p v ≡ true) × (w ≡ f v)
   back k w h =
       let m = subst (Member w) watches (view_member news q k w h) in
-      let v = mapped_from f (filter p (map (watch_at olds) r.entries)) w m in
+      let v = member_of_map f (filter p (map (watch_at olds) r.entries)) w m in
       let numbers : w.number ≡ v.0.number = ap (λ (u : KernelWatch). u.number) (sym v.2) ∙ number v.0 in
       let now = view_number news q k w h in
       let before : number_under r (entry_id k) ≡ Some w.number = elim (keeps (entry_id k)) [ inl none ↦ absurd (not_none w.number _ none now) | inr same ↦ sym same ∙ now ] in

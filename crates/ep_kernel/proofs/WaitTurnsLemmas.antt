@@ -9,6 +9,7 @@ use Rattle.ep_base.specs.declared.call.Event.{Event}
 use Rattle.ep_base.specs.declared.call.Event.TheVariants.{Call as CallOf}
 use Rattle.ep_base.specs.declared.ids.EntryId.{EntryId}
 use Rattle.ep_base.specs.declared.ids.Pid.{Pid}
+use Rattle.ep_calls.proofs.MappedLemmas.{numbered_mapped}
 use Rattle.ep_calls.specs.ObjectCall.{fd_of}
 use Rattle.ep_calls.specs.Parts.{Parts}
 use Rattle.ep_calls.specs.TableCall.{IsTableCall}
@@ -116,11 +117,7 @@ instance_reported : (n : ℕ) (ks : List ℕ) (x : Entry) → (with_report n ks 
 instance_reported n ks x = elim (is_among ks x.number) as (λ b. (let y : Entry = cond b (record x { armed = x.armed && not (has_bit x.mask.0 ONESHOT); fresh = false; reported_in = n }) x in y.instance.0 ≡ x.instance.0)) [ true ↦ refl | false ↦ refl ]
 
 numbered_reported : (n : ℕ) (ks : List ℕ) (xs : List Entry) (j : ℕ) → numbered (map (with_report n ks) xs) j ≡ option_map (with_report n ks) (numbered xs j)
-numbered_reported n ks [] j = refl
-numbered_reported n ks (x ∷ xs) j =
-    let rest = numbered_reported n ks xs j in
-    ap (λ (m : ℕ). cond (m == j) (Some (with_report n ks x)) (numbered (map (with_report n ks) xs) j)) (number_reported n ks x)
-    ∙ elim (x.number == j) as (λ b. cond b (Some (with_report n ks x)) (numbered (map (with_report n ks) xs) j) ≡ option_map (with_report n ks) (cond b (Some x) (numbered xs j))) [ true ↦ refl | false ↦ rest ]
+numbered_reported n ks = numbered_mapped (with_report n ks) (number_reported n ks)
 
 found_reported : (n : ℕ) (ks : List ℕ) (xs : List Entry) (o : Option ℕ) → entry_found (map (with_report n ks) xs) o ≡ option_map (with_report n ks) (entry_found xs o)
 found_reported n ks xs None = refl

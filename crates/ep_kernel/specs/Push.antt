@@ -11,7 +11,7 @@ use Rattle.ep_interest.specs.declared.entry.Entry.{Entry}
 use Rattle.ep_kernel.specs.Listed.{may_stand}
 use Rattle.ep_machine.specs.Lists.{is_among}
 use Rattle.ep_nest.specs.declared.link.Link.{Link}
-use Rattle.ep_plain.specs.Climb.{is_reached_key}
+use Rattle.ep_calls.specs.Climb.{is_reached_key}
 use Rattle.ep_ready.specs.ReadyLists.{Lists, entry_id, instance_at, list_at}
 
 -- whether a place is on the list of an instance

@@ -8,7 +8,7 @@ use Rattle.ep_machine.specs.Lists.{is_among}
 use Rattle.ep_nest.specs.Chains.{IsAbove}
 use Rattle.ep_nest.specs.Links.{admitted_by, edges}
 use Rattle.ep_nest.specs.declared.link.Link.{Link}
-use Rattle.ep_plain.specs.Climb.{is_reached_key}
+use Rattle.ep_calls.specs.Climb.{is_reached_key}
 use Rattle.ep_ready.specs.ReadyLists.{HasPlace, Lists, entry_id}
 use Rattle.ep_table.specs.Value.{Seen, number_under}
 

@@ -1,12 +1,11 @@
 //! What an event raised climbs through instances.
 ghost use Rattle.std.specs.Prelude.{◌≡◌, ◌<◌, ℕ, IsSome, List, map};
-ghost use Rattle.ep_calls.specs.Climb.{AreNested, Climbs, is_nested_key};
+ghost use Rattle.ep_calls.specs.Climb.{AreNested, Rises, climbs_to, is_nested_key};
 ghost use Rattle.ep_calls.specs.Stands.{AreLinked};
 ghost use Rattle.ep_kernel.specs.Listed.{HavePlaces};
 ghost use Rattle.ep_kernel.specs.Push.{Appends, comes_in};
 ghost use Rattle.ep_kernel.specs.Reach.{AreLive, AreReached};
 ghost use Rattle.ep_nest.specs.declared.link.Link.{Link as Pair};
-ghost use Rattle.ep_plain.specs.Climb.{climbs_to};
 ghost use Rattle.ep_table.specs.Value.{number_under};
 
 use crate::push::push;
@@ -30,12 +29,13 @@ fn freshen_above(tables: &Tables, interest: &mut Interest, desc: DescId)
     }
 }
 
-/// Makes what watches an instance that the walk reached fresh where it asks for IN, and forgets what was passed on.
+/// Makes what watches an instance that the walk reached fresh where it asks for IN.
 fn freshen_reached(tables: &Tables, interest: &mut Interest, lists: &ReadyLists)
     requires linked { AreLinked tables.now interest.old }
     requires live { AreLive tables.now lists.now.reached }
-    ensures climbs { (n : ℕ) → AreReached n tables.now interest.old lists.now.reached
-        → Climbs n tables.now interest.old interest.new }
+    ensures rises { (n : ℕ) → AreReached n tables.now interest.old lists.now.reached
+        → Rises n tables.now interest.old interest.new }
+    ensures linked { AreLinked tables.now interest.new }
     ensures keys { interest.new.keys ≡ interest.old.keys }
     ensures nested { (ls : List Pair) → AreNested tables.now interest.old ls
         → AreNested tables.now interest.new ls }
@@ -44,14 +44,13 @@ fn freshen_reached(tables: &Tables, interest: &mut Interest, lists: &ReadyLists)
         let instance = lists.reached_at(index);
         freshen_above(tables, interest, instance);
     }
-    interest.settle();
 }
 
 /// The same with the parts of a kernel.
 fn freshen(parts: &mut Parts, lists: &ReadyLists)
     requires { (n : ℕ) × AreReached n parts.old.tables parts.old.interest lists.now.reached }
-    ensures climbs { (n : ℕ) → AreReached n parts.old.tables parts.old.interest lists.now.reached
-        → Climbs n parts.old.tables parts.old.interest parts.new.interest }
+    ensures rises { (n : ℕ) → AreReached n parts.old.tables parts.old.interest lists.now.reached
+        → Rises n parts.old.tables parts.old.interest parts.new.interest }
     ensures keys { parts.new.interest.keys ≡ parts.old.interest.keys }
     ensures others { parts.new ≡ record parts.old { interest = parts.new.interest } }
 {
@@ -60,7 +59,8 @@ fn freshen(parts: &mut Parts, lists: &ReadyLists)
 
 /// Puts each registration at the end of its list and among the hopes, if it does not stand there, that passes something
 /// of an event on, and makes what watches an instance that IN reaches fresh. The lists have those instances as reached
-/// afterwards. The time grows with what passes something on, and with the registrations on what is reached.
+/// afterwards. What was passed on is still to be forgotten. The time grows with what passes something on, and with the
+/// registrations on what is reached.
 pub fn climb(parts: &mut Parts, lists: &mut ReadyLists, hopes: &mut ReadyLists, step: u64)
     requires step { 0 < step }
     requires places { HavePlaces parts.old.interest lists.old }
@@ -68,7 +68,7 @@ pub fn climb(parts: &mut Parts, lists: &mut ReadyLists, hopes: &mut ReadyLists, 
     ensures gains { Appends (comes_in step parts.old) lists.old lists.new }
     ensures hopes { Appends (comes_in step parts.old) hopes.old hopes.new }
     ensures reached { AreReached step parts.old.tables parts.old.interest lists.new.reached }
-    ensures climbs { Climbs step parts.old.tables parts.old.interest parts.new.interest }
+    ensures rises { Rises step parts.old.tables parts.old.interest parts.new.interest }
     ensures keys { parts.new.interest.keys ≡ parts.old.interest.keys }
     ensures others { parts.new ≡ record parts.old { interest = parts.new.interest } }
 {

@@ -15,7 +15,7 @@ ghost use Rattle.ep_view.specs.AtRest.{IsSteady, kind_of};
 use crate::act::{Request, act};
 use crate::asked::Asked;
 use crate::mark::{attend, mark, resumed_at};
-use crate::settle::{know, settle};
+use crate::settle::{know, spread};
 use ep_alarms::Alarms;
 use ep_base::{Answer, CallerId, Errno, Event, Limits, Record};
 use ep_calls::{Kernel, Parts, Spare};
@@ -140,7 +140,7 @@ impl ReadyKernel {
         self.alarms.follow(&self.parts, &event, &outcome, has_room);
         let raising = outcome.raising;
         let (answer, spare, record) = outcome.into_record(caller, event, kept);
-        settle(
+        spread(
             &mut self.parts,
             &mut self.lists,
             &mut self.asked,
@@ -151,6 +151,7 @@ impl ReadyKernel {
         self.lists.known();
         let attended = attend(resumed, raising);
         mark(&mut self.parts, &self.lists, &mut self.asked, attended);
+        self.parts.forget_passed();
         self.history.push_reserved(record);
         Ok((answer, spare))
     }

@@ -1,12 +1,12 @@
 //! The end of an event, with the ready lists and the hopes.
 ghost use Rattle.std.specs.Prelude.{◌≡◌, ◌<◌};
 ghost use Rattle.ep_alarms.specs.Alarms.{AreSet};
+ghost use Rattle.ep_alarms.specs.Changes.{AreSetSince};
 ghost use Rattle.ep_calls.specs.Parts.{AreCoherent};
 ghost use Rattle.ep_calls.specs.Raising.{IsRaising};
 ghost use Rattle.ep_interest.specs.Registrations.{IsSound};
 ghost use Rattle.ep_kernel.specs.Listed.{HavePlaces};
-ghost use Rattle.ep_kernel.specs.Running.{SettledBoth};
-ghost use Rattle.ep_alarms.specs.Changes.{AreSetSince};
+ghost use Rattle.ep_kernel.specs.Running.{SpreadsWith};
 ghost use Rattle.ep_table.specs.Value.{Sound};
 
 use crate::asked::Asked;
@@ -28,8 +28,8 @@ pub fn know(parts: &Parts)
 
 /// Notes what an event raised, takes the dead away with their places and moments, puts what passes something on at
 /// the end of its list and among the hopes, and lets what was raised climb. The lists have the instances that IN
-/// reached as reached afterwards. Marks are still to be set.
-pub fn settle(
+/// reached as reached afterwards. Marks are still to be set, and what was passed on is still to be forgotten.
+pub fn spread(
     parts: &mut Parts,
     lists: &mut ReadyLists,
     asked: &mut Asked,
@@ -42,7 +42,7 @@ pub fn settle(
     requires places { HavePlaces parts.old.interest lists.old }
     requires hopes { HavePlaces parts.old.interest asked.old.hopes }
     requires set { AreSetSince raising parts.old.tables parts.old.clock alarms.old }
-    ensures settled { SettledBoth step raising parts.old lists.old asked.old.hopes parts.new
+    ensures spreads { SpreadsWith step raising parts.old lists.old asked.old.hopes parts.new
         lists.new asked.new.hopes }
     ensures set { AreSet parts.new.tables parts.new.clock alarms.new }
 {

@@ -12,7 +12,8 @@ use Rattle.ep_base.specs.declared.ids.Pid.{Pid}
 use Rattle.ep_base.specs.declared.mask.Mask.{Mask}
 use Rattle.ep_machine.specs.Bits.{ONESHOT, has_bit}
 use Rattle.ep_machine.specs.Files.{named_by}
-use Rattle.ep_law.specs.Laws.{Member}
+use Rattle.ep_law.proofs.ChangeLemmas.{kept_same}
+use Rattle.ep_law.specs.Laws.{Kept, Member}
 use Rattle.ep_machine.specs.Lists.{is_among}
 use Rattle.ep_machine.specs.Readiness.{is_ready}
 use Rattle.ep_machine.specs.Report.{is_pick, plainly, report, report_of, reported, watches_at}
@@ -21,10 +22,15 @@ use Rattle.ep_machine.specs.Step.{call_change, change}
 use Rattle.ep_machine.specs.Waits.{leave_after, resume, tick, wait_for}
 use Rattle.ep_machine.specs.Watches.{ctl, has_key, is_add, is_del, modified, new_watch, number_in, with_watch}
 use Rattle.ep_law.proofs.GraphLemmas.{member_of_map}
-use Rattle.ep_law.proofs.ListLemmas.{filtered_member}
+use Rattle.ep_law.proofs.ListLemmas.{filtered_member, first_of_and}
 use Rattle.ep_law.proofs.StepLemmas.{left_after, resumes}
 use Rattle.ep_law.proofs.TestLemmas.{from_test, same_nat}
 use Rattle.ep_order.specs.Event.{IsAltered}
+
+-- one that was there, and may only have been reported
+pub record Stayed (b : State) (x : Watch) : Type 0 where
+  pub kept : Kept b x
+  pub number : x.number ≡ kept.was.number
 
 -- one that the event reported
 pub record Told (b : State) (picked : List ℕ) (x : Watch) : Type 0 where
@@ -32,6 +38,7 @@ pub record Told (b : State) (picked : List ℕ) (x : Watch) : Type 0 where
   pub there : Member was b.watches
   pub number : x.number ≡ was.number
   pub instance : x.instance ≡ was.instance
+  pub stayed : Stayed b x
   pub told : is_among picked x.number ≡ true
   pub rep : x.rep ≡ b.n
   pub from : x.from ≡ b.n
@@ -110,7 +117,8 @@ module _ (b : State) (event : Event) where
       elim (cases_Bool (is_among ks w.0.number)) [
         | inl t ↦
             let is : after_report b w.0 ≡ x = ap (λ (c : Bool). cond c (after_report b w.0) w.0) (sym t) ∙ w.2 in
-            subst (Origin b event ks) is (inl (record { was = w.0; there = w.1; number = refl; instance = refl; told = t; rep = refl; from = refl }))
+            let kept : Kept b (after_report b w.0) = record { was = w.0; there = w.1; instance = refl; target = refl; mask = refl; armed = λ a. first_of_and w.0.armed _ a; seen = inr refl } in
+            subst (Origin b event ks) is (inl (record { was = w.0; there = w.1; number = refl; instance = refl; stayed = record { kept = kept; number = refl }; told = t; rep = refl; from = refl }))
         | inr f ↦
             let is : w.0 ≡ x = ap (λ (c : Bool). cond c (after_report b w.0) w.0) (sym f) ∙ w.2 in
             subst (Origin b event ks) is (inr (f, inl w.1))
@@ -230,3 +238,13 @@ module _ (limits : Limits) (b : State) where
   pub origins : (caller : ℕ) (event : Event) (ks : List ℕ) (c : Change) → change limits b caller event ks ≡ Some c → (c.1.n ≡ b.n) × Adds b event c.1 × ((x : Watch) → Member x c.1.watches → Origin b event ks x)
   unfolding Fine Good
   origins caller event ks c is = subst (Fine b event ks) is (fine_change caller event ks)
+
+  -- it was there and may only have been reported, or the event added or modified it
+  pub sources : (caller : ℕ) (event : Event) (ks : List ℕ) (c : Change) → change limits b caller event ks ≡ Some c → (x : Watch) → Member x c.1.watches → Stayed b x ⊎ IsAltered b event x
+  sources caller event ks c is x m = elim ((origins caller event ks c is).2 x m) [
+    | inl told ↦ inl told.stayed
+    | inr untold ↦ elim untold.1 [
+      | inl same ↦ inl (record { kept = kept_same b x same; number = refl })
+      | inr altered ↦ elim altered [ inl m ↦ inr m.altered | inr a ↦ inr a.altered ]
+    ]
+  ]

@@ -83,8 +83,8 @@ pub fn bits_end_where_called()
 
 /// A registration that is reportable before an event is so after it, if it is still there and the event doesn't touch
 /// it: the event neither reports, adds or modifies it, nor is a call on what it watches. If it watches an instance,
-/// that has to be ready at the end. Which instances were said to be ready before plays no part. It rests on the law that
-/// each description has an end of its own. Does nothing.
+/// that has to be ready at the end. Which instances were said to be ready before plays no part. It rests on the law
+/// that each description has an end of its own. Does nothing.
 pub fn untouched_stay_reportable()
     ensures law { UntouchedStayReportable }
 {

@@ -17,7 +17,7 @@ use Rattle.ep_law.proofs.TestLemmas.{from_test, or_left, or_right, same_test}
 use Rattle.ep_law.specs.Laws.{Member}
 use Rattle.ep_nest.specs.declared.link.Link.{Link}
 use Rattle.ep_plain.proofs.DatingLemmas.{has_left, has_right}
-use Rattle.ep_plain.proofs.EntryLemmas.{member_of, number_of}
+use Rattle.ep_calls.proofs.EntryLemmas.{member_of, number_of}
 use Rattle.ep_plain.specs.Dating.{BeginsWhere, Dated, again, again_keys, again_since, begun, begun_each, comes_found}
 use Rattle.ep_plain.specs.Reason.{HaveReasons, IsAbout}
 use Rattle.ep_plain.specs.Since.{event_at}

@@ -10,7 +10,7 @@ use Rattle.ep_interest.specs.Registrations.{IsSound, Registrations, entry_under,
 use Rattle.ep_interest.specs.declared.entry.Entry.{Entry}
 use Rattle.ep_law.specs.Laws.{Member}
 use Rattle.ep_law.proofs.TestLemmas.{from_test, or_left, or_right, same_test}
-use Rattle.ep_plain.proofs.EntryLemmas.{key_of, number_of, one_under, some_entry, within}
+use Rattle.ep_calls.proofs.EntryLemmas.{key_of, number_of, one_under, some_entry, within}
 use Rattle.ep_plain.proofs.SinceLemmas.{comes, none_where, up_where}
 use Rattle.ep_plain.specs.Dating.{AreListed, Dated, again, again_keys, again_since, begun, begun_each, comes_found, dated_count, dated_found, is_dated_found}
 use Rattle.ep_plain.specs.Since.{Dates, entry_event, event_at, event_of}

@@ -6,15 +6,11 @@ pub mod ClimbLemmas
 pub mod CoverLemmas
 pub mod DatingLemmas
 pub mod EachWaiterLemmas
-pub mod EndLemmas
-pub mod EntryLemmas
 pub mod LeavesLemmas
 pub mod MarkLemmas
-pub mod PassLemmas
 pub mod ReasonLemmas
 pub mod RoomLemmas
 pub mod SinceLemmas
-pub mod SourceLemmas
 pub mod StandingLemmas
 pub mod TakeLemmas
 pub mod TurnLemmas

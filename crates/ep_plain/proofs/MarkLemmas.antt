@@ -21,7 +21,7 @@ use Rattle.ep_machine.specs.Waits.{marked_if_due, waits_at}
 use Rattle.ep_park.specs.Turns.{NamesReady, marked_in_turn}
 use Rattle.ep_plain.proofs.CoverLemmas.{any_of}
 use Rattle.ep_plain.proofs.DatingLemmas.{first_or, or_either}
-use Rattle.ep_plain.proofs.EntryLemmas.{key_of, member_of, number_of}
+use Rattle.ep_calls.proofs.EntryLemmas.{key_of, member_of, number_of}
 use Rattle.ep_plain.proofs.SinceLemmas.{same_bools}
 use Rattle.ep_plain.specs.Dating.{Dated}
 use Rattle.ep_plain.specs.Mark.{TellsReady, instance_dated, instances_dated}

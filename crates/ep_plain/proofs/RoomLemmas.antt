@@ -6,7 +6,7 @@ use Rattle.ep_base.specs.declared.ids.EntryId.{EntryId}
 use Rattle.ep_interest.specs.Registrations.{IsSound, Registrations, entry_under}
 use Rattle.ep_interest.specs.declared.entry.Entry.{Entry}
 use Rattle.ep_plain.proofs.DatingLemmas.{again_count, again_later, count_begun}
-use Rattle.ep_plain.proofs.EntryLemmas.{within}
+use Rattle.ep_calls.proofs.EntryLemmas.{within}
 use Rattle.ep_plain.specs.Dating.{Dated, Fits, KeepsRoom, again, again_keys, again_since, comes_found, dated_count, dated_of}
 use Rattle.ep_plain.specs.Since.{event_at}
 use Rattle.ep_plain.specs.declared.since.Dating.{Dating}

@@ -8,7 +8,7 @@ use Rattle.std.proofs.lemmas.List.Elements.{All-head, All-map, All-tail}
 use Rattle.ep_base.specs.declared.call.Event.{Event}
 use Rattle.ep_base.specs.declared.ids.CallerId.{CallerId}
 use Rattle.ep_base.specs.declared.record.Record.{Record}
-use Rattle.ep_interest.specs.Registrations.{Registrations, number_under, settled}
+use Rattle.ep_interest.specs.Registrations.{number_under, settled}
 use Rattle.ep_interest.specs.declared.entry.Entry.{Entry}
 use Rattle.ep_law.specs.Laws.{ReportablesAreSpread}
 use Rattle.ep_law.proofs.GraphLemmas.{graph_stays_legal}
@@ -25,12 +25,12 @@ use Rattle.ep_calls.specs.Ids.{HadOrAdds}
 use Rattle.ep_calls.specs.Moves.{Goes, MovesBy}
 use Rattle.ep_calls.specs.Raising.{Raises}
 use Rattle.ep_calls.specs.Stands.{KeepsKeys, number_at, watch_at}
-use Rattle.ep_plain.proofs.EndLemmas.{ready_settled, rested, rests_so, settles, shows_settled}
+use Rattle.ep_calls.proofs.EndLemmas.{ready_settled, rested, rests_so, settles, shows_settled}
 use Rattle.ep_plain.proofs.ReasonLemmas.{have_reasons}
 use Rattle.ep_plain.specs.Altered.{NamesAltered, NeedsRoom, is_adding}
 use Rattle.ep_plain.proofs.AddedLemmas.{step_adds_none}
 use Rattle.ep_plain.specs.Dating.{AreListed, Dated, dated_count, dated_of}
-use Rattle.ep_plain.specs.Ends.{Rests, Spreads}
+use Rattle.ep_calls.specs.Ends.{Rests, Spreads}
 use Rattle.ep_plain.specs.Mark.{TellsReady}
 use Rattle.ep_plain.specs.Reason.{HaveReasons}
 use Rattle.ep_plain.specs.declared.altered.Altered.{Altered}
@@ -57,16 +57,22 @@ module _ (past : List Record) (old mid left : Parts) (d : Dating) (standing : St
   abbrev longer : List ℕ
   longer = d.since.items ++ 0 ∷ []
 
+  abbrev noted_parts : Parts
+  noted_parts = record mid { interest = spreads.noted }
+
+  abbrev forgotten : Parts → Parts
+  forgotten new = record left { interest = new.interest }
+
   -- Once what was passed on is forgotten.
   module _ (new : Parts) (rests : Rests left new) where
-    so : Settles n outcome.raising mid spreads.noted spreads.buried rests.forgotten new
+    so : Settles n outcome.raising mid noted_parts spreads.buried (forgotten new) new
     so = settles n outcome.raising mid left new spreads rests
 
     keeps_new : Keeps after new
-    keeps_new = keeps_next past old mid spreads.noted spreads.buried rests.forgotten new standing.keeps caller event outcome n at does so
+    keeps_new = keeps_next past old mid noted_parts spreads.buried (forgotten new) new standing.keeps caller event outcome n at does so
 
     goes : step old.tables.limits standing.keeps.state caller.0 event outcome.picked ≡ Some (outcome.answer, keeps_new.state)
-    goes = step_next past old mid spreads.noted spreads.buried rests.forgotten new standing.keeps caller event outcome n at does so ∙ ap (λ (t : State). Some (outcome.answer, t)) (state_is after new keeps_new)
+    goes = step_next past old mid noted_parts spreads.buried (forgotten new) new standing.keeps caller event outcome n at does so ∙ ap (λ (t : State). Some (outcome.answer, t)) (state_is after new keeps_new)
 
     room_then : new.interest.added < length longer
     room_then =
@@ -75,19 +81,16 @@ module _ (past : List Record) (old mid left : Parts) (d : Dating) (standing : St
 
     -- the parts then
     tables : new.tables ≡ left.tables
-    tables = ap (λ (p : Parts). p.tables) (rests.marked_others ∙ ap (λ (p : Parts). record p { parked = new.parked }) rests.others)
+    tables = ap (λ (p : Parts). p.tables) rests.others
 
     clock : new.clock ≡ left.clock
-    clock = ap (λ (p : Parts). p.clock) (rests.marked_others ∙ ap (λ (p : Parts). record p { parked = new.parked }) rests.others)
-
-    interest : new.interest ≡ rests.forgotten.interest
-    interest = ap (λ (p : Parts). p.interest) rests.marked_others
+    clock = ap (λ (p : Parts). p.clock) rests.others
 
     -- dates stay what they are
     dates_rest : (since : List ℕ) → Dates (entry_shows (readiness left.tables left.clock left.interest) left.tables left.clock) n left.interest longer since
         → Dates (entry_shows (readiness new.tables new.clock new.interest) new.tables new.clock) n new.interest longer since
     dates_rest since h =
-        let q = rests.forgotten.interest in
+        let q = new.interest in
         let v = left.tables in
         let before : Entry → Bool = entry_shows (readiness v left.clock left.interest) v left.clock in
         let then : Entry → Bool = entry_shows (readiness v left.clock q) v left.clock in
@@ -96,11 +99,10 @@ module _ (past : List Record) (old mid left : Parts) (d : Dating) (standing : St
         let all : All P q.entries = subst (λ (xs : List Entry). All P xs) (sym rests.entries) (All-map P settled left.interest.entries each) in
         let over : Dates then n q longer since = record { each = all; later = λ k lt. h.later k (omega (arith, lt, rests.added)); length = h.length } in
         subst (λ (w : Seen). Dates (entry_shows (readiness w new.clock new.interest) w new.clock) n new.interest longer since) (sym tables)
-        (subst (λ (m : ℕ). Dates (entry_shows (readiness v m new.interest) v m) n new.interest longer since) (sym clock)
-        (subst (λ (r : Registrations). Dates (entry_shows (readiness v left.clock r) v left.clock) n r longer since) (sym interest) over))
+        (subst (λ (m : ℕ). Dates (entry_shows (readiness v m q) v m) n q longer since) (sym clock) over)
 
     listed_rest : (e : Dating) → AreListed left.interest (dated_of e) → AreListed new.interest (dated_of e)
-    listed_rest e h id k under = h id k (ap (λ (ks : List (Option ℕ)). slice_index_or ks id.0 None) (sym (ap (λ (r : Registrations). r.keys) interest ∙ rests.keys)) ∙ under)
+    listed_rest e h id k under = h id k (ap (λ (ks : List (Option ℕ)). slice_index_or ks id.0 None) (sym rests.keys) ∙ under)
 
     pub standing_next : (e : Dating) → Dates (entry_shows (readiness left.tables left.clock left.interest) left.tables left.clock) n left.interest longer e.since.items → AreListed left.interest (dated_of e)
         → length e.keys.items ≤ dated_count e.since.items → left.interest.added < vec_capacity e.keys → Standing after new e
@@ -111,19 +113,19 @@ module _ (past : List Record) (old mid left : Parts) (d : Dating) (standing : St
           step_keeps_turns step_adds_one goes keeps_new.stands (at ∙ ap (λ (k : ℕ). k + 1) (sym standing.keeps.n)) (dates_rest e.since.items dates);
       listed = listed_rest e listed;
       count = count;
-      room = omega (arith, many, rests.added, ap (λ (r : Registrations). r.added) interest);
+      room = omega (arith, many, rests.added);
     }
 
     -- the record that is added
     pub adds_by : (given : Option (List ℕ))
         → IfSome given (λ picks. outcome.picked ≡ picks)
         → AddsBy old.tables.limits caller event given outcome.answer (unwrap_or (run old.tables.limits opening past) opening) (unwrap_or (run new.tables.limits opening after) opening) past after
-    adds_by None told = adds_next past old mid spreads.noted spreads.buried rests.forgotten new standing.keeps caller event outcome n at does so
+    adds_by None told = adds_next past old mid noted_parts spreads.buried (forgotten new) new standing.keeps caller event outcome n at does so
     adds_by (Some picks) told = record {
       goes =
           ap (λ (s : State). step old.tables.limits s caller.0 event picks) (state_is past old standing.keeps)
           ∙ (ap (λ (ks : List ℕ). step old.tables.limits standing.keeps.state caller.0 event ks) (sym told)
-          ∙ step_next past old mid spreads.noted spreads.buried rests.forgotten new standing.keeps caller event outcome n at does so);
+          ∙ step_next past old mid noted_parts spreads.buried (forgotten new) new standing.keeps caller event outcome n at does so);
       added = λ i. past ++ record { caller = caller; event = event; answer = outcome.answer; picked = told i } ∷ [];
     }
 
@@ -172,7 +174,7 @@ module _ (past : List Record) (old mid left : Parts) (d : Dating) (standing : St
 
   -- what follows the change adds no registration
   added_left : left.interest.added ≡ mid.interest.added
-  added_left = spreads.rises.added ∙ (spreads.burial.buries.added ∙ stirs_added outcome.raising mid.tables mid.clock n mid.interest spreads.noted.interest spreads.stirs)
+  added_left = spreads.rises.added ∙ (spreads.leaves.burial.buries.added ∙ stirs_added outcome.raising mid.tables mid.clock n mid.interest spreads.noted spreads.leaves.stirs)
 
   -- and for its key, where there was room for one that is added, or none was added
   pub key_room : (cap : ℕ) (has_room : Bool) → old.interest.added < cap → NeedsRoom event has_room old.interest mid.interest → (has_room ≡ true → is_adding event ≡ true → old.interest.added + 1 < cap) → left.interest.added < cap
@@ -201,10 +203,10 @@ module _ (past : List Record) (old mid left : Parts) (d : Dating) (standing : St
   pub listed_left : (ids : HadOrAdds old.interest mid.interest) → AreListed left.interest (record { since = longer; keys = d.keys.items })
   listed_left ids id k under up =
       let same : number_under left.interest id ≡ number_under spreads.buried.interest id = ap (λ (ks : List (Option ℕ)). slice_index_or ks id.0 None) spreads.keys in
-      let noted : number_under spreads.noted.interest id ≡ number_under mid.interest id = ap (λ (ks : List (Option ℕ)). slice_index_or ks id.0 None) spreads.noted_keys in
+      let noted : number_under spreads.noted id ≡ number_under mid.interest id = ap (λ (ks : List (Option ℕ)). slice_index_or ks id.0 None) spreads.leaves.keys in
       let buried : number_under spreads.buried.interest id ≡ Some k = sym same ∙ under in
       let was : nat_lt 0 (event_at d.since.items k) ≡ true = ap (λ (m : ℕ). nat_lt 0 m) (sym (event_more d.since.items k)) ∙ up in
-      elim (spreads.ids id) [
+      elim (spreads.leaves.ids id) [
         | inl none ↦ absurd (not_none k _ none buried)
         | inr kept ↦ elim (ids id k (sym noted ∙ (sym kept ∙ buried))) [
           | inl before ↦ standing.listed id k before was
@@ -221,7 +223,7 @@ module _ (past : List Record) (old mid left : Parts) (d : Dating) (standing : St
   pub reasons : ReportablesAreSpread → KeepsKeys old.tables mid.tables → (altered : Option Altered) → NamesAltered old.tables event altered
       → HaveReasons (entry_shows (readiness left.tables left.clock left.interest) left.tables left.clock) left.tables altered longer left.interest.entries
   reasons law keys altered names x m shown =
-      elim (have_reasons law past old mid left standing.keeps caller event outcome n at does spreads keys spreads.left d.since.items standing.dated altered names x m shown) [
+      elim (have_reasons law past old mid left standing.keeps caller event outcome n at does spreads keys d.since.items standing.dated altered names x m shown) [
         | inl up ↦ inl (ap (λ (k : ℕ). nat_lt 0 k) (event_more d.since.items x.number) ∙ up)
         | inr why ↦ inr why
       ]

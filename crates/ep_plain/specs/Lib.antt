@@ -1,6 +1,5 @@
 pub mod Standing
 pub mod Choose
-pub mod Climb
 pub mod EachWaiter
 pub mod Mark
 pub mod Since
@@ -10,4 +9,3 @@ pub mod Reason
 pub mod Pick
 pub mod These
 pub mod StepWith
-pub mod Ends

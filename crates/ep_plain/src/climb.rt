@@ -2,8 +2,7 @@
 ghost use Rattle.std.specs.Prelude.{◌≡◌, ◌&&◌, ◌||◌, ◌==◌, IsSome, map, nat_lt};
 ghost use Rattle.ep_machine.specs.Bits.{IN, asked};
 ghost use Rattle.ep_view.specs.KernelView.{carries};
-ghost use Rattle.ep_calls.specs.Climb.{AreNested};
-ghost use Rattle.ep_plain.specs.Climb.{Rises, climbs_to, is_reached_key};
+ghost use Rattle.ep_calls.specs.Climb.{AreNested, Rises, climbs_to, is_reached_key};
 ghost use Rattle.ep_calls.specs.Stands.{AreLinked};
 ghost use Rattle.ep_table.specs.Value.{number_under};
 

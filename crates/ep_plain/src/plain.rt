@@ -65,8 +65,8 @@ impl PlainKernel {
     /// One event whose report is of these registrations, in this order, and of the longest unreported where none are
     /// given: then `kept` asks for what a second record of it is made of.
     /// An `AllocError` has changed nothing, but that there may be more room for records. If there was room for the
-    /// record, it comes only if nothing refuses the event: without room for the key of a registration or the moment of a
-    /// timer the event goes on until it would add one.
+    /// record, it comes only if nothing refuses the event: without room for the key of a registration or the moment of
+    /// a timer the event goes on until it would add one.
     fn try_step(
         &mut self,
         caller: CallerId,

@@ -1,12 +1,11 @@
 //! The end of an event.
-ghost use Rattle.std.specs.Prelude.{◌≡◌, map};
 ghost use Rattle.ep_alarms.specs.Alarms.{AreSet};
 ghost use Rattle.ep_alarms.specs.Changes.{AreSetSince};
-ghost use Rattle.ep_calls.specs.Raising.{IsRaising};
+ghost use Rattle.ep_calls.specs.Ends.{Rests, Spreads};
 ghost use Rattle.ep_calls.specs.Parts.{AreCoherent};
-ghost use Rattle.ep_interest.specs.Registrations.{IsSound, settled};
+ghost use Rattle.ep_calls.specs.Raising.{IsRaising};
+ghost use Rattle.ep_interest.specs.Registrations.{IsSound};
 ghost use Rattle.ep_plain.specs.Dating.{dated_of};
-ghost use Rattle.ep_plain.specs.Ends.{Rests, Spreads};
 ghost use Rattle.ep_plain.specs.Mark.{TellsReady};
 ghost use Rattle.ep_table.specs.Value.{Sound as SoundTables};
 
@@ -26,18 +25,8 @@ pub fn know(parts: &Parts)
     parts.interest.known();
 }
 
-/// Forgets what was passed on in an event.
-fn forget(parts: &mut Parts)
-    ensures entries { parts.new.interest.entries ≡ map settled parts.old.interest.entries }
-    ensures keys { parts.new.interest.keys ≡ parts.old.interest.keys }
-    ensures added { parts.new.interest.added ≡ parts.old.interest.added }
-    ensures others { parts.new ≡ record parts.old { interest = parts.new.interest } }
-{
-    parts.interest.settle();
-}
-
 /// Notes what an event raised, takes the dead away with their moments, and lets what was raised climb through
-/// instances.
+/// instances. Marks are still to be set, and what was passed on is still to be forgotten.
 pub fn spread(parts: &mut Parts, alarms: &mut Alarms, step: u64, raising: Raising)
     requires raises { IsRaising raising parts.old.tables }
     requires set { AreSetSince raising parts.old.tables parts.old.clock alarms.old }
@@ -46,6 +35,7 @@ pub fn spread(parts: &mut Parts, alarms: &mut Alarms, step: u64, raising: Raisin
 {
     know(parts);
     alarms.raise(parts, step, raising);
+    know(parts);
     burial_leaves_alarms();
     alarms.drop_dying(&parts.tables);
     parts.bury(step);
@@ -54,11 +44,11 @@ pub fn spread(parts: &mut Parts, alarms: &mut Alarms, step: u64, raising: Raisin
     know(parts);
 }
 
-/// Forgets what was passed on in an event, and sets marks by the dates of the registrations.
+/// Sets marks by the dates of the registrations, and forgets what was passed on in an event.
 pub fn rest(parts: &mut Parts, dating: &Dating)
     requires { TellsReady parts.old.tables parts.old.clock parts.old.interest (dated_of dating.now) }
     ensures { Rests parts.old parts.new }
 {
-    forget(parts);
     mark_waiters(parts, dating);
+    parts.forget_passed();
 }

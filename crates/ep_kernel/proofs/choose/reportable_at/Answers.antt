@@ -1,8 +1,9 @@
+use Rattle.ep_calls.proofs.EntryLemmas.{holds_under}
 use Rattle.std.proofs.Common.{◌≡◌, ◌∙◌, IsSome, Some, ap, option_copied, subst, sym}
 use Rattle.ep_calls.specs.Parts.{Parts}
 use Rattle.ep_calls.specs.Stands.{IsLinked}
 use Rattle.ep_interest.specs.Registrations.{entry_under}
-use Rattle.ep_kernel.proofs.EntryLemmas.{holds_under, is_under}
+use Rattle.ep_kernel.proofs.EntryLemmas.{is_under}
 use Rattle.ep_kernel.proofs.choose.reportable_at.Goals as goal
 use Rattle.ep_table.specs.Value.{number_under}
 

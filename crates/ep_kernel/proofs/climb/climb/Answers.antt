@@ -1,5 +1,5 @@
 use Rattle.std.proofs.Common.{◌∙◌, ap, refl, subst, sym}
-use Rattle.ep_calls.specs.Climb.{Climbs}
+use Rattle.ep_calls.specs.Climb.{Rises}
 use Rattle.ep_calls.specs.Parts.{Parts}
 use Rattle.ep_kernel.proofs.ComesLemmas.{live_of}
 use Rattle.ep_kernel.proofs.PushLemmas.{appends}
@@ -50,13 +50,13 @@ returns-clause-reached c =
     let exact = subst (λ (q : Parts). AreReached n q.tables q.interest c.reach.new.lists.reached) (sym c.reach.ensures.parts) c.reach.ensures.reached in
     subst (AreReached n p.tables p.interest) (sym (c.push.ensures.gains n exact).reached) c.reach.ensures.reached
 
-pub returns-clause-climbs : goal.returns-clause-climbs
-returns-clause-climbs c =
+pub returns-clause-rises : goal.returns-clause-rises
+returns-clause-rises c =
     let n = c.args.step in
     let exact = subst (λ (q : Parts). AreReached n q.tables q.interest c.reach.new.lists.reached) (sym c.reach.ensures.parts) c.reach.ensures.reached in
     let gains = c.push.ensures.gains n exact in
-    subst (λ (q : Parts). Climbs n q.tables q.interest c.freshen.new.parts.interest) c.reach.ensures.parts
-    (c.freshen.ensures.climbs n (subst (AreReached n c.reach.new.parts.tables c.reach.new.parts.interest) (sym gains.reached) exact))
+    subst (λ (q : Parts). Rises n q.tables q.interest c.freshen.new.parts.interest) c.reach.ensures.parts
+    (c.freshen.ensures.rises n (subst (AreReached n c.reach.new.parts.tables c.reach.new.parts.interest) (sym gains.reached) exact))
 
 pub returns-clause-keys : goal.returns-clause-keys
 returns-clause-keys c = c.freshen.ensures.keys ∙ ap (λ (q : Parts). q.interest.keys) c.reach.ensures.parts

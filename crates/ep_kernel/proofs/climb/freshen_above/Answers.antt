@@ -1,8 +1,8 @@
 use Rattle.std.proofs.Common.{◌≡◌, ◌∙◌, Bool, Option, true, false, ap, map, sym, unwrap_or}
 use Rattle.ep_calls.specs.Climb.{is_nested_key}
 use Rattle.ep_machine.specs.Objects.{Object, is_instance, plain}
-use Rattle.ep_plain.specs.Climb.{climbs_to}
-use Rattle.ep_plain.proofs.ClimbLemmas.{climbs_not}
+use Rattle.ep_calls.specs.Climb.{climbs_to}
+use Rattle.ep_calls.proofs.ClimbLemmas.{climbs_not}
 use Rattle.ep_kernel.proofs.climb.freshen_above.Goals as goal
 
 pub returns-then-is_instance-clause-entries : goal.returns-then-is_instance-clause-entries

@@ -3,14 +3,13 @@ use Rattle.std.proofs.lemmas.Option.{get_or_from_slice_get}
 use Rattle.ep_base.specs.declared.ids.DescId.{DescId}
 use Rattle.ep_calls.proofs.GraphLemmas.{links_by_keys, links_mapped}
 use Rattle.ep_calls.specs.Climb.{is_nested, is_nested_key, link_of}
-use Rattle.ep_calls.specs.Stands.{IsLinked, watch_at}
-use Rattle.ep_interest.specs.Registrations.{settled}
+use Rattle.ep_calls.specs.Stands.{IsLinked}
 use Rattle.ep_interest.specs.declared.entry.Entry.{Entry}
 use Rattle.ep_kernel.proofs.ClimbLemmas.{desc_ids, descs_more, fresh_on, freshened_is, is_kind}
 use Rattle.ep_kernel.proofs.ComesLemmas.{among_here}
 use Rattle.ep_machine.specs.Lists.{is_among}
-use Rattle.ep_plain.proofs.ClimbLemmas.{climbs_none, climbs_on, linked_climbs, linked_settled, map_climbs_more}
-use Rattle.ep_plain.specs.Climb.{climbs_to}
+use Rattle.ep_calls.proofs.ClimbLemmas.{climbs_none, climbs_on, linked_climbs, map_climbs_more}
+use Rattle.ep_calls.specs.Climb.{climbs_to}
 use Rattle.ep_kernel.proofs.climb.freshen_reached.Goals as goal
 
 pub loop-index-init : goal.loop-index-init
@@ -44,28 +43,31 @@ loop-index-preserved c =
       added = c.freshen_above.ensures.added ∙ c.loop-index.invariant.added;
     }
 
-pub returns-clause-climbs : goal.returns-clause-climbs
-returns-clause-climbs c = λ n exact.
+pub returns-clause-rises : goal.returns-clause-rises
+returns-clause-rises c = λ n exact.
     let v = c.args.tables.now in
     let old = c.args.interest.now in
     let ks = c.args.lists.now.reached in
     let whole : take c.loop-index.index ks ≡ ks = take_all c.loop-index.index ks (omega (arith, c.loop-index-test.false, c.reached_count-index-end.ensures)) in
-    let entries : c.settle.new.self.entries ≡ map settled (map (fresh_on v ks) old.entries) =
-    c.settle.ensures.entries ∙ ap (λ (xs : List Entry). map settled xs) (c.loop-index.invariant.entries ∙ ap (λ (js : List ℕ). map (fresh_on v js) old.entries) whole) in
     record {
-      watches = ap (λ (xs : List Entry). map (watch_at v.keys) xs) entries ∙ freshened_is n v old ks c.requires.linked exact;
-      linked = subst (All (IsLinked v.keys)) (sym entries) (linked_settled v.keys (map (fresh_on v ks) old.entries) (linked_climbs (is_kind v) v.keys (desc_ids ks) old.entries c.requires.linked));
-      added = c.settle.ensures.added ∙ c.loop-index.invariant.added;
+      entries = c.loop-index.invariant.entries ∙ (ap (λ (js : List ℕ). map (fresh_on v js) old.entries) whole ∙ freshened_is n v old ks c.requires.linked exact);
+      added = c.loop-index.invariant.added;
     }
+
+pub returns-clause-linked : goal.returns-clause-linked
+returns-clause-linked c =
+    let v = c.args.tables.now in
+    let old = c.args.interest.now in
+    let ks = take c.loop-index.index c.args.lists.now.reached in
+    subst (All (IsLinked v.keys)) (sym c.loop-index.invariant.entries) (linked_climbs (is_kind v) v.keys (desc_ids ks) old.entries c.requires.linked)
 
 pub returns-clause-nested : goal.returns-clause-nested
 returns-clause-nested c = λ ls h.
     let v = c.args.tables.now in
     let old = c.args.interest.now in
     let on = fresh_on v (take c.loop-index.index c.args.lists.now.reached) in
-    let new = c.settle.new.self in
+    let new = c.loop-index.interest in
     h
-    ∙ sym (links_by_keys old new (is_nested v) new.entries (c.settle.ensures.keys ∙ c.loop-index.invariant.keys)
-    ∙ (ap (λ (xs : List Entry). map (link_of old) (filter (is_nested v) xs)) (c.settle.ensures.entries ∙ ap (λ (xs : List Entry). map settled xs) c.loop-index.invariant.entries)
-    ∙ (links_mapped old (is_nested v) settled (λ x. refl) (λ x. refl) (map on old.entries)
-    ∙ links_mapped old (is_nested v) on (λ x. refl) (λ x. refl) old.entries)))
+    ∙ sym (links_by_keys old new (is_nested v) new.entries c.loop-index.invariant.keys
+    ∙ (ap (λ (xs : List Entry). map (link_of old) (filter (is_nested v) xs)) c.loop-index.invariant.entries
+    ∙ links_mapped old (is_nested v) on (λ x. refl) (λ x. refl) old.entries))

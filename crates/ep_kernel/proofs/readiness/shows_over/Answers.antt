@@ -1,6 +1,6 @@
+use Rattle.ep_calls.proofs.EntryLemmas.{holds_under}
 use Rattle.std.proofs.Common.{sym}
 use Rattle.ep_calls.specs.Stands.{IsLinked}
-use Rattle.ep_kernel.proofs.EntryLemmas.{holds_under}
 use Rattle.ep_kernel.proofs.readiness.shows_over.Goals as goal
 
 pub shown_at-requires-clause-target : goal.shown_at-requires-clause-target

@@ -2,7 +2,7 @@ use Rattle.std.proofs.Common.{◌∙◌, ap, map, refl}
 use Rattle.ep_view.specs.KernelView.{reached_now}
 use Rattle.ep_calls.specs.Stands.{watch_at}
 use Rattle.ep_calls.proofs.PartsLemmas.{watched_by}
-use Rattle.ep_plain.proofs.ClimbLemmas.{risen_watch, risen_watches}
+use Rattle.ep_calls.proofs.ClimbLemmas.{risen_watch, risen_watches}
 use Rattle.ep_plain.proofs.climb.climb_instances.Goals as goal
 
 pub invariant_of-parts : goal.invariant_of-parts

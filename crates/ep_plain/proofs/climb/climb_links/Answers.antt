@@ -7,10 +7,11 @@ use Rattle.ep_view.specs.KernelView.{reached_now}
 use Rattle.ep_nest.proofs.ElementLemmas.{Contains-head}
 use Rattle.ep_nest.specs.declared.link.Link.{Link}
 use Rattle.ep_calls.specs.Climb.{is_nested, link_of}
-use Rattle.ep_plain.specs.Climb.{climbs_to, risen}
+use Rattle.ep_calls.specs.Climb.{climbs_to, risen}
 use Rattle.ep_calls.specs.Readiness.{watches_of}
 use Rattle.ep_calls.specs.Stands.{IsLinked, number_at, watch_at}
-use Rattle.ep_plain.proofs.ClimbLemmas.{LeadsToLive, climbs_none, climbs_on, fresh_after, inners, inners_of, linked_climbs, links_live, map_climbs_more, reached_fresh, risen_is}
+use Rattle.ep_calls.proofs.ClimbLemmas.{climbs_none, climbs_on, fresh_after, linked_climbs, map_climbs_more}
+use Rattle.ep_plain.proofs.ClimbLemmas.{LeadsToLive, inners, inners_of, links_live, reached_fresh, risen_is}
 use Rattle.ep_calls.proofs.GraphLemmas.{links_by_keys, links_mapped}
 use Rattle.ep_plain.proofs.climb.climb_links.Goals as goal
 

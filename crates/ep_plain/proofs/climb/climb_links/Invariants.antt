@@ -2,7 +2,8 @@ use Rattle.std.proofs.Common.{List, map, ◌++◌, ◌≡◌}
 use Rattle.ep_view.specs.KernelView.{reached_now}
 use Rattle.ep_nest.specs.declared.link.Link.{Link}
 use Rattle.ep_calls.specs.Readiness.{watches_of}
-use Rattle.ep_plain.proofs.ClimbLemmas.{climbs_on, inners_of}
+use Rattle.ep_calls.proofs.ClimbLemmas.{climbs_on}
+use Rattle.ep_plain.proofs.ClimbLemmas.{inners_of}
 use Rattle.ep_plain.proofs.climb.climb_links.Given as goal
 
 abbrev pub invariant-loop-link : goal.invariant-loop-link

@@ -1,6 +1,6 @@
 use Rattle.std.proofs.Common.{◌∙◌, Bool, ap, map, sym}
-use Rattle.ep_plain.specs.Climb.{climbs_to}
-use Rattle.ep_plain.proofs.ClimbLemmas.{climbs_not}
+use Rattle.ep_calls.specs.Climb.{climbs_to}
+use Rattle.ep_calls.proofs.ClimbLemmas.{climbs_not}
 use Rattle.ep_plain.proofs.climb.climb_to.Goals as goal
 
 pub returns-then-is_reached-clause-entries : goal.returns-then-is_reached-clause-entries

@@ -1,6 +1,6 @@
 use Rattle.std.proofs.Common.{sym}
 use Rattle.ep_calls.specs.Stands.{IsLinked}
-use Rattle.ep_plain.proofs.EntryLemmas.{holds_under}
+use Rattle.ep_calls.proofs.EntryLemmas.{holds_under}
 use Rattle.ep_plain.proofs.since.comes.Goals as goal
 
 pub shows-requires-clause-target : goal.shows-requires-clause-target

@@ -2,7 +2,7 @@ use Rattle.std.proofs.Common.{◌<◌, ◌∙◌, Option, ℕ, ap, arith, length
 use Rattle.std.proofs.lemmas.List.{get_or-set_same}
 use Rattle.ep_calls.specs.Stands.{IsLinked}
 use Rattle.ep_interest.specs.declared.entry.Entry.{Entry}
-use Rattle.ep_plain.proofs.EntryLemmas.{holds_under, within}
+use Rattle.ep_calls.proofs.EntryLemmas.{holds_under, within}
 use Rattle.ep_plain.specs.Dating.{is_dated_found}
 use Rattle.ep_plain.proofs.since.date_one.Goals as goal
 

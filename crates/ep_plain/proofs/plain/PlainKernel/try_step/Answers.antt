@@ -22,7 +22,6 @@ use Rattle.ep_plain.specs.Since.{Dates, event_at}
 use Rattle.ep_plain.specs.Standing.{Standing, book_of}
 use Rattle.ep_plain.specs.StepWith.{AddsBy, HasStep}
 use Rattle.ep_plain.specs.These.{MayReport}
-use Rattle.ep_plain.proofs.EndLemmas.{set_rested}
 use Rattle.ep_plain.proofs.AllowLemmas.{dated_shown}
 use Rattle.ep_plain.specs.Choose.{Tells}
 use Rattle.ep_plain.proofs.StandingLemmas.{adds_by, does_with, has_places, kept_of, key_room, later_left, listed_left, may_report, reasons, reports, room, standing_next, standing_room, tells_left}
@@ -186,7 +185,7 @@ invariant_of-self-2 c =
     let standing = subst (λ (rs : List Record). Standing rs c.rest.new.parts d) (sym (records c))
     (standing_next k.history.items k.parts c.act_with.new.parts q k.dating c.self.invariant.standing c.args.caller c.args.event c.in_ok-outcome.outcome (c.len.result + 1) (number c) (does c) c.spread.ensures.spreads c.rest.new.parts c.rest.ensures d
     dates c.date.ensures.listed c.date.ensures.fits.count c.date.ensures.fits.room) in
-    record { standing = standing; set = set_rested q c.rest.new.parts c.spread.new.alarms c.rest.ensures c.spread.ensures.set }
+    record { standing = standing; set = subst (λ (p : Parts). AreSet p.tables p.clock c.spread.new.alarms) (sym c.rest.ensures.others) c.spread.ensures.set }
 
 pub returns-clause-ok : goal.returns-clause-ok
 returns-clause-ok c =

@@ -3,10 +3,10 @@ use Rattle.std.proofs.Common.{◌≡◌, ◌∙◌, ◌==◌, ℕ, Bool, true, f
 use Rattle.ep_calls.proofs.DeathLemmas.{all_noted}
 use Rattle.ep_calls.proofs.PartsLemmas.{coherent_raised}
 use Rattle.ep_calls.proofs.StepLemmas.{raised_stands}
+use Rattle.ep_calls.specs.Ends.{Leaves}
 use Rattle.ep_calls.specs.Moves.{StandFor, StandsRaised}
-use Rattle.ep_calls.specs.Burial.{Burial}
-use Rattle.ep_calls.specs.Parts.{AreCoherent, Parts}
-use Rattle.ep_calls.specs.Raising.{AsRaisedIn, IsRaising, Stirs}
+use Rattle.ep_calls.specs.Parts.{Parts}
+use Rattle.ep_calls.specs.Raising.{AsRaisedIn}
 use Rattle.ep_calls.specs.Stands.{watch_at}
 use Rattle.ep_calls.specs.declared.raising.Raising.{Raising}
 use Rattle.ep_interest.specs.Registrations.{Registrations}
@@ -15,15 +15,14 @@ use Rattle.ep_law.specs.Laws.{Member, passes_on_of}
 use Rattle.ep_machine.specs.Deaths.{buried as buried_of, die_all, dying, is_kept}
 use Rattle.ep_machine.specs.Files.{Files}
 use Rattle.ep_machine.specs.Settle.{settle}
-use Rattle.ep_machine.specs.Spread.{passes_on_by, raised_alive}
+use Rattle.ep_machine.specs.Spread.{is_reached, passes_on_by, raised_alive}
 use Rattle.ep_machine.specs.State.{Change, State, Watch}
-use Rattle.ep_table.specs.Value.{Sound as SoundTables}
 use Rattle.ep_view.proofs.ClimbLemmas.{passes_as_noted, reached_same}
 use Rattle.ep_view.proofs.KernelViewLemmas.{kept_filter}
 use Rattle.ep_view.specs.AtRest.{Changed, Settles}
 use Rattle.ep_view.specs.KernelView.{KernelWatch, carries, freshened, kernel_watch, kernel_watches, reached_now, stays_in}
 
-module _ (n : ℕ) (raising : Raising) (mid : Parts) (noted : Registrations) (buried : Parts) (coherent : AreCoherent mid) (tables : SoundTables mid.tables) (raises : IsRaising raising mid.tables) (stirs : Stirs raising mid.tables mid.clock n mid.interest noted) (burial : Burial n mid.tables noted buried.tables buried.interest) (parked : buried.parked ≡ mid.parked) (clock : buried.clock ≡ mid.clock) (sound_buried : SoundTables buried.tables)
+module _ (n : ℕ) (raising : Raising) (mid : Parts) (noted : Registrations) (buried : Parts) (leaves : Leaves n raising mid noted buried)
     (b : State) (c : Change) (stands : StandFor mid c.1) (changed : Changed c.1) (settled : Settles c.1 c.2 (settle b c.1 c.2)) (at : c.1.n ≡ n) (counted : (0 == n) ≡ false)
     (as_raised : AsRaisedIn c.1.files raising mid.tables mid.clock c.2) (same_files : (settle b c.1 c.2).files ≡ buried.tables.files) where
   -- what the event and the deaths of the machine raised
@@ -37,15 +36,19 @@ module _ (n : ℕ) (raising : Raising) (mid : Parts) (noted : Registrations) (bu
   noted_watch x = freshened n by_machine (kernel_watch c.1 x)
 
   stirred_stands : StandsRaised n (record mid { interest = noted }) c.2 c.1
-  stirred_stands = raised_stands n mid noted raising coherent tables raises stirs c.1 c.2 as_raised stands changed.watches
+  stirred_stands = raised_stands n mid noted raising leaves.coherent leaves.tables leaves.raises leaves.stirs c.1 c.2 as_raised stands changed.watches
 
   left_watches : map (freshened n by_machine) (filter (stays_in files) (kernel_watches c.1 c.1.watches)) ≡ map (watch_at buried.tables.keys) buried.interest.entries
   left_watches =
-      all_noted n (record mid { interest = noted }) buried (coherent_raised n mid raising noted coherent tables raises stirs) burial parked clock sound_buried
+      all_noted n (record mid { interest = noted }) buried (coherent_raised n mid raising noted leaves.coherent leaves.tables leaves.raises leaves.stirs) leaves.burial leaves.parked leaves.clock leaves.tables_buried
       c.1 (settle b c.1 c.2) c.2 settled at stirred_stands
 
   pub kept_watches : map (freshened n by_machine) (kernel_watches c.1 (buried_of c.1 c.2).0.watches) ≡ map (watch_at buried.tables.keys) buried.interest.entries
   kept_watches = ap (map (freshened n by_machine)) (kept_filter c.1 (stays_in files) c.1.watches) ∙ left_watches
+
+  -- IN reaches from below the same instances
+  pub reached_is : is_reached (buried_of c.1 c.2).0 (raised_alive (buried_of c.1 c.2).0 by_machine) ≡ reached_now buried.tables.files n (map (watch_at buried.tables.keys) buried.interest.entries)
+  reached_is = reached_same c.1 files n by_machine counted ∙ (λ i. reached_now (same_files i) n (kept_watches i))
 
   -- a registration that outlives the deaths
   pub left_member : (x : Watch) → Member x (buried_of c.1 c.2).0.watches → Member (noted_watch x) (map (watch_at buried.tables.keys) buried.interest.entries)

@@ -5,13 +5,13 @@ use Rattle.ep_calls.specs.Climb.{is_nested, link_of}
 use Rattle.ep_calls.specs.Stands.{IsLinked, watch_at}
 use Rattle.ep_interest.specs.Registrations.{settled}
 use Rattle.ep_interest.specs.declared.entry.Entry.{Entry}
-use Rattle.ep_plain.proofs.ClimbLemmas.{linked_settled, settled_watch, settled_watches}
-use Rattle.ep_plain.proofs.settle.forget.Goals as goal
+use Rattle.ep_calls.proofs.ClimbLemmas.{linked_settled, settled_watch, settled_watches}
+use Rattle.ep_calls.proofs.parts.Parts.forget_passed.Goals as goal
 
-pub invariant_of-parts : goal.invariant_of-parts
-invariant_of-parts c =
-    let k = c.parts.inside in
-    let h = c.parts.invariant in
+pub invariant_of-self : goal.invariant_of-self
+invariant_of-self c =
+    let k = c.self.inside in
+    let h = c.self.invariant in
     let old = k.interest in
     let new = c.settle.new.self in
     let e = c.settle.ensures in

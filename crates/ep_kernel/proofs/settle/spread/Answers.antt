@@ -1,12 +1,13 @@
-use Rattle.std.proofs.Common.{◌≡◌, ℕ, subst, sym}
+use Rattle.std.proofs.Common.{◌≡◌, ◌∙◌, ℕ, ap, subst, sym}
 use Rattle.ep_alarms.specs.Alarms.{AreSet, LosesDying as LosesTimers}
 use Rattle.ep_calls.specs.Burial.{Burial}
 use Rattle.ep_calls.specs.Parts.{Parts}
-use Rattle.ep_kernel.proofs.SurvivalLemmas.{Leaves, places_left}
+use Rattle.ep_calls.specs.Ends.{Leaves}
+use Rattle.ep_kernel.proofs.SurvivalLemmas.{places_left}
 use Rattle.ep_kernel.specs.Places.{LosesDying}
-use Rattle.ep_kernel.specs.Running.{Settled}
-use Rattle.ep_kernel.proofs.settle.settle.Goals as goal
-use Rattle.ep_kernel.proofs.settle.settle.Goals.{After-know-3}
+use Rattle.ep_ready.specs.ReadyLists.{Lists}
+use Rattle.ep_kernel.proofs.settle.spread.Goals as goal
+use Rattle.ep_kernel.proofs.settle.spread.Goals.{After-know-3}
 
 -- what the dead left
 leaves : (c : After-know-3) → Leaves c.args.step c.args.raising c.args.parts.now c.raise.new.parts.interest c.bury.new.self
@@ -23,6 +24,10 @@ leaves c =
       was = c.know.ensures.interest;
       then_sound = c.know-2.ensures.interest;
       left = c.know-3.ensures.interest;
+      parked = c.bury.ensures.parked ∙ ap (λ (p : Parts). p.parked) is;
+      clock = c.bury.ensures.clock ∙ ap (λ (p : Parts). p.clock) is;
+      coherent_buried = c.know-3.ensures.coherent;
+      tables_buried = c.know-3.ensures.tables;
     }
 
 pub climb-requires-clause-places : goal.climb-requires-clause-places
@@ -35,36 +40,25 @@ climb-requires-clause-hopes c =
     places_left c.args.step c.args.raising c.args.parts.now c.raise.new.parts.interest c.bury.new.self (leaves (goal.at.climb-requires-clause-hopes c).After-know-3) c.args.asked.now.hopes c.drop_dying.new.hopes
     (subst (λ (p : Parts). LosesDying p.tables p.interest c.args.asked.now.hopes c.drop_dying.new.hopes) c.raise.ensures.others c.drop_dying.ensures.hopes) c.requires.hopes
 
-pub returns-clause-settled : goal.returns-clause-settled
-returns-clause-settled c =
+pub returns-clause-spreads : goal.returns-clause-spreads
+returns-clause-spreads c =
     let n = c.args.step in
-    let settled : Settled n c.args.raising c.args.parts.now c.args.lists.now c.climb.new.parts c.climb.new.lists = record {
-      noted = c.raise.new.parts;
-      buried = c.bury.new.self;
-      between = c.drop_dying.new.lists;
-      coherent = c.know.ensures.coherent;
-      tables = c.know.ensures.tables;
-      sound = c.know.ensures.interest;
-      stirs = c.raise.ensures.stirs;
-      noted_keys = c.raise.ensures.keys;
-      noted_others = c.raise.ensures.others;
-      noted_sound = c.know-2.ensures.interest;
-      loses = c.drop_dying.ensures.loses;
-      burial = c.bury.ensures.burial;
-      ids = c.bury.ensures.ids;
-      parked = c.bury.ensures.parked;
-      clock = c.bury.ensures.clock;
-      coherent_buried = c.know-3.ensures.coherent;
-      tables_buried = c.know-3.ensures.tables;
-      sound_buried = c.know-3.ensures.interest;
-      gains = c.climb.ensures.gains;
+    let noted = c.raise.new.parts.interest in
+    let lost : (l m : Lists) → LosesDying c.raise.new.parts.tables noted l m → LosesDying c.args.parts.now.tables noted l m = λ l m. subst (λ (p : Parts). LosesDying p.tables p.interest l m) c.raise.ensures.others in
+    record {
+      spreads = record {
+        noted = noted;
+        buried = c.bury.new.self;
+        leaves = leaves (goal.at.returns-clause-spreads c).After-know-3;
+        rises = c.climb.ensures.rises;
+        keys = c.climb.ensures.keys;
+        sound = c.know-4.ensures.interest;
+        others = c.climb.ensures.others;
+      };
+      lists = record { between = c.drop_dying.new.lists; loses = lost c.args.lists.now c.drop_dying.new.lists c.drop_dying.ensures.loses; gains = c.climb.ensures.gains };
+      hopes = record { between = c.drop_dying.new.hopes; loses = lost c.args.asked.now.hopes c.drop_dying.new.hopes c.drop_dying.ensures.hopes; gains = c.climb.ensures.hopes };
       reached = c.climb.ensures.reached;
-      climbs = c.climb.ensures.climbs;
-      climbed_keys = c.climb.ensures.keys;
-      climbed_others = c.climb.ensures.others;
-      climbed_sound = c.know-4.ensures.interest;
-    } in
-    record { settled = settled; between = c.drop_dying.new.hopes; loses = c.drop_dying.ensures.hopes; gains = c.climb.ensures.hopes }
+    }
 
 pub returns-clause-set : goal.returns-clause-set
 returns-clause-set c =
