@@ -22,6 +22,7 @@ fn know_limits(tables: &Tables)
 impl Alarms {
     /// Makes room for the timer that an event may create, and for nothing else. `false` is want of memory; no moment
     /// changes.
+    #[inline(always)]
     pub fn make_room(&mut self, event: &Event) -> bool
         ensures room { result ≡ true → MayCreate event.now → HasRoom self.new }
         ensures kept { SameMoments self.old self.new }
@@ -62,6 +63,7 @@ impl Alarms {
 
     /// Gives the timer that an event created, set or read its next moment. `has_room`: there was room for one that it
     /// may create, without which it creates none.
+    #[inline(always)]
     pub fn follow(&mut self, parts: &Parts, event: &Event, outcome: &Outcome, has_room: bool)
         requires before { WereSet event.now outcome.now has_room parts.now self.old }
         requires room { has_room ≡ true → MayCreate event.now → HasRoom self.old }
@@ -89,6 +91,7 @@ impl Alarms {
 
     /// Notes in registrations what an event raised. Of timers only those are looked at whose moment has come, and they
     /// get their next one.
+    #[inline(always)]
     pub fn raise(&mut self, parts: &mut Parts, step: u64, raising: Raising)
         requires raises { IsRaising raising parts.old.tables }
         requires set { AreSetSince raising parts.old.tables parts.old.clock self.old }

@@ -25,6 +25,7 @@ use std::alloc::AllocError;
 
 /// A call of a process that is there. `kept`: a second record of it is asked for. An `Err` is want of memory, or of
 /// room for what it would add. It leaves the parts, and comes only if nothing refuses the call.
+#[inline(always)]
 fn make_call(
     parts: &mut Parts,
     stamp: Stamp,
@@ -93,6 +94,7 @@ fn make_call(
 /// One event: its refusal, ESRCH first for a call, or its change. `kept`: a second record of it is asked for.
 /// An `Err` is want of memory, or of room for what it would add. It leaves the parts. It comes of no event that
 /// `IsSpared` names, and only if nothing refuses the event.
+#[inline(always)]
 pub fn act(
     parts: &mut Parts,
     stamp: Stamp,

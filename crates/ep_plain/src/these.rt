@@ -194,6 +194,7 @@ fn act_these(
 /// then `kept` asks for what a second record of it is made of. An `Err` is want of memory, or of room for what it would
 /// add. It leaves the parts, and comes only if nothing refuses the event. Where none are given, it comes of no event
 /// that `IsSpared` names.
+#[inline(always)]
 pub fn act_with(
     parts: &mut Parts,
     stamp: Stamp,
