@@ -14,7 +14,7 @@ use Rattle.ep_interest.specs.InTurn.{AllHeld, Among, changed_at}
 use Rattle.ep_interest.specs.Registrations.{freshened_on, is_on, numbered, place_among, raised_on}
 use Rattle.ep_interest.specs.Rows.{row}
 use Rattle.ep_interest.specs.View.{IsInterest, number_in}
-use Rattle.ep_interest.specs.Walk.{id_at}
+use Rattle.ep_rings.specs.KeyWalk.{id_at}
 use Rattle.ep_interest.specs.declared.entry.Entry.{Entry}
 use Rattle.ep_interest.specs.declared.interest.Interest.TheInside.{Inside}
 use Rattle.ep_interest.proofs.NumberLemmas.{One, Option_cases, has, same_or_not, test_apart, test_same}

@@ -6,7 +6,6 @@ pub mod KeyLemmas
 pub mod AddLemmas
 pub mod ReplaceLemmas
 pub mod RemoveLemmas
-pub mod CircleLemmas
 pub mod RowLemmas
 pub mod KeysWithLemmas
 pub mod ListedLemmas

@@ -1,11 +1,9 @@
 pub mod ByNumber
-pub mod Circles
+pub mod Heads
 pub mod InTurn
-pub mod Links
 pub mod Listed
 pub mod Registrations
 pub mod Passes
 pub mod Rows
 pub mod Touched
 pub mod View
-pub mod Walk

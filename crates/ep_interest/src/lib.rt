@@ -2,15 +2,13 @@
 #![tactic(auto)]
 
 mod addition;
-mod circles;
 mod entries;
 mod entry;
+mod heads;
 mod interest;
-mod links;
 mod passes;
 mod rows;
 mod touched;
-mod walk;
 
 pub use crate::addition::Addition;
 pub use crate::entries::{Entries, Watchers};

@@ -1,13 +1,11 @@
 //! The registrations of each owner.
 ghost use Rattle.std.specs.Prelude.{◌≡◌, ◌≢◌, ◌<◌, ◌≤◌, ◌++◌, ◌∷◌, ℕ, [], All, Contains, OnErr, OnOk, filter, if◌then◌else◌, length, map, nat_eq, not, ◌==◌};
-ghost use Rattle.ep_interest.specs.Links.{prev_of};
 ghost use Rattle.ep_interest.specs.Rows.{IsRows, row};
-ghost use Rattle.ep_interest.specs.Walk.{id_at};
+ghost use Rattle.ep_rings.specs.KeyWalk.{id_at};
 
-use crate::circles::{Circle, Circles, Owner, lengthen, shorten};
-use crate::links::{Link, join};
-use crate::walk::Walk;
+use crate::heads::{Heads, Owner, lengthen, shorten};
 use ep_base::{DescId, EntryId};
+use ep_rings::{Circles, Walk};
 use std::alloc::{AllocError, Allocator, Global};
 use std::collections::BTreeMap;
 
@@ -15,9 +13,8 @@ use std::collections::BTreeMap;
 /// circle. An owner without registrations has no circle, so memory grows with registrations alone.
 #[derive(Drop)]
 pub(crate) struct Rows<A: Allocator = Global> {
+    pub(crate) heads: Heads<A>,
     pub(crate) circles: Circles<A>,
-    // By the number of a key. That of one that no circle has is not read.
-    pub(crate) links: Vec<Link, A>,
 }
 
 impl<A: Allocator> Rows<A> {
@@ -29,8 +26,8 @@ impl<A: Allocator> Rows<A> {
         ensures empty { (i : ℕ) → row result i ≡ [] }
     {
         Rows {
-            circles: BTreeMap::new(alloc),
-            links: Vec::new(alloc),
+            heads: BTreeMap::new(alloc),
+            circles: Circles::new(alloc),
         }
     }
 
@@ -40,23 +37,9 @@ impl<A: Allocator> Rows<A> {
         requires { IsRows self.old }
         ensures sound { IsRows self.new }
         ensures kept { (i : ℕ) → row self.new i ≡ row self.old i }
-        ensures links { OnOk result (many ≤ length self.new.links.items) }
+        ensures links { OnOk result (many ≤ length self.new.circles) }
     {
-        if self.links.len() < many {
-            self.links.resize(many, Link { next: 0, prev: 0 })?;
-        }
-        Ok(())
-    }
-
-    /// The last key of the circle with this first one, which is this key where the circle is new.
-    fn last(&self, first: usize, id: EntryId) -> usize
-        requires { first < length self.now.links.items }
-        ensures { result ≡ (if first == id.0 then first else prev_of self.now.links.items first) }
-    {
-        if first == id.0 {
-            return first;
-        }
-        self.links[first].prev
+        self.circles.reserve(many)
     }
 
     /// Puts a key behind the others of its owner. The cost grows as the logarithm of the number of owners. Only the
@@ -65,7 +48,7 @@ impl<A: Allocator> Rows<A> {
     where
         A: Clone,
         requires sound { IsRows self.old }
-        requires linked { id.0 < length self.old.links.items }
+        requires linked { id.0 < length self.old.circles }
         requires most { length (row self.old owner.0) < usize.MAX }
         requires fresh { (i : ℕ) → All (λ k. k ≢ id.0) (row self.old i) }
         ensures sound { IsRows self.new }
@@ -73,10 +56,8 @@ impl<A: Allocator> Rows<A> {
             ≡ (if nat_eq owner.0 i then row self.old i ++ id.0 ∷ [] else row self.old i)) }
         ensures kept { OnErr result ((i : ℕ) → row self.new i ≡ row self.old i) }
     {
-        let first = lengthen(&mut self.circles, Owner(owner.0), id.0)?;
-        let last = self.last(first, id);
-        join(&mut self.links, last, id.0);
-        join(&mut self.links, id.0, first);
+        let first = lengthen(&mut self.heads, Owner(owner.0), id.0)?;
+        self.circles.append(first, id.0);
         Ok(())
     }
 
@@ -88,9 +69,8 @@ impl<A: Allocator> Rows<A> {
         ensures rows { (i : ℕ) → row self.new i
             ≡ filter (λ k. not (k == id.0)) (row self.old i) }
     {
-        let Link { next, prev } = self.links[id.0];
-        join(&mut self.links, prev, next);
-        shorten(&mut self.circles, Owner(owner.0), id.0, next);
+        let next = self.circles.unlink(id.0);
+        shorten(&mut self.heads, Owner(owner.0), id.0, next);
     }
 
     /// The keys of an owner's registrations, in order. The cost of finding the first grows as the logarithm of the
@@ -99,12 +79,7 @@ impl<A: Allocator> Rows<A> {
         requires { IsRows self.now }
         ensures { result ≡ map id_at (row self.now owner.0) }
     {
-        let none = Circle { first: 0, len: 0 };
-        let circle = self.circles.get(&Owner(owner.0)).copied().unwrap_or(none);
-        Walk {
-            links: &self.links,
-            at: circle.first,
-            left: circle.len,
-        }
+        let circle = self.heads.get(&Owner(owner.0)).copied();
+        self.circles.keys(circle)
     }
 }

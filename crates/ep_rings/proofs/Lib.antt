@@ -11,3 +11,6 @@ pub mod GrowthLemmas
 pub mod PlaceLemmas
 pub mod IterLemmas
 pub mod SoundLemmas
+pub mod TestLemmas
+pub mod CircleLemmas
+pub mod OwnerLemmas

@@ -4,3 +4,6 @@ pub mod Rings
 pub mod Represents
 pub mod Growth
 pub mod Walk
+pub mod Links
+pub mod Circles
+pub mod KeyWalk

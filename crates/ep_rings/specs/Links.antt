@@ -1,6 +1,6 @@
 -- What the links of keys say.
 use Rattle.std.specs.Prelude.{◌≡◌, ◌≢◌, ℕ, List, length, slice_index_or}
-use Rattle.ep_interest.specs.declared.links.Link.{Link}
+use Rattle.ep_rings.specs.declared.link.Link.{Link}
 
 abbrev pub no_link : Link
 no_link = record { next = 0; prev = 0 }

@@ -4,20 +4,13 @@ ghost use Rattle.std.specs.Cmp.{partial_order_from_own_ties};
 ghost use Rattle.std.specs.Cmp.Rules.{comparing};
 ghost use Rattle.std.specs.Ordering.{as_partial_cmp};
 ghost use Rattle.std.specs.Prelude.{◌≡◌, ◌<◌, ℕ, IfOk, IfSome, OnErr, OnOk, Some, if◌then◌else◌, nat_eq, nat_lt, not, ◌==◌};
-ghost use Rattle.ep_interest.specs.Circles.{circle_at, lengthened, owner_cmp, shortened, without};
+ghost use Rattle.ep_interest.specs.Heads.{circle_at, owner_cmp};
+ghost use Rattle.ep_rings.specs.Circles.{lengthened, shortened};
 
+use ep_rings::Circle;
 use std::alloc::{AllocError, Allocator};
 use std::cmp::Ordering;
 use std::collections::BTreeMap;
-
-/// The circle of one owner.
-#[derive(Clone, Copy)]
-pub(crate) struct Circle {
-    /// The key of the registration that was added first.
-    pub(crate) first: usize,
-    /// How many keys it has, at least one.
-    pub(crate) len: usize,
-}
 
 /// The number of an owner, as the circles are ordered by it.
 #[derive(Clone, Copy, PartialEq, Eq)]
@@ -55,59 +48,44 @@ impl PartialOrd for Owner {
     }
 }
 
-/// Circles by the number of the owner; an owner without registrations has none. They are ordered and not hashed, so
-/// that no choice of owners makes a look-up go over all of them.
-pub(crate) type Circles<A> = BTreeMap<Owner, Circle, A>;
+/// Where circles begin, by the number of the owner; an owner without registrations has none. They are ordered and not
+/// hashed, so that no choice of owners makes a look-up go over all of them.
+pub(crate) type Heads<A> = BTreeMap<Owner, Circle, A>;
 
 /// Counts a key more in the circle of an owner, and answers its first key. A new circle begins with this key, and is
 /// what takes memory. An `Err` is want of it, and leaves the circles.
 pub(crate) fn lengthen<A: Allocator + Clone>(
-    circles: &mut Circles<A>,
+    heads: &mut Heads<A>,
     owner: Owner,
     key: usize,
 ) -> Result<usize, AllocError>
-    requires { IfSome (circle_at circles.old owner.0) (λ c. c.len < usize.MAX) }
+    requires { IfSome (circle_at heads.old owner.0) (λ c. c.len < usize.MAX) }
     ensures first { IfOk result
-        (λ first. first ≡ (lengthened key (circle_at circles.old owner.0)).first) }
-    ensures circles { OnOk result ((i : ℕ) → circle_at circles.new i
-        ≡ (if nat_eq owner.0 i then Some (lengthened key (circle_at circles.old owner.0))
-        else circle_at circles.old i)) }
-    ensures kept { OnErr result
-        ((i : ℕ) → circle_at circles.new i ≡ circle_at circles.old i) }
+        (λ first. first ≡ (lengthened key (circle_at heads.old owner.0)).first) }
+    ensures heads { OnOk result ((i : ℕ) → circle_at heads.new i
+        ≡ (if nat_eq owner.0 i then Some (lengthened key (circle_at heads.old owner.0))
+        else circle_at heads.old i)) }
+    ensures kept { OnErr result ((i : ℕ) → circle_at heads.new i ≡ circle_at heads.old i) }
 {
     let new = Circle { first: key, len: 0 };
-    let circle = circles.entry(owner)?.or_insert(new);
+    let circle = heads.entry(owner)?.or_insert(new);
     circle.len += 1;
     Ok(circle.first)
 }
 
-/// A circle without a key, `next` being the key behind it.
-fn shrink(circle: Circle, key: usize, next: usize) -> Circle
-    requires { 0 < circle.len }
-    ensures { result ≡ without key next circle }
-{
-    let first = if circle.first == key {
-        next
-    } else {
-        circle.first
-    };
-    let len = circle.len - 1;
-    Circle { first, len }
-}
-
 /// Counts a key less in the circle of an owner, `next` being the key behind it. The circle goes with its last key,
 /// which is the one behind itself.
-pub(crate) fn shorten<A: Allocator>(circles: &mut Circles<A>, owner: Owner, key: usize, next: usize)
-    requires { IfSome (circle_at circles.old owner.0) (λ c. nat_lt 1 c.len ≡ not (key == next)) }
-    ensures { (i : ℕ) → circle_at circles.new i
-        ≡ (if nat_eq owner.0 i then shortened key next (circle_at circles.old owner.0)
-        else circle_at circles.old i) }
+pub(crate) fn shorten<A: Allocator>(heads: &mut Heads<A>, owner: Owner, key: usize, next: usize)
+    requires { IfSome (circle_at heads.old owner.0) (λ c. nat_lt 1 c.len ≡ not (key == next)) }
+    ensures { (i : ℕ) → circle_at heads.new i
+        ≡ (if nat_eq owner.0 i then shortened key next (circle_at heads.old owner.0)
+        else circle_at heads.old i) }
 {
     if key == next {
-        circles.remove(&owner);
+        heads.remove(&owner);
         return;
     }
-    if let Some(circle) = circles.get_mut(&owner) {
-        *circle = shrink(*circle, key, next);
+    if let Some(circle) = heads.get_mut(&owner) {
+        *circle = circle.without(key, next);
     }
 }

@@ -1,9 +1,9 @@
--- A walk along the links.
+-- A walk along the links of a circle.
 use Rattle.std.specs.Prelude.{◌<◌, ℕ, zero, suc, List, length, map}
 use Rattle.ep_base.specs.declared.ids.EntryId.{EntryId}
 use Rattle.ep_rings.specs.Ring.{walk}
-use Rattle.ep_interest.specs.Links.{next_of}
-use Rattle.ep_interest.specs.declared.links.Link.{Link}
+use Rattle.ep_rings.specs.Links.{next_of}
+use Rattle.ep_rings.specs.declared.link.Link.{Link}
 
 abbrev pub id_at : ℕ → EntryId
 id_at k = record { 0 = k }

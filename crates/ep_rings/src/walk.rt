@@ -3,13 +3,13 @@ ghost use Rattle.std.specs.Iterator.{at_most};
 ghost use Rattle.std.specs.Map.Iter.{TakesFirst};
 ghost use Rattle.std.specs.Prelude.{length};
 
-use crate::links::Link;
+use crate::link::Link;
 use ep_base::EntryId;
 use std::marker::Model;
 
-/// The keys of one owner's registrations, in order. Contracts see those that are left.
+/// The keys of one circle, in order. It takes no memory. Contracts see those that are left.
 #[derive(Drop)]
-pub(crate) struct Walk<'a> {
+pub struct Walk<'a> {
     pub(crate) links: &'a [Link],
     pub(crate) at: usize,
     pub(crate) left: usize,
@@ -18,7 +18,7 @@ pub(crate) struct Walk<'a> {
 impl<'a> Model for Walk<'a> {
     ghost use Rattle.std.specs.Prelude.{List};
     ghost use Rattle.ep_base.specs.declared.ids.EntryId.{EntryId as Id};
-    ghost use Rattle.ep_interest.specs.Walk.{AreLinked, ids_from};
+    ghost use Rattle.ep_rings.specs.KeyWalk.{AreLinked, ids_from};
 
     ghost Value = { List Id };
 

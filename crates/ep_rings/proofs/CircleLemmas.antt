@@ -1,17 +1,19 @@
 -- A circle, once two of its keys or a new one are joined.
-use Rattle.std.proofs.Common.{◌≡◌, ◌≢◌, ◌⊎◌, ℕ, zero, suc, ◌+◌, ◌<◌, ◌≤◌, ◌==◌, nat_lt, true, false, not, All, Contains, List, [], ◌∷◌, ◌++◌, length, filter, get_or, Option, Some, None, IfSome, refl, sym, ap, subst, ◌∙◌, inl, inr, arith, if◌then◌else◌}
-use Rattle.std.specs.List.{remove}
+use Rattle.std.proofs.Common.{◌≡◌, ◌≢◌, ◌⊎◌, ℕ, zero, suc, ◌+◌, ◌<◌, ◌≤◌, ◌==◌, nat_lt, true, false, not, eqb, All, Contains, List, [], ◌∷◌, ◌++◌, length, filter, get_or, Option, Some, None, IfSome, refl, sym, ap, subst, ◌∙◌, inl, inr, arith, if◌then◌else◌}
+use Rattle.std.specs.List.{list_any, remove}
 use Rattle.std.proofs.lemmas.Bool.{cases_eq, cases_lt}
 use Rattle.std.proofs.lemmas.Bool.Decides.{nat_tests}
 use Rattle.std.proofs.lemmas.List.{get_or_past, length_push, get_or_push, get_or_default}
 use Rattle.std.proofs.lemmas.List.Edits.{length-remove}
-use Rattle.std.proofs.lemmas.List.Elements.{All-contains, Contains-get_or}
+use Rattle.std.proofs.lemmas.List.Elements.{All-cons, All-contains, All-head, All-tail, Contains-get_or}
+use Rattle.std.proofs.lemmas.Map.Keys.{IsDistinct-from_apart}
+use Rattle.std.proofs.lemmas.Map.Steps.{length-le_from_distinct_below}
 use Rattle.ep_rings.specs.Ring.{IsRing, walk}
 use Rattle.ep_rings.proofs.RingLemmas.{ring_kept, ring_pushed, ring_removed, walk-ring}
 use Rattle.ep_rings.proofs.ViewLemmas.{filter-remove, kernel_watches}
-use Rattle.ep_interest.specs.Circles.{IsCircle, keys_in, lengthened, shortened, without}
-use Rattle.ep_interest.specs.declared.circles.Circle.{Circle}
-use Rattle.ep_interest.proofs.NumberLemmas.{test_apart, test_same}
+use Rattle.ep_rings.specs.Circles.{IsCircle, keys_in, lengthened, shortened, without}
+use Rattle.ep_rings.specs.declared.circle.Circle.{Circle}
+use Rattle.ep_rings.proofs.TestLemmas.{test_apart, test_same}
 
 -- what stands behind a place of a ring, and at its end the head
 on_ring : (head : ℕ) (xs : List ℕ) (i : ℕ) → i ≤ length xs → Contains (head ∷ xs) (get_or xs i head)
@@ -153,6 +155,42 @@ module _ (next prev : ℕ → ℕ) where
     | inl e ↦ inr (rw (test_same t.first k e) e)
     | inr ne ↦ inl (rw (test_apart t.first k ne) (prev_there (Some t) xs t.first h (first_there t xs h)))
   ]
+
+  -- no key stands in a circle twice
+  pub keys_apart : (o : Option Circle) (xs : List ℕ) → IsCircle next prev o xs → (i j d : ℕ) → i < j → j < length xs → get_or xs i d ≢ get_or xs j d
+  keys_apart None xs h i j d before lt same = absurd (omega (arith, ap length h, lt))
+  keys_apart (Some t) xs h i j d before lt same =
+      let long = ap length h.1 in
+      let at : (z : ℕ) → z < length (t.first ∷ h.0) → get_or (t.first ∷ h.0) z t.first ≡ get_or xs z d = (λ z l. get_or_default (t.first ∷ h.0) z t.first d l ∙ ap (λ (ys : List ℕ). get_or ys z d) (sym h.1)) in
+      h.3.apart i j before (omega (arith, lt, long)) (at i (omega (arith, before, lt, long)) ∙ (same ∙ sym (at j (omega (arith, lt, long)))))
+
+  among_below : (xs : List ℕ) (many q : ℕ) → All (λ x. x < many) xs → list_any (eqb q) xs ≡ true → q < many
+  among_below [] many q below h = absurd cc
+  among_below (x ∷ xs) many q below h = elim (cases_eq q x) [
+    | inl e ↦ subst (λ (z : ℕ). z < many) (sym e) (All-head (λ x. x < many) x xs below)
+    | inr ne ↦ among_below xs many q (All-tail (λ x. x < many) x xs below) (let apart = test_apart q x ne in rw apart at h)
+  ]
+
+  few_keys : (xs : List ℕ) (many k : ℕ) → ((i j d : ℕ) → i < j → j < length xs → get_or xs i d ≢ get_or xs j d) → All (λ x. x < many) xs → All (λ x. x ≢ k) xs → k < many → length xs < many
+  few_keys xs many k apart below fresh lt =
+      let distinct = IsDistinct-from_apart eqb (k ∷ xs) both in
+      let fits = length-le_from_distinct_below (k ∷ xs) many distinct under in
+      omega (arith, fits)
+    where
+      both : (i j d : ℕ) → i < j → j < length (k ∷ xs) → eqb (get_or (k ∷ xs) i d) (get_or (k ∷ xs) j d) ≡ false
+      both i zero d before l = absurd (omega (arith, before))
+      both zero (suc j) d before l = test_apart k (get_or xs j d) (λ e. fresh j d (omega (arith, l)) (sym e))
+      both (suc i) (suc j) d before l = test_apart (get_or xs i d) (get_or xs j d) (apart i j d (omega (arith, before)) (omega (arith, l)))
+
+      under : (q : ℕ) → list_any (eqb q) (k ∷ xs) ≡ true → q < many
+      under q h = among_below (k ∷ xs) many q (All-cons (λ x. x < many) k xs lt below) h
+
+  -- a circle has fewer keys than there are, if there is one that it hasn't
+  pub few : (o : Option Circle) (xs : List ℕ) (many k : ℕ) → IsCircle next prev o xs → All (λ x. x < many) xs → All (λ x. x ≢ k) xs → k < many → (most : ℕ) → many ≤ most → IfSome o (λ c. c.len < most)
+  few None xs many k h below fresh lt most le = tt
+  few (Some t) xs many k h below fresh lt most le =
+      let fewer = few_keys xs many k (keys_apart (Some t) xs h) below fresh lt in
+      omega (arith, h.2, fewer, le)
 
 module _ (next prev next' prev' : ℕ → ℕ) where
   -- a circle of which no link was written
