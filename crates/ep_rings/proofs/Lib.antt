@@ -14,3 +14,4 @@ pub mod SoundLemmas
 pub mod TestLemmas
 pub mod CircleLemmas
 pub mod OwnerLemmas
+pub mod PlacedLemmas

@@ -23,7 +23,7 @@ rows_walked next prev circle many row h =
     subst (AreRows next prev circle many) e h
 
 -- another owner has no key of this one
-none_of : (row : ℕ → List ℕ) → ((i j : ℕ) → i ≢ j → All (λ k. All (λ l. l ≢ k) (row j)) (row i)) → (o i z : ℕ) → o ≢ i → Contains (row o) z → All (λ x. x ≢ z) (row i)
+pub none_of : (row : ℕ → List ℕ) → ((i j : ℕ) → i ≢ j → All (λ k. All (λ l. l ≢ k) (row j)) (row i)) → (o i z : ℕ) → o ≢ i → Contains (row o) z → All (λ x. x ≢ z) (row i)
 none_of row apart o i z ne c = All-contains (λ k. All (λ l. l ≢ k) (row i)) (row o) z (apart o i ne) c
 
 both : (xs : List ℕ) (a b : ℕ) → All (λ x. x ≢ a) xs → All (λ x. x ≢ b) xs → (f g : ℕ → ℕ) → ((z : ℕ) → z ≢ a → z ≢ b → f z ≡ g z) → All (λ x. f x ≡ g x) xs
@@ -167,28 +167,29 @@ module _ (s0 s1 : List Link) (circle after : ℕ → Option Circle) (many : ℕ)
 pub link_read : (inside s : List Link) (w : Whose) (key : ℕ) (t : Link) → inside ≡ s → CanLeave s w key → t ≡ get_or inside key t → t ≡ get_or s key no_link
 link_read inside s w key t e can is = get_or_read s key t (key_below s s w.heads w.heads (length s) (row_of s w.heads) can.sound w.owner key can.there) (is ∙ ap (λ (u : List Link). get_or u key t) e) no_link
 
--- new links for keys that had none
-more_links : (s : List Link) (n k : ℕ) → get_or (s ++ replicate n no_link) k no_link ≡ get_or s k no_link
-more_links s n k = elim (cases_lt k (length s)) [
-  | inl l ↦ get_or_append_left s (replicate n no_link) no_link k l
-  | inr g ↦ past s n k g ∙ sym (get_or_past s k no_link g)
+-- reading at a new place
+pub read_more : {X : Type 0} (s : List X) (n k : ℕ) (x : X) → get_or (s ++ replicate n x) k x ≡ get_or s k x
+read_more {X = X} s n k x = elim (cases_lt k (length s)) [
+  | inl l ↦ get_or_append_left s (replicate n x) x k l
+  | inr g ↦ past s n k g ∙ sym (get_or_past s k x g)
 ]
   where
-    none : (n k : ℕ) → get_or (replicate n no_link) k no_link ≡ no_link
+    none : (n k : ℕ) → get_or (replicate n x) k x ≡ x
     none zero k = refl
     none (suc n) zero = refl
     none (suc n) (suc k) = none n k
 
-    past : (s : List Link) (n k : ℕ) → length s ≤ k → get_or (s ++ replicate n no_link) k no_link ≡ no_link
+    past : (s : List X) (n k : ℕ) → length s ≤ k → get_or (s ++ replicate n x) k x ≡ x
     past [] n k le = none n k
-    past (x ∷ s) n zero le = absurd (omega (arith, le))
-    past (x ∷ s) n (suc k) le = past s n k (omega (arith, le))
+    past (y ∷ s) n zero le = absurd (omega (arith, le))
+    past (y ∷ s) n (suc k) le = past s n k (omega (arith, le))
 
+-- new links for keys that had none
 next_more : (s s' : List Link) (n : ℕ) → s' ≡ s ++ replicate n no_link → next_of s' ≡ next_of s
-next_more s s' n e t k = ((ap (λ (u : List Link). get_or u k no_link) e ∙ more_links s n k) t).next
+next_more s s' n e t k = ((ap (λ (u : List Link). get_or u k no_link) e ∙ read_more s n k no_link) t).next
 
 prev_more : (s s' : List Link) (n : ℕ) → s' ≡ s ++ replicate n no_link → prev_of s' ≡ prev_of s
-prev_more s s' n e t k = ((ap (λ (u : List Link). get_or u k no_link) e ∙ more_links s n k) t).prev
+prev_more s s' n e t k = ((ap (λ (u : List Link). get_or u k no_link) e ∙ read_more s n k no_link) t).prev
 
 pub row_more : (s s' : List Link) (n : ℕ) (heads : ℕ → Option Circle) (i : ℕ) → s' ≡ s ++ replicate n no_link → row_of s' heads i ≡ row_of s heads i
 row_more s s' n heads i e = ap (λ (next : ℕ → ℕ). keys_in next (heads i)) (next_more s s' n e)

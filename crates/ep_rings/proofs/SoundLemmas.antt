@@ -21,7 +21,7 @@ stands_where (x ∷ xs) k d h = elim (cases_eq x k) [
       let w = stands_where xs k d rest in (suc w.0, omega (arith, w.1), w.2)
 ]
 
-distinct : (xs : List ℕ) (d : ℕ) → ((i j : ℕ) → i < j → j < length xs → get_or xs i d ≢ get_or xs j d) → are_distinct xs ≡ true
+pub distinct : (xs : List ℕ) (d : ℕ) → ((i j : ℕ) → i < j → j < length xs → get_or xs i d ≢ get_or xs j d) → are_distinct xs ≡ true
 distinct [] d h = refl
 distinct (x ∷ xs) d h =
     let out : is_among xs x ≡ false = not_standing xs x d (λ j l same. h 0 (suc j) (omega arith) (omega arith) (sym same)) in

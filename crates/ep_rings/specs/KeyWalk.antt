@@ -5,6 +5,7 @@ use Rattle.ep_rings.specs.Ring.{walk}
 use Rattle.ep_rings.specs.Links.{next_of}
 use Rattle.ep_rings.specs.declared.link.Link.{Link}
 
+-- the key with this number
 abbrev pub id_at : ℕ → EntryId
 id_at k = record { 0 = k }
 

@@ -7,3 +7,4 @@ pub mod Walk
 pub mod Links
 pub mod Circles
 pub mod KeyWalk
+pub mod PlacedRows

@@ -10,11 +10,13 @@ mod iter;
 mod link;
 mod links;
 mod node;
+mod placed_rows;
 mod rings;
 mod walk;
 
 pub use crate::circle::Circle;
 pub use crate::circles::Circles;
 pub use crate::iter::Iter;
+pub use crate::placed_rows::PlacedRows;
 pub use crate::rings::{PlaceId, Rings};
 pub use crate::walk::Walk;
