@@ -1,0 +1,12 @@
+pub mod RowLemmas
+pub mod KeptLemmas
+pub mod TurnLemmas
+pub mod AskLemmas
+pub mod EachLemmas
+pub mod RoundLemmas
+pub mod NestLemmas
+pub mod ComeLemmas
+pub mod GoLemmas
+pub mod RenewLemmas
+pub mod DateLemmas
+pub mod OrderLemmas

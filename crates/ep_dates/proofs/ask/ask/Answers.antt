@@ -1,0 +1,70 @@
+use Rattle.std.proofs.Common.{◌≡◌, ◌==◌, ◌∙◌, Bool, None, Some, ap, arith, false, nat_lt, not, option_copied, subst, sym, true, ℕ}
+use Rattle.std.proofs.lemmas.Bool.Decides.{nat_tests}
+use Rattle.ep_calls.proofs.EntryLemmas.{holds_under}
+use Rattle.ep_calls.specs.Parts.{Parts}
+use Rattle.ep_calls.specs.Stands.{IsLinked}
+use Rattle.ep_calls.specs.Readiness.{entry_shows}
+use Rattle.ep_dates.proofs.AskLemmas.{alike, asked_begun, asked_ended, asked_idle, asked_nothing, asked_same, other_truth, same_truth, shows_told, unlike}
+use Rattle.ep_dates.specs.Ask.{Asks, shows_by, shows_over}
+use Rattle.ep_dates.specs.Dates.{is_dated, is_ready}
+use Rattle.ep_interest.specs.Registrations.{IsSound, entry_under}
+use Rattle.ep_dates.proofs.ask.ask.Goals as goal
+
+pub returns-in_default : goal.returns-in_default
+returns-in_default c =
+    let p = c.args.parts.now in
+    let none : entry_under p.interest c.args.id ≡ None = subst (λ (q : Parts). entry_under q.interest c.args.id ≡ None) c.parts.view_is (sym c.get.ensures ∙ ap option_copied c.in_default.is) in
+    asked_nothing p (subst (λ (q : Parts). IsSound q.interest) c.parts.view_is c.known-2.ensures) c.args.question.comes c.args.question.event c.args.id c.args.dates.now c.requires.kept none
+
+pub returns-then-is_dated-question : goal.returns-then-is_dated-question
+returns-then-is_dated-question c =
+    let p = c.args.parts.now in
+    let x = c.in-Some.entry.now in
+    let at : entry_under p.interest c.args.id ≡ Some x = subst (λ (q : Parts). entry_under q.interest c.args.id ≡ Some x) c.parts.view_is (sym c.get.ensures ∙ ap option_copied c.in-Some.is) in
+    asked_same p (subst (λ (q : Parts). IsSound q.interest) c.parts.view_is c.known-2.ensures) c.args.question.comes c.args.question.event c.args.id c.args.dates.now c.requires.kept x at
+    (ap (λ (k : ℕ). nat_lt 0 k) (sym c.since-is_dated.ensures) ∙ same_truth _ _ c.if-is_dated-question.true)
+
+pub shown_at-requires-clause-target : goal.shown_at-requires-clause-target
+shown_at-requires-clause-target c =
+    let k = c.parts.inside in
+    (holds_under (IsLinked k.tables.keys) k.interest c.args.id c.in-Some.entry.now c.parts.invariant.linked (sym c.in-Some.ensures)).desc
+
+pub returns-then-shows-question : goal.returns-then-shows-question
+returns-then-shows-question c =
+    let p = c.args.parts.now in
+    let x = c.in-Some.entry.now in
+    let at : entry_under p.interest c.args.id ≡ Some x = subst (λ (q : Parts). entry_under q.interest c.args.id ≡ Some x) c.parts.view_is (sym c.get.ensures ∙ ap option_copied c.in-Some.is) in
+    let shown : shows_by (shows_over p) c.args.dates.now x ≡ c.is_reportable-shows.result = subst (λ (q : Parts). entry_shows (λ e. is_ready c.args.dates.now x.desc.0) q.tables q.clock x ≡ c.is_reportable-shows.result) c.parts.view_is
+    (shows_told c.parts.inside.tables c.parts.inside.clock (is_ready c.args.dates.now x.desc.0) x c.is_ready-below.result c.is_reportable-shows.result c.shown_at.result.0 c.is_ready-below.ensures c.shown_at.ensures c.is_reportable-shows.ensures) in
+    asked_idle p (subst (λ (q : Parts). IsSound q.interest) c.parts.view_is c.known-2.ensures) c.args.question.comes c.args.question.event c.args.id c.args.dates.now c.requires.kept x at
+    (shown ∙ unlike _ _ c.if-shows-question.true)
+
+pub returns-then-question : goal.returns-then-question
+returns-then-question c =
+    let p = c.args.parts.now in
+    let x = c.in-Some.entry.now in
+    let at : entry_under p.interest c.args.id ≡ Some x = subst (λ (q : Parts). entry_under q.interest c.args.id ≡ Some x) c.parts.view_is (sym c.get.ensures ∙ ap option_copied c.in-Some.is) in
+    let shown : shows_by (shows_over p) c.args.dates.now x ≡ c.is_reportable-shows.result = subst (λ (q : Parts). entry_shows (λ e. is_ready c.args.dates.now x.desc.0) q.tables q.clock x ≡ c.is_reportable-shows.result) c.parts.view_is
+    (shows_told c.parts.inside.tables c.parts.inside.clock (is_ready c.args.dates.now x.desc.0) x c.is_ready-below.result c.is_reportable-shows.result c.shown_at.result.0 c.is_ready-below.ensures c.shown_at.ensures c.is_reportable-shows.ensures) in
+    let comes = c.if-question.true in
+    let was : is_dated c.args.dates.now x ≡ false = ap (λ (k : ℕ). nat_lt 0 k) (sym c.since-is_dated.ensures) ∙ (other_truth _ _ c.if-is_dated-question.false ∙ ap not comes) in
+    let up : nat_lt 0 c.args.question.event ≡ true = let positive = c.requires.event in grind (arith, nat_tests, positive) in
+    subst (λ (w : Bool). Asks w c.args.question.event p (λ k. k == c.args.id.0) c.args.dates.now c.begin.new.self) (sym comes)
+    (subst (Asks true c.args.question.event p (λ k. k == c.args.id.0) c.args.dates.now) (sym c.begin.ensures)
+    (asked_begun p (subst (λ (q : Parts). IsSound q.interest) c.parts.view_is c.known-2.ensures) c.args.question.event up c.args.id c.args.dates.now c.requires.kept x at
+    (λ i t. ((c.requires.turned i t).0 ∙ comes, (c.requires.turned i t).1)) was (shown ∙ (alike _ _ c.if-shows-question.false ∙ comes))))
+
+pub returns-else-question : goal.returns-else-question
+returns-else-question c =
+    let p = c.args.parts.now in
+    let x = c.in-Some.entry.now in
+    let at : entry_under p.interest c.args.id ≡ Some x = subst (λ (q : Parts). entry_under q.interest c.args.id ≡ Some x) c.parts.view_is (sym c.get.ensures ∙ ap option_copied c.in-Some.is) in
+    let shown : shows_by (shows_over p) c.args.dates.now x ≡ c.is_reportable-shows.result = subst (λ (q : Parts). entry_shows (λ e. is_ready c.args.dates.now x.desc.0) q.tables q.clock x ≡ c.is_reportable-shows.result) c.parts.view_is
+    (shows_told c.parts.inside.tables c.parts.inside.clock (is_ready c.args.dates.now x.desc.0) x c.is_ready-below.result c.is_reportable-shows.result c.shown_at.result.0 c.is_ready-below.ensures c.shown_at.ensures c.is_reportable-shows.ensures) in
+    let goes = c.if-question.false in
+    let was : is_dated c.args.dates.now x ≡ true = ap (λ (k : ℕ). nat_lt 0 k) (sym c.since-is_dated.ensures) ∙ (other_truth _ _ c.if-is_dated-question.false ∙ ap not goes) in
+    let up : nat_lt 0 c.args.question.event ≡ true = let positive = c.requires.event in grind (arith, nat_tests, positive) in
+    subst (λ (w : Bool). Asks w c.args.question.event p (λ k. k == c.args.id.0) c.args.dates.now c.end.new.self) (sym goes)
+    (subst (Asks false c.args.question.event p (λ k. k == c.args.id.0) c.args.dates.now) (sym c.end.ensures)
+    (asked_ended p (subst (λ (q : Parts). IsSound q.interest) c.parts.view_is c.known-2.ensures) c.args.question.event up c.args.id c.args.dates.now c.requires.kept x at
+    (λ i t. ((c.requires.turned i t).0 ∙ goes, (c.requires.turned i t).1)) was (shown ∙ (alike _ _ c.if-shows-question.false ∙ goes))))

@@ -1,0 +1,6 @@
+pub mod Dates
+pub mod Kept
+pub mod Order
+pub mod Ask
+pub mod Touched
+pub mod Renew

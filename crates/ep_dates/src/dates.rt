@@ -1,0 +1,151 @@
+//! Since which event registrations are reportable, and which registrations of an instance are.
+ghost use Rattle.std.specs.Prelude.{◌≡◌, ◌<◌, ℕ, Some, false, length, slice_get, true};
+ghost use Rattle.ep_machine.specs.Lists.{are_distinct, is_among};
+ghost use Rattle.ep_rings.specs.PlacedRows.{keys_at};
+ghost use Rattle.ep_dates.specs.Dates.{HasPlace, begun, ended, event_at, forgot, id_at, is_ready, noted, renewed};
+
+use ep_base::{DescId, EntryId};
+use ep_interest::Entry;
+use ep_ready::Walk;
+use ep_rings::PlacedRows;
+use std::alloc::{AllocError, Global};
+use std::marker::Model;
+
+/// Since which event each registration is reportable without a report, and for each instance a row of its registrations
+/// that are, in the order in which they came to be so. An instance is ready exactly if its row isn't empty. Each call
+/// takes constant time but those that make room.
+#[derive(Drop)]
+pub struct Dates {
+    pub(crate) since: Vec<u64>,
+    pub(crate) ids: Vec<EntryId>,
+    pub(crate) rows: PlacedRows,
+    pub(crate) turned: Walk<Global>,
+}
+
+impl Model for Dates {
+    ghost use Rattle.std.specs.Prelude.{vec_capacity};
+    ghost use Rattle.ep_dates.specs.Dates.{Dates as Dated};
+
+    ghost Value = { Dated };
+
+    ghost view = { λ d. record {
+      since = d.since.items;
+      ids = d.ids.items;
+      rows = d.rows;
+      places = vec_capacity d.since;
+      turned = d.turned;
+    } };
+}
+
+impl Dates {
+    /// The event since which the registration with a number is reportable without a report; 0 where it is not.
+    pub fn since(&self, number: u64) -> u64
+        ensures { result ≡ event_at self.now.since number }
+    {
+        let _rows = &self.rows;
+        match self.since.get(number as usize) {
+            Some(event) => *event,
+            None => 0,
+        }
+    }
+
+    /// Whether an instance has a registration that is reportable.
+    pub fn is_ready(&self, instance: DescId) -> bool
+        ensures { result ≡ is_ready self.now instance.0 }
+    {
+        let _since = &self.since;
+        self.rows.first(instance).is_some()
+    }
+
+    /// What holds of all dates: no instance is noted twice.
+    pub(crate) fn known(&self)
+        ensures { are_distinct self.now.turned.reached ≡ true }
+    {
+        let _since = &self.since;
+        self.turned.known();
+    }
+
+    /// How many instances are noted whose readiness turned.
+    pub(crate) fn turned_count(&self) -> usize
+        ensures { result ≡ length self.now.turned.reached }
+    {
+        let _since = &self.since;
+        self.turned.count()
+    }
+
+    /// The instance that was noted as the one with this index.
+    pub(crate) fn turned_at(&self, index: usize) -> DescId
+        requires { index < length self.now.turned.reached }
+        ensures { slice_get self.now.turned.reached index ≡ Some result.0 }
+    {
+        let _since = &self.since;
+        DescId(self.turned.at(index))
+    }
+
+    /// Forgets which instances are noted. The time grows with how many are.
+    pub fn forget(&mut self)
+        ensures { self.new ≡ forgot self.old }
+    {
+        self.turned.forget();
+    }
+
+    /// The key that the registration with a number had when it last came to be reportable.
+    pub fn id(&self, number: u64) -> EntryId
+        ensures { result ≡ id_at self.now.ids number }
+    {
+        let _rows = &self.rows;
+        match self.ids.get(number as usize) {
+            Some(id) => *id,
+            None => EntryId(0),
+        }
+    }
+
+    /// Notes an instance whose readiness is not what it was.
+    fn note(&mut self, instance: DescId, was_ready: bool)
+        requires { instance.0 < self.old.turned.room }
+        ensures { self.new
+            ≡ record self.old { turned = noted was_ready (is_ready self.old instance.0) instance.0 self.old.turned } }
+    {
+        if self.is_ready(instance) != was_ready {
+            self.turned.reach(instance.0);
+        }
+    }
+
+    /// Dates the registration under a key, which is in no row: it is reportable since an event.
+    pub(crate) fn begin(&mut self, id: EntryId, entry: &Entry, event: u64)
+        requires place { HasPlace self.old id entry.now }
+        requires fresh { (i : ℕ) → is_among (keys_at self.old.rows i) id.0 ≡ false }
+        ensures { self.new ≡ begun event id entry.now self.old }
+    {
+        let was_ready = self.is_ready(entry.instance);
+        self.since[entry.number as usize] = event;
+        self.ids[entry.number as usize] = id;
+        self.rows.push(entry.instance, id);
+        self.note(entry.instance, was_ready);
+    }
+
+    /// Takes the date away of the registration under a key, which is in its instance's row: it is reportable no more.
+    pub fn end(&mut self, id: EntryId, entry: &Entry)
+        requires place { HasPlace self.old id entry.now }
+        requires dated { is_among (keys_at self.old.rows entry.now.instance.0) id.0 ≡ true }
+        ensures { self.new ≡ ended id entry.now self.old }
+    {
+        let was_ready = self.is_ready(entry.instance);
+        self.since[entry.number as usize] = 0;
+        self.rows.remove(entry.instance, id);
+        self.note(entry.instance, was_ready);
+    }
+
+    /// Dates the registration under a key anew, which is in its instance's row, and gives it the last turn: it was
+    /// reported in an event.
+    pub(crate) fn renew(&mut self, id: EntryId, entry: &Entry, event: u64)
+        requires place { HasPlace self.old id entry.now }
+        requires dated { is_among (keys_at self.old.rows entry.now.instance.0) id.0 ≡ true }
+        ensures { self.new ≡ renewed event id entry.now self.old }
+    {
+        self.rows.known();
+        self.since[entry.number as usize] = event;
+        self.rows.remove(entry.instance, id);
+        self.rows.push(entry.instance, id);
+    }
+}

@@ -1,0 +1,17 @@
+//! Since which event each registration is reportable, and which registrations of an instance are.
+#![tactic(auto)]
+
+mod ask;
+mod come;
+mod dates;
+mod dating;
+mod go;
+mod renew;
+mod room;
+#[cfg(test)]
+mod tests;
+mod touched;
+
+pub use crate::dates::Dates;
+pub use crate::dating::date;
+pub use crate::touched::Touched;
