@@ -2,8 +2,8 @@
 use Rattle.std.proofs.Common.{◌≡◌, ◌≢◌, ◌<◌, ◌≤◌, ◌==◌, ◌||◌, ◌&&◌, ◌∙◌, ◌⊎◌, ℕ, Bool, true, false, cond, filter, length, List, [], ◌∷◌, ◌++◌, None, Option, Some, ap, append-nil, arith, inl, inr, is_some, nat_lt, not, refl, rules, subst, sym}
 use Rattle.std.proofs.lemmas.Bool.{cases_Bool, cases_eq, false≢true}
 use Rattle.ep_base.specs.declared.ids.EntryId.{EntryId}
-use Rattle.ep_dates.proofs.KeptLemmas.{AreOne, Changes, apart_one, begun_changes, ended_changes, event_else, event_here, kept_changed, only_home, same_one}
-use Rattle.ep_dates.proofs.OrderLemmas.{order_changed}
+use Rattle.ep_dates.proofs.KeptLemmas.{AreOne, Changes, apart_one, begun_changes, ended_changes, event_else, event_here, kept_changed, same_one}
+use Rattle.ep_dates.proofs.OrderLemmas.{elsewhere, ended_rows, left, order_changed}
 use Rattle.ep_dates.proofs.RowLemmas.{end_here, row_else, row_here, some_first}
 use Rattle.ep_dates.proofs.TurnLemmas.{either_way, not_both, shows_kept, turns_none}
 use Rattle.ep_dates.specs.Ask.{AreTurned, Asks, Turns, shows_by, shows_over}
@@ -244,25 +244,12 @@ module _ (p : Parts) (sound : IsSound p.interest) (n : ℕ) (up : nat_lt 0 n ≡
   abbrev own : ℕ
   own = x.instance.0
 
-  abbrev left : ℕ → List ℕ
-  left j = filter (λ y. not (y == id.0)) (keys_at d.rows j)
-
-  -- in another row the key doesn't stand
-  elsewhere : (j : ℕ) → j ≢ own → keys_at d.rows j ≡ left j
-  elsewhere j ne = sym (filter_gone (keys_at d.rows j) id.0 (elim (cases_Bool (is_among (keys_at d.rows j) id.0)) [ inl t ↦ absurd (ne (only_home p.interest d kept id x at j t)) | inr f ↦ f ]))
-
-  begun_rows : is_dated d x ≡ false → (j : ℕ) → (keys_at (begun n id x d).rows j ≡ left j) ⊎ ((keys_at (begun n id x d).rows j ≡ left j ++ id.0 ∷ []) × (n ≡ n))
+  begun_rows : is_dated d x ≡ false → (j : ℕ) → (keys_at (begun n id x d).rows j ≡ left p.interest d kept id x at j) ⊎ ((keys_at (begun n id x d).rows j ≡ left p.interest d kept id x at j ++ id.0 ∷ []) × (n ≡ n))
   begun_rows was j = elim (cases_eq j own) [
     | inl e ↦
-        let here : keys_at d.rows own ≡ left own = sym (filter_gone (keys_at d.rows own) id.0 (kept.listed id x at ∙ was)) in
-        inr (ap (λ (i : ℕ). keys_at (begun n id x d).rows i) e ∙ (row_here d.rows own (keys_at d.rows own ++ id.0 ∷ []) (kept.places id x at).room.row ∙ (ap (λ (l : List ℕ). l ++ id.0 ∷ []) here ∙ ap (λ (i : ℕ). left i ++ id.0 ∷ []) (sym e))), refl)
-    | inr ne ↦ inl (row_else d.rows own j (keys_at d.rows own ++ id.0 ∷ []) ne ∙ elsewhere j ne)
-  ]
-
-  ended_rows : (j : ℕ) → (keys_at (ended id x d).rows j ≡ left j) ⊎ ((keys_at (ended id x d).rows j ≡ left j ++ id.0 ∷ []) × (0 ≡ n))
-  ended_rows j = elim (cases_eq j own) [
-    | inl e ↦ inl (ap (λ (i : ℕ). keys_at (ended id x d).rows i) e ∙ (row_here d.rows own (left own) (kept.places id x at).room.row ∙ ap left (sym e)))
-    | inr ne ↦ inl (row_else d.rows own j (left own) ne ∙ elsewhere j ne)
+        let here : keys_at d.rows own ≡ left p.interest d kept id x at own = sym (filter_gone (keys_at d.rows own) id.0 (kept.listed id x at ∙ was)) in
+        inr (ap (λ (i : ℕ). keys_at (begun n id x d).rows i) e ∙ (row_here d.rows own (keys_at d.rows own ++ id.0 ∷ []) (kept.places id x at).room.row ∙ (ap (λ (l : List ℕ). l ++ id.0 ∷ []) here ∙ ap (λ (i : ℕ). left p.interest d kept id x at i ++ id.0 ∷ []) (sym e))), refl)
+    | inr ne ↦ inl (row_else d.rows own j (keys_at d.rows own ++ id.0 ∷ []) ne ∙ elsewhere p.interest d kept id x at j ne)
   ]
 
   pub asked_begun : AreTurned true d → is_dated d x ≡ false → shows_by (shows_over p) d x ≡ true → Asks true n p (λ k. k == id.0) d (begun n id x d)
@@ -280,4 +267,4 @@ module _ (p : Parts) (sound : IsSound p.interest) (n : ℕ) (up : nat_lt 0 n ≡
       (ended_changes p.interest d kept id x at) refl (λ f. absurd (false≢true f)) refl
       (λ h. absurd (false≢true (sym h ∙ some_first (keys_at d.rows own) id.0 (kept.listed id x at ∙ was))))
       (λ j ne. row_ready d.rows own _ j ne)
-      (λ o. order_changed n p.interest (one_under p.interest sound) d kept o id x at 0 (ended id x d) (ended_changes p.interest d kept id x at) ended_rows)
+      (λ o. order_changed n p.interest (one_under p.interest sound) d kept o id x at 0 (ended id x d) (ended_changes p.interest d kept id x at) (λ j. inl (ended_rows p.interest d kept id x at j)))

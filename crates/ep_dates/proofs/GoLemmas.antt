@@ -6,15 +6,17 @@ use Rattle.ep_base.specs.declared.ids.EntryId.{EntryId}
 use Rattle.ep_calls.specs.Parts.{Parts}
 use Rattle.ep_dates.proofs.AskLemmas.{shows_rises}
 use Rattle.ep_dates.proofs.ComeLemmas.{both_stages}
+use Rattle.ep_dates.proofs.EachLemmas.{fresh_is}
 use Rattle.ep_dates.proofs.RowLemmas.{among_end}
 use Rattle.ep_dates.proofs.TurnLemmas.{settled_on, turns_asking, turns_less, turns_none}
 use Rattle.ep_dates.specs.Ask.{AreSettled, Asks, IsSettled, shows_by, shows_over}
 use Rattle.ep_dates.specs.Dates.{Dates, id_at, is_dated}
 use Rattle.ep_dates.specs.Kept.{AreKept}
-use Rattle.ep_dates.specs.Touched.{has_number, is_numbered}
+use Rattle.ep_dates.specs.Touched.{has_number, is_numbered, is_on_any, watches_any, watches_fresh}
 use Rattle.ep_interest.specs.Registrations.{entry_under}
 use Rattle.ep_interest.specs.declared.entry.Entry.{Entry}
-use Rattle.ep_law.proofs.TestLemmas.{from_test, same_test}
+use Rattle.ep_law.proofs.ListLemmas.{among_split}
+use Rattle.ep_law.proofs.TestLemmas.{from_test, or_left, same_test}
 use Rattle.ep_machine.specs.Lists.{is_among}
 use Rattle.ep_ready.specs.Walk.{Walk}
 use Rattle.ep_rings.specs.KeyWalk.{id_at as key_of}
@@ -61,15 +63,34 @@ module _ (n : ℕ) (p : Parts) where
       (both_stages false n p (has_number p.interest (take i ks)) (has_number p.interest (k ∷ [])) a b c s (reported_one k b c s.kept t))
 
   -- once those were asked that may go, all are settled but for what is noted
-  pub all_settled : (f : ℕ → Bool) (a b : Dates) → Asks false n p f a b → a.turned.reached ≡ [] → ((id : EntryId) (x : Entry) → entry_under p.interest id ≡ Some x → f id.0 ≡ false → is_dated a x ≡ true → shows_by (shows_over p) a x ≡ true)
+  pub all_settled : (f : ℕ → Bool) (a b : Dates) → Asks false n p f a b → a.turned.reached ≡ []
+      → ((id : EntryId) (x : Entry) → entry_under p.interest id ≡ Some x → f id.0 ≡ false → is_among b.turned.reached x.desc.0 ≡ false → is_dated a x ≡ true → shows_by (shows_over p) a x ≡ true)
       → AreSettled false p.interest (shows_over p) b b.turned.reached (λ k. true)
-  all_settled f a b t none others id x at h =
-      let noted : b.turned.reached ≡ t.more = ap (λ (w : Walk). w.reached) t.turned ∙ ap (λ (ks : List ℕ). ks ++ t.more) none in
-      subst (λ (ks : List ℕ). IsSettled false (shows_over p) b ks x) (sym noted) (elim (cases_Bool (f id.0)) [
-        | inl asked ↦ t.settled id x at asked
-        | inr spared ↦
-            settled_on false n p.interest (shows_over p) (shows_rises p) f a b t [] id x at (elim (cases_Bool (is_dated a x)) [
-              | inl dated ↦ inr (inl (others id x at spared dated))
-              | inr idle ↦ inl idle
-            ])
-      ])
+  all_settled f a b t none others id x at h = elim (cases_Bool (is_among b.turned.reached x.desc.0)) [
+    | inl there ↦ inr (inr there)
+    | inr absent ↦
+        subst (λ (ks : List ℕ). IsSettled false (shows_over p) b ks x) (sym noted) (elim (cases_Bool (f id.0)) [
+          | inl asked ↦ t.settled id x at asked
+          | inr spared ↦
+              settled_on false n p.interest (shows_over p) (shows_rises p) f a b t [] id x at (elim (cases_Bool (is_dated a x)) [
+                | inl dated ↦ inr (inl (others id x at spared absent dated))
+                | inr idle ↦ inl idle
+              ])
+        ])
+  ] where
+    noted : b.turned.reached ≡ t.more
+    noted = ap (λ (w : Walk). w.reached) t.turned ∙ ap (λ (ks : List ℕ). ks ++ t.more) none
+
+  -- what is on instances that lost something, and wasn't asked, is on one that is noted
+  pub none_above : (w ks : List ℕ) (c d : Dates) (g : ℕ → Bool) → Asks false n p g c d → c.turned.reached ≡ w → (id : EntryId) (x : Entry) → entry_under p.interest id ≡ Some x → watches_fresh p.interest w ks id.0 ≡ false
+      → is_among d.turned.reached x.desc.0 ≡ false → watches_any p.interest ks id.0 ≡ false
+  none_above w ks c d g t same id x at unasked absent = elim (cases_Bool (watches_any p.interest ks id.0)) [
+    | inr f ↦ f
+    | inl any ↦
+        let there : is_among ks x.desc.0 ≡ true = sym (ap (is_on_any ks) at) ∙ any in
+        let early : is_among w x.desc.0 ≡ false = elim (cases_Bool (is_among w x.desc.0)) [
+          | inl known ↦ absurd (false≢true (sym absent ∙ (ap (λ (q : Walk). is_among q.reached x.desc.0) t.turned ∙ (among_split c.turned.reached t.more x.desc.0 ∙ or_left (is_among c.turned.reached x.desc.0) (is_among t.more x.desc.0) (ap (λ (l : List ℕ). is_among l x.desc.0) same ∙ known)))))
+          | inr f ↦ f
+        ] in
+        absurd (false≢true (sym unasked ∙ fresh_is w ks x (entry_under p.interest id) at there early))
+  ]

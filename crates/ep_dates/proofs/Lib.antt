@@ -10,3 +10,5 @@ pub mod GoLemmas
 pub mod RenewLemmas
 pub mod DateLemmas
 pub mod OrderLemmas
+pub mod DropLemmas
+pub mod MovesLemmas

@@ -1,11 +1,11 @@
 -- Dates along a row go on not to sink.
 use Rattle.std.proofs.Common.{◌≡◌, ◌≢◌, ◌≤◌, ◌==◌, ◌∙◌, ◌++◌, ◌⊎◌, ℕ, Bool, true, false, cond, filter, map, not, List, [], ◌∷◌, None, Option, Some, ap, arith, inl, inr, refl, subst, sym}
-use Rattle.std.proofs.lemmas.Bool.{cases_eq, false≢true}
+use Rattle.std.proofs.lemmas.Bool.{cases_Bool, cases_eq, false≢true}
 use Rattle.std.specs.List.{AllByRecursion}
 use Rattle.ep_base.specs.declared.ids.EntryId.{EntryId}
-use Rattle.ep_dates.proofs.KeptLemmas.{AreOne, Changes, apart_one, event_else, event_here}
-use Rattle.ep_dates.proofs.RowLemmas.{among_gone, among_left, end_other}
-use Rattle.ep_dates.specs.Dates.{Dates}
+use Rattle.ep_dates.proofs.KeptLemmas.{AreOne, Changes, apart_one, event_else, event_here, only_home}
+use Rattle.ep_dates.proofs.RowLemmas.{among_gone, among_left, end_other, row_else, row_here}
+use Rattle.ep_dates.specs.Dates.{Dates, ended}
 use Rattle.ep_dates.specs.Kept.{AreKept}
 use Rattle.ep_dates.specs.Order.{AreInTurn, Rise, date_found, date_under}
 use Rattle.ep_interest.specs.Registrations.{Registrations, entry_under}
@@ -100,6 +100,17 @@ module _ (n : ℕ) (r : Registrations) (one : AreOne r) (d : Dates) (kept : AreK
     pub order_changed : AreInTurn n r new
     order_changed = record { rise = rise_at; past = past_at }
 
-  -- a row without the key is as it was
-  pub row_without : (i : ℕ) → is_among (keys_at d.rows i) id.0 ≡ false → keys_at d.rows i ≡ others i
-  row_without i none = sym (filter_gone (keys_at d.rows i) id.0 none)
+-- The rows once a registration is dated no more.
+module _ (r : Registrations) (d : Dates) (kept : AreKept r d) (id : EntryId) (x : Entry) (is : entry_under r id ≡ Some x) where
+  abbrev pub left : ℕ → List ℕ
+  left j = filter (λ y. not (y == id.0)) (keys_at d.rows j)
+
+  -- in another row its key doesn't stand
+  pub elsewhere : (j : ℕ) → j ≢ x.instance.0 → keys_at d.rows j ≡ left j
+  elsewhere j ne = sym (filter_gone (keys_at d.rows j) id.0 (elim (cases_Bool (is_among (keys_at d.rows j) id.0)) [ inl t ↦ absurd (ne (only_home r d kept id x is j t)) | inr f ↦ f ]))
+
+  pub ended_rows : (j : ℕ) → keys_at (ended id x d).rows j ≡ left j
+  ended_rows j = elim (cases_eq j x.instance.0) [
+    | inl e ↦ ap (λ (i : ℕ). keys_at (ended id x d).rows i) e ∙ (row_here d.rows x.instance.0 (left x.instance.0) (kept.places id x is).room.row ∙ ap left (sym e))
+    | inr ne ↦ row_else d.rows x.instance.0 j (left x.instance.0) ne ∙ elsewhere j ne
+  ]

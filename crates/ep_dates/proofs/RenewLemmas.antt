@@ -5,8 +5,7 @@ use Rattle.std.proofs.lemmas.List.{length-set, take_more}
 use Rattle.ep_base.specs.declared.ids.EntryId.{EntryId}
 use Rattle.ep_calls.proofs.EntryLemmas.{one_under, within as number_within}
 use Rattle.ep_dates.proofs.KeptLemmas.{apart_one, event_else, event_here, kept_changed, last_row, only_home, renewed_changes, same_one, turned_row}
-use Rattle.ep_dates.proofs.OrderLemmas.{order_changed}
-use Rattle.ep_rings.proofs.FrontLemmas.{filter_gone}
+use Rattle.ep_dates.proofs.OrderLemmas.{elsewhere, left, order_changed}
 use Rattle.ep_dates.proofs.RowLemmas.{end_here, row_else, some_first}
 use Rattle.ep_dates.specs.Dates.{Dates, event_at, id_at, is_dated, is_ready, renewed}
 use Rattle.ep_dates.specs.Kept.{AreKept}
@@ -77,16 +76,12 @@ module _ (n : ℕ) (r : Registrations) where
     still_ready =
         some_first (keys_at new.rows i) id.0 (ap (λ (l : List ℕ). is_among l id.0) (last_row r d kept id x at) ∙ end_here (keys_at (without_key d.rows i id.0) i) id.0)
 
-    abbrev left : ℕ → List ℕ
-    left j = filter (λ y. not (y == id.0)) (keys_at d.rows j)
-
-    new_rows : (j : ℕ) → (keys_at new.rows j ≡ left j) ⊎ ((keys_at new.rows j ≡ left j ++ id.0 ∷ []) × (n ≡ n))
+    new_rows : (j : ℕ) → (keys_at new.rows j ≡ left r d kept id x at j) ⊎ ((keys_at new.rows j ≡ left r d kept id x at j ++ id.0 ∷ []) × (n ≡ n))
     new_rows j = elim (cases_eq j i) [
-      | inl e ↦ inr (ap (λ (m : ℕ). keys_at new.rows m) e ∙ (last_row r d kept id x at ∙ (ap (λ (l : List ℕ). l ++ id.0 ∷ []) (turned_row r d kept id x at) ∙ ap (λ (m : ℕ). left m ++ id.0 ∷ []) (sym e))), refl)
+      | inl e ↦ inr (ap (λ (m : ℕ). keys_at new.rows m) e ∙ (last_row r d kept id x at ∙ (ap (λ (l : List ℕ). l ++ id.0 ∷ []) (turned_row r d kept id x at) ∙ ap (λ (m : ℕ). left r d kept id x at m ++ id.0 ∷ []) (sym e))), refl)
       | inr ne ↦
           inl (row_else (without_key d.rows i id.0) i j (keys_at (without_key d.rows i id.0) i ++ id.0 ∷ []) ne
-          ∙ (row_else d.rows i j (left i) ne
-          ∙ sym (filter_gone (keys_at d.rows j) id.0 (elim (cases_Bool (is_among (keys_at d.rows j) id.0)) [ inl t ↦ absurd (ne (only_home r d kept id x at j t)) | inr f ↦ f ]))))
+          ∙ (row_else d.rows i j (left r d kept id x at i) ne ∙ elsewhere r d kept id x at j ne))
     ]
 
     pub renews_one : (k : ℕ) → x.number ≡ k → Renews n r (k ∷ []) d new

@@ -156,6 +156,10 @@ module _ (way : Bool) (n : ℕ) (r : Registrations) (shows : Bool → Entry → 
       ];
     }
 
+    pub more_of_both : turns_both.more ≡ s.more ++ t.more
+    unfolding turns_both
+    more_of_both = refl
+
 -- what is noted goes on as it turned
 pub turned_still : (way : Bool) (n : ℕ) (r : Registrations) (shows : Bool → Entry → Bool) (asked : ℕ → Bool) (a b : Dates) → AreTurned way a → Turns way n r shows asked a b → AreTurned way b
 turned_still way n r shows asked a b turned t i h = elim (or_either (is_among a.turned.reached i) (is_among t.more i) (sym (among_split a.turned.reached t.more i) ∙ (ap (λ (w : Walk). is_among w.reached i) (sym t.turned) ∙ h))) [

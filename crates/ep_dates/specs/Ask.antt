@@ -1,5 +1,5 @@
 -- Asking registrations whether they come to be reportable, or are so no more: one way at a time.
-use Rattle.std.specs.Prelude.{◌++◌, ◌<◌, ◌≡◌, ◌⊎◌, ◌==◌, Bool, List, None, Option, Some, false, length, not, true, ℕ}
+use Rattle.std.specs.Prelude.{◌++◌, ◌<◌, ◌≡◌, ◌⊎◌, ◌==◌, Bool, List, [], None, Option, Some, false, length, not, true, ℕ}
 use Rattle.ep_base.specs.declared.ids.EntryId.{EntryId}
 use Rattle.ep_calls.specs.Parts.{Parts}
 use Rattle.ep_calls.specs.Readiness.{entry_shows}
@@ -62,3 +62,7 @@ watches r desc k = is_on desc (entry_under r (key_of k))
 -- what the event's number says, if there is a question
 abbrev pub Asks : Bool → ℕ → Parts → (ℕ → Bool) → Dates → Dates → Type 0
 Asks way n p asked old new = Turns way n p.interest (shows_over p) asked old new
+
+-- each registration on one of these instances is settled
+abbrev pub AreWatched : Bool → Parts → Dates → List ℕ → Type 0
+AreWatched way p d instances = (id : EntryId) (x : Entry) → entry_under p.interest id ≡ Some x → is_among instances x.desc.0 ≡ true → IsSettled way (shows_over p) d [] x

@@ -4,3 +4,5 @@ pub mod Order
 pub mod Ask
 pub mod Touched
 pub mod Renew
+pub mod Drop
+pub mod Moves

@@ -1,5 +1,5 @@
 -- Which registrations an event may have made reportable, and which it may have ended.
-use Rattle.std.specs.Prelude.{◌==◌, ◌||◌, Bool, List, None, Option, Some, false, if◌then◌else◌, not, ℕ}
+use Rattle.std.specs.Prelude.{◌==◌, ◌&&◌, ◌||◌, Bool, List, None, Option, Some, false, if◌then◌else◌, not, ℕ}
 use Rattle.ep_base.specs.declared.ids.DescId.{DescId}
 use Rattle.ep_base.specs.declared.ids.EntryId.{EntryId}
 use Rattle.ep_dates.specs.declared.touched.Touched.{Touched as Touch}
@@ -34,6 +34,14 @@ is_on_any descs (Some x) = is_among descs x.desc.0
 -- the registration under a key is on one of these
 abbrev pub watches_any : Registrations → List ℕ → ℕ → Bool
 watches_any r descs k = is_on_any descs (entry_under r (key_of k))
+
+abbrev pub is_fresh_on : List ℕ → List ℕ → Option Entry → Bool
+is_fresh_on noted descs None = false
+is_fresh_on noted descs (Some x) = is_among descs x.desc.0 && not (is_among noted x.desc.0)
+
+-- or on one of these that isn't noted
+abbrev pub watches_fresh : Registrations → List ℕ → List ℕ → ℕ → Bool
+watches_fresh r noted descs k = is_fresh_on noted descs (entry_under r (key_of k))
 
 abbrev pub watches_maybe : Registrations → Option DescId → ℕ → Bool
 watches_maybe r None k = false

@@ -1,6 +1,6 @@
 //! Asking registrations whether they have come to be reportable, or are so no more.
-ghost use Rattle.std.specs.Prelude.{◌≡◌, ◌<◌, ◌==◌, ℕ, [], Bool, false};
-ghost use Rattle.ep_dates.specs.Ask.{AreSettled, AreTurned, Asks, shows_over, watches};
+ghost use Rattle.std.specs.Prelude.{◌≡◌, ◌<◌, ◌≤◌, ◌==◌, ℕ, [], Bool, drop, false, length, take};
+ghost use Rattle.ep_dates.specs.Ask.{AreSettled, AreTurned, AreWatched, Asks, shows_over, watches};
 ghost use Rattle.ep_dates.specs.Kept.{AreKept};
 ghost use Rattle.ep_interest.specs.Passes.{has_id};
 
@@ -72,19 +72,24 @@ pub fn ask_watchers(parts: &Parts, question: Question, desc: DescId, dates: &mut
     }
 }
 
-/// Asks the registrations on each instance whose readiness turned, and on each that turns by that.
-pub fn ask_turned(parts: &Parts, question: Question, dates: &mut Dates)
+/// Asks the registrations on each instance whose readiness turned, from the one with this index on, and on each that
+/// turns by that. Those on the instances before were asked since these turned.
+pub fn ask_turned(parts: &Parts, question: Question, from: usize, dates: &mut Dates)
     requires event { 0 < question.event }
     requires kept { AreKept parts.now.interest dates.old }
     requires turned { AreTurned question.comes dates.old }
+    requires within { from ≤ length dates.old.turned.reached }
     ensures asks { Asks question.comes question.event parts.now (λ k. false) dates.old dates.new }
     ensures settled { (asked : ℕ → Bool)
         → AreSettled question.comes parts.now.interest (shows_over parts.now) dates.old
-        dates.old.turned.reached asked
+        (drop from dates.old.turned.reached) asked
         → AreSettled question.comes parts.now.interest (shows_over parts.now) dates.new [] asked }
+    ensures watched { AreWatched question.comes parts.now dates.old
+        (take from dates.old.turned.reached)
+        → AreWatched question.comes parts.now dates.new dates.new.turned.reached }
 {
     dates.known();
-    let mut index = 0;
+    let mut index = from;
     while index < dates.turned_count() {
         ask_watchers(parts, question, dates.turned_at(index), dates);
         dates.known();

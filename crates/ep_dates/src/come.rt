@@ -1,9 +1,9 @@
 //! Which registrations come to be reportable in an event.
-ghost use Rattle.std.specs.Prelude.{◌≡◌, ◌<◌, ◌||◌, [], false, true, ℕ};
+ghost use Rattle.std.specs.Prelude.{◌≡◌, ◌<◌, ◌||◌, ◌∷◌, [], false, true, ℕ};
 ghost use Rattle.ep_dates.specs.Ask.{AreSettled, AreTurned, Asks, shows_over};
 ghost use Rattle.ep_dates.specs.Dates.{forgot};
 ghost use Rattle.ep_dates.specs.Kept.{AreKept};
-ghost use Rattle.ep_dates.specs.Touched.{is_it, may_come, touched_of, watches_any};
+ghost use Rattle.ep_dates.specs.Touched.{is_it, may_come, touched_of, watches_fresh};
 ghost use Rattle.ep_interest.specs.Passes.{has_id};
 
 use crate::ask::{Question, ask, ask_each, ask_turned, ask_watchers};
@@ -27,16 +27,31 @@ pub fn ask_altered(parts: &Parts, question: Question, altered: Option<EntryId>, 
     }
 }
 
-/// Asks the registrations on each of these instances.
+/// Asks the registrations on an instance, if that isn't noted: else they are asked with what turned.
+fn ask_on(parts: &Parts, question: Question, instance: DescId, dates: &mut Dates)
+    requires event { 0 < question.event }
+    requires kept { AreKept parts.now.interest dates.old }
+    requires turned { AreTurned question.comes dates.old }
+    ensures { Asks question.comes question.event parts.now
+        (watches_fresh parts.now.interest dates.old.turned.reached (instance.0 ∷ [])) dates.old
+        dates.new }
+{
+    if !dates.has_turned(instance) {
+        ask_watchers(parts, question, instance, dates);
+    }
+}
+
+/// Asks the registrations on each of these instances that isn't noted.
 pub fn ask_above(parts: &Parts, question: Question, instances: &Walk<Global>, dates: &mut Dates)
     requires event { 0 < question.event }
     requires kept { AreKept parts.now.interest dates.old }
     requires turned { AreTurned question.comes dates.old }
     ensures { Asks question.comes question.event parts.now
-        (watches_any parts.now.interest instances.now.reached) dates.old dates.new }
+        (watches_fresh parts.now.interest dates.old.turned.reached instances.now.reached) dates.old
+        dates.new }
 {
     for index in 0..instances.count() {
-        ask_watchers(parts, question, DescId(instances.at(index)), dates);
+        ask_on(parts, question, DescId(instances.at(index)), dates);
     }
 }
 
@@ -54,6 +69,8 @@ pub fn come(parts: &Parts, event: u64, touched: &Touched<'_>, dates: &mut Dates)
     parts.interest.known();
     ask_altered(parts, question, touched.altered, dates);
     ask_each(parts, question, parts.interest.passing(), dates);
+    ask_turned(parts, question, 0, dates);
+    let turned = dates.turned_count();
     ask_above(parts, question, touched.reached, dates);
-    ask_turned(parts, question, dates);
+    ask_turned(parts, question, turned, dates);
 }

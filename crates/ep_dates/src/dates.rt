@@ -10,6 +10,7 @@ use ep_ready::Walk;
 use ep_rings::PlacedRows;
 use std::alloc::{AllocError, Global};
 use std::marker::Model;
+use std::mem;
 
 /// Since which event each registration is reportable without a report, and for each instance a row of its registrations
 /// that are, in the order in which they came to be so. An instance is ready exactly if its row isn't empty. Each call
@@ -65,6 +66,14 @@ impl Dates {
         self.turned.known();
     }
 
+    /// Whether an instance is noted.
+    pub(crate) fn has_turned(&self, instance: DescId) -> bool
+        ensures { result ≡ is_among self.now.turned.reached instance.0 }
+    {
+        let _since = &self.since;
+        self.turned.has(instance.0)
+    }
+
     /// How many instances are noted whose readiness turned.
     pub(crate) fn turned_count(&self) -> usize
         ensures { result ≡ length self.now.turned.reached }
@@ -80,6 +89,14 @@ impl Dates {
     {
         let _since = &self.since;
         DescId(self.turned.at(index))
+    }
+
+    /// Hands over which instances are noted, and notes on in another walk, which hands over its own.
+    pub fn hand_over(&mut self, noted: &mut Walk<Global>)
+        ensures dates { self.new ≡ record self.old { turned = noted.old } }
+        ensures walk { noted.new ≡ self.old.turned }
+    {
+        mem::swap(&mut self.turned, noted);
     }
 
     /// Forgets which instances are noted. The time grows with how many are.

@@ -67,5 +67,5 @@ pub fn go(parts: &Parts, event: u64, touched: &Touched<'_>, dates: &mut Dates)
     ask_reported(parts, event, touched.reported, dates);
     ask_called(parts, question, touched.called, dates);
     ask_above(parts, question, touched.gone, dates);
-    ask_turned(parts, question, dates);
+    ask_turned(parts, question, 0, dates);
 }

@@ -5,6 +5,7 @@ mod ask;
 mod come;
 mod dates;
 mod dating;
+mod drop;
 mod go;
 mod renew;
 mod room;
@@ -14,4 +15,5 @@ mod touched;
 
 pub use crate::dates::Dates;
 pub use crate::dating::date;
+pub use crate::drop::{drop_dying, drop_one};
 pub use crate::touched::Touched;

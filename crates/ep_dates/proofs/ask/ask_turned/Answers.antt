@@ -2,7 +2,7 @@ use Rattle.std.proofs.Common.{◌≡◌, ◌<◌, arith, ap, false, get_or, leng
 use Rattle.std.proofs.lemmas.Bool.{false≢true}
 use Rattle.std.proofs.lemmas.Option.{get_or_from_slice_get}
 use Rattle.ep_dates.proofs.AskLemmas.{shows_rises}
-use Rattle.ep_dates.proofs.RoundLemmas.{few_turned, round_ends, round_settled, round_turns}
+use Rattle.ep_dates.proofs.RoundLemmas.{few_turned, round_ends, round_settled, round_turns, round_watched, watched_ends}
 use Rattle.ep_dates.proofs.TurnLemmas.{turned_still, turns_none}
 use Rattle.ep_dates.specs.Ask.{shows_over}
 use Rattle.ep_ready.specs.Walk.{Walk}
@@ -13,6 +13,7 @@ loop-index-init c = record {
   turns = turns_none c.args.question.comes c.args.question.event c.args.parts.now.interest (shows_over c.args.parts.now) (shows_rises c.args.parts.now) (λ k. false) c.args.dates.now c.requires.kept (λ id x at h. absurd (false≢true h));
   once = c.known.ensures;
   settled = λ asked h. h;
+  watched = λ h. h;
 }
 
 pub ask_watchers-requires-clause-kept : goal.ask_watchers-requires-clause-kept
@@ -31,6 +32,7 @@ loop-index-smaller c =
 
 pub loop-index-preserved : goal.loop-index-preserved
 loop-index-preserved c =
+    let turned = turned_still c.args.question.comes c.args.question.event c.args.parts.now.interest (shows_over c.args.parts.now) (λ k. false) c.args.dates.now c.loop-index.dates c.requires.turned c.loop-index.invariant.turns in
     let desc = c.turned_at.result.0 in
     let lt : c.loop-index.index < length c.loop-index.dates.turned.reached = omega (arith, c.loop-index-test.true, c.turned_count.ensures) in
     let here : get_or c.loop-index.dates.turned.reached c.loop-index.index 0 ≡ desc = get_or_from_slice_get c.loop-index.dates.turned.reached c.loop-index.index desc 0 c.turned_at.ensures in
@@ -38,6 +40,7 @@ loop-index-preserved c =
       turns = round_turns c.args.question.comes c.args.question.event c.args.parts.now c.args.dates.now c.loop-index.dates c.ask_watchers.new.dates desc c.loop-index.invariant.turns c.ask_watchers.ensures;
       once = c.known-in-loop-index.ensures;
       settled = λ asked h. round_settled c.args.question.comes c.args.question.event c.args.parts.now c.loop-index.dates c.ask_watchers.new.dates c.loop-index.index desc asked c.ask_watchers.ensures lt here (c.loop-index.invariant.settled asked h);
+      watched = λ h. round_watched c.args.question.comes c.args.question.event c.args.parts.now c.loop-index.dates c.ask_watchers.new.dates c.loop-index.index desc c.ask_watchers.ensures turned lt here (c.loop-index.invariant.watched h);
     }
 
 pub returns-clause-asks : goal.returns-clause-asks
@@ -46,3 +49,7 @@ returns-clause-asks c = c.loop-index.invariant.turns
 pub returns-clause-settled : goal.returns-clause-settled
 returns-clause-settled c = λ asked h.
     round_ends c.args.question.comes c.args.question.event c.args.parts.now c.loop-index.dates c.loop-index.index asked (omega (arith, c.loop-index-test.false, c.turned_count.ensures)) (c.loop-index.invariant.settled asked h)
+
+pub returns-clause-watched : goal.returns-clause-watched
+returns-clause-watched c = λ h.
+    watched_ends c.args.question.comes c.args.question.event c.args.parts.now c.loop-index.dates c.loop-index.index (omega (arith, c.loop-index-test.false, c.turned_count.ensures)) (c.loop-index.invariant.watched h)

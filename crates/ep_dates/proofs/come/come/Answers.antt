@@ -1,32 +1,41 @@
-use Rattle.std.proofs.Common.{◌||◌, ◌∙◌, Bool, ap, true, ℕ}
+use Rattle.std.proofs.Common.{◌||◌, ◌∙◌, Bool, ap, drop, subst, sym, true, ℕ}
+use Rattle.std.proofs.lemmas.Bool.{false≢true}
 use Rattle.ep_calls.specs.Parts.{Parts}
-use Rattle.ep_dates.proofs.ComeLemmas.{both_stages, stage_settled, whole_way}
+use Rattle.ep_dates.proofs.ComeLemmas.{above_settled, both_stages, both_ways, stage_settled}
+use Rattle.ep_dates.specs.Ask.{AreSettled, Asks, shows_over}
 use Rattle.ep_dates.specs.Dates.{Dates, forgot}
-use Rattle.ep_dates.specs.Touched.{is_it, watches_any}
+use Rattle.ep_dates.specs.Touched.{is_it, watches_any, watches_fresh}
 use Rattle.ep_interest.specs.Passes.{has_id, passes_on}
 use Rattle.ep_interest.specs.Registrations.{entry_under}
 use Rattle.ep_dates.proofs.come.come.Goals as goal
+
+-- what is asked first
+abbrev direct : (c : goal.After-ask_turned-2) → ℕ → Bool
+direct c k = is_it c.args.touched.now.altered k || has_id c.passing.result.now k
+
+first : (c : goal.After-ask_turned-2) → Asks true c.args.event c.args.parts.now (direct c) c.forget.new.self c.ask_each.new.dates
+first c =
+    both_stages true c.args.event c.args.parts.now (is_it c.args.touched.now.altered) (has_id c.passing.result.now) c.forget.new.self c.ask_altered.new.dates c.ask_each.new.dates c.ask_altered.ensures c.ask_each.ensures
+
+pub returns-clause-comes : goal.returns-clause-comes
+returns-clause-comes c =
+    let p = c.args.parts.now in
+    both_ways true c.args.event p (direct c) (watches_fresh p.interest c.ask_turned.new.dates.turned.reached c.args.touched.now.reached.now.reached) (forgot c.args.dates.now) c.forget.new.self c.ask_each.new.dates c.ask_turned.new.dates c.ask_above.new.dates
+    c.ask_turned-2.new.dates c.forget.ensures (first c) c.ask_turned.ensures.asks c.ask_above.ensures c.ask_turned-2.ensures.asks
 
 pub returns-clause-settled : goal.returns-clause-settled
 returns-clause-settled c =
     let p = c.args.parts.now in
     let n = c.args.event in
-    let altered : ℕ → Bool = is_it c.args.touched.now.altered in
-    let passing : ℕ → Bool = has_id c.passing.result.now in
-    let above : ℕ → Bool = watches_any p.interest c.args.touched.now.reached.now.reached in
-    let two = both_stages true n p altered passing c.forget.new.self c.ask_altered.new.dates c.ask_each.new.dates c.ask_altered.ensures c.ask_each.ensures in
-    let all = both_stages true n p (λ k. altered k || passing k) above c.forget.new.self c.ask_each.new.dates c.ask_above.new.dates two c.ask_above.ensures in
-    let settled = stage_settled true n p (λ k. (altered k || passing k) || above k) c.forget.new.self c.ask_above.new.dates all (ap (λ (d : Dates). d.turned.reached) c.forget.ensures) in
-    λ id x at h. c.ask_turned.ensures.settled (λ k. (altered k || passing k) || above k) settled id x at
-    (ap (λ (b : Bool). (altered id.0 || b) || above id.0) (c.passing.ensures.exact id ∙ ap (λ (q : Parts). passes_on (entry_under q.interest id)) c.parts.view_is) ∙ h)
-
-pub returns-clause-comes : goal.returns-clause-comes
-returns-clause-comes c =
-    let p = c.args.parts.now in
-    let n = c.args.event in
-    let altered : ℕ → Bool = is_it c.args.touched.now.altered in
-    let passing : ℕ → Bool = has_id c.passing.result.now in
-    let above : ℕ → Bool = watches_any p.interest c.args.touched.now.reached.now.reached in
-    let two = both_stages true n p altered passing c.forget.new.self c.ask_altered.new.dates c.ask_each.new.dates c.ask_altered.ensures c.ask_each.ensures in
-    let all = both_stages true n p (λ k. altered k || passing k) above c.forget.new.self c.ask_each.new.dates c.ask_above.new.dates two c.ask_above.ensures in
-    whole_way true n p (λ k. (altered k || passing k) || above k) (forgot c.args.dates.now) c.forget.new.self c.ask_above.new.dates c.ask_turned.new.dates c.forget.ensures all c.ask_turned.ensures.asks
+    let ks = c.args.touched.now.reached.now.reached in
+    let d = c.ask_turned.new.dates in
+    let e = c.ask_above.new.dates in
+    let all : ℕ → Bool = λ k. direct c k || watches_any p.interest ks k in
+    let asked = stage_settled true n p (direct c) c.forget.new.self c.ask_each.new.dates (first c) (ap (λ (d : Dates). d.turned.reached) c.forget.ensures) in
+    let settled = c.ask_turned.ensures.settled (direct c) asked in
+    let watched = c.ask_turned.ensures.watched (λ id x at h. absurd (false≢true h)) in
+    let above = above_settled true n p (direct c) ks d e c.ask_above.ensures settled watched in
+    let ready : AreSettled true p.interest (shows_over p) e (drop c.turned_count-turned.result e.turned.reached) all =
+    subst (λ (i : ℕ). AreSettled true p.interest (shows_over p) e (drop i e.turned.reached) all) (sym c.turned_count-turned.ensures) above in
+    λ id x at h. c.ask_turned-2.ensures.settled all ready id x at
+    (ap (λ (b : Bool). (is_it c.args.touched.now.altered id.0 || b) || watches_any p.interest ks id.0) (c.passing.ensures.exact id ∙ ap (λ (q : Parts). passes_on (entry_under q.interest id)) c.parts.view_is) ∙ h)
