@@ -12,3 +12,4 @@ pub mod DateLemmas
 pub mod OrderLemmas
 pub mod DropLemmas
 pub mod MovesLemmas
+pub mod PickLemmas

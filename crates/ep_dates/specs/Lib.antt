@@ -6,3 +6,4 @@ pub mod Touched
 pub mod Renew
 pub mod Drop
 pub mod Moves
+pub mod Pick

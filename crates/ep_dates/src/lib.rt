@@ -7,6 +7,7 @@ mod dates;
 mod dating;
 mod drop;
 mod go;
+mod pick;
 mod renew;
 mod room;
 #[cfg(test)]
