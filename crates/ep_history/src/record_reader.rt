@@ -1,5 +1,5 @@
 //! Reads many lines.
-ghost use Rattle.std.specs.Prelude.{◌≡◌, IfOk, IfSome, Some};
+ghost use Rattle.std.specs.Prelude.{◌≡◌, IfOk, IfSome, Some, true};
 ghost use Rattle.ep_history.specs.Records.{line_record};
 
 use crate::guess::guess_record;
@@ -10,21 +10,27 @@ use ep_json::{LONGEST_KEPT, ValueReader};
 use std::alloc::{AllocError, Global};
 
 /// Reads lines one after another. It keeps the room that this takes from line to line, for lines of 16,384 bytes at
-/// most. A longer one is read as `read_record` reads it, and leaves no room behind.
+/// most. A longer one leaves no room behind.
 #[derive(Drop)]
 pub struct RecordReader {
     values: ValueReader,
-    // The line of the record that was guessed last.
+    // The line of the record that was guessed last, where its room is kept.
     printed: Vec<u8>,
 }
 
-/// How much room is asked for where a line is printed over room that is kept; `None` where none is kept. It is a power
-/// of two: then lines that get longer and longer ask a few times only, and never for more than 16,384 bytes.
-fn room_for(line: &[u8]) -> Option<usize> {
-    if line.len() > LONGEST_KEPT {
-        return None;
-    }
-    Some(line.len().next_power_of_two())
+/// Whether the record is printed as this line. It is printed over what was in `printed`, where room for `room` bytes is
+/// asked for first. Want of memory is `false`, too.
+fn prints(printed: &mut Vec<u8>, room: usize, entry: &Record, line: &[u8]) -> bool
+    ensures { result ≡ true → line_record line.now ≡ Some entry.now }
+{
+    printed.clear();
+    let Ok(()) = printed.reserve_exact(room) else {
+        return false;
+    };
+    let Ok(()) = push_record(printed, entry) else {
+        return false;
+    };
+    printed.as_slice() == line
 }
 
 impl RecordReader {
@@ -46,27 +52,35 @@ impl RecordReader {
         self.read_any(alloc, line)
     }
 
-    /// The record that `print_record` prints as this line, where the line is at most 16,384 bytes long and there is
-    /// memory. `None` says nothing of the line: it may be a record all the same, and then `read` has it. A line that is
-    /// not printed takes little time, and no memory for bytes that it may have.
+    /// The record that `print_record` prints as this line, where there is memory. `None` says nothing of the line: it
+    /// may be a record all the same, and then `read` has it. A line that is not printed takes little time, and no
+    /// memory for bytes that it may have.
+    ///
+    /// Beside the record, a line above 16,384 bytes takes about as much room as it is long, and gives it back.
     pub fn read_printed(&mut self, alloc: Global, line: &[u8]) -> Option<Record>
         ensures { IfSome result (λ r. line_record line.now ≡ Some r) }
     {
-        let room = room_for(line)?;
         if !line.ends_with(b"]}") {
             return None;
         }
         let record = guess_record(alloc, line)?;
-        self.printed.clear();
-        self.printed.reserve_exact(room).ok()?;
-        let Ok(()) = push_record(&mut self.printed, &record) else {
-            return None;
-        };
-        if self.printed.as_slice() == line {
+        if self.is_line_of(alloc, &record, line) {
             Some(record)
         } else {
             None
         }
+    }
+
+    /// Whether the record is printed as this line, and there is memory to see it. The room that is kept is a power of
+    /// two: then lines that get longer and longer ask a few times only, and never for more than 16,384 bytes.
+    fn is_line_of(&mut self, alloc: Global, entry: &Record, line: &[u8]) -> bool
+        ensures { result ≡ true → line_record line.now ≡ Some entry.now }
+    {
+        let length = line.len();
+        if length > LONGEST_KEPT {
+            return prints(&mut Vec::new(alloc), length, entry, line);
+        }
+        prints(&mut self.printed, length.next_power_of_two(), entry, line)
     }
 
     /// The record of any line, by a tree of its values.
