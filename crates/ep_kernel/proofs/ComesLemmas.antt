@@ -1,6 +1,6 @@
 -- What comes through the instances that a walk reached.
 use Rattle.ep_law.proofs.GraphLemmas.{member_of_map}
-use Rattle.std.proofs.Common.{◌≡◌, ◌∙◌, ◌&&◌, ◌||◌, ◌<◌, ℕ, zero, suc, Bool, true, List, [], ◌∷◌, None, Option, Some, ap, arith, filter, get_or, is_some, length, refl, subst, sym}
+use Rattle.std.proofs.Common.{◌≡◌, ◌∙◌, ◌&&◌, ◌||◌, ℕ, Bool, true, List, None, Option, Some, ap, filter, is_some, refl, subst, sym}
 use Rattle.std.specs.List.{list_any}
 use Rattle.std.proofs.lemmas.Bool.{false≢true}
 use Rattle.ep_base.specs.declared.ids.DescId.{DescId}
@@ -8,29 +8,21 @@ use Rattle.ep_calls.specs.Climb.{is_nested, is_nested_key, link_of}
 use Rattle.ep_calls.specs.Parts.{AreCoherent, Parts}
 use Rattle.ep_calls.specs.Stands.{IsLinked}
 use Rattle.ep_interest.specs.Passes.{has_id}
-use Rattle.ep_interest.specs.Registrations.{IsSound, Registrations, entry_under, ids, is_on, lets_in}
+use Rattle.ep_interest.specs.Registrations.{IsSound, entry_under, ids, is_on, lets_in}
 use Rattle.ep_interest.specs.declared.entry.Entry.{Entry}
 use Rattle.ep_kernel.proofs.EntryLemmas.{is_under}
 use Rattle.ep_kernel.proofs.PushLemmas.{gains_both, gains_same}
 use Rattle.ep_kernel.proofs.ViewLemmas.{among_ids, any_of, find_entry, same_bools}
 use Rattle.ep_kernel.specs.Push.{Gains, comes_by, comes_in, comes_on, passes_found}
-use Rattle.ep_kernel.specs.Reach.{AreLive, AreReached}
+use Rattle.ep_climb.specs.Reach.{AreReached}
 use Rattle.ep_law.proofs.ListLemmas.{all_member, among, among_member, any_member, filtered_member, filtered_passes, member_filter, member_map}
-use Rattle.ep_law.proofs.TestLemmas.{both_true, from_test, or_left, or_right, same_nat}
+use Rattle.ep_law.proofs.TestLemmas.{both_true, from_test, same_nat}
 use Rattle.ep_law.specs.Laws.{Member}
 use Rattle.ep_machine.specs.Lists.{is_among}
 use Rattle.ep_nest.specs.declared.link.Link.{Link}
 use Rattle.ep_calls.specs.Climb.{is_reached_key}
 use Rattle.ep_ready.specs.ReadyLists.{Lists, entry_id}
-use Rattle.ep_table.specs.Value.{Seen, number_under}
-
-pub live_of : (n : ℕ) (v : Seen) (r : Registrations) (ks : List ℕ) → AreReached n v r ks → AreLive v ks
-live_of n v r ks exact i t = (both_true (is_some (number_under v i)) (is_reached_key n v r i) (sym (exact i) ∙ t)).0
-
-pub among_here : (ks : List ℕ) (i d : ℕ) → i < length ks → is_among ks (get_or ks i d) ≡ true
-among_here [] i d lt = absurd (omega (arith, lt))
-among_here (x ∷ ks) zero d lt = or_left _ _ (same_nat x)
-among_here (x ∷ ks) (suc i) d lt = or_right _ _ (among_here ks i d (omega (arith, lt)))
+use Rattle.ep_table.specs.Value.{number_under}
 
 lets_some : (o : Option Entry) → lets_in o ≡ true → (x : Entry) × (o ≡ Some x)
 lets_some None t = absurd (false≢true t)
@@ -75,9 +67,9 @@ module _ (n : ℕ) (p : Parts) (coherent : AreCoherent p) (sound : IsSound p.int
       let reached : is_among ks l.inner.0 ≡ true = exact l.inner ∙ (λ j. lives j && here.0 j) in
       any_of (λ i. comes_on p (record { 0 = i }) k) ks l.inner.0 (among_member ks l.inner.0 reached) (λ j. nested j && here.1 j)
 
-  pub gains_in : (old mid new : Lists) (walked : List ℕ) → walked ≡ ks → Gains (λ k. passes_found (entry_under p.interest (entry_id k))) old mid → Gains (λ k. list_any (λ i. comes_on p (record { 0 = i }) k) walked) mid new → Gains (comes_in n p) old new
-  gains_in old mid new walked is a b =
+  pub gains_in : (old mid new : Lists) → Gains (λ k. passes_found (entry_under p.interest (entry_id k))) old mid → Gains (λ k. list_any (λ i. comes_on p (record { 0 = i }) k) ks) mid new → Gains (comes_in n p) old new
+  gains_in old mid new a b =
       let passing : ℕ → Bool = λ k. passes_found (entry_under p.interest (entry_id k)) in
-      gains_same (λ k. passing k || list_any (λ i. comes_on p (record { 0 = i }) k) walked) (comes_in n p) old new
-      (λ k. ap (λ (b : Bool). passing k || b) (ap (list_any (λ i. comes_on p (record { 0 = i }) k)) is ∙ same_bools _ _ (to k) (from k)))
-      (gains_both passing (λ k. list_any (λ i. comes_on p (record { 0 = i }) k) walked) old mid new a b)
+      gains_same (λ k. passing k || list_any (λ i. comes_on p (record { 0 = i }) k) ks) (comes_in n p) old new
+      (λ k. ap (λ (b : Bool). passing k || b) (same_bools _ _ (to k) (from k)))
+      (gains_both passing (λ k. list_any (λ i. comes_on p (record { 0 = i }) k) ks) old mid new a b)

@@ -30,7 +30,7 @@ use Rattle.ep_kernel.specs.Turns.{AlteredStand, HopesGo, IsAlteredKey, Turns}
 use Rattle.ep_kernel.proofs.EntryLemmas.{is_under}
 use Rattle.ep_kernel.proofs.PrunesLemmas.{stands_left}
 use Rattle.ep_kernel.proofs.PushLemmas.{gains_none, gains_one, gains_same, have_still}
-use Rattle.ep_kernel.proofs.SetLemmas.{Clears, Sets, apart_nat, some_of}
+use Rattle.ep_climb.proofs.SetLemmas.{Clears, Sets, apart_nat, some_of}
 use Rattle.ep_calls.proofs.FindLemmas.{each_numbered}
 use Rattle.ep_kernel.proofs.SurvivalLemmas.{or_cases}
 use Rattle.ep_law.proofs.ListLemmas.{all_member, among_split, any_member, filtered_member, filtered_passes}

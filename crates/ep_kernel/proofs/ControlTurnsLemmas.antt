@@ -29,7 +29,7 @@ use Rattle.ep_kernel.specs.Push.{Gains}
 use Rattle.ep_kernel.specs.Turns.{Turns}
 use Rattle.ep_kernel.proofs.ControlLemmas.{IsNamed, turns_cleared, turns_set, turns_still}
 use Rattle.ep_kernel.proofs.PlacesLemmas.{loses_nothing}
-use Rattle.ep_kernel.proofs.SetLemmas.{Sets, clears_deleted, renewed, sets_added, sets_modified, some_of}
+use Rattle.ep_climb.proofs.SetLemmas.{Sets, clears_deleted, renewed, sets_added, sets_modified, some_of}
 use Rattle.ep_law.proofs.TestLemmas.{from_test}
 use Rattle.ep_machine.specs.Bits.{ET, has_bit}
 use Rattle.ep_machine.specs.Watches.{is_del}
@@ -52,7 +52,7 @@ named_by_test named fd x h =
     record { instance = from_test x.instance.0 named.instance.0 parts.0; fd = (Decides-int_eq x.fd.0 fd.0).0 parts.1; desc = from_test x.desc.0 named.desc.0 parts.2 }
 
 pub same_lists : (l m : Lists) → m ≡ l → Same l m
-same_lists l m h = subst (Same l) (sym h) (record { places = λ id. refl; lists = λ i. refl; reached = refl })
+same_lists l m h = subst (Same l) (sym h) (record { places = λ id. refl; lists = λ i. refl })
 
 -- a place that was made and dropped again leaves the lists
 pub same_again : (l mid m : Lists) (id : EntryId) (i : ℕ) → AreSound l → instance_at l id ≡ None → GainsPlace l mid i id → LosesPlace mid m id → Same l m
@@ -62,7 +62,6 @@ same_again l mid m id i sound none gains loses = record {
     | inr ne ↦ sym (loses.others k ne ∙ gains.others k ne)
   ];
   lists = λ j. (loses_nothing l id sound none).lists j ∙ sym (loses.lists j ∙ ap (filter (λ k. not (k == id.0))) (gains.lists j));
-  reached = sym (loses.reached ∙ gains.reached);
 }
 
 -- the registration that is named, under the key that is found

@@ -30,7 +30,7 @@ use Rattle.ep_kernel.proofs.PrunesLemmas.{stands_left}
 use Rattle.ep_kernel.proofs.SurvivalLemmas.{gone, gone_is, places_left, was_under}
 use Rattle.ep_kernel.proofs.ViewLemmas.{any_of, among_ids, brings_asked, entry_views, view_of}
 use Rattle.ep_kernel.specs.Listed.{HasReportables, HavePlaces, HopesFor, key_shows, may_stand, shows_found}
-use Rattle.ep_kernel.specs.Push.{Appends, comes_by, comes_in, is_home, passes_found}
+use Rattle.ep_kernel.specs.Push.{Gains, comes_by, comes_in, is_home, passes_found}
 use Rattle.ep_kernel.specs.Running.{ListsSpread}
 use Rattle.ep_kernel.specs.Turns.{HopesGo}
 use Rattle.ep_law.proofs.ListLemmas.{member_filter, member_map}
@@ -47,7 +47,7 @@ use Rattle.ep_table.specs.Value.{Seen, Sound as SoundTables}
 use Rattle.ep_view.proofs.KernelViewLemmas.{reportable_kept}
 use Rattle.ep_view.specs.KernelView.{KernelWatch, kernel_watch, reached_now, ready_now, shows}
 
-stands_on : (comes : ℕ → Bool) (l m : Lists) (k i : ℕ) → Appends comes l m → instance_at m (entry_id k) ≡ Some i → (is_among (list_at l i) k ≡ true) ⊎ (comes k ≡ true) → stands m (entry_id k) ≡ true
+stands_on : (comes : ℕ → Bool) (l m : Lists) (k i : ℕ) → Gains comes l m → instance_at m (entry_id k) ≡ Some i → (is_among (list_at l i) k ≡ true) ⊎ (comes k ≡ true) → stands m (entry_id k) ≡ true
 stands_on comes l m k i gains at why =
     let home : is_home i (instance_at l (entry_id k)) ≡ true = ap (is_home i) (sym (gains.places (entry_id k)) ∙ at) ∙ same_test i i refl in
     ap (stands_by m k) at ∙ (gains.each i k ∙ elim why [

@@ -20,7 +20,7 @@ use Rattle.ep_interest.specs.declared.entry.Entry.{Entry}
 use Rattle.ep_kernel.proofs.ControlLemmas.{IsNamed, hopes_cleared, hopes_set, hopes_still}
 use Rattle.ep_kernel.proofs.ControlTurnsLemmas.{IsThere, added_places, modified_places, none_placed, nowhere, raises, same_again, same_lists, there_by}
 use Rattle.ep_kernel.proofs.EntryLemmas.{is_under}
-use Rattle.ep_kernel.proofs.SetLemmas.{clears_deleted, renewed, sets_added, sets_modified}
+use Rattle.ep_climb.proofs.SetLemmas.{clears_deleted, renewed, sets_added, sets_modified}
 use Rattle.ep_kernel.specs.Control.{Settles}
 use Rattle.ep_kernel.specs.Listed.{HavePlaces, HopesFor, key_shows, shows_found}
 use Rattle.ep_kernel.specs.Push.{Gains}

@@ -24,7 +24,7 @@ use Rattle.ep_kernel.proofs.SurvivalLemmas.{gone, gone_is, places_climbed, place
 use Rattle.ep_kernel.proofs.ViewLemmas.{Views, entry_views, some_entry}
 use Rattle.ep_kernel.specs.Listed.{HavePlaces, MayStand, key_shows, order_at}
 use Rattle.ep_kernel.specs.Places.{LosesDying}
-use Rattle.ep_kernel.specs.Push.{Appends, comes_in, is_home}
+use Rattle.ep_kernel.specs.Push.{Gains, comes_in, is_home}
 use Rattle.ep_kernel.specs.Turns.{Turns}
 use Rattle.ep_law.proofs.ListLemmas.{among, among_member, among_split, filtered_member}
 use Rattle.ep_law.proofs.TestLemmas.{from_test, or_right}
@@ -96,7 +96,7 @@ pub record Follows (n : ℕ) (event : Event) (outcome : Outcome) (old mid noted 
   pub now : IsSound climbed.interest
   pub turns : Turns event outcome.picked old l0 mid l1
   pub loses : LosesDying noted.tables noted.interest l1 l2
-  pub gains : Appends (comes_in n buried) l2 l3
+  pub gains : Gains (comes_in n buried) l2 l3
   pub lists_before : AreSoundLists l0
   pub lists_after : AreSoundLists l3
 

@@ -2,12 +2,9 @@ pub mod EntryLemmas
 pub mod ChooseLemmas
 pub mod TakeLemmas
 pub mod PlacesLemmas
+pub mod RoomLemmas
 pub mod PushLemmas
-pub mod WalkLemmas
-pub mod ReachLemmas
 pub mod ComesLemmas
-pub mod ClimbLemmas
-pub mod SetLemmas
 pub mod ControlLemmas
 pub mod ControlTurnsLemmas
 pub mod NumberLemmas
@@ -21,7 +18,6 @@ pub mod JoinLemmas
 pub mod AlteredLemmas
 pub mod NextLemmas
 pub mod RunLemmas
-pub mod AreLookedAtLemmas
 pub mod AskedLemmas
 pub mod PrunesLemmas
 pub mod HopesGoLemmas

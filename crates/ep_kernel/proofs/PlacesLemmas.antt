@@ -14,7 +14,7 @@ use Rattle.ep_ready.specs.ReadyLists.{IsSound, Lists, LosesPlace, instance_at, l
 use Rattle.ep_rings.proofs.FrontLemmas.{filter_gone}
 
 pub loses_none : (l : Lists) → LosesPlaces (λ k. false) l l
-loses_none l = record { places = λ id. refl; lists = λ i. all_stay (list_at l i); reached = refl } where
+loses_none l = record { places = λ id. refl; lists = λ i. all_stay (list_at l i) } where
   all_stay : (xs : List ℕ) → xs ≡ filter (λ k. not false) xs
   all_stay [] = refl
   all_stay (x ∷ xs) = ap (λ (ys : List ℕ). x ∷ ys) (all_stay xs)
@@ -37,7 +37,6 @@ pub loses_both : (f g : ℕ → Bool) (old mid new : Lists) → LosesPlaces f ol
 loses_both f g old mid new a b = record {
   places = λ id. b.places id ∙ (ap (λ (o : Option ℕ). cond (g id.0) None o) (a.places id) ∙ none_twice (f id.0) (g id.0) (instance_at old id));
   lists = λ i. b.lists i ∙ (ap (filter (λ k. not (g k))) (a.lists i) ∙ filter_both f g (list_at old i));
-  reached = b.reached ∙ a.reached;
 }
 
 filter_same : (f g : ℕ → Bool) → ((k : ℕ) → f k ≡ g k) → (xs : List ℕ) → filter (λ k. not (f k)) xs ≡ filter (λ k. not (g k)) xs
@@ -48,7 +47,6 @@ pub loses_same : (f g : ℕ → Bool) (old new : Lists) → ((k : ℕ) → f k �
 loses_same f g old new same a = record {
   places = λ id. a.places id ∙ ap (λ (b : Bool). cond b None (instance_at old id)) (same id.0);
   lists = λ i. a.lists i ∙ filter_same f g same (list_at old i);
-  reached = a.reached;
 }
 
 -- one place
@@ -62,7 +60,6 @@ loses_one old new id h = record {
     | inr ne ↦ h.others k ne ∙ sym (ap (λ (b : Bool). cond b None (instance_at old k)) (let away : (k.0 == id.0) ≡ false = search rules in away))
   ];
   lists = h.lists;
-  reached = h.reached;
 }
 
 -- none where there is none
@@ -73,7 +70,6 @@ loses_nothing l id sound none = record {
     | inr ne ↦ sym (ap (λ (b : Bool). cond b None (instance_at l k)) (let away : (k.0 == id.0) ≡ false = search rules in away))
   ];
   lists = λ i. sym (filter_gone (list_at l i) id.0 (not_there i));
-  reached = refl;
 } where
   no_home : (i : ℕ) → None ≡ Some i → ⊥
   no_home i h = absurd cc

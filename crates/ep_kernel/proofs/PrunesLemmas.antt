@@ -4,7 +4,7 @@ use Rattle.std.proofs.lemmas.Bool.{cases_Bool, cases_eq, false≢true}
 use Rattle.std.proofs.lemmas.List.{get_or-set_other, get_or-set_same}
 use Rattle.ep_base.specs.declared.ids.EntryId.{EntryId}
 use Rattle.ep_calls.specs.Parts.{Parts}
-use Rattle.ep_kernel.proofs.SetLemmas.{apart_nat}
+use Rattle.ep_climb.proofs.SetLemmas.{apart_nat}
 use Rattle.ep_kernel.specs.Listed.{HopesFor, key_shows}
 use Rattle.ep_kernel.specs.Readiness.{Prunes}
 use Rattle.ep_law.proofs.ListLemmas.{among, among_member, member_filter}

@@ -10,7 +10,7 @@ use Rattle.ep_interest.specs.Registrations.{Registrations, entry_under}
 use Rattle.ep_interest.specs.declared.entry.Entry.{Entry}
 use Rattle.ep_machine.specs.Lists.{is_among}
 use Rattle.ep_kernel.specs.Listed.{HavePlaces, may_stand}
-use Rattle.ep_kernel.specs.Push.{Appends, Gains, is_home, passes_found}
+use Rattle.ep_kernel.specs.Push.{Gains, is_home, passes_found}
 use Rattle.ep_ready.specs.ReadyLists.{IsSound, Lists, after_push, entry_id, instance_at, list_at, push_by, with_list}
 
 or_false : (b : Bool) → (b || false) ≡ b
@@ -28,7 +28,7 @@ apart_nat : (j k : ℕ) → j ≢ k → (j == k) ≡ false
 apart_nat j k ne = search rules
 
 pub gains_none : (l : Lists) → Gains (λ k. false) l l
-gains_none l = record { places = λ id. refl; more = λ i. []; lists = λ i. sym (append-nil (list_at l i)); each = λ i k. sym (or_false (is_among (list_at l i) k)); reached = refl }
+gains_none l = record { places = λ id. refl; more = λ i. []; lists = λ i. sym (append-nil (list_at l i)); each = λ i k. sym (or_false (is_among (list_at l i) k)) }
 
 pub gains_same : (f g : ℕ → Bool) (old new : Lists) → ((k : ℕ) → f k ≡ g k) → Gains f old new → Gains g old new
 gains_same f g old new same a = record {
@@ -36,7 +36,6 @@ gains_same f g old new same a = record {
   more = a.more;
   lists = a.lists;
   each = λ i k. a.each i k ∙ ap (λ (b : Bool). is_among (list_at old i) k || b && is_home i (instance_at old (entry_id k))) (same k);
-  reached = a.reached;
 }
 
 either : (x f g h : Bool) → ((x || f && h) || g && h) ≡ (x || (f || g) && h)
@@ -55,7 +54,6 @@ gains_both f g old mid new a b = record {
       b.each i k
       ∙ ((λ t. a.each i k t || g k && is_home i (a.places (entry_id k) t))
       ∙ either (is_among (list_at old i) k) (f k) (g k) (is_home i (instance_at old (entry_id k))));
-  reached = b.reached ∙ a.reached;
 }
 
 -- Of one registration.
@@ -99,7 +97,6 @@ module _ (l : Lists) (sound : IsSound l) (id : EntryId) (i : ℕ) (at : instance
       | inl is ↦ ap (λ (n : ℕ). is_among (list_at l n) k) is ∙ (on k ∙ sym (ap (λ (n : ℕ). is_among (list_at l n) k || k == id.0 && is_home n (instance_at l (entry_id k))) is ∙ ap (λ (b : Bool). is_among (list_at l i) k || b) (comes_here k)))
       | inr ne ↦ not_here j k ne
     ];
-    reached = refl;
   } where
     on : (k : ℕ) → is_among (list_at l i) k ≡ (is_among (list_at l i) k || k == id.0)
     on k = elim (cases_eq k id.0) [
@@ -132,7 +129,6 @@ module _ (l : Lists) (sound : IsSound l) (id : EntryId) (i : ℕ) (at : instance
           ∙ sym (ap (λ (n : ℕ). is_among (list_at l n) k || k == id.0 && is_home n (instance_at l (entry_id k))) is ∙ ap (λ (b : Bool). is_among (list_at l i) k || b) (comes_here k))))
       | inr ne ↦ ap (λ (ks : List ℕ). is_among ks k) (there_now j ne) ∙ not_here j k ne
     ];
-    reached = refl;
   }
 
   pub gains_one : (new : Lists) → new ≡ after_push l id → Gains (λ k. k == id.0) l new
@@ -241,9 +237,3 @@ passing_only (Some x) = twice (nat_lt 0 x.passes_in) (may_stand x) where
   twice : (a b : Bool) → (a && (a && b)) ≡ (a && b)
   twice true b = refl
   twice false b = refl
-
--- what the walk reached plays no part in it
-pub appends : (comes : ℕ → Bool) (old mid new : Lists) → mid ≡ record old { reached = mid.reached } → Gains comes mid new → Appends comes old new
-appends comes old mid new is a =
-    let b : Gains comes (record old { reached = mid.reached }) new = subst (λ (l : Lists). Gains comes l new) is a in
-    record { places = b.places; more = b.more; lists = b.lists; each = b.each }

@@ -35,7 +35,7 @@ use Rattle.ep_view.specs.KernelView.{KernelWatch, climbed as climbed_by, freshen
 use Rattle.ep_calls.specs.Climb.{Climbs, is_nested, link_of}
 use Rattle.ep_interest.specs.Passes.{has_id}
 use Rattle.ep_interest.specs.Registrations.{ids, lets_in}
-use Rattle.ep_kernel.specs.Push.{Appends, comes_by, comes_in, is_home, passes_found}
+use Rattle.ep_kernel.specs.Push.{Gains, comes_by, comes_in, is_home, passes_found}
 use Rattle.ep_machine.specs.Objects.{is_instance, plain}
 use Rattle.ep_machine.specs.Files.{object_of}
 use Rattle.ep_machine.specs.Bits.{IN, asked}
@@ -331,7 +331,7 @@ module _ (n : ℕ) (buried : Parts) (climbed : Registrations) (climbs : Climbs n
   pub places_climbed : (l : Lists) → HavePlaces buried.interest l → HavePlaces climbed l
   places_climbed l places id = place_climbed l places id (entry_under climbed id) refl
 
-  pub sound_climbed : (l m : Lists) → HavePlaces buried.interest l → MayStand buried.interest l → Appends (comes_in n buried) l m → MayStand climbed m
+  pub sound_climbed : (l m : Lists) → HavePlaces buried.interest l → MayStand buried.interest l → Gains (comes_in n buried) l m → MayStand climbed m
   sound_climbed l m places sound gains id y is t =
       let w = climbed_back id.0 (watch_at buried_keys y) (entry_views buried_keys climbed id.0 y is) in
       let x = w.1.x in

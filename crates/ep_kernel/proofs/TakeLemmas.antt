@@ -22,7 +22,6 @@ module _ (l : Lists) (i : ℕ) where
     here = get_or-set_same l.lists i ks [] (within some);
     others = λ j other. get_or-set_other l.lists i j ks [] other;
     places = λ id. refl;
-    reached = refl;
   }
 
   first_key : (ks : List ℕ) (id : EntryId) → front_in ks ≡ Some id → (rest : List ℕ) × (ks ≡ id.0 ∷ rest)
@@ -91,7 +90,7 @@ one_left stays xs j lt =
     subst (λ (ys : List ℕ). 0 < length (ys ++ filter stays (take j xs))) (sym r.1) (omega arith)
 
 pub takes_none : (stays : ℕ → Bool) (l : Lists) (i : ℕ) → SetsList l l i (taken stays 0 (list_at l i))
-takes_none stays l i = record { here = sym (taken_none stays (list_at l i)); others = λ j other. refl; places = λ id. refl; reached = refl }
+takes_none stays l i = record { here = sym (taken_none stays (list_at l i)); others = λ j other. refl; places = λ id. refl }
 
 next_count : (j : ℕ) → suc j ≡ j + 1
 next_count j = omega arith
@@ -101,7 +100,6 @@ takes_more stays old mid new i j lt before one = record {
   here = one.here ∙ (ap (taken stays 1) before.here ∙ (taken_more stays (list_at old i) j lt ∙ ap (λ (n : ℕ). taken stays n (list_at old i)) (next_count j)));
   others = λ k other. one.others k other ∙ before.others k other;
   places = λ id. one.places id ∙ before.places id;
-  reached = one.reached ∙ before.reached;
 }
 
 pub some_place : (l : Lists) (id : EntryId) (i : ℕ) → instance_at l id ≡ Some i → IsSome (instance_at l id)

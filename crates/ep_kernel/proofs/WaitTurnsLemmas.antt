@@ -342,4 +342,4 @@ object_altered pid (EpollCtl epfd op fd mask tag) p q l h = absurd (false≢true
 object_altered pid call p q l h = tt
 
 pub same_lists : (l : Lists) → Same l l
-same_lists l = record { places = λ id. refl; lists = λ i. refl; reached = refl }
+same_lists l = record { places = λ id. refl; lists = λ i. refl }

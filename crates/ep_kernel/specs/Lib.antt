@@ -3,11 +3,9 @@ pub mod Listed
 pub mod Readiness
 pub mod Asked
 pub mod Choose
-pub mod Mark
 pub mod Take
 pub mod Places
 pub mod Push
-pub mod Reach
 pub mod Turns
 pub mod Control
 pub mod Wait

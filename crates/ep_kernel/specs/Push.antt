@@ -25,14 +25,6 @@ pub record Gains (comes : ℕ → Bool) (old new : Lists) : Type 0 where
   pub more : ℕ → List ℕ
   pub lists : (i : ℕ) → list_at new i ≡ list_at old i ++ more i
   pub each : (i k : ℕ) → is_among (list_at new i) k ≡ (is_among (list_at old i) k || comes k && is_home i (instance_at old (entry_id k)))
-  pub reached : new.reached ≡ old.reached
-
--- the same, whatever the walk reached
-pub record Appends (comes : ℕ → Bool) (old new : Lists) : Type 0 where
-  pub places : (id : EntryId) → instance_at new id ≡ instance_at old id
-  pub more : ℕ → List ℕ
-  pub lists : (i : ℕ) → list_at new i ≡ list_at old i ++ more i
-  pub each : (i k : ℕ) → is_among (list_at new i) k ≡ (is_among (list_at old i) k || comes k && is_home i (instance_at old (entry_id k)))
 
 -- it passes something on that was raised at its target
 abbrev pub passes_found : Option Entry → Bool

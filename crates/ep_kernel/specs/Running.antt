@@ -6,11 +6,11 @@ use Rattle.ep_calls.specs.Ends.{Spreads}
 use Rattle.ep_calls.specs.Keeps.{Keeps}
 use Rattle.ep_calls.specs.Parts.{Parts}
 use Rattle.ep_calls.specs.declared.raising.Raising.{Raising}
+use Rattle.ep_climb.specs.Reach.{AreReached}
 use Rattle.ep_interest.specs.Registrations.{Registrations}
 use Rattle.ep_kernel.specs.Listed.{AreFair, HopesFor, IsListed, lists_of}
-use Rattle.ep_kernel.specs.Places.{LosesDying}
-use Rattle.ep_kernel.specs.Push.{Appends, comes_in}
-use Rattle.ep_kernel.specs.Reach.{AreReached}
+use Rattle.ep_kernel.specs.Places.{HasRoomFor, LosesDying}
+use Rattle.ep_kernel.specs.Push.{Gains, comes_in}
 use Rattle.ep_kernel.specs.ReadyBook.{ReadyBook}
 use Rattle.ep_kernel.specs.declared.ready.ReadyKernel.TheInside.{Inside}
 use Rattle.ep_ready.specs.ReadyLists.{Lists}
@@ -28,22 +28,23 @@ book_of k = record {
   lists = lists_of k.parts k.lists;
 }
 
--- the same, each timer has its moment, and what is reportable is among the hopes
+-- the same, each timer has its moment, what is reportable is among the hopes, and the walk has room for their instances
 pub record IsRunning (k : Inside) : Type 0 where
   pub runs : Runs k.history.items k.parts k.lists
   pub set : AreSet k.parts.tables k.parts.clock k.alarms
-  pub hopes : HopesFor k.parts k.asked.hopes
+  pub hopes : HopesFor k.parts k.notes.asked.hopes
+  pub room : HasRoomFor k.notes.asked.hopes k.notes.reached
 
 -- what the spread of event n does to lists: they lose the places that go with the dead, and what passes something on
 -- comes to the end of its list
 pub record ListsSpread (n : ℕ) (mid : Parts) (noted : Registrations) (buried : Parts) (l m : Lists) : Type 0 where
   pub between : Lists
   pub loses : LosesDying mid.tables noted l between
-  pub gains : Appends (comes_in n buried) between m
+  pub gains : Gains (comes_in n buried) between m
 
--- the spread of event n, with the lists and the hopes; the lists have the instances that IN reached as reached
-pub record SpreadsWith (n : ℕ) (raising : Raising) (mid : Parts) (l h : Lists) (left : Parts) (m k : Lists) : Type 0 where
+-- the spread of event n, with the lists, the hopes and the instances that IN reached
+pub record SpreadsWith (n : ℕ) (raising : Raising) (mid : Parts) (l h : Lists) (left : Parts) (m k : Lists) (ks : List ℕ) : Type 0 where
   pub spreads : Spreads n raising mid left
   pub lists : ListsSpread n mid spreads.noted spreads.buried l m
   pub hopes : ListsSpread n mid spreads.noted spreads.buried h k
-  pub reached : AreReached n spreads.buried.tables spreads.buried.interest m.reached
+  pub reached : AreReached n spreads.buried.tables spreads.buried.interest ks

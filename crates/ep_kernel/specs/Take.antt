@@ -11,7 +11,6 @@ pub record SetsList (old new : Lists) (instance : ℕ) (keys : List ℕ) : Type 
   pub here : list_at new instance ≡ keys
   pub others : (i : ℕ) → i ≢ instance → list_at new i ≡ list_at old i
   pub places : (id : EntryId) → instance_at new id ≡ instance_at old id
-  pub reached : new.reached ≡ old.reached
 
 -- what event n reported and may report again although nothing arrives
 abbrev pub stays_found : ℕ → Option Entry → Bool

@@ -8,6 +8,7 @@ ghost use Rattle.ep_calls.specs.Last.{NothingRefuses, NothingRefusesCall};
 ghost use Rattle.ep_calls.specs.Spared.{IsSpared, TakesNoMemory};
 ghost use Rattle.ep_calls.specs.TableCall.{MakesTimer};
 ghost use Rattle.ep_kernel.specs.Listed.{HopesFor, IsListed};
+ghost use Rattle.ep_kernel.specs.Places.{HasRoomFor};
 ghost use Rattle.ep_alarms.specs.Changes.{CallsTables, MayCreate, MovesClock, TouchesTables};
 ghost use Rattle.ep_kernel.specs.Turns.{HopesGo, Turns};
 ghost use Rattle.ep_kernel.specs.Wait.{DoesCallFairly, DoesEventFairly, ReportsInOrder};
@@ -15,8 +16,8 @@ ghost use Rattle.ep_machine.specs.Files.{table_of};
 ghost use Rattle.ep_park.specs.Waiters.{is_caller};
 ghost use Rattle.ep_ready.specs.ReadyLists.{Same};
 
-use crate::asked::Asked;
 use crate::control::epoll_ctl;
+use crate::notes::Notes;
 use crate::wait::{epoll_wait, resume};
 use ep_base::{Call, CallerId, Errno, Event, Pid};
 use ep_calls::{Control, Outcome, Parts, Wait};
@@ -42,7 +43,7 @@ pub struct Request {
 fn make_call(
     parts: &mut Parts,
     lists: &mut ReadyLists,
-    asked: &mut Asked,
+    notes: &mut Notes,
     request: Request,
     pid: Pid,
     call: &Call,
@@ -50,7 +51,8 @@ fn make_call(
     requires free { list_any (is_caller request.caller.0) parts.old.parked ≡ false }
     requires process { is_some (table_of parts.old.tables.files pid.0) ≡ true }
     requires listed { IsListed parts.old lists.old }
-    requires hopes { HopesFor parts.old asked.old.hopes }
+    requires hopes { HopesFor parts.old notes.old.asked.hopes }
+    requires walk { HasRoomFor notes.old.asked.hopes notes.old.reached }
     ensures ok { IfOk result
         (λ outcome. DoesCallFairly lists.old request.step request.caller.0 pid.0 call.now outcome
         parts.old parts.new) }
@@ -69,7 +71,8 @@ fn make_call(
     ensures order { IfOk result
         (λ outcome. ReportsInOrder lists.old request.step request.caller.0 (CallOf pid call.now)
         outcome parts.old parts.new lists.new) }
-    ensures hopes { HopesGo (CallOf pid call.now) parts.old parts.new asked.new.hopes }
+    ensures hopes { HopesGo (CallOf pid call.now) parts.old parts.new notes.new.asked.hopes }
+    ensures walk { HasRoomFor notes.new.asked.hopes notes.new.reached }
     ensures err { OnErr result ((parts.new ≡ parts.old) × Same lists.old lists.new) }
 {
     match *call {
@@ -87,7 +90,7 @@ fn make_call(
                 mask,
                 tag,
             };
-            epoll_ctl(parts, lists, asked, pid, args)
+            epoll_ctl(parts, lists, notes, pid, args)
         }
         Call::EpollWait { epfd, max, timeout } => {
             let args = Wait {
@@ -97,7 +100,14 @@ fn make_call(
                 timeout,
                 kept: request.kept,
             };
-            epoll_wait(parts, lists, asked, request.step, request.caller, args)
+            epoll_wait(
+                parts,
+                lists,
+                &mut notes.asked,
+                request.step,
+                request.caller,
+                args,
+            )
         }
         Call::Read { fd, .. }
         | Call::Write { fd, .. }
@@ -115,12 +125,13 @@ fn make_call(
 pub fn act(
     parts: &mut Parts,
     lists: &mut ReadyLists,
-    asked: &mut Asked,
+    notes: &mut Notes,
     request: Request,
     event: &Event,
 ) -> Result<Outcome, AllocError>
     requires listed { IsListed parts.old lists.old }
-    requires hopes { HopesFor parts.old asked.old.hopes }
+    requires hopes { HopesFor parts.old notes.old.asked.hopes }
+    requires walk { HasRoomFor notes.old.asked.hopes notes.old.reached }
     ensures ok { IfOk result
         (λ outcome. DoesEventFairly lists.old request.step request.caller.0 event.now outcome
         parts.old parts.new) }
@@ -138,7 +149,8 @@ pub fn act(
     ensures order { IfOk result
         (λ outcome. ReportsInOrder lists.old request.step request.caller.0 event.now outcome
         parts.old parts.new lists.new) }
-    ensures hopes { HopesGo event.now parts.old parts.new asked.new.hopes }
+    ensures hopes { HopesGo event.now parts.old parts.new notes.new.asked.hopes }
+    ensures walk { HasRoomFor notes.new.asked.hopes notes.new.reached }
     ensures err { OnErr result ((parts.new ≡ parts.old) × Same lists.old lists.new) }
 {
     match event {
@@ -149,13 +161,13 @@ pub fn act(
             if parts.waiters.is_parked(request.caller) {
                 return Ok(Outcome::refused(parts.alloc, Errno::Ebusy));
             }
-            make_call(parts, lists, asked, request, *pid, call)
+            make_call(parts, lists, notes, request, *pid, call)
         }
         Event::Resume => {
             resume(
                 parts,
                 lists,
-                asked,
+                &mut notes.asked,
                 request.step,
                 request.caller,
                 request.kept,

@@ -1,5 +1,5 @@
 //! epoll_ctl: the places that come and go with registrations.
-ghost use Rattle.std.specs.Prelude.{◌≡◌, ◌≢◌, [], ℕ, IfOk, IsOk, IsSome, None, OnErr, OnOk, false, true};
+ghost use Rattle.std.specs.Prelude.{◌≡◌, ◌≢◌, ◌<◌, ◌≤◌, [], ℕ, IfOk, IsOk, IsSome, None, OnErr, OnOk, false, true};
 ghost use Rattle.ep_base.specs.declared.call.Event.TheVariants.{Call as CallOf};
 ghost use Rattle.ep_calls.specs.Control.{IsPlan, TellsBelow, control_call};
 ghost use Rattle.ep_calls.specs.Does.{DoesCall};
@@ -8,6 +8,7 @@ ghost use Rattle.ep_calls.specs.declared.control.Operation.TheVariants.{Add};
 ghost use Rattle.ep_interest.specs.Registrations.{entry_under};
 ghost use Rattle.ep_kernel.specs.Control.{Settles};
 ghost use Rattle.ep_kernel.specs.Listed.{HopesFor, IsListed};
+ghost use Rattle.ep_kernel.specs.Places.{AddsNoPlace, HasRoomFor};
 ghost use Rattle.ep_alarms.specs.Changes.{LeavesFiles};
 ghost use Rattle.ep_kernel.specs.Turns.{HopesGo, Turns};
 ghost use Rattle.ep_machine.specs.Watches.{is_add};
@@ -15,6 +16,7 @@ ghost use Rattle.ep_ready.specs.ReadyLists.{GainsPlace, Same, instance_at};
 ghost use Rattle.ep_table.specs.Value.{number_under as desc_number};
 
 use crate::asked::Asked;
+use crate::notes::Notes;
 use crate::readiness::is_ready;
 use ep_base::{DescId, EntryId, Pid};
 use ep_calls::{Control, Operation, Outcome, Parts, Plan, Raising};
@@ -62,20 +64,22 @@ fn make_places(
     }
 }
 
-/// Makes room for what an ADD keeps: the places of its registration, and what its instance answers. `false` is want of
-/// memory, and leaves the lists and the hopes.
-fn make_room_for(lists: &mut ReadyLists, asked: &mut Asked, instance: DescId, id: EntryId) -> bool
+/// Makes room for what an ADD keeps: the places of its registration, and what is noted of its instance. `false` is want
+/// of memory, and leaves the lists and the hopes.
+fn make_room_for(lists: &mut ReadyLists, notes: &mut Notes, instance: DescId, id: EntryId) -> bool
     requires free { instance_at lists.old id ≡ None }
-    requires hope { instance_at asked.old.hopes id ≡ None }
+    requires hope { instance_at notes.old.asked.hopes id ≡ None }
     ensures made { result ≡ true → GainsPlace lists.old lists.new instance.0 id }
-    ensures hoped { result ≡ true → GainsPlace asked.old.hopes asked.new.hopes instance.0 id }
+    ensures hoped { result ≡ true → GainsPlace notes.old.asked.hopes notes.new.asked.hopes instance.0 id }
     ensures refused { result ≡ false
-        → Same lists.old lists.new × Same asked.old.hopes asked.new.hopes }
+        → Same lists.old lists.new × Same notes.old.asked.hopes notes.new.asked.hopes }
+    ensures more { notes.old.reached.room ≤ notes.new.reached.room }
+    ensures room { result ≡ true → instance.0 < notes.new.reached.room }
 {
-    if asked.make_room(instance).is_err() {
+    if notes.make_room(instance).is_err() {
         return false;
     }
-    make_places(lists, &mut asked.hopes, instance, id).is_ok()
+    make_places(lists, &mut notes.asked.hopes, instance, id).is_ok()
 }
 
 /// Whether the instance that an ADD or a MOD is about is ready; `false` for what is no instance. DEL asks nothing.
@@ -121,6 +125,7 @@ fn alter(
         parts.new lists.new) }
     ensures spared { plan.operation ≢ Add → IsOk result }
     ensures hopes { HopesGo (CallOf pid (control_call args)) parts.old parts.new asked.new.hopes }
+    ensures within { AddsNoPlace asked.old.hopes asked.new.hopes }
     ensures err { OnErr result ((parts.new ≡ parts.old) × Same lists.old lists.new) }
 {
     let Some(id) = plan.found else {
@@ -154,12 +159,12 @@ fn refuse(parts: &mut Parts, pid: Pid, args: Control, mut plan: Plan) -> Result<
     parts.control(pid, args, plan)
 }
 
-/// Adds a registration that is not there, with its places, and makes room for what its instance answers. An `Err` is
-/// want of memory and leaves the parts and the lists. It comes only if nothing refuses the call.
+/// Adds a registration that is not there, with its places, and makes room for what is noted of its instance. An `Err`
+/// is want of memory and leaves the parts and the lists. It comes only if nothing refuses the call.
 fn add(
     parts: &mut Parts,
     lists: &mut ReadyLists,
-    asked: &mut Asked,
+    notes: &mut Notes,
     pid: Pid,
     args: Control,
     plan: Plan,
@@ -169,7 +174,8 @@ fn add(
     requires adds { plan.operation ≡ Add }
     requires found { plan.found ≡ None }
     requires listed { IsListed parts.old lists.old }
-    requires hopes { HopesFor parts.old asked.old.hopes }
+    requires hopes { HopesFor parts.old notes.old.asked.hopes }
+    requires room { HasRoomFor notes.old.asked.hopes notes.old.reached }
     ensures ok { IfOk result
         (λ outcome. (n caller : ℕ)
         → DoesCall n caller pid.0 (control_call args) outcome parts.old parts.new) }
@@ -178,15 +184,17 @@ fn add(
     ensures turns { IfOk result
         (λ outcome. Turns (CallOf pid (control_call args)) outcome.picked parts.old lists.old
         parts.new lists.new) }
-    ensures hopes { HopesGo (CallOf pid (control_call args)) parts.old parts.new asked.new.hopes }
+    ensures hopes { HopesGo (CallOf pid (control_call args)) parts.old parts.new
+        notes.new.asked.hopes }
+    ensures room { HasRoomFor notes.new.asked.hopes notes.new.reached }
     ensures err { OnErr result ((parts.new ≡ parts.old) × Same lists.old lists.new) }
 {
     parts.known();
     parts.interest.known();
     lists.known();
     let id = parts.interest.next_key();
-    asked.hopes.known();
-    if !make_room_for(lists, asked, plan.named.instance, id) {
+    notes.asked.hopes.known();
+    if !make_room_for(lists, notes, plan.named.instance, id) {
         let refused = refuse(parts, pid, args, plan)?;
         return Ok(refused);
     }
@@ -194,14 +202,14 @@ fn add(
         Ok(outcome) => outcome,
         Err(error) => {
             lists.drop_place(id);
-            asked.hopes.drop_place(id);
+            notes.asked.hopes.drop_place(id);
             return Err(error);
         }
     };
     parts.known();
     parts.interest.known();
     settle(&parts.interest, lists, id, outcome.raising);
-    settle(&parts.interest, &mut asked.hopes, id, outcome.raising);
+    settle(&parts.interest, &mut notes.asked.hopes, id, outcome.raising);
     Ok(outcome)
 }
 
@@ -209,7 +217,7 @@ fn add(
 fn enter(
     parts: &mut Parts,
     lists: &mut ReadyLists,
-    asked: &mut Asked,
+    notes: &mut Notes,
     pid: Pid,
     args: Control,
     plan: Plan,
@@ -218,7 +226,8 @@ fn enter(
     requires below { TellsBelow plan.operation plan.below parts.old plan.named.desc }
     requires found { plan.found ≡ None }
     requires listed { IsListed parts.old lists.old }
-    requires hopes { HopesFor parts.old asked.old.hopes }
+    requires hopes { HopesFor parts.old notes.old.asked.hopes }
+    requires room { HasRoomFor notes.old.asked.hopes notes.old.reached }
     ensures ok { IfOk result
         (λ outcome. (n caller : ℕ)
         → DoesCall n caller pid.0 (control_call args) outcome parts.old parts.new) }
@@ -228,11 +237,13 @@ fn enter(
         (λ outcome. Turns (CallOf pid (control_call args)) outcome.picked parts.old lists.old
         parts.new lists.new) }
     ensures spared { plan.operation ≢ Add → IsOk result }
-    ensures hopes { HopesGo (CallOf pid (control_call args)) parts.old parts.new asked.new.hopes }
+    ensures hopes { HopesGo (CallOf pid (control_call args)) parts.old parts.new
+        notes.new.asked.hopes }
+    ensures room { HasRoomFor notes.new.asked.hopes notes.new.reached }
     ensures err { OnErr result ((parts.new ≡ parts.old) × Same lists.old lists.new) }
 {
     match plan.operation {
-        Operation::Add => add(parts, lists, asked, pid, args, plan),
+        Operation::Add => add(parts, lists, notes, pid, args, plan),
         Operation::Delete => parts.control(pid, args, plan),
         Operation::Modify => parts.control(pid, args, plan),
     }
@@ -245,12 +256,13 @@ fn enter(
 pub fn epoll_ctl(
     parts: &mut Parts,
     lists: &mut ReadyLists,
-    asked: &mut Asked,
+    notes: &mut Notes,
     pid: Pid,
     args: Control,
 ) -> Result<Outcome, AllocError>
     requires listed { IsListed parts.old lists.old }
-    requires hopes { HopesFor parts.old asked.old.hopes }
+    requires hopes { HopesFor parts.old notes.old.asked.hopes }
+    requires room { HasRoomFor notes.old.asked.hopes notes.old.reached }
     ensures ok { IfOk result
         (λ outcome. (n caller : ℕ)
         → DoesCall n caller pid.0 (control_call args) outcome parts.old parts.new) }
@@ -260,16 +272,18 @@ pub fn epoll_ctl(
         (λ outcome. Turns (CallOf pid (control_call args)) outcome.picked parts.old lists.old
         parts.new lists.new) }
     ensures spared { is_add args.op ≡ false → IsOk result }
-    ensures hopes { HopesGo (CallOf pid (control_call args)) parts.old parts.new asked.new.hopes }
+    ensures hopes { HopesGo (CallOf pid (control_call args)) parts.old parts.new
+        notes.new.asked.hopes }
+    ensures room { HasRoomFor notes.new.asked.hopes notes.new.reached }
     ensures err { OnErr result ((parts.new ≡ parts.old) × Same lists.old lists.new) }
 {
     let mut plan = match parts.plan(pid, args) {
         Ok(plan) => plan,
         Err(refused) => return Ok(refused),
     };
-    plan.below = is_below_ready(parts, asked, plan.operation, plan.named.desc);
+    plan.below = is_below_ready(parts, &mut notes.asked, plan.operation, plan.named.desc);
     match plan.found {
-        Some(_) => alter(parts, lists, asked, pid, args, plan),
-        None => enter(parts, lists, asked, pid, args, plan),
+        Some(_) => alter(parts, lists, &mut notes.asked, pid, args, plan),
+        None => enter(parts, lists, notes, pid, args, plan),
     }
 }

@@ -1,11 +1,11 @@
 //! Which registrations an event puts at the end of their lists and among the hopes: those that pass something of it on.
 ghost use Rattle.std.specs.List.{list_any};
 ghost use Rattle.std.specs.Prelude.{◌≡◌, ◌&&◌, ◌==◌, ℕ, IsSome, filter};
+ghost use Rattle.ep_climb.specs.Reach.{AreLive, AreReached};
 ghost use Rattle.ep_interest.specs.Passes.{has_id};
 ghost use Rattle.ep_interest.specs.Registrations.{entry_under, ids, is_on, lets_in};
 ghost use Rattle.ep_kernel.specs.Listed.{HavePlaces, may_stand as may_be_listed};
 ghost use Rattle.ep_kernel.specs.Push.{Gains, comes_in, comes_on, passes_found};
-ghost use Rattle.ep_kernel.specs.Reach.{AreLive, AreReached};
 ghost use Rattle.ep_table.specs.Value.{number_under};
 ghost use Rattle.ep_ready.specs.ReadyLists.{entry_id, instance_at};
 
@@ -13,7 +13,8 @@ use bitflags::Flags;
 use ep_base::{DescId, EntryId, Mask};
 use ep_calls::Parts;
 use ep_interest::{Entry, Interest};
-use ep_ready::ReadyLists;
+use ep_ready::{ReadyLists, Walk};
+use std::alloc::Global;
 
 /// Whether a registration may stand on a list: it is armed, and fresh where it is edge-triggered.
 fn may_stand(entry: &Entry) -> bool
@@ -120,35 +121,38 @@ fn push_above(parts: &Parts, lists: &mut ReadyLists, hopes: &mut ReadyLists, des
 
 /// Puts each registration at the end of its list and among the hopes through which IN comes from an instance that the
 /// walk reached.
-fn push_nested(parts: &Parts, lists: &mut ReadyLists, hopes: &mut ReadyLists)
+fn push_nested(
+    parts: &Parts,
+    lists: &mut ReadyLists,
+    hopes: &mut ReadyLists,
+    reached: &Walk<Global>,
+)
     requires places { HavePlaces parts.now.interest lists.old }
     requires hopes { HavePlaces parts.now.interest hopes.old }
-    requires live { AreLive parts.now.tables lists.old.reached }
+    requires live { AreLive parts.now.tables reached.now.reached }
     ensures gains { Gains (λ k. list_any (λ i. comes_on parts.now (record { 0 = i }) k)
-        lists.old.reached) lists.old lists.new }
+        reached.now.reached) lists.old lists.new }
     ensures hopes { Gains (λ k. list_any (λ i. comes_on parts.now (record { 0 = i }) k)
-        lists.old.reached) hopes.old hopes.new }
+        reached.now.reached) hopes.old hopes.new }
 {
-    for index in 0..lists.reached_count() {
-        let instance = lists.reached_at(index);
-        push_above(parts, lists, hopes, instance);
+    for index in 0..reached.count() {
+        push_above(parts, lists, hopes, DescId(reached.at(index)));
     }
 }
 
 /// Puts each registration at the end of its list and among the hopes, if it does not stand there, that passes something
-/// of an event on, where the walk of the lists has reached what the event reaches. A list that it stands on already
-/// stays.
-pub fn push(parts: &Parts, lists: &mut ReadyLists, hopes: &mut ReadyLists)
+/// of an event on, where the walk has reached what the event reaches. A list that it stands on already stays.
+pub fn push(parts: &Parts, lists: &mut ReadyLists, hopes: &mut ReadyLists, reached: &Walk<Global>)
     requires places { HavePlaces parts.now.interest lists.old }
     requires hopes { HavePlaces parts.now.interest hopes.old }
-    requires live { AreLive parts.now.tables lists.old.reached }
-    ensures gains { (n : ℕ) → AreReached n parts.now.tables parts.now.interest lists.old.reached
+    requires live { AreLive parts.now.tables reached.now.reached }
+    ensures gains { (n : ℕ) → AreReached n parts.now.tables parts.now.interest reached.now.reached
         → Gains (comes_in n parts.now) lists.old lists.new }
-    ensures hopes { (n : ℕ) → AreReached n parts.now.tables parts.now.interest lists.old.reached
+    ensures hopes { (n : ℕ) → AreReached n parts.now.tables parts.now.interest reached.now.reached
         → Gains (comes_in n parts.now) hopes.old hopes.new }
 {
     parts.known();
     parts.interest.known();
     push_passing(&parts.interest, lists, hopes);
-    push_nested(parts, lists, hopes);
+    push_nested(parts, lists, hopes, reached);
 }

@@ -13,12 +13,13 @@ ghost use Rattle.ep_machine.specs.Step.{next_event};
 ghost use Rattle.ep_view.specs.AtRest.{IsSteady, kind_of};
 
 use crate::act::{Request, act};
-use crate::asked::Asked;
-use crate::mark::{attend, mark, resumed_at};
+use crate::mark::mark;
+use crate::notes::Notes;
 use crate::settle::{know, spread};
 use ep_alarms::Alarms;
 use ep_base::{Answer, CallerId, Errno, Event, Limits, Record};
 use ep_calls::{Kernel, Parts, Spare};
+use ep_climb::{attend, resumed_at};
 use ep_law::laws::{ends_are_apart, reportables_are_spread};
 use ep_order::{lists_go_on, unmarked_are_reached};
 use ep_ready::ReadyLists;
@@ -33,8 +34,8 @@ pub struct ReadyKernel {
     parts: Parts,
     lists: ReadyLists,
     alarms: Alarms,
-    // The answers of instances in the course of an event, which say nothing between two events, and the hopes.
-    asked: Asked,
+    // The hopes, and what is noted in the course of an event and says nothing between two events.
+    notes: Notes,
     history: Vec<Record>,
 }
 
@@ -62,7 +63,7 @@ impl ReadyKernel {
             parts: Parts::new(alloc, limits)?,
             lists: ReadyLists::new(alloc),
             alarms: Alarms::new(alloc),
-            asked: Asked::new(alloc),
+            notes: Notes::new(alloc),
             history: Vec::new(alloc),
         })
     }
@@ -133,7 +134,7 @@ impl ReadyKernel {
         let outcome = act(
             &mut self.parts,
             &mut self.lists,
-            &mut self.asked,
+            &mut self.notes,
             request,
             &event,
         )?;
@@ -143,14 +144,19 @@ impl ReadyKernel {
         spread(
             &mut self.parts,
             &mut self.lists,
-            &mut self.asked,
+            &mut self.notes,
             &mut self.alarms,
             step,
             raising,
         );
         self.lists.known();
         let attended = attend(resumed, raising);
-        mark(&mut self.parts, &self.lists, &mut self.asked, attended);
+        mark(
+            &mut self.parts,
+            &self.notes.reached,
+            &mut self.notes.asked,
+            attended,
+        );
         self.parts.forget_passed();
         self.history.push_reserved(record);
         Ok((answer, spare))

@@ -6,11 +6,12 @@ ghost use Rattle.ep_calls.specs.Parts.{AreCoherent};
 ghost use Rattle.ep_calls.specs.Raising.{IsRaising};
 ghost use Rattle.ep_interest.specs.Registrations.{IsSound};
 ghost use Rattle.ep_kernel.specs.Listed.{HavePlaces};
+ghost use Rattle.ep_kernel.specs.Places.{HasRoomFor};
 ghost use Rattle.ep_kernel.specs.Running.{SpreadsWith};
 ghost use Rattle.ep_table.specs.Value.{Sound};
 
-use crate::asked::Asked;
 use crate::climb::climb;
+use crate::notes::Notes;
 use crate::places::drop_dying;
 use ep_alarms::{Alarms, burial_leaves_alarms};
 use ep_calls::{Parts, Raising};
@@ -27,12 +28,12 @@ pub fn know(parts: &Parts)
 }
 
 /// Notes what an event raised, takes the dead away with their places and moments, puts what passes something on at
-/// the end of its list and among the hopes, and lets what was raised climb. The lists have the instances that IN
-/// reached as reached afterwards. Marks are still to be set, and what was passed on is still to be forgotten.
+/// the end of its list and among the hopes, and lets what was raised climb. The instances that IN reached are noted.
+/// Marks are still to be set, and what was passed on is still to be forgotten.
 pub fn spread(
     parts: &mut Parts,
     lists: &mut ReadyLists,
-    asked: &mut Asked,
+    notes: &mut Notes,
     alarms: &mut Alarms,
     step: u64,
     raising: Raising,
@@ -40,20 +41,28 @@ pub fn spread(
     requires step { 0 < step }
     requires raises { IsRaising raising parts.old.tables }
     requires places { HavePlaces parts.old.interest lists.old }
-    requires hopes { HavePlaces parts.old.interest asked.old.hopes }
+    requires hopes { HavePlaces parts.old.interest notes.old.asked.hopes }
+    requires room { HasRoomFor notes.old.asked.hopes notes.old.reached }
     requires set { AreSetSince raising parts.old.tables parts.old.clock alarms.old }
-    ensures spreads { SpreadsWith step raising parts.old lists.old asked.old.hopes parts.new
-        lists.new asked.new.hopes }
+    ensures spreads { SpreadsWith step raising parts.old lists.old notes.old.asked.hopes parts.new
+        lists.new notes.new.asked.hopes notes.new.reached.reached }
+    ensures room { HasRoomFor notes.new.asked.hopes notes.new.reached }
     ensures set { AreSet parts.new.tables parts.new.clock alarms.new }
 {
     know(parts);
     alarms.raise(parts, step, raising);
     know(parts);
-    drop_dying(parts, lists, &mut asked.hopes);
+    drop_dying(parts, lists, &mut notes.asked.hopes);
     burial_leaves_alarms();
     alarms.drop_dying(&parts.tables);
     parts.bury(step);
     know(parts);
-    climb(parts, lists, &mut asked.hopes, step);
+    climb(
+        parts,
+        lists,
+        &mut notes.asked.hopes,
+        &mut notes.reached,
+        step,
+    );
     know(parts);
 }

@@ -6,6 +6,7 @@ ghost use Rattle.ep_calls.specs.Kept.{IsKept};
 ghost use Rattle.ep_calls.specs.Last.{NothingRefuses, NothingRefusesCall};
 ghost use Rattle.ep_calls.specs.Wait.{wait_call};
 ghost use Rattle.ep_kernel.specs.Listed.{HopesFor, IsListed};
+ghost use Rattle.ep_kernel.specs.Places.{AddsNoPlace};
 ghost use Rattle.ep_alarms.specs.Changes.{LeavesFiles};
 ghost use Rattle.ep_kernel.specs.Turns.{HopesGo, Turns};
 ghost use Rattle.ep_kernel.specs.Wait.{DoesCallFairly, DoesEventFairly, ReportsInOrder};
@@ -57,6 +58,7 @@ pub fn epoll_wait(
         (λ outcome. ReportsInOrder lists.old step caller.0 (CallOf args.pid (wait_call args))
         outcome parts.old parts.new lists.new) }
     ensures hopes { HopesGo (CallOf args.pid (wait_call args)) parts.old parts.new asked.new.hopes }
+    ensures within { AddsNoPlace asked.old.hopes asked.new.hopes }
     ensures last { OnErr result (NothingRefusesCall parts.old args.pid.0 (wait_call args)) }
     ensures err { OnErr result (parts.new ≡ parts.old) }
     ensures err_lists { OnErr result (lists.new ≡ lists.old) }
@@ -99,6 +101,7 @@ pub fn resume(
         (λ outcome. ReportsInOrder lists.old step caller.0 Resume outcome parts.old parts.new
         lists.new) }
     ensures hopes { HopesGo Resume parts.old parts.new asked.new.hopes }
+    ensures within { AddsNoPlace asked.old.hopes asked.new.hopes }
     ensures last { OnErr result (NothingRefuses parts.old caller.0 Resume) }
     ensures err { OnErr result (parts.new ≡ parts.old) }
     ensures err_lists { OnErr result (lists.new ≡ lists.old) }

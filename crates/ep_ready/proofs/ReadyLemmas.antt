@@ -1,4 +1,4 @@
--- What rings, the places of registrations and the walk mean for the lists that contracts see.
+-- What rings and the places of registrations mean for the lists that contracts see.
 use Rattle.std.proofs.Common.{◌≡◌, ◌≢◌, ℕ, zero, suc, ◌+◌, ◌<◌, ◌≤◌, Bool, true, false, not, eqb, List, [], ◌∷◌, ◌++◌, length, get_or, set, filter, Option, Some, None, IsSome, is_some, refl, sym, ap, ◌∙◌, subst, inl, inr, arith, map, if◌then◌else◌}
 use Rattle.std.proofs.lemmas.Bool.{cases_eq, cases_lt, cases_Bool}
 use Rattle.std.proofs.lemmas.List.{get_or_past, get_or_read, get_or-set_same, get_or-set_other, map-set, length-map, map-append, length-set}
@@ -6,10 +6,10 @@ use Rattle.std.specs.Map.Iter.{TakesFirst}
 use Rattle.ep_rings.specs.declared.rings.PlaceId.{PlaceId}
 use Rattle.ep_base.specs.declared.ids.EntryId.{EntryId}
 use Rattle.ep_rings.specs.Rings.{Rings, Place, place_at, list_at, owner_of, with_list, entry_of as id_of, entry_at as id_at}
-use Rattle.ep_machine.specs.Lists.{is_among, are_distinct}
+use Rattle.ep_machine.specs.Lists.{is_among}
 use Rattle.ep_rings.specs.Rings.{after_push as push_place, after_removal as removal_place, after_rotation as rotation_place, after_drop as drop_place, SameLists, GainsPlace as GainsPlaceId, rotation_of, IsSound as AreSound, push_by as push_by_place, stands as stands_place, stands_by as stands_by_place, removal_by as removal_by_place}
-use Rattle.ep_ready.specs.ReadyLists.{HasPlace, Lists, entry_id, stands, stands_by, instance_at, list_at as entries_at, with_list as with_entries, push_by, after_push, removal_by, after_removal, after_rotation, Same, GainsPlace, LosesPlace, IsSound, ids, front_in}
-use Rattle.ep_ready.specs.Tied.{at_key, id_at_key, entry_in, key_in, key_at, instance_of, value_of, HasRoom, IsTied}
+use Rattle.ep_ready.specs.ReadyLists.{Lists, entry_id, stands, stands_by, instance_at, list_at as entries_at, with_list as with_entries, push_by, after_push, removal_by, after_removal, after_rotation, Same, GainsPlace, LosesPlace, IsSound, ids, front_in}
+use Rattle.ep_ready.specs.Tied.{at_key, id_at_key, entry_in, key_in, key_at, instance_of, value_of, IsTied}
 use Rattle.ep_ready.proofs.KeyLemmas.{any_map, filter_map_keys, distinct_map, mapped_where, turned_map, map_alike, filter_alike, none_here, map_read}
 use Rattle.ep_rings.proofs.FrontLemmas.{filter_gone}
 
@@ -38,14 +38,14 @@ same_number a b h = let both : place_id a ≡ place_id b = cc in ap (λ (p : Pla
 same_some : (a b : ℕ) → Some a ≡ Some b → a ≡ b
 same_some a b h = cc
 
-module _ (rs : List ℕ) (v : Rings) (ps : List (Option PlaceId)) where
+module _ (v : Rings) (ps : List (Option PlaceId)) where
   abbrev key : ℕ → ℕ
   key = key_at v.places
 
-  pub list_read : (i : ℕ) → entries_at (value_of rs v ps) i ≡ map key (list_at v i)
+  pub list_read : (i : ℕ) → entries_at (value_of v ps) i ≡ map key (list_at v i)
   list_read i = map_read (map key) [] [] refl v.lists i
 
-  pub inst_read : (e : ℕ) → instance_at (value_of rs v ps) (entry_id e) ≡ instance_of v.places (id_at_key ps e)
+  pub inst_read : (e : ℕ) → instance_at (value_of v ps) (entry_id e) ≡ instance_of v.places (id_at_key ps e)
   inst_read e = map_read (instance_of v.places) None None refl ps e
 
   module _ (tied : IsTied v.places ps) where
@@ -72,8 +72,8 @@ module _ (rs : List ℕ) (v : Rings) (ps : List (Option PlaceId)) where
       owned_by None i h = absurd (cc)
       owned_by (Some p) i h = (p.0, h)
 
-      pub known_ready : are_distinct rs ≡ true → IsSound (value_of rs v ps)
-      known_ready walk = record {
+      pub known_ready : IsSound (value_of v ps)
+      known_ready = record {
         once = λ i. rw (list_read i) (distinct_map key (list_at v i) (λ x y a b. same_key (key x) x i y (at_place i x a) b) (st.once i));
         own = λ i id h.
             let w = mapped_where key (list_at v i) id.0 (rw (list_read i) at h) in
@@ -82,7 +82,6 @@ module _ (rs : List ℕ) (v : Rings) (ps : List (Option PlaceId)) where
         within = λ id i h.
             let o = owned_by (id_at_key ps id.0) i (sym (inst_read id.0) ∙ h) in
             omega (arith, st.within o.0 i o.1, length-map v.lists (map key));
-        walk = walk;
       }
 
       module _ (e k : ℕ) (p : id_at_key ps e ≡ Some (record { 0 = k })) where
@@ -93,7 +92,7 @@ module _ (rs : List ℕ) (v : Rings) (ps : List (Option PlaceId)) where
         i = found.0.owner
 
         abbrev r : Lists
-        r = value_of rs v ps
+        r = value_of v ps
 
         inst : instance_at r (entry_id e) ≡ Some i
         inst = inst_read e ∙ (ap (instance_of v.places) p ∙ ap owner_of found.1)
@@ -104,24 +103,24 @@ module _ (rs : List ℕ) (v : Rings) (ps : List (Option PlaceId)) where
         cut_here : (j : ℕ) → filter (λ x. not (eqb x e)) (entries_at r j) ≡ map key (filter (λ x. not (eqb x k)) (list_at v j))
         cut_here j = ap (λ (xs : List ℕ). filter (λ x. not (eqb x e)) xs) (list_read j) ∙ filter_map_keys key e k (list_at v j) (λ x h. same_key e k j x p h)
 
-        changed : (xs ys : List ℕ) → map key xs ≡ ys → value_of rs (with_list v i xs) ps ≡ with_entries r i ys
+        changed : (xs ys : List ℕ) → map key xs ≡ ys → value_of (with_list v i xs) ps ≡ with_entries r i ys
         changed xs ys h =
             let lists : map (map key) (set v.lists i xs) ≡ set (map (map key) v.lists) i ys = map-set (map key) v.lists i xs ∙ ap (λ zs. set (map (map key) v.lists) i zs) h in
-            λ z. record { places = map (instance_of v.places) ps; lists = lists z; reached = rs }
+            λ z. record { places = map (instance_of v.places) ps; lists = lists z }
 
-        pub pushed_ready : value_of rs (push_place v k) ps ≡ after_push r (entry_id e)
+        pub pushed_ready : value_of (push_place v k) ps ≡ after_push r (entry_id e)
         pushed_ready =
             let xs = list_at v i in
-            let left : value_of rs (push_place v k) ps ≡ value_of rs (if is_among xs k then v else with_list v i (xs ++ k ∷ [])) ps = ap (λ o. value_of rs (push_by_place v k o) ps) found.1 in
+            let left : value_of (push_place v k) ps ≡ value_of (if is_among xs k then v else with_list v i (xs ++ k ∷ [])) ps = ap (λ o. value_of (push_by_place v k o) ps) found.1 in
             let right : after_push r (entry_id e) ≡ (if is_among (entries_at r i) e then r else with_entries r i (entries_at r i ++ e ∷ [])) = ap (push_by r e) inst in
             elim (cases_Bool (is_among xs k)) [
               | inl t ↦
-                  left ∙ (ap (λ b. value_of rs (if b then v else with_list v i (xs ++ k ∷ [])) ps) t
+                  left ∙ (ap (λ b. value_of (if b then v else with_list v i (xs ++ k ∷ [])) ps) t
                   ∙ sym (right ∙ ap (λ (b : Bool). if b then r else with_entries r i (entries_at r i ++ e ∷ [])) (any_here i ∙ t)))
               | inr n ↦
                   let more : map key (xs ++ k ∷ []) ≡ entries_at r i ++ e ∷ [] =
                   map-append key xs (k ∷ []) ∙ (ap (λ (ys : List ℕ). ys ++ key k ∷ []) (sym (list_read i)) ∙ ap (λ z. entries_at r i ++ z ∷ []) (named_entry _ e (tied.fits e k p))) in
-                  left ∙ (ap (λ b. value_of rs (if b then v else with_list v i (xs ++ k ∷ [])) ps) n
+                  left ∙ (ap (λ b. value_of (if b then v else with_list v i (xs ++ k ∷ [])) ps) n
                   ∙ (changed (xs ++ k ∷ []) (entries_at r i ++ e ∷ []) more
                   ∙ sym (right ∙ ap (λ (b : Bool). if b then r else with_entries r i (entries_at r i ++ e ∷ [])) (any_here i ∙ n))))
             ]
@@ -132,9 +131,9 @@ module _ (rs : List ℕ) (v : Rings) (ps : List (Option PlaceId)) where
         pub place_there : IsSome (place_at v k)
         place_there = some_is _ found.0 found.1
 
-        pub removed_ready : value_of rs (removal_place v k) ps ≡ after_removal r (entry_id e)
+        pub removed_ready : value_of (removal_place v k) ps ≡ after_removal r (entry_id e)
         removed_ready =
-            ap (λ o. value_of rs (removal_by_place v k o) ps) found.1
+            ap (λ o. value_of (removal_by_place v k o) ps) found.1
             ∙ (changed (filter (λ x. not (eqb x k)) (list_at v i)) _ (sym (cut_here i))
             ∙ sym (ap (removal_by r e) inst))
 
@@ -191,7 +190,7 @@ module _ (rs : List ℕ) (v : Rings) (ps : List (Option PlaceId)) where
         inst_alike z None ne q = refl
         inst_alike z (Some m) ne q = ap owner_of (spot_else m.0 (other_key z m.0 ne q))
 
-        pub ready_dropped : LosesPlace r (value_of rs v' ps') (entry_id e)
+        pub ready_dropped : LosesPlace r (value_of v' ps') (entry_id e)
         ready_dropped = record {
           gone = map_read (instance_of v'.places) None None refl ps' e ∙ ap (instance_of v'.places) (none_here ps e);
           others = λ id ne. let z = id.0 in map_read (instance_of v'.places) None None refl ps' z ∙ (ap (instance_of v'.places) (place_else z ne) ∙ (inst_alike z _ ne refl ∙ sym (inst_read z)));
@@ -200,14 +199,13 @@ module _ (rs : List ℕ) (v : Rings) (ps : List (Option PlaceId)) where
               ∙ (ap (map (key_at v'.places)) (cut_at j)
               ∙ (filter_alike (key_at v'.places) key k (list_at v j) (λ x ne. ap key_in (spot_else x ne))
               ∙ sym (cut_here j)));
-          reached = refl;
         }
 
-  pub rotated_ready : (i : ℕ) → value_of rs (rotation_place v i) ps ≡ after_rotation (value_of rs v ps) i
+  pub rotated_ready : (i : ℕ) → value_of (rotation_place v i) ps ≡ after_rotation (value_of v ps) i
   rotated_ready i =
-      let turn : map key (rotation_of (list_at v i)) ≡ rotation_of (entries_at (value_of rs v ps) i) = turned_map key (list_at v i) ∙ ap rotation_of (sym (list_read i)) in
-      let lists : map (map key) (set v.lists i (rotation_of (list_at v i))) ≡ set (map (map key) v.lists) i (rotation_of (entries_at (value_of rs v ps) i)) = map-set (map key) v.lists i _ ∙ ap (λ zs. set (map (map key) v.lists) i zs) turn in
-      λ z. record { places = map (instance_of v.places) ps; lists = lists z; reached = rs }
+      let turn : map key (rotation_of (list_at v i)) ≡ rotation_of (entries_at (value_of v ps) i) = turned_map key (list_at v i) ∙ ap rotation_of (sym (list_read i)) in
+      let lists : map (map key) (set v.lists i (rotation_of (list_at v i))) ≡ set (map (map key) v.lists) i (rotation_of (entries_at (value_of v ps) i)) = map-set (map key) v.lists i _ ∙ ap (λ zs. set (map (map key) v.lists) i zs) turn in
+      λ z. record { places = map (instance_of v.places) ps; lists = lists z }
 
 -- no place is changed by a push or a removal
 pushed_by_places : (v : Rings) (k : ℕ) (o : Option Place) → (push_by_place v k o).places ≡ v.places
@@ -225,7 +223,7 @@ pub removed_places : (v : Rings) (k : ℕ) → (removal_place v k).places ≡ v.
 removed_places v k = removed_by_places v k (place_at v k)
 
 -- the same places and lists
-module _ (rs rs' : List ℕ) (v v' : Rings) (ps ps' : List (Option PlaceId)) (a : SameLists v v') (b : (z : ℕ) → id_at_key ps' z ≡ id_at_key ps z) (walk : rs' ≡ rs) where
+module _ (v v' : Rings) (ps ps' : List (Option PlaceId)) (a : SameLists v v') (b : (z : ℕ) → id_at_key ps' z ≡ id_at_key ps z) where
   pub tied_same : IsTied v.places ps → IsTied v'.places ps'
   tied_same tied = record {
     fits = λ z m h. ap entry_in (sym (a.places m)) ∙ tied.fits z m (sym (b z) ∙ h);
@@ -236,15 +234,14 @@ module _ (rs rs' : List ℕ) (v v' : Rings) (ps ps' : List (Option PlaceId)) (a 
   inst_same None = refl
   inst_same (Some m) = ap owner_of (a.places m.0)
 
-  pub ready_same : Same (value_of rs v ps) (value_of rs' v' ps')
+  pub ready_same : Same (value_of v ps) (value_of v' ps')
   ready_same = record {
-    places = λ id. let z = id.0 in inst_read rs v ps z ∙ (inst_same (id_at_key ps z) ∙ (ap (instance_of v'.places) (sym (b z)) ∙ sym (inst_read rs' v' ps' z)));
-    lists = λ j. list_read rs v ps j ∙ (ap (map (key_at v.places)) (a.lists j) ∙ (map_alike (key_at v.places) (key_at v'.places) (list_at v' j) (λ x h. ap key_in (a.places x)) ∙ sym (list_read rs' v' ps' j)));
-    reached = sym walk;
+    places = λ id. let z = id.0 in inst_read v ps z ∙ (inst_same (id_at_key ps z) ∙ (ap (instance_of v'.places) (sym (b z)) ∙ sym (inst_read v' ps' z)));
+    lists = λ j. list_read v ps j ∙ (ap (map (key_at v.places)) (a.lists j) ∙ (map_alike (key_at v.places) (key_at v'.places) (list_at v' j) (λ x h. ap key_in (a.places x)) ∙ sym (list_read v' ps' j)));
   }
 
 -- a place was made
-module _ (rs rs' : List ℕ) (v v' : Rings) (ps ps1 : List (Option PlaceId)) (tied : IsTied v.places ps) (st : AreSound v) (k i e : ℕ) (a : GainsPlaceId v v' k i e) (b : (z : ℕ) → id_at_key ps1 z ≡ id_at_key ps z) (lt : e < length ps1) (walk : rs' ≡ rs) (free : instance_at (value_of rs v ps) (entry_id e) ≡ None) where
+module _ (v v' : Rings) (ps ps1 : List (Option PlaceId)) (tied : IsTied v.places ps) (st : AreSound v) (k i e : ℕ) (a : GainsPlaceId v v' k i e) (b : (z : ℕ) → id_at_key ps1 z ≡ id_at_key ps z) (lt : e < length ps1) (free : instance_at (value_of v ps) (entry_id e) ≡ None) where
   abbrev ps2 : List (Option PlaceId)
   ps2 = set ps1 e (Some (record { 0 = k }))
 
@@ -255,7 +252,7 @@ module _ (rs rs' : List ℕ) (v v' : Rings) (ps ps1 : List (Option PlaceId)) (ti
       absurd (let no : Some s.0.owner ≡ None = sym (ap owner_of s.1) ∙ h in cc)
 
   no_place : id_at_key ps e ≡ None
-  no_place = free_in _ refl (sym (inst_read rs v ps e) ∙ free)
+  no_place = free_in _ refl (sym (inst_read v ps e) ∙ free)
 
   place_here : id_at_key ps2 e ≡ Some (record { 0 = k })
   place_here = get_or-set_same ps1 e _ None lt
@@ -288,29 +285,28 @@ module _ (rs rs' : List ℕ) (v v' : Rings) (ps ps1 : List (Option PlaceId)) (ti
   inst_else z None q = refl
   inst_else z (Some m) q = ap owner_of (a.others m.0 (not_key m.0 z (tied.fits z m.0 q)))
 
-  pub ready_made : GainsPlace (value_of rs v ps) (value_of rs' v' ps2) i (entry_id e)
+  pub ready_made : GainsPlace (value_of v ps) (value_of v' ps2) i (entry_id e)
   ready_made = record {
-    here = inst_read rs' v' ps2 e ∙ (ap (instance_of v'.places) place_here ∙ ap owner_of a.here);
-    others = λ id ne. let z = id.0 in inst_read rs' v' ps2 z ∙ (ap (instance_of v'.places) (place_else2 z ne) ∙ (inst_else z _ refl ∙ sym (inst_read rs v ps z)));
-    lists = λ j. list_read rs' v' ps2 j ∙ (ap (map (key_at v'.places)) (a.lists j)
+    here = inst_read v' ps2 e ∙ (ap (instance_of v'.places) place_here ∙ ap owner_of a.here);
+    others = λ id ne. let z = id.0 in inst_read v' ps2 z ∙ (ap (instance_of v'.places) (place_else2 z ne) ∙ (inst_else z _ refl ∙ sym (inst_read v ps z)));
+    lists = λ j. list_read v' ps2 j ∙ (ap (map (key_at v'.places)) (a.lists j)
         ∙ (map_alike (key_at v'.places) (key_at v.places) (list_at v j) (λ x h. ap key_in (a.others x (not_key x _ (home_named _ j (st.own j x h)))))
-        ∙ sym (list_read rs v ps j)));
-    reached = walk;
+        ∙ sym (list_read v ps j)));
   }
 
 some_not : (o : Option ℕ) → o ≡ None → IsSome o → ⊥
 some_not None e h = search Rattle.std.proofs.Common.rules
 some_not (Some p) e h = absurd (cc)
 
-pub within : (rs : List ℕ) (v : Rings) (ps : List (Option PlaceId)) (e : ℕ) → IsSome (instance_at (value_of rs v ps) (entry_id e)) → e < length ps
-within rs v ps e h = elim (cases_lt e (length ps)) [
+pub within : (v : Rings) (ps : List (Option PlaceId)) (e : ℕ) → IsSome (instance_at (value_of v ps) (entry_id e)) → e < length ps
+within v ps e h = elim (cases_lt e (length ps)) [
   | inl l ↦ l
-  | inr g ↦ absurd (some_not _ (inst_read rs v ps e ∙ ap (instance_of v.places) (get_or_past ps e None g)) h)
+  | inr g ↦ absurd (some_not _ (inst_read v ps e ∙ ap (instance_of v.places) (get_or_past ps e None g)) h)
 ]
 
 -- the place that the code read
-pub read_place : (rs : List ℕ) (v : Rings) (ps : List (Option PlaceId)) (e : ℕ) (o : Option PlaceId) (p : PlaceId) → IsSome (instance_at (value_of rs v ps) (entry_id e)) → o ≡ get_or ps e o → o ≡ Some p → id_at_key ps e ≡ Some p
-read_place rs v ps e o p h read is = sym (get_or_read ps e o (within rs v ps e h) read None) ∙ is
+pub read_place : (v : Rings) (ps : List (Option PlaceId)) (e : ℕ) (o : Option PlaceId) (p : PlaceId) → IsSome (instance_at (value_of v ps) (entry_id e)) → o ≡ get_or ps e o → o ≡ Some p → id_at_key ps e ≡ Some p
+read_place v ps e o p h read is = sym (get_or_read ps e o (within v ps e h) read None) ∙ is
 
 entry_alike : (o : Option Place) → id_of o ≡ record { 0 = key_in o }
 entry_alike None = refl
@@ -320,8 +316,8 @@ ids_alike : (v : Rings) (xs : List ℕ) → map (id_at v) xs ≡ ids (map (key_a
 ids_alike v [] = refl
 ids_alike v (x ∷ xs) = ap (λ z. z ∷ map (id_at v) xs) (entry_alike (place_at v x)) ∙ ap (λ ys. record { 0 = key_at v.places x } ∷ ys) (ids_alike v xs)
 
-pub shown_ids : (rs : List ℕ) (v : Rings) (ps : List (Option PlaceId)) (i : ℕ) → map (id_at v) (list_at v i) ≡ ids (entries_at (value_of rs v ps) i)
-shown_ids rs v ps i = ids_alike v (list_at v i) ∙ ap ids (sym (list_read rs v ps i))
+pub shown_ids : (v : Rings) (ps : List (Option PlaceId)) (i : ℕ) → map (id_at v) (list_at v i) ≡ ids (entries_at (value_of v ps) i)
+shown_ids v ps i = ids_alike v (list_at v i) ∙ ap ids (sym (list_read v ps i))
 
 pub front_is : (xs : List ℕ) (s t : List EntryId) (r : Option EntryId) → s ≡ ids xs → TakesFirst (λ id. id) s r t → r ≡ front_in xs
 front_is [] s t None e h = refl
@@ -333,31 +329,5 @@ has_in : (v : Rings) (ps : List (Option PlaceId)) (e : ℕ) → IsTied v.places 
 has_in v ps e tied None q = refl
 has_in v ps e tied (Some m) q = let s = named_spot _ e (tied.fits e m.0 q) in sym (ap (λ o. is_some (owner_of o)) s.1)
 
-pub has_read : (rs : List ℕ) (v : Rings) (ps : List (Option PlaceId)) (e : ℕ) → IsTied v.places ps → is_some (id_at_key ps e) ≡ is_some (instance_at (value_of rs v ps) (entry_id e))
-has_read rs v ps e tied = has_in v ps e tied _ refl ∙ ap is_some (sym (inst_read rs v ps e))
-
--- the room of the walk
-pub room_more : (places : List (Option Place)) (room room' : ℕ) → HasRoom places room → room ≤ room' → HasRoom places room'
-room_more places room room' has le k i h = let lt = has k i h in omega (arith, lt, le)
-
-pub room_dropped : (places : List (Option Place)) (room k : ℕ) → HasRoom places room → HasRoom (set places k None) room
-room_dropped places room k has z i h = elim (cases_eq z k) [
-  | inl same ↦ absurd (let no : None ≡ Some i = sym (ap owner_of (none_here places k)) ∙ (ap (λ n. owner_of (at_key (set places k None) n)) (sym same) ∙ h) in cc)
-  | inr ne ↦ has z i (ap owner_of (sym (get_or-set_other places k z None None ne)) ∙ h)
-]
-
-pub room_made : (v v' : Rings) (room k i e : ℕ) → HasRoom v.places room → i < room → GainsPlaceId v v' k i e → HasRoom v'.places room
-room_made v v' room k i e has lt a z j h = elim (cases_eq z k) [
-  | inl same ↦ let is : i ≡ j = same_some i j (sym (ap owner_of a.here) ∙ (ap (λ n. owner_of (at_key v'.places n)) (sym same) ∙ h)) in subst (λ n. n < room) is lt
-  | inr ne ↦ has z j (ap owner_of (sym (a.others z ne)) ∙ h)
-]
-
-pub room_same : (v w : Rings) (room : ℕ) → HasRoom v.places room → SameLists v w → HasRoom w.places room
-room_same v w room has a z j h = has z j (ap owner_of (a.places z) ∙ h)
-
-room_in : (v : Rings) (room i : ℕ) (o : Option PlaceId) → HasRoom v.places room → instance_of v.places o ≡ Some i → i < room
-room_in v room i None has h = absurd (cc)
-room_in v room i (Some p) has h = has p.0 i h
-
-pub has_room : (rs : List ℕ) (v : Rings) (ps : List (Option PlaceId)) (room i : ℕ) → HasRoom v.places room → HasPlace (value_of rs v ps) i → i < room
-has_room rs v ps room i has h = room_in v room i (id_at_key ps h.0.0) has (sym (inst_read rs v ps h.0.0) ∙ h.1)
+pub has_read : (v : Rings) (ps : List (Option PlaceId)) (e : ℕ) → IsTied v.places ps → is_some (id_at_key ps e) ≡ is_some (instance_at (value_of v ps) (entry_id e))
+has_read v ps e tied = has_in v ps e tied _ refl ∙ ap is_some (sym (inst_read v ps e))

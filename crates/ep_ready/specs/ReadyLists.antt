@@ -9,7 +9,6 @@ use Rattle.ep_rings.specs.Rings.{rotation_of}
 pub record Lists : Type 0 where
   pub places : List (Option ℕ)  -- the instance of each registration that has a place
   pub lists : List (List ℕ)  -- the registrations on the list of each instance, in order
-  pub reached : List ℕ  -- the instances that the walk has reached, in order
 
 abbrev pub entry_id : ℕ → EntryId
 entry_id k = record { 0 = k }
@@ -17,9 +16,9 @@ entry_id k = record { 0 = k }
 abbrev pub ids : List ℕ → List EntryId
 ids ks = map entry_id ks
 
--- no place, no list and no walk
+-- no place and no list
 abbrev pub empty : Lists
-empty = record { places = []; lists = []; reached = [] }
+empty = record { places = []; lists = [] }
 
 abbrev pub list_at : Lists → ℕ → List ℕ
 list_at l i = slice_index_or l.lists i []
@@ -66,39 +65,27 @@ front_in (k ∷ ks) = Some (entry_id k)
 abbrev pub front_of : Lists → ℕ → Option EntryId
 front_of l i = front_in (list_at l i)
 
--- the walk reaches an instance, once
-abbrev pub after_reach : Lists → ℕ → Lists
-after_reach l i = if is_among l.reached i then l else record l { reached = l.reached ++ i ∷ [] }
-
--- each place, each list and the walk are the same; how many keys have room is not said
+-- each place and each list are the same; how many keys have room is not said
 pub record Same (a b : Lists) : Type 0 where
   pub places : (id : EntryId) → instance_at a id ≡ instance_at b id
   pub lists : (i : ℕ) → list_at a i ≡ list_at b i
-  pub reached : a.reached ≡ b.reached
 
--- the registration has a place of the instance, and each other place, each list and the walk are what they were
+-- the registration has a place of the instance, and each other place and each list are what they were
 pub record GainsPlace (old new : Lists) (instance : ℕ) (entry : EntryId) : Type 0 where
   pub here : instance_at new entry ≡ Some instance
   pub others : (id : EntryId) → id.0 ≢ entry.0 → instance_at new id ≡ instance_at old id
   pub lists : (i : ℕ) → list_at new i ≡ list_at old i
-  pub reached : new.reached ≡ old.reached
 
--- the registration has no place and stands on no list, and each other place, what else is listed and the walk are
--- what they were
+-- the registration has no place and stands on no list, and each other place and what else is listed are what they
+-- were
 pub record LosesPlace (old new : Lists) (entry : EntryId) : Type 0 where
   pub gone : instance_at new entry ≡ None
   pub others : (id : EntryId) → id.0 ≢ entry.0 → instance_at new id ≡ instance_at old id
   pub lists : (i : ℕ) → list_at new i ≡ filter (λ x. not (x == entry.0)) (list_at old i)
-  pub reached : new.reached ≡ old.reached
 
--- no list has a registration twice, what stands on a list has a place of its instance, the instance of a place has a
--- list, and no instance is reached twice
+-- no list has a registration twice, what stands on a list has a place of its instance, and the instance of a place
+-- has a list
 pub record IsSound (l : Lists) : Type 0 where
   pub once : (i : ℕ) → are_distinct (list_at l i) ≡ true
   pub own : (i : ℕ) (id : EntryId) → is_among (list_at l i) id.0 ≡ true → instance_at l id ≡ Some i
   pub within : (id : EntryId) (i : ℕ) → instance_at l id ≡ Some i → i < length l.lists
-  pub walk : are_distinct l.reached ≡ true
-
--- some registration has a place of the instance
-abbrev pub HasPlace : Lists → ℕ → Type 0
-HasPlace l i = (id : EntryId) × (instance_at l id ≡ Some i)

@@ -1,5 +1,5 @@
 -- How places stand for registrations.
-use Rattle.std.specs.Prelude.{◌≡◌, ℕ, ◌<◌, List, Option, Some, None, slice_index_or, map}
+use Rattle.std.specs.Prelude.{◌≡◌, ℕ, List, Option, Some, None, slice_index_or, map}
 use Rattle.ep_rings.specs.declared.rings.PlaceId.{PlaceId}
 use Rattle.ep_rings.specs.Rings.{Place, Rings, owner_of}
 use Rattle.ep_ready.specs.ReadyLists.{Lists}
@@ -27,19 +27,11 @@ abbrev pub instance_of : List (Option Place) → Option PlaceId → Option ℕ
 instance_of places None = None
 instance_of places (Some p) = owner_of (at_key places p.0)
 
--- what the walk, the rings and the places of registrations mean
-abbrev pub value_of : List ℕ → Rings → List (Option PlaceId) → Lists
-value_of reached v ids = record { places = map (instance_of v.places) ids; lists = map (map (key_at v.places)) v.lists; reached = reached }
+-- what the rings and the places of registrations mean
+abbrev pub value_of : Rings → List (Option PlaceId) → Lists
+value_of v ids = record { places = map (instance_of v.places) ids; lists = map (map (key_at v.places)) v.lists }
 
 -- a place is a registration's exactly where the registration's place it is
 pub record IsTied (places : List (Option Place)) (ids : List (Option PlaceId)) : Type 0 where
   pub fits : (e k : ℕ) → id_at_key ids e ≡ Some (record { 0 = k }) → entry_in (at_key places k) ≡ Some e
   pub back : (e k : ℕ) → entry_in (at_key places k) ≡ Some e → id_at_key ids e ≡ Some (record { 0 = k })
-
--- an instance that has a place has room in the walk
-abbrev pub HasRoom : List (Option Place) → ℕ → Type 0
-HasRoom places room = (k i : ℕ) → owner_of (at_key places k) ≡ Some i → i < room
-
-pub record IsReady (places : List (Option Place)) (ids : List (Option PlaceId)) (room : ℕ) : Type 0 where
-  pub tied : IsTied places ids
-  pub within : HasRoom places room

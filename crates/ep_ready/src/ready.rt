@@ -1,36 +1,32 @@
-//! One list of registrations for each instance, by their own keys, and the instances that a walk has reached.
-ghost use Rattle.std.specs.Prelude.{◌≡◌, ◌<◌, ℕ, None, Some, IsSome, is_some, not, OnOk, OnErr, [], length, slice_get, slice_index_or};
+//! One list of registrations for each instance, by their own keys.
+ghost use Rattle.std.specs.Prelude.{◌≡◌, ◌<◌, ℕ, None, IsSome, is_some, OnOk, OnErr, length, slice_index_or};
 ghost use Rattle.std.specs.Map.Iter.{ShowsInOrder};
 ghost use Rattle.ep_base.specs.declared.ids.EntryId.{EntryId};
-ghost use Rattle.ep_machine.specs.Lists.{is_among};
-ghost use Rattle.ep_ready.specs.ReadyLists.{GainsPlace, HasPlace, IsSound, LosesPlace, Same, after_push, after_reach, after_removal, after_rotation, empty, front_of, ids, instance_at, list_at, stands};
+ghost use Rattle.ep_ready.specs.ReadyLists.{GainsPlace, IsSound, LosesPlace, Same, after_push, after_removal, after_rotation, empty, front_of, ids, instance_at, list_at, stands};
 
-use crate::walk::Walk;
 use ep_base::{DescId, EntryId};
 use ep_rings::{Iter, PlaceId, Rings};
 use std::alloc::{AllocError, Allocator, Global};
 use std::marker::Model;
 
 /// One list of registrations for each instance. A registration with a place stands on its instance's list or on none.
-/// Beside them stand the instances that a walk has reached. Each call but `make_place`, `forget_reached` and a walk
-/// of `iter` takes constant time. Memory comes from `A`.
+/// Each call but `make_place` and a walk of `iter` takes constant time. Memory comes from `A`.
 #[derive(Drop)]
 pub struct ReadyLists<A: Allocator = Global> {
     rings: Rings<A>,
     // The place of each registration, by its key.
     places: Vec<Option<PlaceId>, A>,
-    walk: Walk<A>,
 }
 
 impl<A: Allocator> Model for ReadyLists<A> {
     ghost use Rattle.ep_ready.specs.ReadyLists.{Lists};
-    ghost use Rattle.ep_ready.specs.Tied.{IsReady, value_of};
+    ghost use Rattle.ep_ready.specs.Tied.{IsTied, value_of};
 
     ghost Value = { Lists };
 
-    ghost view = { λ r. value_of r.walk.reached r.rings r.places.items };
+    ghost view = { λ r. value_of r.rings r.places.items };
 
-    ghost invariant = { λ r. IsReady r.rings.places r.places.items r.walk.room };
+    ghost invariant = { λ r. IsTied r.rings.places r.places.items };
 }
 
 /// Adds the keys that are missing up to a registration's. No key has another place after it, whatever the result.
@@ -49,7 +45,7 @@ fn add_keys<A: Allocator>(
 }
 
 impl<A: Allocator> ReadyLists<A> {
-    /// No place, no list and no walk, which takes no memory.
+    /// No place and no list, which takes no memory.
     pub fn new(alloc: A) -> Self
     where
         A: Copy,
@@ -58,17 +54,15 @@ impl<A: Allocator> ReadyLists<A> {
         ReadyLists {
             rings: Rings::new(alloc),
             places: Vec::new(alloc),
-            walk: Walk::new(alloc),
         }
     }
 
     /// What holds of all ready lists: none has a registration twice, what stands on one has a place of its instance,
-    /// the instance of a place has a list, and no instance is reached twice.
+    /// and the instance of a place has a list.
     pub fn known(&self)
         ensures { IsSound self.now }
     {
         self.rings.known();
-        self.walk.known();
     }
 
     /// Whether a registration has a place.
@@ -95,16 +89,14 @@ impl<A: Allocator> ReadyLists<A> {
         }
     }
 
-    /// Gives a registration a place that stands on no list, and the walk room for its instance. `AllocError` where
-    /// there is no memory, and then each place, each list and the walk are what they were. No other call takes
-    /// memory.
+    /// Gives a registration a place that stands on no list. `AllocError` where there is no memory, and then each place
+    /// and each list are what they were. No other call takes memory.
     pub fn make_place(&mut self, instance: DescId, entry: EntryId) -> Result<(), AllocError>
         requires free { instance_at self.old entry ≡ None }
         ensures made { OnOk result (GainsPlace self.old self.new instance.0 entry) }
         ensures refused { OnErr result (Same self.old self.new) }
     {
         self.rings.known();
-        self.walk.make_room(instance.0)?;
         add_keys(&mut self.places, entry.0)?;
         let place = self.rings.make_place(instance, entry)?;
         self.places[entry.0] = Some(place);
@@ -173,37 +165,5 @@ impl<A: Allocator> ReadyLists<A> {
         ensures runs { ShowsInOrder (λ (id : EntryId). id) }
     {
         self.rings.iter(instance)
-    }
-
-    /// Whether the walk had not reached an instance yet, which it has now. The instance is one of a registration that
-    /// has a place.
-    pub fn reach(&mut self, instance: DescId) -> bool
-        requires { HasPlace self.old instance.0 }
-        ensures answer { result ≡ not (is_among self.old.reached instance.0) }
-        ensures walk { self.new ≡ after_reach self.old instance.0 }
-    {
-        self.walk.reach(instance.0)
-    }
-
-    /// How many instances the walk has reached.
-    pub fn reached_count(&self) -> usize
-        ensures { result ≡ length self.now.reached }
-    {
-        self.walk.count()
-    }
-
-    /// The instance that the walk reached as the one with this index, from 0 on.
-    pub fn reached_at(&self, index: usize) -> DescId
-        requires { index < length self.now.reached }
-        ensures { slice_get self.now.reached index ≡ Some result.0 }
-    {
-        DescId(self.walk.at(index))
-    }
-
-    /// Ends the walk: no instance is reached. The time grows with how many were.
-    pub fn forget_reached(&mut self)
-        ensures { self.new ≡ record self.old { reached = [] } }
-    {
-        self.walk.forget();
     }
 }

@@ -1,7 +1,7 @@
-//! Ready lists: each call once, and the growth of `make_place` refused over heaps of rising size.
+//! Ready lists and walks: each call once, and the growth of `make_place` refused over heaps of rising size.
 
 use ep_base::{DescId, EntryId};
-use ep_ready::ReadyLists;
+use ep_ready::{ReadyLists, Walk};
 use linked_list_allocator::LocalHeap;
 use std::alloc::{AllocError, Allocator};
 use std::process::Abort;
@@ -67,15 +67,16 @@ fn loses(rt: &impl Abort, lists: &mut ReadyLists, entry: EntryId) {
 
 #[test]
 fn reaches_an_instance_once(rt: HostRuntime) -> Result<(), Fail> {
-    let mut lists = ReadyLists::new(rt.alloc());
-    lists.make_place(DescId(3), EntryId(0))?;
-    assert!(rt; lists.reach(DescId(3)));
-    assert!(rt; lists.reached_count() == 1);
-    if lists.reached_count() > 0 {
-        assert!(rt; lists.reached_at(0).0 == 3);
+    let mut walk = Walk::new(rt.alloc());
+    walk.make_room(3)?;
+    assert!(rt; walk.reach(3));
+    assert!(rt; walk.has(3) && !walk.has(2));
+    assert!(rt; walk.count() == 1);
+    if walk.count() > 0 {
+        assert!(rt; walk.at(0) == 3);
     }
-    lists.forget_reached();
-    assert!(rt; lists.reached_count() == 0);
+    walk.forget();
+    assert!(rt; walk.count() == 0);
     Ok(())
 }
 

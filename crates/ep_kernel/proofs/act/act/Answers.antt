@@ -9,6 +9,7 @@ use Rattle.ep_calls.specs.Does.{DoesEvent, DoesEventIf}
 use Rattle.ep_calls.specs.Last.{NothingRefuses}
 use Rattle.ep_calls.proofs.LastLemmas.{past_last}
 use Rattle.ep_calls.specs.Parts.{Parts}
+use Rattle.ep_kernel.proofs.RoomLemmas.{room_within}
 use Rattle.ep_kernel.proofs.PickLemmas.{event_does_if}
 use Rattle.ep_kernel.proofs.ReportsFirstLemmas.{is_wait, other_reports, refused_reports}
 use Rattle.ep_kernel.proofs.HopesGoLemmas.{hopes_same, hopes_stay}
@@ -154,15 +155,18 @@ returns-in-Tick-clause-clock c =
     subst (λ (event : Event). MovesClock event c.tick.result.raising p.clock now) (sym c.in-Tick.is) (tick_moves c.in-Tick.n p.clock now c.tick.result.answer c.tick.result.raising c.tick.ensures.ticks c.tick.ensures.raising)
 
 pub returns-then-not-has_process-clause-hopes : goal.returns-then-not-has_process-clause-hopes
-returns-then-not-has_process-clause-hopes c = hopes_stay c.args.event.now c.args.parts.now c.args.parts.now c.args.asked.now.hopes refl c.requires.hopes
+returns-then-not-has_process-clause-hopes c = hopes_stay c.args.event.now c.args.parts.now c.args.parts.now c.args.notes.now.asked.hopes refl c.requires.hopes
 
 pub returns-then-is_parked-clause-hopes : goal.returns-then-is_parked-clause-hopes
-returns-then-is_parked-clause-hopes c = hopes_stay c.args.event.now c.args.parts.now c.args.parts.now c.args.asked.now.hopes refl c.requires.hopes
+returns-then-is_parked-clause-hopes c = hopes_stay c.args.event.now c.args.parts.now c.args.parts.now c.args.notes.now.asked.hopes refl c.requires.hopes
 
 pub returns-in-Tick-clause-hopes : goal.returns-in-Tick-clause-hopes
 returns-in-Tick-clause-hopes c =
     let p = c.args.parts.now in
     let q = c.tick.new.self in
-    let h = c.args.asked.now.hopes in
+    let h = c.args.notes.now.asked.hopes in
     hopes_same c.args.event.now p q h c.requires.hopes (ap (λ (r : Parts). r.interest) c.tick.ensures.others)
     (subst (λ (event : Event). AlteredStand event p q h) (sym c.in-Tick.is) tt)
+
+pub returns-in-Resume-clause-walk : goal.returns-in-Resume-clause-walk
+returns-in-Resume-clause-walk c = room_within c.args.notes.now.asked.hopes c.resume.new.asked.hopes c.args.notes.now.reached c.resume.ensures.within c.requires.walk

@@ -11,6 +11,7 @@ use Rattle.ep_calls.specs.Does.{DoesCallIf}
 use Rattle.ep_calls.specs.Last.{NothingRefusesCall}
 use Rattle.ep_calls.specs.ObjectCall.{fd_of}
 use Rattle.ep_calls.specs.TableCall.{IsTableCall}
+use Rattle.ep_kernel.proofs.RoomLemmas.{room_within}
 use Rattle.ep_kernel.proofs.PickLemmas.{call_does_if}
 use Rattle.ep_kernel.proofs.ReportsFirstLemmas.{is_wait, object_waits, other_reports, table_waits}
 use Rattle.ep_kernel.proofs.HopesGoLemmas.{hopes_same}
@@ -36,9 +37,10 @@ returns-in_default c =
       clock = c.table_call.ensures.clock;
       turns = IfOk-weaker c.table_call.result _ _ (λ outcome none. same_turns (CallOf c.args.pid call) outcome.picked p c.table_call.new.self l c.requires.listed c.table_call.ensures.interest none (table_altered c.args.pid call p c.table_call.new.self l on_tables)) c.table_call.ensures.picked;
       order = IfOk-weaker c.table_call.result _ _ (λ outcome none. other_reports l c.args.request.step c.args.request.caller.0 (CallOf c.args.pid call) outcome p c.table_call.new.self l (table_waits c.args.pid call on_tables)) c.table_call.ensures.picked;
-      hopes = hopes_same (CallOf c.args.pid call) p c.table_call.new.self c.args.asked.now.hopes c.requires.hopes c.table_call.ensures.interest (table_altered c.args.pid call p c.table_call.new.self c.args.asked.now.hopes on_tables);
+      hopes = hopes_same (CallOf c.args.pid call) p c.table_call.new.self c.args.notes.now.asked.hopes c.requires.hopes c.table_call.ensures.interest (table_altered c.args.pid call p c.table_call.new.self c.args.notes.now.asked.hopes on_tables);
       last = c.table_call.ensures.last;
       room = c.table_call.ensures.room;
+      walk = c.requires.walk;
       spared = λ h. c.table_call.ensures.frees (table_call_frees p.tables.files c.args.pid.0 call on_tables h);
       err = on_err_weaker c.table_call.result (λ same. (same, same_lists l)) c.table_call.ensures.err;
     }
@@ -132,6 +134,9 @@ pub returns-in-Read-clause-hopes : goal.returns-in-Read-clause-hopes
 returns-in-Read-clause-hopes c =
     let p = c.args.parts.now in
     let q = c.object_call.new.self in
-    let h = c.args.asked.now.hopes in
+    let h = c.args.notes.now.asked.hopes in
     let on_object : IsSome (fd_of c.args.call.now) = search rules in
     hopes_same (CallOf c.args.pid c.args.call.now) p q h c.requires.hopes c.object_call.ensures.interest (object_altered c.args.pid c.args.call.now p q h on_object)
+
+pub returns-in-EpollWait-clause-walk : goal.returns-in-EpollWait-clause-walk
+returns-in-EpollWait-clause-walk c = room_within c.args.notes.now.asked.hopes c.epoll_wait.new.asked.hopes c.args.notes.now.reached c.epoll_wait.ensures.within c.requires.walk

@@ -1,4 +1,5 @@
 use Rattle.ep_alarms.proofs.ChangesLemmas.{controls_leave}
+use Rattle.ep_kernel.proofs.RoomLemmas.{within_settled}
 use Rattle.ep_kernel.proofs.ControlTurnsLemmas.{found_placed, settled_at, sound_at, turns_altered}
 use Rattle.ep_kernel.proofs.HopesGoLemmas.{hopes_altered, hopes_stay}
 use Rattle.ep_base.specs.declared.call.Event.TheVariants.{Call as CallOf}
@@ -24,3 +25,6 @@ returns-clause-hopes c =
 
 pub returns-in_err-outcome-clause-hopes : goal.returns-in_err-outcome-clause-hopes
 returns-in_err-outcome-clause-hopes c = hopes_stay (CallOf c.args.pid (control_call c.args.args)) c.args.parts.now c.control.new.self c.args.asked.now.hopes c.in_err-outcome.ensures.err c.requires.hopes
+
+pub returns-clause-within : goal.returns-clause-within
+returns-clause-within c = within_settled c.in-Some.id _ c.in_ok-outcome.outcome.raising c.args.asked.now.hopes c.settle-2.new.lists c.settle-2.ensures

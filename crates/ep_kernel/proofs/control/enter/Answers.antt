@@ -25,7 +25,7 @@ pub returns-in-Delete-clause-hopes : goal.returns-in-Delete-clause-hopes
 returns-in-Delete-clause-hopes c =
     let p = c.args.parts.now in
     let q = c.control.new.self in
-    let h = c.args.asked.now.hopes in
+    let h = c.args.notes.now.asked.hopes in
     either_way c.control.result (IfOk-weaker c.control.result _ _ (λ outcome controls. hopes_missed c.args.pid c.args.args c.args.plan outcome p q h c.requires.hopes controls c.requires.found Delete c.in-Delete.is (λ h. h)) c.control.ensures.controls)
     (on_err_weaker c.control.result (λ same. hopes_stay (CallOf c.args.pid (control_call c.args.args)) p q h same c.requires.hopes) c.control.ensures.err)
 
@@ -33,6 +33,6 @@ pub returns-in-Modify-clause-hopes : goal.returns-in-Modify-clause-hopes
 returns-in-Modify-clause-hopes c =
     let p = c.args.parts.now in
     let q = c.control-in-Modify.new.self in
-    let h = c.args.asked.now.hopes in
+    let h = c.args.notes.now.asked.hopes in
     either_way c.control-in-Modify.result (IfOk-weaker c.control-in-Modify.result _ _ (λ outcome controls. hopes_missed c.args.pid c.args.args c.args.plan outcome p q h c.requires.hopes controls c.requires.found Modify c.in-Modify.is (λ h. h)) c.control-in-Modify.ensures.controls)
     (on_err_weaker c.control-in-Modify.result (λ same. hopes_stay (CallOf c.args.pid (control_call c.args.args)) p q h same c.requires.hopes) c.control-in-Modify.ensures.err)

@@ -1,7 +1,8 @@
 use Rattle.std.proofs.Common.{ap, map, subst, sym}
 use Rattle.ep_calls.specs.Parts.{Parts}
 use Rattle.ep_kernel.proofs.AskedLemmas.{knows_forgotten}
-use Rattle.ep_kernel.proofs.MarkLemmas.{hopes_marked, knows_marked, knows_unmarked, marked_all, ready_in}
+use Rattle.ep_climb.proofs.MarkLemmas.{marked_all, ready_in}
+use Rattle.ep_kernel.proofs.MarkLemmas.{hopes_marked, knows_marked, knows_unmarked}
 use Rattle.ep_kernel.proofs.mark.mark.Goals as goal
 use Rattle.ep_kernel.specs.Listed.{HopesFor}
 use Rattle.ep_machine.specs.Waits.{marked_if_due}
@@ -20,7 +21,7 @@ pub returns-clause-marks : goal.returns-clause-marks
 returns-clause-marks c =
     let p = c.args.parts.now in
     ap (λ (q : Parts). q.parked)
-    (marked_all p c.mark_due.new.parts c.mark_reached.new.parts c.mark_attended.new.parts c.args.lists.now c.args.attend c.mark_due.ensures c.mark_reached.ensures.marks c.mark_attended.ensures.marks c.requires.reached
+    (marked_all p c.mark_due.new.parts c.mark_reached.new.parts c.mark_attended.new.parts c.args.reached.now.reached c.args.attend c.mark_due.ensures c.mark_reached.ensures.marks c.mark_attended.ensures.marks c.requires.reached
     (c.unmarked_in_turn.ensures (ready_in p) (map (marked_if_due p.clock) p.parked)))
 
 pub returns-clause-hopes : goal.returns-clause-hopes

@@ -1,6 +1,6 @@
 use Rattle.std.proofs.Common.{◌≡◌, ◌∙◌, IsSome, ap, false, subst, sym}
 use Rattle.ep_calls.specs.Parts.{Parts}
-use Rattle.ep_kernel.proofs.MarkLemmas.{coherent_longest, lives_where, ready_in, unwaited, with_parked}
+use Rattle.ep_climb.proofs.MarkLemmas.{coherent_longest, lives_where, ready_in, unwaited, with_parked}
 use Rattle.ep_kernel.proofs.mark.mark_at.Goals as goal
 use Rattle.ep_machine.specs.Waits.{waits_at}
 use Rattle.ep_table.specs.Value.{number_under}

@@ -1,5 +1,5 @@
 use Rattle.ep_kernel.proofs.PushLemmas.{gains_one}
-use Rattle.ep_kernel.proofs.SetLemmas.{some_of}
+use Rattle.ep_climb.proofs.SetLemmas.{some_of}
 use Rattle.ep_kernel.proofs.push.join.Goals as goal
 use Rattle.ep_ready.specs.ReadyLists.{instance_at}
 

@@ -5,6 +5,6 @@ use Rattle.ep_kernel.proofs.push.push_nested.Given as goal
 
 abbrev pub invariant-loop-index : goal.invariant-loop-index
 invariant-loop-index l = record {
-  gains : Gains (λ k. list_any (λ i. comes_on l.parts (record { 0 = i }) k) (take l.index l.fn.lists.reached)) l.fn.lists l.lists;
-  hopes : Gains (λ k. list_any (λ i. comes_on l.parts (record { 0 = i }) k) (take l.index l.fn.lists.reached)) l.fn.hopes l.hopes;
+  gains : Gains (λ k. list_any (λ i. comes_on l.parts (record { 0 = i }) k) (take l.index l.reached.reached)) l.fn.lists l.lists;
+  hopes : Gains (λ k. list_any (λ i. comes_on l.parts (record { 0 = i }) k) (take l.index l.reached.reached)) l.fn.hopes l.hopes;
 }

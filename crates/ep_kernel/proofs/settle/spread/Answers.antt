@@ -3,6 +3,7 @@ use Rattle.ep_alarms.specs.Alarms.{AreSet, LosesDying as LosesTimers}
 use Rattle.ep_calls.specs.Burial.{Burial}
 use Rattle.ep_calls.specs.Parts.{Parts}
 use Rattle.ep_calls.specs.Ends.{Leaves}
+use Rattle.ep_kernel.proofs.RoomLemmas.{room_within, roomy_for, same_room, within_gained, within_lost}
 use Rattle.ep_kernel.proofs.SurvivalLemmas.{places_left}
 use Rattle.ep_kernel.specs.Places.{LosesDying}
 use Rattle.ep_ready.specs.ReadyLists.{Lists}
@@ -37,8 +38,25 @@ climb-requires-clause-places c =
 
 pub climb-requires-clause-hopes : goal.climb-requires-clause-hopes
 climb-requires-clause-hopes c =
-    places_left c.args.step c.args.raising c.args.parts.now c.raise.new.parts.interest c.bury.new.self (leaves (goal.at.climb-requires-clause-hopes c).After-know-3) c.args.asked.now.hopes c.drop_dying.new.hopes
-    (subst (λ (p : Parts). LosesDying p.tables p.interest c.args.asked.now.hopes c.drop_dying.new.hopes) c.raise.ensures.others c.drop_dying.ensures.hopes) c.requires.hopes
+    places_left c.args.step c.args.raising c.args.parts.now c.raise.new.parts.interest c.bury.new.self (leaves (goal.at.climb-requires-clause-hopes c).After-know-3) c.args.notes.now.asked.hopes c.drop_dying.new.hopes
+    (subst (λ (p : Parts). LosesDying p.tables p.interest c.args.notes.now.asked.hopes c.drop_dying.new.hopes) c.raise.ensures.others c.drop_dying.ensures.hopes) c.requires.hopes
+
+pub climb-requires-clause-room : goal.climb-requires-clause-room
+climb-requires-clause-room c =
+    let h = c.drop_dying.new.hopes in
+    let places =
+    places_left c.args.step c.args.raising c.args.parts.now c.raise.new.parts.interest c.bury.new.self (leaves (goal.at.climb-requires-clause-room c).After-know-3) c.args.notes.now.asked.hopes h
+    (subst (λ (p : Parts). LosesDying p.tables p.interest c.args.notes.now.asked.hopes h) c.raise.ensures.others c.drop_dying.ensures.hopes) c.requires.hopes in
+    roomy_for c.bury.new.self.interest h c.args.notes.now.reached places (room_within c.args.notes.now.asked.hopes h c.args.notes.now.reached (within_lost _ c.args.notes.now.asked.hopes h c.drop_dying.ensures.hopes.places) c.requires.room)
+
+pub returns-clause-room : goal.returns-clause-room
+returns-clause-room c =
+    let h = c.args.notes.now.asked.hopes in
+    let mid = c.drop_dying.new.hopes in
+    let k = c.climb.new.hopes in
+    let w = c.args.notes.now.reached in
+    let left = room_within h mid w (within_lost _ h mid c.drop_dying.ensures.hopes.places) c.requires.room in
+    same_room k w c.climb.new.reached c.climb.ensures.room (room_within mid k w (within_gained _ mid k c.climb.ensures.hopes) left)
 
 pub returns-clause-spreads : goal.returns-clause-spreads
 returns-clause-spreads c =
@@ -56,7 +74,7 @@ returns-clause-spreads c =
         others = c.climb.ensures.others;
       };
       lists = record { between = c.drop_dying.new.lists; loses = lost c.args.lists.now c.drop_dying.new.lists c.drop_dying.ensures.loses; gains = c.climb.ensures.gains };
-      hopes = record { between = c.drop_dying.new.hopes; loses = lost c.args.asked.now.hopes c.drop_dying.new.hopes c.drop_dying.ensures.hopes; gains = c.climb.ensures.hopes };
+      hopes = record { between = c.drop_dying.new.hopes; loses = lost c.args.notes.now.asked.hopes c.drop_dying.new.hopes c.drop_dying.ensures.hopes; gains = c.climb.ensures.hopes };
       reached = c.climb.ensures.reached;
     }
 

@@ -5,6 +5,7 @@ use Rattle.ep_base.specs.declared.call.Event.TheVariants.{Call as CallOf}
 use Rattle.ep_calls.specs.Parts.{Parts}
 use Rattle.ep_calls.specs.Wait.{IsPick, Waits, wait_call}
 use Rattle.ep_interest.specs.Registrations.{IsSound}
+use Rattle.ep_kernel.proofs.RoomLemmas.{within_hopes}
 use Rattle.ep_kernel.proofs.PickLemmas.{does_from, found_is_pick, same_found}
 use Rattle.ep_kernel.proofs.ReportsFirstLemmas.{first_reported, refused_reports, waits_at_named}
 use Rattle.ep_kernel.proofs.HopesGoLemmas.{hopes_kept, hopes_stay}
@@ -103,3 +104,12 @@ returns-clause-hopes c =
     let q = c.wait_with.new.self in
     let h = c.choose.new.asked.hopes in
     hopes_kept (CallOf c.args.args.pid (wait_call c.args.args)) p q h c.choose.ensures.hopes (places_reported p q h c.args.step c.in_ok-outcome.outcome.picked c.in_ok-outcome.ensures.ids c.in_ok-outcome.ensures.entries c.choose.ensures.hopes.places) tt
+
+pub returns-in_err-found-clause-within : goal.returns-in_err-found-clause-within
+returns-in_err-found-clause-within c = within_hopes c.args.parts.now c.args.asked.now.hopes c.choose.new.asked.hopes c.requires.hopes c.choose.ensures.hopes
+
+pub returns-in_err-outcome-clause-within : goal.returns-in_err-outcome-clause-within
+returns-in_err-outcome-clause-within c = within_hopes c.args.parts.now c.args.asked.now.hopes c.choose.new.asked.hopes c.requires.hopes c.choose.ensures.hopes
+
+pub returns-clause-within : goal.returns-clause-within
+returns-clause-within c = within_hopes c.args.parts.now c.args.asked.now.hopes c.choose.new.asked.hopes c.requires.hopes c.choose.ensures.hopes

@@ -12,6 +12,7 @@ use Rattle.ep_calls.specs.Parts.{Parts}
 use Rattle.ep_calls.specs.Stands.{IsPlaced}
 use Rattle.ep_calls.specs.Wait.{IsPick}
 use Rattle.ep_interest.specs.Registrations.{IsSound}
+use Rattle.ep_kernel.proofs.RoomLemmas.{within_hopes}
 use Rattle.ep_kernel.proofs.PickLemmas.{does_from, found_is_pick, same_found}
 use Rattle.ep_kernel.proofs.ReportsFirstLemmas.{first_reported, refused_reports, still_reports, waits_at_parked}
 use Rattle.ep_kernel.proofs.HopesGoLemmas.{hopes_kept, hopes_stay}
@@ -162,3 +163,12 @@ returns-clause-hopes c =
     let q = c.resume_with.new.self in
     let h = c.choose.new.asked.hopes in
     hopes_kept Resume p q h c.choose.ensures.hopes (places_reported p q h c.args.step c.in_ok-outcome.outcome.picked c.in_ok-outcome.ensures.ids c.in_ok-outcome.ensures.entries c.choose.ensures.hopes.places) tt
+
+pub returns-in_err-found-clause-within : goal.returns-in_err-found-clause-within
+returns-in_err-found-clause-within c = within_hopes c.args.parts.now c.args.asked.now.hopes c.choose.new.asked.hopes c.requires.hopes c.choose.ensures.hopes
+
+pub returns-in_err-outcome-clause-within : goal.returns-in_err-outcome-clause-within
+returns-in_err-outcome-clause-within c = within_hopes c.args.parts.now c.args.asked.now.hopes c.choose.new.asked.hopes c.requires.hopes c.choose.ensures.hopes
+
+pub returns-clause-within : goal.returns-clause-within
+returns-clause-within c = within_hopes c.args.parts.now c.args.asked.now.hopes c.choose.new.asked.hopes c.requires.hopes c.choose.ensures.hopes

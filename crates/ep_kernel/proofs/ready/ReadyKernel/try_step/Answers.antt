@@ -16,14 +16,15 @@ use Rattle.ep_interest.specs.Registrations.{Registrations, settled}
 use Rattle.ep_calls.proofs.KeepsLemmas.{record_of}
 use Rattle.ep_calls.proofs.KeptLemmas.{inline_event}
 use Rattle.ep_kernel.proofs.ReadyBookLemmas.{same_lists}
-use Rattle.ep_kernel.specs.Listed.{lists_of}
-use Rattle.ep_kernel.specs.Mark.{AreLookedAt, attends}
+use Rattle.ep_kernel.specs.Listed.{HopesFor, lists_of}
+use Rattle.ep_climb.specs.Mark.{AreLookedAt, attends}
 use Rattle.ep_kernel.specs.Running.{Runs, book_of}
-use Rattle.ep_kernel.proofs.AreLookedAtLemmas.{are_looked_at}
+use Rattle.ep_climb.proofs.AreLookedAtLemmas.{looked_at}
 use Rattle.ep_kernel.proofs.HopesForLemmas.{hopes_after, hopes_left}
 use Rattle.ep_calls.proofs.LastLemmas.{event_last}
 use Rattle.ep_nest.proofs.AdjacentLemmas.{on_err}
 use Rattle.ep_kernel.proofs.HopesGoLemmas.{hopes_again}
+use Rattle.ep_kernel.proofs.RoomLemmas.{room_within, within_hopes}
 use Rattle.ep_kernel.proofs.RunLemmas.{added_on, adds_on, does_fairly, few_on, first_on, runs_on, runs_same}
 use Rattle.ep_alarms.proofs.ChangesLemmas.{set_same}
 use Rattle.ep_kernel.proofs.ready.ReadyKernel.try_step.Goals as goal
@@ -39,7 +40,8 @@ invariant_of-self-in_err-outcome c =
     record {
       runs = subst (λ (rs : List Record). Runs rs c.act.new.parts c.act.new.lists) (sym c.reserve.ensures.items) runs;
       set = subst (λ (p : Parts). AreSet p.tables p.clock c.make_room-has_room.new.self) (sym same.0) set;
-      hopes = hopes_again c.args.event k.parts c.act.new.parts c.act.new.asked.hopes same.0 c.act.ensures.hopes;
+      hopes = hopes_again c.args.event k.parts c.act.new.parts c.act.new.notes.asked.hopes same.0 c.act.ensures.hopes;
+      room = c.act.ensures.walk;
     }
 
 pub returns-in_err-outcome-clause-err_lists : goal.returns-in_err-outcome-clause-err_lists
@@ -71,23 +73,31 @@ into_record-answer-requires c asked none =
 at_step : (c : After-attend-attended) → c.len.result + 1 ≡ length c.self.inside.history.items + 1
 at_step c = omega (arith, c.len.ensures, c.reserve.ensures.len)
 
-pub mark-requires-clause-hopes : goal.mark-requires-clause-hopes
-mark-requires-clause-hopes c =
+hoped : (c : After-attend-attended) → HopesFor c.spread.new.parts c.spread.new.notes.asked.hopes
+hoped c =
     let k = c.self.inside in
     let n = c.len.result + 1 in
     let outcome = c.in_ok-outcome.outcome in
     let runs = c.self.invariant.runs in
-    let done = does_fairly k.history.items k.parts c.act.new.parts k.lists runs n c.args.caller.0 c.args.event outcome (at_step (goal.at.mark-requires-clause-hopes c).After-attend-attended) c.in_ok-outcome.ensures.ok in
+    let done = does_fairly k.history.items k.parts c.act.new.parts k.lists runs n c.args.caller.0 c.args.event outcome (at_step c) c.in_ok-outcome.ensures.ok in
     hopes_left c.reportables_are_spread.ensures.law k.history.items k.parts c.act.new.parts c.spread.new.parts runs.keeps c.know.ensures.tables c.know.ensures.interest
-    c.args.caller c.args.event outcome n (at_step (goal.at.mark-requires-clause-hopes c).After-attend-attended) done c.in_ok-outcome.ensures.turns.ids c.in_ok-outcome.ensures.ok.keys c.spread.ensures.spreads.spreads c.act.new.asked.hopes c.spread.new.asked.hopes c.act.ensures.hopes c.spread.ensures.spreads.hopes
+    c.args.caller c.args.event outcome n (at_step c) done c.in_ok-outcome.ensures.turns.ids c.in_ok-outcome.ensures.ok.keys c.spread.ensures.spreads.spreads c.act.new.notes.asked.hopes c.spread.new.notes.asked.hopes c.act.ensures.hopes c.spread.ensures.spreads.hopes
+
+pub mark-requires-clause-hopes : goal.mark-requires-clause-hopes
+mark-requires-clause-hopes c = hoped (goal.at.mark-requires-clause-hopes c).After-attend-attended
 
 pub mark-requires-clause-reached : goal.mark-requires-clause-reached
 mark-requires-clause-reached c =
     let k = c.self.inside in
-    let raising = c.in_ok-outcome.outcome.raising in
-    subst (AreLookedAt c.spread.new.parts c.spread.new.lists) (sym (c.attend-attended.ensures ∙ ap (λ (o : Option DescId). attends o raising) c.resumed_at-resumed.ensures))
-    (are_looked_at c.lists_go_on.ensures.law c.unmarked_are_reached.ensures.law k.history.items k.parts c.act.new.parts c.spread.new.parts k.lists c.act.new.lists c.spread.new.lists c.self.invariant.runs c.know.ensures.coherent c.know.ensures.tables c.know.ensures.interest c.known.ensures c.known-2.ensures
-    c.args.caller c.args.event c.in_ok-outcome.outcome (c.len.result + 1) (at_step (goal.at.mark-requires-clause-reached c).After-attend-attended) c.in_ok-outcome.ensures.ok c.in_ok-outcome.ensures.turns c.spread.ensures.spreads.spreads c.spread.ensures.spreads.lists c.spread.ensures.spreads.reached)
+    let n = c.len.result + 1 in
+    let outcome = c.in_ok-outcome.outcome in
+    let runs = c.self.invariant.runs in
+    let ks = c.spread.new.notes.reached.reached in
+    let at = at_step (goal.at.mark-requires-clause-reached c).After-attend-attended in
+    let done = does_fairly k.history.items k.parts c.act.new.parts k.lists runs n c.args.caller.0 c.args.event outcome at c.in_ok-outcome.ensures.ok in
+    subst (AreLookedAt c.spread.new.parts ks) (sym (c.attend-attended.ensures ∙ ap (λ (o : Option DescId). attends o outcome.raising) c.resumed_at-resumed.ensures))
+    (looked_at k.history.items k.parts c.act.new.parts c.spread.new.parts runs.keeps c.args.caller c.args.event outcome n at done c.in_ok-outcome.ensures.ok.keys c.know.ensures.coherent.placed
+    c.unmarked_are_reached.ensures.law c.spread.ensures.spreads.spreads ks c.spread.ensures.spreads.reached)
 
 pub spread-requires-clause-hopes : goal.spread-requires-clause-hopes
 spread-requires-clause-hopes c = c.act.ensures.hopes.places
@@ -125,6 +135,7 @@ invariant_of-self-2 c =
       runs = runs;
       set = subst (λ (p : Parts). AreSet p.tables p.clock c.spread.new.alarms) (sym (rests c).others) c.spread.ensures.set;
       hopes = hopes_after c.spread.new.parts c.forget_passed.new.self (rests c) c.mark.new.asked.hopes c.mark.ensures.hopes;
+      room = room_within c.spread.new.notes.asked.hopes c.mark.new.asked.hopes c.spread.new.notes.reached (within_hopes c.spread.new.parts c.spread.new.notes.asked.hopes c.mark.new.asked.hopes (hoped (goal.at.invariant_of-self-2 c).After-attend-attended) c.mark.ensures.hopes) c.spread.ensures.room;
     }
 
 pub returns-clause-ok : goal.returns-clause-ok

@@ -9,4 +9,4 @@ returns g c =
     let ps = c.self.inside.places.items in let e = c.args.entry.0 in
     let within : e < length ps = search (Rattle.std.proofs.Common.rules) in
     c.is_some.ensures ∙ (ap is_some (get_or_read ps e c.index.result.now within c.index.ensures None)
-    ∙ (has_read c.self.inside.walk.reached c.self.inside.rings ps e c.self.invariant.tied ∙ ap (λ (r : Lists). is_some (instance_at r (entry_id e))) c.self.view_is))
+    ∙ (has_read c.self.inside.rings ps e c.self.invariant ∙ ap (λ (r : Lists). is_some (instance_at r (entry_id e))) c.self.view_is))

@@ -4,4 +4,4 @@ use Rattle.ep_ready.proofs.ReadyLemmas.{known_ready}
 use Rattle.ep_ready.proofs.ready.ReadyLists.known.Goals as goal
 
 pub returns : goal.returns
-returns g c = subst IsSound c.self.view_is (known_ready c.self.inside.walk.reached c.self.inside.rings c.self.inside.places.items c.self.invariant.tied c.known.ensures c.known-2.ensures)
+returns g c = subst IsSound c.self.view_is (known_ready c.self.inside.rings c.self.inside.places.items c.self.invariant c.known.ensures)

@@ -6,5 +6,5 @@ use Rattle.ep_ready.proofs.ready.ReadyLists.rotate.Goals as goal
 
 pub returns : goal.returns
 returns g c =
-    ap (λ v. value_of c.self.inside.walk.reached v c.self.inside.places.items) c.rotate.ensures
-    ∙ (rotated_ready c.self.inside.walk.reached c.self.inside.rings c.self.inside.places.items c.args.instance.0 ∙ ap (λ (r : Lists). after_rotation r c.args.instance.0) c.self.view_is)
+    ap (λ v. value_of v c.self.inside.places.items) c.rotate.ensures
+    ∙ (rotated_ready c.self.inside.rings c.self.inside.places.items c.args.instance.0 ∙ ap (λ (r : Lists). after_rotation r c.args.instance.0) c.self.view_is)

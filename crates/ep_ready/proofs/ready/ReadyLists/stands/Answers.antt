@@ -8,11 +8,11 @@ pub stands-requires : goal.stands-requires
 stands-requires g c =
     let ps = c.self.inside.places.items in let e = c.args.entry.0 in
     let within : e < length ps = search rules in
-    place_there c.self.inside.walk.reached c.self.inside.rings ps c.self.invariant.tied c.known.ensures e c.in-Some.place.0 (sym (get_or_read ps e c.index.result.now within c.index.ensures None) ∙ c.in-Some.is)
+    place_there c.self.inside.rings ps c.self.invariant c.known.ensures e c.in-Some.place.0 (sym (get_or_read ps e c.index.result.now within c.index.ensures None) ∙ c.in-Some.is)
 
 pub returns-in-Some : goal.returns-in-Some
 returns-in-Some g c =
     let ps = c.self.inside.places.items in let e = c.args.entry.0 in
     let within : e < length ps = search rules in
-    c.stands.ensures ∙ (stands_ready c.self.inside.walk.reached c.self.inside.rings ps c.self.invariant.tied c.known.ensures e c.in-Some.place.0 (sym (get_or_read ps e c.index.result.now within c.index.ensures None) ∙ c.in-Some.is)
+    c.stands.ensures ∙ (stands_ready c.self.inside.rings ps c.self.invariant c.known.ensures e c.in-Some.place.0 (sym (get_or_read ps e c.index.result.now within c.index.ensures None) ∙ c.in-Some.is)
     ∙ ap (λ (l : Lists). stands l c.args.entry) c.self.view_is)

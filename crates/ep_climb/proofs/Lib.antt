@@ -1,0 +1,6 @@
+pub mod WalkLemmas
+pub mod ReachLemmas
+pub mod ClimbLemmas
+pub mod MarkLemmas
+pub mod AreLookedAtLemmas
+pub mod SetLemmas

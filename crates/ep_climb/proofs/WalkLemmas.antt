@@ -1,0 +1,216 @@
+-- A walk that reaches instances, one after another.
+use Rattle.std.proofs.Common.{◌≡◌, ◌<◌, ◌+◌, ◌++◌, ◌||◌, ◌==◌, ◌⊎◌, ◌↔◌, ◌∙◌, ℕ, suc, Bool, true, false, List, [], ◌∷◌, None, Option, Some, ap, arith, cond, get_or, inl, inr, length, nat_lt, refl, rules, subst, sym, take}
+use Rattle.std.proofs.Math.Bool.{or-false, or_assoc}
+use Rattle.std.proofs.lemmas.Bool.{cases_Bool, cases_eq, false≢true}
+use Rattle.std.proofs.lemmas.List.{map_more, take_more}
+use Rattle.std.proofs.lemmas.List.Recursion.{or_at, or_push}
+use Rattle.std.specs.List.{All}
+use Rattle.ep_base.specs.declared.ids.DescId.{DescId}
+use Rattle.ep_base.specs.declared.ids.EntryId.{EntryId}
+use Rattle.ep_interest.specs.Passes.{has_id, passes_on}
+use Rattle.ep_interest.specs.declared.entry.Entry.{Entry}
+use Rattle.ep_interest.specs.Registrations.{Registrations, entry_under}
+use Rattle.ep_law.proofs.TestLemmas.{from_test, or_left, or_right, same_nat, same_test}
+use Rattle.ep_machine.specs.Lists.{is_among}
+use Rattle.ep_nest.proofs.ChainLemmas.{joined}
+use Rattle.ep_nest.proofs.ElementLemmas.{Contains-from_filter, Contains-from_map}
+use Rattle.ep_nest.proofs.RuleLemmas.{above_by_rule}
+use Rattle.ep_nest.specs.Ascent.{Finds, IsMet}
+use Rattle.ep_nest.specs.Chains.{IsAbove}
+use Rattle.ep_nest.specs.Links.{admitted_by, edges, ends_of, keys}
+use Rattle.ep_nest.specs.declared.link.Link.{Link}
+use Rattle.ep_nest.specs.declared.link.Way.TheVariants.{Down}
+use Rattle.ep_ready.specs.ReadyLists.{entry_id}
+use Rattle.ep_ready.specs.Walk.{Walk, with_reached}
+use Rattle.ep_climb.specs.Reach.{AreHome, AreRoomy, Ascends, AscendsFrom, IsClosed, IsFrom, PassesTo, Reaches, Walks, open_edges, passed_by}
+
+or_cases : (a b : Bool) → (a || b) ≡ true → (a ≡ true) ⊎ (b ≡ true)
+or_cases true b h = inl refl
+or_cases false b h = inr h
+
+among_end : (ks : List ℕ) (n k : ℕ) → is_among (ks ++ n ∷ []) k ≡ (is_among ks k || k == n)
+among_end ks n k = or_push (λ js. is_among js k) (λ j. k == j) refl (λ j js. refl) ks n
+
+pub among_at : (ds : List DescId) (i : ℕ) (d : DescId) → i < length ds → is_among (keys ds) (get_or ds i d).0 ≡ true
+among_at ds i d lt = let k = (get_or ds i d).0 in or_at (λ es. is_among (keys es) k) (λ e. k == e.0) refl (λ e es. refl) ds i d lt (same_nat k)
+
+-- One after another.
+pub reaches_none : (w : Walk) → Reaches (λ i. false) w w
+reaches_none w = record { room = refl; each = λ i. sym (or-false (is_among w.reached i)) }
+
+reaches_both : (f g : ℕ → Bool) (old mid new : Walk) → Reaches f old mid → Reaches g mid new → Reaches (λ i. f i || g i) old new
+reaches_both f g old mid new a b = record {
+  room = b.room ∙ a.room;
+  each = λ i. b.each i ∙ (ap (λ (t : Bool). t || g i) (a.each i) ∙ or_assoc (is_among old.reached i) (f i) (g i));
+}
+
+reaches_same : (f g : ℕ → Bool) (old new : Walk) → ((i : ℕ) → f i ≡ g i) → Reaches f old new → Reaches g old new
+reaches_same f g old new same a = record { room = a.room; each = λ i. a.each i ∙ ap (λ (t : Bool). is_among old.reached i || t) (same i) }
+
+pub reaches_one : (w : Walk) (j : ℕ) (new : Walk) → new ≡ with_reached w j → Reaches (λ i. i == j) w new
+reaches_one w j new is = subst (Reaches (λ i. i == j) w) (sym is) (by_case (is_among w.reached j) refl) where
+  stood : is_among w.reached j ≡ true → (i : ℕ) → is_among w.reached i ≡ (is_among w.reached i || i == j)
+  stood t i = elim (cases_eq i j) [
+    | inl e ↦ let here : is_among w.reached i ≡ true = ap (is_among w.reached) e ∙ t in here ∙ sym (or_left (is_among w.reached i) (i == j) here)
+    | inr ne ↦ let apart : (i == j) ≡ false = search rules in sym (ap (λ (b : Bool). is_among w.reached i || b) apart ∙ or-false (is_among w.reached i))
+  ]
+
+  by_case : (b : Bool) → is_among w.reached j ≡ b → Reaches (λ i. i == j) w (cond b w (record w { reached = w.reached ++ j ∷ [] }))
+  by_case true t = record { room = refl; each = stood t }
+  by_case false f = record { room = refl; each = among_end w.reached j }
+
+pub reaches_next : (ds : List DescId) (i : ℕ) (d : DescId) (old mid new : Walk) → i < length ds → Reaches (is_among (keys (take i ds))) old mid → new ≡ with_reached mid (get_or ds i d).0
+    → Reaches (is_among (keys (take (i + 1) ds))) old new
+reaches_next ds i d old mid new lt a is =
+    let here = get_or ds i d in
+    reaches_same (λ j. is_among (keys (take i ds)) j || j == here.0) (is_among (keys (take (i + 1) ds))) old new
+    (λ j. sym (ap (λ (ks : List ℕ). is_among ks j) (map_more (λ (e : DescId). e.0) ds i d lt) ∙ among_end (keys (take i ds)) here.0 j))
+    (reaches_both (is_among (keys (take i ds))) (λ j. j == here.0) old mid new a (reaches_one mid here.0 new is))
+
+-- The room stays.
+pub room_still : (r : Registrations) (old new : Walk) → new.room ≡ old.room → AreRoomy r old → AreRoomy r new
+room_still r old new same h id x at = subst (λ (n : ℕ). x.instance.0 < n) (sym same) (h id x at)
+
+pub home_still : (ls : List Link) (old new : Walk) → new.room ≡ old.room → AreHome ls old → AreHome ls new
+home_still ls old new same h link there = subst (λ (n : ℕ). link.outer.0 < n) (sym same) (h link there)
+
+-- what a filter by a rule finds above an instance
+pub above_found : (P : EntryId → Bool → Type 0) (q : ℕ → Bool) (ls : List Link) (j : ℕ) (ks : List ℕ) → ((e : EntryId) (b : Bool) → P e b → b ≡ q e.0) → Finds P ls j ks
+    → (i : ℕ) → (is_among ks i ≡ true) ↔ IsAbove (edges (admitted_by q ls)) i j
+above_found P q ls j ks rule found =
+    let follows : All (λ l. IsMet ks j l → found.admits l.entry.0 ≡ q l.entry.0) ls = λ k d lt met. rule (get_or ls k d).entry (found.admits (get_or ls k d).entry.0) (found.asked k d lt met) in
+    above_by_rule found.admits q ls ks j follows found.exact
+
+-- what is above an instance is the outer end of a link
+pub above_home : (p : ℕ → Bool) (ls : List Link) (w : Walk) → AreHome ls w → (i j : ℕ) → IsAbove (edges (admitted_by p ls)) i j → i < w.room
+above_home p ls w home i j up =
+    let m = Contains-from_map (ends_of Down) (admitted_by p ls) (i, up.1.0) up.1.1 in
+    let there = Contains-from_filter (λ (x : Link). p x.entry.0) ls m.0 m.1 in
+    subst (λ (n : ℕ). n < w.room) (ap (λ (e : ℕ × ℕ). e.0) m.2) (home m.0 there.0)
+
+-- Upwards.
+module _ (es : List (ℕ × ℕ)) where
+  join : (i k j : ℕ) → IsAbove es i k → IsAbove es k j → IsAbove es i j
+  join i k j a b = (a.0 + suc b.0, joined es (suc a.0) (suc b.0) (suc (a.0 + suc b.0)) i k j (omega arith) a.1 b.1)
+
+  over : (i k j : ℕ) → IsAbove es i k → IsFrom es k j → IsAbove es i j
+  over i k j a (inl e) = subst (IsAbove es i) e a
+  over i k j a (inr b) = join i k j a b
+
+  module _ (j : ℕ) (w : Walk) where
+    pub ascends_early : IsClosed es w.reached → is_among w.reached j ≡ true → (new : Walk) → new ≡ with_reached w j → Ascends es j w new
+    ascends_early closed t new is =
+        subst (Ascends es j w) (sym (is ∙ ap (λ (b : Bool). cond b w (record w { reached = w.reached ++ j ∷ [] })) t))
+        (record { room = refl; exact = λ i. (λ h. inl h, λ h. back i h) }) where
+          back : (i : ℕ) → (is_among w.reached i ≡ true) ⊎ IsFrom es i j → is_among w.reached i ≡ true
+          back i (inl old) = old
+          back i (inr (inl e)) = subst (λ (k : ℕ). is_among w.reached k ≡ true) (sym e) t
+          back i (inr (inr up)) = closed i j t up
+
+    pub ascends_far : (mid new : Walk) (ks : List ℕ) → mid ≡ with_reached w j → ((i : ℕ) → (is_among ks i ≡ true) ↔ IsAbove es i j) → Reaches (is_among ks) mid new → Ascends es j w new
+    ascends_far mid new ks is above a = record { room = both.room; exact = λ i. (forth i, back i) } where
+      both : Reaches (λ i. i == j || is_among ks i) w new
+      both = reaches_both (λ i. i == j) (is_among ks) w mid new (reaches_one w j mid is) a
+
+      forth : (i : ℕ) → is_among new.reached i ≡ true → (is_among w.reached i ≡ true) ⊎ IsFrom es i j
+      forth i t = elim (or_cases (is_among w.reached i) (i == j || is_among ks i) (sym (both.each i) ∙ t)) [
+        | inl old ↦ inl old
+        | inr more ↦ elim (or_cases (i == j) (is_among ks i) more) [
+          | inl here ↦ inr (inl (from_test i j here))
+          | inr up ↦ inr (inr ((above i).0 up))
+        ]
+      ]
+
+      back : (i : ℕ) → (is_among w.reached i ≡ true) ⊎ IsFrom es i j → is_among new.reached i ≡ true
+      back i (inl old) = both.each i ∙ or_left (is_among w.reached i) (i == j || is_among ks i) old
+      back i (inr (inl e)) = both.each i ∙ or_right (is_among w.reached i) (i == j || is_among ks i) (or_left (i == j) (is_among ks i) (same_test i j e))
+      back i (inr (inr up)) = both.each i ∙ or_right (is_among w.reached i) (i == j || is_among ks i) (or_right (i == j) (is_among ks i) ((above i).1 up))
+
+  -- from the instance that there is, or from none
+  pub from_some : (d : DescId) (o : Option DescId) (old new : Walk) → o ≡ Some d → Ascends es d.0 old new → AscendsFrom es o old new
+  from_some d o old new is a = record { room = a.room; exact = λ i. (λ h. forth i ((a.exact i).0 h), λ h. (a.exact i).1 (back i h)) } where
+    forth : (i : ℕ) → (is_among old.reached i ≡ true) ⊎ IsFrom es i d.0 → (is_among old.reached i ≡ true) ⊎ ((e : DescId) × (o ≡ Some e) × IsFrom es i e.0)
+    forth i (inl h) = inl h
+    forth i (inr f) = inr (d, is, f)
+
+    same : (e : DescId) → o ≡ Some e → e ≡ d
+    same e h = let s : Some e ≡ Some d = sym h ∙ is in cc
+
+    back : (i : ℕ) → (is_among old.reached i ≡ true) ⊎ ((e : DescId) × (o ≡ Some e) × IsFrom es i e.0) → (is_among old.reached i ≡ true) ⊎ IsFrom es i d.0
+    back i (inl h) = inl h
+    back i (inr f) = inr (subst (λ (e : DescId). IsFrom es i e.0) (same f.0 f.1) f.2)
+
+  pub from_none : (o : Option DescId) (w : Walk) → o ≡ None → AscendsFrom es o w w
+  from_none o w is = record { room = refl; exact = λ i. (λ h. inl h, λ h. back i h) } where
+    back : (i : ℕ) → (is_among w.reached i ≡ true) ⊎ ((e : DescId) × (o ≡ Some e) × IsFrom es i e.0) → is_among w.reached i ≡ true
+    back i (inl h) = h
+    back i (inr f) = absurd (let no : None ≡ Some f.0 = sym is ∙ f.1 in cc)
+
+  closed_from : (o : Option DescId) (old new : Walk) → IsClosed es old.reached → AscendsFrom es o old new → IsClosed es new.reached
+  closed_from o old new closed a i j t up = (a.exact i).1 (by ((a.exact j).0 t)) where
+    by : (is_among old.reached j ≡ true) ⊎ ((e : DescId) × (o ≡ Some e) × IsFrom es j e.0) → (is_among old.reached i ≡ true) ⊎ ((e : DescId) × (o ≡ Some e) × IsFrom es i e.0)
+    by (inl h) = inl (closed i j h up)
+    by (inr f) = inr (f.0, f.1, inr (over i j f.0.0 up f.2))
+
+-- The instance to which a registration passes something on.
+pub passed_of : (n : ℕ) (o : Option Entry) (d : DescId) → passed_by n o ≡ Some d → (x : Entry) × (o ≡ Some x) × ((x.passes_in == n) ≡ true) × (x.instance ≡ d)
+passed_of n None d p = absurd (cc)
+passed_of n (Some x) d p = elim (cases_Bool (x.passes_in == n)) [
+  | inl t ↦ (x, refl, t, (let s : Some x.instance ≡ Some d = sym (ap (λ (b : Bool). cond b (Some x.instance) None) t) ∙ p in cc))
+  | inr g ↦ absurd (let s : None ≡ Some d = sym (ap (λ (b : Bool). cond b (Some x.instance) None) g) ∙ p in cc)
+]
+
+pub passed_room : (n : ℕ) (r : Registrations) (w : Walk) (id : EntryId) (d : DescId) → AreRoomy r w → passed_by n (entry_under r id) ≡ Some d → d.0 < w.room
+passed_room n r w id d roomy p = let x = passed_of n (entry_under r id) d p in subst (λ (e : DescId). e.0 < w.room) x.3 (roomy id x.0 x.1)
+
+-- the walk over these of the registrations that pass something on
+pub record Walked (n : ℕ) (r : Registrations) (es : List (ℕ × ℕ)) (done : List EntryId) (old new : Walk) : Type 0 where
+  pub room : new.room ≡ old.room
+  pub closed : IsClosed es new.reached
+  pub sound : (i : ℕ) → is_among new.reached i ≡ true → (k : ℕ) × (d : DescId) × PassesTo n r k d × IsFrom es i d.0
+  pub found : (i k : ℕ) (d : DescId) → has_id done k ≡ true → PassesTo n r k d → IsFrom es i d.0 → is_among new.reached i ≡ true
+
+pub walked_none : (n : ℕ) (r : Registrations) (es : List (ℕ × ℕ)) (w : Walk) → w.reached ≡ [] → Walked n r es [] w w
+walked_none n r es w none = record {
+  room = refl;
+  closed = λ i j t up. absurd (never j t);
+  sound = λ i t. absurd (never i t);
+  found = λ i k d t p f. absurd (false≢true t);
+} where
+  never : (j : ℕ) → is_among w.reached j ≡ true → ⊥
+  never j t = false≢true (sym (ap (λ (ks : List ℕ). is_among ks j) none) ∙ t)
+
+pub walked_next : (n : ℕ) (r : Registrations) (es : List (ℕ × ℕ)) (ids : List EntryId) (i : ℕ) (z : EntryId) (old mid new : Walk) → i < length ids → Walked n r es (take i ids) old mid
+    → AscendsFrom es (passed_by n (entry_under r (get_or ids i z))) mid new → Walked n r es (take (i + 1) ids) old new
+walked_next n r es ids i z old mid new lt w a = record {
+  room = a.room ∙ w.room;
+  closed = closed_from es (passed_by n (entry_under r id)) mid new w.closed a;
+  sound = λ j t. from j ((a.exact j).0 t);
+  found = λ j k d t p f. elim (or_cases (has_id (take i ids) k) (k == id.0) (sym (has_more k) ∙ t)) [
+    | inl before ↦ (a.exact j).1 (inl (w.found j k d before p f))
+    | inr here ↦ (a.exact j).1 (inr (d, ap (λ (m : ℕ). passed_by n (entry_under r (entry_id m))) (sym (from_test k id.0 here)) ∙ p, f))
+  ];
+} where
+  id : EntryId
+  id = get_or ids i z
+
+  has_more : (k : ℕ) → has_id (take (i + 1) ids) k ≡ (has_id (take i ids) k || k == id.0)
+  has_more k = ap (λ (xs : List EntryId). has_id xs k) (take_more ids i z lt) ∙ or_push (λ xs. has_id xs k) (λ x. k == x.0) refl (λ x xs. refl) (take i ids) id
+
+  from : (j : ℕ) → (is_among mid.reached j ≡ true) ⊎ ((d : DescId) × (passed_by n (entry_under r id) ≡ Some d) × IsFrom es j d.0) → (k : ℕ) × (d : DescId) × PassesTo n r k d × IsFrom es j d.0
+  from j (inl h) = w.sound j h
+  from j (inr f) = (id.0, f.0, f.1, f.2)
+
+-- once all of them were visited
+pub walked_all : (n : ℕ) (r : Registrations) (ls : List Link) (ids : List EntryId) (old new : Walk) → nat_lt 0 n ≡ true → ((id : EntryId) → has_id ids id.0 ≡ passes_on (entry_under r id)) → Walked n r (open_edges r ls) ids old new → Walks n r ls old new
+walked_all n r ls ids old new positive each w = record {
+  room = w.room;
+  sound = w.sound;
+  complete = λ i k d p f. w.found i k d (each (entry_id k) ∙ passing (entry_under r (entry_id k)) p) p f;
+} where
+  passing : {d : DescId} (o : Option Entry) → passed_by n o ≡ Some d → passes_on o ≡ true
+  passing None p = absurd (cc)
+  passing (Some x) p = elim (cases_Bool (x.passes_in == n)) [
+    | inl t ↦ ap (λ (m : ℕ). nat_lt 0 m) (from_test x.passes_in n t) ∙ positive
+    | inr f ↦ absurd (let no = sym (ap (λ (b : Bool). cond b (Some x.instance) None) f) ∙ p in cc)
+  ]

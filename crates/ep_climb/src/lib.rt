@@ -1,0 +1,12 @@
+//! What an event raised climbs through instances: which of them IN reaches, and what watches those becomes fresh.
+//! Which instances its end looks at for marks to set. Each event goes along here, so it is inlined: a program with both
+//! kernels would make calls of it, for 1 to 3 in 100 of an event.
+#![tactic(auto)]
+
+mod climbing;
+mod marking;
+mod reaching;
+
+pub use crate::climbing::{climb, freshen};
+pub use crate::marking::{attend, mark_due, resumed_at};
+pub use crate::reaching::reach;

@@ -1,7 +1,0 @@
-use Rattle.ep_kernel.proofs.MarkLemmas.{coherent_due}
-use Rattle.ep_kernel.proofs.mark.mark_due.Goals as goal
-
-pub invariant_of-parts : goal.invariant_of-parts
-invariant_of-parts c =
-    let k = c.parts.inside in
-    coherent_due (record { tables = k.tables; interest = k.interest; graph = k.graph; parked = k.waiters; clock = k.clock }) c.mark_due.new.self c.mark_due.ensures c.parts.invariant
