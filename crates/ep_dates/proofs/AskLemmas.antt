@@ -142,6 +142,7 @@ module _ (way : Bool) (n : ℕ) (r : Registrations) (shows : Bool → Entry → 
       kept = kept_changed r one d kept id x is event new c;
       rows = c.rows;
       since = ap (λ (s : List ℕ). length s) c.since ∙ long;
+      places = c.places;
       later = λ k lt. event_else r one d kept id x is event new c k (λ e. let le = within id x is in omega (arith, le, lt, e));
       stays = λ j y there h. elim (cases_eq j.0 id.0) [
         | inl e ↦ ap (is_dated new) (y_is j y there e) ∙ now

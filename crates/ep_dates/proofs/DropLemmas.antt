@@ -137,7 +137,7 @@ module _ (r : Registrations) where
       rows = changes.rows;
       since = length-set d.since x.number 0;
       ids = refl;
-      places = refl;
+      places = changes.places;
       room = changes.room;
       later = λ k lt. event_else r (one_under r sound) d kept id x at 0 new changes k (λ e. let le = number_within r sound id x at in omega (arith, le, lt, e));
       stays = λ j y there h. event_else r (one_under r sound) d kept id x at 0 new changes y.number (apart_one r (one_under r sound) d kept id x at 0 new changes j y there (λ e. false≢true (sym h ∙ same_test j.0 id.0 e)));

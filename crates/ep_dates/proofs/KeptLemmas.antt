@@ -20,6 +20,7 @@ AreOne r = (a b : EntryId) (x y : Entry) → entry_under r a ≡ Some x → entr
 -- the registration under a key has this event, and its key stands in its instance's row exactly if that isn't 0
 pub record Changes (d : Dates) (id : EntryId) (x : Entry) (event : ℕ) (new : Dates) : Type 0 where
   pub since : new.since ≡ set d.since x.number event
+  pub places : new.places ≡ d.places
   pub ids_long : length new.ids ≡ length d.ids
   pub id_here : nat_lt 0 event ≡ true → id_at new.ids x.number ≡ id
   pub id_else : (k : ℕ) → k ≢ x.number → id_at new.ids k ≡ id_at d.ids k
@@ -106,6 +107,7 @@ module _ (r : Registrations) (d : Dates) (kept : AreKept r d) (id : EntryId) (x 
   pub begun_changes : (n : ℕ) → nat_lt 0 n ≡ true → Changes d id x n (begun n id x d)
   begun_changes n up = record {
     since = refl;
+    places = refl;
     ids_long = length-set d.ids x.number id;
     id_here = λ h. get_or-set_same d.ids x.number id _ spot.room.ids;
     id_else = λ k apart. get_or-set_other d.ids x.number k id _ apart;
@@ -123,6 +125,7 @@ module _ (r : Registrations) (d : Dates) (kept : AreKept r d) (id : EntryId) (x 
   pub ended_changes : Changes d id x 0 (ended id x d)
   ended_changes = record {
     since = refl;
+    places = refl;
     ids_long = refl;
     id_here = λ h. absurd (false≢true h);
     id_else = λ k apart. refl;
@@ -160,6 +163,7 @@ module _ (r : Registrations) (d : Dates) (kept : AreKept r d) (id : EntryId) (x 
   pub renewed_changes : (n : ℕ) → nat_lt 0 n ≡ true → id_at d.ids x.number ≡ id → Changes d id x n (renewed n id x d)
   renewed_changes n up key = record {
     since = refl;
+    places = refl;
     ids_long = refl;
     id_here = λ h. key;
     id_else = λ k apart. refl;

@@ -2,6 +2,7 @@ pub mod RowLemmas
 pub mod KeptLemmas
 pub mod TurnLemmas
 pub mod AskLemmas
+pub mod TurnedLemmas
 pub mod EachLemmas
 pub mod RoundLemmas
 pub mod NestLemmas

@@ -1,9 +1,10 @@
 -- Dates go on to be those of the registrations as registrations change.
 use Rattle.std.proofs.Common.{◌≡◌, ◌<◌, ◌∙◌, ℕ, true, length, ap, inl, inr, nat_lt, subst, sym}
 use Rattle.std.proofs.lemmas.Bool.{false≢true}
+use Rattle.ep_climb.specs.Reach.{AreRoomy}
 use Rattle.ep_dates.specs.Dates.{Dates, event_at, id_at, is_dated}
 use Rattle.ep_dates.specs.Kept.{AreKept}
-use Rattle.ep_dates.specs.Moves.{AreRoomy, Moves}
+use Rattle.ep_dates.specs.Moves.{Moves}
 use Rattle.ep_interest.specs.Registrations.{Registrations}
 use Rattle.ep_machine.specs.Lists.{is_among}
 use Rattle.ep_ready.specs.Walk.{Walk}

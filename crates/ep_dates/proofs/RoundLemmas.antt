@@ -26,7 +26,7 @@ apart_from_all k (j ∷ ks) h = elim (cases_Bool (eqb k j)) [
   | inr apart ↦ (apart, apart_from_all k ks (sym (ap (λ (b : Bool). b || is_among ks k) apart) ∙ h))
 ]
 
-as_distinct : (ks : List ℕ) → are_distinct ks ≡ true → IsDistinct eqb ks
+pub as_distinct : (ks : List ℕ) → are_distinct ks ≡ true → IsDistinct eqb ks
 unfolding IsDistinct
 as_distinct [] h = tt
 as_distinct (k ∷ ks) h =
@@ -39,7 +39,7 @@ or_either false b h = inr h
 take_among : (i : ℕ) (xs : List ℕ) (k : ℕ) → is_among (take i xs) k ≡ true → is_among xs k ≡ true
 take_among i xs k h = ap (λ (l : List ℕ). is_among l k) (sym (take-append-drop i xs)) ∙ (among_split (take i xs) (drop i xs) k ∙ or_left (is_among (take i xs) k) (is_among (drop i xs) k) h)
 
-among_at : (xs : List ℕ) (i : ℕ) → i < length xs → is_among xs (get_or xs i 0) ≡ true
+pub among_at : (xs : List ℕ) (i : ℕ) → i < length xs → is_among xs (get_or xs i 0) ≡ true
 among_at [] i lt = absurd (omega (arith, lt))
 among_at (x ∷ xs) zero lt = or_left _ _ (same_test x x refl)
 among_at (x ∷ xs) (suc i) lt = or_right _ _ (among_at xs i (omega (arith, lt)))

@@ -1,6 +1,7 @@
 -- Asking registrations whether they come to be reportable, or are so no more: one way at a time.
-use Rattle.std.specs.Prelude.{◌++◌, ◌<◌, ◌≡◌, ◌⊎◌, ◌==◌, Bool, List, [], None, Option, Some, false, length, not, true, ℕ}
+use Rattle.std.specs.Prelude.{◌++◌, ◌<◌, ◌≡◌, ◌⊎◌, ◌==◌, ◌&&◌, ◌||◌, Bool, List, [], None, Option, Some, false, length, not, true, ℕ}
 use Rattle.ep_base.specs.declared.ids.EntryId.{EntryId}
+use Rattle.ep_calls.specs.Climb.{is_nested, is_nested_key}
 use Rattle.ep_calls.specs.Parts.{Parts}
 use Rattle.ep_calls.specs.Readiness.{entry_shows}
 use Rattle.ep_dates.specs.Dates.{Dates, event_at, is_dated, is_ready}
@@ -8,6 +9,7 @@ use Rattle.ep_dates.specs.Kept.{AreKept}
 use Rattle.ep_dates.specs.Order.{AreInTurn}
 use Rattle.ep_interest.specs.Registrations.{Registrations, entry_under}
 use Rattle.ep_interest.specs.declared.entry.Entry.{Entry}
+use Rattle.ep_machine.specs.Bits.{ET, IN, has_bit}
 use Rattle.ep_machine.specs.Lists.{is_among}
 use Rattle.ep_rings.specs.KeyWalk.{id_at as key_of}
 
@@ -36,6 +38,7 @@ pub record Turns (way : Bool) (n : ℕ) (r : Registrations) (shows : Bool → En
   pub kept : AreKept r new
   pub rows : length new.rows.rows ≡ length old.rows.rows
   pub since : length new.since ≡ length old.since
+  pub places : new.places ≡ old.places
   pub later : (k : ℕ) → r.added < k → event_at new.since k ≡ event_at old.since k
   pub stays : (id : EntryId) (x : Entry) → entry_under r id ≡ Some x → is_dated old x ≡ way → is_dated new x ≡ way
   pub turns : (id : EntryId) (x : Entry) → entry_under r id ≡ Some x → is_dated old x ≡ not way → is_dated new x ≡ way → shows_by shows new x ≡ way
@@ -66,3 +69,19 @@ Asks way n p asked old new = Turns way n p.interest (shows_over p) asked old new
 -- each registration on one of these instances is settled
 abbrev pub AreWatched : Bool → Parts → Dates → List ℕ → Type 0
 AreWatched way p d instances = (id : EntryId) (x : Entry) → entry_under p.interest id ≡ Some x → is_among instances x.desc.0 ≡ true → IsSettled way (shows_over p) d [] x
+
+-- each registration is of an instance
+abbrev pub AreHomes : Parts → Type 0
+AreHomes p = (id : EntryId) (x : Entry) → entry_under p.interest id ≡ Some x → is_nested_key p.tables x.instance ≡ true
+
+-- each of these keys is that of an instance
+abbrev pub AreInstances : Parts → List ℕ → Type 0
+AreInstances p keys = (i : ℕ) → is_among keys i ≡ true → is_nested_key p.tables (record { 0 = i }) ≡ true
+
+-- the registration under a key, if there is one, is on an instance that is ready (`way` is true), or is not
+abbrev pub IsOnTurned : Bool → Parts → Dates → EntryId → Type 0
+IsOnTurned way p d id = (x : Entry) → entry_under p.interest id ≡ Some x → (is_nested p.tables x ≡ true) × (is_ready d x.desc.0 ≡ way)
+
+-- a registration on an instance is reportable while that is ready
+abbrev pub shows_ready : Entry → Bool
+shows_ready x = x.armed && has_bit x.mask.0 IN && (not (has_bit x.mask.0 ET) || x.fresh)

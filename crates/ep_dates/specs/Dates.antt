@@ -49,9 +49,9 @@ abbrev pub renewed : ℕ → EntryId → Entry → Dates → Dates
 renewed n id x d =
     record d { since = slice_set d.since x.number n; rows = with_key (without_key d.rows x.instance.0 id.0) x.instance.0 id.0 }
 
--- of no registrations, with a place for the number 0, which none has
+-- of no registrations, with a place for the number 0, which none has, and for that of the first
 pub record AreNew (d : Dates) : Type 0 where
-  pub since : d.since ≡ 0 ∷ []
+  pub since : d.since ≡ 0 ∷ 0 ∷ []
   pub ids : d.ids ≡ []
   pub rows : d.rows ≡ no_rows
   pub turned : d.turned.reached ≡ []

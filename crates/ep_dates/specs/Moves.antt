@@ -1,11 +1,10 @@
 -- Other registrations, of which the dates are, too.
-use Rattle.std.specs.Prelude.{◌<◌, ◌≡◌, ◌⊎◌, Some, false, true, ℕ}
+use Rattle.std.specs.Prelude.{◌≡◌, ◌⊎◌, Some, false, true, ℕ}
 use Rattle.ep_base.specs.declared.ids.EntryId.{EntryId}
 use Rattle.ep_dates.specs.Dates.{Dates, HasPlace, is_dated}
 use Rattle.ep_interest.specs.Registrations.{Registrations, entry_under}
 use Rattle.ep_interest.specs.declared.entry.Entry.{Entry}
 use Rattle.ep_machine.specs.Lists.{is_among}
-use Rattle.ep_ready.specs.Walk.{Walk}
 use Rattle.ep_rings.specs.PlacedRows.{keys_at}
 
 -- the registration under a key has the number and the instance of one that was there
@@ -26,7 +25,3 @@ pub record Moves (d : Dates) (old new : Registrations) : Type 0 where
   pub each : (id : EntryId) (x : Entry) → entry_under new id ≡ Some x → WasThere old id x ⊎ IsAdded d id x
   pub left : (id : EntryId) (x : Entry) → entry_under old id ≡ Some x → is_dated d x ≡ true
       → (y : Entry) × (entry_under new id ≡ Some y) × (y.instance.0 ≡ x.instance.0)
-
--- a walk has room for the instance of each registration
-abbrev pub AreRoomy : Registrations → Walk → Type 0
-AreRoomy r w = (id : EntryId) (x : Entry) → entry_under r id ≡ Some x → x.instance.0 < w.room

@@ -1,12 +1,16 @@
 //! Asking registrations whether they have come to be reportable, or are so no more.
-ghost use Rattle.std.specs.Prelude.{◌≡◌, ◌<◌, ◌≤◌, ◌==◌, ℕ, [], Bool, drop, false, length, take};
-ghost use Rattle.ep_dates.specs.Ask.{AreSettled, AreTurned, AreWatched, Asks, shows_over, watches};
+ghost use Rattle.std.specs.Prelude.{◌≡◌, ◌<◌, ◌≤◌, ◌==◌, ℕ, [], Bool, drop, false, length, take, true};
+ghost use Rattle.ep_calls.specs.Climb.{is_nested_key};
+ghost use Rattle.ep_dates.specs.Ask.{AreHomes, AreInstances, AreSettled, AreTurned, AreWatched, Asks, IsOnTurned, shows_over, shows_ready, watches};
+ghost use Rattle.ep_dates.specs.Dates.{is_ready};
 ghost use Rattle.ep_dates.specs.Kept.{AreKept};
 ghost use Rattle.ep_interest.specs.Passes.{has_id};
 
 use crate::dates::Dates;
-use ep_base::{DescId, EntryId};
+use bitflags::Flags;
+use ep_base::{DescId, EntryId, Mask};
 use ep_calls::{Parts, is_reportable, shown_at};
+use ep_interest::Entry;
 
 /// What registrations are asked at the end of an event.
 #[derive(Clone, Copy)]
@@ -72,12 +76,66 @@ pub fn ask_watchers(parts: &Parts, question: Question, desc: DescId, dates: &mut
     }
 }
 
+/// Whether a registration on an instance is reportable while that is ready: it is armed and asks for IN, and an
+/// edge-triggered one needs something that arrived since its last report.
+fn shows_in(entry: &Entry) -> bool
+    ensures { result ≡ shows_ready entry.now }
+{
+    entry.armed
+        && entry.mask.intersects(Mask::IN)
+        && (!entry.mask.intersects(Mask::ET) || entry.fresh)
+}
+
+/// Asks the registration under a key, which is on an instance that turned. On one that is idle nothing is reportable.
+fn ask_on_turned(parts: &Parts, question: Question, id: EntryId, dates: &mut Dates)
+    requires event { 0 < question.event }
+    requires kept { AreKept parts.now.interest dates.old }
+    requires turned { AreTurned question.comes dates.old }
+    requires there { IsOnTurned question.comes parts.now dates.old id }
+    ensures { Asks question.comes question.event parts.now (λ k. k == id.0) dates.old dates.new }
+{
+    parts.interest.known();
+    let Some(entry) = parts.interest.get(id) else {
+        return;
+    };
+    let is_dated = dates.since(entry.number) > 0;
+    if is_dated == question.comes {
+        return;
+    }
+    if !question.comes {
+        dates.end(id, entry);
+        return;
+    }
+    if shows_in(entry) {
+        dates.begin(id, entry, question.event);
+    }
+}
+
+/// Asks the registrations on an instance that turned, in order of registration.
+fn ask_turned_watchers(parts: &Parts, question: Question, instance: DescId, dates: &mut Dates)
+    requires event { 0 < question.event }
+    requires kept { AreKept parts.now.interest dates.old }
+    requires turned { AreTurned question.comes dates.old }
+    requires nested { is_nested_key parts.now.tables instance ≡ true }
+    requires ready { is_ready dates.old instance.0 ≡ question.comes }
+    ensures { Asks question.comes question.event parts.now
+        (watches parts.now.interest instance.0) dates.old dates.new }
+{
+    parts.interest.known();
+    for id in parts.interest.watchers(instance) {
+        ask_on_turned(parts, question, id, dates);
+    }
+}
+
 /// Asks the registrations on each instance whose readiness turned, from the one with this index on, and on each that
 /// turns by that. Those on the instances before were asked since these turned.
+#[inline(always)]
 pub fn ask_turned(parts: &Parts, question: Question, from: usize, dates: &mut Dates)
     requires event { 0 < question.event }
     requires kept { AreKept parts.now.interest dates.old }
     requires turned { AreTurned question.comes dates.old }
+    requires homes { AreHomes parts.now }
+    requires instances { AreInstances parts.now dates.old.turned.reached }
     requires within { from ≤ length dates.old.turned.reached }
     ensures asks { Asks question.comes question.event parts.now (λ k. false) dates.old dates.new }
     ensures settled { (asked : ℕ → Bool)
@@ -91,7 +149,7 @@ pub fn ask_turned(parts: &Parts, question: Question, from: usize, dates: &mut Da
     dates.known();
     let mut index = from;
     while index < dates.turned_count() {
-        ask_watchers(parts, question, dates.turned_at(index), dates);
+        ask_turned_watchers(parts, question, dates.turned_at(index), dates);
         dates.known();
         index += 1;
     }

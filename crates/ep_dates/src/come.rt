@@ -1,6 +1,6 @@
 //! Which registrations come to be reportable in an event.
 ghost use Rattle.std.specs.Prelude.{◌≡◌, ◌<◌, ◌||◌, ◌∷◌, [], false, true, ℕ};
-ghost use Rattle.ep_dates.specs.Ask.{AreSettled, AreTurned, Asks, shows_over};
+ghost use Rattle.ep_dates.specs.Ask.{AreHomes, AreSettled, AreTurned, Asks, shows_over};
 ghost use Rattle.ep_dates.specs.Dates.{forgot};
 ghost use Rattle.ep_dates.specs.Kept.{AreKept};
 ghost use Rattle.ep_dates.specs.Touched.{is_it, may_come, touched_of, watches_fresh};
@@ -42,6 +42,7 @@ fn ask_on(parts: &Parts, question: Question, instance: DescId, dates: &mut Dates
 }
 
 /// Asks the registrations on each of these instances that isn't noted.
+#[inline(always)]
 pub fn ask_above(parts: &Parts, question: Question, instances: &Walk<Global>, dates: &mut Dates)
     requires event { 0 < question.event }
     requires kept { AreKept parts.now.interest dates.old }
@@ -60,6 +61,7 @@ pub fn ask_above(parts: &Parts, question: Question, instances: &Walk<Global>, da
 pub fn come(parts: &Parts, event: u64, touched: &Touched<'_>, dates: &mut Dates)
     requires event { 0 < event }
     requires kept { AreKept parts.now.interest dates.old }
+    requires homes { AreHomes parts.now }
     ensures comes { Asks true event parts.now (λ k. false) (forgot dates.old) dates.new }
     ensures settled { AreSettled true parts.now.interest (shows_over parts.now) dates.new []
         (may_come parts.now.interest (touched_of touched.now)) }

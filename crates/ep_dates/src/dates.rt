@@ -2,7 +2,7 @@
 ghost use Rattle.std.specs.Prelude.{◌≡◌, ◌<◌, ℕ, Some, false, length, slice_get, true};
 ghost use Rattle.ep_machine.specs.Lists.{are_distinct, is_among};
 ghost use Rattle.ep_rings.specs.PlacedRows.{keys_at};
-ghost use Rattle.ep_dates.specs.Dates.{HasPlace, begun, ended, event_at, forgot, id_at, is_ready, noted, renewed};
+ghost use Rattle.ep_dates.specs.Dates.{HasPlace, begun, ended, event_at, forgot, id_at, is_ready, renewed};
 
 use ep_base::{DescId, EntryId};
 use ep_interest::Entry;
@@ -58,11 +58,13 @@ impl Dates {
         self.rows.first(instance).is_some()
     }
 
-    /// What holds of all dates: no instance is noted twice.
-    pub(crate) fn known(&self)
-        ensures { are_distinct self.now.turned.reached ≡ true }
+    /// What holds of all dates: no key stands in a row twice, and no instance is noted twice.
+    pub fn known(&self)
+        ensures rows { (i : ℕ) → are_distinct (keys_at self.now.rows i) ≡ true }
+        ensures turned { are_distinct self.now.turned.reached ≡ true }
     {
         let _since = &self.since;
+        self.rows.known();
         self.turned.known();
     }
 
@@ -117,17 +119,6 @@ impl Dates {
         }
     }
 
-    /// Notes an instance whose readiness is not what it was.
-    fn note(&mut self, instance: DescId, was_ready: bool)
-        requires { instance.0 < self.old.turned.room }
-        ensures { self.new
-            ≡ record self.old { turned = noted was_ready (is_ready self.old instance.0) instance.0 self.old.turned } }
-    {
-        if self.is_ready(instance) != was_ready {
-            self.turned.reach(instance.0);
-        }
-    }
-
     /// Dates the registration under a key, which is in no row: it is reportable since an event.
     pub(crate) fn begin(&mut self, id: EntryId, entry: &Entry, event: u64)
         requires place { HasPlace self.old id entry.now }
@@ -135,10 +126,13 @@ impl Dates {
         ensures { self.new ≡ begun event id entry.now self.old }
     {
         let was_ready = self.is_ready(entry.instance);
-        self.since[entry.number as usize] = event;
-        self.ids[entry.number as usize] = id;
+        let number = entry.number as usize;
+        self.since[number] = event;
+        self.ids[number] = id;
         self.rows.push(entry.instance, id);
-        self.note(entry.instance, was_ready);
+        if !was_ready {
+            self.turned.reach(entry.instance.0);
+        }
     }
 
     /// Takes the date away of the registration under a key, which is in its instance's row: it is reportable no more.
@@ -147,10 +141,11 @@ impl Dates {
         requires dated { is_among (keys_at self.old.rows entry.now.instance.0) id.0 ≡ true }
         ensures { self.new ≡ ended id entry.now self.old }
     {
-        let was_ready = self.is_ready(entry.instance);
         self.since[entry.number as usize] = 0;
         self.rows.remove(entry.instance, id);
-        self.note(entry.instance, was_ready);
+        if !self.is_ready(entry.instance) {
+            self.turned.reach(entry.instance.0);
+        }
     }
 
     /// Dates the registration under a key anew, which is in its instance's row, and gives it the last turn: it was

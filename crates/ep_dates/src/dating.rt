@@ -4,7 +4,7 @@ ghost use Rattle.ep_base.specs.declared.ids.DescId.{DescId as Desc};
 ghost use Rattle.ep_base.specs.declared.ids.EntryId.{EntryId as Id};
 ghost use Rattle.ep_calls.specs.Parking.{ready_key};
 ghost use Rattle.ep_calls.specs.Readiness.{entry_shows, readiness};
-ghost use Rattle.ep_dates.specs.Ask.{shows_by, shows_over};
+ghost use Rattle.ep_dates.specs.Ask.{AreHomes, shows_by, shows_over};
 ghost use Rattle.ep_dates.specs.Dates.{event_at, is_dated, is_ready};
 ghost use Rattle.ep_dates.specs.Kept.{AreKept};
 ghost use Rattle.ep_dates.specs.Order.{AreInTurn};
@@ -27,6 +27,7 @@ use ep_calls::Parts;
 pub fn date(parts: &Parts, event: u64, touched: &Touched<'_>, dates: &mut Dates)
     requires event { 0 < event }
     requires kept { AreKept parts.now.interest dates.old }
+    requires homes { AreHomes parts.now }
     requires begins { (id : Id) (x : Entry) → entry_under parts.now.interest id ≡ Some x
         → entry_shows (readiness parts.now.tables parts.now.clock parts.now.interest)
         parts.now.tables parts.now.clock x ≡ true
@@ -48,6 +49,7 @@ pub fn date(parts: &Parts, event: u64, touched: &Touched<'_>, dates: &mut Dates)
     ensures later { (k : ℕ) → parts.now.interest.added < k
         → event_at dates.new.since k ≡ event_at dates.old.since k }
     ensures length { length dates.new.since ≡ length dates.old.since }
+    ensures places { dates.new.places ≡ dates.old.places }
     ensures kept { AreKept parts.now.interest dates.new }
     ensures order { AreInTurn event parts.now.interest dates.old
         → AreInTurn event parts.now.interest dates.new }

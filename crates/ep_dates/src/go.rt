@@ -1,7 +1,7 @@
 //! Which registrations are reportable no more after an event.
 ghost use Rattle.std.specs.Prelude.{◌≡◌, ◌<◌, [], Some, false, true, ℕ};
 ghost use Rattle.ep_base.specs.declared.ids.EntryId.{EntryId as Id};
-ghost use Rattle.ep_dates.specs.Ask.{AreSettled, AreTurned, Asks, shows_by, shows_over};
+ghost use Rattle.ep_dates.specs.Ask.{AreHomes, AreSettled, AreTurned, Asks, shows_by, shows_over};
 ghost use Rattle.ep_dates.specs.Dates.{forgot, is_dated};
 ghost use Rattle.ep_dates.specs.Kept.{AreKept};
 ghost use Rattle.ep_dates.specs.Touched.{has_number, may_go, touched_of, watches_maybe};
@@ -51,6 +51,7 @@ pub fn ask_called(parts: &Parts, question: Question, called: Option<DescId>, dat
 pub fn go(parts: &Parts, event: u64, touched: &Touched<'_>, dates: &mut Dates)
     requires event { 0 < event }
     requires kept { AreKept parts.now.interest dates.old }
+    requires homes { AreHomes parts.now }
     requires others { (id : Id) (x : Entry) → entry_under parts.now.interest id ≡ Some x
         → may_go parts.now.interest (touched_of touched.now) id.0 ≡ false
         → is_dated dates.old x ≡ true → shows_by (shows_over parts.now) dates.old x ≡ true }

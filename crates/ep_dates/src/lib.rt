@@ -17,4 +17,5 @@ mod touched;
 pub use crate::dates::Dates;
 pub use crate::dating::date;
 pub use crate::drop::{drop_dying, drop_one};
+pub use crate::pick::is_pick;
 pub use crate::touched::Touched;

@@ -9,11 +9,13 @@ use ep_rings::PlacedRows;
 use std::alloc::{AllocError, Global};
 
 impl Dates {
-    /// Of no registrations. An `Err` is want of memory.
+    /// Of no registrations, with a place for the number 0, which none has, and for that of the first. An `Err` is want
+    /// of memory.
     pub fn new(alloc: Global) -> Result<Dates, AllocError>
         ensures { IfOk result (λ dates. AreNew dates) }
     {
         let mut since = Vec::new(alloc);
+        since.push(0)?;
         since.push(0)?;
         Ok(Dates {
             since,

@@ -18,8 +18,10 @@ use Rattle.ep_view.proofs.KernelViewLemmas.{readiness as machine_readiness, repo
 use Rattle.ep_calls.specs.Stands.{AreLinked, IsLinked, Stands, number_at, watch_at}
 use Rattle.ep_calls.specs.Readiness.{entry_shows, readiness}
 use Rattle.ep_calls.specs.Wait.{IsPick, numbers_of}
-use Rattle.ep_plain.specs.Choose.{IsChosen, TellsShown}
-use Rattle.ep_plain.specs.Since.{event_at}
+use Rattle.ep_calls.specs.Parts.{Parts}
+use Rattle.ep_dates.specs.Dates.{Dates, event_at}
+use Rattle.ep_plain.specs.Choose.{IsChosen}
+use Rattle.ep_plain.specs.Exact.{TellsShown}
 use Rattle.ep_calls.specs.declared.wait.Reportable.{Reportable}
 use Rattle.ep_calls.proofs.KeyLemmas.{same_keys}
 use Rattle.ep_calls.proofs.AdditionLemmas.{found_passes}
@@ -137,9 +139,9 @@ sorted_entries xs h = λ i j d le lt.
     let x = h i j e le l in
     omega (arith, x, ap (λ (y : Entry). y.reported_in) (get_entry xs i d e (omega arith)), ap (λ (y : Entry). y.reported_in) (get_entry xs j d e l))
 
--- a registration that a collection comes to has a date exactly where it is reportable
-pub next_told : (v : Seen) (now : ℕ) (r : Registrations) (since : List ℕ) → TellsShown v now r since → (found : List Reportable) (id : EntryId) (x : Entry) (rest : List (EntryId × Entry)) (all : List Entry) → Collects v now r found ((id, x) ∷ rest) all
-    → nat_lt 0 (event_at since x.number) ≡ entry_shows (readiness v now r) v now x
-next_told v now r since told found id x rest all c =
-    found_passes (λ y. nat_lt 0 (event_at since y.number) ≡ entry_shows (readiness v now r) v now y) (λ y. y.number == x.number) x r.entries told
-    (All-head (λ (y : Entry). numbered r.entries y.number ≡ Some y) x (entries_of rest) c.rest_there)
+-- a registration that a collection comes to has a date exactly if it is reportable
+pub next_told : (p : Parts) (d : Dates) → TellsShown p d → (found : List Reportable) (id : EntryId) (x : Entry) (rest : List (EntryId × Entry)) (all : List Entry) → Collects p.tables p.clock p.interest found ((id, x) ∷ rest) all
+    → nat_lt 0 (event_at d.since x.number) ≡ entry_shows (readiness p.tables p.clock p.interest) p.tables p.clock x
+next_told p d told found id x rest all c =
+    found_passes (λ y. nat_lt 0 (event_at d.since y.number) ≡ entry_shows (readiness p.tables p.clock p.interest) p.tables p.clock y) (λ y. y.number == x.number) x p.interest.entries told
+    (All-head (λ (y : Entry). numbered p.interest.entries y.number ≡ Some y) x (entries_of rest) c.rest_there)

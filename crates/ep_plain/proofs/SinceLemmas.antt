@@ -23,11 +23,13 @@ use Rattle.ep_view.specs.KernelView.{KernelWatch, kernel_watch, kernel_watches, 
 use Rattle.ep_view.proofs.KernelViewLemmas.{readiness as machine_readiness, reportable_kept}
 use Rattle.ep_calls.specs.Readiness.{entry_shows, readiness}
 use Rattle.ep_calls.specs.Stands.{Stands, watch_at}
-use Rattle.ep_plain.specs.Dating.{AreListed, Dated}
-use Rattle.ep_plain.specs.Since.{Dates, IsDated, event_at, event_of}
+use Rattle.ep_dates.specs.Dates.{event_at}
+use Rattle.ep_dates.specs.Touched.{date_of}
+use Rattle.ep_plain.specs.Since.{AreDated, IsDated}
 use Rattle.ep_table.specs.Value.{Seen}
 
-all_by : (P : Watch → Type 0) (xs : List Watch) → ((x : Watch) → Member x xs → P x) → AllByRecursion P xs
+-- what holds of each member holds of all
+pub all_by : {X : Type 0} (P : X → Type 0) (xs : List X) → ((x : X) → Member x xs → P x) → AllByRecursion P xs
 all_by P [] h = tt
 all_by P (x ∷ xs) h = (h x (inl refl), all_by P xs (λ y m. h y (inr m)))
 
@@ -47,26 +49,20 @@ event_more (x ∷ xs) zero = refl
 event_more (x ∷ xs) (suc k) = event_more xs k
 
 -- nothing is kept at first
-pub opening_dated : (since : List ℕ) → since ≡ 0 ∷ [] → IsDated opening since
+pub opening_dated : (since : List ℕ) → since ≡ 0 ∷ 0 ∷ [] → IsDated opening since
 opening_dated since is = subst (λ (xs : List ℕ). IsDated opening xs) (sym is) (record {
   places = omega arith;
   later = none;
   shown = All-nil _;
   from = All-nil _;
 }) where
-  none : (k : ℕ) → 0 < k → event_at (0 ∷ []) k ≡ 0
+  none : (k : ℕ) → 0 < k → event_at (0 ∷ 0 ∷ []) k ≡ 0
   none zero lt = refl
-  none (suc k) lt = refl
-
--- and no key is needed
-pub opening_listed : (r : Registrations) (d : Dated) → d.since ≡ 0 ∷ [] → AreListed r d
-opening_listed r d is id k under up = absurd (false≢true (ap (λ (m : ℕ). nat_lt 0 m) (sym (ap (λ (xs : List ℕ). event_at xs k) is ∙ none k)) ∙ up)) where
-  none : (k : ℕ) → event_at (0 ∷ []) k ≡ 0
-  none zero = refl
-  none (suc k) = refl
+  none (suc zero) lt = refl
+  none (suc (suc k)) lt = refl
 
 -- what is kept of a reportable one is no 0
-pub up_where : (n : ℕ) (b : Bool) (rep e : ℕ) → 0 < n → nat_lt 0 (event_of n b rep e) ≡ b
+pub up_where : (n : ℕ) (b : Bool) (rep e : ℕ) → 0 < n → nat_lt 0 (date_of n b rep e) ≡ b
 up_where n false rep e lt = refl
 up_where n true rep e lt = elim (cases_Bool (e == 0)) [
   | inl t ↦ ap (λ (b : Bool). nat_lt 0 (if b || rep == n then n else e)) t ∙ above n lt
@@ -85,16 +81,16 @@ up_where n true rep e lt = elim (cases_Bool (e == 0)) [
 pub none_where : (e : ℕ) → nat_lt 0 e ≡ false → e ≡ 0
 none_where e h = grind (arith, nat_tests, h)
 
-pub comes : (n rep e : ℕ) → e ≡ 0 → event_of n true rep e ≡ n
-comes n rep e h = ap (λ (k : ℕ). event_of n true rep k) h
+pub comes : (n rep e : ℕ) → e ≡ 0 → date_of n true rep e ≡ n
+comes n rep e h = ap (λ (k : ℕ). date_of n true rep k) h
 
-reported_now : (n rep e : ℕ) → rep ≡ n → event_of n true rep e ≡ n
+reported_now : (n rep e : ℕ) → rep ≡ n → date_of n true rep e ≡ n
 reported_now n rep e h = elim (cases_Bool (e == 0)) [
   | inl t ↦ ap (λ (b : Bool). if b || rep == n then n else e) t
   | inr f ↦ ap (λ (b : Bool). if b || rep == n then n else e) f ∙ ap (λ (b : Bool). if b then n else e) (same_test rep n h)
 ]
 
-stays : (n rep e : ℕ) → (e ≡ 0 → ⊥) → (rep ≡ n → ⊥) → event_of n true rep e ≡ e
+stays : (n rep e : ℕ) → (e ≡ 0 → ⊥) → (rep ≡ n → ⊥) → date_of n true rep e ≡ e
 stays n rep e h k = λ i. if apart_test e 0 h i || apart_test rep n k i then n else e
 
 begun_reportable : (s : State) (x : Watch) → is_reportable (next_event s) x ≡ is_reportable s x
@@ -139,7 +135,7 @@ module _ (s : State) (since : List ℕ) (sound : Sound s) (dated : IsDated s sin
 
   -- of one that was there
   from_was : (ks : List ℕ) (t : State) (y : Watch) (turn : HasTurn b t ks y) (w : Watch) → Member w s.watches → turn.x.number ≡ w.number → (from : y.from ≡ (if is_among (reportable_numbers b) y.number then turn.x.from else n))
-      → ((turn.x.rep ≡ w.rep) × (turn.x.from ≡ w.from)) ⊎ ((is_among ks turn.x.number ≡ true) × (turn.x.rep ≡ n) × (turn.x.from ≡ n)) → event_of n true y.rep (event_at since y.number) ≡ y.from
+      → ((turn.x.rep ≡ w.rep) × (turn.x.from ≡ w.from)) ⊎ ((is_among ks turn.x.number ≡ true) × (turn.x.rep ≡ n) × (turn.x.from ≡ n)) → date_of n true y.rep (event_at since y.number) ≡ y.from
   from_was ks t y turn w m number from how =
       let same : y.number ≡ w.number = turn.number ∙ number in
       let kept : event_at since y.number ≡ event_at since w.number = ap (event_at since) same in
@@ -166,7 +162,7 @@ module _ (s : State) (since : List ℕ) (sound : Sound s) (dated : IsDated s sin
 
   -- the event since which one is reportable at the end
   from_is : (limits : Limits) (t : State) (caller : ℕ) (event : Event) (ks : List ℕ) (a : Answer) → StepKeepsTurns → step limits s caller event ks ≡ Some (a, t)
-      → (y : Watch) → Member y t.watches → is_reportable t y ≡ true → event_of n true y.rep (event_at since y.number) ≡ y.from
+      → (y : Watch) → Member y t.watches → is_reportable t y ≡ true → date_of n true y.rep (event_at since y.number) ≡ y.from
   from_is limits t caller event ks a law goes y m r =
       let turn = law limits s t caller event ks a goes y m r in
       let from = turn.from r in
@@ -179,20 +175,20 @@ module _ (s : State) (since : List ℕ) (sound : Sound s) (dated : IsDated s sin
 
   -- what is kept at the end of the event
   pub next_dated : {ws : List Waiter} (limits : Limits) (t : State) (caller : ℕ) (event : Event) (ks : List ℕ) (a : Answer) (v : Seen) (r : Registrations) (now k : ℕ) (new : List ℕ) → StepKeepsTurns → StepAddsOne → step limits s caller event ks ≡ Some (a, t)
-      → Stands v r ws now t → k ≡ n → Dates (entry_shows (readiness v now r) v now) k r (since ++ 0 ∷ []) new → IsDated t new
+      → Stands v r ws now t → k ≡ n → AreDated (entry_shows (readiness v now r) v now) k r (since ++ 0 ∷ []) new → IsDated t new
   next_dated limits t caller event ks a v r now k new turns adds goes stands at dates =
-      let P : KernelWatch → Type 0 = λ w. event_at new w.number ≡ event_of n (shows (readiness v now r) v.files now w) w.reported_in (event_at since w.number) in
-      let each : All (λ x. P (watch_at v.keys x)) r.entries = λ i d lt. dates.each i d lt ∙ (λ j. event_of (at j) (entry_shows (readiness v now r) v now (get_or r.entries i d)) (get_or r.entries i d).reported_in (event_more since (get_or r.entries i d).number j)) in
+      let P : KernelWatch → Type 0 = λ w. event_at new w.number ≡ date_of n (shows (readiness v now r) v.files now w) w.reported_in (event_at since w.number) in
+      let each : All (λ x. P (watch_at v.keys x)) r.entries = λ i d lt. dates.each i d lt ∙ (λ j. date_of (at j) (entry_shows (readiness v now r) v now (get_or r.entries i d)) (get_or r.entries i d).reported_in (event_more since (get_or r.entries i d).number j)) in
       let kept : All P (kernel_watches t t.watches) = subst (λ (xs : List KernelWatch). All P xs) (sym stands.watches) (All-map P (watch_at v.keys) r.entries each) in
       let same_ready : machine_readiness t ≡ readiness v now r = λ i. ready_now (stands.files i) (stands.now i) (stands.watches i) in
-      let one : (y : Watch) → Member y t.watches → event_at new y.number ≡ event_of n (is_reportable t y) y.rep (event_at since y.number) = λ y m.
+      let one : (y : Watch) → Member y t.watches → event_at new y.number ≡ date_of n (is_reportable t y) y.rep (event_at since y.number) = λ y m.
       let up : is_reportable t y ≡ shows (readiness v now r) v.files now (kernel_watch t y) = reportable_kept t y ∙ λ i. shows (same_ready i) (stands.files i) (stands.now i) (kernel_watch t y) in
-      all_member P (kernel_watches t t.watches) (kernel_watch t y) kept (member_map (kernel_watch t) y t.watches m) ∙ ap (λ (c : Bool). event_of n c y.rep (event_at since y.number)) (sym up) in
+      all_member P (kernel_watches t t.watches) (kernel_watch t y) kept (member_map (kernel_watch t) y t.watches m) ∙ ap (λ (c : Bool). date_of n c y.rep (event_at since y.number)) (sym up) in
       let added = adds limits s t caller event ks a goes in
       record {
         places = omega (arith, added.1, dates.length, length-append since (0 ∷ []), dated.places);
         later = λ j lt. dates.later j (omega (arith, lt, stands.added)) ∙ (event_more since j ∙ dated.later j (omega (arith, lt, added.0)));
         shown = All-from_recursion _ t.watches (all_by (λ y. nat_lt 0 (event_at new y.number) ≡ is_reportable t y) t.watches (λ y m. ap (λ (e : ℕ). nat_lt 0 e) (one y m) ∙ up_where n (is_reportable t y) y.rep (event_at since y.number) (omega arith)));
         from = All-from_recursion _ t.watches (all_by (λ y. is_reportable t y ≡ true → event_at new y.number ≡ y.from) t.watches (λ y m q.
-            one y m ∙ (ap (λ (c : Bool). event_of n c y.rep (event_at since y.number)) q ∙ from_is limits t caller event ks a turns goes y m q)));
+            one y m ∙ (ap (λ (c : Bool). date_of n c y.rep (event_at since y.number)) q ∙ from_is limits t caller event ks a turns goes y m q)));
       }

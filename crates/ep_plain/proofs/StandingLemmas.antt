@@ -1,67 +1,234 @@
 -- What holds of the kernel over one event.
-use Rattle.std.proofs.Common.{get_or, ◌≡◌, ◌<◌, ◌≤◌, ◌+◌, ◌++◌, ◌∙◌, ◌==◌, ◌&&◌, ◌||◌, ℕ, All, Bool, List, [], ◌∷◌, None, Option, Some, ap, arith, false, inl, inr, is_some, length, map, nat_lt, refl, slice_index_or, subst, sym, true, unwrap_or, vec_capacity}
-use Rattle.std.specs.List.{list_any}
+use Rattle.std.proofs.Common.{get_or, ◌≡◌, ◌<◌, ◌≤◌, ◌+◌, ◌++◌, ◌∙◌, ℕ, All, Bool, List, [], ◌∷◌, None, Option, Some, ap, arith, false, is_some, length, map, refl, slice_index_or, subst, suc, sym, true, unwrap_or, zero}
 use Rattle.std.specs.Prelude.{IfNone, IfSome}
-use Rattle.std.proofs.lemmas.Bool.{cases_Bool, false≢true}
+use Rattle.std.proofs.lemmas.Bool.{false≢true}
 use Rattle.std.proofs.lemmas.List.{length-append}
-use Rattle.std.proofs.lemmas.List.Elements.{All-head, All-map, All-tail}
+use Rattle.std.proofs.lemmas.List.Elements.{All-from_recursion, All-map}
+use Rattle.ep_base.specs.Limits.{Limits}
 use Rattle.ep_base.specs.declared.call.Event.{Event}
 use Rattle.ep_base.specs.declared.ids.CallerId.{CallerId}
+use Rattle.ep_base.specs.declared.ids.EntryId.{EntryId}
 use Rattle.ep_base.specs.declared.record.Record.{Record}
-use Rattle.ep_interest.specs.Registrations.{number_under, settled}
+use Rattle.ep_interest.specs.Registrations.{Registrations, entry_found, entry_under, settled}
 use Rattle.ep_interest.specs.declared.entry.Entry.{Entry}
-use Rattle.ep_law.specs.Laws.{ReportablesAreSpread}
 use Rattle.ep_law.proofs.GraphLemmas.{graph_stays_legal}
+use Rattle.ep_law.proofs.ListLemmas.{all_member}
 use Rattle.ep_law.proofs.SoundLemmas.{sound_begun}
+use Rattle.ep_law.specs.Laws.{Member}
+use Rattle.ep_machine.specs.Lists.{is_among}
 use Rattle.ep_machine.specs.Refusal.{refusals}
 use Rattle.ep_machine.specs.Run.{run}
-use Rattle.ep_machine.specs.State.{State, opening}
+use Rattle.ep_machine.specs.State.{State, Watch, opening}
+use Rattle.ep_machine.specs.Step.{change, next_event, step}
 use Rattle.ep_view.proofs.AtRestLemmas.{quiet_begun}
-use Rattle.ep_view.proofs.KernelViewLemmas.{any_kept, readiness as machine_readiness, ready_kept}
-use Rattle.ep_view.specs.KernelView.{KernelWatch, ready_now, shows, shows_in}
+use Rattle.ep_view.specs.KernelView.{KernelWatch, kernel_watch, ready_now}
+use Rattle.ep_calls.proofs.EndLemmas.{readiness_settled, settles, shows_settled}
+use Rattle.ep_calls.proofs.EntryLemmas.{key_of}
+use Rattle.ep_calls.proofs.KeepsLemmas.{DoesAt, Settles, adds_next, keeps_next, keeps_opening, record_of, state_is, step_next}
 use Rattle.ep_calls.proofs.RaiseLemmas.{stirs_added}
 use Rattle.ep_calls.specs.Does.{DoesEventIf}
-use Rattle.ep_calls.specs.Ids.{HadOrAdds}
-use Rattle.ep_calls.specs.Moves.{Goes, MovesBy}
-use Rattle.ep_calls.specs.Raising.{Raises}
-use Rattle.ep_calls.specs.Stands.{KeepsKeys, number_at, watch_at}
-use Rattle.ep_calls.proofs.EndLemmas.{ready_settled, rested, rests_so, settles, shows_settled}
-use Rattle.ep_plain.proofs.ReasonLemmas.{have_reasons}
-use Rattle.ep_plain.specs.Altered.{NamesAltered, NeedsRoom, is_adding}
-use Rattle.ep_plain.proofs.AddedLemmas.{step_adds_none}
-use Rattle.ep_plain.specs.Dating.{AreListed, Dated, dated_count, dated_of}
 use Rattle.ep_calls.specs.Ends.{Rests, Spreads}
-use Rattle.ep_plain.specs.Mark.{TellsReady}
-use Rattle.ep_plain.specs.Reason.{HaveReasons}
-use Rattle.ep_plain.specs.declared.altered.Altered.{Altered}
-use Rattle.ep_plain.specs.declared.since.Dating.{Dating}
-use Rattle.ep_table.specs.Value.{Seen}
+use Rattle.ep_calls.specs.Keeps.{Keeps}
+use Rattle.ep_calls.specs.Moves.{Goes, MovesBy}
+use Rattle.ep_calls.specs.Parking.{ready_key}
+use Rattle.ep_calls.specs.Parts.{AreOpening, Parts}
+use Rattle.ep_calls.specs.Raising.{Raises}
+use Rattle.ep_calls.specs.Readiness.{entry_shows, readiness}
+use Rattle.ep_calls.specs.Stands.{number_at, watch_at}
+use Rattle.ep_calls.specs.declared.outcome.Outcome.{Outcome}
+use Rattle.ep_dates.specs.Dates.{Dates, event_at, is_ready}
+use Rattle.ep_dates.specs.Kept.{AreKept}
+use Rattle.ep_dates.specs.Order.{AreInTurn, Rise, date_found, date_under}
+use Rattle.ep_dates.specs.Touched.{date_of}
+use Rattle.ep_order.proofs.StepLemmas.{step_adds_one, step_keeps_turns}
+use Rattle.ep_plain.proofs.AllowLemmas.{all_below, dated_shown}
+use Rattle.ep_plain.proofs.ComeLemmas.{date_left}
+use Rattle.ep_plain.proofs.LosesLemmas.{Stay, loses_none, stay_mapped}
+use Rattle.ep_plain.proofs.SpreadLemmas.{fits_stay}
+use Rattle.ep_plain.proofs.RoomLemmas.{fits_grown, turn_grown}
+use Rattle.ep_plain.proofs.NumberLemmas.{kept_numbered, order_numbered}
+use Rattle.ep_plain.proofs.SinceLemmas.{all_by, event_more, next_dated, opening_dated}
+use Rattle.ep_plain.specs.Dating.{Fits, Grows, IsNew}
+use Rattle.ep_plain.specs.Exact.{Follows, IsExact, TellsReady}
+use Rattle.ep_plain.specs.Since.{AreDated, IsDated, entry_date}
+use Rattle.ep_plain.specs.Spread.{SpreadsTo}
+use Rattle.ep_plain.specs.Standing.{Standing}
 use Rattle.ep_plain.specs.StepWith.{AddsBy, HasStep}
 use Rattle.ep_plain.specs.These.{ForEach, MayGo, MayReport, ReportsThese}
-use Rattle.ep_machine.specs.Step.{change, next_event, step}
-use Rattle.ep_order.proofs.StepLemmas.{step_adds_one, step_keeps_turns}
-use Rattle.ep_calls.proofs.KeepsLemmas.{DoesAt, Settles, adds_next, keeps_next, record_of, state_is, step_next}
-use Rattle.ep_calls.specs.Keeps.{Keeps}
-use Rattle.ep_calls.specs.Parts.{Parts}
-use Rattle.ep_calls.specs.Readiness.{entry_shows, readiness}
-use Rattle.ep_calls.specs.declared.outcome.Outcome.{Outcome}
-use Rattle.ep_plain.specs.Since.{Dates, IsDated, entry_event, event_at, event_of}
-use Rattle.ep_plain.specs.Standing.{Standing}
-use Rattle.ep_plain.proofs.SinceLemmas.{event_more, next_dated, up_where}
+use Rattle.ep_plain.specs.declared.dating.Dating.{Dating}
+use Rattle.ep_rings.specs.KeyWalk.{id_at as number_key}
+use Rattle.ep_rings.specs.PlacedRows.{PlacedRows, first_in, keys_at, no_rows}
+use Rattle.ep_table.specs.Value.{Seen}
 
-module _ (past : List Record) (old mid left : Parts) (d : Dating) (standing : Standing past old d) (caller : CallerId) (event : Event) (outcome : Outcome) (n : ℕ) (at : n ≡ length past + 1)
-    (does : DoesAt (next_event standing.keeps.state) caller.0 event outcome old mid) (spreads : Spreads n outcome.raising mid left) where
+-- At the start nothing is registered.
+none_under : (id : EntryId) (x : Entry) → entry_under (record { entries = []; keys = []; added = 0; next = 0 }) id ≡ Some x → ⊥
+none_under id x h = none_key (slice_index_or [] id.0 None) refl h where
+  none_key : (o : Option ℕ) → slice_index_or [] id.0 None ≡ o → entry_found [] o ≡ Some x → ⊥
+  none_key None is k = absurd (let e : None ≡ Some x = k in cc)
+  none_key (Some n) is k = absurd (let e : None ≡ Some x = k in cc)
+
+none_ready : (p : Parts) (i : ℕ) → ready_key p.tables p.clock (record { entries = []; keys = []; added = 0; next = 0 }) i ≡ false
+unfolding ready_now
+none_ready p i = refl
+
+pub standing_opening : (limits : Limits) (p : Parts) (d : Dating) → AreOpening limits p → IsNew d → Standing [] p d
+standing_opening limits p d at_start new = record {
+  keeps = keeps;
+  dated = subst (λ (s : State). IsDated s d.dates.since) at (opening_dated d.dates.since new.since);
+  ready = λ i lives. no_row i.0 ∙ sym (ap (λ (r : Registrations). ready_key p.tables p.clock r i.0) at_start.interest ∙ none_ready p i.0);
+  order = record {
+    rise = λ i. subst (λ (v : PlacedRows). Rise (map (date_under p.interest d.dates) (keys_at v i))) (sym new.rows) (empty_rise i);
+    past = λ i k t. absurd (false≢true (sym (ap (λ (v : PlacedRows). is_among (keys_at v i) k) new.rows ∙ none_among i k) ∙ t));
+  };
+  fits = subst (λ (r : Registrations). Fits r d) (sym at_start.interest) (record {
+    kept = record {
+      places = λ id x at. absurd (none_under id x at);
+      listed = λ id x at. absurd (none_under id x at);
+      only = λ i k t. absurd (false≢true (sym (ap (λ (v : PlacedRows). is_among (keys_at v i) k) new.rows ∙ none_among i k) ∙ t));
+      ids = λ id x at up. absurd (none_under id x at);
+    };
+    reached = λ id x at. absurd (none_under id x at);
+    gone = λ id x at. absurd (none_under id x at);
+    flags = λ id x at. absurd (none_under id x at);
+    unflagged = new.flags;
+  });
+} where
+  keeps : Keeps [] p
+  keeps = keeps_opening limits p at_start
+
+  at : opening ≡ keeps.state
+  at = ap (λ (o : Option State). unwrap_or o opening) keeps.leads
+
+  no_keys : (i : ℕ) → keys_at no_rows i ≡ []
+  no_keys zero = refl
+  no_keys (suc i) = refl
+
+  none_among : (i k : ℕ) → is_among (keys_at no_rows i) k ≡ false
+  none_among i k = ap (λ (ks : List ℕ). is_among ks k) (no_keys i)
+
+  no_row : (i : ℕ) → is_ready d.dates i ≡ false
+  no_row i = ap (λ (v : PlacedRows). is_some (first_in (keys_at v i))) new.rows ∙ ap (λ (ks : List ℕ). is_some (first_in ks)) (no_keys i)
+
+  empty_rise : (i : ℕ) → Rise (map (date_under p.interest d.dates) (keys_at no_rows i))
+  empty_rise i = subst (λ (ks : List ℕ). Rise (map (date_under p.interest d.dates) ks)) (sym (no_keys i)) tt
+
+-- Between events, and at the beginning of the next.
+module _ (past : List Record) (p : Parts) (d : Dating) (standing : Standing past p d) where
+  abbrev s : State
+  s = standing.keeps.state
+
+  -- the last report of each was in an event before
+  abbrev IsPast : KernelWatch → Type 0
+  IsPast w = w.reported_in < length past + 1
+
+  reported_past : (x : Watch) → Member x s.watches → IsPast (kernel_watch s x)
+  reported_past x m =
+      let fair = all_member (λ w. w.rep ≤ w.from) s.watches x standing.keeps.sound.fair m in
+      let before = all_member (λ w. w.from ≤ s.n) s.watches x standing.keeps.sound.past m in
+      omega (arith, fair, before, standing.keeps.n)
+
+  reported_before : All (λ x. x.reported_in < length past + 1) p.interest.entries
+  reported_before = all_below IsPast (watch_at p.tables.keys) p.interest.entries (subst (λ (ws : List KernelWatch). All IsPast ws) standing.keeps.stands.watches (All-map IsPast (kernel_watch s) s.watches (All-from_recursion (λ x. IsPast (kernel_watch s x)) s.watches (all_by (λ x. IsPast (kernel_watch s x)) s.watches reported_past))))
+
+  pub exact_now : IsExact (length past + 1) p d
+  exact_now = record {
+    shown = dated_shown p d.dates standing.keeps.state standing.keeps.stands standing.dated;
+    ready = standing.ready;
+    past = reported_before;
+    order = (length past, standing.order);
+    fits = standing.fits;
+    places = omega (arith, standing.dated.places, standing.keeps.stands.added);
+    later = λ k lt. standing.dated.later k (omega (arith, lt, standing.keeps.stands.added));
+  }
+
+-- with more room, the same holds
+pub standing_grown : (past : List Record) (p : Parts) (d e : Dating) → Grows d e → Standing past p d → Standing past p e
+standing_grown past p d e grows h = record {
+  keeps = h.keeps;
+  dated = subst (IsDated h.keeps.state) (sym grows.dates.since) h.dated;
+  ready = λ i lives. ap (λ (ks : List ℕ). is_some (first_in ks)) (grows.dates.rows.rows i.0) ∙ h.ready i lives;
+  order = turn_grown (length past) p.interest d e grows h.order;
+  fits = fits_grown p.interest d e grows h.fits;
+}
+
+-- room for more numbers, too
+kept_reserved : (r : Registrations) (d e : Dates) → e ≡ record d { places = e.places } → AreKept r d → AreKept r e
+kept_reserved r d e same h = subst (AreKept r) (sym same) (record {
+  places = λ id x at. let p = h.places id x at in record { since = p.since; room = record { ids = p.room.ids; row = p.room.row; key = p.room.key; turn = p.room.turn } };
+  listed = h.listed;
+  only = h.only;
+  ids = h.ids;
+})
+
+order_reserved : (n : ℕ) (r : Registrations) (d e : Dates) → e ≡ record d { places = e.places } → AreInTurn n r d → AreInTurn n r e
+order_reserved n r d e same h = subst (AreInTurn n r) (sym same) (record { rise = λ i. subst Rise (rows_same (keys_at d.rows i)) (h.rise i); past = λ i k t. subst (λ (m : ℕ). m ≤ n) (found_same (entry_under r (number_key k))) (h.past i k t) }) where
+  found_same : (o : Option Entry) → date_found d o ≡ date_found (record d { places = e.places }) o
+  found_same None = refl
+  found_same (Some x) = refl
+
+  rows_same : (ks : List ℕ) → map (date_under r d) ks ≡ map (date_under r (record d { places = e.places })) ks
+  rows_same [] = refl
+  rows_same (k ∷ ks) = λ i. found_same (entry_under r (number_key k)) i ∷ rows_same ks i
+
+pub standing_reserved : (past : List Record) (p : Parts) (d : Dating) (e : Dates) → e ≡ record d.dates { places = e.places } → Standing past p d → Standing past p (record d { dates = e })
+standing_reserved past p d e same h = record {
+  keeps = h.keeps;
+  dated = subst (IsDated h.keeps.state) (sym (ap (λ (q : Dates). q.since) same)) h.dated;
+  ready = λ i lives. ap (λ (q : Dates). is_ready q i.0) same ∙ h.ready i lives;
+  order = order_reserved (length past) p.interest d.dates e same h.order;
+  fits = record { kept = kept_reserved p.interest d.dates e same h.fits.kept; reached = h.fits.reached; gone = h.fits.gone; flags = h.fits.flags; unflagged = h.fits.unflagged };
+}
+
+module _ (past : List Record) (old mid left : Parts) (d e f g h : Dating) (standing : Standing past old d) (caller : CallerId) (event : Event) (outcome : Outcome) (n : ℕ) (at : n ≡ length past + 1)
+    (does : DoesAt (next_event standing.keeps.state) caller.0 event outcome old mid) (follows : Follows n event outcome.picked old d mid e) (to : SpreadsTo n outcome.raising mid e left f) where
+  abbrev spreads : Spreads n outcome.raising mid left
+  spreads = to.spreads
+
   abbrev after : List Record
   after = past ++ record_of caller event outcome ∷ []
 
   abbrev longer : List ℕ
-  longer = d.since.items ++ 0 ∷ []
+  longer = d.dates.since ++ 0 ∷ []
 
   abbrev noted_parts : Parts
   noted_parts = record mid { interest = spreads.noted }
 
   abbrev forgotten : Parts → Parts
   forgotten new = record left { interest = new.interest }
+
+  -- what follows the change adds no registration
+  added_left : left.interest.added ≡ mid.interest.added
+  added_left = spreads.rises.added ∙ (spreads.leaves.burial.buries.added ∙ stirs_added outcome.raising mid.tables mid.clock n mid.interest spreads.noted spreads.leaves.stirs)
+
+  -- Once there is a place for one number more.
+  module _ (number : g ≡ record f { dates = record f.dates { since = f.dates.since ++ 0 ∷ [] } }) where
+    pub fits_numbered : Fits left.interest g
+    fits_numbered = subst (Fits left.interest) (sym number) (record { kept = kept_numbered left.interest f.dates to.fits.kept; reached = to.fits.reached; gone = to.fits.gone; flags = to.fits.flags; unflagged = to.fits.unflagged })
+
+    -- the dates don't sink along a row
+    pub order_left : AreInTurn n left.interest g.dates
+    order_left =
+        let before : AreInTurn n old.interest d.dates = record { rise = standing.order.rise; past = λ i k t. let le = standing.order.past i k t in omega (arith, le, at) } in
+        let after_spread = to.loses.order n (follows.loses.order n before) in
+        subst (λ (q : Dating). AreInTurn n left.interest q.dates) (sym number) (order_numbered left.interest f.dates n (record { rise = after_spread.rise; past = after_spread.past }))
+
+    -- what the dates come to by those before the event
+    pub dates_from : (shows : Entry → Bool) → AreDated shows n left.interest g.dates.since h.dates.since → AreDated shows n left.interest longer h.dates.since
+    dates_from shows dates =
+        let P : Entry → Type 0 = λ x. event_at h.dates.since x.number ≡ entry_date shows n longer x in
+        let since : g.dates.since ≡ f.dates.since ++ 0 ∷ [] = ap (λ (q : Dating). q.dates.since) number in
+        let each : (x : Entry) → Member x left.interest.entries → P x = λ x m.
+        let key = key_of left.interest spreads.sound x m in
+        let earlier : event_at g.dates.since x.number ≡ event_at longer x.number = ap (λ (ks : List ℕ). event_at ks x.number) since ∙ (date_left n event outcome old mid left d e f follows to key.0 x key.1 ∙ sym (event_more d.dates.since x.number)) in
+        all_member (λ y. event_at h.dates.since y.number ≡ entry_date shows n g.dates.since y) left.interest.entries x dates.each m ∙ ap (date_of n (shows x) x.reported_in) earlier in
+        record {
+          each = All-from_recursion P left.interest.entries (all_by P left.interest.entries each);
+          later = λ k lt.
+              dates.later k lt
+              ∙ (ap (λ (ks : List ℕ). event_at ks k) since
+              ∙ (event_more f.dates.since k ∙ (to.loses.later k lt ∙ (follows.loses.later k (omega (arith, lt, added_left)) ∙ sym (event_more d.dates.since k)))));
+          length = dates.length ∙ (ap (λ (ks : List ℕ). length ks) since ∙ (length-append f.dates.since (0 ∷ []) ∙ (ap (λ (k : ℕ). k + 1) (to.loses.since ∙ follows.loses.since) ∙ sym (length-append d.dates.since (0 ∷ [])))));
+        }
 
   -- Once what was passed on is forgotten.
   module _ (new : Parts) (rests : Rests left new) where
@@ -74,11 +241,6 @@ module _ (past : List Record) (old mid left : Parts) (d : Dating) (standing : St
     goes : step old.tables.limits standing.keeps.state caller.0 event outcome.picked ≡ Some (outcome.answer, keeps_new.state)
     goes = step_next past old mid noted_parts spreads.buried (forgotten new) new standing.keeps caller event outcome n at does so ∙ ap (λ (t : State). Some (outcome.answer, t)) (state_is after new keeps_new)
 
-    room_then : new.interest.added < length longer
-    room_then =
-        let added = step_adds_one old.tables.limits standing.keeps.state keeps_new.state caller.0 event outcome.picked outcome.answer goes in
-        omega (arith, added.1, standing.dated.places, keeps_new.stands.added, length-append d.since.items (0 ∷ []))
-
     -- the parts then
     tables : new.tables ≡ left.tables
     tables = ap (λ (p : Parts). p.tables) rests.others
@@ -86,34 +248,39 @@ module _ (past : List Record) (old mid left : Parts) (d : Dating) (standing : St
     clock : new.clock ≡ left.clock
     clock = ap (λ (p : Parts). p.clock) rests.others
 
+    stay : Stay left.interest new.interest
+    stay = stay_mapped settled (λ x. refl) (λ x. refl) left.interest new.interest rests.entries rests.keys rests.added
+
     -- dates stay what they are
-    dates_rest : (since : List ℕ) → Dates (entry_shows (readiness left.tables left.clock left.interest) left.tables left.clock) n left.interest longer since
-        → Dates (entry_shows (readiness new.tables new.clock new.interest) new.tables new.clock) n new.interest longer since
+    dates_rest : (since : List ℕ) → AreDated (entry_shows (readiness left.tables left.clock left.interest) left.tables left.clock) n left.interest longer since
+        → AreDated (entry_shows (readiness new.tables new.clock new.interest) new.tables new.clock) n new.interest longer since
     dates_rest since h =
         let q = new.interest in
         let v = left.tables in
         let before : Entry → Bool = entry_shows (readiness v left.clock left.interest) v left.clock in
         let then : Entry → Bool = entry_shows (readiness v left.clock q) v left.clock in
-        let P : Entry → Type 0 = λ x. event_at since x.number ≡ entry_event then n longer x in
-        let each : All (λ x. P (settled x)) left.interest.entries = λ i e lt. h.each i e lt ∙ ap (λ (b : Bool). event_of n b (get_or left.interest.entries i e).reported_in (event_at longer (get_or left.interest.entries i e).number)) (sym (shows_settled v left.clock left.interest q rests.entries (get_or left.interest.entries i e))) in
+        let P : Entry → Type 0 = λ x. event_at since x.number ≡ entry_date then n longer x in
+        let each : All (λ x. P (settled x)) left.interest.entries = λ i e lt. h.each i e lt ∙ ap (λ (b : Bool). date_of n b (get_or left.interest.entries i e).reported_in (event_at longer (get_or left.interest.entries i e).number)) (sym (shows_settled v left.clock left.interest q rests.entries (get_or left.interest.entries i e))) in
         let all : All P q.entries = subst (λ (xs : List Entry). All P xs) (sym rests.entries) (All-map P settled left.interest.entries each) in
-        let over : Dates then n q longer since = record { each = all; later = λ k lt. h.later k (omega (arith, lt, rests.added)); length = h.length } in
-        subst (λ (w : Seen). Dates (entry_shows (readiness w new.clock new.interest) w new.clock) n new.interest longer since) (sym tables)
-        (subst (λ (m : ℕ). Dates (entry_shows (readiness v m q) v m) n q longer since) (sym clock) over)
+        let over : AreDated then n q longer since = record { each = all; later = λ k lt. h.later k (omega (arith, lt, rests.added)); length = h.length } in
+        subst (λ (w : Seen). AreDated (entry_shows (readiness w new.clock new.interest) w new.clock) n new.interest longer since) (sym tables)
+        (subst (λ (m : ℕ). AreDated (entry_shows (readiness v m q) v m) n q longer since) (sym clock) over)
 
-    listed_rest : (e : Dating) → AreListed left.interest (dated_of e) → AreListed new.interest (dated_of e)
-    listed_rest e h id k under = h id k (ap (λ (ks : List (Option ℕ)). slice_index_or ks id.0 None) (sym rests.keys) ∙ under)
+    ready_rest : TellsReady left h.dates → TellsReady new h.dates
+    ready_rest ready =
+        let here : TellsReady (record left { interest = new.interest }) h.dates = λ i lives. ready i lives ∙ ap (λ (at : ℕ → Bool). at (number_at left.tables.keys i)) (sym (readiness_settled left.tables left.clock left.interest new.interest rests.entries)) in
+        subst (λ (q : Parts). TellsReady q h.dates) (sym rests.others) here
 
-    pub standing_next : (e : Dating) → Dates (entry_shows (readiness left.tables left.clock left.interest) left.tables left.clock) n left.interest longer e.since.items → AreListed left.interest (dated_of e)
-        → length e.keys.items ≤ dated_count e.since.items → left.interest.added < vec_capacity e.keys → Standing after new e
-    standing_next e dates listed count many = record {
+    pub standing_next : AreDated (entry_shows (readiness left.tables left.clock left.interest) left.tables left.clock) n left.interest longer h.dates.since
+        → TellsReady left h.dates → Fits left.interest h → AreInTurn n left.interest h.dates → Standing after new h
+    standing_next dates ready fits order = record {
       keeps = keeps_new;
       dated =
-          next_dated standing.keeps.state d.since.items standing.keeps.sound standing.dated old.tables.limits keeps_new.state caller.0 event outcome.picked outcome.answer new.tables new.interest new.clock n e.since.items
-          step_keeps_turns step_adds_one goes keeps_new.stands (at ∙ ap (λ (k : ℕ). k + 1) (sym standing.keeps.n)) (dates_rest e.since.items dates);
-      listed = listed_rest e listed;
-      count = count;
-      room = omega (arith, many, rests.added);
+          next_dated standing.keeps.state d.dates.since standing.keeps.sound standing.dated old.tables.limits keeps_new.state caller.0 event outcome.picked outcome.answer new.tables new.interest new.clock n h.dates.since
+          step_keeps_turns step_adds_one goes keeps_new.stands (at ∙ ap (λ (k : ℕ). k + 1) (sym standing.keeps.n)) (dates_rest h.dates.since dates);
+      ready = ready_rest ready;
+      order = subst (λ (k : ℕ). AreInTurn k new.interest h.dates) (at ∙ sym (length-append past (record_of caller event outcome ∷ []))) ((loses_none left.interest new.interest stay h.dates fits.kept).order n order);
+      fits = fits_stay left.interest new.interest stay h h fits refl refl refl refl;
     }
 
     -- the record that is added
@@ -128,119 +295,6 @@ module _ (past : List Record) (old mid left : Parts) (d : Dating) (standing : St
           ∙ step_next past old mid noted_parts spreads.buried (forgotten new) new standing.keeps caller event outcome n at does so);
       added = λ i. past ++ record { caller = caller; event = event; answer = outcome.answer; picked = told i } ∷ [];
     }
-
-  -- what marks go by
-  module _ (e : Dating) (dates : Dates (entry_shows (readiness left.tables left.clock left.interest) left.tables left.clock) n left.interest longer e.since.items) where
-    abbrev new : Parts
-    new = rested left
-
-    abbrev shown : KernelWatch → Bool
-    shown w = shows (readiness new.tables new.clock new.interest) new.tables.files new.clock w
-
-    abbrev is_up : Entry → Bool
-    is_up x = nat_lt 0 (event_at e.since.items x.number)
-
-    any_up : (at : ℕ) (xs : List Entry) → All (λ x. shown (watch_at left.tables.keys (settled x)) ≡ is_up x) xs → list_any (λ w. w.instance == at && shown w) (map (watch_at left.tables.keys) (map settled xs)) ≡ list_any (λ x. number_at left.tables.keys x.instance == at && is_up x) xs
-    any_up at [] h = refl
-    any_up at (x ∷ xs) h =
-        let one = All-head (λ y. shown (watch_at left.tables.keys (settled y)) ≡ is_up y) x xs h in
-        let rest = any_up at xs (All-tail (λ y. shown (watch_at left.tables.keys (settled y)) ≡ is_up y) x xs h) in
-        λ i. number_at left.tables.keys x.instance == at && one i || rest i
-
-    pub tells_left : AreListed left.interest (dated_of e) → TellsReady left.tables left.clock left.interest (dated_of e)
-    tells_left listed =
-        let keeps = keeps_new new (rests_so left) in
-        let t = keeps.state in
-        let legal = graph_stays_legal new.tables.limits after t keeps.leads in
-        let same : machine_readiness t ≡ readiness new.tables new.clock new.interest = λ i. ready_now (keeps.stands.files i) (keeps.stands.now i) (keeps.stands.watches i) in
-        let each : All (λ x. shown (watch_at left.tables.keys (settled x)) ≡ is_up x) left.interest.entries = λ i x lt.
-        let y = get_or left.interest.entries i x in
-        shows_settled left.tables left.clock left.interest new.interest refl y
-        ∙ sym (ap (λ (k : ℕ). nat_lt 0 k) (dates.each i x lt) ∙ up_where n (entry_shows (readiness left.tables left.clock left.interest) left.tables left.clock y) y.reported_in (event_at longer y.number) (omega (arith, at))) in
-        record {
-          ready = λ k.
-              ap (λ (ready : ℕ → Bool). ready k) (sym (ready_settled left.tables.keys left.tables.files left.clock left.interest.entries))
-              ∙ (ap (λ (ready : ℕ → Bool). ready k) (sym same)
-              ∙ (sym (ready_kept t k)
-              ∙ (any_kept t k legal
-              ∙ ((λ i. list_any (shows_in (same i) (keeps.stands.files i) (keeps.stands.now i) k) (keeps.stands.watches i))
-              ∙ any_up k left.interest.entries each))));
-          listed = listed;
-        }
-
-  -- there is a place for each registration
-  pub room : left.interest.added < length longer
-  room = room_then (rested left) (rests_so left)
-
-  -- what follows the change adds no registration
-  added_left : left.interest.added ≡ mid.interest.added
-  added_left = spreads.rises.added ∙ (spreads.leaves.burial.buries.added ∙ stirs_added outcome.raising mid.tables mid.clock n mid.interest spreads.noted spreads.leaves.stirs)
-
-  -- and for its key, where there was room for one that is added, or none was added
-  pub key_room : (cap : ℕ) (has_room : Bool) → old.interest.added < cap → NeedsRoom event has_room old.interest mid.interest → (has_room ≡ true → is_adding event ≡ true → old.interest.added + 1 < cap) → left.interest.added < cap
-  key_room cap has_room lt needs more =
-      let t = keeps_new (rested left) (rests_so left) in
-      let is = goes (rested left) (rests_so left) in
-      let one = step_adds_one old.tables.limits standing.keeps.state t.state caller.0 event outcome.picked outcome.answer is in
-      elim (cases_Bool (is_adding event)) [
-        | inl adds ↦ elim (cases_Bool has_room) [
-          | inl has ↦ let enough = more has adds in omega (arith, enough, one.1, standing.keeps.stands.added, t.stands.added)
-          | inr none ↦ let same = needs adds none in omega (arith, lt, same, added_left)
-        ]
-        | inr none ↦
-            let same = step_adds_none old.tables.limits standing.keeps.state t.state caller.0 event outcome.picked outcome.answer none is in
-            omega (arith, lt, same, standing.keeps.stands.added, t.stands.added)
-      ]
-
-  -- no number is dated that was not given out
-  pub later_left : (k : ℕ) → left.interest.added < k → event_at longer k ≡ 0
-  later_left k lt =
-      let t = keeps_new (rested left) (rests_so left) in
-      let one = step_adds_one old.tables.limits standing.keeps.state t.state caller.0 event outcome.picked outcome.answer (goes (rested left) (rests_so left)) in
-      event_more d.since.items k ∙ standing.dated.later k (omega (arith, lt, one.0, t.stands.added))
-
-  -- what had a date before has its key in the list
-  pub listed_left : (ids : HadOrAdds old.interest mid.interest) → AreListed left.interest (record { since = longer; keys = d.keys.items })
-  listed_left ids id k under up =
-      let same : number_under left.interest id ≡ number_under spreads.buried.interest id = ap (λ (ks : List (Option ℕ)). slice_index_or ks id.0 None) spreads.keys in
-      let noted : number_under spreads.noted id ≡ number_under mid.interest id = ap (λ (ks : List (Option ℕ)). slice_index_or ks id.0 None) spreads.leaves.keys in
-      let buried : number_under spreads.buried.interest id ≡ Some k = sym same ∙ under in
-      let was : nat_lt 0 (event_at d.since.items k) ≡ true = ap (λ (m : ℕ). nat_lt 0 m) (sym (event_more d.since.items k)) ∙ up in
-      elim (spreads.leaves.ids id) [
-        | inl none ↦ absurd (not_none k _ none buried)
-        | inr kept ↦ elim (ids id k (sym noted ∙ (sym kept ∙ buried))) [
-          | inl before ↦ standing.listed id k before was
-          | inr added ↦
-              let none : event_at d.since.items k ≡ 0 = standing.dated.later k (omega (arith, added.1, standing.keeps.stands.added)) in
-              absurd (false≢true (ap (λ (m : ℕ). nat_lt 0 m) (sym none) ∙ was))
-        ]
-      ]
-    where
-      not_none : (k : ℕ) (o : Option ℕ) → o ≡ None → o ≡ Some k → ⊥
-      not_none k o a b = absurd (let e : None ≡ Some k = sym a ∙ b in cc)
-
-  -- each registration that is reportable was so before, or has a reason
-  pub reasons : ReportablesAreSpread → KeepsKeys old.tables mid.tables → (altered : Option Altered) → NamesAltered old.tables event altered
-      → HaveReasons (entry_shows (readiness left.tables left.clock left.interest) left.tables left.clock) left.tables altered longer left.interest.entries
-  reasons law keys altered names x m shown =
-      elim (have_reasons law past old mid left standing.keeps caller event outcome n at does spreads keys d.since.items standing.dated altered names x m shown) [
-        | inl up ↦ inl (ap (λ (k : ℕ). nat_lt 0 k) (event_more d.since.items x.number) ∙ up)
-        | inr why ↦ inr why
-      ]
-
--- more room changes nothing
-pub standing_room : (past : List Record) (p : Parts) (d e : Dating) → dated_of e ≡ dated_of d → vec_capacity d.keys ≤ vec_capacity e.keys → Standing past p d → Standing past p e
-standing_room past p d e same more h = record {
-  keeps = h.keeps;
-  dated = subst (λ (q : Dated). IsDated h.keeps.state q.since) (sym same) h.dated;
-  listed = subst (λ (q : Dated). AreListed p.interest q) (sym same) h.listed;
-  count = subst (λ (q : Dated). length q.keys ≤ dated_count q.since) (sym same) h.count;
-  room = omega (arith, h.room, more);
-}
-
--- there is a place for each registration that was ever added
-pub has_places : (past : List Record) (p : Parts) (d : Dating) → Standing past p d → p.interest.added < length d.since.items
-has_places past p d h = omega (arith, h.dated.places, h.keeps.stands.added)
 
 -- the state that an event begins in
 module _ (past : List Record) (old : Parts) (keeps : Keeps past old) (n : ℕ) (at : n ≡ length past + 1) where

@@ -1,5 +1,5 @@
 -- What a wait that scans reports.
-use Rattle.std.specs.Prelude.{◌≡◌, All, List, filter, map, nat_lt, take, ℕ}
+use Rattle.std.specs.Prelude.{◌≡◌, List, filter, map, take, ℕ}
 use Rattle.std.specs.List.Sorted.{IsNonDecreasingBy, IsPermutation}
 use Rattle.ep_base.specs.declared.ids.DescId.{DescId}
 use Rattle.ep_interest.specs.Registrations.{Registrations, is_of}
@@ -8,21 +8,10 @@ use Rattle.ep_table.specs.Value.{Seen}
 use Rattle.ep_calls.specs.Readiness.{entry_shows, readiness}
 use Rattle.ep_calls.specs.Wait.{AreKeyed}
 use Rattle.ep_calls.specs.declared.wait.Reportable.{Reportable}
-use Rattle.ep_plain.specs.Dating.{AreListed, Dated}
-use Rattle.ep_plain.specs.Since.{event_at}
 
 -- the registrations of an instance that are reportable, in order of registration
 abbrev pub reportables_at : Seen → ℕ → Registrations → DescId → List Entry
 reportables_at tables now interest instance = filter (entry_shows (readiness tables now interest) tables now) (filter (is_of instance) interest.entries)
-
--- a registration has a date exactly where it is reportable
-abbrev pub TellsShown : Seen → ℕ → Registrations → List ℕ → Type 0
-TellsShown tables now interest since = All (λ x. nat_lt 0 (event_at since x.number) ≡ entry_shows (readiness tables now interest) tables now x) interest.entries
-
--- and then it has its key in the list
-pub record Tells (tables : Seen) (now : ℕ) (interest : Registrations) (d : Dated) : Type 0 where
-  pub shown : TellsShown tables now interest d.since
-  pub listed : AreListed interest d
 
 -- the longest unreported of those that show something, at most so many
 pub record IsChosen (tables : Seen) (now : ℕ) (interest : Registrations) (instance : DescId) (most : ℕ) (chosen : List Reportable) : Type 0 where

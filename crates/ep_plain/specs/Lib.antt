@@ -1,11 +1,11 @@
+pub mod Dating
+pub mod Loses
+pub mod Exact
+pub mod Spread
+pub mod Called
+pub mod Control
 pub mod Standing
 pub mod Choose
-pub mod EachWaiter
-pub mod Mark
 pub mod Since
-pub mod Altered
-pub mod Dating
-pub mod Reason
-pub mod Pick
 pub mod These
 pub mod StepWith

@@ -1,5 +1,5 @@
 //! One event.
-ghost use Rattle.std.specs.Prelude.{◌≡◌, IfOk, IsOk, OnErr, false, is_some, true};
+ghost use Rattle.std.specs.Prelude.{◌≡◌, ◌<◌, IfOk, IsOk, OnErr, false, is_some, true};
 ghost use Rattle.std.specs.List.{list_any};
 ghost use Rattle.ep_alarms.specs.Changes.{CallsTables, MayCreate, MovesClock, TouchesTables};
 ghost use Rattle.ep_base.specs.declared.call.Event.TheVariants.{Call as CallOf};
@@ -7,16 +7,15 @@ ghost use Rattle.ep_machine.specs.Files.{table_of};
 ghost use Rattle.ep_park.specs.Waiters.{is_caller};
 ghost use Rattle.ep_calls.specs.Clock.{ClockStays};
 ghost use Rattle.ep_calls.specs.Does.{DoesCall, DoesEvent};
-ghost use Rattle.ep_calls.specs.Ids.{HadOrAdds};
 ghost use Rattle.ep_calls.specs.Kept.{KeepsCall, KeepsEvent};
 ghost use Rattle.ep_calls.specs.Last.{NothingRefuses, NothingRefusesCall};
 ghost use Rattle.ep_calls.specs.Spared.{IsSpared, TakesNoMemory};
 ghost use Rattle.ep_calls.specs.TableCall.{MakesTimer};
-ghost use Rattle.ep_plain.specs.Altered.{NeedsRoom};
-ghost use Rattle.ep_plain.specs.Choose.{Tells};
-ghost use Rattle.ep_plain.specs.Dating.{dated_of};
+ghost use Rattle.ep_plain.specs.Dating.{Grows};
+ghost use Rattle.ep_plain.specs.Exact.{Follows, IsExact};
 
-use crate::since::Dating;
+use crate::control::{epoll_ctl, find_altered};
+use crate::dating::Dating;
 use crate::stamp::Stamp;
 use crate::wait::{epoll_wait, resume};
 use ep_base::{Call, Errno, Event, Pid};
@@ -31,13 +30,13 @@ fn make_call(
     stamp: Stamp,
     pid: Pid,
     call: &Call,
-    dating: &Dating,
+    dating: &mut Dating,
     kept: bool,
 ) -> Result<Outcome, AllocError>
     requires free { list_any (is_caller stamp.caller.0) parts.old.parked ≡ false }
     requires process { is_some (table_of parts.old.tables.files pid.0) ≡ true }
-    requires told { Tells parts.old.tables parts.old.clock parts.old.interest
-        (dated_of dating.now) }
+    requires step { 0 < stamp.step }
+    requires exact { IsExact stamp.step parts.old dating.old }
     ensures ok { IfOk result
         (λ outcome. DoesCall stamp.step stamp.caller.0 pid.0 call.now outcome parts.old
         parts.new) }
@@ -47,13 +46,14 @@ fn make_call(
         (λ outcome. ClockStays outcome.raising parts.old.clock parts.new.clock) }
     ensures timers { stamp.has_room ≡ false → MakesTimer call.now
         → parts.new.tables ≡ parts.old.tables }
-    ensures ids { HadOrAdds parts.old.interest parts.new.interest }
+    ensures follows { IfOk result
+        (λ outcome. Follows stamp.step (CallOf pid call.now) outcome.picked parts.old dating.old
+        parts.new dating.new) }
     ensures kept { IfOk result (λ outcome. KeepsCall call.now kept outcome) }
-    ensures room { NeedsRoom (CallOf pid call.now) stamp.has_room parts.old.interest
-        parts.new.interest }
     ensures spared { TakesNoMemory parts.old.tables.files pid.0 call.now → IsOk result }
     ensures last { OnErr result (NothingRefusesCall parts.old pid.0 call.now) }
     ensures err { OnErr result (parts.new ≡ parts.old) }
+    ensures grows { OnErr result (Grows dating.old dating.new) }
 {
     match *call {
         Call::EpollCtl {
@@ -70,7 +70,7 @@ fn make_call(
                 mask,
                 tag,
             };
-            parts.epoll_ctl(pid, args, stamp.has_room)
+            epoll_ctl(parts, dating, pid, args)
         }
         Call::EpollWait { epfd, max, timeout } => {
             let args = Wait {
@@ -99,11 +99,11 @@ pub fn act(
     parts: &mut Parts,
     stamp: Stamp,
     event: &Event,
-    dating: &Dating,
+    dating: &mut Dating,
     kept: bool,
 ) -> Result<Outcome, AllocError>
-    requires told { Tells parts.old.tables parts.old.clock parts.old.interest
-        (dated_of dating.now) }
+    requires step { 0 < stamp.step }
+    requires exact { IsExact stamp.step parts.old dating.old }
     ensures ok { IfOk result
         (λ outcome. DoesEvent stamp.step stamp.caller.0 event.now outcome parts.old parts.new) }
     ensures tables { IfOk result
@@ -112,19 +112,23 @@ pub fn act(
         (λ outcome. MovesClock event.now outcome.raising parts.old.clock parts.new.clock) }
     ensures timers { stamp.has_room ≡ false → MayCreate event.now
         → parts.new.tables ≡ parts.old.tables }
-    ensures ids { HadOrAdds parts.old.interest parts.new.interest }
+    ensures follows { IfOk result
+        (λ outcome. Follows stamp.step event.now outcome.picked parts.old dating.old parts.new
+        dating.new) }
     ensures kept { IfOk result (λ outcome. KeepsEvent event.now kept outcome) }
-    ensures room { NeedsRoom event.now stamp.has_room parts.old.interest parts.new.interest }
     ensures spared { IsSpared parts.old.tables.files event.now → IsOk result }
     ensures last { OnErr result (NothingRefuses parts.old stamp.caller.0 event.now) }
     ensures err { OnErr result (parts.new ≡ parts.old) }
+    ensures grows { OnErr result (Grows dating.old dating.new) }
 {
     match event {
         Event::Call { pid, call } => {
             if !parts.tables.has_process(*pid) {
+                dating.altered = find_altered(parts, *pid, call);
                 return Ok(Outcome::refused(parts.alloc, Errno::Esrch));
             }
             if parts.waiters.is_parked(stamp.caller) {
+                dating.altered = find_altered(parts, *pid, call);
                 return Ok(Outcome::refused(parts.alloc, Errno::Ebusy));
             }
             make_call(parts, stamp, *pid, call, dating, kept)

@@ -1,48 +1,66 @@
 //! Which registrations a wait reports: of those of its instance that are reportable the longest unreported.
-ghost use Rattle.std.specs.Prelude.{◌≡◌, ◌≤◌, IfOk, map, true};
-ghost use Rattle.ep_machine.specs.Timer.{last_moment};
+ghost use Rattle.std.specs.Prelude.{◌≡◌, IfOk, IsSome, map, nat_lt, true};
+ghost use Rattle.ep_calls.specs.Readiness.{entry_bits, readiness};
+ghost use Rattle.ep_table.specs.Value.{number_under};
 ghost use Rattle.ep_machine.specs.Waits.{is_positive};
 ghost use Rattle.ep_machine.specs.Watches.{number_in};
-ghost use Rattle.ep_calls.specs.Stands.{AreLinked};
 ghost use Rattle.ep_calls.specs.Wait.{AreKeyed};
-ghost use Rattle.ep_plain.specs.Choose.{IsChosen, Tells, reportables_at};
-ghost use Rattle.ep_plain.specs.Dating.{dated_of};
+ghost use Rattle.ep_dates.specs.Dates.{event_at};
+ghost use Rattle.ep_plain.specs.Choose.{IsChosen, reportables_at};
+ghost use Rattle.ep_plain.specs.Exact.{TellsReady, TellsShown};
 
-use crate::pick::is_dated;
-use crate::since::Dating;
-use ep_base::DescId;
-use ep_calls::{Parts, Reportable, shown};
-use ep_interest::Interest;
-use ep_table::Tables;
-use std::alloc::{AllocError, Global};
+use ep_base::{DescId, EntryId};
+use ep_calls::{Parts, Reportable, shown_at};
+use ep_dates::Dates;
+use ep_interest::Entry;
+use std::alloc::AllocError;
+
+/// Whether a registration is reportable.
+fn is_dated(dates: &Dates, entry: &Entry) -> bool
+    ensures { result ≡ nat_lt 0 (event_at dates.now.since entry.now.number) }
+{
+    dates.since(entry.number) > 0
+}
+
+/// A registration with its key and what it shows. Of the instance that it watches only the dates are asked.
+pub fn reportable(parts: &Parts, dates: &Dates, id: EntryId, entry: &Entry) -> Reportable
+    requires target { IsSome (number_under parts.now.tables entry.now.desc) }
+    requires ready { TellsReady parts.now dates.now }
+    ensures id { result.id ≡ id }
+    ensures entry { result.entry ≡ entry.now }
+    ensures bits { result.bits.0
+        ≡ entry_bits (readiness parts.now.tables parts.now.clock parts.now.interest)
+        parts.now.tables parts.now.clock entry.now }
+{
+    parts.known();
+    let below = dates.is_ready(entry.desc);
+    Reportable {
+        id,
+        entry: *entry,
+        bits: shown_at(&parts.tables, parts.clock, entry, below),
+    }
+}
 
 /// The registrations of an instance that are reportable, in order of registration. The dates say which are.
-pub fn reportables(
-    alloc: Global,
-    tables: &Tables,
-    now: u64,
-    interest: &Interest,
-    dating: &Dating,
+fn reportables(
+    parts: &Parts,
+    dates: &Dates,
     instance: DescId,
 ) -> Result<Vec<Reportable>, AllocError>
-    requires linked { AreLinked tables.now interest.now }
-    requires clock { now ≤ last_moment }
-    requires told { Tells tables.now now interest.now (dated_of dating.now) }
+    requires shown { TellsShown parts.now dates.now }
+    requires ready { TellsReady parts.now dates.now }
     ensures entries { IfOk result
         (λ found. map (λ x. x.entry) found.items
-        ≡ reportables_at tables.now now interest.now instance) }
-    ensures keyed { IfOk result (λ found. AreKeyed tables.now now interest.now found.items) }
+        ≡ reportables_at parts.now.tables parts.now.clock parts.now.interest instance) }
+    ensures keyed { IfOk result
+        (λ found. AreKeyed parts.now.tables parts.now.clock parts.now.interest found.items) }
 {
-    interest.known();
-    let mut found = Vec::new(alloc);
-    for (id, entry) in interest.entries(instance) {
-        if is_dated(&dating.since, entry) {
-            let bits = shown(tables, now, interest, entry);
-            found.push(Reportable {
-                id,
-                entry: *entry,
-                bits,
-            })?;
+    parts.known();
+    parts.interest.known();
+    let mut found = Vec::new(parts.alloc);
+    for (id, entry) in parts.interest.entries(instance) {
+        if is_dated(dates, entry) {
+            found.push(reportable(parts, dates, id, entry))?;
         }
     }
     Ok(found)
@@ -60,25 +78,18 @@ pub fn most(max: i32) -> usize
 /// for ever.
 pub fn choose(
     parts: &Parts,
-    dating: &Dating,
+    dates: &Dates,
     instance: DescId,
     max: i32,
 ) -> Result<Vec<Reportable>, AllocError>
     requires positive { is_positive max ≡ true }
-    requires told { Tells parts.now.tables parts.now.clock parts.now.interest
-        (dated_of dating.now) }
+    requires shown { TellsShown parts.now dates.now }
+    requires ready { TellsReady parts.now dates.now }
     ensures { IfOk result
         (λ chosen. IsChosen parts.now.tables parts.now.clock parts.now.interest instance
         (number_in max) chosen.items) }
 {
-    let mut chosen = reportables(
-        parts.alloc,
-        &parts.tables,
-        parts.clock,
-        &parts.interest,
-        dating,
-        instance,
-    )?;
+    let mut chosen = reportables(parts, dates, instance)?;
     chosen.sort_by_key(|x| x.entry.reported_in)?;
     chosen.truncate(most(max));
     Ok(chosen)

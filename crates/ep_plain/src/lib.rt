@@ -2,17 +2,16 @@
 #![tactic(auto)]
 
 mod act;
-mod altered;
+mod called;
 mod choose;
-mod climb;
-mod each_waiter;
+mod control;
+mod date;
+mod dating;
 mod mark;
-mod pick;
 mod plain;
-mod room;
 mod settle;
-mod since;
 mod stamp;
+mod take;
 mod these;
 mod wait;
 mod waiting;

@@ -1,102 +1,86 @@
-//! Marks at the end of an event.
-ghost use Rattle.std.specs.Prelude.{◌≡◌, ◌≤◌};
-ghost use Rattle.ep_machine.specs.Marks.{marked_by};
-ghost use Rattle.ep_machine.specs.Timer.{last_moment};
+//! Marks at the end of an event, at the instances that it reached.
+ghost use Rattle.std.specs.Prelude.{◌≡◌, filter};
 ghost use Rattle.ep_calls.specs.Parking.{ready_key};
-ghost use Rattle.ep_calls.specs.Stands.{AreLinked, ArePlaced};
-ghost use Rattle.ep_interest.specs.Registrations.{entry_under};
+ghost use Rattle.ep_climb.specs.Mark.{AreLookedAt, attended, marked_where};
+ghost use Rattle.ep_machine.specs.Marks.{marked_by};
 ghost use Rattle.ep_park.specs.Turns.{marked_in_turn};
-ghost use Rattle.ep_plain.specs.Dating.{dated_of};
-ghost use Rattle.ep_plain.specs.Mark.{TellsReady, instance_dated, instances_dated};
+ghost use Rattle.ep_plain.specs.Exact.{TellsReady};
 
-use crate::each_waiter::mark_each_waiter;
-use crate::pick::is_dated;
-use crate::since::Dating;
-use ep_base::EntryId;
+use crate::dating::Dating;
+use ep_base::DescId;
 use ep_calls::Parts;
-use ep_interest::Interest;
-use ep_park::Park;
-use ep_park::laws::marks_in_turn;
-use ep_table::Tables;
+use ep_climb::mark_due;
+use ep_dates::Dates;
+use ep_park::laws::unmarked_in_turn;
+use ep_ready::Walk;
+use std::alloc::Global;
 
-/// Marks the caller that waits longest at the instance of the registration under a key, where that is reportable and
-/// none is marked there.
-fn mark_at(interest: &Interest, since: &[u64], id: EntryId, waiters: &mut Park)
-    ensures { waiters.new
-        ≡ marked_in_turn (instance_dated since.now (entry_under interest.now id)) waiters.old }
+/// Marks the caller that waits longest at an instance, if that is ready and none is marked there. Nothing is looked at
+/// if nobody waits or one is marked.
+fn mark_at(parts: &mut Parts, dates: &Dates, instance: DescId)
+    requires { TellsReady parts.old dates.now }
+    ensures { parts.new
+        ≡ record parts.old {
+          parked = marked_where (ready_key parts.old.tables parts.old.clock parts.old.interest)
+              instance.0 parts.old.parked;
+        } }
 {
-    if let Some(entry) = interest.get(id) {
-        if is_dated(since, entry) {
-            waiters.mark_longest(entry.instance);
-        }
+    parts.known();
+    if !parts.waiters.has_waiter(instance) {
+        return;
+    }
+    if parts.waiters.has_mark(instance) {
+        return;
+    }
+    if dates.is_ready(instance) {
+        parts.waiters.mark_longest(instance);
     }
 }
 
-/// The same for the registrations under these keys. Nothing is looked at where nobody waits.
-fn mark_each(interest: &Interest, since: &[u64], keys: &[EntryId], waiters: &mut Park)
-    ensures { waiters.new
-        ≡ marked_in_turn (instances_dated interest.now since.now keys.now) waiters.old }
+/// The same at each of these instances.
+fn mark_each(parts: &mut Parts, dates: &Dates, instances: &Walk<Global>)
+    requires { TellsReady parts.old dates.now }
+    ensures { parts.new
+        ≡ record parts.old {
+          parked = marked_in_turn
+              (filter (ready_key parts.old.tables parts.old.clock parts.old.interest)
+              instances.now.reached)
+              parts.old.parked;
+        } }
 {
-    if waiters.count() == 0 {
-        return;
+    for index in 0..instances.count() {
+        mark_at(parts, dates, DescId(instances.at(index)));
     }
-    let mut rest = keys;
-    while let Some((id, tail)) = rest.split_first() {
-        mark_at(interest, since, *id, waiters);
-        rest = tail;
+}
+
+/// The same at the instance that the event attends, if there is one.
+fn mark_attended(parts: &mut Parts, dates: &Dates, attend: Option<DescId>)
+    requires { TellsReady parts.old dates.now }
+    ensures { parts.new
+        ≡ record parts.old {
+          parked = marked_in_turn
+              (filter (ready_key parts.old.tables parts.old.clock parts.old.interest) (attended attend))
+              parts.old.parked;
+        } }
+{
+    if let Some(instance) = attend {
+        mark_at(parts, dates, instance);
     }
 }
 
 /// Sets marks at the end of an event: whoever is due, and of those that wait at a ready instance the longest waiting
-/// one, where none is marked there. The dates say which instances are ready.
-fn mark_dated(tables: &Tables, now: u64, interest: &Interest, dating: &Dating, waiters: &mut Park)
-    requires linked { AreLinked tables.now interest.now }
-    requires placed { ArePlaced tables.now waiters.old }
-    requires told { TellsReady tables.now now interest.now (dated_of dating.now) }
-    ensures { waiters.new ≡ marked_by (ready_key tables.now now interest.now) now waiters.old }
-{
-    marks_in_turn();
-    tables.known();
-    interest.known();
-    waiters.mark_due(now);
-    mark_each(interest, &dating.since, &dating.keys, waiters);
-}
-
-/// How many registrations that have a date are gone over for each waiter. In all, up to 15 more are, since the quotient
-/// is rounded down.
-const MANY: usize = 16;
-
-/// The same, by the dates or, where those are many, by one waiter after another: each look at a date asks for the
-/// waiters of an instance by a hash, and whoever chooses the instances could make that go over all that have waiters.
-fn mark_all(tables: &Tables, now: u64, interest: &Interest, dating: &Dating, waiters: &mut Park)
-    requires linked { AreLinked tables.now interest.now }
-    requires placed { ArePlaced tables.now waiters.old }
-    requires clock { now ≤ last_moment }
-    requires told { TellsReady tables.now now interest.now (dated_of dating.now) }
-    ensures { waiters.new ≡ marked_by (ready_key tables.now now interest.now) now waiters.old }
-{
-    if dating.keys.len() / MANY > waiters.count() {
-        mark_each_waiter(tables, now, interest, waiters);
-    } else {
-        mark_dated(tables, now, interest, dating, waiters);
-    }
-}
-
-/// Marks whoever is due, and of those that wait at a ready instance the longest waiting one, where none is marked
-/// there. Nothing is looked at where nobody waits. It looks only at the registrations that have a date, at most at 16
-/// for each waiter and 15 more: where there are more, each waiter asks whether its instance is ready.
-pub fn mark_waiters(parts: &mut Parts, dating: &Dating)
-    requires { TellsReady parts.old.tables parts.old.clock parts.old.interest (dated_of dating.now) }
+/// one, if none is marked there. `attend` is the instance at which an epoll_ctl raised IN, or at which a caller that
+/// was resumed waited. Only that one and the instances that IN reached are looked at, each once.
+pub fn mark(parts: &mut Parts, dating: &Dating, attend: Option<DescId>)
+    requires ready { TellsReady parts.old dating.now.dates }
+    requires looked { AreLookedAt parts.old dating.now.reached.reached attend }
     ensures marks { parts.new.parked
         ≡ marked_by (ready_key parts.old.tables parts.old.clock parts.old.interest) parts.old.clock
         parts.old.parked }
     ensures others { parts.new ≡ record parts.old { parked = parts.new.parked } }
 {
-    mark_all(
-        &parts.tables,
-        parts.clock,
-        &parts.interest,
-        dating,
-        &mut parts.waiters,
-    );
+    unmarked_in_turn();
+    mark_due(parts);
+    mark_each(parts, &dating.dates, &dating.reached);
+    mark_attended(parts, &dating.dates, attend);
 }

@@ -1,5 +1,6 @@
 //! The kernel that scans.
-ghost use Rattle.std.specs.Prelude.{◌≡◌, ◌<◌, ◌≤◌, [], IfOk, IfSome, IsOk, None, OnErr, false, is_some, length, option_copied, true};
+ghost use Rattle.std.specs.Prelude.{◌≡◌, ◌<◌, ◌≤◌, ◌++◌, ◌∷◌, [], List, IfOk, IfSome, IsOk, None, OnErr, false, is_some, length, option_copied, true};
+ghost use Rattle.ep_base.specs.declared.record.Record.{Record as Recorded};
 ghost use Rattle.ep_calls.specs.Acts.{Adds, is_no_memory};
 ghost use Rattle.ep_calls.specs.Book.{state_of};
 ghost use Rattle.ep_calls.specs.KeptRecords.{Gains, HasRecord};
@@ -7,18 +8,26 @@ ghost use Rattle.ep_calls.specs.Spared.{IsSpared};
 ghost use Rattle.ep_machine.specs.Effect.{first};
 ghost use Rattle.ep_machine.specs.Refusal.{refusals};
 ghost use Rattle.ep_machine.specs.Step.{next_event, step as step_of};
+ghost use Rattle.ep_calls.specs.Parts.{AreCoherent};
+ghost use Rattle.ep_interest.specs.Registrations.{IsSound};
+ghost use Rattle.ep_law.specs.Laws.{EndsAreApart, ReportablesAreSpread};
+ghost use Rattle.ep_order.specs.Ending.{UntouchedStayReportable};
+ghost use Rattle.ep_order.specs.Mark.{UnmarkedAreReached};
+ghost use Rattle.ep_table.specs.Value.{Sound as SoundTables};
 ghost use Rattle.ep_plain.specs.StepWith.{AddsBy, HasStep, StepsWith};
 
-use crate::altered::{count_added, find_altered};
-use crate::room::make_room;
+use crate::called::find_called;
+use crate::date::date_all;
+use crate::dating::Dating;
 use crate::settle::{know, rest, spread};
-use crate::since::{Dating, date};
 use crate::stamp::Stamp;
 use crate::these::{act_with, allows};
 use ep_alarms::Alarms;
 use ep_base::{Answer, CallerId, Errno, Event, Limits, Record};
 use ep_calls::{Kernel, Parts, Spare};
+use ep_climb::{attend, resumed_at};
 use ep_law::laws::{ends_are_apart, reportables_are_spread};
+use ep_order::{unmarked_are_reached, untouched_stay_reportable};
 use std::alloc::{AllocError, Global};
 use std::marker::Model;
 
@@ -43,6 +52,35 @@ impl Model for PlainKernel {
     ghost view = { book_of };
 
     ghost invariant = { IsStanding };
+}
+
+/// Does nothing. What holds of the parts between calls, and the laws that the end of an event rests on; facts for
+/// proofs.
+fn know_laws(parts: &Parts)
+    ensures coherent { AreCoherent parts.now }
+    ensures tables { SoundTables parts.now.tables }
+    ensures interest { IsSound parts.now.interest }
+    ensures apart { EndsAreApart }
+    ensures spread { ReportablesAreSpread }
+    ensures stay { UntouchedStayReportable }
+    ensures reached { UnmarkedAreReached }
+{
+    ends_are_apart();
+    reportables_are_spread();
+    untouched_stay_reportable();
+    unmarked_are_reached();
+    know(parts);
+}
+
+/// The registrations that the last record reports.
+fn last_picked(history: &[Record]) -> &[u64]
+    ensures { (past : List Recorded) (last : Recorded) → history.now ≡ past ++ last ∷ []
+        → result.now ≡ last.picked }
+{
+    match history.last() {
+        Some(record) => record.picked.as_slice(),
+        None => &[],
+    }
 }
 
 impl PlainKernel {
@@ -94,45 +132,62 @@ impl PlainKernel {
         ensures err { OnErr result (self.new ≡ record self.old { capacity = self.new.capacity }) }
     {
         self.history.reserve(1)?;
-        self.dating.make_place()?;
-        let added = count_added(&self.parts);
-        let has_room = make_room(&mut self.dating, &mut self.alarms, &event, added);
+        self.dating.dates.reserve(1)?;
+        let has_room = self.alarms.make_room(&event);
         let step = self.history.len() as u64 + 1;
-        let altered = find_altered(&self.parts, &event);
-        ends_are_apart();
-        reportables_are_spread();
-        know(&self.parts);
+        know_laws(&self.parts);
+        let called = find_called(&self.parts, &event);
+        let resumed = resumed_at(&self.parts, caller, &event);
         let stamp = Stamp {
             step,
             caller,
             has_room,
         };
-        let outcome = act_with(&mut self.parts, stamp, &event, &self.dating, picks, kept)?;
+        let outcome = act_with(
+            &mut self.parts,
+            stamp,
+            &event,
+            &mut self.dating,
+            picks,
+            kept,
+        )?;
         self.alarms.follow(&self.parts, &event, &outcome, has_room);
         let raising = outcome.raising;
         let (answer, spare, record) = outcome.into_record(caller, event, kept);
-        spread(&mut self.parts, &mut self.alarms, step, raising);
-        self.dating.since.push_reserved(0);
-        date(&self.parts, step, altered, &mut self.dating);
-        rest(&mut self.parts, &self.dating);
         self.history.push_reserved(record);
+        spread(
+            &mut self.parts,
+            &mut self.dating,
+            &mut self.alarms,
+            step,
+            raising,
+        );
+        self.dating.dates.number();
+        date_all(
+            &self.parts,
+            step,
+            called,
+            last_picked(&self.history),
+            &mut self.dating,
+        );
+        rest(&mut self.parts, &self.dating, attend(resumed, raising));
         Ok((answer, spare))
     }
 
     /// Whether the machine has a step whose report is of these registrations, in this order. It takes no memory.
-    fn has_step(&self, caller: CallerId, event: &Event, picks: &[u64]) -> bool
-        ensures { result ≡ is_some
-            (step_of self.now.limits (state_of self.now) caller.0 event.now picks.now) }
+    fn has_step(&mut self, caller: CallerId, event: &Event, picks: &[u64]) -> bool
+        ensures has { result ≡ is_some
+            (step_of self.old.limits (state_of self.old) caller.0 event.now picks.now) }
+        ensures stays { self.new ≡ self.old }
     {
-        allows(&self.parts, &self.dating.since, caller, event, picks)
+        allows(&self.parts, &mut self.dating, caller, event, picks)
     }
 
     /// The step of an event whose report is of the registrations of these numbers, in this order; of none for an
     /// event that makes no report. `None` exactly where the machine has no such step, and then nothing changes.
     /// ENOMEM is want of memory: nothing changes, and there is such a step. In both cases there may be more room for
     /// records. While there is room for records, ENOMEM comes only of an event that nothing refuses, but it may come of
-    /// those that `step` spares. The time grows as the product of how many are given and how many registrations the
-    /// instance has.
+    /// those that `step` spares. The time grows with how many are given.
     pub fn step_with(&mut self, caller: CallerId, event: Event, picks: &[u64]) -> Option<Answer>
         ensures limits { self.new.limits ≡ self.old.limits }
         ensures capacity { self.old.capacity ≤ self.new.capacity }
@@ -218,7 +273,7 @@ impl Kernel for PlainKernel {
 
     fn reserve(&mut self, additional: usize) -> Result<(), AllocError> {
         self.history.reserve(additional)?;
-        self.dating.since.reserve(additional)
+        self.dating.dates.reserve(additional)
     }
 
     fn history(&self) -> &[Record] {

@@ -1,19 +1,27 @@
 //! The end of an event.
+ghost use Rattle.std.specs.Prelude.{◌≡◌, ◌<◌};
 ghost use Rattle.ep_alarms.specs.Alarms.{AreSet};
 ghost use Rattle.ep_alarms.specs.Changes.{AreSetSince};
-ghost use Rattle.ep_calls.specs.Ends.{Rests, Spreads};
+ghost use Rattle.ep_calls.specs.Burial.{Burial};
+ghost use Rattle.ep_calls.specs.Ends.{Rests};
+ghost use Rattle.ep_calls.specs.Ids.{KeepsIds};
 ghost use Rattle.ep_calls.specs.Parts.{AreCoherent};
 ghost use Rattle.ep_calls.specs.Raising.{IsRaising};
+ghost use Rattle.ep_climb.specs.Mark.{AreLookedAt};
 ghost use Rattle.ep_interest.specs.Registrations.{IsSound};
-ghost use Rattle.ep_plain.specs.Dating.{dated_of};
-ghost use Rattle.ep_plain.specs.Mark.{TellsReady};
+ghost use Rattle.ep_plain.specs.Dating.{Fits};
+ghost use Rattle.ep_plain.specs.Exact.{TellsReady};
+ghost use Rattle.ep_plain.specs.Loses.{Loses};
+ghost use Rattle.ep_plain.specs.Spread.{SpreadsTo};
 ghost use Rattle.ep_table.specs.Value.{Sound as SoundTables};
 
-use crate::climb::climb_instances;
-use crate::mark::mark_waiters;
-use crate::since::Dating;
+use crate::dating::Dating;
+use crate::mark::mark;
 use ep_alarms::{Alarms, burial_leaves_alarms};
+use ep_base::DescId;
 use ep_calls::{Parts, Raising};
+use ep_climb::climb;
+use ep_dates::drop_dying;
 
 /// Does nothing. What holds of the parts between calls, with their registrations; a fact for proofs.
 pub fn know(parts: &Parts)
@@ -25,12 +33,41 @@ pub fn know(parts: &Parts)
     parts.interest.known();
 }
 
-/// Notes what an event raised, takes the dead away with their moments, and lets what was raised climb through
+/// Takes the dead away, with the dates of their registrations and of those on them. The instances that lost the last
+/// of their reportable registrations in this event are `gone` then.
+fn bury(parts: &mut Parts, dating: &mut Dating, step: u64)
+    requires fits { Fits parts.old.interest dating.old }
+    ensures burial { Burial step parts.old.tables parts.old.interest parts.new.tables
+        parts.new.interest }
+    ensures ids { KeepsIds parts.old.interest parts.new.interest }
+    ensures parked { parts.new.parked ≡ parts.old.parked }
+    ensures clock { parts.new.clock ≡ parts.old.clock }
+    ensures loses { Loses parts.old.interest parts.new.interest dating.old.dates
+        (record dating.new.dates { turned = dating.new.gone }) }
+    ensures fits { Fits parts.new.interest dating.new }
+    ensures altered { dating.new.altered ≡ dating.old.altered }
+{
+    know(parts);
+    drop_dying(parts, &mut dating.dates);
+    parts.bury(step);
+    know(parts);
+    dating.dates.hand_over(&mut dating.gone);
+}
+
+/// Notes what an event raised, takes the dead away with their dates and moments, and lets what was raised climb through
 /// instances. Marks are still to be set, and what was passed on is still to be forgotten.
-pub fn spread(parts: &mut Parts, alarms: &mut Alarms, step: u64, raising: Raising)
+pub fn spread(
+    parts: &mut Parts,
+    dating: &mut Dating,
+    alarms: &mut Alarms,
+    step: u64,
+    raising: Raising,
+)
+    requires step { 0 < step }
     requires raises { IsRaising raising parts.old.tables }
     requires set { AreSetSince raising parts.old.tables parts.old.clock alarms.old }
-    ensures spreads { Spreads step raising parts.old parts.new }
+    requires fits { Fits parts.old.interest dating.old }
+    ensures spreads { SpreadsTo step raising parts.old dating.old parts.new dating.new }
     ensures set { AreSet parts.new.tables parts.new.clock alarms.new }
 {
     know(parts);
@@ -38,17 +75,18 @@ pub fn spread(parts: &mut Parts, alarms: &mut Alarms, step: u64, raising: Raisin
     know(parts);
     burial_leaves_alarms();
     alarms.drop_dying(&parts.tables);
-    parts.bury(step);
+    bury(parts, dating, step);
     know(parts);
-    climb_instances(parts, step);
+    climb(parts, &mut dating.reached, step);
     know(parts);
 }
 
 /// Sets marks by the dates of the registrations, and forgets what was passed on in an event.
-pub fn rest(parts: &mut Parts, dating: &Dating)
-    requires { TellsReady parts.old.tables parts.old.clock parts.old.interest (dated_of dating.now) }
+pub fn rest(parts: &mut Parts, dating: &Dating, attend: Option<DescId>)
+    requires ready { TellsReady parts.old dating.now.dates }
+    requires looked { AreLookedAt parts.old dating.now.reached.reached attend }
     ensures { Rests parts.old parts.new }
 {
-    mark_waiters(parts, dating);
+    mark(parts, dating, attend);
     parts.forget_passed();
 }

@@ -9,7 +9,6 @@ pub struct Stamp {
     pub step: u64,
     /// Who makes it.
     pub caller: CallerId,
-    /// Whether there is room for what it adds: the key of a registration, or the moment of a timer. Without it, neither
-    /// is added.
+    /// Whether there is room for the moment of a timer that it makes. Without it, none is made.
     pub has_room: bool,
 }

@@ -1,97 +1,37 @@
 //! Waits that report given registrations.
-ghost use Rattle.std.specs.List.{filter_map, find, list_any};
-ghost use Rattle.std.specs.Prelude.{◌≡◌, ◌==◌, IfNone, IfOk, IsOk, OnErr, None, Some, false, map, option_copied, true};
+ghost use Rattle.std.specs.List.{find, list_any};
+ghost use Rattle.std.specs.Prelude.{◌≡◌, ◌<◌, [], IfNone, IfOk, IsOk, IsSome, OnErr, None, Some, false, map, option_copied, true, ℕ};
 ghost use Rattle.ep_alarms.specs.Changes.{LeavesFiles, MayCreate, MovesClock, TouchesTables};
 ghost use Rattle.ep_base.specs.declared.call.Event.TheVariants.{Resume};
-ghost use Rattle.ep_interest.specs.Registrations.{numbered};
 ghost use Rattle.ep_law.specs.Sound.{Sound};
+ghost use Rattle.ep_machine.specs.Report.{is_pick as is_report};
+ghost use Rattle.ep_machine.specs.Waits.{is_positive};
 ghost use Rattle.ep_machine.specs.Watches.{number_in};
+ghost use Rattle.ep_table.specs.Value.{number_under};
 ghost use Rattle.ep_park.specs.Waiters.{is_caller, parked};
 ghost use Rattle.ep_calls.specs.Does.{DoesCallIf, DoesEventIf};
-ghost use Rattle.ep_calls.specs.Ids.{HadOrAdds};
 ghost use Rattle.ep_calls.specs.Kept.{KeepsEvent};
 ghost use Rattle.ep_calls.specs.Last.{NothingRefuses, NothingRefusesCall};
 ghost use Rattle.ep_calls.specs.Spared.{IsSpared};
-ghost use Rattle.ep_calls.specs.Wait.{AreKeyed, Waits, wait_call};
-ghost use Rattle.ep_plain.specs.Altered.{NeedsRoom};
-ghost use Rattle.ep_plain.specs.Choose.{Tells, reportables_at};
-ghost use Rattle.ep_plain.specs.Dating.{dated_of};
+ghost use Rattle.ep_calls.specs.Stands.{number_at};
+ghost use Rattle.ep_calls.specs.Wait.{Waits, wait_call, with_report};
+ghost use Rattle.ep_dates.specs.Order.{AreInTurn};
+ghost use Rattle.ep_plain.specs.Dating.{Fits, Grows};
+ghost use Rattle.ep_plain.specs.Exact.{Follows, IsExact};
 ghost use Rattle.ep_plain.specs.Since.{IsDated};
 ghost use Rattle.ep_plain.specs.These.{ForEach, MayGo, MayPick, MayReport, PicksThese, ReportsThese, WherePicked, goes_with};
 
 use crate::act::act;
-use crate::choose::{most, reportables};
-use crate::pick::is_pick;
-use crate::since::Dating;
+use crate::choose::most;
+use crate::dating::Dating;
 use crate::stamp::Stamp;
+use crate::take::take;
 use crate::waiting::{Waiting, find_waiting};
 use ep_base::{CallerId, DescId, Event};
-use ep_calls::{Outcome, Parts, Reportable, Wait};
+use ep_calls::{Outcome, Parts, Wait};
+use ep_dates::is_pick;
 use ep_park::Waiter;
-use std::alloc::{AllocError, Global};
-
-/// The one with a number, of these registrations.
-fn find_in(found: &[Reportable], number: u64) -> Option<Reportable>
-    ensures { result ≡ find (λ x. x.entry.number == number) found.now }
-{
-    let mut rest = found;
-    while let Some((x, tail)) = rest.split_first() {
-        if x.entry.number == number {
-            return Some(*x);
-        }
-        rest = tail;
-    }
-    None
-}
-
-/// Those with these numbers, in the order of the numbers.
-fn take_of(
-    alloc: Global,
-    found: &[Reportable],
-    picks: &[u64],
-) -> Result<Vec<Reportable>, AllocError>
-    ensures { IfOk result
-        (λ chosen. chosen.items
-        ≡ filter_map (λ k. find (λ x. x.entry.number == k) found.now) picks.now) }
-{
-    let mut chosen = Vec::new(alloc);
-    let mut rest = picks;
-    while let Some((pick, tail)) = rest.split_first() {
-        if let Some(x) = find_in(found, *pick) {
-            chosen.push(x)?;
-        }
-        rest = tail;
-    }
-    Ok(chosen)
-}
-
-/// The registrations of an instance that are reportable and have these numbers, in the order of the numbers.
-fn take(
-    parts: &Parts,
-    dating: &Dating,
-    instance: DescId,
-    picks: &[u64],
-) -> Result<Vec<Reportable>, AllocError>
-    requires told { Tells parts.now.tables parts.now.clock parts.now.interest
-        (dated_of dating.now) }
-    ensures entries { IfOk result
-        (λ chosen. map (λ x. x.entry) chosen.items
-        ≡ filter_map (numbered (reportables_at parts.now.tables parts.now.clock
-        parts.now.interest instance)) picks.now) }
-    ensures keyed { IfOk result
-        (λ chosen. AreKeyed parts.now.tables parts.now.clock parts.now.interest chosen.items) }
-{
-    let found = reportables(
-        parts.alloc,
-        &parts.tables,
-        parts.clock,
-        &parts.interest,
-        dating,
-        instance,
-    )?;
-    let chosen = take_of(parts.alloc, &found, picks)?;
-    Ok(chosen)
-}
+use std::alloc::AllocError;
 
 /// A call that waits, not refused, and reports what it is given. An `Err` is want of memory and leaves the parts.
 fn wait_these(
@@ -104,13 +44,15 @@ fn wait_these(
 ) -> Result<Outcome, AllocError>
     requires free { list_any (is_caller stamp.caller.0) parts.old.parked ≡ false }
     requires waits { Waits parts.old.tables args instance }
-    requires told { Tells parts.old.tables parts.old.clock parts.old.interest
-        (dated_of dating.now) }
+    requires exact { IsExact stamp.step parts.old dating.now }
     ensures ok { IfOk result
         (λ outcome. DoesCallIf (MayPick parts.old instance (number_in args.max) picks.now)
         stamp.step stamp.caller.0 args.pid.0 (wait_call args) outcome parts.old parts.new) }
     ensures leaves { IfOk result (λ outcome. LeavesFiles outcome.raising parts.old parts.new) }
     ensures ids { parts.new.interest.keys ≡ parts.old.interest.keys }
+    ensures entries { IfOk result
+        (λ outcome. parts.new.interest.entries
+        ≡ map (with_report stamp.step outcome.picked) parts.old.interest.entries) }
     ensures picked { IfOk result
         (λ outcome. WherePicked parts.old instance (number_in args.max) picks.now
         (outcome.picked ≡ picks.now)) }
@@ -118,7 +60,7 @@ fn wait_these(
     ensures err { OnErr result (parts.new ≡ parts.old) }
 {
     parts.tables.known();
-    let chosen = take(parts, dating, instance, picks)?;
+    let chosen = take(parts, &dating.dates, instance, picks)?;
     let outcome = parts.wait_with(stamp.step, stamp.caller, args, instance, &chosen)?;
     Ok(outcome)
 }
@@ -134,13 +76,15 @@ fn resume_these(
     requires parked { find (is_caller stamp.caller.0) parts.old.parked
         ≡ Some (parked stamp.caller.0 waiter) }
     requires marked { waiter.marked ≡ true }
-    requires told { Tells parts.old.tables parts.old.clock parts.old.interest
-        (dated_of dating.now) }
+    requires exact { IsExact stamp.step parts.old dating.now }
     ensures ok { IfOk result
         (λ outcome. DoesEventIf (MayPick parts.old waiter.instance (number_in waiter.max) picks.now)
         stamp.step stamp.caller.0 Resume outcome parts.old parts.new) }
     ensures leaves { IfOk result (λ outcome. LeavesFiles outcome.raising parts.old parts.new) }
     ensures ids { parts.new.interest.keys ≡ parts.old.interest.keys }
+    ensures entries { IfOk result
+        (λ outcome. parts.new.interest.entries
+        ≡ map (with_report stamp.step outcome.picked) parts.old.interest.entries) }
     ensures picked { IfOk result
         (λ outcome. WherePicked parts.old waiter.instance (number_in waiter.max) picks.now
         (outcome.picked ≡ picks.now)) }
@@ -148,7 +92,7 @@ fn resume_these(
     ensures err { OnErr result (parts.new ≡ parts.old) }
 {
     parts.tables.known();
-    let chosen = take(parts, dating, waiter.instance, picks)?;
+    let chosen = take(parts, &dating.dates, waiter.instance, picks)?;
     let outcome = parts.resume_with(stamp.step, stamp.caller, waiter, &chosen, false)?;
     Ok(outcome)
 }
@@ -159,11 +103,11 @@ fn act_these(
     parts: &mut Parts,
     stamp: Stamp,
     event: &Event,
-    dating: &Dating,
+    dating: &mut Dating,
     picks: &[u64],
 ) -> Result<Outcome, AllocError>
-    requires told { Tells parts.old.tables parts.old.clock parts.old.interest
-        (dated_of dating.now) }
+    requires step { 0 < stamp.step }
+    requires exact { IsExact stamp.step parts.old dating.old }
     ensures ok { IfOk result
         (λ outcome. DoesEventIf (MayGo parts.old stamp.caller.0 event.now picks.now) stamp.step
         stamp.caller.0 event.now outcome parts.old parts.new) }
@@ -173,13 +117,15 @@ fn act_these(
         (λ outcome. MovesClock event.now outcome.raising parts.old.clock parts.new.clock) }
     ensures timers { stamp.has_room ≡ false → MayCreate event.now
         → parts.new.tables ≡ parts.old.tables }
-    ensures ids { HadOrAdds parts.old.interest parts.new.interest }
+    ensures follows { IfOk result
+        (λ outcome. Follows stamp.step event.now outcome.picked parts.old dating.old parts.new
+        dating.new) }
     ensures picked { IfOk result
         (λ outcome. PicksThese stamp.step parts.old stamp.caller.0 event.now picks.now
         outcome.picked) }
-    ensures room { NeedsRoom event.now stamp.has_room parts.old.interest parts.new.interest }
     ensures last { OnErr result (NothingRefuses parts.old stamp.caller.0 event.now) }
     ensures err { OnErr result (parts.new ≡ parts.old) }
+    ensures grows { OnErr result (Grows dating.old dating.new) }
 {
     match find_waiting(parts, stamp.caller, event) {
         Some(Waiting::Call { args, instance }) => {
@@ -199,12 +145,12 @@ pub fn act_with(
     parts: &mut Parts,
     stamp: Stamp,
     event: &Event,
-    dating: &Dating,
+    dating: &mut Dating,
     picks: Option<&[u64]>,
     kept: bool,
 ) -> Result<Outcome, AllocError>
-    requires told { Tells parts.old.tables parts.old.clock parts.old.interest
-        (dated_of dating.now) }
+    requires step { 0 < stamp.step }
+    requires exact { IsExact stamp.step parts.old dating.old }
     ensures ok { IfOk result
         (λ outcome. DoesEventIf
         (MayReport parts.old stamp.caller.0 event.now (option_copied picks.entry)) stamp.step
@@ -215,17 +161,19 @@ pub fn act_with(
         (λ outcome. MovesClock event.now outcome.raising parts.old.clock parts.new.clock) }
     ensures timers { stamp.has_room ≡ false → MayCreate event.now
         → parts.new.tables ≡ parts.old.tables }
-    ensures ids { HadOrAdds parts.old.interest parts.new.interest }
+    ensures follows { IfOk result
+        (λ outcome. Follows stamp.step event.now outcome.picked parts.old dating.old parts.new
+        dating.new) }
     ensures picked { IfOk result
         (λ outcome. ReportsThese stamp.step parts.old stamp.caller.0 event.now
         (option_copied picks.entry) outcome.picked) }
     ensures kept { IfOk result
         (λ outcome. IfNone (option_copied picks.entry) (KeepsEvent event.now kept outcome)) }
-    ensures room { NeedsRoom event.now stamp.has_room parts.old.interest parts.new.interest }
     ensures spared { option_copied picks.entry ≡ None → IsSpared parts.old.tables.files event.now
         → IsOk result }
     ensures last { OnErr result (NothingRefuses parts.old stamp.caller.0 event.now) }
     ensures err { OnErr result (parts.new ≡ parts.old) }
+    ensures grows { OnErr result (Grows dating.old dating.new) }
 {
     match picks {
         None => act(parts, stamp, event, dating, kept),
@@ -233,26 +181,58 @@ pub fn act_with(
     }
 }
 
-/// Whether the machine has a step that reports these registrations in this order, by what is kept of those that are
-/// reportable. It takes no memory.
-pub fn allows(parts: &Parts, since: &[u64], caller: CallerId, event: &Event, picks: &[u64]) -> bool
-    ensures { ForEach parts.now
-        (λ s. IsDated s since.now
-        → result ≡ goes_with parts.now.tables.limits caller.0 event.now picks.now s) }
+/// Whether the machine may report these registrations in this order at an instance, at most `max` of them, by the
+/// dates. It takes no memory, and the time grows with how many are given. No flag is set before and afterwards.
+fn may_pick(parts: &Parts, dating: &mut Dating, instance: DescId, max: i32, picks: &[u64]) -> bool
+    requires lives { IsSome (number_under parts.now.tables instance) }
+    requires positive { is_positive max ≡ true }
+    requires fits { Fits parts.now.interest dating.old }
+    requires order { (m : ℕ) × AreInTurn m parts.now.interest dating.old.dates }
+    ensures picks { ForEach parts.now
+        (λ s. IsDated s dating.old.dates.since
+        → result ≡ is_report s (number_at parts.now.tables.keys instance) (number_in max) picks.now) }
+    ensures others { dating.new ≡ record dating.old { flags = dating.new.flags } }
+    ensures unflagged { dating.new.flags.reached ≡ [] }
+    ensures room { dating.new.flags.room ≡ dating.old.flags.room }
 {
-    parts.tables.known();
+    parts.known();
+    parts.interest.known();
+    dating.dates.known();
+    is_pick(
+        &parts.interest,
+        &dating.dates,
+        &mut dating.flags,
+        instance,
+        most(max),
+        picks,
+    )
+}
+
+/// Whether the machine has a step that reports these registrations in this order, by the dates. It takes no memory, and
+/// the time grows with how many are given. No flag is set before and afterwards.
+pub fn allows(
+    parts: &Parts,
+    dating: &mut Dating,
+    caller: CallerId,
+    event: &Event,
+    picks: &[u64],
+) -> bool
+    requires fits { Fits parts.now.interest dating.old }
+    requires order { (m : ℕ) × AreInTurn m parts.now.interest dating.old.dates }
+    ensures goes { ForEach parts.now
+        (λ s. IsDated s dating.old.dates.since
+        → result ≡ goes_with parts.now.tables.limits caller.0 event.now picks.now s) }
+    ensures others { dating.new ≡ record dating.old { flags = dating.new.flags } }
+    ensures unflagged { dating.new.flags.reached ≡ [] }
+    ensures room { dating.new.flags.room ≡ dating.old.flags.room }
+{
+    parts.known();
     match find_waiting(parts, caller, event) {
         Some(Waiting::Call { args, instance }) => {
-            is_pick(&parts.interest, since, instance, most(args.max), picks)
+            may_pick(parts, dating, instance, args.max, picks)
         }
         Some(Waiting::Parked { waiter }) => {
-            is_pick(
-                &parts.interest,
-                since,
-                waiter.instance,
-                most(waiter.max),
-                picks,
-            )
+            may_pick(parts, dating, waiter.instance, waiter.max, picks)
         }
         None => picks.is_empty(),
     }

@@ -1,5 +1,5 @@
 //! Waits that scan: epoll_wait, and a parked caller that asks whether it may go on.
-ghost use Rattle.std.specs.Prelude.{◌≡◌, IfOk, OnErr, false};
+ghost use Rattle.std.specs.Prelude.{◌≡◌, IfOk, OnErr, false, map};
 ghost use Rattle.std.specs.List.{list_any};
 ghost use Rattle.ep_base.specs.declared.call.Event.TheVariants.{Resume};
 ghost use Rattle.ep_park.specs.Waiters.{is_caller};
@@ -8,11 +8,11 @@ ghost use Rattle.ep_calls.specs.Does.{DoesCall, DoesEvent};
 ghost use Rattle.ep_calls.specs.Kept.{IsKept};
 ghost use Rattle.ep_calls.specs.Last.{NothingRefuses, NothingRefusesCall};
 ghost use Rattle.ep_calls.specs.Wait.{wait_call};
-ghost use Rattle.ep_plain.specs.Choose.{Tells};
-ghost use Rattle.ep_plain.specs.Dating.{dated_of};
+ghost use Rattle.ep_calls.specs.Wait.{with_report};
+ghost use Rattle.ep_plain.specs.Exact.{IsExact};
 
 use crate::choose::choose;
-use crate::since::Dating;
+use crate::dating::Dating;
 use crate::stamp::Stamp;
 use ep_base::{Answer, Errno};
 use ep_calls::{Outcome, Parts, Raising, Wait, find_instance};
@@ -30,13 +30,15 @@ pub fn epoll_wait(
     dating: &Dating,
 ) -> Result<Outcome, AllocError>
     requires free { list_any (is_caller stamp.caller.0) parts.old.parked ≡ false }
-    requires told { Tells parts.old.tables parts.old.clock parts.old.interest
-        (dated_of dating.now) }
+    requires exact { IsExact stamp.step parts.old dating.now }
     ensures ok { IfOk result
         (λ outcome. DoesCall stamp.step stamp.caller.0 args.pid.0 (wait_call args) outcome
         parts.old parts.new) }
     ensures leaves { IfOk result (λ outcome. LeavesFiles outcome.raising parts.old parts.new) }
     ensures ids { parts.new.interest.keys ≡ parts.old.interest.keys }
+    ensures entries { IfOk result
+        (λ outcome. parts.new.interest.entries
+        ≡ map (with_report stamp.step outcome.picked) parts.old.interest.entries) }
     ensures kept { IfOk result (λ outcome. IsKept args.kept outcome) }
     ensures last { OnErr result (NothingRefusesCall parts.old args.pid.0 (wait_call args)) }
     ensures err { OnErr result (parts.new ≡ parts.old) }
@@ -46,7 +48,7 @@ pub fn epoll_wait(
         Err(errno) => return Ok(Outcome::refused(parts.alloc, errno)),
     };
     parts.tables.known();
-    let chosen = choose(parts, dating, instance, args.max)?;
+    let chosen = choose(parts, &dating.dates, instance, args.max)?;
     let outcome = parts.wait_with(stamp.step, stamp.caller, args, instance, &chosen)?;
     Ok(outcome)
 }
@@ -61,12 +63,14 @@ pub fn resume(
     dating: &Dating,
     kept: bool,
 ) -> Result<Outcome, AllocError>
-    requires told { Tells parts.old.tables parts.old.clock parts.old.interest
-        (dated_of dating.now) }
+    requires exact { IsExact stamp.step parts.old dating.now }
     ensures ok { IfOk result
         (λ outcome. DoesEvent stamp.step stamp.caller.0 Resume outcome parts.old parts.new) }
     ensures leaves { IfOk result (λ outcome. LeavesFiles outcome.raising parts.old parts.new) }
     ensures ids { parts.new.interest.keys ≡ parts.old.interest.keys }
+    ensures entries { IfOk result
+        (λ outcome. parts.new.interest.entries
+        ≡ map (with_report stamp.step outcome.picked) parts.old.interest.entries) }
     ensures kept { IfOk result (λ outcome. IsKept kept outcome) }
     ensures last { OnErr result (NothingRefuses parts.old stamp.caller.0 Resume) }
     ensures err { OnErr result (parts.new ≡ parts.old) }
@@ -78,7 +82,7 @@ pub fn resume(
         return Ok(Outcome::settled(parts.alloc, Answer::Still, Raising::Nowhere));
     }
     parts.tables.known();
-    let chosen = choose(parts, dating, waiter.instance, waiter.max)?;
+    let chosen = choose(parts, &dating.dates, waiter.instance, waiter.max)?;
     let outcome = parts.resume_with(stamp.step, stamp.caller, waiter, &chosen, kept)?;
     Ok(outcome)
 }

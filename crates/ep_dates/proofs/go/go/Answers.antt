@@ -1,10 +1,12 @@
-use Rattle.std.proofs.Common.{◌≡◌, ◌||◌, ◌∙◌, Bool, Some, [], ap, false, refl, sym, true, ℕ}
+use Rattle.std.proofs.Common.{◌≡◌, ◌||◌, ◌∙◌, Bool, Some, [], ap, false, refl, subst, sym, true, ℕ}
 use Rattle.std.proofs.lemmas.Bool.{false≢true}
 use Rattle.ep_base.specs.declared.ids.EntryId.{EntryId}
 use Rattle.ep_dates.proofs.ComeLemmas.{both_stages, whole_way}
 use Rattle.ep_dates.proofs.GoLemmas.{all_settled, none_above}
+use Rattle.ep_dates.proofs.TurnedLemmas.{instances_still, kept_forgot, no_instances}
 use Rattle.ep_dates.specs.Ask.{Asks, shows_by, shows_over}
 use Rattle.ep_dates.specs.Dates.{Dates, forgot, is_dated}
+use Rattle.ep_dates.specs.Kept.{AreKept}
 use Rattle.ep_dates.specs.Touched.{has_number, is_it, may_go, touched_of, watches_fresh, watches_maybe}
 use Rattle.ep_interest.specs.Registrations.{entry_under}
 use Rattle.ep_interest.specs.declared.entry.Entry.{Entry}
@@ -56,3 +58,15 @@ returns-clause-settled c =
     c.ask_turned.ensures.settled (λ k. true)
     (all_settled c.args.event p (asked c) c.forget.new.self c.ask_above.new.dates (stages c) none (λ id x at unasked absent dated.
     ap (λ (d : Dates). shows_by (shows_over p) d x) c.forget.ensures ∙ c.requires.others id x at (spared c id x at unasked absent) (ap (λ (d : Dates). is_dated d x) (sym c.forget.ensures) ∙ dated)))
+
+-- what is noted are instances
+pub ask_turned-requires-clause-instances : goal.ask_turned-requires-clause-instances
+ask_turned-requires-clause-instances c =
+    let p = c.args.parts.now in
+    let none : c.forget.new.self.turned.reached ≡ [] = ap (λ (d : Dates). d.turned.reached) c.forget.ensures in
+    let kept = subst (AreKept p.interest) (sym c.forget.ensures) (kept_forgot p.interest c.args.dates.now c.requires.kept) in
+    let altered = instances_still p c.requires.homes false c.args.event (is_it c.args.touched.now.altered) c.forget.new.self c.ask_altered.new.dates kept c.ask_altered.ensures (no_instances p c.requires.homes c.forget.new.self none) in
+    let reported = instances_still p c.requires.homes false c.args.event (has_number p.interest c.args.touched.now.reported.now) c.ask_altered.new.dates c.ask_reported.new.dates c.ask_altered.ensures.kept c.ask_reported.ensures altered in
+    let called = instances_still p c.requires.homes false c.args.event (watches_maybe p.interest c.args.touched.now.called) c.ask_reported.new.dates c.ask_called.new.dates c.ask_reported.ensures.kept c.ask_called.ensures reported in
+    let above : ℕ → Bool = watches_fresh p.interest c.ask_called.new.dates.turned.reached c.args.touched.now.gone.now.reached in
+    instances_still p c.requires.homes false c.args.event above c.ask_called.new.dates c.ask_above.new.dates c.ask_called.ensures.kept c.ask_above.ensures called

@@ -13,7 +13,11 @@ use Rattle.ep_calls.specs.Last.{NothingRefuses}
 use Rattle.ep_calls.specs.Parts.{Parts}
 use Rattle.ep_calls.proofs.ActLemmas.{busy, past_does, refused_does, tick_does}
 use Rattle.ep_calls.proofs.LastLemmas.{past_last}
+use Rattle.ep_interest.specs.declared.entry.Entry.{Entry}
+use Rattle.ep_plain.proofs.FollowsLemmas.{refused_follow, reports_follow, same_follow}
+use Rattle.ep_plain.proofs.RoomLemmas.{grows_none}
 use Rattle.ep_plain.proofs.act.act.Goals as goal
+use Rattle.ep_plain.specs.Exact.{Follows, IsAlteredKey, IsNamed}
 
 pub returns-then-is_parked-clause-ok : goal.returns-then-is_parked-clause-ok
 returns-then-is_parked-clause-ok c =
@@ -102,3 +106,38 @@ returns-in-Tick-clause-clock c =
 -- a timer that has no room is not created
 pub returns-else-is_parked-clause-timers : goal.returns-else-is_parked-clause-timers
 returns-else-is_parked-clause-timers c none creates = c.make_call.ensures.timers none (subst MayCreate c.in-Call.is creates)
+
+-- the dates
+pub returns-then-not-has_process-clause-follows : goal.returns-then-not-has_process-clause-follows
+returns-then-not-has_process-clause-follows c =
+    let p = c.args.parts.now in
+    let altered = subst (λ (event : Event). IsAlteredKey p.tables event p.interest c.find_altered-dating.result) (sym c.in-Call.is) c.find_altered-dating.ensures in
+    refused_follow c.args.stamp.step c.args.event.now c.refused.result.picked p p c.args.dating.now c.requires.exact refl c.refused.ensures.picked c.find_altered-dating.result altered
+
+pub returns-then-is_parked-clause-follows : goal.returns-then-is_parked-clause-follows
+returns-then-is_parked-clause-follows c =
+    let p = c.args.parts.now in
+    let found = c.find_altered-dating-then-is_parked in
+    let altered = subst (λ (event : Event). IsAlteredKey p.tables event p.interest found.result) (sym c.in-Call.is) found.ensures in
+    refused_follow c.args.stamp.step c.args.event.now c.refused-then-is_parked.result.picked p p c.args.dating.now c.requires.exact refl c.refused-then-is_parked.ensures.picked found.result altered
+
+pub returns-else-is_parked-clause-follows : goal.returns-else-is_parked-clause-follows
+returns-else-is_parked-clause-follows c =
+    let p = c.args.parts.now in
+    let q = c.make_call.new.parts in
+    IfOk-weaker c.make_call.result _ _ (λ outcome did. subst (λ (event : Event). Follows c.args.stamp.step event outcome.picked p c.args.dating.now q c.make_call.new.dating) (sym c.in-Call.is) did) c.make_call.ensures.follows
+
+pub returns-in-Resume-clause-follows : goal.returns-in-Resume-clause-follows
+returns-in-Resume-clause-follows c =
+    let p = c.args.parts.now in
+    let unnamed = subst (λ (event : Event). (x : Entry) → IsNamed p.tables event x → ⊥) (sym c.in-Resume.is) (λ x named. named) in
+    IfOk-weaker c.resume.result _ _ (λ outcome entries. reports_follow c.args.stamp.step c.args.event.now outcome.picked p c.resume.new.parts c.args.dating.now c.requires.exact c.resume.ensures.ids entries unnamed) c.resume.ensures.entries
+
+pub returns-in-Resume-clause-grows : goal.returns-in-Resume-clause-grows
+returns-in-Resume-clause-grows c = on_err_weaker c.resume.result (λ same. grows_none c.args.dating.now c.args.dating.now refl) c.resume.ensures.err
+
+pub returns-in-Tick-clause-follows : goal.returns-in-Tick-clause-follows
+returns-in-Tick-clause-follows c =
+    let p = c.args.parts.now in
+    let unnamed = subst (λ (event : Event). (x : Entry) → IsNamed p.tables event x → ⊥) (sym c.in-Tick.is) (λ x named. named) in
+    same_follow c.args.stamp.step c.args.event.now c.tick.result.picked p c.tick.new.self c.args.dating.now c.requires.exact (ap (λ (r : Parts). r.interest) c.tick.ensures.others) c.tick.ensures.picked unnamed

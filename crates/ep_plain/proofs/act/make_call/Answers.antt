@@ -1,6 +1,6 @@
-use Rattle.std.proofs.Common.{◌≡◌, ◌∙◌, ℤ, OnErr, Some, ap, rules, subst, sym, w32}
+use Rattle.std.proofs.Common.{◌≡◌, ◌∙◌, ℤ, IsSome, OnErr, Some, ap, refl, rules, subst, sym, w32}
 use Rattle.std.proofs.lemmas.Int.{to_z-of_z}
-use Rattle.std.proofs.lemmas.Result.{IfOk-weaker}
+use Rattle.std.proofs.lemmas.Result.{IfOk-weaker, on_err_weaker}
 use mir.Val.{SFits}
 use Rattle.ep_alarms.proofs.ChangesLemmas.{as_object, as_table}
 use Rattle.ep_alarms.specs.Changes.{CallsTables}
@@ -11,9 +11,12 @@ use Rattle.ep_calls.specs.Kept.{KeepsCall}
 use Rattle.ep_calls.specs.Last.{NothingRefusesCall}
 use Rattle.ep_calls.specs.ObjectCall.{fd_of}
 use Rattle.ep_calls.specs.TableCall.{IsTableCall}
-use Rattle.ep_interest.specs.Registrations.{Registrations}
+use Rattle.ep_base.specs.declared.call.Event.TheVariants.{Call as CallOf}
+use Rattle.ep_interest.specs.declared.entry.Entry.{Entry}
+use Rattle.ep_plain.proofs.FollowsLemmas.{object_unnamed, reports_follow, same_follow, table_unnamed}
+use Rattle.ep_plain.proofs.RoomLemmas.{grows_none}
+use Rattle.ep_plain.specs.Exact.{Follows, IsNamed}
 use Rattle.ep_table.specs.Value.{Seen}
-use Rattle.ep_calls.proofs.HadLemmas.{had_keys, had_same}
 use Rattle.ep_calls.proofs.KeptLemmas.{any_call, table_call_kept}
 use Rattle.ep_calls.proofs.SparedLemmas.{table_call_frees}
 use Rattle.ep_plain.proofs.act.make_call.Goals as goal
@@ -28,10 +31,10 @@ returns-in_default c =
       tables = IfOk-weaker c.table_call.result _ _ (λ outcome did. as_table c.args.pid.0 c.args.call.now outcome.answer c.args.parts.now c.table_call.new.self on_tables did) c.table_call.ensures.tables;
       clock = c.table_call.ensures.clock;
       timers = c.table_call.ensures.room;
-      ids = had_same c.args.parts.now.interest c.table_call.new.self.interest c.table_call.ensures.interest;
-      room = λ adds none. ap (λ (r : Registrations). r.added) c.table_call.ensures.interest;
+      follows = IfOk-weaker c.table_call.result _ _ (λ outcome none. same_follow c.args.stamp.step (CallOf c.args.pid c.args.call.now) outcome.picked c.args.parts.now c.table_call.new.self c.args.dating.now c.requires.exact c.table_call.ensures.interest none (table_unnamed c.args.parts.now c.args.pid c.args.call.now on_tables)) c.table_call.ensures.picked;
       last = c.table_call.ensures.last;
       err = c.table_call.ensures.err;
+      grows = on_err_weaker c.table_call.result (λ none. grows_none c.args.dating.now c.args.dating.now refl) c.table_call.ensures.err;
     }
 
 pub returns-in-Read-clause-ok : goal.returns-in-Read-clause-ok
@@ -51,14 +54,42 @@ returns-in-EpollCtl-clause-ok c =
     let x = c.in-EpollCtl in
     let fits : SFits w32 x.op = search rules in
     IfOk-weaker c.epoll_ctl.result _ _ (λ outcome h.
-    let P : Call → Type 0 = λ call. DoesCall c.args.stamp.step c.args.stamp.caller.0 c.args.pid.0 call outcome c.args.parts.now c.epoll_ctl.new.self in
+    let P : Call → Type 0 = λ call. DoesCall c.args.stamp.step c.args.stamp.caller.0 c.args.pid.0 call outcome c.args.parts.now c.epoll_ctl.new.parts in
     subst P (sym x.is) (subst (λ (z : ℤ). P (EpollCtl x.epfd z x.fd x.mask x.tag)) (to_z-of_z w32 x.op fits) (h c.args.stamp.step c.args.stamp.caller.0))) c.epoll_ctl.ensures.ok
 
-pub returns-in-Read-clause-ids : goal.returns-in-Read-clause-ids
-returns-in-Read-clause-ids c = had_same c.args.parts.now.interest c.object_call.new.self.interest c.object_call.ensures.interest
+pub returns-in-Read-clause-follows : goal.returns-in-Read-clause-follows
+returns-in-Read-clause-follows c =
+    let p = c.args.parts.now in
+    let call = c.args.call.now in
+    let on : IsSome (fd_of call) = search rules in
+    IfOk-weaker c.object_call.result _ _ (λ outcome none. same_follow c.args.stamp.step (CallOf c.args.pid call) outcome.picked p c.object_call.new.self c.args.dating.now c.requires.exact c.object_call.ensures.interest none (object_unnamed p c.args.pid call on)) c.object_call.ensures.picked
 
-pub returns-in-EpollWait-clause-ids : goal.returns-in-EpollWait-clause-ids
-returns-in-EpollWait-clause-ids c = had_keys c.args.parts.now.interest c.epoll_wait.new.parts.interest c.epoll_wait.ensures.ids
+pub returns-in-Read-clause-grows : goal.returns-in-Read-clause-grows
+returns-in-Read-clause-grows c = on_err_weaker c.object_call.result (λ same. grows_none c.args.dating.now c.args.dating.now refl) c.object_call.ensures.err
+
+pub returns-in-EpollWait-clause-follows : goal.returns-in-EpollWait-clause-follows
+returns-in-EpollWait-clause-follows c =
+    let p = c.args.parts.now in
+    let q = c.epoll_wait.new.parts in
+    let d = c.args.dating.now in
+    let call = c.args.call.now in
+    IfOk-weaker c.epoll_wait.result _ _ (λ outcome entries. reports_follow c.args.stamp.step (CallOf c.args.pid call) outcome.picked p q d c.requires.exact c.epoll_wait.ensures.ids entries
+    (subst (λ (k : Call). (x : Entry) → IsNamed p.tables (CallOf c.args.pid k) x → ⊥) (sym c.in-EpollWait.is) (λ x named. named))) c.epoll_wait.ensures.entries
+
+pub returns-in-EpollWait-clause-grows : goal.returns-in-EpollWait-clause-grows
+returns-in-EpollWait-clause-grows c = on_err_weaker c.epoll_wait.result (λ same. grows_none c.args.dating.now c.args.dating.now refl) c.epoll_wait.ensures.err
+
+pub returns-in-EpollCtl-clause-follows : goal.returns-in-EpollCtl-clause-follows
+returns-in-EpollCtl-clause-follows c =
+    let x = c.in-EpollCtl in
+    let p = c.args.parts.now in
+    let q = c.epoll_ctl.new.parts in
+    let d = c.args.dating.now in
+    let fits : SFits w32 x.op = search rules in
+    let step = c.args.stamp.step in
+    IfOk-weaker c.epoll_ctl.result _ _ (λ outcome h.
+    let P : Call → Type 0 = λ call. Follows step (CallOf c.args.pid call) outcome.picked p d q c.epoll_ctl.new.dating in
+    subst P (sym x.is) (subst (λ (z : ℤ). P (EpollCtl x.epfd z x.fd x.mask x.tag)) (to_z-of_z w32 x.op fits) (h step c.requires.step c.requires.exact))) c.epoll_ctl.ensures.follows
 
 pub returns-in-EpollCtl-clause-last : goal.returns-in-EpollCtl-clause-last
 returns-in-EpollCtl-clause-last c =
@@ -78,7 +109,7 @@ returns-in-Read-clause-tables c =
 pub returns-in-EpollCtl-clause-tables : goal.returns-in-EpollCtl-clause-tables
 returns-in-EpollCtl-clause-tables c =
     let p = c.args.parts.now in
-    let q = c.epoll_ctl.new.self in
+    let q = c.epoll_ctl.new.parts in
     let files : q.tables.files ≡ p.tables.files = ap (λ (v : Seen). v.files) c.epoll_ctl.ensures.tables in
     IfOk-weaker c.epoll_ctl.result _ _ (λ outcome stays. subst (λ (call : Call). CallsTables c.args.pid.0 call outcome.answer p q) (sym c.in-EpollCtl.is) files) c.epoll_ctl.ensures.clock
 

@@ -1,61 +1,59 @@
-use Rattle.std.proofs.Common.{◌≡◌, Some, ℕ, nat_lt, ◌++◌, [], List, filter, sym, ap, ◌∙◌, subst, append-nil, refl}
-use Rattle.std.proofs.lemmas.List.Elements.{All-filter, All-from_recursion}
+use Rattle.std.proofs.Common.{◌≡◌, ◌∙◌, [], List, Some, filter, subst, sym}
+use Rattle.std.proofs.lemmas.List.Elements.{All-filter}
 use Rattle.ep_base.specs.declared.ids.EntryId.{EntryId}
+use Rattle.ep_calls.proofs.CollectLemmas.{Collects, begins, collects_more, collects_same, first_linked}
+use Rattle.ep_calls.proofs.EntryKeyLemmas.{each_found}
+use Rattle.ep_calls.specs.Parts.{Parts}
+use Rattle.ep_calls.specs.Stands.{IsLinked}
+use Rattle.ep_calls.specs.declared.wait.Reportable.{Reportable}
 use Rattle.ep_interest.specs.Registrations.{is_of, numbered}
 use Rattle.ep_interest.specs.declared.entry.Entry.{Entry}
-use Rattle.ep_calls.specs.Stands.{IsLinked}
-use Rattle.ep_calls.specs.Readiness.{entry_shows, readiness}
-use Rattle.ep_calls.specs.declared.wait.Reportable.{Reportable}
-use Rattle.ep_calls.proofs.FindLemmas.{each_numbered}
-use Rattle.ep_calls.proofs.CollectLemmas.{Collects, begins, collects_more, collects_same, entries_in, entries_of, first_linked}
 use Rattle.ep_plain.proofs.ChooseLemmas.{next_told}
-use Rattle.ep_plain.specs.Since.{event_at}
+use Rattle.ep_plain.specs.Choose.{reportables_at}
 use Rattle.ep_plain.proofs.choose.reportables.Goals as goal
 
 pub loop-id-init : goal.loop-id-init
 loop-id-init c =
-    let v = c.args.tables.now in
-    let r = c.args.interest.now in
+    let k = c.parts.inside in
+    let p : Parts = record { tables = k.tables; interest = k.interest; graph = k.graph; parked = k.waiters; clock = k.clock } in
+    let r = p.interest in
     let e = c.entries-id-items.ensures in
-    let P : List (EntryId × Entry) → List Reportable → Type 0 = λ rest found. Collects v c.args.now r found rest (filter (entry_shows (readiness v c.args.now r) v c.args.now) (filter (is_of c.args.instance) r.entries)) in
-    subst (λ (found : List Reportable). P c.into_iter-id-iterator.result found) (sym c.new-found.ensures.items)
-    (subst (λ (rest : List (EntryId × Entry)). P rest []) (sym c.into_iter-id-iterator.ensures.into_iter_gives)
-    (begins v c.args.now r c.entries-id-items.result (filter (is_of c.args.instance) r.entries) e.entries e.keys (All-filter (is_of c.args.instance) (IsLinked v.keys) r.entries c.requires.linked)
-    (All-filter (is_of c.args.instance) (λ (x : Entry). numbered r.entries x.number ≡ Some x) r.entries (All-from_recursion (λ (x : Entry). numbered r.entries x.number ≡ Some x) r.entries (each_numbered 0 r.entries c.known.ensures.rises)))))
+    let of = filter (is_of c.args.instance) r.entries in
+    let all = reportables_at p.tables p.clock r c.args.instance in
+    subst (λ (q : Parts). Collects q.tables q.clock q.interest c.new-found.result.items c.into_iter-id-iterator.result (reportables_at q.tables q.clock q.interest c.args.instance)) c.parts.view_is
+    (subst (λ (found : List Reportable). Collects p.tables p.clock r found c.into_iter-id-iterator.result all) (sym c.new-found.ensures.items)
+    (subst (λ (rest : List (EntryId × Entry)). Collects p.tables p.clock r [] rest all) (sym c.into_iter-id-iterator.ensures.into_iter_gives)
+    (begins p.tables p.clock r c.entries-id-items.result of e.entries e.keys (All-filter (is_of c.args.instance) (IsLinked p.tables.keys) r.entries c.parts.invariant.linked)
+    (All-filter (is_of c.args.instance) (λ (x : Entry). numbered r.entries x.number ≡ Some x) r.entries (each_found r c.known-2.ensures)))))
 
-pub shown-bits-requires-clause-target : goal.shown-bits-requires-clause-target
-shown-bits-requires-clause-target c =
-    let v = c.args.tables.now in
-    let r = c.args.interest.now in
-    let P : List (EntryId × Entry) → Type 0 = λ rest. Collects v c.args.now r c.loop-id.found.items rest (filter (entry_shows (readiness v c.args.now r) v c.args.now) (filter (is_of c.args.instance) r.entries)) in
-    (first_linked v c.args.now r c.loop-id.found.items c.in-Some.id c.in-Some.entry.now c.next.new.self _ (subst P c.in-Some.ensures.steps c.loop-id.invariant)).desc
+pub reportable-requires-clause-target : goal.reportable-requires-clause-target
+reportable-requires-clause-target c =
+    let p = c.args.parts.now in
+    let all = reportables_at p.tables p.clock p.interest c.args.instance in
+    let now = subst (λ (rest : List (EntryId × Entry)). Collects p.tables p.clock p.interest c.loop-id.found.items rest all) c.in-Some.ensures.steps c.loop-id.invariant in
+    (first_linked p.tables p.clock p.interest c.loop-id.found.items c.in-Some.id c.in-Some.entry.now c.next.new.self all now).desc
 
 pub loop-id-preserved-in-Continue-1 : goal.loop-id-preserved-in-Continue-1
 loop-id-preserved-in-Continue-1 c =
-    let v = c.args.tables.now in
-    let r = c.args.interest.now in
-    let all = filter (entry_shows (readiness v c.args.now r) v c.args.now) (filter (is_of c.args.instance) r.entries) in
-    let P : List (EntryId × Entry) → Type 0 = λ rest. Collects v c.args.now r c.loop-id.found.items rest all in
-    let x : Reportable = record { id = c.in-Some.id; entry = c.in-Some.entry.now; bits = c.shown-bits.result } in
-    subst (λ (found : List Reportable). Collects v c.args.now r found c.next.new.self all) (sym c.in_ok-push.ensures.items)
-    (collects_more v c.args.now r c.loop-id.found.items c.in-Some.id c.in-Some.entry.now c.next.new.self all (subst P c.in-Some.ensures.steps c.loop-id.invariant) x refl refl c.shown-bits.ensures
-    (sym (next_told v c.args.now r c.args.dating.now.since.items c.requires.told.shown c.loop-id.found.items c.in-Some.id c.in-Some.entry.now c.next.new.self all (subst P c.in-Some.ensures.steps c.loop-id.invariant))
-    ∙ (ap (λ (xs : List ℕ). nat_lt 0 (event_at xs c.in-Some.entry.now.number)) (sym c.deref.ensures.value) ∙ (sym c.is_dated.ensures ∙ c.if-is_dated.true))))
+    let p = c.args.parts.now in
+    let found = c.loop-id.found.items in
+    let id = c.in-Some.id in
+    let x = c.in-Some.entry.now in
+    let rest = c.next.new.self in
+    let all = reportables_at p.tables p.clock p.interest c.args.instance in
+    let now = subst (λ (more : List (EntryId × Entry)). Collects p.tables p.clock p.interest found more all) c.in-Some.ensures.steps c.loop-id.invariant in
+    let shows = sym (next_told p c.args.dates.now c.requires.shown found id x rest all now) ∙ (sym c.is_dated.ensures ∙ c.if-is_dated.true) in
+    let one = c.reportable.ensures in
+    subst (λ (xs : List Reportable). Collects p.tables p.clock p.interest xs rest all) (sym c.in_ok-push.ensures.items)
+    (collects_more p.tables p.clock p.interest found id x rest all now c.reportable.result one.id one.entry one.bits shows)
 
 pub loop-id-preserved : goal.loop-id-preserved
 loop-id-preserved c =
-    let v = c.args.tables.now in
-    let r = c.args.interest.now in
-    let all = filter (entry_shows (readiness v c.args.now r) v c.args.now) (filter (is_of c.args.instance) r.entries) in
-    let P : List (EntryId × Entry) → Type 0 = λ rest. Collects v c.args.now r c.loop-id.found.items rest all in
-    collects_same v c.args.now r c.loop-id.found.items c.in-Some.id c.in-Some.entry.now c.next.new.self all (subst P c.in-Some.ensures.steps c.loop-id.invariant)
-    (sym (next_told v c.args.now r c.args.dating.now.since.items c.requires.told.shown c.loop-id.found.items c.in-Some.id c.in-Some.entry.now c.next.new.self all (subst P c.in-Some.ensures.steps c.loop-id.invariant))
-    ∙ (ap (λ (xs : List ℕ). nat_lt 0 (event_at xs c.in-Some.entry.now.number)) (sym c.deref.ensures.value) ∙ (sym c.is_dated.ensures ∙ c.if-is_dated.false)))
-
-pub returns-clause-entries : goal.returns-clause-entries
-returns-clause-entries c =
-    let v = c.args.tables.now in
-    let r = c.args.interest.now in
+    let p = c.args.parts.now in
     let found = c.loop-id.found.items in
-    sym (append-nil (entries_in found))
-    ∙ (ap (λ (rest : List (EntryId × Entry)). entries_in found ++ filter (entry_shows (readiness v c.args.now r) v c.args.now) (entries_of rest)) (sym c.in-None.ensures.steps.0) ∙ c.loop-id.invariant.told)
+    let id = c.in-Some.id in
+    let x = c.in-Some.entry.now in
+    let rest = c.next.new.self in
+    let all = reportables_at p.tables p.clock p.interest c.args.instance in
+    let now = subst (λ (more : List (EntryId × Entry)). Collects p.tables p.clock p.interest found more all) c.in-Some.ensures.steps c.loop-id.invariant in
+    collects_same p.tables p.clock p.interest found id x rest all now (sym (next_told p c.args.dates.now c.requires.shown found id x rest all now) ∙ (sym c.is_dated.ensures ∙ c.if-is_dated.false))

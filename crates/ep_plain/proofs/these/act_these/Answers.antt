@@ -1,4 +1,4 @@
-use Rattle.std.proofs.Common.{Some, subst, sym}
+use Rattle.std.proofs.Common.{Some, refl, subst, sym}
 use Rattle.std.proofs.lemmas.Result.{IfOk-weaker, on_err_weaker}
 use Rattle.ep_base.specs.declared.call.Event.{Event}
 use Rattle.ep_calls.specs.Last.{NothingRefuses}
@@ -8,7 +8,11 @@ use Rattle.ep_plain.proofs.LeavesLemmas.{resume_creates, resume_moves, resume_to
 use Rattle.ep_calls.proofs.LastLemmas.{past_last}
 use Rattle.ep_plain.specs.These.{AsksFor, CallsWait, Resumes}
 use Rattle.ep_plain.specs.declared.waiting.Waiting.{Waiting}
+use Rattle.ep_interest.specs.declared.entry.Entry.{Entry}
+use Rattle.ep_plain.proofs.FollowsLemmas.{reports_follow}
+use Rattle.ep_plain.proofs.RoomLemmas.{grows_none}
 use Rattle.ep_plain.proofs.these.act_these.Goals as goal
+use Rattle.ep_plain.specs.Exact.{IsNamed}
 
 calls : (c : goal.After-wait_these) → CallsWait c.args.parts.now c.args.stamp.caller.0 c.args.event.now c.in-Some-Call.args c.in-Some-Call.instance
 calls c = subst (λ (w : Waiting). AsksFor c.args.parts.now c.args.stamp.caller.0 c.args.event.now (Some w)) c.in-Some-Call.field-0-is c.in-Some-Call.ensures
@@ -77,3 +81,24 @@ pub returns-in-Some-Parked-clause-timers : goal.returns-in-Some-Parked-clause-ti
 returns-in-Some-Parked-clause-timers c none creates =
     let x = c.in-Some-Parked in
     absurd (resume_creates c.args.parts.now c.resume_these.new.parts c.args.stamp.caller.0 c.args.event.now x.waiter (resumes c) creates)
+
+-- the dates
+pub returns-in-Some-Call-clause-follows : goal.returns-in-Some-Call-clause-follows
+returns-in-Some-Call-clause-follows c =
+    let p = c.args.parts.now in
+    let q = c.wait_these.new.parts in
+    let unnamed = subst (λ (event : Event). (x : Entry) → IsNamed p.tables event x → ⊥) (sym (calls c).is) (λ x named. named) in
+    IfOk-weaker c.wait_these.result _ _ (λ outcome entries. reports_follow c.args.stamp.step c.args.event.now outcome.picked p q c.args.dating.now c.requires.exact c.wait_these.ensures.ids entries unnamed) c.wait_these.ensures.entries
+
+pub returns-in-Some-Call-clause-grows : goal.returns-in-Some-Call-clause-grows
+returns-in-Some-Call-clause-grows c = on_err_weaker c.wait_these.result (λ same. grows_none c.args.dating.now c.args.dating.now refl) c.wait_these.ensures.err
+
+pub returns-in-Some-Parked-clause-follows : goal.returns-in-Some-Parked-clause-follows
+returns-in-Some-Parked-clause-follows c =
+    let p = c.args.parts.now in
+    let q = c.resume_these.new.parts in
+    let unnamed = subst (λ (event : Event). (x : Entry) → IsNamed p.tables event x → ⊥) (sym (resumes c).is) (λ x named. named) in
+    IfOk-weaker c.resume_these.result _ _ (λ outcome entries. reports_follow c.args.stamp.step c.args.event.now outcome.picked p q c.args.dating.now c.requires.exact c.resume_these.ensures.ids entries unnamed) c.resume_these.ensures.entries
+
+pub returns-in-Some-Parked-clause-grows : goal.returns-in-Some-Parked-clause-grows
+returns-in-Some-Parked-clause-grows c = on_err_weaker c.resume_these.result (λ same. grows_none c.args.dating.now c.args.dating.now refl) c.resume_these.ensures.err

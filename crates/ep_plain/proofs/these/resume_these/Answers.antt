@@ -37,7 +37,7 @@ taken c s stands may =
     let caller = c.args.stamp.caller.0 in
     let held = subst (λ (q : Parts). find (is_caller caller) q.parked ≡ Some (parked caller w)) (sym c.parts.view_is) c.requires.parked in
     let placed = found_all (IsPlaced k.tables.keys) caller k.waiters (parked caller w) held c.parts.invariant.placed in
-    taken_numbers k.tables k.clock k.interest s w.instance most c.deref.result.now ks (subst (λ (q : Parts). StandFor q s) (sym c.parts.view_is) stands) c.parts.invariant.linked c.known.ensures placed.instance
+    taken_numbers k.tables k.clock k.interest s w.instance (subst (λ (q : Parts). StandFor q s) (sym c.parts.view_is) stands) c.parts.invariant.linked c.known.ensures placed.instance most c.deref.result.now ks
     (subst (λ (q : Parts). MayPick q w.instance most ks s) (sym c.parts.view_is) may)
     (ap (λ (xs : List Reportable). map (λ x. x.entry) xs) c.deref.ensures.value
     ∙ (c.in_ok-chosen.ensures.entries ∙ ap (λ (q : Parts). filter_map (numbered (reportables_at q.tables q.clock q.interest w.instance)) ks) (sym c.parts.view_is)))

@@ -31,8 +31,8 @@ taken c s stands may =
     let instance = c.args.instance in
     let most = number_in c.args.args.max in
     let ks = c.args.picks.now in
-    taken_numbers k.tables k.clock k.interest s instance most c.deref.result.now ks (subst (λ (q : Parts). StandFor q s) (sym c.parts.view_is) stands) c.parts.invariant.linked c.known.ensures
-    (subst (λ (q : Parts). IsSome (number_under q.tables instance)) (sym c.parts.view_is) c.requires.waits.lives)
+    taken_numbers k.tables k.clock k.interest s instance (subst (λ (q : Parts). StandFor q s) (sym c.parts.view_is) stands) c.parts.invariant.linked c.known.ensures
+    (subst (λ (q : Parts). IsSome (number_under q.tables instance)) (sym c.parts.view_is) c.requires.waits.lives) most c.deref.result.now ks
     (subst (λ (q : Parts). MayPick q instance most ks s) (sym c.parts.view_is) may)
     (ap (λ (xs : List Reportable). map (λ x. x.entry) xs) c.deref.ensures.value
     ∙ (c.in_ok-chosen.ensures.entries ∙ ap (λ (q : Parts). filter_map (numbered (reportables_at q.tables q.clock q.interest instance)) ks) (sym c.parts.view_is)))

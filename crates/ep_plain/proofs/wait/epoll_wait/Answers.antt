@@ -1,15 +1,16 @@
 use Rattle.ep_alarms.proofs.ChangesLemmas.{nowhere_leaves}
-use Rattle.std.proofs.Common.{ℤ, List, SFits, rules, subst, sym, w32}
+use Rattle.std.proofs.Common.{◌∙◌, ℕ, ℤ, List, SFits, ap, map, rules, subst, sym, w32}
 use Rattle.std.proofs.lemmas.Int.{to_z-of_z}
 use Rattle.ep_machine.specs.Refusal.{call_refusals}
 use Rattle.ep_machine.specs.Step.{call_change}
 use Rattle.ep_machine.specs.Watches.{number_in}
 use Rattle.ep_calls.specs.Moves.{MovesBy}
 use Rattle.ep_calls.specs.Parts.{Parts}
-use Rattle.ep_calls.specs.Wait.{AreKeyed, IsPick, wait_call}
+use Rattle.ep_calls.specs.Wait.{AreKeyed, IsPick, wait_call, with_report}
 use Rattle.ep_plain.specs.Choose.{IsChosen}
 use Rattle.ep_calls.specs.declared.wait.Reportable.{Reportable}
 use Rattle.ep_calls.proofs.ActLemmas.{does_all}
+use Rattle.ep_calls.proofs.PickLemmas.{noted_none}
 use Rattle.ep_plain.proofs.ChooseLemmas.{chosen_is_pick}
 use Rattle.ep_plain.proofs.wait.epoll_wait.Goals as goal
 
@@ -40,3 +41,8 @@ returns-in-Err-clause-leaves c = nowhere_leaves c.refused.result.raising c.args.
 
 pub returns-clause-leaves : goal.returns-clause-leaves
 returns-clause-leaves c = record { files = c.wait_with.ensures.files; clock = c.in_ok-outcome.ensures.clock }
+
+pub returns-in-Err-clause-entries : goal.returns-in-Err-clause-entries
+returns-in-Err-clause-entries c =
+    let xs = c.args.parts.now.interest.entries in
+    sym (ap (λ (ks : List ℕ). map (with_report c.args.stamp.step ks) xs) c.refused.ensures.picked ∙ noted_none c.args.stamp.step xs)

@@ -1,5 +1,5 @@
 use Rattle.ep_alarms.proofs.ChangesLemmas.{nowhere_leaves}
-use Rattle.std.proofs.Common.{◌≡◌, ℤ, true, List, SFits, refl, rules, subst, sym, w32}
+use Rattle.std.proofs.Common.{◌≡◌, ◌∙◌, ℕ, ℤ, true, List, SFits, ap, map, refl, rules, subst, sym, w32}
 use Rattle.std.proofs.lemmas.Int.{to_z-of_z}
 use Rattle.ep_base.specs.declared.answer.Answer.TheVariants.{Refused, Still}
 use Rattle.ep_base.specs.declared.call.Event.TheVariants.{Resume}
@@ -13,7 +13,7 @@ use Rattle.ep_park.specs.Waiters.{parked}
 use Rattle.ep_calls.specs.Moves.{MovesBy}
 use Rattle.ep_calls.specs.Parts.{Parts}
 use Rattle.ep_calls.specs.Stands.{IsPlaced}
-use Rattle.ep_calls.specs.Wait.{AreKeyed, IsPick}
+use Rattle.ep_calls.specs.Wait.{AreKeyed, IsPick, with_report}
 use Rattle.ep_plain.specs.Choose.{IsChosen}
 use Rattle.ep_calls.specs.declared.wait.Reportable.{Reportable}
 use Rattle.ep_calls.proofs.ActLemmas.{does_all}
@@ -22,6 +22,7 @@ use Rattle.ep_plain.proofs.ChooseLemmas.{chosen_is_pick}
 use Rattle.ep_calls.proofs.LastLemmas.{resume_last}
 use Rattle.ep_calls.proofs.OutcomeLemmas.{goes_told}
 use Rattle.ep_calls.proofs.ParkLemmas.{found_all}
+use Rattle.ep_calls.proofs.PickLemmas.{noted_none}
 use Rattle.ep_calls.proofs.ResumeLemmas.{goes_still, goes_unparked, is_off}
 use Rattle.ep_calls.proofs.WaitLemmas.{asked_some, resume_does}
 use Rattle.ep_plain.proofs.wait.resume.Goals as goal
@@ -95,3 +96,13 @@ returns-then-not-waiter-clause-leaves c = nowhere_leaves c.settled.result.raisin
 
 pub returns-clause-leaves : goal.returns-clause-leaves
 returns-clause-leaves c = record { files = c.resume_with.ensures.files; clock = c.in_ok-outcome.ensures.clock }
+
+pub returns-in_default-clause-entries : goal.returns-in_default-clause-entries
+returns-in_default-clause-entries c =
+    let xs = c.args.parts.now.interest.entries in
+    sym (ap (λ (ks : List ℕ). map (with_report c.args.stamp.step ks) xs) c.refused.ensures.picked ∙ noted_none c.args.stamp.step xs)
+
+pub returns-then-not-waiter-clause-entries : goal.returns-then-not-waiter-clause-entries
+returns-then-not-waiter-clause-entries c =
+    let xs = c.args.parts.now.interest.entries in
+    sym (ap (λ (ks : List ℕ). map (with_report c.args.stamp.step ks) xs) c.settled.ensures.picked ∙ noted_none c.args.stamp.step xs)

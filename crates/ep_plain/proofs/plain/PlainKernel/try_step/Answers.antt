@@ -1,205 +1,76 @@
-use Rattle.std.proofs.Common.{◌≡◌, ◌<◌, ◌+◌, ◌++◌, [], ◌∷◌, List, None, ℕ, ap, length, ◌∙◌, arith, option_copied, subst, sym, vec_capacity}
+use Rattle.std.proofs.Common.{◌≡◌, ◌+◌, ◌++◌, ◌⊎◌, [], ◌∷◌, List, None, Option, Some, ℕ, ap, false, length, ◌∙◌, arith, option_copied, subst, sym, true, vec_capacity}
 use Rattle.ep_alarms.proofs.ChangesLemmas.{set_same}
 use Rattle.ep_alarms.specs.Alarms.{AreSet}
 use Rattle.ep_base.specs.declared.answer.Answer.{Answer}
+use Rattle.ep_base.specs.declared.ids.DescId.{DescId}
 use Rattle.ep_base.specs.declared.ids.EntryId.{EntryId}
 use Rattle.ep_base.specs.declared.record.Record.{Record}
-use Rattle.ep_machine.specs.Effect.{first}
-use Rattle.ep_machine.specs.Refusal.{refusals}
-use Rattle.ep_machine.specs.Step.{next_event}
-use Rattle.ep_calls.specs.Book.{Book, state_of}
 use Rattle.ep_calls.proofs.KeepsLemmas.{DoesAt, record_of}
 use Rattle.ep_calls.proofs.KeptLemmas.{inline_event}
+use Rattle.ep_calls.proofs.LastLemmas.{event_last}
+use Rattle.ep_calls.specs.Book.{Book, state_of}
 use Rattle.ep_calls.specs.Kept.{KeepsEvent}
 use Rattle.ep_calls.specs.Parts.{Parts}
 use Rattle.ep_calls.specs.Readiness.{entry_shows, readiness}
+use Rattle.ep_dates.specs.Ask.{shows_by, shows_over}
+use Rattle.ep_dates.specs.Dates.{is_dated}
+use Rattle.ep_dates.specs.Touched.{may_come, may_go}
+use Rattle.ep_interest.specs.Registrations.{entry_under}
+use Rattle.ep_interest.specs.declared.entry.Entry.{Entry}
+use Rattle.ep_machine.specs.Effect.{first}
+use Rattle.ep_machine.specs.Lists.{is_among}
+use Rattle.ep_machine.specs.Refusal.{refusals}
+use Rattle.ep_machine.specs.Step.{next_event}
 use Rattle.ep_nest.proofs.AdjacentLemmas.{on_err}
-use Rattle.ep_plain.proofs.DatingLemmas.{count_more}
-use Rattle.ep_calls.proofs.LastLemmas.{event_last}
-use Rattle.ep_plain.specs.Dating.{AreListed, Dated, dated_count, dated_of}
-use Rattle.ep_plain.specs.Reason.{HaveReasons}
-use Rattle.ep_plain.specs.Since.{Dates, event_at}
+use Rattle.ep_climb.proofs.AreLookedAtLemmas.{looked_at}
+use Rattle.ep_plain.proofs.ComeLemmas.{begins as begins_left}
+use Rattle.ep_plain.proofs.GoLemmas.{ends_left}
+use Rattle.ep_plain.proofs.HomeLemmas.{homes_left}
+use Rattle.ep_plain.proofs.ReportedLemmas.{reported_left}
+use Rattle.ep_plain.proofs.StandingLemmas.{adds_by, dates_from, does_with, exact_now, fits_numbered, kept_of, may_report, order_left, reports, standing_grown, standing_next, standing_reserved}
+use Rattle.ep_plain.specs.Dating.{touched_in}
+use Rattle.ep_plain.specs.Exact.{IsExact}
+use Rattle.ep_climb.specs.Mark.{AreLookedAt, attends}
 use Rattle.ep_plain.specs.Standing.{Standing, book_of}
 use Rattle.ep_plain.specs.StepWith.{AddsBy, HasStep}
 use Rattle.ep_plain.specs.These.{MayReport}
-use Rattle.ep_plain.proofs.AllowLemmas.{dated_shown}
-use Rattle.ep_plain.specs.Choose.{Tells}
-use Rattle.ep_plain.proofs.StandingLemmas.{adds_by, does_with, has_places, kept_of, key_room, later_left, listed_left, may_report, reasons, reports, room, standing_next, standing_room, tells_left}
+use Rattle.ep_plain.specs.declared.dating.Dating.{Dating}
+use Rattle.ep_ready.specs.Walk.{Walk}
 use Rattle.ep_plain.proofs.plain.PlainKernel.try_step.Goals as goal
 
--- the number of the event
-number : (c : goal.After-push_reserved-2) → c.len.result + 1 ≡ length c.self.inside.history.items + 1
-number c = omega (arith, c.len.ensures, c.reserve.ensures.len)
-
--- the machine has a step that reports what is given
-may : (c : goal.After-push_reserved-2) → MayReport c.self.inside.parts c.args.caller.0 c.args.event (option_copied c.args.picks) (next_event c.self.invariant.standing.keeps.state)
-may c =
+pub invariant_of-self-in_err-reserve-2 : goal.invariant_of-self-in_err-reserve-2
+invariant_of-self-in_err-reserve-2 c =
     let k = c.self.inside in
-    may_report k.history.items k.parts c.self.invariant.standing.keeps c.args.caller c.args.event (option_copied c.args.picks)
-    (subst (λ (b : Book). HasStep b.limits (state_of b) c.args.caller c.args.event (option_copied c.args.picks)) (sym c.self.view_is) c.requires.there)
-
--- what the event did
-does : (c : goal.After-push_reserved-2) → DoesAt (next_event c.self.invariant.standing.keeps.state) c.args.caller.0 c.args.event c.in_ok-outcome.outcome c.self.inside.parts c.act_with.new.parts
-does c =
-    let k = c.self.inside in
-    does_with k.history.items k.parts c.self.invariant.standing.keeps (c.len.result + 1) (number c) (MayReport k.parts c.args.caller.0 c.args.event (option_copied c.args.picks)) c.args.caller.0 c.args.event c.in_ok-outcome.outcome c.act_with.new.parts
-    c.in_ok-outcome.ensures.ok (may c)
-
--- where a second record is asked for, there is a copy, or none is needed
-pub into_record-answer-requires : goal.into_record-answer-requires
-into_record-answer-requires c asked none =
-    let k = c.self.inside in
-    let o = c.in_ok-outcome.outcome in
-    let n : c.len.result + 1 ≡ length k.history.items + 1 = omega (arith, c.len.ensures, c.reserve.ensures.len) in
-    let go =
-    may_report k.history.items k.parts c.self.invariant.standing.keeps c.args.caller c.args.event (option_copied c.args.picks)
-    (subst (λ (b : Book). HasStep b.limits (state_of b) c.args.caller c.args.event (option_copied c.args.picks)) (sym c.self.view_is) c.requires.there) in
-    let done =
-    does_with k.history.items k.parts c.self.invariant.standing.keeps (c.len.result + 1) n (MayReport k.parts c.args.caller.0 c.args.event (option_copied c.args.picks)) c.args.caller.0 c.args.event o c.act_with.new.parts c.in_ok-outcome.ensures.ok go in
-    let keeps : KeepsEvent c.args.event c.args.kept o = kept_of (option_copied c.args.picks) c.args.kept c.requires.kept asked c.in_ok-outcome.ensures.kept in
-    inline_event k.parts.tables.limits (next_event c.self.invariant.standing.keeps.state) c.args.caller.0 o c.args.kept asked none c.args.event c.act_with.new.parts done.goes keeps
-
--- the history has its record
-records : (c : goal.After-push_reserved-2) → c.push_reserved-2.new.self.items ≡ c.self.inside.history.items ++ record_of c.args.caller c.args.event c.in_ok-outcome.outcome ∷ []
-records c =
-    c.push_reserved-2.ensures.items ∙ (λ i. c.reserve.ensures.items i ++ c.into_record-answer.ensures.record i ∷ [])
+    record {
+      standing = subst (λ (rs : List Record). Standing rs k.parts (record k.dating { dates = c.reserve-2.new.self })) (sym c.reserve.ensures.items)
+          (standing_reserved k.history.items k.parts k.dating c.reserve-2.new.self c.reserve-2.ensures.same c.self.invariant.standing);
+      set = c.self.invariant.set;
+    }
 
 pub act_with-requires : goal.act_with-requires
 act_with-requires c =
-    let p = c.self.inside.parts in
-    let keeps = c.self.invariant.standing.keeps in
-    let told : Tells p.tables p.clock p.interest (dated_of c.self.inside.dating) = record {
-      shown = dated_shown p.tables p.clock p.interest keeps.state c.self.inside.dating.since.items keeps.stands c.self.invariant.standing.dated;
-      listed = c.self.invariant.standing.listed;
-    } in
-    record { told = subst (λ (d : Dated). Tells p.tables p.clock p.interest d) (sym (c.make_room-has_room.ensures.dates ∙ c.make_place.ensures.dates)) told }
-
-pub make_room-has_room-requires : goal.make_room-has_room-requires
-make_room-has_room-requires c =
     let k = c.self.inside in
-    let places = has_places k.history.items k.parts k.dating c.self.invariant.standing in
-    omega (arith, places, c.count_added-added.ensures, ap (λ (d : Dated). length d.since) c.make_place.ensures.dates)
-
-pub invariant_of-self-in_err-make_place : goal.invariant_of-self-in_err-make_place
-invariant_of-self-in_err-make_place c =
-    let k = c.self.inside in
+    let d : Dating = record k.dating { dates = c.reserve-2.new.self } in
+    let n : c.len.result + 1 ≡ length k.history.items + 1 = omega (arith, c.len.ensures, c.reserve.ensures.len) in
     record {
-      standing = subst (λ (rs : List Record). Standing rs k.parts c.make_place.new.self) (sym c.reserve.ensures.items)
-          (standing_room k.history.items k.parts k.dating c.make_place.new.self c.make_place.ensures.dates (omega (arith, c.make_place.ensures.keys_stay)) c.self.invariant.standing);
-      set = c.self.invariant.set;
+      step = omega arith;
+      exact = subst (λ (m : ℕ). IsExact m k.parts d) (sym n)
+          (exact_now k.history.items k.parts d (standing_reserved k.history.items k.parts k.dating c.reserve-2.new.self c.reserve-2.ensures.same c.self.invariant.standing));
     }
 
 pub invariant_of-self-in_err-outcome : goal.invariant_of-self-in_err-outcome
 invariant_of-self-in_err-outcome c =
     let k = c.self.inside in
-    let d = c.make_room-has_room.new.dating in
-    let a = c.make_room-has_room.new.alarms in
+    let d : Dating = record k.dating { dates = c.reserve-2.new.self } in
+    let e = c.act_with.new.dating in
+    let a = c.make_room-has_room.new.self in
     let same = c.in_err-outcome.ensures.err in
-    let room = standing_room k.history.items k.parts k.dating d (c.make_room-has_room.ensures.dates ∙ c.make_place.ensures.dates) (omega (arith, c.make_room-has_room.ensures.keys_stay, c.make_place.ensures.keys_stay)) c.self.invariant.standing in
-    let set = set_same k.parts.tables k.parts.clock k.alarms a c.make_room-has_room.ensures.same c.self.invariant.set in
+    let begun = standing_reserved k.history.items k.parts k.dating c.reserve-2.new.self c.reserve-2.ensures.same c.self.invariant.standing in
+    let standing = standing_grown k.history.items k.parts d e c.in_err-outcome.ensures.grows begun in
     record {
-      standing = subst (λ (rs : List Record). Standing rs c.act_with.new.parts d) (sym c.reserve.ensures.items) (subst (λ (p : Parts). Standing k.history.items p d) (sym same) room);
-      set = subst (λ (p : Parts). AreSet p.tables p.clock a) (sym same) set;
+      standing = subst (λ (rs : List Record). Standing rs c.act_with.new.parts e) (sym c.reserve.ensures.items) (subst (λ (p : Parts). Standing k.history.items p e) (sym same) standing);
+      set = subst (λ (p : Parts). AreSet p.tables p.clock a) (sym same) (set_same k.parts.tables k.parts.clock k.alarms a c.make_room-has_room.ensures.kept c.self.invariant.set);
     }
-
-pub date-requires-clause-fits : goal.date-requires-clause-fits
-date-requires-clause-fits c =
-    let k = c.self.inside in
-    let n : c.len.result + 1 ≡ length k.history.items + 1 = omega (arith, c.len.ensures, c.reserve.ensures.len) in
-    let go =
-    may_report k.history.items k.parts c.self.invariant.standing.keeps c.args.caller c.args.event (option_copied c.args.picks)
-    (subst (λ (b : Book). HasStep b.limits (state_of b) c.args.caller c.args.event (option_copied c.args.picks)) (sym c.self.view_is) c.requires.there) in
-    let done =
-    does_with k.history.items k.parts c.self.invariant.standing.keeps (c.len.result + 1) n (MayReport k.parts c.args.caller.0 c.args.event (option_copied c.args.picks)) c.args.caller.0 c.args.event c.in_ok-outcome.outcome c.act_with.new.parts c.in_ok-outcome.ensures.ok go in
-    let longer = c.push_reserved.ensures.items ∙ ap (λ (d : Dated). d.since ++ 0 ∷ []) (c.make_room-has_room.ensures.dates ∙ c.make_place.ensures.dates) in
-    let keys = ap (λ (d : Dated). d.keys) (c.make_room-has_room.ensures.dates ∙ c.make_place.ensures.dates) in
-    let here = room k.history.items k.parts c.act_with.new.parts c.spread.new.parts k.dating c.self.invariant.standing c.args.caller c.args.event c.in_ok-outcome.outcome (c.len.result + 1) n done c.spread.ensures.spreads in
-    let count = c.self.invariant.standing.count in
-    record {
-      places = subst (λ (xs : List ℕ). c.spread.new.parts.interest.added < length xs) (sym longer) here;
-      count = omega (arith, count, ap (λ (ks : List EntryId). length ks) keys, ap dated_count longer, count_more k.dating.since.items);
-      later = λ i lt. ap (λ (xs : List ℕ). event_at xs i) longer ∙ later_left k.history.items k.parts c.act_with.new.parts c.spread.new.parts k.dating c.self.invariant.standing c.args.caller c.args.event c.in_ok-outcome.outcome (c.len.result + 1) n done c.spread.ensures.spreads i lt;
-      room = key_room k.history.items k.parts c.act_with.new.parts c.spread.new.parts k.dating c.self.invariant.standing c.args.caller c.args.event c.in_ok-outcome.outcome (c.len.result + 1) n done c.spread.ensures.spreads (vec_capacity c.make_room-has_room.new.dating.keys) c.make_room-has_room.result
-          (omega (arith, c.self.invariant.standing.room, c.make_room-has_room.ensures.keys_stay, c.make_place.ensures.keys_stay))
-          c.act_with.ensures.room
-          (λ has adds. let enough = c.make_room-has_room.ensures.keys has adds in omega (arith, enough, c.count_added-added.ensures));
-    }
-
-pub date-requires-clause-listed : goal.date-requires-clause-listed
-date-requires-clause-listed c =
-    let k = c.self.inside in
-    let n : c.len.result + 1 ≡ length k.history.items + 1 = omega (arith, c.len.ensures, c.reserve.ensures.len) in
-    let go =
-    may_report k.history.items k.parts c.self.invariant.standing.keeps c.args.caller c.args.event (option_copied c.args.picks)
-    (subst (λ (b : Book). HasStep b.limits (state_of b) c.args.caller c.args.event (option_copied c.args.picks)) (sym c.self.view_is) c.requires.there) in
-    let done =
-    does_with k.history.items k.parts c.self.invariant.standing.keeps (c.len.result + 1) n (MayReport k.parts c.args.caller.0 c.args.event (option_copied c.args.picks)) c.args.caller.0 c.args.event c.in_ok-outcome.outcome c.act_with.new.parts c.in_ok-outcome.ensures.ok go in
-    let longer = c.push_reserved.ensures.items ∙ ap (λ (d : Dated). d.since ++ 0 ∷ []) (c.make_room-has_room.ensures.dates ∙ c.make_place.ensures.dates) in
-    let keys = ap (λ (d : Dated). d.keys) (c.make_room-has_room.ensures.dates ∙ c.make_place.ensures.dates) in
-    let here =
-    listed_left k.history.items k.parts c.act_with.new.parts c.spread.new.parts k.dating c.self.invariant.standing c.args.caller c.args.event c.in_ok-outcome.outcome (c.len.result + 1) n done c.spread.ensures.spreads c.act_with.ensures.ids in
-    subst (λ (d : Dated). AreListed c.spread.new.parts.interest d) (λ i. record { since = sym longer i; keys = sym keys i }) here
-
-pub date-requires-clause-reasons : goal.date-requires-clause-reasons
-date-requires-clause-reasons c =
-    let k = c.self.inside in
-    let n : c.len.result + 1 ≡ length k.history.items + 1 = omega (arith, c.len.ensures, c.reserve.ensures.len) in
-    let go =
-    may_report k.history.items k.parts c.self.invariant.standing.keeps c.args.caller c.args.event (option_copied c.args.picks)
-    (subst (λ (b : Book). HasStep b.limits (state_of b) c.args.caller c.args.event (option_copied c.args.picks)) (sym c.self.view_is) c.requires.there) in
-    let done =
-    does_with k.history.items k.parts c.self.invariant.standing.keeps (c.len.result + 1) n (MayReport k.parts c.args.caller.0 c.args.event (option_copied c.args.picks)) c.args.caller.0 c.args.event c.in_ok-outcome.outcome c.act_with.new.parts c.in_ok-outcome.ensures.ok go in
-    let longer = c.push_reserved.ensures.items ∙ ap (λ (d : Dated). d.since ++ 0 ∷ []) (c.make_room-has_room.ensures.dates ∙ c.make_place.ensures.dates) in
-    let keys = ap (λ (d : Dated). d.keys) (c.make_room-has_room.ensures.dates ∙ c.make_place.ensures.dates) in
-    let q = c.spread.new.parts in
-    let here =
-    reasons k.history.items k.parts c.act_with.new.parts q k.dating c.self.invariant.standing c.args.caller c.args.event c.in_ok-outcome.outcome (c.len.result + 1) n done c.spread.ensures.spreads
-    c.reportables_are_spread.ensures.law c.in_ok-outcome.ensures.ok.keys c.find_altered-altered.result c.find_altered-altered.ensures in
-    subst (λ (xs : List ℕ). HaveReasons (entry_shows (readiness q.tables q.clock q.interest) q.tables q.clock) q.tables c.find_altered-altered.result xs q.interest.entries) (sym longer) here
-
-pub rest-requires : goal.rest-requires
-rest-requires c =
-    let k = c.self.inside in
-    let n : c.len.result + 1 ≡ length k.history.items + 1 = omega (arith, c.len.ensures, c.reserve.ensures.len) in
-    let go =
-    may_report k.history.items k.parts c.self.invariant.standing.keeps c.args.caller c.args.event (option_copied c.args.picks)
-    (subst (λ (b : Book). HasStep b.limits (state_of b) c.args.caller c.args.event (option_copied c.args.picks)) (sym c.self.view_is) c.requires.there) in
-    let done =
-    does_with k.history.items k.parts c.self.invariant.standing.keeps (c.len.result + 1) n (MayReport k.parts c.args.caller.0 c.args.event (option_copied c.args.picks)) c.args.caller.0 c.args.event c.in_ok-outcome.outcome c.act_with.new.parts c.in_ok-outcome.ensures.ok go in
-    let longer = c.push_reserved.ensures.items ∙ ap (λ (d : Dated). d.since ++ 0 ∷ []) (c.make_room-has_room.ensures.dates ∙ c.make_place.ensures.dates) in
-    let q = c.spread.new.parts in
-    let d = c.date.new.dating in
-    let dates = subst (λ (xs : List ℕ). Dates (entry_shows (readiness q.tables q.clock q.interest) q.tables q.clock) (c.len.result + 1) q.interest xs d.since.items) longer c.date.ensures.dates in
-    tells_left k.history.items k.parts c.act_with.new.parts q k.dating c.self.invariant.standing c.args.caller c.args.event c.in_ok-outcome.outcome (c.len.result + 1) n done c.spread.ensures.spreads d dates c.date.ensures.listed
-
--- Once they are.
-longer_then : (c : goal.After-push_reserved-2) → c.push_reserved.new.self.items ≡ c.self.inside.dating.since.items ++ 0 ∷ []
-longer_then c = c.push_reserved.ensures.items ∙ ap (λ (d : Dated). d.since ++ 0 ∷ []) (c.make_room-has_room.ensures.dates ∙ c.make_place.ensures.dates)
-
-pub invariant_of-self-2 : goal.invariant_of-self-2
-invariant_of-self-2 c =
-    let k = c.self.inside in
-    let q = c.spread.new.parts in
-    let d = c.date.new.dating in
-    let dates = subst (λ (xs : List ℕ). Dates (entry_shows (readiness q.tables q.clock q.interest) q.tables q.clock) (c.len.result + 1) q.interest xs d.since.items) (longer_then c) c.date.ensures.dates in
-    let standing = subst (λ (rs : List Record). Standing rs c.rest.new.parts d) (sym (records c))
-    (standing_next k.history.items k.parts c.act_with.new.parts q k.dating c.self.invariant.standing c.args.caller c.args.event c.in_ok-outcome.outcome (c.len.result + 1) (number c) (does c) c.spread.ensures.spreads c.rest.new.parts c.rest.ensures d
-    dates c.date.ensures.listed c.date.ensures.fits.count c.date.ensures.fits.room) in
-    record { standing = standing; set = subst (λ (p : Parts). AreSet p.tables p.clock c.spread.new.alarms) (sym c.rest.ensures.others) c.spread.ensures.set }
-
-pub returns-clause-ok : goal.returns-clause-ok
-returns-clause-ok c =
-    let k = c.self.inside in
-    let outcome = c.in_ok-outcome.outcome in
-    let given = option_copied c.args.picks in
-    let new : Book = record { limits = c.rest.new.parts.tables.limits; past = c.push_reserved-2.new.self.items; capacity = vec_capacity c.push_reserved-2.new.self } in
-    let told = reports k.history.items k.parts c.self.invariant.standing.keeps c.args.caller c.args.event (c.len.result + 1) (number c) given outcome.picked (may c) c.in_ok-outcome.ensures.picked in
-    let adds =
-    adds_by k.history.items k.parts c.act_with.new.parts c.spread.new.parts k.dating c.self.invariant.standing c.args.caller c.args.event outcome (c.len.result + 1) (number c) (does c) c.spread.ensures.spreads c.rest.new.parts c.rest.ensures given told in
-    let old = c.args.self.now in
-    subst (λ (a : Answer). AddsBy old.limits c.args.caller c.args.event given a (state_of old) (state_of new) old.past new.past) (sym c.into_record-answer.ensures.answer)
-    (subst (λ (b : Book). AddsBy b.limits c.args.caller c.args.event given outcome.answer (state_of b) (state_of new) b.past new.past) c.self.view_is
-    (subst (λ (rs : List Record). AddsBy k.parts.tables.limits c.args.caller c.args.event given outcome.answer (state_of (book_of k)) (state_of (record new { past = rs })) k.history.items rs) (sym (records c)) adds))
 
 -- An event that finds no memory is one that nothing refuses.
 pub returns-in_err-outcome-clause-last : goal.returns-in_err-outcome-clause-last
@@ -208,3 +79,179 @@ returns-in_err-outcome-clause-last c =
     on_err c.from_residual-in_err-outcome.result
     (λ room. subst (λ (b : Book). first (refusals b.limits (next_event (state_of b)) c.args.caller.0 c.args.event) ≡ None) c.self.view_is
     (event_last k.history.items k.parts c.self.invariant.standing.keeps c.args.caller.0 c.args.event c.in_err-outcome.ensures.last))
+
+-- where a second record is asked for, there is a copy, or none is needed
+pub into_record-answer-requires : goal.into_record-answer-requires
+into_record-answer-requires c asked none =
+    let k = c.self.inside in
+    let o = c.in_ok-outcome.outcome in
+    let n : c.len.result + 1 ≡ length k.history.items + 1 = omega (arith, c.len.ensures, c.reserve.ensures.len) in
+    let keeps = c.self.invariant.standing.keeps in
+    let go =
+    may_report k.history.items k.parts keeps c.args.caller c.args.event (option_copied c.args.picks)
+    (subst (λ (b : Book). HasStep b.limits (state_of b) c.args.caller c.args.event (option_copied c.args.picks)) (sym c.self.view_is) c.requires.there) in
+    let done =
+    does_with k.history.items k.parts keeps (c.len.result + 1) n (MayReport k.parts c.args.caller.0 c.args.event (option_copied c.args.picks)) c.args.caller.0 c.args.event o c.act_with.new.parts c.in_ok-outcome.ensures.ok go in
+    let kept : KeepsEvent c.args.event c.args.kept o = kept_of (option_copied c.args.picks) c.args.kept c.requires.kept asked c.in_ok-outcome.ensures.kept in
+    inline_event k.parts.tables.limits (next_event keeps.state) c.args.caller.0 o c.args.kept asked none c.args.event c.act_with.new.parts done.goes kept
+
+-- What is asked of a registration that shows something, and of one with a date.
+abbrev Begins : Parts → Dating → Option DescId → List ℕ → Type 0
+Begins p d called reported = (id : EntryId) (x : Entry) → entry_under p.interest id ≡ Some x → entry_shows (readiness p.tables p.clock p.interest) p.tables p.clock x ≡ true
+    → (is_dated d.dates x ≡ true) ⊎ (may_come p.interest (touched_in d called reported) id.0 ≡ true)
+
+abbrev Ends : Parts → Dating → Option DescId → List ℕ → Type 0
+Ends p d called reported = (id : EntryId) (x : Entry) → entry_under p.interest id ≡ Some x → may_go p.interest (touched_in d called reported) id.0 ≡ false → is_dated d.dates x ≡ true
+    → shows_by (shows_over p) d.dates x ≡ true
+
+-- Before the dates.
+module _ (c : goal.After-date_all-arg-2-1) where
+  abbrev past : List Record
+  past = c.self.inside.history.items
+
+  abbrev old : Parts
+  old = c.self.inside.parts
+
+  abbrev d : Dating
+  d = record c.self.inside.dating { dates = c.reserve-2.new.self }
+
+  abbrev g : Dating
+  g = record c.spread.new.dating { dates = c.number.new.self }
+
+  begun : Standing past old d
+  begun = standing_reserved past old c.self.inside.dating c.reserve-2.new.self c.reserve-2.ensures.same c.self.invariant.standing
+
+  number : c.len.result + 1 ≡ length past + 1
+  number = omega (arith, c.len.ensures, c.reserve.ensures.len)
+
+  does : DoesAt (next_event begun.keeps.state) c.args.caller.0 c.args.event c.in_ok-outcome.outcome old c.act_with.new.parts
+  does =
+      does_with past old begun.keeps (c.len.result + 1) number (MayReport old c.args.caller.0 c.args.event (option_copied c.args.picks)) c.args.caller.0 c.args.event c.in_ok-outcome.outcome c.act_with.new.parts
+      c.in_ok-outcome.ensures.ok
+      (may_report past old begun.keeps c.args.caller c.args.event (option_copied c.args.picks)
+      (subst (λ (b : Book). HasStep b.limits (state_of b) c.args.caller c.args.event (option_copied c.args.picks)) (sym c.self.view_is) c.requires.there))
+
+  -- the history has its record
+  history_now : c.deref.result.now ≡ past ++ record_of c.args.caller c.args.event c.in_ok-outcome.outcome ∷ []
+  history_now = c.deref.ensures.value ∙ c.push_reserved.ensures.items ∙ (λ i. c.reserve.ensures.items i ++ c.into_record-answer.ensures.record i ∷ [])
+
+  more : g ≡ record c.spread.new.dating { dates = record c.spread.new.dating.dates { since = c.spread.new.dating.dates.since ++ 0 ∷ [] } }
+  more = ap (λ q. record c.spread.new.dating { dates = q }) c.number.ensures
+
+pub date_all-requires-clause-fits : goal.date_all-requires-clause-fits
+date_all-requires-clause-fits c =
+    fits_numbered (past c) (old c) c.act_with.new.parts c.spread.new.parts (d c) c.act_with.new.dating c.spread.new.dating (g c) (g c) (begun c) c.args.caller c.args.event c.in_ok-outcome.outcome (c.len.result + 1) (number c) (does c) c.in_ok-outcome.ensures.follows
+    c.spread.ensures.spreads (more c)
+
+pub date_all-requires-clause-homes : goal.date_all-requires-clause-homes
+date_all-requires-clause-homes c =
+    homes_left (past c) (old c) c.act_with.new.parts c.spread.new.parts (begun c).keeps c.args.caller c.args.event c.in_ok-outcome.outcome (c.len.result + 1) (number c) (does c) c.spread.ensures.spreads.spreads
+
+pub date_all-requires-clause-begins : goal.date_all-requires-clause-begins
+date_all-requires-clause-begins c =
+    let reported : c.last_picked.result.now ≡ c.in_ok-outcome.outcome.picked = c.last_picked.ensures (past c) (record_of c.args.caller c.args.event c.in_ok-outcome.outcome) (history_now c) in
+    let law =
+    begins_left c.know_laws.ensures.spread (past c) (old c) c.act_with.new.parts c.spread.new.parts (begun c).keeps c.args.caller c.args.event c.in_ok-outcome.outcome (c.len.result + 1) (number c) (does c) c.in_ok-outcome.ensures.ok.keys c.know_laws.ensures.tables (d c)
+    c.act_with.new.dating c.spread.new.dating (g c) (begun c).dated c.in_ok-outcome.ensures.follows c.spread.ensures.spreads (more c) c.find_called-called.result in
+    subst (λ (ks : List ℕ). Begins c.spread.new.parts (g c) c.find_called-called.result ks) (sym reported) law
+
+pub date_all-requires-clause-ends : goal.date_all-requires-clause-ends
+date_all-requires-clause-ends c =
+    let reported : c.last_picked.result.now ≡ c.in_ok-outcome.outcome.picked = c.last_picked.ensures (past c) (record_of c.args.caller c.args.event c.in_ok-outcome.outcome) (history_now c) in
+    let law =
+    ends_left c.know_laws.ensures.stay (past c) (old c) c.act_with.new.parts c.spread.new.parts (begun c).keeps c.args.caller c.args.event c.in_ok-outcome.outcome (c.len.result + 1) (number c) (does c) c.in_ok-outcome.ensures.ok.keys c.know_laws.ensures.tables (d c)
+    c.act_with.new.dating c.spread.new.dating (g c) (begun c).dated (begun c).ready c.in_ok-outcome.ensures.follows c.spread.ensures.spreads (more c) c.find_called-called.result c.find_called-called.ensures in
+    subst (λ (ks : List ℕ). Ends c.spread.new.parts (g c) c.find_called-called.result ks) (sym reported) law
+
+pub date_all-requires-clause-reported : goal.date_all-requires-clause-reported
+date_all-requires-clause-reported c id x at =
+    let reported : c.last_picked.result.now ≡ c.in_ok-outcome.outcome.picked = c.last_picked.ensures (past c) (record_of c.args.caller c.args.event c.in_ok-outcome.outcome) (history_now c) in
+    ap (λ (ks : List ℕ). is_among ks x.number) reported
+    ∙ reported_left (c.len.result + 1) c.in_ok-outcome.outcome.raising c.act_with.new.parts c.spread.new.parts c.spread.ensures.spreads.spreads c.in_ok-outcome.outcome.picked c.in_ok-outcome.ensures.follows.told id x at
+
+pub rest-requires-clause-looked : goal.rest-requires-clause-looked
+rest-requires-clause-looked c =
+    let k = c.self.inside in
+    let outcome = c.in_ok-outcome.outcome in
+    let n : c.len.result + 1 ≡ length k.history.items + 1 = omega (arith, c.len.ensures, c.reserve.ensures.len) in
+    let keeps = c.self.invariant.standing.keeps in
+    let go =
+    may_report k.history.items k.parts keeps c.args.caller c.args.event (option_copied c.args.picks)
+    (subst (λ (b : Book). HasStep b.limits (state_of b) c.args.caller c.args.event (option_copied c.args.picks)) (sym c.self.view_is) c.requires.there) in
+    let done =
+    does_with k.history.items k.parts keeps (c.len.result + 1) n (MayReport k.parts c.args.caller.0 c.args.event (option_copied c.args.picks)) c.args.caller.0 c.args.event outcome c.act_with.new.parts c.in_ok-outcome.ensures.ok go in
+    let looked =
+    looked_at k.history.items k.parts c.act_with.new.parts c.spread.new.parts keeps c.args.caller c.args.event outcome (c.len.result + 1) n done c.in_ok-outcome.ensures.ok.keys c.know_laws.ensures.coherent.placed
+    c.know_laws.ensures.reached c.spread.ensures.spreads.spreads c.spread.new.dating.reached.reached c.spread.ensures.spreads.reached in
+    subst (λ (w : Walk). AreLookedAt c.spread.new.parts w.reached c.attend.result) (sym c.date_all.ensures.reached)
+    (subst (AreLookedAt c.spread.new.parts c.spread.new.dating.reached.reached) (sym (c.attend.ensures ∙ ap (λ (o : Option DescId). attends o outcome.raising) c.resumed_at-resumed.ensures)) looked)
+
+-- Once the record is added.
+module _ (c : goal.After-rest) where
+  abbrev before : List Record
+  before = c.self.inside.history.items
+
+  abbrev first_parts : Parts
+  first_parts = c.self.inside.parts
+
+  abbrev first_dating : Dating
+  first_dating = record c.self.inside.dating { dates = c.reserve-2.new.self }
+
+  abbrev asked : Dating
+  asked = record c.spread.new.dating { dates = c.number.new.self }
+
+  standing : Standing before first_parts first_dating
+  standing = standing_reserved before first_parts c.self.inside.dating c.reserve-2.new.self c.reserve-2.ensures.same c.self.invariant.standing
+
+  number_then : c.len.result + 1 ≡ length before + 1
+  number_then = omega (arith, c.len.ensures, c.reserve.ensures.len)
+
+  -- the machine has a step that reports what is given
+  may : MayReport first_parts c.args.caller.0 c.args.event (option_copied c.args.picks) (next_event standing.keeps.state)
+  may =
+      may_report before first_parts standing.keeps c.args.caller c.args.event (option_copied c.args.picks)
+      (subst (λ (b : Book). HasStep b.limits (state_of b) c.args.caller c.args.event (option_copied c.args.picks)) (sym c.self.view_is) c.requires.there)
+
+  does_then : DoesAt (next_event standing.keeps.state) c.args.caller.0 c.args.event c.in_ok-outcome.outcome first_parts c.act_with.new.parts
+  does_then =
+      does_with before first_parts standing.keeps (c.len.result + 1) number_then (MayReport first_parts c.args.caller.0 c.args.event (option_copied c.args.picks)) c.args.caller.0 c.args.event c.in_ok-outcome.outcome c.act_with.new.parts
+      c.in_ok-outcome.ensures.ok may
+
+  place : asked ≡ record c.spread.new.dating { dates = record c.spread.new.dating.dates { since = c.spread.new.dating.dates.since ++ 0 ∷ [] } }
+  place = ap (λ q. record c.spread.new.dating { dates = q }) c.number.ensures
+
+  -- the history has its record
+  records : c.push_reserved.new.self.items ≡ before ++ record_of c.args.caller c.args.event c.in_ok-outcome.outcome ∷ []
+  records = c.push_reserved.ensures.items ∙ (λ i. c.reserve.ensures.items i ++ c.into_record-answer.ensures.record i ∷ [])
+
+pub invariant_of-self-2 : goal.invariant_of-self-2
+invariant_of-self-2 c =
+    let q = c.spread.new.parts in
+    let shows = entry_shows (readiness q.tables q.clock q.interest) q.tables q.clock in
+    let from = dates_from (before c) (first_parts c) c.act_with.new.parts q (first_dating c) c.act_with.new.dating c.spread.new.dating (asked c) c.date_all.new.dating (standing c) c.args.caller c.args.event c.in_ok-outcome.outcome (c.len.result + 1) (number_then c) (does_then c)
+    c.in_ok-outcome.ensures.follows c.spread.ensures.spreads (place c) shows c.date_all.ensures.dates in
+    let order = c.date_all.ensures.order
+    (order_left (before c) (first_parts c) c.act_with.new.parts q (first_dating c) c.act_with.new.dating c.spread.new.dating (asked c) c.date_all.new.dating (standing c) c.args.caller c.args.event c.in_ok-outcome.outcome (c.len.result + 1) (number_then c) (does_then c)
+    c.in_ok-outcome.ensures.follows c.spread.ensures.spreads (place c)) in
+    let next =
+    standing_next (before c) (first_parts c) c.act_with.new.parts q (first_dating c) c.act_with.new.dating c.spread.new.dating (asked c) c.date_all.new.dating (standing c) c.args.caller c.args.event c.in_ok-outcome.outcome (c.len.result + 1) (number_then c) (does_then c)
+    c.in_ok-outcome.ensures.follows c.spread.ensures.spreads c.rest.new.parts c.rest.ensures from c.date_all.ensures.ready c.date_all.ensures.fits order in
+    record {
+      standing = subst (λ (rs : List Record). Standing rs c.rest.new.parts c.date_all.new.dating) (sym (records c)) next;
+      set = subst (λ (p : Parts). AreSet p.tables p.clock c.spread.new.alarms) (sym c.rest.ensures.others) c.spread.ensures.set;
+    }
+
+pub returns-clause-ok : goal.returns-clause-ok
+returns-clause-ok c =
+    let k = c.self.inside in
+    let outcome = c.in_ok-outcome.outcome in
+    let given = option_copied c.args.picks in
+    let new : Book = record { limits = c.rest.new.parts.tables.limits; past = c.push_reserved.new.self.items; capacity = vec_capacity c.push_reserved.new.self } in
+    let told = reports (before c) (first_parts c) (standing c).keeps c.args.caller c.args.event (c.len.result + 1) (number_then c) given outcome.picked (may c) c.in_ok-outcome.ensures.picked in
+    let adds =
+    adds_by (before c) (first_parts c) c.act_with.new.parts c.spread.new.parts (first_dating c) c.act_with.new.dating c.spread.new.dating (asked c) c.date_all.new.dating (standing c) c.args.caller c.args.event outcome (c.len.result + 1) (number_then c) (does_then c)
+    c.in_ok-outcome.ensures.follows c.spread.ensures.spreads c.rest.new.parts c.rest.ensures given told in
+    let was = c.args.self.now in
+    subst (λ (a : Answer). AddsBy was.limits c.args.caller c.args.event given a (state_of was) (state_of new) was.past new.past) (sym c.into_record-answer.ensures.answer)
+    (subst (λ (b : Book). AddsBy b.limits c.args.caller c.args.event given outcome.answer (state_of b) (state_of new) b.past new.past) c.self.view_is
+    (subst (λ (rs : List Record). AddsBy k.parts.tables.limits c.args.caller c.args.event given outcome.answer (state_of (book_of k)) (state_of (record new { past = rs })) k.history.items rs) (sym (records c)) adds))

@@ -1,0 +1,98 @@
+-- What the descriptors of an event name, by the keys of registrations after its change.
+use Rattle.std.proofs.Common.{◌≡◌, ◌∙◌, ◌==◌, ◌&&◌, ℕ, ℤ, true, false, IsSome, MatchOption, None, Option, Some, ap, is_none, negsuc, pos, refl, slice_index_or, sym, unwrap_or}
+use Rattle.std.proofs.lemmas.Bool.{false≢true}
+use Rattle.ep_base.specs.Limits.{Limits}
+use Rattle.ep_base.specs.declared.call.Call.TheVariants.{EpollCtl, GetTime, Read, SetTime, Shutdown, Write}
+use Rattle.ep_base.specs.declared.call.Event.{Event}
+use Rattle.ep_base.specs.declared.call.Event.TheVariants.{Call as CallOf}
+use Rattle.ep_base.specs.declared.ids.DescId.{DescId}
+use Rattle.ep_base.specs.declared.ids.Fd.{Fd}
+use Rattle.ep_calls.proofs.KeyLemmas.{under_key}
+use Rattle.ep_calls.specs.Stands.{IsLinked, KeepsKeys, number_at}
+use Rattle.ep_interest.specs.declared.entry.Entry.{Entry}
+use Rattle.ep_law.proofs.TestLemmas.{both_true, from_test}
+use Rattle.ep_machine.specs.Effect.{first}
+use Rattle.ep_machine.specs.Files.{Files, named_by, names_nothing, under}
+use Rattle.ep_machine.specs.Refusal.{refusals}
+use Rattle.ep_machine.specs.State.{State, Watch}
+use Rattle.ep_machine.specs.Watches.{number_in}
+use Rattle.ep_order.specs.Ending.{is_called}
+use Rattle.ep_order.specs.Event.{IsAltered}
+use Rattle.ep_plain.specs.Called.{IsCalled}
+use Rattle.ep_plain.specs.Exact.{IsNamed}
+use Rattle.ep_table.specs.Value.{Seen, Sound as SoundTables, number_under as desc_number}
+use Rattle.ep_view.proofs.AtRestLemmas.{none_holds}
+
+some_named : (o : Option ℕ) → is_none o ≡ false → o ≡ Some (unwrap_or o 0)
+some_named None h = absurd (false≢true (sym h))
+some_named (Some d) h = refl
+
+-- a number that names something is not negative
+descriptor_of : (files : Files) (p : ℕ) (fd : ℤ) → names_nothing files p fd ≡ false → fd ≡ pos (number_in fd)
+descriptor_of files p (pos k) h = refl
+descriptor_of files p (negsuc k) h = absurd (false≢true (sym h))
+
+none_some : (o : Option ℕ) (d : ℕ) → o ≡ Some d → o ≡ None → ⊥
+none_some o d a b = absurd (let e : Some d ≡ None = sym a ∙ b in cc)
+
+same_fd : (a b : Fd) → a.0 ≡ b.0 → a ≡ b
+same_fd a b e = ap (λ (k : ℤ). let fd : Fd = record { 0 = k } in fd) e
+
+-- A description that an event's change left.
+module _ (old mid : Seen) (keys : KeepsKeys old mid) (was : SoundTables old) (sound : SoundTables mid) where
+  -- it has the key that it had
+  pub had_key : (a key : DescId) (d : ℕ) → desc_number old key ≡ Some d → IsSome (desc_number mid a) → number_at mid.keys a ≡ d → desc_number old a ≡ Some d
+  had_key a key d is lives number =
+      let u = under_key mid.keys a lives in
+      let here : desc_number mid a ≡ Some d = u.is ∙ ap (λ (m : ℕ). Some m) (sym (ap (λ (q : Option ℕ). unwrap_or q 0) u.is) ∙ number) in
+      ap (λ (k : ℕ). slice_index_or old.keys k None) (sound.one a key d here (keys key d is)) ∙ is
+
+  -- as the one that a descriptor named
+  had_named : (a : DescId) (p : ℕ) (fd : ℤ) → names_nothing old.files p fd ≡ false → IsSome (desc_number mid a) → number_at mid.keys a ≡ named_by old.files p fd → desc_number old a ≡ under old.files p fd
+  had_named a p fd some lives number =
+      let is = some_named (under old.files p fd) some in
+      let key = was.named p (named_by old.files p fd) fd is in
+      had_key a key.0 (named_by old.files p fd) key.1 lives number ∙ sym is
+
+  -- An event that isn't refused.
+  module _ (limits : Limits) (b : State) (caller : ℕ) (from : State) (same : b.files ≡ old.files) (same_from : from.files ≡ old.files) where
+    -- a registration that it altered has the names of the call
+    pub is_named : (event : Event) → first (refusals limits b caller event) ≡ None → (w : Watch) (z : Entry) → IsLinked mid.keys z → number_at mid.keys z.instance ≡ w.instance → number_in z.fd.0 ≡ w.fd → number_at mid.keys z.desc ≡ w.target
+        → IsAltered from event w → IsNamed old event z
+    is_named (CallOf pid (EpollCtl epfd op fd mask tag)) allowed w z link instance number target is =
+        let all = none_holds (refusals limits b caller (CallOf pid (EpollCtl epfd op fd mask tag))) allowed in
+        let names_instance : names_nothing old.files pid.0 epfd.0 ≡ false = ap (λ (f : Files). names_nothing f pid.0 epfd.0) (sym same) ∙ all.1.1.0 in
+        let names_desc : names_nothing old.files pid.0 fd.0 ≡ false = ap (λ (f : Files). names_nothing f pid.0 fd.0) (sym same) ∙ all.1.1.1.0 in
+        let two = both_true (w.instance == named_by from.files pid.0 epfd.0 && w.fd == number_in fd.0) (w.target == named_by from.files pid.0 fd.0) is.1 in
+        let one = both_true (w.instance == named_by from.files pid.0 epfd.0) (w.fd == number_in fd.0) two.0 in
+        let at_instance = instance ∙ (from_test w.instance _ one.0 ∙ ap (λ (f : Files). named_by f pid.0 epfd.0) same_from) in
+        let at_desc = target ∙ (from_test w.target _ two.1 ∙ ap (λ (f : Files). named_by f pid.0 fd.0) same_from) in
+        let descriptor : z.fd.0 ≡ fd.0 = link.fd ∙ (ap (λ (m : ℕ). pos m) (number ∙ from_test w.fd _ one.1) ∙ sym (descriptor_of old.files pid.0 fd.0 names_desc)) in
+        (had_named z.instance pid.0 epfd.0 names_instance link.instance at_instance, same_fd z.fd fd descriptor, had_named z.desc pid.0 fd.0 names_desc link.desc at_desc)
+    is_named event allowed w z link instance number target is = absurd is
+
+    by_call : (called : Option DescId) (p : ℕ) (fd : ℤ) → MatchOption called (under old.files p fd ≡ None) (λ desc. desc_number old desc ≡ under old.files p fd) → names_nothing b.files p fd ≡ false
+        → (a : DescId) (d : ℕ) → IsSome (desc_number mid a) → number_at mid.keys a ≡ d → (named_by from.files p fd == d) ≡ true → (desc : DescId) × (called ≡ Some desc) × (a.0 ≡ desc.0)
+    by_call called p fd is some a d lives number on = found called is where
+      some_old : names_nothing old.files p fd ≡ false
+      some_old = ap (λ (f : Files). names_nothing f p fd) (sym same) ∙ some
+
+      is_some : under old.files p fd ≡ Some (named_by old.files p fd)
+      is_some = some_named (under old.files p fd) some_old
+
+      here : desc_number old a ≡ under old.files p fd
+      here = had_named a p fd some_old lives (number ∙ (sym (from_test _ d on) ∙ ap (λ (f : Files). named_by f p fd) same_from))
+
+      found : (o : Option DescId) → MatchOption o (under old.files p fd ≡ None) (λ desc. desc_number old desc ≡ under old.files p fd) → (desc : DescId) × (o ≡ Some desc) × (a.0 ≡ desc.0)
+      found None none = absurd (none_some (under old.files p fd) _ is_some none)
+      found (Some desc) it = (desc, refl, was.one a desc (named_by old.files p fd) (here ∙ is_some) (it ∙ is_some))
+
+    -- what it is a call on is what was found
+    pub is_found : (event : Event) → first (refusals limits b caller event) ≡ None → (called : Option DescId) → IsCalled old event called
+        → (a : DescId) (d : ℕ) → IsSome (desc_number mid a) → number_at mid.keys a ≡ d → is_called from event d ≡ true → (desc : DescId) × (called ≡ Some desc) × (a.0 ≡ desc.0)
+    is_found (CallOf p (Read fd n)) allowed called is = by_call called p.0 fd.0 is (none_holds (refusals limits b caller (CallOf p (Read fd n))) allowed).1.1.0
+    is_found (CallOf p (Write fd bytes)) allowed called is = by_call called p.0 fd.0 is (none_holds (refusals limits b caller (CallOf p (Write fd bytes))) allowed).1.1.0
+    is_found (CallOf p (Shutdown fd)) allowed called is = by_call called p.0 fd.0 is (none_holds (refusals limits b caller (CallOf p (Shutdown fd))) allowed).1.1.0
+    is_found (CallOf p (SetTime fd absolute value interval)) allowed called is = by_call called p.0 fd.0 is (none_holds (refusals limits b caller (CallOf p (SetTime fd absolute value interval))) allowed).1.1.0
+    is_found (CallOf p (GetTime fd)) allowed called is = by_call called p.0 fd.0 is (none_holds (refusals limits b caller (CallOf p (GetTime fd))) allowed).1.1.0
+    is_found event allowed called is = λ a d lives number on. absurd (false≢true on)

@@ -1,0 +1,124 @@
+-- The registrations that an event leaves keep their places, and the walks have room for them.
+use Rattle.std.proofs.Common.{◌≡◌, ◌<◌, ◌≤◌, ◌∙◌, ◌∷◌, ℕ, true, false, List, [], None, Option, Some, ap, arith, cond, map, refl, slice_index_or, subst, sym}
+use Rattle.ep_base.specs.declared.ids.DescId.{DescId}
+use Rattle.ep_base.specs.declared.ids.EntryId.{EntryId}
+use Rattle.ep_base.specs.declared.mask.Mask.{Mask}
+use Rattle.ep_calls.proofs.OtherEndLemmas.{noted}
+use Rattle.ep_calls.specs.Climb.{Rises, risen}
+use Rattle.ep_calls.specs.Raising.{Stirs, bits_of, due_bits, raised_each, raised_there}
+use Rattle.ep_calls.specs.Stands.{watch_at}
+use Rattle.ep_calls.specs.declared.raising.Raising.{Raising}
+use Rattle.ep_calls.specs.declared.raising.Raising.TheVariants.{Clock, Instance, Nowhere, Object}
+use Rattle.ep_climb.specs.Reach.{AreRoomy}
+use Rattle.ep_dates.proofs.MovesLemmas.{kept_handed, kept_roomy}
+use Rattle.ep_dates.specs.Dates.{Dates}
+use Rattle.ep_dates.specs.Kept.{AreKept}
+use Rattle.ep_dates.specs.Moves.{WasThere}
+use Rattle.ep_interest.specs.Registrations.{Registrations, entry_found, entry_under, is_on, raised_on}
+use Rattle.ep_interest.specs.declared.entry.Entry.{Entry}
+use Rattle.ep_machine.specs.Bits.{IN, at_end}
+use Rattle.ep_machine.specs.Files.{side_of}
+use Rattle.ep_plain.proofs.LosesLemmas.{Stay, loses_both, loses_none, stay_mapped, stay_number}
+use Rattle.ep_plain.specs.Dating.{Fits}
+use Rattle.ep_plain.specs.Loses.{Loses}
+use Rattle.ep_plain.specs.declared.dating.Dating.{Dating}
+use Rattle.ep_ready.specs.Walk.{Walk}
+use Rattle.ep_table.specs.Closing.{opposite}
+use Rattle.ep_table.specs.Live.{live_ids}
+use Rattle.ep_table.specs.Value.{Seen, number_of}
+use Rattle.ep_view.specs.KernelView.{reached_now}
+
+-- what is the same stays
+stay_same : (old new : Registrations) → new.entries ≡ old.entries → new.keys ≡ old.keys → new.added ≡ old.added → Stay old new
+stay_same old new entries keys added = record {
+  each = λ id x at. record { was = x; there = sym (under id) ∙ at; number = refl; instance = refl };
+  left = λ id x at. (x, under id ∙ at, refl);
+  added = added;
+} where
+  under : (id : EntryId) → entry_under new id ≡ entry_under old id
+  under id = λ i. entry_found (entries i) (slice_index_or (keys i) id.0 None)
+
+-- and what stays twice
+stay_both : (r s t : Registrations) → Stay r s → Stay s t → Stay r t
+stay_both r s t a b = record {
+  each = λ id x at.
+      let mid = b.each id x at in
+      let was = a.each id mid.was mid.there in
+      record { was = was.was; there = was.there; number = was.number ∙ mid.number; instance = was.instance ∙ mid.instance };
+  left = λ id x at. let mid = a.left id x at in let last = b.left id mid.0 mid.1 in (last.0, last.1, last.2 ∙ mid.2);
+  added = b.added ∙ a.added;
+}
+
+-- What is raised in an event.
+raised_number : (d : DescId) (bits : Mask) (n : ℕ) (x : Entry) → (raised_on d bits n x).number ≡ x.number
+raised_number d bits n x = elim (is_on d x) as (λ b. (cond b (noted n bits.0 x) x).number ≡ x.number) [ true ↦ refl | false ↦ refl ]
+
+raised_instance : (d : DescId) (bits : Mask) (n : ℕ) (x : Entry) → (raised_on d bits n x).instance.0 ≡ x.instance.0
+raised_instance d bits n x = elim (is_on d x) as (λ b. (cond b (noted n bits.0 x) x).instance.0 ≡ x.instance.0) [ true ↦ refl | false ↦ refl ]
+
+stay_raised : (d : DescId) (bits : Mask) (n : ℕ) (old new : Registrations) → new.entries ≡ map (raised_on d bits n) old.entries → new.keys ≡ old.keys → new.added ≡ old.added → Stay old new
+stay_raised d bits n old new entries keys added = stay_mapped (raised_on d bits n) (raised_number d bits n) (raised_instance d bits n) old new entries keys added
+
+stay_there : (o : Option DescId) (bits : Mask) (n : ℕ) (old new : Registrations) → new.entries ≡ map (raised_there o bits n) old.entries → new.keys ≡ old.keys → new.added ≡ old.added → Stay old new
+stay_there None bits n old new entries keys added = stay_mapped (λ x. x) (λ x. refl) (λ x. refl) old new entries keys added
+stay_there (Some d) bits n old new entries keys added = stay_raised d bits n old new entries keys added
+
+abbrev raised_once : DescId → Mask → ℕ → Registrations → Registrations
+raised_once d bits n r = record r { entries = map (raised_on d bits n) r.entries }
+
+stay_each : (bits : DescId → Mask) (n : ℕ) (ids : List DescId) (old new : Registrations) → new.entries ≡ raised_each bits n ids old.entries → new.keys ≡ old.keys → new.added ≡ old.added → Stay old new
+stay_each bits n [] old new entries keys added = stay_same old new entries keys added
+stay_each bits n (id ∷ ids) old new entries keys added =
+    let mid = raised_once id (bits id) n old in
+    stay_both old mid new (stay_raised id (bits id) n old mid refl refl refl) (stay_each bits n ids mid new entries keys added)
+
+pub stay_stirred : (raising : Raising) (v : Seen) (now n : ℕ) (old new : Registrations) → Stirs raising v now n old new → Stay old new
+stay_stirred Nowhere v now n old new h = stay_same old new (ap (λ (r : Registrations). r.entries) h) (ap (λ (r : Registrations). r.keys) h) (ap (λ (r : Registrations). r.added) h)
+stay_stirred (Object desc raised) v now n old new h =
+    let here = bits_of (at_end raised (side_of v.files (number_of v desc))) in
+    let across = bits_of (at_end raised (opposite (side_of v.files (number_of v desc)))) in
+    let mid = raised_once desc here n old in
+    stay_both old mid new (stay_raised desc here n old mid refl refl refl) (stay_there h.other across n mid new h.entries h.keys h.added)
+stay_stirred (Instance desc) v now n old new h = stay_raised desc (bits_of IN) n old new h.0 h.2 h.1
+stay_stirred (Clock since) v now n old new h = stay_each (due_bits v since now) n (live_ids v.keys) old new h.0 h.2 h.1
+
+-- What climbs.
+pub stay_risen : (n : ℕ) (v : Seen) (old new : Registrations) → Rises n v old new → new.keys ≡ old.keys → Stay old new
+stay_risen n v old new rises keys = stay_mapped (risen (reached_now v.files n (map (watch_at v.keys) old.entries)) v) (λ x. refl) (λ x. refl) old new rises.entries keys rises.added
+
+-- Walks have room for registrations that were there.
+module _ (old new : Registrations) (each : (id : EntryId) (x : Entry) → entry_under new id ≡ Some x → WasThere old id x) where
+  roomy_left : (w : Walk) → AreRoomy old w → AreRoomy new w
+  roomy_left w roomy id x at = let was = each id x at in subst (λ (i : ℕ). i < w.room) was.instance (roomy id was.was was.there)
+
+  pub fits_left : (d e : Dating) → Fits old d → AreKept new e.dates → e.reached.room ≡ d.reached.room → AreRoomy new e.gone → e.flags ≡ d.flags → Fits new e
+  fits_left d e fits kept reached gone flags = record {
+    kept = kept;
+    reached = λ id x at. subst (λ (k : ℕ). x.instance.0 < k) (sym reached) (roomy_left d.reached fits.reached id x at);
+    gone = gone;
+    flags = λ id x at. let was = each id x at in subst (λ (w : Walk). id.0 < w.room) (sym flags) (fits.flags id was.was was.there);
+    unflagged = ap (λ (w : Walk). w.reached) flags ∙ fits.unflagged;
+  }
+
+  -- dates change hands
+  pub fits_handed : (d e : Dating) (dropped : Dates) → Fits old d → AreKept new dropped → e.dates ≡ record dropped { turned = d.gone } → e.gone ≡ dropped.turned → e.reached ≡ d.reached → e.flags ≡ d.flags → Fits new e
+  fits_handed d e dropped fits kept dates gone reached flags =
+      fits_left d e fits (subst (AreKept new) (sym dates) (kept_handed new dropped d.gone kept (roomy_left d.gone fits.gone))) (ap (λ (w : Walk). w.room) reached)
+      (subst (AreRoomy new) (sym gone) (kept_roomy new dropped kept)) flags
+
+-- the same where registrations stay
+pub fits_stay : (old new : Registrations) → Stay old new → (d e : Dating) → Fits old d → e.dates ≡ d.dates → e.reached.room ≡ d.reached.room → e.gone ≡ d.gone → e.flags ≡ d.flags → Fits new e
+fits_stay old new stay d e fits dates reached gone flags =
+    fits_left old new stay.each d e fits (subst (AreKept new) (sym dates) (loses_none old new stay d.dates fits.kept).kept) reached
+    (subst (AreRoomy new) (sym gone) (roomy_left old new stay.each d.gone fits.gone)) flags
+
+-- once the walks are handed back the dates are what they were
+pub handed_back : (dropped e : Dates) (w noted : Walk) → e ≡ record dropped { turned = w } → noted ≡ dropped.turned → record e { turned = noted } ≡ dropped
+handed_back dropped e w noted dates walk = λ i. record (dates i) { turned = walk i }
+
+-- What goes while registrations stay before and after loses its date.
+pub loses_between : (r s t u : Registrations) (d e : Dates) → Stay r s → ((id : EntryId) (x : Entry) → entry_under t id ≡ Some x → WasThere s id x) → s.added ≤ t.added → Stay t u → AreKept r d → Loses s t d e → Loses r u d e
+loses_between r s t u d e first each more last kept loses =
+    let begun = loses_both r s t d d e (λ id x at. let was = each id x at in (was.was, was.there, was.number)) more (loses_none r s first d kept) loses in
+    let same = last.added in
+    loses_both r t u d e e (stay_number t u last) (omega (arith, same)) begun (loses_none t u last e loses.kept)
