@@ -4,3 +4,4 @@ pub mod ClimbLemmas
 pub mod MarkLemmas
 pub mod AreLookedAtLemmas
 pub mod SetLemmas
+pub mod LinkLemmas

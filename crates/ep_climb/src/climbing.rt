@@ -6,7 +6,7 @@ ghost use Rattle.ep_climb.specs.Reach.{AreLive, AreReached, AreRoomy};
 ghost use Rattle.ep_nest.specs.declared.link.Link.{Link as Pair};
 ghost use Rattle.ep_table.specs.Value.{number_under};
 
-use crate::reaching::reach;
+use crate::reaching::{has_links, reach};
 use ep_base::{DescId, Mask};
 use ep_calls::Parts;
 use ep_interest::Interest;
@@ -56,6 +56,9 @@ pub fn freshen(parts: &mut Parts, reached: &Walk<Global>)
     ensures keys { parts.new.interest.keys ≡ parts.old.interest.keys }
     ensures others { parts.new ≡ record parts.old { interest = parts.new.interest } }
 {
+    if !has_links(&parts.graph) {
+        return;
+    }
     freshen_reached(&parts.tables, &mut parts.interest, reached);
 }
 

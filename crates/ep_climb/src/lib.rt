@@ -9,4 +9,4 @@ mod reaching;
 
 pub use crate::climbing::{climb, freshen};
 pub use crate::marking::{attend, mark_due, resumed_at};
-pub use crate::reaching::reach;
+pub use crate::reaching::{has_links, reach};

@@ -1,5 +1,5 @@
 //! Which instances IN reaches in an event.
-ghost use Rattle.std.specs.Prelude.{◌≡◌, ◌<◌, [], ℕ, true};
+ghost use Rattle.std.specs.Prelude.{◌≡◌, ◌<◌, [], ℕ, length, nat_lt, true};
 ghost use Rattle.ep_interest.specs.Registrations.{entry_under};
 ghost use Rattle.ep_machine.specs.Lists.{is_among};
 ghost use Rattle.ep_nest.specs.Links.{keys};
@@ -11,6 +11,14 @@ use ep_interest::Interest;
 use ep_nest::Graph;
 use ep_ready::Walk;
 use std::alloc::Global;
+
+/// Whether an instance watches another. If none does, nothing climbs, and no registration is on an instance.
+#[inline(always)]
+pub fn has_links(graph: &Graph) -> bool
+    ensures { result ≡ nat_lt 0 (length graph.now) }
+{
+    graph.links().next().is_some()
+}
 
 /// The instance of a registration that passes something on which this event raised at its target.
 fn passed_to(interest: &Interest, id: EntryId, step: u64) -> Option<DescId>
@@ -42,6 +50,9 @@ fn ascend(interest: &Interest, graph: &mut Graph, reached: &mut Walk<Global>, in
     ensures exact { Ascends (open_edges interest.now graph.old) instance.0 reached.old reached.new }
 {
     if !reached.reach(instance.0) {
+        return;
+    }
+    if !has_links(graph) {
         return;
     }
     let above = graph.above(instance, &|id: EntryId| interest.lets_by(id));

@@ -1,15 +1,17 @@
 //! Asking registrations whether they have come to be reportable, or are so no more.
-ghost use Rattle.std.specs.Prelude.{◌≡◌, ◌<◌, ◌≤◌, ◌==◌, ℕ, [], Bool, drop, false, length, take, true};
+ghost use Rattle.std.specs.Prelude.{◌≡◌, ◌<◌, ◌≤◌, ◌==◌, ℕ, [], Bool, IsSome, drop, false, length, take, true};
 ghost use Rattle.ep_calls.specs.Climb.{is_nested_key};
-ghost use Rattle.ep_dates.specs.Ask.{AreHomes, AreInstances, AreSettled, AreTurned, AreWatched, Asks, IsOnTurned, shows_over, shows_ready, watches};
+ghost use Rattle.ep_dates.specs.Ask.{AreHomes, AreInstances, AreSettled, AreTurned, AreWatched, Asks, IsOnTurned, shows_by, shows_over, shows_ready, watches};
 ghost use Rattle.ep_dates.specs.Dates.{is_ready};
 ghost use Rattle.ep_dates.specs.Kept.{AreKept};
 ghost use Rattle.ep_interest.specs.Passes.{has_id};
+ghost use Rattle.ep_table.specs.Value.{number_under};
 
 use crate::dates::Dates;
 use bitflags::Flags;
 use ep_base::{DescId, EntryId, Mask};
 use ep_calls::{Parts, is_reportable, shown_at};
+use ep_climb::has_links;
 use ep_interest::Entry;
 
 /// What registrations are asked at the end of an event.
@@ -19,6 +21,20 @@ pub struct Question {
     pub event: u64,
     /// Whether they have come to be reportable; else, whether they are so no more.
     pub comes: bool,
+}
+
+/// Whether a registration is reportable, if what it watches is ready exactly if its row isn't empty. An edge-triggered
+/// one to which nothing arrived since its last report isn't, whatever its target shows.
+fn shows(parts: &Parts, dates: &Dates, entry: &Entry) -> bool
+    requires { IsSome (number_under parts.now.tables entry.now.desc) }
+    ensures { result ≡ shows_by (shows_over parts.now) dates.now entry.now }
+{
+    parts.known();
+    if entry.mask.intersects(Mask::ET) && !entry.fresh {
+        return false;
+    }
+    let below = dates.is_ready(entry.desc);
+    is_reportable(entry, shown_at(&parts.tables, parts.clock, entry, below))
 }
 
 /// Asks the registration under a key. If it has come to be reportable, or is so no more, its date says so. The rows say
@@ -38,9 +54,7 @@ pub fn ask(parts: &Parts, question: Question, id: EntryId, dates: &mut Dates)
     if is_dated == question.comes {
         return;
     }
-    let below = dates.is_ready(entry.desc);
-    let shows = is_reportable(entry, shown_at(&parts.tables, parts.clock, entry, below));
-    if shows != question.comes {
+    if shows(parts, dates, entry) != question.comes {
         return;
     }
     if question.comes {
@@ -122,6 +136,9 @@ fn ask_turned_watchers(parts: &Parts, question: Question, instance: DescId, date
         (watches parts.now.interest instance.0) dates.old dates.new }
 {
     parts.interest.known();
+    if !has_links(&parts.graph) {
+        return;
+    }
     for id in parts.interest.watchers(instance) {
         ask_on_turned(parts, question, id, dates);
     }

@@ -1,4 +1,4 @@
-use Rattle.std.proofs.Common.{◌≡◌, ◌==◌, ◌∙◌, Bool, None, Some, ap, arith, false, nat_lt, not, option_copied, subst, sym, true, ℕ}
+use Rattle.std.proofs.Common.{◌≡◌, ◌==◌, ◌∙◌, Bool, IsSome, None, Some, ap, arith, false, nat_lt, not, option_copied, subst, sym, true, ℕ}
 use Rattle.std.proofs.lemmas.Bool.Decides.{nat_tests}
 use Rattle.ep_calls.proofs.EntryLemmas.{holds_under}
 use Rattle.ep_calls.specs.Parts.{Parts}
@@ -8,6 +8,7 @@ use Rattle.ep_dates.proofs.AskLemmas.{alike, asked_begun, asked_ended, asked_idl
 use Rattle.ep_dates.specs.Ask.{Asks, shows_by, shows_over}
 use Rattle.ep_dates.specs.Dates.{is_dated, is_ready}
 use Rattle.ep_interest.specs.Registrations.{IsSound, entry_under}
+use Rattle.ep_table.specs.Value.{number_under}
 use Rattle.ep_dates.proofs.ask.ask.Goals as goal
 
 pub returns-in_default : goal.returns-in_default
@@ -24,18 +25,18 @@ returns-then-is_dated-question c =
     asked_same p (subst (λ (q : Parts). IsSound q.interest) c.parts.view_is c.known-2.ensures) c.args.question.comes c.args.question.event c.args.id c.args.dates.now c.requires.kept x at
     (ap (λ (k : ℕ). nat_lt 0 k) (sym c.since-is_dated.ensures) ∙ same_truth _ _ c.if-is_dated-question.true)
 
-pub shown_at-requires-clause-target : goal.shown_at-requires-clause-target
-shown_at-requires-clause-target c =
+pub shows-requires : goal.shows-requires
+shows-requires c =
     let k = c.parts.inside in
-    (holds_under (IsLinked k.tables.keys) k.interest c.args.id c.in-Some.entry.now c.parts.invariant.linked (sym c.in-Some.ensures)).desc
+    let x = c.in-Some.entry.now in
+    subst (λ (q : Parts). IsSome (number_under q.tables x.desc)) c.parts.view_is (holds_under (IsLinked k.tables.keys) k.interest c.args.id x c.parts.invariant.linked (sym c.in-Some.ensures)).desc
 
 pub returns-then-shows-question : goal.returns-then-shows-question
 returns-then-shows-question c =
     let p = c.args.parts.now in
     let x = c.in-Some.entry.now in
     let at : entry_under p.interest c.args.id ≡ Some x = subst (λ (q : Parts). entry_under q.interest c.args.id ≡ Some x) c.parts.view_is (sym c.get.ensures ∙ ap option_copied c.in-Some.is) in
-    let shown : shows_by (shows_over p) c.args.dates.now x ≡ c.is_reportable-shows.result = subst (λ (q : Parts). entry_shows (λ e. is_ready c.args.dates.now x.desc.0) q.tables q.clock x ≡ c.is_reportable-shows.result) c.parts.view_is
-    (shows_told c.parts.inside.tables c.parts.inside.clock (is_ready c.args.dates.now x.desc.0) x c.is_ready-below.result c.is_reportable-shows.result c.shown_at.result.0 c.is_ready-below.ensures c.shown_at.ensures c.is_reportable-shows.ensures) in
+    let shown = sym c.shows.ensures in
     asked_idle p (subst (λ (q : Parts). IsSound q.interest) c.parts.view_is c.known-2.ensures) c.args.question.comes c.args.question.event c.args.id c.args.dates.now c.requires.kept x at
     (shown ∙ unlike _ _ c.if-shows-question.true)
 
@@ -44,8 +45,7 @@ returns-then-question c =
     let p = c.args.parts.now in
     let x = c.in-Some.entry.now in
     let at : entry_under p.interest c.args.id ≡ Some x = subst (λ (q : Parts). entry_under q.interest c.args.id ≡ Some x) c.parts.view_is (sym c.get.ensures ∙ ap option_copied c.in-Some.is) in
-    let shown : shows_by (shows_over p) c.args.dates.now x ≡ c.is_reportable-shows.result = subst (λ (q : Parts). entry_shows (λ e. is_ready c.args.dates.now x.desc.0) q.tables q.clock x ≡ c.is_reportable-shows.result) c.parts.view_is
-    (shows_told c.parts.inside.tables c.parts.inside.clock (is_ready c.args.dates.now x.desc.0) x c.is_ready-below.result c.is_reportable-shows.result c.shown_at.result.0 c.is_ready-below.ensures c.shown_at.ensures c.is_reportable-shows.ensures) in
+    let shown = sym c.shows.ensures in
     let comes = c.if-question.true in
     let was : is_dated c.args.dates.now x ≡ false = ap (λ (k : ℕ). nat_lt 0 k) (sym c.since-is_dated.ensures) ∙ (other_truth _ _ c.if-is_dated-question.false ∙ ap not comes) in
     let up : nat_lt 0 c.args.question.event ≡ true = let positive = c.requires.event in grind (arith, nat_tests, positive) in
@@ -59,8 +59,7 @@ returns-else-question c =
     let p = c.args.parts.now in
     let x = c.in-Some.entry.now in
     let at : entry_under p.interest c.args.id ≡ Some x = subst (λ (q : Parts). entry_under q.interest c.args.id ≡ Some x) c.parts.view_is (sym c.get.ensures ∙ ap option_copied c.in-Some.is) in
-    let shown : shows_by (shows_over p) c.args.dates.now x ≡ c.is_reportable-shows.result = subst (λ (q : Parts). entry_shows (λ e. is_ready c.args.dates.now x.desc.0) q.tables q.clock x ≡ c.is_reportable-shows.result) c.parts.view_is
-    (shows_told c.parts.inside.tables c.parts.inside.clock (is_ready c.args.dates.now x.desc.0) x c.is_ready-below.result c.is_reportable-shows.result c.shown_at.result.0 c.is_ready-below.ensures c.shown_at.ensures c.is_reportable-shows.ensures) in
+    let shown = sym c.shows.ensures in
     let goes = c.if-question.false in
     let was : is_dated c.args.dates.now x ≡ true = ap (λ (k : ℕ). nat_lt 0 k) (sym c.since-is_dated.ensures) ∙ (other_truth _ _ c.if-is_dated-question.false ∙ ap not goes) in
     let up : nat_lt 0 c.args.question.event ≡ true = let positive = c.requires.event in grind (arith, nat_tests, positive) in
