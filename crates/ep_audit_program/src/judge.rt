@@ -45,17 +45,13 @@ impl Judge {
         })
     }
 
-    /// The verdict on the records that it was told, which are so many.
-    pub(crate) fn verdict(self, count: u64) -> Verdict
+    /// The verdict on the records that it was told, which are so many. It gives the line of an illegal one away.
+    pub(crate) fn verdict(&mut self, count: u64) -> Verdict
         ensures { (limits : Bounds) (records : List Entry) (lines : List (List ℕ)) →
-            WasTold limits records lines self → count ≡ length records
+            WasTold limits records lines self.old → count ≡ length records
             → IsVerdict limits records lines result }
     {
-        let Judge {
-            auditor: _auditor,
-            illegal,
-        } = self;
-        match illegal {
+        match self.illegal.take() {
             None => Verdict::Legal(count),
             Some(found) => Verdict::Illegal(found),
         }

@@ -1,9 +1,10 @@
 //! The verdict on a history that is read from its lines.
 ghost use Rattle.std.specs.Io.KnownBytes.{prepend_known};
-ghost use Rattle.std.specs.Prelude.{◌≡◌, ℕ, IfOk, IfSome, IsErrOf};
+ghost use Rattle.std.specs.Prelude.{◌≡◌, [], ℕ, IfOk, IfSome, IsErrOf};
+ghost use Rattle.ep_base.specs.Limits.{Limits as Bounds};
 ghost use Rattle.ep_script.specs.Lines.{lines_of};
 ghost use Rattle.ep_script.specs.ReadHistory.{IsFirstBad, IsFirstLong};
-ghost use Rattle.ep_audit_program.specs.Verdict.{Judged};
+ghost use Rattle.ep_audit_program.specs.Verdict.{Judged, WasTold};
 
 use crate::judge::{Judge, Verdict};
 use ep_base::Limits;
@@ -11,24 +12,23 @@ use ep_script::{HistoryFault, HistoryReader, Watched};
 use std::alloc::Global;
 use std::io::Read;
 
-/// Reads a history to its end, and judges each record as its line is read. So it keeps no line but the one at hand, and
-/// the first illegal one. A line that is no record is told before an illegal record in front of it.
-pub(crate) fn judge_history<R: Read>(
+/// Reads a history to its end, and has a new judge judge each record as its line is read.
+fn judge_lines<R: Read>(
     alloc: Global,
-    limits: &Limits,
+    judge: &mut Judge,
     reader: &mut Watched<R>,
 ) -> Result<Verdict, HistoryFault>
-    ensures verdict { IfOk result (λ found. IfSome (R.remaining reader.old.inner) (λ input.
-        Judged limits.now (lines_of input) found)) }
-    ensures bad { (number : ℕ) → IsErrOf result (HistoryFault.NoRecord number) →
-        IfSome (R.remaining reader.old.inner) (λ input. IsFirstBad number (lines_of input)) }
-    ensures long { (number : ℕ) → IsErrOf result (HistoryFault.Line number) →
-        IfSome (R.remaining reader.old.inner) (λ input. IsFirstLong number (lines_of input)) }
+    ensures verdict { (limits : Bounds) → WasTold limits [] [] judge.old
+        → IfOk result (λ found. IfSome (R.remaining reader.old.inner) (λ input.
+        Judged limits (lines_of input) found)) }
+    ensures bad { (limits : Bounds) → WasTold limits [] [] judge.old
+        → (number : ℕ) → IsErrOf result (HistoryFault.NoRecord number)
+        → IfSome (R.remaining reader.old.inner) (λ input. IsFirstBad number (lines_of input)) }
+    ensures long { (limits : Bounds) → WasTold limits [] [] judge.old
+        → (number : ℕ) → IsErrOf result (HistoryFault.Line number)
+        → IfSome (R.remaining reader.old.inner) (λ input. IsFirstLong number (lines_of input)) }
 {
     let Ok(mut past) = HistoryReader::new(alloc) else {
-        return Err(HistoryFault::Memory);
-    };
-    let Ok(mut judge) = Judge::new(alloc, limits) else {
         return Err(HistoryFault::Memory);
     };
     for done in 0..u64::MAX {
@@ -44,4 +44,25 @@ pub(crate) fn judge_history<R: Read>(
     }
     // So many records find no memory.
     Err(HistoryFault::Memory)
+}
+
+/// Reads a history to its end, and judges each record as its line is read. So it keeps no line but the one at hand, and
+/// the first illegal one. A line that is no record is told before an illegal record in front of it.
+pub(crate) fn judge_history<R: Read>(
+    alloc: Global,
+    limits: &Limits,
+    reader: &mut Watched<R>,
+) -> Result<Verdict, HistoryFault>
+    ensures verdict { IfOk result (λ found. IfSome (R.remaining reader.old.inner) (λ input.
+        Judged limits.now (lines_of input) found)) }
+    ensures bad { (number : ℕ) → IsErrOf result (HistoryFault.NoRecord number) →
+        IfSome (R.remaining reader.old.inner) (λ input. IsFirstBad number (lines_of input)) }
+    ensures long { (number : ℕ) → IsErrOf result (HistoryFault.Line number) →
+        IfSome (R.remaining reader.old.inner) (λ input. IsFirstLong number (lines_of input)) }
+{
+    // The judge is lent on: to own it beside a loop takes the prover long.
+    match Judge::new(alloc, limits) {
+        Ok(mut judge) => judge_lines(alloc, &mut judge, reader),
+        Err(_) => Err(HistoryFault::Memory),
+    }
 }

@@ -1,7 +1,0 @@
-use Rattle.std.specs.Io.KnownBytes.{prepend_known}
-use Rattle.ep_script.specs.Unread.{unread}
-use Rattle.ep_audit_program.proofs.VerdictLemmas.{IsJudging}
-use Rattle.ep_audit_program.proofs.verdict.judge_history.Given as goal
-
-abbrev pub invariant-loop-done : goal.invariant-loop-done
-invariant-loop-done g l = IsJudging l.limits (g.R.Read.remaining l.fn.reader.inner) (prepend_known (unread l.past.input) (g.R.Read.remaining l.reader.inner)) l.judge l.done
