@@ -17,7 +17,7 @@ use std::alloc::Global;
 pub fn has_links(graph: &Graph) -> bool
     ensures { result ≡ nat_lt 0 (length graph.now) }
 {
-    graph.links().next().is_some()
+    graph.links().len() > 0
 }
 
 /// The instance of a registration that passes something on which this event raised at its target.

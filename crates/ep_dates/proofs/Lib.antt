@@ -14,3 +14,4 @@ pub mod OrderLemmas
 pub mod DropLemmas
 pub mod MovesLemmas
 pub mod PickLemmas
+pub mod FlatLemmas

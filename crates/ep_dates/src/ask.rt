@@ -136,9 +136,6 @@ fn ask_turned_watchers(parts: &Parts, question: Question, instance: DescId, date
         (watches parts.now.interest instance.0) dates.old dates.new }
 {
     parts.interest.known();
-    if !has_links(&parts.graph) {
-        return;
-    }
     for id in parts.interest.watchers(instance) {
         ask_on_turned(parts, question, id, dates);
     }
@@ -164,6 +161,9 @@ pub fn ask_turned(parts: &Parts, question: Question, from: usize, dates: &mut Da
         → AreWatched question.comes parts.now dates.new dates.new.turned.reached }
 {
     dates.known();
+    if !has_links(&parts.graph) {
+        return;
+    }
     let mut index = from;
     while index < dates.turned_count() {
         ask_turned_watchers(parts, question, dates.turned_at(index), dates);

@@ -1,7 +1,11 @@
-use Rattle.std.proofs.Common.{◌≡◌, ◌<◌, ◌∙◌, arith, ap, false, get_or, length, sym}
+use Rattle.std.proofs.Common.{◌≡◌, ◌<◌, ◌∙◌, [], arith, ap, false, get_or, length, subst, sym}
 use Rattle.std.proofs.lemmas.Bool.{false≢true}
 use Rattle.std.proofs.lemmas.Option.{get_or_from_slice_get}
+use Rattle.ep_calls.specs.Climb.{AreNested}
+use Rattle.ep_calls.specs.Parts.{Parts}
+use Rattle.ep_climb.proofs.LinkLemmas.{no_links}
 use Rattle.ep_dates.proofs.AskLemmas.{shows_rises}
+use Rattle.ep_dates.proofs.FlatLemmas.{flat_settled, flat_watched}
 use Rattle.ep_dates.proofs.RoundLemmas.{among_at, few_turned, round_ends, round_settled, round_turns, round_watched, watched_ends}
 use Rattle.ep_dates.proofs.TurnLemmas.{turned_still, turns_none}
 use Rattle.ep_dates.proofs.TurnedLemmas.{instances_still}
@@ -9,6 +13,23 @@ use Rattle.ep_dates.specs.Ask.{shows_over}
 use Rattle.ep_machine.specs.Lists.{is_among}
 use Rattle.ep_ready.specs.Walk.{Walk}
 use Rattle.ep_dates.proofs.ask.ask_turned.Goals as goal
+
+-- no instance watches another
+flat : (c : goal.Then-not-has_links) → AreNested c.args.parts.now.tables c.args.parts.now.interest []
+flat c =
+    let k = c.parts.inside in
+    let none : k.graph ≡ [] = no_links k.graph (sym c.has_links.ensures ∙ c.if-not-has_links.true) in
+    subst (λ (q : Parts). AreNested q.tables q.interest []) c.parts.view_is (subst (AreNested k.tables k.interest) none c.parts.invariant.nested)
+
+pub returns-then-not-has_links-clause-asks : goal.returns-then-not-has_links-clause-asks
+returns-then-not-has_links-clause-asks c =
+    turns_none c.args.question.comes c.args.question.event c.args.parts.now.interest (shows_over c.args.parts.now) (shows_rises c.args.parts.now) (λ k. false) c.args.dates.now c.requires.kept (λ id x at h. absurd (false≢true h))
+
+pub returns-then-not-has_links-clause-settled : goal.returns-then-not-has_links-clause-settled
+returns-then-not-has_links-clause-settled c = flat_settled c.args.parts.now (flat c) c.args.dates.now c.requires.instances c.args.question.comes c.args.from
+
+pub returns-then-not-has_links-clause-watched : goal.returns-then-not-has_links-clause-watched
+returns-then-not-has_links-clause-watched c = λ h. flat_watched c.args.parts.now (flat c) c.args.dates.now c.requires.instances c.args.question.comes
 
 pub loop-index-init : goal.loop-index-init
 loop-index-init c = record {

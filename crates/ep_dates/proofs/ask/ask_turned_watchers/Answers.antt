@@ -1,19 +1,15 @@
 use Rattle.std.proofs.Common.{◌≡◌, ◌∙◌, ◌++◌, ◌∷◌, [], List, ap, append-nil, append_assoc, filter, refl, subst, sym, ℕ}
-use Rattle.std.proofs.lemmas.Bool.{false≢true}
 use Rattle.ep_base.specs.declared.ids.EntryId.{EntryId}
-use Rattle.ep_calls.proofs.EntryLemmas.{member_of}
-use Rattle.ep_calls.specs.Climb.{AreNested, is_nested_key}
+use Rattle.ep_calls.specs.Climb.{is_nested_key}
 use Rattle.ep_calls.specs.Parts.{Parts}
-use Rattle.ep_climb.proofs.LinkLemmas.{is_on_none, no_links}
 use Rattle.ep_dates.proofs.AskLemmas.{shows_rises}
 use Rattle.ep_dates.proofs.EachLemmas.{asks_next, asks_none, watchers_listed}
-use Rattle.ep_dates.proofs.TurnLemmas.{turned_still, turns_less, turns_none}
+use Rattle.ep_dates.proofs.TurnLemmas.{turned_still, turns_less}
 use Rattle.ep_dates.proofs.TurnedLemmas.{listed_on, next_listed}
-use Rattle.ep_dates.specs.Ask.{is_on as is_on_key, shows_over, watches}
+use Rattle.ep_dates.specs.Ask.{shows_over, watches}
 use Rattle.ep_dates.specs.Dates.{is_ready}
 use Rattle.ep_interest.specs.Passes.{has_id}
 use Rattle.ep_interest.specs.Registrations.{IsSound, ids, is_on}
-use Rattle.ep_law.proofs.TestLemmas.{from_test}
 use Rattle.ep_law.specs.Laws.{Member}
 use Rattle.ep_dates.proofs.ask.ask_turned_watchers.Goals as goal
 
@@ -55,15 +51,3 @@ returns c =
     turns_less c.args.question.comes c.args.question.event p.interest (shows_over p) (shows_rises p) (has_id c.loop-id.yielded) (watches p.interest c.args.instance.0) c.args.dates.now c.loop-id.dates
     (λ k h. ap (λ (ids : List EntryId). has_id ids k) all ∙ watchers_listed p.interest (subst (λ (q : Parts). IsSound q.interest) c.parts.view_is c.known.ensures) c.args.instance k h)
     c.loop-id.invariant.asked
-
--- no instance watches another, so no registration is on this one
-pub returns-then-not-has_links : goal.returns-then-not-has_links
-returns-then-not-has_links c =
-    let k = c.parts.inside in
-    let p = c.args.parts.now in
-    let desc = c.args.instance.0 in
-    let none : k.graph ≡ [] = no_links k.graph (sym c.has_links.ensures ∙ c.if-not-has_links.true) in
-    let nested = subst (λ (q : Parts). AreNested q.tables q.interest []) c.parts.view_is (subst (AreNested k.tables k.interest) none c.parts.invariant.nested) in
-    turns_none c.args.question.comes c.args.question.event p.interest (shows_over p) (shows_rises p) (watches p.interest desc) c.args.dates.now c.requires.kept (λ id x at on.
-    let here : x.desc.0 ≡ desc = from_test x.desc.0 desc (ap (is_on_key desc) (sym at) ∙ on) in
-    absurd (false≢true (sym (is_on_none p.tables p.interest nested x (member_of p.interest id x at)) ∙ (ap (λ (i : ℕ). is_nested_key p.tables (record { 0 = i })) here ∙ c.requires.nested))))
