@@ -15,11 +15,11 @@ const INSTANCE: DescId = DescId(0);
 pub fn end_unwatched(alloc: Global, count: u32, calls: u32) -> Result<(usize, bool), AllocError> {
     let mut sets = Interest::new(alloc);
     for number in 0..count {
-        add(&mut sets, DescId(number as usize))?;
+        add(&mut sets, DescId(number as usize + 1))?;
     }
     let most = sets.count();
     for _call in 0..calls {
-        sets.purge(DescId(count as usize));
+        sets.purge(DescId(count as usize + 1));
     }
     Ok((most, sets.count() != most))
 }

@@ -22,11 +22,11 @@ fn raise(sets: &mut Interest, desc: DescId, event: u64) -> usize {
 pub fn raise_at_one(alloc: Global, count: u32, events: u32) -> Result<(usize, bool), AllocError> {
     let mut sets = Interest::new(alloc);
     for number in 0..count {
-        add(&mut sets, DescId(number as usize))?;
+        add(&mut sets, DescId(number as usize + 1))?;
     }
     let mut is_lost = false;
     for event in 0..events {
-        is_lost |= raise(&mut sets, DescId(0), u64::from(event) + 1) == 0;
+        is_lost |= raise(&mut sets, DescId(1), u64::from(event) + 1) == 0;
     }
     Ok((sets.count(), is_lost))
 }

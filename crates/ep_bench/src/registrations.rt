@@ -4,8 +4,8 @@ use ep_base::{DescId, Fd, Mask};
 use ep_interest::{Addition, Interest};
 use std::alloc::{AllocError, Global};
 
-/// The instance that all registrations are of.
-const INSTANCE: DescId = DescId(usize::MAX);
+/// The instance that all registrations are of. Each description has a number above it.
+const INSTANCE: DescId = DescId(0);
 
 /// Adds a registration on a description that has none.
 pub fn add(sets: &mut Interest, desc: DescId) -> Result<(), AllocError> {
@@ -35,11 +35,11 @@ fn take(sets: &mut Interest, desc: DescId, by_key: bool) {
 pub fn add_and_remove(alloc: Global, count: u32) -> Result<(usize, usize), AllocError> {
     let mut sets = Interest::new(alloc);
     for number in 0..count {
-        add(&mut sets, DescId(number as usize))?;
+        add(&mut sets, DescId(number as usize + 1))?;
     }
     let most = sets.count();
     for number in 0..count {
-        take(&mut sets, DescId(number as usize), number % 2 == 0);
+        take(&mut sets, DescId(number as usize + 1), number % 2 == 0);
     }
     Ok((most, sets.count()))
 }

@@ -208,8 +208,10 @@ fn places_with(room: usize, id: EntryId) -> Result<usize, AllocError>
 }
 
 /// The registrations of every instance. Contracts see them in order of registration, the number under each key, and
-/// how many were ever added. Adding n of them and removing them again takes time that grows as n log n, however they
-/// are spread over instances and descriptions. Memory comes from `A`.
+/// how many were ever added. Adding n of them and removing them again takes time that grows as n and as the highest
+/// number of a description in them, however they are spread over instances and descriptions. For each number up to the
+/// highest of an instance that has had a registration there is a place of some 24 bytes, and so for targets: numbers
+/// should be low. Memory comes from `A`.
 #[derive(Drop)]
 pub struct Interest<A: Allocator = Global> {
     slots: Slab<Entry, A>,
@@ -255,8 +257,8 @@ impl<A: Allocator> Interest<A> {
         }
     }
 
-    /// The registrations of an instance with their keys, in order of registration. Only these are visited; the cost
-    /// of finding the first grows as the logarithm of the number of registrations.
+    /// The registrations of an instance with their keys, in order of registration. Only these are visited, and the
+    /// first is found in constant time.
     pub fn entries(&self, instance: DescId) -> Entries<'_, A>
         ensures entries { map (λ p. p.1) result ≡ filter (is_of instance) self.now.entries }
         ensures keys { All (λ p. number_under self.now p.0 ≡ Some p.1.number) result }
@@ -269,8 +271,8 @@ impl<A: Allocator> Interest<A> {
         }
     }
 
-    /// The keys of the registrations on a description, in order of registration. Only these are visited; the cost of
-    /// finding the first grows as the logarithm of the number of registrations.
+    /// The keys of the registrations on a description, in order of registration. Only these are visited, and the first
+    /// is found in constant time.
     pub fn watchers(&self, desc: DescId) -> Watchers<'_>
         ensures exact { result ≡ ids self.now (filter (is_on desc) self.now.entries) }
         ensures runs { ShowsInOrder (λ (id : EntryId). id) }
@@ -295,9 +297,9 @@ impl<A: Allocator> Interest<A> {
     }
 
     /// Adds a registration with the next number, armed and never reported, as ADD of epoll_ctl(2) does, and answers
-    /// its key. `AllocError` where there is no memory, or no number is left after 2^64 - 1 additions, and then
-    /// nothing has changed. No other call of this type takes memory. The cost grows as the logarithm of the number of
-    /// registrations, but where a table grows.
+    /// its key. `AllocError` if there is no memory, or no number is left after 2^64 - 1 additions, and then nothing has
+    /// changed. No other call of this type takes memory. The cost doesn't grow with the registrations, unless a table
+    /// grows.
     pub fn add(&mut self, addition: Addition) -> Result<EntryId, AllocError>
     where
         A: Clone,
@@ -434,7 +436,7 @@ impl<A: Allocator> Interest<A> {
 
     /// Notes that an event raised these bits at a description. Each registration on it whose mask asks for one of
     /// them, ERR and HUP unasked, is fresh; one that is armed passes them on in this event. Only those on it are
-    /// visited; the cost of finding the first grows as the logarithm of the number of registrations.
+    /// visited, and the first is found in constant time.
     pub fn raise(&mut self, desc: DescId, bits: Mask, event: u64)
         ensures entries { self.new.entries ≡ map (raised_on desc bits event) self.old.entries }
         ensures keys { self.new.keys ≡ self.old.keys }
@@ -488,7 +490,7 @@ impl<A: Allocator> Interest<A> {
     }
 
     /// Takes away the registration under a key, as DEL of epoll_ctl(2) does. The key may be given out again, the
-    /// number is not. The cost grows as the logarithm of the number of registrations.
+    /// number is not. The cost doesn't grow with the registrations.
     pub fn remove(&mut self, id: EntryId)
         requires { IsSome (number_under self.old id) }
         ensures entries { self.new.entries

@@ -3,14 +3,14 @@ ghost use Rattle.std.specs.Prelude.{◌≡◌, ◌≢◌, ◌<◌, ◌≤◌, �
 ghost use Rattle.ep_interest.specs.Rows.{IsRows, row};
 ghost use Rattle.ep_rings.specs.KeyWalk.{id_at};
 
-use crate::heads::{Heads, Owner, lengthen, shorten};
+use crate::heads::{Heads, head_of, lengthen, shorten};
 use ep_base::{DescId, EntryId};
 use ep_rings::{Circles, Walk};
 use std::alloc::{AllocError, Allocator, Global};
-use std::collections::BTreeMap;
 
 /// For each owner, an instance or a target, the keys of its registrations in order of registration, linked in a
-/// circle. An owner without registrations has no circle, so memory grows with registrations alone.
+/// circle. Memory grows with registrations, and with the highest number of an owner that has had one: each number up to
+/// it has a place of some 24 bytes, which says where its circle begins, or that there is none.
 #[derive(Drop)]
 pub(crate) struct Rows<A: Allocator = Global> {
     pub(crate) heads: Heads<A>,
@@ -26,7 +26,7 @@ impl<A: Allocator> Rows<A> {
         ensures empty { (i : ℕ) → row result i ≡ [] }
     {
         Rows {
-            heads: BTreeMap::new(alloc),
+            heads: Vec::new(alloc),
             circles: Circles::new(alloc),
         }
     }
@@ -42,11 +42,10 @@ impl<A: Allocator> Rows<A> {
         self.circles.reserve(many)
     }
 
-    /// Puts a key behind the others of its owner. The cost grows as the logarithm of the number of owners. Only the
-    /// first key of an owner takes memory; `AllocError` where there is none, and then each owner has what it had.
+    /// Puts a key behind the others of its owner. Takes constant time, unless the vector of places grows. Only an
+    /// owner above all that had a key before takes memory. `AllocError` if there is none, and then each owner has what
+    /// it had.
     pub(crate) fn push(&mut self, owner: DescId, id: EntryId) -> Result<(), AllocError>
-    where
-        A: Clone,
         requires sound { IsRows self.old }
         requires linked { id.0 < length self.old.circles }
         requires most { length (row self.old owner.0) < usize.MAX }
@@ -56,12 +55,12 @@ impl<A: Allocator> Rows<A> {
             ≡ (if nat_eq owner.0 i then row self.old i ++ id.0 ∷ [] else row self.old i)) }
         ensures kept { OnErr result ((i : ℕ) → row self.new i ≡ row self.old i) }
     {
-        let first = lengthen(&mut self.heads, Owner(owner.0), id.0)?;
+        let first = lengthen(&mut self.heads, owner, id.0)?;
         self.circles.append(first, id.0);
         Ok(())
     }
 
-    /// Takes a key from its owner. Takes no memory. The cost grows as the logarithm of the number of owners.
+    /// Takes a key from its owner. Takes constant time and no memory.
     pub(crate) fn remove(&mut self, owner: DescId, id: EntryId)
         requires sound { IsRows self.old }
         requires there { Contains (row self.old owner.0) id.0 }
@@ -70,16 +69,15 @@ impl<A: Allocator> Rows<A> {
             ≡ filter (λ k. not (k == id.0)) (row self.old i) }
     {
         let next = self.circles.unlink(id.0);
-        shorten(&mut self.heads, Owner(owner.0), id.0, next);
+        shorten(&mut self.heads, owner, id.0, next);
     }
 
-    /// The keys of an owner's registrations, in order. The cost of finding the first grows as the logarithm of the
-    /// number of owners.
+    /// The keys of an owner's registrations, in order. The first is found in constant time.
     pub(crate) fn keys(&self, owner: DescId) -> Walk<'_>
         requires { IsRows self.now }
         ensures { result ≡ map id_at (row self.now owner.0) }
     {
-        let circle = self.heads.get(&Owner(owner.0)).copied();
+        let circle = head_of(&self.heads, owner);
         self.circles.keys(circle)
     }
 }
