@@ -12,7 +12,6 @@ pub mod NothingRaisedLemmas
 pub mod ObjectRaiseLemmas
 pub mod TickLemmas
 pub mod ObjectCallLemmas
-pub mod CollectLemmas
 pub mod ReadinessLemmas
 pub mod IsBelowLemmas
 pub mod GraphLemmas
@@ -46,7 +45,6 @@ pub mod CauseLemmas
 pub mod StepLemmas
 pub mod KeptLemmas
 pub mod IdLemmas
-pub mod HadLemmas
 pub mod NextArrivalLemmas
 pub mod NextMomentLemmas
 pub mod FirstMarkedLemmas

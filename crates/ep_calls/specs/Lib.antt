@@ -14,7 +14,6 @@ pub mod ObjectCall
 pub mod Parking
 pub mod Raising
 pub mod Readiness
-pub mod Below
 pub mod Wait
 pub mod Reports
 pub mod Burial

@@ -1,21 +1,17 @@
 //! epoll_ctl.
-ghost use Rattle.std.specs.Prelude.{All, ◌≡◌, ◌≢◌, ◌==◌, ◌+◌, ◌++◌, ◌∷◌, ◌≤◌, ◌||◌, ℕ, [], if◌then◌else◌, IfErr, IfNone, IfOk, IfSome, IsOk, IsSome, List, MatchResult, None, OnErr, Some, false, length, not, true, unwrap_or};
+ghost use Rattle.std.specs.Prelude.{All, ◌≡◌, ◌≢◌, ◌==◌, ◌+◌, ◌++◌, ◌∷◌, ◌≤◌, ◌||◌, ℕ, [], if◌then◌else◌, IfErr, IfNone, IfOk, IfSome, IsOk, IsSome, MatchResult, None, OnErr, Some, false, length, not, true, unwrap_or};
 ghost use Rattle.std.specs.List.{list_any};
 ghost use Rattle.ep_base.specs.Answer.{FitsInline};
 ghost use Rattle.ep_machine.specs.Effect.{first};
 ghost use Rattle.ep_calls.specs.Acts.{is_no_memory};
-ghost use Rattle.ep_machine.specs.State.{Waiter};
 ghost use Rattle.ep_machine.specs.Watches.{is_add, is_legal};
 ghost use Rattle.ep_nest.specs.Links.{edges, without};
 ghost use Rattle.ep_calls.specs.Climb.{AreNested, KeepsLinks};
-ghost use Rattle.ep_calls.specs.Clock.{ClockStays};
 ghost use Rattle.ep_calls.specs.Control.{Alters, ChangesIf, Controls, EntersAt, IsBelow, IsPlan, Names, TellsBelow, addition, code_of, control_call, is_deep_at, is_done, is_refused_op, raising_of_ctl, naming_refusals, next_entry, next_link, raising_after, room_refusals};
 ghost use Rattle.ep_calls.specs.Last.{NothingRefusesCall};
 ghost use Rattle.ep_interest.specs.Registrations.{GainsKey, has_key, number_under as number_of_entry};
 ghost use Rattle.ep_machine.specs.Timer.{last_moment};
 ghost use Rattle.ep_calls.specs.Does.{DoesCall};
-ghost use Rattle.ep_calls.specs.Ids.{HadOrAdds};
-ghost use Rattle.ep_calls.specs.Raising.{IsRaising};
 ghost use Rattle.ep_calls.specs.Stands.{AreLinked};
 ghost use Rattle.ep_calls.specs.declared.control.Named.{Named};
 ghost use Rattle.ep_calls.specs.declared.control.Operation.TheVariants.{Add};
@@ -23,14 +19,14 @@ ghost use Rattle.ep_calls.specs.declared.raising.Raising.TheVariants.{Nowhere};
 ghost use Rattle.ep_table.specs.Value.{number_under};
 
 use crate::raising::Raising;
-use crate::readiness::{is_ready_now, is_reportable, shown_at};
+use crate::readiness::{is_reportable, shown_at};
 use crate::{Outcome, Parts};
 use bitflags::Flags;
-use ep_base::{Answer, DescId, EntryId, Errno, Fd, Limits, Mask, Pid};
+use ep_base::{Answer, DescId, EntryId, Errno, Fd, Mask, Pid};
 use ep_interest::{Addition, Interest};
 use ep_nest::Graph;
 use ep_table::Tables;
-use std::alloc::{AllocError, Global};
+use std::alloc::AllocError;
 
 /// The arguments of an epoll_ctl.
 #[derive(Clone, Copy)]
@@ -113,7 +109,7 @@ fn is_same(tables: &Tables, a: DescId, b: DescId) -> bool
     a.0 == b.0
 }
 
-/// The operation that is asked for. `None` where its number or the mask is not accepted; DEL looks at no mask.
+/// The operation that is asked for. `None` if its number or the mask is not accepted; DEL looks at no mask.
 fn operation_of(args: Control) -> Option<Operation>
     ensures none { IfNone result (is_refused_op args.op args.mask.0 ≡ true) }
     ensures some { IfSome result
@@ -227,7 +223,7 @@ fn add_linked(
     }
 }
 
-/// Adds a registration, with its link where it watches an instance. An `Err` is want of memory and leaves both.
+/// Adds a registration, with its link if it watches an instance. An `Err` is want of memory and leaves both.
 fn add(
     interest: &mut Interest,
     graph: &mut Graph,
@@ -268,7 +264,7 @@ fn may_watch(graph: &mut Graph, named: Named, is_nested: bool) -> bool
     !is_nested || graph.may_add(named.instance, named.desc).is_ok()
 }
 
-/// Adds a registration that is not there. ENOENT for any other operation, ELOOP where instances would watch each other
+/// Adds a registration that is not there. ENOENT for any other operation, ELOOP if instances would watch each other
 /// in a loop or in too long a chain, and ENOSPC past `watches`.
 /// A refusal and an `Err` leave the registrations. An `Err` is want of memory, or of the room that the plan tells of.
 /// It comes only of an ADD that nothing refuses.
@@ -326,7 +322,7 @@ fn enter(
     Ok(Answer::Done)
 }
 
-/// What it raises that a registration was added or modified: IN at its instance, where it is reportable. `below` says
+/// What it raises that a registration was added or modified: IN at its instance, if it is reportable. `below` says
 /// whether its target is an instance that is ready.
 fn look_at(
     tables: &Tables,
@@ -355,7 +351,7 @@ fn look_at(
 }
 
 impl Parts {
-    /// What epoll_ctl comes to with an answer: where it is done, the registration is looked at.
+    /// What epoll_ctl comes to with an answer: if it is done, the registration is looked at.
     fn controlled(&self, plan: Plan, fd: Fd, answer: Answer) -> Outcome
         requires inline { FitsInline answer }
         requires real { is_no_memory answer ≡ false }
@@ -381,8 +377,8 @@ impl Parts {
         Outcome::settled(self.alloc, answer, raising)
     }
 
-    /// What an epoll_ctl with these arguments is about. Where they alone refuse it, its outcome, by the refusal that
-    /// comes first: EBADF where a descriptor names nothing, EPERM for a target that can't be polled, EINVAL where
+    /// What an epoll_ctl with these arguments is about. If they alone refuse it, its outcome, by the refusal that
+    /// comes first: EBADF if a descriptor names nothing, EPERM for a target that can't be polled, EINVAL if
     /// `epfd` is no instance or both name the same, and EINVAL for an operation or a mask that this version doesn't
     /// accept. It doesn't ask whether the target is an instance that is ready, and takes it that the kernel has room
     /// for what it keeps of a registration.
@@ -413,25 +409,10 @@ impl Parts {
         })
     }
 
-    /// Whether the instance that an ADD or a MOD is about is ready; `false` for what is no instance. DEL asks
-    /// nothing. The time grows with the registrations of the instance and of those below.
-    fn is_below_ready(&self, operation: Operation, desc: DescId) -> bool
-        requires { IsSome (number_under self.now.tables desc) }
-        ensures { TellsBelow operation result self.now desc }
-    {
-        if let Operation::Delete = operation {
-            return false;
-        }
-        if !self.tables.object(desc).is_instance() {
-            return false;
-        }
-        is_ready_now(&self.tables, self.clock, &self.interest, desc)
-    }
-
     /// Does what an epoll_ctl is about, or answers the refusal that comes first, in this order: ENOENT for MOD and
-    /// DEL of what is not there, EEXIST for ADD of what is, ELOOP where instances would watch each other in a loop or
+    /// DEL of what is not there, EEXIST for ADD of what is, ELOOP if instances would watch each other in a loop or
     /// in a chain of more than five, and ENOSPC past `watches`. What is added or modified and reportable at once
-    /// raises IN at its instance. It looks at links between instances only where the target is an instance, and at no
+    /// raises IN at its instance. It looks at links between instances only if the target is an instance, and at no
     /// registration of that one. A refusal and an `Err` leave the parts. An `Err` is want of memory, or of the room
     /// that the plan tells of. It comes only of an ADD that nothing refuses.
     pub fn control(&mut self, pid: Pid, args: Control, plan: Plan) -> Result<Outcome, AllocError>
@@ -475,38 +456,5 @@ impl Parts {
                 Ok(self.controlled(plan, args.fd, answer))
             }
         }
-    }
-
-    /// epoll_ctl(2): adds, modifies or deletes a registration, or answers the refusal that comes first: those of
-    /// `plan`, and then those of `control`. What is added or modified and reportable at once raises IN at its
-    /// instance. Each registration that was there and is left keeps its key. `has_room`: the kernel has room for what
-    /// it keeps of a registration, without which none is added. A refusal and an `Err` leave the parts. An `Err` is
-    /// want of memory or of that room. It comes only of an ADD that nothing refuses.
-    pub fn epoll_ctl(
-        &mut self,
-        pid: Pid,
-        args: Control,
-        has_room: bool,
-    ) -> Result<Outcome, AllocError>
-        ensures ok { IfOk result
-            (λ outcome. (n caller : ℕ)
-            → DoesCall n caller pid.0 (control_call args) outcome self.old self.new) }
-        ensures ids { HadOrAdds self.old.interest self.new.interest }
-        ensures tables { self.new.tables ≡ self.old.tables }
-        ensures clock { IfOk result
-            (λ outcome. ClockStays outcome.raising self.old.clock self.new.clock) }
-        ensures last { OnErr result (NothingRefusesCall self.old pid.0 (control_call args)) }
-        ensures room { has_room ≡ false → self.new.interest.added ≡ self.old.interest.added }
-        ensures spared { is_add args.op ≡ false → IsOk result }
-        ensures err { OnErr result (self.new ≡ self.old) }
-    {
-        let mut plan = match self.plan(pid, args) {
-            Ok(plan) => plan,
-            Err(refused) => return Ok(refused),
-        };
-        plan.below = self.is_below_ready(plan.operation, plan.named.desc);
-        plan.has_room = has_room;
-        let outcome = self.control(pid, args, plan)?;
-        Ok(outcome)
     }
 }

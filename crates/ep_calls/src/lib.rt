@@ -1,7 +1,6 @@
 //! What every kernel promises, and the calls and effects that kernels share: methods of `Parts`.
 #![tactic(auto)]
 
-mod below;
 mod bury;
 mod clock;
 mod control;
@@ -20,13 +19,12 @@ mod spare;
 mod table_call;
 mod wait;
 
-pub use crate::below::{EntryTest, any_below};
 pub use crate::control::{Control, Named, Operation, Plan};
 pub use crate::kernel::Kernel;
 pub use crate::outcome::Outcome;
 pub use crate::parts::Parts;
 pub use crate::raising::Raising;
-pub use crate::readiness::{is_ready_now, is_reportable, shown, shown_at};
+pub use crate::readiness::{is_reportable, shown_at};
 pub use crate::runs::{ready_waiters_are_marked, run};
 pub use crate::spare::Spare;
 pub use crate::wait::{Reportable, Wait, find_instance};

@@ -1,21 +1,14 @@
 //! Calls on the object that a descriptor names: read, write, shutdown, settime and gettime.
-ghost use Rattle.std.specs.Prelude.{ℕ, Some, ◌≡◌, ◌≤◌, [], ◌∷◌, IfOk, IsOk, IsSome, MatchOption, OnErr, OnOk, false, min, true};
-ghost use Rattle.ep_base.specs.declared.errno.Errno.{Errno as AnErrno};
-ghost use Rattle.ep_machine.specs.Files.{names_nothing, object_under, side_of, side_under, named_by};
-ghost use Rattle.ep_machine.specs.Objects.{object_refusals};
-ghost use Rattle.ep_machine.specs.Tables.{affected};
-ghost use Rattle.ep_machine.specs.Timer.{last_moment};
-ghost use Rattle.ep_object.specs.Memory.{asked_of, object_waiting};
-ghost use Rattle.ep_calls.specs.Stands.{KeepsHolds};
+ghost use Rattle.std.specs.Prelude.{ℕ, Some, ◌≡◌, ◌≤◌, [], IfOk, IsOk, IsSome, MatchOption, OnErr, false, min, true};
+ghost use Rattle.ep_object.specs.Memory.{asked_of};
 ghost use Rattle.ep_calls.specs.Clock.{ClockStays};
 ghost use Rattle.ep_calls.specs.Does.{DoesCall};
 ghost use Rattle.ep_calls.specs.Kept.{IsKept};
 ghost use Rattle.ep_calls.specs.Last.{NothingRefusesCall};
 ghost use Rattle.ep_calls.specs.ObjectCall.{CallsObject, FitsRoom, fd_of, waiting_at};
 ghost use Rattle.ep_calls.specs.Acts.{is_no_memory};
-ghost use Rattle.ep_calls.specs.Raising.{IsRaising, RaisesByCall};
 ghost use Rattle.ep_calls.specs.Spared.{waiting_under};
-ghost use Rattle.ep_table.specs.Value.{content_of, number_of, number_under};
+ghost use Rattle.ep_table.specs.Value.{number_under};
 ghost use Rattle.smallvec.specs.SmallVec.{HasRoomFor};
 
 use crate::raising::Raising;
@@ -25,7 +18,7 @@ use ep_table::Tables;
 use smallvec::SmallVec;
 use std::alloc::{AllocError, Global};
 
-/// Room for the bytes that a call gives, before it takes them from the object, where it is wanted. It takes no memory
+/// Room for the bytes that a call gives, before it takes them from the object, if it is wanted. It takes no memory
 /// for 16 bytes or fewer.
 #[inline(always)]
 fn room_for_copy(
@@ -76,7 +69,7 @@ fn answer_copy(answer: &Answer, mut room: SmallVec<u8, 16>) -> Answer
     }
 }
 
-/// Copies of an answer for a second record, where one is asked for.
+/// Copies of an answer for a second record, if one is asked for.
 fn spare_of(alloc: Global, answer: &Answer, room: SmallVec<u8, 16>, kept: bool) -> Option<Spare>
     requires empty { room.items ≡ [] }
     requires fits { kept ≡ true → FitsRoom answer.now room }
@@ -118,9 +111,9 @@ fn outcome_of(
 
 impl Parts {
     /// read(2), write(2), shutdown(2), timerfd_settime(2) or timerfd_gettime(2) of what a descriptor names, at the end
-    /// that it names: EBADF where it names nothing, else what the object answers. `kept`: a second record of it is
+    /// that it names: EBADF if it names nothing, else what the object answers. `kept`: a second record of it is
     /// asked for.
-    /// An `Err` is want of memory and leaves the parts. It comes only of a read of more than 16 bytes where more wait,
+    /// An `Err` is want of memory and leaves the parts. It comes only of a read of more than 16 bytes if more wait,
     /// which nothing refuses.
     pub fn object_call(
         &mut self,

@@ -249,10 +249,11 @@ fn enter(
     }
 }
 
-/// epoll_ctl(2), as `Parts::epoll_ctl`, with the ready lists: a registration that is added gets a place, and one that
-/// is deleted loses it; what is added or modified and reportable comes to the end of its list. The same goes for the
-/// hopes. Of the instances below its target only the hopes are looked at, as `is_ready` says. A refusal leaves the
-/// parts and the lists, and so does an `Err`. That is want of memory, and comes only of an ADD that nothing refuses.
+/// epoll_ctl(2), as `Parts::plan` and `Parts::control` do it, with the ready lists: a registration that is added gets a
+/// place, and one that is deleted loses it; what is added or modified and reportable comes to the end of its list. The
+/// same goes for the hopes. Of the instances below its target only the hopes are looked at, as `is_ready` says. A
+/// refusal leaves the parts and the lists, and so does an `Err`. That is want of memory, and comes only of an ADD that
+/// nothing refuses.
 pub fn epoll_ctl(
     parts: &mut Parts,
     lists: &mut ReadyLists,

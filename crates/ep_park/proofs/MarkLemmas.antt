@@ -1,11 +1,11 @@
 -- Marks of one caller, of an instance, and of those that are due.
-use Rattle.std.proofs.Common.{◌≡◌, ℕ, zero, suc, true, false, ◌<◌, ◌≤◌, List, [], ◌∷◌, Option, Some, None, refl, sym, ap, ◌∙◌, inl, inr, map, nat_eq, eqb, slice_get, slice_index_or, arith, nat_lt, if◌then◌else◌}
+use Rattle.std.proofs.Common.{◌≡◌, ℕ, zero, suc, true, false, ◌<◌, ◌≤◌, List, [], ◌∷◌, Option, Some, None, refl, sym, ap, ◌∙◌, inl, inr, map, nat_eq, eqb, arith, nat_lt, if◌then◌else◌}
 use Rattle.std.proofs.Math.Bool.{and-false, and-true, or-false, or-true}
 use Rattle.std.proofs.lemmas.Bool.{eq-eqb, eqb-false, lt-ltb}
 use Rattle.std.proofs.lemmas.Bool.Decides.{eqb_tells}
 use Rattle.std.proofs.lemmas.Map.Keys.{IsDistinct-head, IsDistinct-tail}
 use Rattle.std.specs.List.{AllByRecursion, IsDistinct, count_by, list_any}
-use Rattle.std.specs.Map.{keys_of, lookup, values_of}
+use Rattle.std.specs.Map.{keys_of, lookup}
 use Rattle.std.specs.Option.{option_map}
 use Rattle.ep_machine.specs.State.{Waiter as Parked}
 use Rattle.ep_machine.specs.Waits.{unmark}
@@ -144,11 +144,3 @@ longest_by n t es apart is few =
     let none : t.marked ≡ 0 = omega arith in
     let unmarked : false ≡ list_any (is_marked_of n) (listed es) = ap (nat_lt 0) (sym none ∙ marked_is n (listed es) t is) ∙ any_counted (is_marked_of n) (listed es) in
     first_marked_by n t.first.0 es apart (first_is n (listed es) t is) ∙ ap (λ b. if b then listed es else first_marked n (listed es)) unmarked
-
--- the instance of the waiter at a place of the list
-pub instance_listed : (es : List (ℕ × Waiter)) (i : ℕ) (w : Waiter) → slice_get (values_of es) i ≡ Some w → w.instance.0 ≡ slice_index_or (map (λ (v : Parked). v.instance) (listed es)) i 0
-instance_listed [] i w at = absurd (cc)
-instance_listed (e ∷ es) zero w at =
-    let is : e.1 ≡ w = cc in
-    ap (λ (v : Waiter). v.instance.0) (sym is)
-instance_listed (e ∷ es) (suc i) w at = instance_listed es i w at

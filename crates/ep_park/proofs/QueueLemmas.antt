@@ -1,21 +1,18 @@
 -- The turns, tickets and places of a queue as it changes.
-use Rattle.std.proofs.Common.{◌≡◌, ℕ, zero, suc, length, slice_get, slice_index_or, Bool, true, false, cond, ◌==◌, ◌≤◌, ◌<◌, List, [], ◌∷◌, ◌++◌, map, Option, Some, None, IsSome, MatchOption, is_some, refl, sym, ap, subst, ◌∙◌, inl, inr, nat_eq, eqb, arith}
+use Rattle.std.proofs.Common.{◌≡◌, ℕ, zero, suc, length, Bool, true, false, cond, ◌==◌, ◌≤◌, ◌<◌, List, [], ◌∷◌, ◌++◌, map, Option, Some, None, IsSome, MatchOption, is_some, refl, sym, ap, subst, ◌∙◌, inl, inr, nat_eq, eqb, arith}
 use Rattle.std.proofs.lemmas.Bool.{eq-eqb}
 use Rattle.std.proofs.lemmas.Bool.Decides.{eqb_tells}
 use Rattle.std.proofs.lemmas.Cmp.{ranked}
 use Rattle.std.proofs.lemmas.List.{map-append}
 use Rattle.std.proofs.lemmas.Map.Keys.{sorted_head, sorted_tail}
 use Rattle.std.specs.BTreeMap.{insert_entry, is_at}
-use Rattle.std.specs.Iterator.{SkipsThenYields, Yields}
 use Rattle.std.specs.List.{AllByRecursion, IsDistinct}
 use Rattle.std.specs.List.Sorted.{IsStrictlySortedBy}
 use Rattle.std.specs.Map.{keys_of, lookup, remove_entry, set_value}
-use Rattle.std.specs.Map.Iter.{TakesFirst}
 use Rattle.std.specs.Option.{option_map}
 use Rattle.std.specs.Ordering.{is_eq, nat_cmp}
 use Rattle.std.specs.declared.cmp.Ordering.TheVariants.{Less}
 use Rattle.ep_base.specs.declared.ids.CallerId.{CallerId}
-use Rattle.ep_machine.specs.State.{Waiter as Parked}
 use Rattle.ep_park.proofs.PlaceLemmas.{cmp_below, key_test, other_place, own_place}
 use Rattle.ep_park.proofs.ViewLemmas.{either, swapped}
 use Rattle.ep_park.specs.Queue.{HasNoPlace, HavePlaces, HaveTickets, IsFirstPlace, IsQueue, IsTurnOf, caller_at, caller_under, in_turn, marked_in, place_at, place_cmp}
@@ -529,18 +526,3 @@ first_of_places ts ks ps last e (Some c) h first =
     sym (first_listed ts e first.ticket at.turn h.numbered.rise at.found at.here
     (λ k q found here. first.least k (within_found last k ts q h.numbered.within found) (ap is_some (h.placed.at e k ∙ (ap (caller_at e) found ∙ some_at e q here))))
     ∙ ap (λ (d : CallerId). Some d.0) at.own)
-
--- The turn at an index of the list.
-walked : {A : Type 0} (shows : A → ℕ × Turn) (xs : List A) (s t u : List (ℕ × Turn)) (x : A) → Yields (TakesFirst shows) s xs t → TakesFirst shows t (Some x) u → slice_get s (length xs) ≡ Some (shows x)
-walked shows [] s t u x same step = ap (λ (l : List (ℕ × Turn)). slice_get l 0) (same ∙ step)
-walked shows (y ∷ xs) s t u x ran step = ap (λ (l : List (ℕ × Turn)). slice_get l (length (y ∷ xs))) ran.1 ∙ walked shows xs ran.0 t u x ran.2 step
-
-pub skipped_to : {A : Type 0} (shows : A → ℕ × Turn) (s u : List (ℕ × Turn)) (n : ℕ) (x : A) → SkipsThenYields (TakesFirst shows) s n (Some x) u → slice_get s n ≡ Some (shows x)
-skipped_to shows s u n x ran = ap (slice_get s) (sym ran.2) ∙ walked shows ran.0 s ran.1.0 u x ran.1.1 ran.1.2
-
-pub instance_listed : (ts : List (ℕ × Turn)) (i : ℕ) (e : ℕ × Turn) → slice_get ts i ≡ Some e → e.1.waiter.instance.0 ≡ slice_index_or (map (λ (v : Parked). v.instance) (listed (in_turn ts))) i 0
-instance_listed [] i e at = absurd (cc)
-instance_listed (x ∷ ts) zero e at =
-    let is : x ≡ e = cc in
-    ap (λ (y : ℕ × Turn). y.1.waiter.instance.0) (sym is)
-instance_listed (x ∷ ts) (suc i) e at = instance_listed ts i e at

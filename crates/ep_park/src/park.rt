@@ -3,7 +3,7 @@
 //! Waiters stand in a queue by caller, in order of parking, and each instance that has waiters has a tally: who waits
 //! longest there, and how many are marked. So what is asked of one caller or of one instance looks at no other
 //! waiter.
-ghost use Rattle.std.specs.Prelude.{◌≡◌, ◌++◌, ◌∷◌, ◌<◌, ℕ, [], MatchOption, OnErr, OnOk, false, length, map, nat_eq, slice_index_or, true};
+ghost use Rattle.std.specs.Prelude.{◌≡◌, ◌++◌, ◌∷◌, ◌<◌, ℕ, [], MatchOption, OnErr, OnOk, false, length, map, nat_eq, true};
 ghost use Rattle.std.specs.List.{IsDistinct, find, list_any};
 ghost use Rattle.std.specs.Option.{option_map};
 ghost use Rattle.ep_machine.specs.Waits.{is_due, is_marked_at, marked_if_due, unmark, waits_at};
@@ -173,15 +173,6 @@ impl<A: Allocator> Park<A> {
         ensures { result ≡ length self.now }
     {
         self.queue.len()
-    }
-
-    /// The instance that a caller waits at, by its place in the order of parking. The cost grows with the callers
-    /// that are parked.
-    pub fn instance_at(&self, index: usize) -> DescId
-        requires { index < length self.now }
-        ensures { result.0 ≡ slice_index_or (map (λ w. w.instance) self.now) index 0 }
-    {
-        self.queue.instance_at(index)
     }
 
     /// A caller's waiter, or `None` where it isn't parked. The cost grows as the logarithm of the callers that are

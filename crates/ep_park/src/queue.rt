@@ -4,7 +4,7 @@ ghost use Rattle.std.specs.Map.{keys_of, lookup, remove_entry, set_value};
 ghost use Rattle.std.specs.Option.{option_map};
 ghost use Rattle.std.specs.Ordering.{nat_cmp};
 ghost use Rattle.std.specs.List.Sorted.{IsStrictlySortedBy};
-ghost use Rattle.std.specs.Prelude.{◌≡◌, ◌++◌, ◌∷◌, ◌<◌, ◌^◌, [], IsSome, None, OnErr, OnOk, Some, length, map, nat_eq, slice_index_or};
+ghost use Rattle.std.specs.Prelude.{◌≡◌, ◌++◌, ◌∷◌, ◌<◌, ◌^◌, [], IsSome, None, OnErr, OnOk, Some, length, map, nat_eq};
 ghost use Rattle.ep_park.specs.Queue.{in_turn, marked_in};
 ghost use Rattle.ep_park.specs.Tallies.{first_at};
 ghost use Rattle.ep_park.specs.Waiters.{listed};
@@ -138,15 +138,6 @@ impl<A: Allocator> Queue<A> {
         ensures unique { IsDistinct nat_eq (keys_of self.now) }
     {
         self.turns.len()
-    }
-
-    /// The instance that a caller waits at, by its place in the order of parking. The cost grows with the callers.
-    pub fn instance_at(&self, index: usize) -> DescId
-        requires { index < length self.now }
-        ensures { result.0 ≡ slice_index_or (map (λ w. w.instance) (listed self.now)) index 0 }
-    {
-        let (_, turn) = self.turns.iter().nth(index).unwrap();
-        turn.waiter.instance
     }
 
     /// The marked caller that waits longest. The cost grows with the callers.

@@ -111,10 +111,10 @@ fn drop_deleted(interest: &Interest, deleted: Option<(EntryId, Entry)>, dates: &
     dates.end(id, &entry);
 }
 
-/// epoll_ctl(2), as `Parts::epoll_ctl`, with the dates: a registration that is added gets a place, and one that is
-/// deleted loses its date. Of the instance that it watches only the dates are asked whether it is ready. What it names
-/// is noted as altered. A refusal leaves the parts, and so does an `Err`, with no date changed. That is want of
-/// memory, and comes only of an ADD that nothing refuses.
+/// epoll_ctl(2), as `Parts::plan` and `Parts::control` do it, with the dates: a registration that is added gets a
+/// place, and one that is deleted loses its date. Of the instance that it watches only the dates are asked whether it is
+/// ready. What it names is noted as altered. A refusal leaves the parts, and so does an `Err`, with no date changed.
+/// That is want of memory, and comes only of an ADD that nothing refuses.
 pub fn epoll_ctl(
     parts: &mut Parts,
     dating: &mut Dating,
