@@ -1,5 +1,5 @@
 -- A wait that isn't refused, as the machine makes it.
-use Rattle.std.proofs.Common.{get_or, slice_index_or, ◌≡◌, ◌&&◌, ◌++◌, ◌<◌, ◌==◌, ◌⊎◌, ℕ, ℤ, Bool, false, true, List, [], ◌∷◌, Option, None, Some, IsSome, All, arith, cond, filter, if◌then◌else◌, inl, inr, length, map, negsuc, not, pos, suc, zero, unwrap_or, refl, ap, sym, ◌∙◌, subst}
+use Rattle.std.proofs.Common.{get_or, slice_index_or, ◌≡◌, ◌&&◌, ◌++◌, ◌<◌, ◌==◌, ◌⊎◌, ℕ, ℤ, Bool, false, true, List, [], ◌∷◌, Option, None, Some, IsSome, Result, Ok, Err, IfOk, OnErr, All, arith, cond, filter, if◌then◌else◌, inl, inr, length, map, negsuc, not, pos, suc, zero, unwrap_or, refl, ap, sym, ◌∙◌, subst}
 use Rattle.std.proofs.lemmas.Bool.{false≢true}
 use Rattle.std.proofs.lemmas.Bool.Decides.{nat_tests}
 use Rattle.std.proofs.lemmas.List.{map-append}
@@ -99,6 +99,17 @@ coherent_reported p r n chosen answer picked h is = record {
   held = h.held;
   clock = h.clock;
 }
+
+-- the same whether or not there was memory for the report
+pub stays_reported : {E : Type 0} (p : Parts) (r : Registrations) (n : ℕ) (chosen : List Reportable) (made : Result Outcome E) → AreCoherent p
+    → IfOk made (λ o. Reports p.interest r n chosen o.answer o.picked) → OnErr made (r ≡ p.interest) → AreCoherent (record p { interest = r })
+stays_reported p r n chosen (Ok o) h is left = coherent_reported p r n chosen o.answer o.picked h is
+stays_reported p r n chosen (Err e) h is left = subst (λ (x : Registrations). AreCoherent (record p { interest = x })) (sym left) h
+
+-- two facts of what a call made
+pub both_ok : {X E : Type 0} (made : Result X E) (P Q : X → Type 0) → IfOk made P → IfOk made Q → IfOk made (λ x. P x × Q x)
+both_ok (Ok x) P Q p q = (p, q)
+both_ok (Err e) P Q p q = tt
 
 -- what parks or leaves a waiter keeps files and keys
 pub coherent_parked : (p : Parts) (v : Seen) (us : List Waiter) → AreCoherent p → v.files ≡ p.tables.files → v.keys ≡ p.tables.keys → ArePlaced p.tables us → AreHeld v us → AreCoherent (record p { tables = v; parked = us })

@@ -8,7 +8,7 @@ use crate::{Outcome, Parts};
 use ep_base::{Answer, Errno, LAST_MOMENT};
 
 impl Parts {
-    /// The clock goes on by `n` milliseconds. EINVAL, and it stays, where that takes it past its last moment.
+    /// The clock goes on by `n` milliseconds. EINVAL, and it stays, if that takes it past its last moment.
     pub fn tick(&mut self, n: u64) -> Outcome
         ensures ticks { Ticks self.old.clock n self.new.clock result.answer }
         ensures picked { result.picked ≡ [] }

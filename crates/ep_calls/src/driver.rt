@@ -26,7 +26,7 @@ impl Parts {
         Some(moment)
     }
 
-    /// Of the marked callers the one that was parked first; `None` where none is marked. It looks at waiters up to
+    /// Of the marked callers the one that was parked first; `None` if none is marked. It looks at waiters up to
     /// that one.
     pub fn first_marked(&self) -> Option<CallerId>
         ensures { (s : State) → StandFor self.now s

@@ -37,7 +37,7 @@ pub trait Kernel {
     /// ENOMEM is want of memory: nothing changes, and there is no record. Room for records is never given back.
     ///
     /// While there is room for a record, these events are not answered ENOMEM: a tick, close, exec, exit, DEL and MOD
-    /// of epoll_ctl, write, shutdown, timerfd_settime, timerfd_gettime, and a read of at most 16 bytes, or where no
+    /// of epoll_ctl, write, shutdown, timerfd_settime, timerfd_gettime, and a read of at most 16 bytes, or if no
     /// more wait. Once `reserve(n)` has answered Ok, there is room until there are n further records. What else these
     /// events need was taken by what made, added or parked. All others may be answered ENOMEM: creations, dup, dup2,
     /// fork, ADD, longer reads, waits and resumptions.
@@ -66,7 +66,7 @@ pub trait Kernel {
             kept.new.items };
 
     /// Makes room for this many further records, so that `step` is not answered ENOMEM for the events that it names
-    /// until there are that many more; or fails where memory is refused. State and history stay in both cases.
+    /// until there are that many more; or fails if memory is refused. State and history stay in both cases.
     fn reserve(&mut self, additional: usize) -> Result<(), AllocError>
         ensures room { OnOk result (length (past self.new) + additional ≤ capacity self.new) }
         ensures capacity { capacity self.old ≤ capacity self.new }
@@ -91,17 +91,17 @@ pub trait Kernel {
     fn is_parked(&self, caller: CallerId) -> bool
         ensures { result ≡ is_parked (state self.now) caller.0 };
 
-    /// Whether a caller is parked and marked: its next resumption looks at its instance, and ends the wait where
+    /// Whether a caller is parked and marked: its next resumption looks at its instance, and ends the wait if
     /// something is reportable or its deadline has come. At each ready instance that has waiters one is marked.
     fn is_marked(&self, caller: CallerId) -> bool
         ensures { result ≡ is_marked (state self.now) caller.0 };
 
-    /// Of the marked callers the one that was parked first; `None` exactly where nobody is marked.
+    /// Of the marked callers the one that was parked first; `None` exactly if nobody is marked.
     fn first_marked(&self) -> Option<CallerId>
         ensures { option_map (λ c. c.0) result ≡ first_marked (state self.now) };
 
     /// The first moment after now to which a tick raises a bit or marks a caller; a shorter tick does neither. `None`
-    /// exactly where no tick does: then nothing ends a wait but a call, or the resumption of whoever is marked.
+    /// exactly if no tick does: then nothing ends a wait but a call, or the resumption of whoever is marked.
     fn next_moment(&self) -> Option<u64>
         ensures { TellsNext (state self.now) result };
 }

@@ -21,7 +21,7 @@ pub struct Outcome {
     pub recorded: Answer,
     /// The numbers of the registrations that the answer reports, in its order.
     pub picked: Picked,
-    /// Both once more, for a second record, where one was asked for and they take memory to copy.
+    /// Both once more, for a second record, if one was asked for and they take memory to copy.
     pub spare: Option<Spare>,
     /// What the event raised, at which descriptions.
     pub raising: Raising,
@@ -112,7 +112,7 @@ impl Outcome {
         }
     }
 
-    /// The answer, what a second record of the event is made of where one is asked for, and the event's record.
+    /// The answer, what a second record of the event is made of if one is asked for, and the event's record.
     #[inline(always)]
     pub fn into_record(
         self,

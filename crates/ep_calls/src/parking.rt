@@ -5,7 +5,7 @@ ghost use Rattle.ep_base.specs.declared.call.Event.TheVariants.{Resume};
 ghost use Rattle.ep_machine.specs.Lists.{is_among};
 ghost use Rattle.ep_park.specs.Waiters.{is_caller, parked, without};
 ghost use Rattle.ep_calls.specs.Clock.{ClockStays};
-ghost use Rattle.ep_calls.specs.Does.{DoesEvent, DoesResume};
+ghost use Rattle.ep_calls.specs.Does.{DoesResume};
 ghost use Rattle.ep_calls.specs.Kept.{IsKept};
 ghost use Rattle.ep_calls.specs.Last.{NothingRefuses};
 ghost use Rattle.ep_calls.specs.Stands.{AreHeld, ArePlaced};
@@ -16,7 +16,7 @@ use crate::raising::Raising;
 use crate::report::report;
 use crate::wait::Reportable;
 use crate::{Outcome, Parts};
-use ep_base::{Answer, CallerId, Errno};
+use ep_base::{Answer, CallerId};
 use ep_park::{Park, Waiter, is_due};
 use ep_table::Tables;
 use std::alloc::AllocError;
@@ -68,7 +68,7 @@ fn leave(tables: &mut Tables, waiters: &mut Park, caller: CallerId)
 }
 
 impl Parts {
-    /// A parked caller that is marked gets the reports of those that it picks, and is no longer parked. Where there are
+    /// A parked caller that is marked gets the reports of those that it picks, and is no longer parked. If there are
     /// none, it gets none at its deadline, and before that loses its mark and stays parked. `kept`: a second record of
     /// it is asked for.
     /// An `Err` is want of memory and leaves the parts. Nothing refuses the event then, since the caller is parked.

@@ -45,7 +45,7 @@ pub fn other_end(end: End) -> End
     }
 }
 
-/// Raises bits at a description. Where there are none no registration is looked at.
+/// Raises bits at a description. If there are none no registration is looked at.
 #[inline(always)]
 pub fn raise_at(interest: &mut Interest, desc: DescId, bits: Mask, step: u64)
     ensures entries { interest.new.entries ≡ map (raised_on desc bits step) interest.old.entries }
@@ -57,7 +57,7 @@ pub fn raise_at(interest: &mut Interest, desc: DescId, bits: Mask, step: u64)
     }
 }
 
-/// Raises bits at a description, where there is one.
+/// Raises bits at a description, if there is one.
 pub fn raise_there(interest: &mut Interest, desc: Option<DescId>, bits: Mask, step: u64)
     ensures entries { interest.new.entries
         ≡ map (raised_there desc bits step) interest.old.entries }

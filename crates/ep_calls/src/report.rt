@@ -54,7 +54,7 @@ fn note(interest: &mut Interest, step: u64, chosen: &[Reportable])
     }
 }
 
-/// Copies for a second record, where one is asked for.
+/// Copies for a second record, if one is asked for.
 fn spare_of(reports: &ReportList, picked: &Picked, kept: bool) -> Result<Option<Spare>, AllocError>
     ensures { IfOk result
         (λ spare. MatchOption spare (kept ≡ false)
@@ -66,21 +66,6 @@ fn spare_of(reports: &ReportList, picked: &Picked, kept: bool) -> Result<Option<
     let answer = Answer::Events(reports.copy()?);
     let picked = picked.copy()?;
     Ok(Some(Spare { answer, picked }))
-}
-
-/// The answer that reports them.
-fn reported(alloc: Global, chosen: &[Reportable], kept: bool) -> Result<Outcome, AllocError>
-    ensures answer { IfOk result (λ outcome. outcome.answer ≡ Events (map report_of chosen.now)) }
-    ensures picked { IfOk result (λ outcome. outcome.picked ≡ numbers_of chosen.now) }
-    ensures kept { IfOk result (λ outcome. IsKept kept outcome) }
-    ensures raising { IfOk result (λ outcome. outcome.raising ≡ Nowhere) }
-{
-    let reports = reports_of(alloc, chosen)?;
-    let recorded = Answer::Events(reports.copy()?);
-    let picked = picked_of(alloc, chosen)?;
-    let spare = spare_of(&reports, &picked, kept)?;
-    let answer = Answer::Events(reports);
-    Ok(Outcome::reported(answer, recorded, picked, spare))
 }
 
 /// Reports them, and notes that it did. `kept`: a second record of it is asked for.
@@ -102,7 +87,11 @@ pub fn report(
     ensures raising { IfOk result (λ outcome. outcome.raising ≡ Nowhere) }
     ensures err { OnErr result (interest.new ≡ interest.old) }
 {
-    let outcome = reported(alloc, chosen, kept)?;
+    let reports = reports_of(alloc, chosen)?;
+    let recorded = Answer::Events(reports.copy()?);
+    let picked = picked_of(alloc, chosen)?;
+    let spare = spare_of(&reports, &picked, kept)?;
     note(interest, step, chosen);
-    Ok(outcome)
+    let answer = Answer::Events(reports);
+    Ok(Outcome::reported(answer, recorded, picked, spare))
 }

@@ -14,7 +14,7 @@ pub struct Spare {
 }
 
 impl Spare {
-    /// The copies of an answer and of the numbers that it reports, where they are asked for: those that were made, or
+    /// The copies of an answer and of the numbers that it reports, if they are asked for: those that were made, or
     /// else new ones, which take no memory.
     pub fn of(kept: bool, made: Option<Spare>, answer: &Answer, picked: &Picked) -> Option<Spare>
         requires inline { kept ≡ true → made ≡ None → IsInline answer.now picked.now }

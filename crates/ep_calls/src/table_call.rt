@@ -51,7 +51,7 @@ fn create_timer(
     tables.create(pid, cloexec, Object::timer(alloc))
 }
 
-/// execve(2): closes the descriptors with close-on-exec, or EBUSY where a caller of the process is parked.
+/// execve(2): closes the descriptors with close-on-exec, or EBUSY if a caller of the process is parked.
 fn exec(tables: &mut Tables, waiters: &Park, pid: Pid) -> Answer
     requires { IsSome (table_of tables.old.files pid.0) }
     ensures { Does (exec_of tables.old.files pid.0 (list_any (is_of pid.0) waiters.now)) result
@@ -64,7 +64,7 @@ fn exec(tables: &mut Tables, waiters: &Park, pid: Pid) -> Answer
     Answer::Done
 }
 
-/// _exit(2): closes all descriptors and ends the process, or EBUSY where a caller of it is parked.
+/// _exit(2): closes all descriptors and ends the process, or EBUSY if a caller of it is parked.
 fn exit(tables: &mut Tables, waiters: &Park, pid: Pid) -> Answer
     requires { IsSome (table_of tables.old.files pid.0) }
     ensures { Does (exit_of tables.old.files pid.0 (list_any (is_of pid.0) waiters.now)) result

@@ -5,7 +5,7 @@ ghost use Rattle.ep_machine.specs.Effect.{first};
 ghost use Rattle.ep_machine.specs.Timer.{last_moment};
 ghost use Rattle.ep_park.specs.Waiters.{is_caller};
 ghost use Rattle.ep_calls.specs.Clock.{ClockStays};
-ghost use Rattle.ep_calls.specs.Does.{DoesCall, DoesWait};
+ghost use Rattle.ep_calls.specs.Does.{DoesWait};
 ghost use Rattle.ep_calls.specs.Kept.{IsKept};
 ghost use Rattle.ep_calls.specs.Last.{NothingRefusesCall};
 ghost use Rattle.ep_calls.specs.Wait.{AreKeyed, Waits, deadline_of, numbers_of, wait_call, wait_tests, with_report};
@@ -75,9 +75,9 @@ fn deadline(now: u64, timeout: i64) -> Option<u64>
 }
 
 impl Parts {
-    /// A wait at an instance, with those of its registrations that it picks: it reports them. Where there are none, it
+    /// A wait at an instance, with those of its registrations that it picks: it reports them. If there are none, it
     /// makes no report with a timeout of 0, and else the caller is parked until it is marked, `timeout` milliseconds at
-    /// most, and without end where that is negative.
+    /// most, and without end if that is negative.
     /// An `Err` is want of memory and leaves the parts. Nothing refuses the call then, since the instance was found.
     #[inline(always)]
     pub fn wait_with(
@@ -108,17 +108,17 @@ impl Parts {
     {
         self.tables.known();
         if !chosen.is_empty() || args.timeout == 0 {
-            let outcome = report(self.alloc, &mut self.interest, step, chosen, args.kept)?;
-            return Ok(outcome);
+            report(self.alloc, &mut self.interest, step, chosen, args.kept)
+        } else {
+            let waiter = Waiter {
+                process: args.pid,
+                instance,
+                max: args.max,
+                deadline: deadline(self.clock, args.timeout),
+                marked: false,
+            };
+            park(&mut self.tables, &mut self.waiters, caller, waiter)?;
+            Ok(Outcome::settled(self.alloc, Answer::Parked, Raising::Nowhere))
         }
-        let waiter = Waiter {
-            process: args.pid,
-            instance,
-            max: args.max,
-            deadline: deadline(self.clock, args.timeout),
-            marked: false,
-        };
-        park(&mut self.tables, &mut self.waiters, caller, waiter)?;
-        Ok(Outcome::settled(self.alloc, Answer::Parked, Raising::Nowhere))
     }
 }

@@ -18,10 +18,10 @@ use ep_base::{Answer, Errno};
 use ep_calls::{Outcome, Parts, Raising, Wait, find_instance};
 use std::alloc::AllocError;
 
-/// epoll_wait(2): at most `max` reports of what is reportable at an instance now, the longest unreported first. Where
+/// epoll_wait(2): at most `max` reports of what is reportable at an instance now, the longest unreported first. If
 /// nothing is, no report with a timeout of 0, and else the caller is parked until it is marked, `timeout`
-/// milliseconds at most, and without end where that is negative. Refused with EINVAL for a `max` below 1 or no
-/// instance, and with EBADF where `epfd` names nothing. A refusal and an `Err`, which is want of memory, leave the
+/// milliseconds at most, and without end if that is negative. Refused with EINVAL for a `max` below 1 or no
+/// instance, and with EBADF if `epfd` names nothing. A refusal and an `Err`, which is want of memory, leave the
 /// parts. An `Err` comes only if nothing refuses the call.
 pub fn epoll_wait(
     parts: &mut Parts,
@@ -49,12 +49,11 @@ pub fn epoll_wait(
     };
     parts.tables.known();
     let chosen = choose(parts, &dating.dates, instance, args.max)?;
-    let outcome = parts.wait_with(stamp.step, stamp.caller, args, instance, &chosen)?;
-    Ok(outcome)
+    parts.wait_with(stamp.step, stamp.caller, args, instance, &chosen)
 }
 
-/// A parked caller asks whether it may go on: EINVAL where it is not parked, `Still` where it isn't marked. A marked
-/// one gets at most as many reports as it asked for and is no longer parked; where nothing is reportable, it gets
+/// A parked caller asks whether it may go on: EINVAL if it is not parked, `Still` if it isn't marked. A marked
+/// one gets at most as many reports as it asked for and is no longer parked; if nothing is reportable, it gets
 /// none at its deadline, and before that loses its mark and stays parked. `kept`: a second record of it is asked for.
 /// A refusal and an `Err`, which is want of memory, leave the parts. An `Err` comes only of a caller that is parked.
 pub fn resume(
@@ -83,6 +82,5 @@ pub fn resume(
     }
     parts.tables.known();
     let chosen = choose(parts, &dating.dates, waiter.instance, waiter.max)?;
-    let outcome = parts.resume_with(stamp.step, stamp.caller, waiter, &chosen, kept)?;
-    Ok(outcome)
+    parts.resume_with(stamp.step, stamp.caller, waiter, &chosen, kept)
 }

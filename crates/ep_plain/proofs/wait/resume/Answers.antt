@@ -1,6 +1,7 @@
 use Rattle.ep_alarms.proofs.ChangesLemmas.{nowhere_leaves}
 use Rattle.std.proofs.Common.{◌≡◌, ◌∙◌, ℕ, ℤ, true, List, SFits, ap, map, refl, rules, subst, sym, w32}
 use Rattle.std.proofs.lemmas.Int.{to_z-of_z}
+use Rattle.std.proofs.lemmas.Result.{IfOk-weaker}
 use Rattle.ep_base.specs.declared.answer.Answer.TheVariants.{Refused, Still}
 use Rattle.ep_base.specs.declared.call.Event.TheVariants.{Resume}
 use Rattle.ep_base.specs.declared.errno.Errno.TheVariants.{Einval}
@@ -15,6 +16,7 @@ use Rattle.ep_calls.specs.Parts.{Parts}
 use Rattle.ep_calls.specs.Stands.{IsPlaced}
 use Rattle.ep_calls.specs.Wait.{AreKeyed, IsPick, with_report}
 use Rattle.ep_plain.specs.Choose.{IsChosen}
+use Rattle.ep_calls.specs.declared.outcome.Outcome.{Outcome}
 use Rattle.ep_calls.specs.declared.wait.Reportable.{Reportable}
 use Rattle.ep_calls.proofs.ActLemmas.{does_all}
 use Rattle.ep_nest.proofs.AdjacentLemmas.{on_err}
@@ -79,8 +81,10 @@ returns-clause-ok c =
     (subst (λ (z : ℤ). IsChosen q.tables q.clock q.interest w.instance (number_in z) c.in_ok-chosen.chosen.items) (to_z-of_z w32 w.max fits) c.in_ok-chosen.ensures)) in
     let pick : MovesBy c.args.stamp.step p (IsPick p.tables w.instance (number_in w.max) chosen) = λ s at sound quiet legal stands.
     chosen_is_pick k.tables k.clock k.interest s w.instance (number_in w.max) chosen sound stands c.parts.invariant.linked c.known.ensures placed.instance chooses in
-    does_all (IsPick q.tables w.instance (number_in w.max) chosen) c.args.stamp.step (λ s. refusals q.tables.limits s caller Resume) (λ s picked. change q.tables.limits s caller Resume picked) c.in_ok-outcome.outcome q c.resume_with.new.self
-    c.in_ok-outcome.ensures.ok (subst (λ (r : Parts). MovesBy c.args.stamp.step r (IsPick r.tables w.instance (number_in w.max) chosen)) c.parts.view_is pick)
+    IfOk-weaker c.resume_with.result _ _ (λ (o : Outcome) done.
+    does_all (IsPick q.tables w.instance (number_in w.max) chosen) c.args.stamp.step (λ s. refusals q.tables.limits s caller Resume) (λ s picked. change q.tables.limits s caller Resume picked) o q c.resume_with.new.self
+    done (subst (λ (r : Parts). MovesBy c.args.stamp.step r (IsPick r.tables w.instance (number_in w.max) chosen)) c.parts.view_is pick))
+    c.resume_with.ensures.ok
 
 pub returns-in_err-chosen-clause-last : goal.returns-in_err-chosen-clause-last
 returns-in_err-chosen-clause-last c =
@@ -95,7 +99,7 @@ pub returns-then-not-waiter-clause-leaves : goal.returns-then-not-waiter-clause-
 returns-then-not-waiter-clause-leaves c = nowhere_leaves c.settled.result.raising c.args.parts.now c.settled.ensures.raising
 
 pub returns-clause-leaves : goal.returns-clause-leaves
-returns-clause-leaves c = record { files = c.resume_with.ensures.files; clock = c.in_ok-outcome.ensures.clock }
+returns-clause-leaves c = IfOk-weaker c.resume_with.result _ _ (λ (o : Outcome) clock. record { files = c.resume_with.ensures.files; clock = clock }) c.resume_with.ensures.clock
 
 pub returns-in_default-clause-entries : goal.returns-in_default-clause-entries
 returns-in_default-clause-entries c =
