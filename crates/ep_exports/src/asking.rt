@@ -54,7 +54,7 @@ pub extern "C" fn ep_is_marked(alloc: Global, handle: &mut Handle, caller: u32) 
     }
 }
 
-/// Of the marked callers the one that was parked first: 1 and its number, or 0 where nobody is marked, or -EBADF.
+/// Of the marked callers the one that was parked first: 1 and its number, or 0 if nobody is marked, or -EBADF.
 #[unsafe(no_mangle)]
 pub extern "C" fn ep_first_marked(alloc: Global, handle: &mut Handle, caller: &mut u32) -> i32
     ensures { AskedFirst handle.old.state.kernel handle.new.state.kernel caller.old caller.new
@@ -76,7 +76,7 @@ pub extern "C" fn ep_first_marked(alloc: Global, handle: &mut Handle, caller: &m
     }
 }
 
-/// The first moment after now to which a tick raises a bit or marks a caller: 1 and the moment, or 0 where no tick
+/// The first moment after now to which a tick raises a bit or marks a caller: 1 and the moment, or 0 if no tick
 /// does, or -EBADF.
 #[unsafe(no_mangle)]
 pub extern "C" fn ep_next_moment(alloc: Global, handle: &mut Handle, moment: &mut u64) -> i32

@@ -13,8 +13,8 @@ use std::alloc::Global;
 /// an answer, too. The bytes of a read go to the beginning of `bytes` and reports to that of `reports`;
 /// `reply.result` tells how many.
 ///
-/// With nothing changed: -EBADF, -EMSGSIZE where `bytes` is shorter than what a read asks for or `reports` than the
-/// most reports of a wait, -ENOSYS where the number of the event is none, -ENOMEM where there is no memory for the
+/// With nothing changed: -EBADF, -EMSGSIZE if `bytes` is shorter than what a read asks for or `reports` than the
+/// most reports of a wait, -ENOSYS if the number of the event is none, -ENOMEM if there is no memory for the
 /// bytes of a write.
 ///
 /// A resumption has at most as many reports as its wait asked for, and what doesn't fit is cut: `ep_recorded` has all

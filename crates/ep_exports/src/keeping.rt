@@ -10,8 +10,8 @@ use ep_handle::{Handle, free_kernel, new_kernel};
 use std::alloc::Global;
 
 /// Puts a kernel in its opening state into an empty handle: process 1, whose descriptors 0, 1 and 2 name one plain
-/// file, the clock at 0, and no history. 0, or with nothing changed -EBUSY where the handle has a kernel, -EINVAL
-/// where a limit is out of its range, -ENOMEM.
+/// file, the clock at 0, and no history. 0, or with nothing changed -EBUSY if the handle has a kernel, -EINVAL
+/// if a limit is out of its range, -ENOMEM.
 #[unsafe(no_mangle)]
 pub extern "C" fn ep_open(alloc: Global, limits: &FlatLimits, handle: &mut Handle) -> i32
     ensures { Opened handle.old.state.kernel limits.now handle.new.state.kernel result }

@@ -29,7 +29,7 @@ pub extern "C" fn ep_records(alloc: Global, handle: &mut Handle, count: &mut usi
 }
 
 /// Lays out the answer of a record once more, counted from 0, as `ep_call` did, but at the present moment; what
-/// doesn't fit is cut. 0, or with nothing changed -EBADF, or -EINVAL where the history has no such record.
+/// doesn't fit is cut. 0, or with nothing changed -EBADF, or -EINVAL if the history has no such record.
 #[unsafe(no_mangle)]
 pub extern "C" fn ep_recorded(
     alloc: Global,
@@ -77,8 +77,8 @@ fn put_line(alloc: Global, entry: &Record, line: &mut [u8], size: &mut usize) ->
 }
 
 /// The line of a record, counted from 0, as `epaudit` reads it, without the byte 10 that ends it: 0, and it stands at
-/// the beginning of `line`, `size` bytes of it. -EMSGSIZE where `line` is too short: then `size` tells what it takes,
-/// and `line` stays. With nothing changed -EBADF, -EINVAL where the history has no such record, -ENOMEM.
+/// the beginning of `line`, `size` bytes of it. -EMSGSIZE if `line` is too short: then `size` tells what it takes,
+/// and `line` stays. With nothing changed -EBADF, -EINVAL if the history has no such record, -ENOMEM.
 #[unsafe(no_mangle)]
 pub extern "C" fn ep_line(
     alloc: Global,
@@ -103,8 +103,8 @@ pub extern "C" fn ep_line(
     }
 }
 
-/// Makes each record of the history again on a kernel that scans: 0 where the machine allows them all, or -EBADF, or
-/// -ENOMEM, or -EBADMSG where it doesn't, which the contract of the kernel rules out. The kernel stays.
+/// Makes each record of the history again on a kernel that scans: 0 if the machine allows them all, or -EBADF, or
+/// -ENOMEM, or -EBADMSG if it doesn't, which the contract of the kernel rules out. The kernel stays.
 #[unsafe(no_mangle)]
 pub extern "C" fn ep_check(alloc: Global, handle: &mut Handle) -> i32
     ensures { Checked handle.old.state.kernel handle.new.state.kernel result }

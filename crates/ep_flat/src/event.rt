@@ -22,7 +22,7 @@ fn buffer_of(alloc: Global, bytes: &[u8]) -> Result<Buffer, AllocError>
     Ok(Buffer::new(values))
 }
 
-/// The call that is asked for, or `None` exactly where the number is that of no call.
+/// The call that is asked for, or `None` exactly if the number is that of no call.
 fn call_of(alloc: Global, request: &FlatRequest, bytes: &[u8]) -> Result<Option<Call>, AllocError>
     ensures { IfOk result
         (λ asked. MatchOption asked ((request.now.event < 1) ⊎ (20 ≤ request.now.event))
@@ -85,7 +85,7 @@ fn call_of(alloc: Global, request: &FlatRequest, bytes: &[u8]) -> Result<Option<
     }))
 }
 
-/// The event that is asked for, a write with these bytes, or `None` exactly where the number is that of no event.
+/// The event that is asked for, a write with these bytes, or `None` exactly if the number is that of no event.
 /// `AllocError` is want of memory for the bytes.
 pub fn event_of(
     alloc: Global,

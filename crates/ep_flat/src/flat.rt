@@ -76,17 +76,17 @@ pub struct FlatRequest {
 #[repr(C)]
 #[derive(Clone, Copy, Debug)]
 pub struct FlatReply {
-    /// A descriptor, a process, how many bytes or reports there are, or 0 where a call is done and answers no number;
-    /// minus the error number where it is refused; -4096 where its caller is parked, or after a resumption is parked
+    /// A descriptor, a process, how many bytes or reports there are, or 0 if a call is done and answers no number;
+    /// minus the error number if it is refused; -4096 if its caller is parked, or after a resumption is parked
     /// still.
     pub result: i64,
     /// The lower one of two descriptors that a call made.
     pub first: i32,
     /// The other one.
     pub second: i32,
-    /// Of a timer the milliseconds until its next expiration, 0 where none comes.
+    /// Of a timer the milliseconds until its next expiration, 0 if none comes.
     pub value: u64,
-    /// Of a timer the milliseconds between two expirations, 0 where there is one alone.
+    /// Of a timer the milliseconds between two expirations, 0 if there is one alone.
     pub interval: u64,
     /// The simulated clock after the event, in milliseconds.
     pub now: u64,

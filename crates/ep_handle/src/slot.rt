@@ -9,7 +9,7 @@ use std::alloc::Global;
 use std::marker::Model;
 use std::ptr::null_mut;
 
-/// A pointer to a kernel that it owns, or to nothing. It isn't `Drop`: where it goes out of use its kernel is taken
+/// A pointer to a kernel that it owns, or to nothing. It isn't `Drop`: if it goes out of use its kernel is taken
 /// out, or it is shown to have none, so no kernel is left behind.
 #[repr(C)]
 pub struct Slot {
@@ -56,7 +56,7 @@ impl Slot {
         }
     }
 
-    /// Lets it go where it has no kernel.
+    /// Lets it go if it has no kernel.
     pub(crate) fn forget(self)
         requires { self.kernel ≡ None }
     {

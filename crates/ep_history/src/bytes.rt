@@ -10,7 +10,7 @@ use hex::FromHexError;
 use serde_json::Value;
 use std::alloc::{AllocError, Global};
 
-/// The bytes of a text, or `None` where the value is no text of two digits for each byte.
+/// The bytes of a text, or `None` if the value is no text of two digits for each byte.
 pub(crate) fn hex_bytes(alloc: Global, value: &Value) -> Result<Option<Vec<u8>>, AllocError>
     ensures { IfOk result (λ b. option_map (λ v. v.items) b ≡ hex_value (view value.now)) }
 {

@@ -42,7 +42,7 @@ impl<'a> Cursor<'a> {
         if self.take(text) { Some(()) } else { None }
     }
 
-    /// The number that comes next, or `None` where no digit does; any number if it is above 2^64.
+    /// The number that comes next, or `None` if no digit does; any number if it is above 2^64.
     pub(crate) fn natural(&mut self) -> Option<u64> {
         let mut number: u64 = 0;
         let mut rest = self.rest;
@@ -69,7 +69,7 @@ impl<'a> Cursor<'a> {
         u32::try_from(self.natural()?).ok()
     }
 
-    /// The number that comes next, perhaps with a minus, or `None` where no digit does; any number if it is none of 64
+    /// The number that comes next, perhaps with a minus, or `None` if no digit does; any number if it is none of 64
     /// bits.
     pub(crate) fn integer(&mut self) -> Option<i64> {
         if self.take(b"-") {

@@ -1,4 +1,4 @@
-//! Bytes from their digits, where these are written as `print_record` writes them.
+//! Bytes from their digits, if these are written as `print_record` writes them.
 
 use std::alloc::Global;
 use std::simd::prelude::*;
@@ -28,7 +28,7 @@ fn may_be_printed(digits: &[u8]) -> bool {
     }
 }
 
-/// The bytes of these digits. Where the printer doesn't write such digits, none is decoded.
+/// The bytes of these digits. If the printer doesn't write such digits, none is decoded.
 pub(crate) fn decoded(alloc: Global, digits: &[u8]) -> Option<Vec<u8>> {
     if !may_be_printed(digits) {
         return None;

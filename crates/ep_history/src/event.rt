@@ -48,7 +48,7 @@ fn other_event(key: &str, value: &Value) -> Option<Event>
     }
 }
 
-/// The event of an object, or `None` where it is no object of an event.
+/// The event of an object, or `None` if it is no object of an event.
 pub(crate) fn event_of(alloc: Global, value: &Value) -> Result<Option<Event>, AllocError>
     ensures { IfOk result (λ e. e ≡ event_of (view value.now)) }
 {

@@ -48,7 +48,7 @@ pub(crate) fn required_flag(value: &Value, key: &str) -> Option<bool>
     value.get(key)?.as_bool()
 }
 
-/// How many members an object has; 0 where it is none.
+/// How many members an object has; 0 if it is none.
 pub(crate) fn size(value: &Value) -> usize
     ensures { result ≡ size (view value.now) }
 {

@@ -8,7 +8,7 @@ use serde_json::Value;
 use smallvec::SmallVec;
 use std::alloc::{AllocError, Global};
 
-/// The numbers of a list, or `None` where it is no list of such numbers.
+/// The numbers of a list, or `None` if it is no list of such numbers.
 pub(crate) fn picks_of(alloc: Global, value: &Value) -> Result<Option<Picked>, AllocError>
     ensures { IfOk result (λ p. p ≡ each_of u64_value (view value.now)) }
 {

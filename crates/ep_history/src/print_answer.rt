@@ -53,7 +53,7 @@ fn push_report(out: &mut Vec<u8>, text: &[u8], report: Report) -> Result<(), All
     Ok(())
 }
 
-/// Puts a report, and a comma before it where it is a later one.
+/// Puts a report, and a comma before it if it is a later one.
 fn push_next(out: &mut Vec<u8>, is_later: bool, report: Report) -> Result<(), AllocError>
     ensures text { OnOk result (out.new.items
         ≡ out.old.items ++ (comma_if is_later ++ compact_text (report_data report))) }

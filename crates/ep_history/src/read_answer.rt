@@ -130,7 +130,7 @@ fn other_answer(key: &str, value: &Value) -> Option<Answer>
     }
 }
 
-/// The answer of an object, or `None` where it is no object of an answer.
+/// The answer of an object, or `None` if it is no object of an answer.
 pub(crate) fn answer_of(alloc: Global, value: &Value) -> Result<Option<Answer>, AllocError>
     ensures { IfOk result (λ a. a ≡ answer_of (view value.now)) }
 {

@@ -209,7 +209,7 @@ fn call_size(call: &Call) -> usize
     }
 }
 
-/// The call of an object, or `None` where it is no object of a call.
+/// The call of an object, or `None` if it is no object of a call.
 pub(crate) fn call_of(alloc: Global, value: &Value) -> Result<Option<Call>, AllocError>
     ensures { IfOk result (λ c. c ≡ call_of (view value.now)) }
 {

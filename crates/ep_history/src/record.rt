@@ -29,7 +29,7 @@ pub fn print_record(alloc: Global, entry: &Record) -> Result<Vec<u8>, AllocError
     Ok(line)
 }
 
-/// The answer and the picked registrations, where the object has four members.
+/// The answer and the picked registrations, if the object has four members.
 fn result_of(alloc: Global, value: &Value) -> Result<Option<(Answer, Picked)>, AllocError>
     ensures { IfOk result (λ r. r ≡ result_of (view value.now)) }
 {
@@ -75,7 +75,7 @@ pub(crate) fn record_of(alloc: Global, value: &Value) -> Result<Option<Record>, 
     }))
 }
 
-/// The record of a line, which comes without the byte that ends it, or `None` exactly where the line is no record.
+/// The record of a line, which comes without the byte that ends it, or `None` exactly if the line is no record.
 /// `AllocError` is want of memory.
 pub fn read_record(alloc: Global, line: &[u8]) -> Result<Option<Record>, AllocError>
     ensures { IfOk result (λ r. r ≡ line_record line.now) }

@@ -18,7 +18,7 @@ pub struct RecordReader {
     printed: Vec<u8>,
 }
 
-/// Whether the record is printed as this line. It is printed over what was in `printed`, where room for `room` bytes is
+/// Whether the record is printed as this line. It is printed over what was in `printed`, if room for `room` bytes is
 /// asked for first. Want of memory is `false`, too.
 fn prints(printed: &mut Vec<u8>, room: usize, entry: &Record, line: &[u8]) -> bool
     ensures { result ≡ true → line_record line.now ≡ Some entry.now }
@@ -52,7 +52,7 @@ impl RecordReader {
         self.read_any(alloc, line)
     }
 
-    /// The record that `print_record` prints as this line, where there is memory. `None` says nothing of the line: it
+    /// The record that `print_record` prints as this line, if there is memory. `None` says nothing of the line: it
     /// may be a record all the same, and then `read` has it. A line that is not printed takes little time, and no
     /// memory for bytes that it may have.
     ///

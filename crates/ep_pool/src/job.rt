@@ -13,7 +13,7 @@ use std::thread;
 
 /// Says when a thread may make its next step.
 pub trait Gate: Sync {
-    /// Whether a caller may make a step now, which is counted from 0, where these callers are parked. A thread asks
+    /// Whether a caller may make a step now, which is counted from 0, if these callers are parked. A thread asks
     /// again until it may, or until it has asked as often as `run_sessions` was told.
     fn may_go(&self, caller: CallerId, step: usize, parked: &[CallerId]) -> bool;
 }
@@ -48,7 +48,7 @@ pub struct Job<L: Ledger> {
     pub steps: Vec<Step>,
 }
 
-/// The session of a job that has run, and how many steps it had made where it stopped before its end.
+/// The session of a job that has run, and how many steps it had made if it stopped before its end.
 #[derive(Drop)]
 pub struct Ran<L: Ledger> {
     /// The session, with what it gained.
@@ -57,7 +57,7 @@ pub struct Ran<L: Ledger> {
     pub stopped: Option<usize>,
 }
 
-/// Asks until the gate lets a step go, at most so many times; it does not where there is no memory to ask with.
+/// Asks until the gate lets a step go, at most so many times; it does not if there is no memory to ask with.
 fn asked<K: Kernel + Drop, L: Ledger, G: Gate, R: Wait>(
     rt: &R,
     shared: &Shared<K, L>,

@@ -51,7 +51,7 @@ const GO: u64 = 1;
 /// They make no step.
 const STOP: u64 = 2;
 
-/// Waits until all threads are there, and runs the job; or makes no step where one is not.
+/// Waits until all threads are there, and runs the job; or makes no step if one is not.
 fn start_job<K: Kernel + Drop, L: Ledger, G: Gate, R: Wait>(
     rt: &R,
     signal: &AtomicU64,
@@ -72,7 +72,7 @@ fn start_job<K: Kernel + Drop, L: Ledger, G: Gate, R: Wait>(
     run_job(rt, shared, job, gate, turns)
 }
 
-/// Runs each job in a thread of its own. They begin once all have started; where one could not be, none does anything.
+/// Runs each job in a thread of its own. They begin once all have started; if one could not be, none does anything.
 fn run_all<K: Kernel + Drop + Send, L: Ledger + Send + Sync, G: Gate, R: Threads + Wait + Sync>(
     rt: &R,
     alloc: Global,
@@ -151,7 +151,7 @@ fn report<L: Ledger>(alloc: Global, ran: Vec<Ran<L>>) -> Result<PoolReport<L>, A
 }
 
 /// Runs each job in a thread of its own, and gives back its session. Before each step the thread asks the gate,
-/// yielding between, at most `turns` times; after that, at a step that is answered ENOMEM, or where there is no
+/// yielding between, at most `turns` times; after that, at a step that is answered ENOMEM, or if there is no
 /// memory to see who is parked, the job stops. After a fault sessions may be missing.
 pub fn run_sessions<
     K: Kernel + Drop + Send,

@@ -2,7 +2,7 @@
 
 use std::io::Write;
 
-/// Says how many of how many lines were no command, and this behind it, where there was one. A
+/// Says how many of how many lines were no command, and this behind it, if there was one. A
 /// write that fails changes nothing.
 pub(crate) fn tell_bad_lines<E: Write>(errors: &mut E, bad: u64, lines: u64, more: &str) {
     if bad == 0 {

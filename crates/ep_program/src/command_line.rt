@@ -53,7 +53,7 @@ const SCRIPT_HELP: &str =
 /// What the words of the command line ask for.
 #[derive(Clone, Copy, Debug)]
 pub struct Settings<'a> {
-    /// The text of `--limits`, where that is there.
+    /// The text of `--limits`, if that is there.
     pub limits: Option<&'a str>,
     /// Whether `--plain` is there.
     pub plain: bool,
@@ -61,9 +61,9 @@ pub struct Settings<'a> {
     pub explain: bool,
     /// Whether `--strict` is there.
     pub strict: bool,
-    /// The file of `--history`, where that is there.
+    /// The file of `--history`, if that is there.
     pub history: Option<&'a str>,
-    /// The script, where one is named; `-` stands for standard input.
+    /// The script, if one is named; `-` stands for standard input.
     pub script: Option<&'a str>,
 }
 

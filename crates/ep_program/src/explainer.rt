@@ -78,8 +78,8 @@ impl<R: Read + Drop, E: Write> Explainer<R, E> {
         }
     }
 
-    /// Explains the last line, where the script was run to its end and that line lacks its own.
-    /// Where it wasn't, it says how many of the lines that were answered were no command.
+    /// Explains the last line, if the script was run to its end and that line lacks its own.
+    /// If it wasn't, it says how many of the lines that were answered were no command.
     pub(crate) fn finish(&mut self, is_whole: bool) {
         if self.is_stopped {
             return;

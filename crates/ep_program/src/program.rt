@@ -69,7 +69,7 @@ fn fail<E: Write>(fault: &RecordedFault, errors: &mut E) -> u8
     FAILED
 }
 
-/// What the program answers where the words of the command line are not to be had: status 1 for
+/// What the program answers if the words of the command line are not to be had: status 1 for
 /// want of memory, else 2, since a word is no text.
 pub fn no_words<E: Write>(error: &io::Error, errors: &mut E) -> u8
     ensures memory { error_kind error.now ≡ IoKind.OutOfMemory → result ≡ 1 }
@@ -142,8 +142,8 @@ fn tell<W: Write, E: Write>(found: &clap::Error, output: &mut W, errors: &mut E)
     }
 }
 
-/// The limits of the text, and those of a kernel by default where there is none. `None` exactly
-/// where the text writes no limits.
+/// The limits of the text, and those of a kernel by default if there is none. `None` exactly
+/// if the text writes no limits.
 fn limits_of(text: Option<&str>) -> Option<Limits>
     ensures missing { IsNone text.entry → result ≡ Some default_limits }
     ensures read { IfSome text.entry (λ t. IfSome result (IsLimitsText t.now)) }
@@ -156,7 +156,7 @@ fn limits_of(text: Option<&str>) -> Option<Limits>
     }
 }
 
-/// Runs the script, and writes the history where there is a writer for it.
+/// Runs the script, and writes the history if there is a writer for it.
 fn run_on<K: Kernel, R: Read, W: Write + Drop, H: Write + Drop>(
     alloc: Global,
     kernel: &mut K,
@@ -193,7 +193,7 @@ fn run_explained<K: Kernel, R: Read + Drop, W: Write + Drop, E: Write + Drop, H:
     result
 }
 
-/// Runs the script on the kernel, and explains it where there is a writer for that.
+/// Runs the script on the kernel, and explains it if there is a writer for that.
 fn run_over<K: Kernel, R: Read + Drop, W: Write + Drop, E: Write + Drop, H: Write + Drop>(
     alloc: Global,
     kernel: &mut K,
@@ -208,7 +208,7 @@ fn run_over<K: Kernel, R: Read + Drop, W: Write + Drop, E: Write + Drop, H: Writ
     }
 }
 
-/// Runs the script on a kernel, where there was memory to make it. It owns the kernel as one of any kind, since the
+/// Runs the script on a kernel, if there was memory to make it. It owns the kernel as one of any kind, since the
 /// proof of a function that owns what it knows the parts of grows with them.
 fn run_made<K: Kernel + Drop, R: Read + Drop, W: Write + Drop, E: Write + Drop, H: Write + Drop>(
     alloc: Global,
@@ -243,7 +243,7 @@ fn run<R: Read + Drop, W: Write + Drop, E: Write + Drop, H: Write + Drop>(
     }
 }
 
-/// Tells how many lines were no command, where the script was run to its end, and gives the status.
+/// Tells how many lines were no command, if the script was run to its end, and gives the status.
 fn end<E: Write>(plan: &Plan, summary: &Summary, errors: &mut E) -> u8
     ensures bound { result ≤ 1 }
     ensures strict { plan.now.strict ≡ true → 0 < summary.now.bad → result ≡ 1 }
@@ -285,7 +285,7 @@ fn run_told<R: Read + Drop, W: Write, E: Write, H: Write + Drop>(
     }
 }
 
-/// The file of the script, where one is named. The error says why it can't be opened.
+/// The file of the script, if one is named. The error says why it can't be opened.
 fn script_file<F: Files>(settings: &Settings<'_>, files: &F) -> io::Result<Option<F::Script>> {
     match settings.script {
         None | Some("-") => Ok(None),
@@ -293,7 +293,7 @@ fn script_file<F: Files>(settings: &Settings<'_>, files: &F) -> io::Result<Optio
     }
 }
 
-/// The writer of the history, where one is asked for. No file is made or emptied that is a stream of
+/// The writer of the history, if one is asked for. No file is made or emptied that is a stream of
 /// the run.
 fn history_file<F: Files>(
     settings: &Settings<'_>,
@@ -349,7 +349,7 @@ fn run_settings<R: Read + Drop, W: Write, E: Write, F: Files>(
 /// Does what the words of the command line, the program's name first, ask for, and gives the
 /// status. It is
 /// - 0 at the end of the script, or for `--help` and `--version`,
-/// - 1 where the script was not run to its end, or such a text could not be written, or with
+/// - 1 if the script was not run to its end, or such a text could not be written, or with
 ///   `--strict` a line was no command,
 /// - 2 for a bad command line or limits that are none.
 ///
@@ -358,7 +358,7 @@ fn run_settings<R: Read + Drop, W: Write, E: Write, F: Files>(
 /// is a stream of the run by what `files` tells of it: that ends the run. The script is read last,
 /// by a kernel with ready lists, or with `--plain` by one that scans: their answers differ at most
 /// in which of several reportable registrations a wait reports first. `--explain` changes what
-/// stands on `errors` alone, `--strict` the status alone, and `--history` only ends the run where its
+/// stands on `errors` alone, `--strict` the status alone, and `--history` only ends the run if its
 /// file can't be written. What went wrong is one line on `errors`, or the text of `clap`. A script
 /// that was run to its end has one, too, if a line was no command. A write there that fails changes
 /// no status.
@@ -378,7 +378,7 @@ pub fn run_with_files<R: Read + Drop, W: Write, E: Write, F: Files>(
     }
 }
 
-/// As `run_with_files`, where there are no files: a script's name and `--history` end the run before
+/// As `run_with_files`, if there are no files: a script's name and `--history` end the run before
 /// it begins.
 pub fn run_with<R: Read + Drop, W: Write, E: Write>(
     alloc: Global,

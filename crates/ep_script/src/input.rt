@@ -19,7 +19,7 @@ const CHUNK: usize = 65_536;
 /// The most bytes of a script's line, without the byte that ends it.
 pub(crate) const LONGEST_LINE: usize = 65_536;
 
-/// How many bytes stand before the first byte 10, or how many there are where there is none.
+/// How many bytes stand before the first byte 10, or how many there are if there is none.
 fn plain_front(bytes: &[u8]) -> usize
     ensures within { result ≤ length bytes.now }
     ensures plain { IsPlain (take result bytes.now) }
@@ -87,7 +87,7 @@ impl Input {
         }
     }
 
-    /// Whether a byte is left. It reads on only where none is at hand.
+    /// Whether a byte is left. It reads on only if none is at hand.
     pub(crate) fn has_more<R: Read>(&mut self, reader: &mut Watched<R>) -> Result<bool, ScriptFault>
         ensures ok { OnOk result (Leads
             (prepend_known (unread self.old) (R.remaining reader.old.inner))

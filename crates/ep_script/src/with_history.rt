@@ -26,7 +26,7 @@ use std::io::{Read, Write};
 /// memory for a line of the history: the answers to all lines up to then stand written. Nothing
 /// more is asked of a reader or writer that failed. Whatever ends the run, what stands in the
 /// history's writer are the first bytes of the lines of the records that the kernel's history
-/// gained; where the run came to its end, all of them.
+/// gained; if the run came to its end, all of them.
 pub fn run_recorded<K: Kernel, R: Read, W: Write, H: Write>(
     alloc: Global,
     kernel: &mut K,

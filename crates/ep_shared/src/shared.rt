@@ -101,9 +101,9 @@ impl<K: Kernel + Drop, L: Ledger> Shared<K, L> {
         self.act(rt, session, Event::Tick { n })
     }
 
-    /// epoll_wait(2) that waits: where it parks, the lock is given up until the caller is marked, and then it
+    /// epoll_wait(2) that waits: if it parks, the lock is given up until the caller is marked, and then it
     /// resumes. It is answered its reports or a refusal, and neither `Parked` nor `Still`: any refusal of
-    /// epoll_wait(2) where it didn't park, else ENOMEM, or EINVAL as `resume_wait` has it. After ENOMEM the caller
+    /// epoll_wait(2) if it didn't park, else ENOMEM, or EINVAL as `resume_wait` has it. After ENOMEM the caller
     /// may be parked: `resume_wait` goes on.
     pub fn wait(&self, rt: &impl Wait, session: &mut Session<L>, asked: WaitCall) -> Answer
         ensures adds { WaitAdds (caller_of session.old) (wait_event asked) result
@@ -126,7 +126,7 @@ impl<K: Kernel + Drop, L: Ledger> Shared<K, L> {
     }
 
     /// Goes on with the wait of a caller that is parked, as `wait` does. It is answered the reports of the wait,
-    /// EINVAL where the caller is not parked, or ENOMEM, which leaves the caller parked.
+    /// EINVAL if the caller is not parked, or ENOMEM, which leaves the caller parked.
     pub fn resume_wait(&self, rt: &impl Wait, session: &mut Session<L>) -> Answer
         ensures adds { ResumeAdds (caller_of session.old) result (records_of session.old)
             (records_of session.new) }
@@ -170,7 +170,7 @@ impl<K: Kernel + Drop, L: Ledger> Shared<K, L> {
         self.book.lock(rt).parked(self.count.number())
     }
 
-    /// The whole history, where each caller has a session here and the records of each caller are those of its session;
+    /// The whole history, if each caller has a session here and the records of each caller are those of its session;
     /// else the first fault, in the order of `FinishFault`.
     /// The time grows with the records times the sessions.
     pub fn finish(self, handed: Vec<Session<L>>) -> Result<History, FinishFault>
