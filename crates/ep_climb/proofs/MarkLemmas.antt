@@ -78,12 +78,6 @@ same_either false c us vs ws h k = refl
 pub unwaited : (ready : ℕ → Bool) (ws : List Waiter) (e : ℕ) → waits_at ws e ≡ false → marked_where ready e ws ≡ ws
 unwaited ready ws e h = same_either (ready e) (is_marked_at ws e) ws (first_marked e ws) ws refl (nobody ws e h)
 
-pub idle : (ready : ℕ → Bool) (ws : List Waiter) (e : ℕ) → ready e ≡ false → marked_where ready e ws ≡ ws
-idle ready ws e h = ap (λ (b : Bool). if b then longest_marked e ws else ws) h
-
-pub marks_one : (ready : ℕ → Bool) (ws : List Waiter) (e : ℕ) → ready e ≡ true → marked_where ready e ws ≡ longest_marked e ws
-marks_one ready ws e h = ap (λ (b : Bool). if b then longest_marked e ws else ws) h
-
 -- One instance after another.
 module _ (ready : ℕ → Bool) where
   -- one instance more

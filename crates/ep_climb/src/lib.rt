@@ -1,5 +1,5 @@
-//! What an event raised climbs through instances: which of them IN reaches, and what watches those becomes fresh.
-//! Which instances its end looks at for marks to set. Each event goes along here, so it is inlined: a program with both
+//! What an event raised climbs through instances: which of them IN reaches, and what watches those becomes fresh. Its end
+//! sets marks at the instances that it reached. Each event goes along here, so it is inlined: a program with both
 //! kernels would make calls of it, for 1 to 3 in 100 of an event.
 #![tactic(auto)]
 
@@ -8,5 +8,5 @@ mod marking;
 mod reaching;
 
 pub use crate::climbing::{climb, freshen};
-pub use crate::marking::{attend, mark_due, resumed_at};
+pub use crate::marking::{Readiness, attend, mark, resumed_at};
 pub use crate::reaching::{has_links, reach};

@@ -1,10 +1,18 @@
-//! Where the end of an event looks for marks to set beside the instances that it reached, and who is marked anyway.
-ghost use Rattle.std.specs.Prelude.{◌≡◌, map};
-ghost use Rattle.ep_climb.specs.Mark.{attends, resumed_at as resumed};
+//! Marks at the end of an event, at the instances that it reached and at the one that it attends.
+ghost use Rattle.std.specs.Prelude.{◌≡◌, IsSome, filter, map, ℕ};
+ghost use Rattle.ep_calls.specs.Parking.{ready_key};
+ghost use Rattle.ep_climb.specs.Mark.{AreLookedAt, attended, attends, marked_where, resumed_at as resumed};
+ghost use Rattle.ep_interest.specs.Registrations.{Registrations};
+ghost use Rattle.ep_machine.specs.Marks.{marked_by};
 ghost use Rattle.ep_machine.specs.Waits.{marked_if_due};
+ghost use Rattle.ep_park.specs.Turns.{marked_in_turn};
+ghost use Rattle.ep_table.specs.Value.{Seen, number_under};
 
 use ep_base::{CallerId, DescId, Event};
 use ep_calls::{Parts, Raising};
+use ep_park::laws::unmarked_in_turn;
+use ep_ready::Walk;
+use std::alloc::Global;
 
 /// The instance at which a caller waits that an event resumes. `None` if the event resumes none that is parked.
 pub fn resumed_at(parts: &Parts, caller: CallerId, event: &Event) -> Option<DescId>
@@ -32,9 +40,104 @@ pub fn attend(resumed: Option<DescId>, raising: Raising) -> Option<DescId>
 
 /// Marks whoever is due. The cost grows with those that this marks, and not with others.
 #[inline(always)]
-pub fn mark_due(parts: &mut Parts)
+fn mark_due(parts: &mut Parts)
     ensures { parts.new
         ≡ record parts.old { parked = map (marked_if_due parts.old.clock) parts.old.parked } }
 {
     parts.waiters.mark_due(parts.clock);
+}
+
+/// A way to tell whether an instance is ready.
+pub trait Readiness {
+    /// What has to hold of the tables, the clock and the registrations so that it tells the truth. Who is parked doesn't
+    /// matter to it, so marks leave it.
+    ghost knows: { Self → Seen → ℕ → Registrations → Type 0 };
+
+    /// Whether something is reportable at an instance.
+    fn is_ready(&mut self, parts: &Parts, instance: DescId) -> bool
+        requires live { IsSome (number_under parts.now.tables instance) }
+        requires knows { knows self.old parts.now.tables parts.now.clock parts.now.interest }
+        ensures ready { result
+            ≡ ready_key parts.now.tables parts.now.clock parts.now.interest instance.0 }
+        ensures knows { knows self.new parts.now.tables parts.now.clock parts.now.interest };
+}
+
+/// Marks the caller that waits longest at an instance, if that is ready and none is marked there. Nothing is looked at
+/// if nobody waits or one is marked.
+#[inline(always)]
+fn mark_at<R: Readiness>(parts: &mut Parts, ready: &mut R, instance: DescId)
+    requires { R.knows ready.old parts.old.tables parts.old.clock parts.old.interest }
+    ensures marks { parts.new
+        ≡ record parts.old {
+          parked = marked_where (ready_key parts.old.tables parts.old.clock parts.old.interest)
+              instance.0 parts.old.parked;
+        } }
+    ensures knows { R.knows ready.new parts.old.tables parts.old.clock parts.old.interest }
+{
+    parts.known();
+    if !parts.waiters.has_waiter(instance) {
+        return;
+    }
+    if parts.waiters.has_mark(instance) {
+        return;
+    }
+    if ready.is_ready(parts, instance) {
+        parts.waiters.mark_longest(instance);
+    }
+}
+
+/// The same at each instance that the event reached.
+fn mark_reached<R: Readiness>(parts: &mut Parts, ready: &mut R, reached: &Walk<Global>)
+    requires { R.knows ready.old parts.old.tables parts.old.clock parts.old.interest }
+    ensures marks { parts.new
+        ≡ record parts.old {
+          parked = marked_in_turn
+              (filter (ready_key parts.old.tables parts.old.clock parts.old.interest)
+              reached.now.reached)
+              parts.old.parked;
+        } }
+    ensures knows { R.knows ready.new parts.old.tables parts.old.clock parts.old.interest }
+{
+    for index in 0..reached.count() {
+        mark_at(parts, ready, DescId(reached.at(index)));
+    }
+}
+
+/// The same at the instance that the event attends, if there is one.
+fn mark_attended<R: Readiness>(parts: &mut Parts, ready: &mut R, attend: Option<DescId>)
+    requires { R.knows ready.old parts.old.tables parts.old.clock parts.old.interest }
+    ensures marks { parts.new
+        ≡ record parts.old {
+          parked = marked_in_turn
+              (filter (ready_key parts.old.tables parts.old.clock parts.old.interest) (attended attend))
+              parts.old.parked;
+        } }
+    ensures knows { R.knows ready.new parts.old.tables parts.old.clock parts.old.interest }
+{
+    if let Some(instance) = attend {
+        mark_at(parts, ready, instance);
+    }
+}
+
+/// Sets marks at the end of an event: whoever is due, and of those that wait at a ready instance the longest waiting
+/// one, if none is marked there. `attend` is the instance at which an epoll_ctl raised IN, or at which a caller that
+/// was resumed waited. Only that one and the instances that the event reached are looked at.
+pub fn mark<R: Readiness>(
+    parts: &mut Parts,
+    ready: &mut R,
+    reached: &Walk<Global>,
+    attend: Option<DescId>,
+)
+    requires knows { R.knows ready.old parts.old.tables parts.old.clock parts.old.interest }
+    requires looked { AreLookedAt parts.old reached.now.reached attend }
+    ensures marks { parts.new.parked
+        ≡ marked_by (ready_key parts.old.tables parts.old.clock parts.old.interest) parts.old.clock
+        parts.old.parked }
+    ensures others { parts.new ≡ record parts.old { parked = parts.new.parked } }
+    ensures knows { R.knows ready.new parts.new.tables parts.new.clock parts.new.interest }
+{
+    unmarked_in_turn();
+    mark_due(parts);
+    mark_reached(parts, ready, reached);
+    mark_attended(parts, ready, attend);
 }

@@ -1,11 +1,15 @@
 -- What instances answered to the question whether they are ready.
-use Rattle.std.specs.Prelude.{◌≡◌, Bool, None, Option, Some, false, if◌then◌else◌, true, ℕ}
+use Rattle.std.specs.Prelude.{◌≡◌, Bool, List, None, Option, Some, false, if◌then◌else◌, true, ℕ}
 use Rattle.ep_calls.specs.Parking.{ready_key}
 use Rattle.ep_calls.specs.Parts.{Parts}
+use Rattle.ep_interest.specs.Registrations.{Registrations}
 use Rattle.ep_kernel.specs.Listed.{HopesFor}
 use Rattle.ep_kernel.specs.declared.asked.Asked.{Asked}
 use Rattle.ep_machine.specs.Lists.{is_among}
+use Rattle.ep_machine.specs.State.{Waiter}
+use Rattle.ep_nest.specs.declared.link.Link.{Link}
 use Rattle.ep_ready.specs.Walk.{with_noted}
+use Rattle.ep_table.specs.Value.{Seen}
 
 -- the answer of an instance, where it is known
 abbrev pub answer_of : Asked → ℕ → Option Bool
@@ -29,3 +33,7 @@ AreTrue p a = AreOf (ready_key p.tables p.clock p.interest) a
 pub record Knows (p : Parts) (a : Asked) : Type 0 where
   pub told : AreTrue p a
   pub hopes : HopesFor p a.hopes
+
+-- the same of any parts with these tables, clock and registrations
+abbrev pub KnowsIn : Asked → Seen → ℕ → Registrations → Type 0
+KnowsIn a v now r = (graph : List Link) (ws : List Waiter) → Knows (record { tables = v; interest = r; graph = graph; parked = ws; clock = now }) a

@@ -9,7 +9,6 @@ pub mod GoLemmas
 pub mod HomeLemmas
 pub mod LeavesLemmas
 pub mod LosesLemmas
-pub mod TellsLemmas
 pub mod NamedLemmas
 pub mod NumberLemmas
 pub mod ReportedLemmas

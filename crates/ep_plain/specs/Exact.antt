@@ -24,8 +24,11 @@ abbrev pub TellsShown : Parts → Dates → Type 0
 TellsShown p d = All (λ x. nat_lt 0 (event_at d.since x.number) ≡ entry_shows (readiness p.tables p.clock p.interest) p.tables p.clock x) p.interest.entries
 
 -- an instance has one with a date exactly if it is ready
+abbrev pub TellsReadyIn : Seen → ℕ → Registrations → Dates → Type 0
+TellsReadyIn v now r d = (i : DescId) → IsSome (desc_number v i) → is_ready d i.0 ≡ ready_key v now r i.0
+
 abbrev pub TellsReady : Parts → Dates → Type 0
-TellsReady p d = (i : DescId) → IsSome (desc_number p.tables i) → is_ready d i.0 ≡ ready_key p.tables p.clock p.interest i.0
+TellsReady p d = TellsReadyIn p.tables p.clock p.interest d
 
 -- at the beginning of event n
 pub record IsExact (n : ℕ) (p : Parts) (d : Dating) : Type 0 where

@@ -2,12 +2,12 @@
 #![tactic(auto)]
 
 mod act;
+mod by_dates;
 mod called;
 mod choose;
 mod control;
 mod date;
 mod dating;
-mod mark;
 mod plain;
 mod settle;
 mod stamp;

@@ -15,12 +15,12 @@ ghost use Rattle.ep_plain.specs.Loses.{Loses};
 ghost use Rattle.ep_plain.specs.Spread.{SpreadsTo};
 ghost use Rattle.ep_table.specs.Value.{Sound as SoundTables};
 
+use crate::by_dates::ByDates;
 use crate::dating::Dating;
-use crate::mark::mark;
 use ep_alarms::{Alarms, burial_leaves_alarms};
 use ep_base::DescId;
 use ep_calls::{Parts, Raising};
-use ep_climb::climb;
+use ep_climb::{climb, mark};
 use ep_dates::drop_dying;
 
 /// Does nothing. What holds of the parts between calls, with their registrations; a fact for proofs.
@@ -87,6 +87,9 @@ pub fn rest(parts: &mut Parts, dating: &Dating, attend: Option<DescId>)
     requires looked { AreLookedAt parts.old dating.now.reached.reached attend }
     ensures { Rests parts.old parts.new }
 {
-    mark(parts, dating, attend);
+    let mut by_dates = ByDates {
+        dates: &dating.dates,
+    };
+    mark(parts, &mut by_dates, &dating.reached, attend);
     parts.forget_passed();
 }
