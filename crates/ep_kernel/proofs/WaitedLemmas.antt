@@ -1,6 +1,6 @@
 -- What a wait that reports leaves of the machine, where its instance lives on.
 use Rattle.std.proofs.Common.{◌≡◌, ◌≤◌, ◌∙◌, ◌==◌, ◌&&◌, ◌||◌, ◌⊎◌, ◌++◌, ℕ, ℤ, zero, suc, negsuc, pos, Bool, true, false, not, List, [], ◌∷◌, None, Option, Some, ap, arith, bit_or, cond, filter, if◌then◌else◌, inl, inr, is_some, length, map, min, nat_eq, nat_lt, refl, subst, sym, unwrap_or}
-use Rattle.std.specs.List.{AllByRecursion, IsDistinct, cons_option, find, list_all, list_any}
+use Rattle.std.specs.List.{AllByRecursion, IsDistinct, find, list_all, list_any}
 use Rattle.std.proofs.lemmas.Bool.{cases_Bool, false≢true}
 use Rattle.std.proofs.lemmas.Bool.Decides.{nat_tests}
 use Rattle.ep_base.specs.declared.answer.Answer.{Answer}
@@ -13,7 +13,7 @@ use Rattle.ep_law.proofs.ListLemmas.{among, among_member, each_found, filtered_m
 use Rattle.ep_law.proofs.MarkLemmas.{marked_all, marked_parts, marks_again}
 use Rattle.ep_law.proofs.ReadinessLemmas.{Goes, and_same, no_long_chain}
 use Rattle.ep_law.proofs.SpreadLemmas.{spread_least}
-use Rattle.ep_law.proofs.TestLemmas.{both_true, from_test, same_nat, same_test}
+use Rattle.ep_law.proofs.TestLemmas.{both_true, from_test, same_nat}
 use Rattle.ep_law.specs.Sound.{Sound}
 use Rattle.ep_law.specs.Laws.{Member, is_reportable_in, passes_on_of}
 use Rattle.ep_machine.specs.Bits.{ET, ONESHOT, IN, asked, has_bit, when}
@@ -29,6 +29,7 @@ use Rattle.ep_machine.specs.Spread.{passes_on, raised_alive, spread}
 use Rattle.ep_machine.specs.State.{Change, State, Waiter, Watch, counts_of}
 use Rattle.ep_machine.specs.Waits.{is_due, leave, leave_after, resume, resume_by, resume_empty, unmarked, wait, wait_for, waiter_of}
 use Rattle.ep_machine.specs.Watches.{is_legal, links}
+use Rattle.ep_order.proofs.PickLemmas.{all_found, found_one}
 use Rattle.ep_view.proofs.ClimbLemmas.{zero_asked}
 use Rattle.ep_view.proofs.KernelViewLemmas.{reportables_kept}
 use Rattle.ep_view.proofs.SettleLemmas.{dying_test, settle_changed, settled_quiet}
@@ -291,24 +292,9 @@ pub record IsReport (b : State) (e : ℕ) (ks : List ℕ) (c : Change) : Type 0 
   pub of : (x : Watch) → Member x b.watches → is_among ks x.number ≡ true → (x.instance ≡ e) × (is_reportable b x ≡ true)
   pub told : (reports : List Report) → c.0 ≡ Events reports → length ks ≤ length reports
 
-find_some : (xs : List Watch) (y : Watch) → Member y xs → is_some (find_watch xs y.number) ≡ true
-find_some [] y m = absurd m
-find_some (x ∷ xs) y (inl e) = ap (λ (b : Bool). is_some (cond b (Some x) (find_watch xs y.number))) (same_test x.number y.number (ap (λ (z : Watch). z.number) (sym e)))
-find_some (x ∷ xs) y (inr m) = with_one (x.number == y.number) (find_some xs y m) where
-  with_one : (b : Bool) → is_some (find_watch xs y.number) ≡ true → is_some (cond b (Some x) (find_watch xs y.number)) ≡ true
-  with_one true rest = refl
-  with_one false rest = rest
-
 found_there : (xs : List Watch) (k : ℕ) (o : Option Watch) → find_watch xs k ≡ o → is_some o ≡ true → (y : Watch) × Member y xs × (y.number ≡ k)
 found_there xs k None is some = absurd (false≢true some)
 found_there xs k (Some y) is some = let m = find_member xs k y is in (y, m.0, m.1)
-
-all_found : (xs : List Watch) (ks : List ℕ) → ((k : ℕ) → Member k ks → is_some (find_watch xs k) ≡ true) → length ks ≤ length (watches_at xs ks)
-all_found xs [] h = omega arith
-all_found xs (k ∷ ks) h = with_one (find_watch xs k) (h k (inl refl)) (all_found xs ks (λ j m. h j (inr m))) where
-  with_one : (o : Option Watch) → is_some o ≡ true → length ks ≤ length (watches_at xs ks) → length (k ∷ ks) ≤ length (cons_option o (watches_at xs ks))
-  with_one None some rest = absurd (false≢true some)
-  with_one (Some y) some rest = omega (arith, rest)
 
 none_reported : (b : State) (xs : List Watch) → xs ≡ map (reported b []) xs
 none_reported b [] = refl
@@ -355,7 +341,7 @@ module _ (b : State) (sound : Sound b) (ks : List ℕ) where
               let passes = both_true (y.0.instance == e) (is_reportable b y.0) (filtered_passes shows b.watches y.0 y.1) in
               (ap (λ (z : Watch). z.instance) (sym same) ∙ from_test y.0.instance e passes.0, ap (is_reportable b) (sym same) ∙ passes.1);
           told = λ reports told.
-              let found_all = all_found b.watches ks (λ k m. let y = is_there k m in subst (λ (j : ℕ). is_some (find_watch b.watches j) ≡ true) y.2 (find_some b.watches y.0 (filtered_member shows b.watches y.0 y.1))) in
+              let found_all = all_found (find_watch b.watches) ks (λ k m. let y = is_there k m in subst (λ (j : ℕ). is_some (find_watch b.watches j) ≡ true) y.2 (found_one b.watches y.0 (filtered_member shows b.watches y.0 y.1))) in
               let same = ap length (reports_are (map (report_of b) (watches_at b.watches ks)) reports told) in
               let all = length_reports b (watches_at b.watches ks) in
               omega (arith, found_all, same, all);

@@ -94,7 +94,7 @@ same_length [] = refl
 same_length (x ∷ xs) = ap suc (same_length xs)
 
 -- each is found
-found_one : (xs : List Watch) (x : Watch) → Member x xs → is_some (find_watch xs x.number) ≡ true
+pub found_one : (xs : List Watch) (x : Watch) → Member x xs → is_some (find_watch xs x.number) ≡ true
 found_one [] x m = absurd m
 found_one (y ∷ ys) x m = elim (cases_Bool (y.number == x.number)) [
   | inl t ↦ ap (λ (b : Bool). is_some (cond b (Some y) (find_watch ys x.number))) t
@@ -103,33 +103,34 @@ found_one (y ∷ ys) x m = elim (cases_Bool (y.number == x.number)) [
       ap (λ (b : Bool). is_some (cond b (Some y) (find_watch ys x.number))) f ∙ found_one ys x there
 ]
 
-all_found : (h : ℕ → Option Watch) (ks : List ℕ) → ((k : ℕ) → Member k ks → is_some (h k) ≡ true) → length (filter_map h ks) ≡ length ks
+-- as many are found as are sought, if each is there
+pub all_found : (h : ℕ → Option Watch) (ks : List ℕ) → ((k : ℕ) → Member k ks → is_some (h k) ≡ true) → length (filter_map h ks) ≡ length ks
 all_found h [] each = refl
 all_found h (k ∷ ks) each =
     let rest = all_found h ks (λ j m. each j (inr m)) in
     let one : (o : Option Watch) → is_some o ≡ true → length (cons_option o (filter_map h ks)) ≡ suc (length ks) = λ o. elim o as (λ p. is_some p ≡ true → length (cons_option p (filter_map h ks)) ≡ suc (length ks)) [ None ↦ λ t. cc | Some y ↦ λ t. ap suc rest ] in
     one (h k) (each k (inl refl))
 
--- and what is found has a sought number
-found_of : (h : ℕ → Option Watch) (ks : List ℕ) (x : Watch) → Member x (filter_map h ks) → (k : ℕ) × Member k ks × (h k ≡ Some x)
-found_of h [] x m = absurd m
-found_of h (k ∷ ks) x m =
+-- and what is found was sought
+pub sought : (h : ℕ → Option Watch) (ks : List ℕ) (x : Watch) → Member x (filter_map h ks) → (k : ℕ) × Member k ks × (h k ≡ Some x)
+sought h [] x m = absurd m
+sought h (k ∷ ks) x m =
     let Q : Option Watch → Type 0 = λ o. h k ≡ o → Member x (cons_option o (filter_map h ks)) → (j : ℕ) × Member j (k ∷ ks) × (h j ≡ Some x) in
     let one : (o : Option Watch) → Q o = λ o. elim o as Q [
-      | None ↦ λ is n. let r = found_of h ks x n in (r.0, inr r.1, r.2)
-      | Some y ↦ λ is n. elim n [ inl e ↦ (k, inl refl, is ∙ ap (λ (w : Watch). Some w) (sym e)) | inr a ↦ let r = found_of h ks x a in (r.0, inr r.1, r.2) ]
+      | None ↦ λ is n. let r = sought h ks x n in (r.0, inr r.1, r.2)
+      | Some y ↦ λ is n. elim n [ inl e ↦ (k, inl refl, is ∙ ap (λ (w : Watch). Some w) (sym e)) | inr a ↦ let r = sought h ks x a in (r.0, inr r.1, r.2) ]
     ] in
     one (h k) refl m
 
-list_all_of : (p : Watch → Bool) (xs : List Watch) → ((x : Watch) → Member x xs → p x ≡ true) → list_all p xs ≡ true
+pub list_all_of : (p : Watch → Bool) (xs : List Watch) → ((x : Watch) → Member x xs → p x ≡ true) → list_all p xs ≡ true
 list_all_of p [] h = refl
 list_all_of p (x ∷ xs) h = let one = h x (inl refl) in let rest = list_all_of p xs (λ y m. h y (inr m)) in λ i. one i && rest i
 
-some_found : (o : Option Watch) → is_some o ≡ true → (x : Watch) × (o ≡ Some x)
+pub some_found : (o : Option Watch) → is_some o ≡ true → (x : Watch) × (o ≡ Some x)
 some_found None h = cc
 some_found (Some x) h = (x, refl)
 
-le_test : (a b : ℕ) → a ≤ b → nat_le a b ≡ true
+pub le_test : (a b : ℕ) → a ≤ b → nat_le a b ≡ true
 le_test a b h = grind (arith, nat_tests, h)
 
 -- by the number of a registration that is there
@@ -161,7 +162,7 @@ first_are_pick s e most order sound apart fair complete =
       | inl inside ↦ or_left _ _ inside
       | inr outside ↦
           or_right _ _ (list_all_of (λ x. nat_le x.rep y.from) picked (λ x mx.
-          let k = found_of (find_watch there) ks x mx in
+          let k = sought (find_watch there) ks x mx in
           let w = find_member there k.0 x k.2 in
           let ry : ready y.number ≡ true = among y.number (numbers there) (member_map (λ w. w.number) y there my) in
           let le = first_are_fair (turns_of s e) most order fair complete k.0 y.number k.1 ry outside in

@@ -1,7 +1,7 @@
 -- What the dates allow of a report is what the machine allows.
-use Rattle.std.proofs.Common.{get_or, ◌≡◌, ◌==◌, ◌&&◌, ◌||◌, ◌≤◌, ◌∙◌, ℕ, All, Bool, true, false, IsSome, List, [], ◌∷◌, None, Option, Some, ap, arith, inl, inr, is_some, length, map, min, nat_le, nat_lt, refl, subst, sym, unwrap_or}
-use Rattle.std.specs.List.{cons_option, filter_map, list_all}
-use Rattle.std.proofs.lemmas.Bool.{cases_Bool, false≢true}
+use Rattle.std.proofs.Common.{get_or, ◌≡◌, ◌==◌, ◌&&◌, ◌||◌, ◌≤◌, ◌∙◌, ℕ, All, Bool, true, false, IsSome, List, [], ◌∷◌, Option, Some, ap, arith, inl, inr, is_some, length, map, min, nat_le, nat_lt, refl, subst, sym, unwrap_or}
+use Rattle.std.specs.List.{list_all}
+use Rattle.std.proofs.lemmas.Bool.{cases_Bool}
 use Rattle.std.proofs.lemmas.Bool.Decides.{nat_tests}
 use Rattle.std.proofs.lemmas.Cmp.{nat_eq_equiv}
 use Rattle.std.proofs.lemmas.List.{length-map}
@@ -32,6 +32,7 @@ use Rattle.ep_machine.specs.Lists.{are_distinct, is_among}
 use Rattle.ep_machine.specs.Readiness.{is_reportable, reportables}
 use Rattle.ep_machine.specs.Report.{find_watch, is_fair_to, is_pick, watches_at}
 use Rattle.ep_machine.specs.State.{State, Watch}
+use Rattle.ep_order.proofs.PickLemmas.{all_found, le_test, list_all_of, some_found, sought}
 use Rattle.ep_plain.proofs.ChooseLemmas.{scans}
 use Rattle.ep_plain.proofs.TakeLemmas.{found_of, numbered_of, reportable_of, some_same}
 use Rattle.ep_plain.specs.Choose.{reportables_at}
@@ -59,34 +60,6 @@ dated_shown p d s stands dated =
 -- lists that are the same once each is mapped have members that are
 alike : {X Y Z : Type 0} (f : X → Z) (g : Y → Z) (xs : List X) (ys : List Y) → map f xs ≡ map g ys → (x : X) → Member x xs → (y : Y) × Member y ys × (g y ≡ f x)
 alike {X} {Y} {Z} f g xs ys e x m = member_of_map g ys (f x) (subst (λ (zs : List Z). Member (f x) zs) e (member_map f x xs m))
-
--- as many are found as are sought, if each is there
-all_found : (h : ℕ → Option Watch) (ks : List ℕ) → ((k : ℕ) → Member k ks → is_some (h k) ≡ true) → length (filter_map h ks) ≡ length ks
-all_found h [] each = refl
-all_found h (k ∷ ks) each = one (h k) (each k (inl refl)) (all_found h ks (λ j m. each j (inr m))) where
-  one : (o : Option Watch) → is_some o ≡ true → length (filter_map h ks) ≡ length ks → length (cons_option o (filter_map h ks)) ≡ length (k ∷ ks)
-  one None t rest = absurd (false≢true t)
-  one (Some x) t rest = omega (arith, rest)
-
--- and what is found was sought
-sought : (h : ℕ → Option Watch) (ks : List ℕ) (x : Watch) → Member x (filter_map h ks) → (k : ℕ) × Member k ks × (h k ≡ Some x)
-sought h [] x m = absurd m
-sought h (k ∷ ks) x m = one (h k) refl m (sought h ks x) where
-  one : (o : Option Watch) → h k ≡ o → Member x (cons_option o (filter_map h ks)) → (Member x (filter_map h ks) → (j : ℕ) × Member j ks × (h j ≡ Some x)) → (j : ℕ) × Member j (k ∷ ks) × (h j ≡ Some x)
-  one None is n rest = let r = rest n in (r.0, inr r.1, r.2)
-  one (Some y) is (inl e) rest = (k, inl refl, is ∙ ap (λ (w : Watch). Some w) (sym e))
-  one (Some y) is (inr n) rest = let r = rest n in (r.0, inr r.1, r.2)
-
-list_all_of : (p : Watch → Bool) (xs : List Watch) → ((x : Watch) → Member x xs → p x ≡ true) → list_all p xs ≡ true
-list_all_of p [] h = refl
-list_all_of p (x ∷ xs) h = let one = h x (inl refl) in let rest = list_all_of p xs (λ y m. h y (inr m)) in λ i. one i && rest i
-
-some_found : (o : Option Watch) → is_some o ≡ true → (x : Watch) × (o ≡ Some x)
-some_found None h = absurd (false≢true h)
-some_found (Some x) h = (x, refl)
-
-le_test : (a b : ℕ) → a ≤ b → nat_le a b ≡ true
-le_test a b h = grind (arith, nat_tests, h)
 
 from_le : (a b : ℕ) → nat_le a b ≡ true → a ≤ b
 from_le a b h = grind (arith, nat_tests, h)
