@@ -25,7 +25,7 @@ use Rattle.ep_plain.specs.Exact.{TellsShown}
 use Rattle.ep_calls.specs.declared.wait.Reportable.{Reportable}
 use Rattle.ep_calls.proofs.KeyLemmas.{same_keys}
 use Rattle.ep_calls.proofs.AdditionLemmas.{found_passes}
-use Rattle.ep_calls.proofs.CollectLemmas.{Collects, entries_in, entries_of}
+use Rattle.ep_plain.proofs.CollectLemmas.{Collects, entries_in, entries_of}
 use Rattle.ep_table.specs.Value.{Seen, Sound as SoundTables, number_under}
 use Rattle.std.specs.List.{swap}
 use Rattle.std.specs.List.Sorted.{SwapsInRange, apply_swaps}

@@ -2,6 +2,7 @@ pub mod ActWithLemmas
 pub mod AllowLemmas
 pub mod BuryLemmas
 pub mod ChooseLemmas
+pub mod CollectLemmas
 pub mod ComeLemmas
 pub mod ControlLemmas
 pub mod FollowsLemmas

@@ -1,7 +1,7 @@
 use Rattle.std.proofs.Common.{◌≡◌, ◌∙◌, [], List, Some, filter, subst, sym}
 use Rattle.std.proofs.lemmas.List.Elements.{All-filter}
 use Rattle.ep_base.specs.declared.ids.EntryId.{EntryId}
-use Rattle.ep_calls.proofs.CollectLemmas.{Collects, begins, collects_more, collects_same, first_linked}
+use Rattle.ep_plain.proofs.CollectLemmas.{Collects, begins, collects_more, collects_same, first_linked}
 use Rattle.ep_calls.proofs.EntryKeyLemmas.{each_found}
 use Rattle.ep_calls.specs.Parts.{Parts}
 use Rattle.ep_calls.specs.Stands.{IsLinked}

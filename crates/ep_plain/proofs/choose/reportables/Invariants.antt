@@ -1,4 +1,4 @@
-use Rattle.ep_calls.proofs.CollectLemmas.{Collects}
+use Rattle.ep_plain.proofs.CollectLemmas.{Collects}
 use Rattle.ep_plain.specs.Choose.{reportables_at}
 use Rattle.ep_plain.proofs.choose.reportables.Given as goal
 
