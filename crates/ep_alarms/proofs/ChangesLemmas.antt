@@ -1,6 +1,6 @@
 -- The moments of timers over an event.
 use Rattle.std.proofs.Common.{◌≡◌, ◌≢◌, ◌≤◌, ◌+◌, ◌<◌, ◌^◌, ◌∙◌, ℕ, ℤ, pos, zero, suc, false, true, IsSome, Bool, List, [], ◌∷◌, None, Option, Some, add-one, ap, arith, get_or, inl, inr, is_none, is_some, length, nat_le, nat_lt, not, refl, slice_index_or, subst, sym, unwrap_or}
-use Rattle.std.specs.Prelude.{MatchOption}
+use Rattle.std.specs.Prelude.{IfSome, MatchOption}
 use Rattle.std.specs.List.{list_any}
 use Rattle.std.proofs.lemmas.Bool.{cases_lt, false≢true, leb-false}
 use Rattle.std.proofs.lemmas.List.{get_or-set_same, get_or_past}
@@ -23,6 +23,7 @@ use Rattle.ep_alarms.proofs.AreSetLemmas.{set_but, set_kept, timer_in}
 use Rattle.ep_alarms.proofs.FilesCallLemmas.{HaveObjects, MakesNoTimer, made_alone, others_left, timer_made}
 use Rattle.ep_alarms.proofs.ObjectEffectLemmas.{object_calls_leave, own_kept}
 use Rattle.ep_alarms.specs.Alarms.{AreSet, AreSetBut, IsKept, IsSetFor}
+use Rattle.ep_alarms.specs.Called.{IsCalled, called_in}
 use Rattle.ep_alarms.specs.Timers.{timer_at, timer_under}
 use Rattle.ep_base.specs.Limits.{Limits}
 use Rattle.ep_base.specs.declared.answer.Answer.{Answer}
@@ -38,7 +39,7 @@ use Rattle.ep_calls.specs.Parts.{AreOpening, Parts}
 use Rattle.ep_calls.specs.declared.raising.Raising.{Raising}
 use Rattle.ep_calls.specs.declared.raising.Raising.TheVariants.{Clock, Instance, Nowhere, Object as ObjectOf}
 use Rattle.ep_due.specs.DueMap.{Moments, SameMoments, moment_of}
-use Rattle.ep_alarms.specs.Changes.{AreSetBeside, AreSetSince, CallsTables, CreatesTimer, GoesOn, IsCreated, IsRefused, LeavesFiles, MovesClock, TouchesTables, WereSet}
+use Rattle.ep_alarms.specs.Changes.{AreSetSince, CallsTables, CreatesTimer, GoesOn, IsCreated, IsRefused, LeavesFiles, MovesClock, TouchesTables, WereSet}
 use Rattle.ep_law.specs.Laws.{HaveOwnEnds}
 use Rattle.ep_machine.specs.Effect.{first}
 use Rattle.ep_machine.specs.Files.{Files, Place, Slot, Table, description_in, is_live, live, named_by, names_nothing, numbers_of, object_at, opening_files, object_under, place_of, side_under, table_of, under}
@@ -85,6 +86,14 @@ by_call {C = C} call answer v w does refused done = by (first call.refusals) ref
 past_one : (b : Bool) (e : Errno) (rest : List (Bool × Errno)) → first ((b, e) ∷ rest) ≡ None → (b ≡ false) × (first rest ≡ None)
 past_one true e rest h = absurd (none-some e (sym h))
 past_one false e rest h = (refl, h)
+
+pub is_none_of : {X : Type 0} (o : Option X) → ((x : X) → o ≡ Some x → ⊥) → o ≡ None
+is_none_of None not_some = refl
+is_none_of (Some x) not_some = absurd (not_some x refl)
+
+there_is : {X : Type 0} (o : Option X) → IsSome o → (x : X) × (o ≡ Some x)
+there_is None h = absurd (false≢true h)
+there_is (Some x) h = (x, refl)
 
 some_is : {X : Type 0} (o : Option X) → is_none o ≡ false → (x : X) × (o ≡ Some x)
 some_is None h = absurd (false≢true (sym h))
@@ -152,41 +161,41 @@ module _ (p q : Parts) (a : Moments) (sound : SoundTables p.tables) (sound_now :
     abbrev number : ℕ
     number = named_by p.tables.files pid fd.0
 
-    -- the key of the description is the one that it had
-    key_before : (desc : DescId) → number_under q.tables desc ≡ Some number → under p.tables.files pid fd.0 ≡ Some number → number_under p.tables desc ≡ Some number
-    key_before desc is was =
-        let key = sound.named pid number fd.0 was in
-        let same : key.0.0 ≡ desc.0 = sound_now.one key.0 desc number (keys key.0 number key.1) is in
-        subst (λ (k : ℕ). number_under p.tables (key_of k) ≡ Some number) same key.1
-
-    own_is_kept : (desc : DescId) → number_under q.tables desc ≡ Some number → under p.tables.files pid fd.0 ≡ Some number → q.tables.files ≡ made.after → IsKept q.tables desc.0 a
-    own_is_kept desc is was files =
+    own_is_kept : (desc : DescId) → number_under p.tables desc ≡ Some number → number_under q.tables desc ≡ Some number → q.tables.files ≡ made.after → IsKept q.tables desc.0 a
+    own_is_kept desc was is files =
         set_keeps p.tables p.clock a desc.0 are_set
-        ∙ (ap (λ (o : Option ℕ). is_some (timer_at p.tables.files o)) (key_before desc is was)
+        ∙ (ap (λ (o : Option ℕ). is_some (timer_at p.tables.files o)) was
         ∙ (sym (own_kept p.tables.files number p.clock call)
         ∙ (ap (λ (f : Files). is_some (timer_in f number)) (sym files)
         ∙ sym (ap (λ (o : Option ℕ). is_some (timer_at q.tables.files o)) is))))
 
-    pub object_set : Does made answer p.tables q.tables → AreSetBeside q pid fd.0 a
-    object_set does =
+    named_before : first made.refusals ≡ None → under p.tables.files pid fd.0 ≡ Some number
+    named_before accepted =
+        let names = past_one (names_nothing p.tables.files pid fd.0) Ebadf (object_refusals (object_under p.tables.files pid fd.0) (side_under p.tables.files pid fd.0) p.clock call) accepted in
+        let there = some_is (under p.tables.files pid fd.0) names.0 in
+        there.1 ∙ sym (ap (λ (o : Option ℕ). Some (unwrap_or o 0)) there.1)
+
+    -- the description that the descriptor named before is kept, and each other timer has its moment
+    pub object_leaves : Does made answer p.tables q.tables → (desc : DescId) → number_under p.tables desc ≡ under p.tables.files pid fd.0 → IsKept q.tables desc.0 a × AreSetBut q.tables q.clock desc.0 a
+    object_leaves does desc named =
         by_call made answer p.tables q.tables does
         (λ e refuses.
         let all = refused_set refuses.tables in
-        record { others = λ desc is. (set_keeps q.tables q.clock a desc.0 all, λ k ne. all k); all = λ none. all })
+        (set_keeps q.tables q.clock a desc.0 all, λ k ne. all k))
         (λ accepted done.
-        let names = past_one (names_nothing p.tables.files pid fd.0) Ebadf (object_refusals (object_under p.tables.files pid fd.0) (side_under p.tables.files pid fd.0) p.clock call) accepted in
-        let there = some_is (under p.tables.files pid fd.0) names.0 in
-        let was : under p.tables.files pid fd.0 ≡ Some number = there.1 ∙ sym (ap (λ (o : Option ℕ). Some (unwrap_or o 0)) there.1) in
-        let now : under q.tables.files pid fd.0 ≡ Some number = ap (λ (f : Files). under f pid fd.0) done.files ∙ was in
-        let key = sound.named pid number fd.0 was in
-        let lives : is_live p.tables.files number ≡ true = sound.place key.0 number key.1 in
-        record {
-          others = λ desc is. (
-            own_is_kept desc (is ∙ now) was done.files,
-            but_one desc.0 number (is ∙ now) (λ d ne. ap (λ (f : Files). timer_in f d) done.files ∙ object_calls_leave p.tables.files number p.clock call ends lives d ne),
-          );
-          all = λ none. absurd (none-some number (sym none ∙ now));
-        })
+        let was : number_under p.tables desc ≡ Some number = named ∙ named_before accepted in
+        let is : number_under q.tables desc ≡ Some number = keys desc number was in
+        let lives : is_live p.tables.files number ≡ true = sound.place desc number was in (
+          own_is_kept desc was is done.files,
+          but_one desc.0 number is (λ d ne. ap (λ (f : Files). timer_in f d) done.files ∙ object_calls_leave p.tables.files number p.clock call ends lives d ne),
+        ))
+
+    -- it named nothing
+    pub object_none : Does made answer p.tables q.tables → under p.tables.files pid fd.0 ≡ None → AreSet q.tables q.clock a
+    object_none does none =
+        by_call made answer p.tables q.tables does
+        (λ e refuses. refused_set refuses.tables)
+        (λ accepted done. absurd (none-some number (sym none ∙ named_before accepted)))
 
   -- timerfd_create
   module _ (limits : Limits) (pid : ℕ) (busy : Bool) (kind : ℤ) (cloexec : Bool) (answer : Answer) where
@@ -231,15 +240,7 @@ module _ (p q : Parts) (a : Moments) (sound : SoundTables p.tables) (sound_now :
         (λ e refuses. subst (λ (r : Answer). CreatesTimer r q pid a) (sym refuses.answers) (refused_set refuses.tables))
         (λ accepted done. subst (λ (r : Answer). CreatesTimer r q pid a) (sym done.answers) (created few there accepted done.files))
 
--- What an object's call is on.
-on_object : (pid : ℕ) (call : Call) (fd : Fd) (answer : Answer) (p q : Parts) → fd_of call ≡ Some fd → CallsTables pid call answer p q → CallsObject pid fd p.clock call answer p.tables q.tables
-on_object pid (Read on n) fd answer p q is did = subst (λ (d : Fd). CallsObject pid d p.clock (Read on n) answer p.tables q.tables) (let same : on ≡ fd = cc in same) did
-on_object pid (Write on bytes) fd answer p q is did = subst (λ (d : Fd). CallsObject pid d p.clock (Write on bytes) answer p.tables q.tables) (let same : on ≡ fd = cc in same) did
-on_object pid (Shutdown on) fd answer p q is did = subst (λ (d : Fd). CallsObject pid d p.clock (Shutdown on) answer p.tables q.tables) (let same : on ≡ fd = cc in same) did
-on_object pid (SetTime on absolute value interval) fd answer p q is did = subst (λ (d : Fd). CallsObject pid d p.clock (SetTime on absolute value interval) answer p.tables q.tables) (let same : on ≡ fd = cc in same) did
-on_object pid (GetTime on) fd answer p q is did = subst (λ (d : Fd). CallsObject pid d p.clock (GetTime on) answer p.tables q.tables) (let same : on ≡ fd = cc in same) did
-on_object pid call fd answer p q is did = absurd (none-some fd is)
-
+-- What a call does to the tables.
 pub as_object : (pid : ℕ) (call : Call) (fd : Fd) (answer : Answer) (p q : Parts) → fd_of call ≡ Some fd → CallsObject pid fd p.clock call answer p.tables q.tables → CallsTables pid call answer p q
 as_object pid (Read on n) fd answer p q is did = subst (λ (d : Fd). CallsObject pid d p.clock (Read on n) answer p.tables q.tables) (let same : fd ≡ on = cc in same) did
 as_object pid (Write on bytes) fd answer p q is did = subst (λ (d : Fd). CallsObject pid d p.clock (Write on bytes) answer p.tables q.tables) (let same : fd ≡ on = cc in same) did
@@ -258,17 +259,8 @@ as_table pid (SetTime fd absolute value interval) answer p q is did = absurd is
 as_table pid (GetTime fd) answer p q is did = absurd is
 as_table pid call answer p q is did = did
 
--- a call that is neither on an object nor creates a timer
-pub record IsOther (call : Call) : Type 0 where
-  pub creates : (kind : ℤ) (cloexec : Bool) → call ≡ TimerFd kind cloexec → ⊥
-  pub reads : (fd : Fd) (n : ℕ) → call ≡ Read fd n → ⊥
-  pub writes : (fd : Fd) (bytes : List ℕ) → call ≡ Write fd bytes → ⊥
-  pub shuts : (fd : Fd) → call ≡ Shutdown fd → ⊥
-  pub sets : (fd : Fd) (absolute : Bool) (value interval : ℕ) → call ≡ SetTime fd absolute value interval → ⊥
-  pub gets : (fd : Fd) → call ≡ GetTime fd → ⊥
-
 -- Once an event has changed the parts.
-module _ (event : Event) (outcome : Outcome) (has_room : Bool) (q : Parts) (a : Moments) (were : WereSet event outcome has_room q a) (sound_now : SoundTables q.tables) where
+module _ (event : Event) (found : Option DescId) (outcome : Outcome) (has_room : Bool) (q : Parts) (a : Moments) (were : WereSet event found outcome has_room q a) (sound_now : SoundTables q.tables) where
   abbrev p : Parts
   p = were.before
 
@@ -289,14 +281,6 @@ module _ (event : Event) (outcome : Outcome) (has_room : Bool) (q : Parts) (a : 
     refused_call : IsRefused outcome.answer p.tables q.tables → AreSet q.tables q.clock a
     refused_call refused = refused_set p q a were.sound sound_now were.keys were.set clock refused.1.tables
 
-    pub object_beside : (fd : Fd) → fd_of call ≡ Some fd → AreSetBeside q pid.0 fd.0 a
-    object_beside fd on = elim touches [
-      | inl refused ↦
-          let all = refused_call refused in
-          record { others = λ desc named. (set_keeps q.tables q.clock a desc.0 all, λ k ne. all k); all = λ none. all }
-      | inr did ↦ object_set p q a were.sound sound_now were.keys were.set clock were.ends pid.0 fd call outcome.answer (on_object pid.0 call fd outcome.answer p q on did.1)
-    ]
-
     pub call_creates : (kind : ℤ) (cloexec : Bool) → call ≡ TimerFd kind cloexec → q.tables.limits.descriptors ≤ 65536 → CreatesTimer outcome.answer q pid.0 a
     call_creates kind cloexec creates few = elim touches [
       | inl refused ↦ subst (λ (r : Answer). CreatesTimer r q pid.0 a) (sym refused.1.answers) (refused_call refused)
@@ -314,32 +298,81 @@ module _ (event : Event) (outcome : Outcome) (has_room : Bool) (q : Parts) (a : 
     on_files : q.tables.files ≡ p.tables.files → AreSet q.tables q.clock a
     on_files same = left_set p q a were.sound sound_now were.keys were.set clock (λ d. ap (λ (f : Files). timer_in f d) same)
 
-    by_other : (call : Call) → IsOther call → CallsTables pid.0 call outcome.answer p q → AreSet q.tables q.clock a
-    by_other (EpollCtl epfd op fd mask tag) other did = on_files did
-    by_other (EpollWait epfd most timeout) other did = on_files did
-    by_other (Read fd n) other did = absurd (other.reads fd n refl)
-    by_other (Write fd bytes) other did = absurd (other.writes fd bytes refl)
-    by_other (Shutdown fd) other did = absurd (other.shuts fd refl)
-    by_other (SetTime fd absolute value interval) other did = absurd (other.sets fd absolute value interval refl)
-    by_other (GetTime fd) other did = absurd (other.gets fd refl)
-    by_other (TimerFd kind cloexec) other did = absurd (other.creates kind cloexec refl)
-    by_other (PipeCall cloexec) other did = on_tables (PipeCall cloexec) tt did
-    by_other (SocketPair cloexec) other did = on_tables (SocketPair cloexec) tt did
-    by_other (EventFd init semaphore cloexec) other did = on_tables (EventFd init semaphore cloexec) tt did
-    by_other (Plain cloexec) other did = on_tables (Plain cloexec) tt did
-    by_other (EpollCreate cloexec) other did = on_tables (EpollCreate cloexec) tt did
-    by_other (Dup fd) other did = on_tables (Dup fd) tt did
-    by_other (Dup2 fd to) other did = on_tables (Dup2 fd to) tt did
-    by_other (Close fd) other did = on_tables (Close fd) tt did
-    by_other Fork other did = on_tables Fork tt did
-    by_other Exec other did = on_tables Exec tt did
-    by_other Exit other did = on_tables Exit tt did
+    -- on the object of a description
+    on_object : (call : Call) (desc : DescId) (d : ℕ) → number_under p.tables desc ≡ Some d → number_under p.tables desc ≡ called_in p.tables.files (CallOf pid call) → CallsTables pid.0 call outcome.answer p q
+        → IsKept q.tables desc.0 a × AreSetBut q.tables q.clock desc.0 a
+    on_object (Read fd n) desc d at named did = object_leaves p q a were.sound sound_now were.keys were.set clock were.ends pid.0 fd (Read fd n) outcome.answer did desc named
+    on_object (Write fd bytes) desc d at named did = object_leaves p q a were.sound sound_now were.keys were.set clock were.ends pid.0 fd (Write fd bytes) outcome.answer did desc named
+    on_object (Shutdown fd) desc d at named did = object_leaves p q a were.sound sound_now were.keys were.set clock were.ends pid.0 fd (Shutdown fd) outcome.answer did desc named
+    on_object (SetTime fd absolute value interval) desc d at named did = object_leaves p q a were.sound sound_now were.keys were.set clock were.ends pid.0 fd (SetTime fd absolute value interval) outcome.answer did desc named
+    on_object (GetTime fd) desc d at named did = object_leaves p q a were.sound sound_now were.keys were.set clock were.ends pid.0 fd (GetTime fd) outcome.answer did desc named
+    on_object call desc d at named did = absurd (none-some d (sym named ∙ at))
 
-    pub other_call : IsOther call → AreSetSince outcome.raising q.tables q.clock a
-    other_call other = since_call a (elim touches [
-      | inl refused ↦ refused_call refused
-      | inr did ↦ by_other call other did.1
+    call_sets : (desc : DescId) (d : ℕ) → number_under p.tables desc ≡ Some d → number_under p.tables desc ≡ called_in p.tables.files (CallOf pid call)
+        → (b : Moments) → (IsKept q.tables desc.0 a → AreSetBut q.tables q.clock desc.0 a → AreSet q.tables q.clock b) → AreSetSince outcome.raising q.tables q.clock b
+    call_sets desc d at named b sets = since_call b (elim touches [
+      | inl refused ↦
+          let all = refused_call refused in
+          sets (set_keeps q.tables q.clock a desc.0 all) (λ k ne. all k)
+      | inr did ↦
+          let left = on_object call desc d at named did.1 in
+          sets left.0 left.1
     ])
+
+    -- on none, and it creates no timer
+    by_other : (call : Call) → ((kind : ℤ) (cloexec : Bool) → call ≡ TimerFd kind cloexec → ⊥) → called_in p.tables.files (CallOf pid call) ≡ None → CallsTables pid.0 call outcome.answer p q → AreSet q.tables q.clock a
+    by_other (EpollCtl epfd op fd mask tag) creates none did = on_files did
+    by_other (EpollWait epfd most timeout) creates none did = on_files did
+    by_other (Read fd n) creates none did = object_none p q a were.sound sound_now were.keys were.set clock were.ends pid.0 fd (Read fd n) outcome.answer did none
+    by_other (Write fd bytes) creates none did = object_none p q a were.sound sound_now were.keys were.set clock were.ends pid.0 fd (Write fd bytes) outcome.answer did none
+    by_other (Shutdown fd) creates none did = object_none p q a were.sound sound_now were.keys were.set clock were.ends pid.0 fd (Shutdown fd) outcome.answer did none
+    by_other (SetTime fd absolute value interval) creates none did = object_none p q a were.sound sound_now were.keys were.set clock were.ends pid.0 fd (SetTime fd absolute value interval) outcome.answer did none
+    by_other (GetTime fd) creates none did = object_none p q a were.sound sound_now were.keys were.set clock were.ends pid.0 fd (GetTime fd) outcome.answer did none
+    by_other (TimerFd kind cloexec) creates none did = absurd (creates kind cloexec refl)
+    by_other (PipeCall cloexec) creates none did = on_tables (PipeCall cloexec) tt did
+    by_other (SocketPair cloexec) creates none did = on_tables (SocketPair cloexec) tt did
+    by_other (EventFd init semaphore cloexec) creates none did = on_tables (EventFd init semaphore cloexec) tt did
+    by_other (Plain cloexec) creates none did = on_tables (Plain cloexec) tt did
+    by_other (EpollCreate cloexec) creates none did = on_tables (EpollCreate cloexec) tt did
+    by_other (Dup fd) creates none did = on_tables (Dup fd) tt did
+    by_other (Dup2 fd to) creates none did = on_tables (Dup2 fd to) tt did
+    by_other (Close fd) creates none did = on_tables (Close fd) tt did
+    by_other Fork creates none did = on_tables Fork tt did
+    by_other Exec creates none did = on_tables Exec tt did
+    by_other Exit creates none did = on_tables Exit tt did
+
+    none_in : found ≡ None → called_in p.tables.files (CallOf pid call) ≡ None
+    none_in none =
+        let nothing : called_in p.tables.files event ≡ None = subst (λ (o : Option DescId). IsCalled p.tables event o) none were.called in
+        subst (λ (e : Event). called_in p.tables.files e ≡ None) is nothing
+
+    pub other_call : found ≡ None → ((kind : ℤ) (cloexec : Bool) → call ≡ TimerFd kind cloexec → ⊥) → AreSetSince outcome.raising q.tables q.clock a
+    other_call none creates = since_call a (elim touches [
+      | inl refused ↦ refused_call refused
+      | inr did ↦ by_other call creates (none_in none) did.1
+    ])
+
+  -- What was found.
+  found_number : (desc : DescId) → found ≡ Some desc → (d : ℕ) × (number_under p.tables desc ≡ Some d)
+  found_number desc is = there_is (number_under p.tables desc) (subst (λ (o : Option DescId). IfSome o (λ x. IsSome (number_under p.tables x))) is were.live)
+
+  pub found_lives : (desc : DescId) → found ≡ Some desc → IsSome (number_under q.tables desc)
+  found_lives desc is =
+      let number = found_number desc is in
+      ap (λ (o : Option ℕ). is_some o) (were.keys desc number.0 number.1)
+
+  found_by : (e : Event) → event ≡ e → (desc : DescId) (d : ℕ) → number_under p.tables desc ≡ Some d → number_under p.tables desc ≡ called_in p.tables.files e
+      → (b : Moments) → (IsKept q.tables desc.0 a → AreSetBut q.tables q.clock desc.0 a → AreSet q.tables q.clock b) → AreSetSince outcome.raising q.tables q.clock b
+  found_by (CallOf pid call) is desc d at named b sets = call_sets pid call is desc d at named b sets
+  found_by Resume is desc d at named b sets = absurd (none-some d (sym named ∙ at))
+  found_by (Tick n) is desc d at named b sets = absurd (none-some d (sym named ∙ at))
+
+  -- its moment is given anew
+  pub found_set : (desc : DescId) → found ≡ Some desc → (b : Moments) → (IsKept q.tables desc.0 a → AreSetBut q.tables q.clock desc.0 a → AreSet q.tables q.clock b) → AreSetSince outcome.raising q.tables q.clock b
+  found_set desc is b sets =
+      let number = found_number desc is in
+      let named : number_under p.tables desc ≡ called_in p.tables.files event = subst (λ (o : Option DescId). IsCalled p.tables event o) is were.called in
+      found_by event refl desc number.0 number.1 named b sets
 
   -- the clock goes on
   moved : (raising : Raising) → GoesOn raising p.clock q.clock → q.tables.files ≡ p.tables.files → AreSetSince raising q.tables q.clock a

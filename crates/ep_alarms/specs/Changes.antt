@@ -1,6 +1,7 @@
 -- What an event does to timers and the clock before the dead go, and the moments of timers meanwhile.
-use Rattle.std.specs.Prelude.{◌≡◌, ◌≤◌, ◌<◌, ◌^◌, ◌⊎◌, Bool, IsSome, None, false, is_some, pos, true, ℕ, ℤ}
-use Rattle.ep_alarms.specs.Alarms.{AreSet, AreSetBut, IsKept}
+use Rattle.std.specs.Prelude.{◌≡◌, ◌≤◌, ◌<◌, ◌^◌, ◌⊎◌, Bool, IfSome, IsSome, None, Option, false, is_some, pos, true, ℕ}
+use Rattle.ep_alarms.specs.Alarms.{AreSet, AreSetBut}
+use Rattle.ep_alarms.specs.Called.{IsCalled}
 use Rattle.ep_alarms.specs.Timers.{timer_under}
 use Rattle.ep_base.specs.declared.answer.Answer.{Answer}
 use Rattle.ep_base.specs.declared.answer.Answer.TheVariants.{Num}
@@ -68,8 +69,9 @@ abbrev pub MayCreate : Event → Type 0
 MayCreate (CallOf pid call) = MakesTimer call
 MayCreate event = ⊥
 
--- the timers have the moments that they had before an event, which creates none without room for it
-pub record WereSet (event : Event) (outcome : Outcome) (has_room : Bool) (q : Parts) (a : Moments) : Type 0 where
+-- the timers have the moments that they had before an event, which creates none without room for it; what was found
+-- then is the description on whose object the event is a call
+pub record WereSet (event : Event) (found : Option DescId) (outcome : Outcome) (has_room : Bool) (q : Parts) (a : Moments) : Type 0 where
   pub before : Parts
   pub sound : SoundTables before.tables
   pub ends : HaveOwnEnds before.tables.files
@@ -78,12 +80,8 @@ pub record WereSet (event : Event) (outcome : Outcome) (has_room : Bool) (q : Pa
   pub clock : MovesClock event outcome.raising before.clock q.clock
   pub keys : KeepsKeys before.tables q.tables
   pub left : has_room ≡ false → MayCreate event → q.tables ≡ before.tables
-
--- each timer has its moment, but for the description that a descriptor names
-pub record AreSetBeside (q : Parts) (pid : ℕ) (fd : ℤ) (a : Moments) : Type 0 where
-  pub others : (desc : DescId) → number_under q.tables desc ≡ under q.tables.files pid fd
-      → IsKept q.tables desc.0 a × AreSetBut q.tables q.clock desc.0 a
-  pub all : under q.tables.files pid fd ≡ None → AreSet q.tables q.clock a
+  pub called : IsCalled before.tables event found
+  pub live : IfSome found (λ desc. IsSome (number_under before.tables desc))
 
 -- a descriptor names a timer that isn't among them, and each other one has its moment
 pub record IsCreated (q : Parts) (pid n : ℕ) (a : Moments) : Type 0 where

@@ -3,8 +3,10 @@
 #![tactic(auto)]
 
 mod alarms;
+mod called;
 mod law;
 mod timers;
 
 pub use crate::alarms::Alarms;
+pub use crate::called::find_called;
 pub use crate::law::burial_leaves_alarms;

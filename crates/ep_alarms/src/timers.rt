@@ -1,14 +1,14 @@
 //! The moments of timers over an event: of the one that it creates, sets or reads, and of those that the clock reaches.
 ghost use Rattle.std.specs.Prelude.{◌≡◌, ◌≤◌, true};
 ghost use Rattle.ep_alarms.specs.Alarms.{AreSet};
-ghost use Rattle.ep_alarms.specs.Changes.{AreSetBeside, AreSetSince, CreatesTimer, MayCreate, WereSet};
+ghost use Rattle.ep_alarms.specs.Changes.{AreSetSince, CreatesTimer, MayCreate, WereSet};
 ghost use Rattle.ep_calls.specs.Raising.{IsRaising, Stirs};
 ghost use Rattle.ep_calls.specs.Spared.{IsSpared};
 ghost use Rattle.ep_due.specs.DueMap.{HasRoom, SameMoments};
 ghost use Rattle.ep_machine.specs.Files.{Files};
 
 use crate::alarms::Alarms;
-use ep_base::{Answer, Call, Event, Fd, Pid};
+use ep_base::{Answer, Call, DescId, Event, Fd, Pid};
 use ep_calls::{Outcome, Parts, Raising};
 use ep_table::Tables;
 
@@ -37,16 +37,6 @@ impl Alarms {
         }
     }
 
-    /// Gives the timer that a call set or read its next moment, if a descriptor names one.
-    fn set_named(&mut self, parts: &Parts, pid: Pid, fd: Fd)
-        requires { AreSetBeside parts.now pid.0 fd.0 self.old }
-        ensures { AreSet parts.now.tables parts.now.clock self.new }
-    {
-        if let Some(desc) = parts.tables.lookup(pid, fd) {
-            self.set(&parts.tables, desc, parts.clock);
-        }
-    }
-
     /// Adds the timer that timerfd_create(2) created, if its answer is one.
     fn add_created(&mut self, parts: &Parts, pid: Pid, answer: &Answer)
         requires created { CreatesTimer answer.now parts.now pid.0 self.old }
@@ -61,31 +51,35 @@ impl Alarms {
         }
     }
 
-    /// Gives the timer that an event created, set or read its next moment. `has_room`: there was room for one that it
-    /// may create, without which it creates none.
+    /// Gives the timer that an event created, set or read its next moment. `called`: the description on whose object
+    /// the event is a call, as `find_called` answered it before the event. `has_room`: there was room for a timer that
+    /// the event may create, without which it creates none.
     #[inline(always)]
-    pub fn follow(&mut self, parts: &Parts, event: &Event, outcome: &Outcome, has_room: bool)
-        requires before { WereSet event.now outcome.now has_room parts.now self.old }
+    pub fn follow(
+        &mut self,
+        parts: &Parts,
+        event: &Event,
+        called: Option<DescId>,
+        outcome: &Outcome,
+        has_room: bool,
+    )
+        requires before { WereSet event.now called outcome.now has_room parts.now self.old }
         requires room { has_room ≡ true → MayCreate event.now → HasRoom self.old }
         ensures { AreSetSince outcome.now.raising parts.now.tables parts.now.clock self.new }
     {
         parts.known();
         know_limits(&parts.tables);
+        if let Some(desc) = called {
+            self.set(&parts.tables, desc, parts.clock);
+            return;
+        }
         let Event::Call { pid, call } = event else {
             return;
         };
-        match call {
-            Call::Read { fd, .. }
-            | Call::Write { fd, .. }
-            | Call::Shutdown { fd }
-            | Call::SetTime { fd, .. }
-            | Call::GetTime { fd } => self.set_named(parts, *pid, *fd),
-            Call::TimerFd { .. } => {
-                if has_room {
-                    self.add_created(parts, *pid, &outcome.answer);
-                }
+        if let Call::TimerFd { .. } = call {
+            if has_room {
+                self.add_created(parts, *pid, &outcome.answer);
             }
-            _ => {}
         }
     }
 

@@ -25,6 +25,7 @@ pub struct Question {
 
 /// Whether a registration is reportable, if what it watches is ready exactly if its row isn't empty. An edge-triggered
 /// one to which nothing arrived since its last report isn't, whatever its target shows.
+#[inline(always)]
 fn shows(parts: &Parts, dates: &Dates, entry: &Entry) -> bool
     requires { IsSome (number_under parts.now.tables entry.now.desc) }
     ensures { result ≡ shows_by (shows_over parts.now) dates.now entry.now }

@@ -2,21 +2,26 @@
 ghost use Rattle.std.specs.Prelude.{◌≡◌, ◌<◌, ◌≤◌, [], All, IfOk, IsOk, None, OnErr, false, length, true, ℕ};
 ghost use Rattle.ep_calls.specs.Acts.{Acts, Adds, is_no_memory};
 ghost use Rattle.ep_calls.specs.KeptRecords.{Gains, HasRecord, KeepsRecord};
+ghost use Rattle.ep_calls.specs.Parts.{AreCoherent};
 ghost use Rattle.ep_calls.specs.Spared.{IsSpared};
+ghost use Rattle.ep_interest.specs.Registrations.{IsSound};
 ghost use Rattle.ep_kernel.specs.ReadyBook.{ActsOnLists, MayBeListed, TurnsLists, listed, state_of};
-ghost use Rattle.ep_law.specs.Laws.{is_reportable_in};
+ghost use Rattle.ep_law.specs.Laws.{EndsAreApart, ReportablesAreSpread, is_reportable_in};
 ghost use Rattle.ep_machine.specs.Effect.{first};
 ghost use Rattle.ep_machine.specs.Files.{object_of};
 ghost use Rattle.ep_machine.specs.Lists.{are_distinct, is_among};
 ghost use Rattle.ep_machine.specs.Refusal.{refusals};
 ghost use Rattle.ep_machine.specs.Step.{next_event};
+ghost use Rattle.ep_order.specs.Event.{ListsGoOn};
+ghost use Rattle.ep_order.specs.Mark.{UnmarkedAreReached};
+ghost use Rattle.ep_ready.specs.ReadyLists.{IsSound as AreSoundLists};
+ghost use Rattle.ep_table.specs.Value.{Sound as SoundTables};
 ghost use Rattle.ep_view.specs.AtRest.{IsSteady, kind_of};
 
 use crate::act::{Request, act};
-use crate::mark::mark;
 use crate::notes::Notes;
-use crate::settle::{know, spread};
-use ep_alarms::Alarms;
+use crate::settle::{know, rest, spread};
+use ep_alarms::{Alarms, find_called};
 use ep_base::{Answer, CallerId, Errno, Event, Limits, Record};
 use ep_calls::{Kernel, Parts, Spare};
 use ep_climb::{attend, resumed_at};
@@ -49,6 +54,26 @@ impl Model for ReadyKernel {
     ghost view = { book_of };
 
     ghost invariant = { IsRunning };
+}
+
+/// Does nothing. What holds of the parts and the ready lists between two events, and the laws that the end of an event
+/// rests on; facts for proofs.
+fn know_laws(parts: &Parts, lists: &ReadyLists)
+    ensures coherent { AreCoherent parts.now }
+    ensures tables { SoundTables parts.now.tables }
+    ensures interest { IsSound parts.now.interest }
+    ensures lists { AreSoundLists lists.now }
+    ensures apart { EndsAreApart }
+    ensures spread { ReportablesAreSpread }
+    ensures reached { UnmarkedAreReached }
+    ensures turns { ListsGoOn }
+{
+    lists_go_on();
+    ends_are_apart();
+    unmarked_are_reached();
+    reportables_are_spread();
+    know(parts);
+    lists.known();
 }
 
 impl ReadyKernel {
@@ -118,12 +143,8 @@ impl ReadyKernel {
         self.history.reserve(1)?;
         let has_room = self.alarms.make_room(&event);
         let step = self.history.len() as u64 + 1;
-        lists_go_on();
-        ends_are_apart();
-        unmarked_are_reached();
-        reportables_are_spread();
-        know(&self.parts);
-        self.lists.known();
+        know_laws(&self.parts, &self.lists);
+        let called = find_called(&self.parts, &event);
         let resumed = resumed_at(&self.parts, caller, &event);
         let request = Request {
             step,
@@ -138,7 +159,8 @@ impl ReadyKernel {
             request,
             &event,
         )?;
-        self.alarms.follow(&self.parts, &event, &outcome, has_room);
+        self.alarms
+            .follow(&self.parts, &event, called, &outcome, has_room);
         let raising = outcome.raising;
         let (answer, spare, record) = outcome.into_record(caller, event, kept);
         spread(
@@ -151,13 +173,7 @@ impl ReadyKernel {
         );
         self.lists.known();
         let attended = attend(resumed, raising);
-        mark(
-            &mut self.parts,
-            &self.notes.reached,
-            &mut self.notes.asked,
-            attended,
-        );
-        self.parts.forget_passed();
+        rest(&mut self.parts, &mut self.notes, attended);
         self.history.push_reserved(record);
         Ok((answer, spare))
     }

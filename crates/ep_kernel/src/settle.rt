@@ -2,18 +2,22 @@
 ghost use Rattle.std.specs.Prelude.{◌≡◌, ◌<◌};
 ghost use Rattle.ep_alarms.specs.Alarms.{AreSet};
 ghost use Rattle.ep_alarms.specs.Changes.{AreSetSince};
+ghost use Rattle.ep_calls.specs.Ends.{Rests};
 ghost use Rattle.ep_calls.specs.Parts.{AreCoherent};
 ghost use Rattle.ep_calls.specs.Raising.{IsRaising};
+ghost use Rattle.ep_climb.specs.Mark.{AreLookedAt};
 ghost use Rattle.ep_interest.specs.Registrations.{IsSound};
-ghost use Rattle.ep_kernel.specs.Listed.{HavePlaces};
+ghost use Rattle.ep_kernel.specs.Listed.{HavePlaces, HopesFor};
 ghost use Rattle.ep_kernel.specs.Places.{HasRoomFor};
 ghost use Rattle.ep_kernel.specs.Running.{SpreadsWith};
 ghost use Rattle.ep_table.specs.Value.{Sound};
 
 use crate::climb::climb;
+use crate::mark::mark;
 use crate::notes::Notes;
 use crate::places::drop_dying;
 use ep_alarms::{Alarms, burial_leaves_alarms};
+use ep_base::DescId;
 use ep_calls::{Parts, Raising};
 use ep_ready::ReadyLists;
 
@@ -65,4 +69,17 @@ pub fn spread(
         step,
     );
     know(parts);
+}
+
+/// Sets marks, and forgets what was passed on in an event. All that is reportable stays among the hopes.
+#[inline(always)]
+pub fn rest(parts: &mut Parts, notes: &mut Notes, attend: Option<DescId>)
+    requires hopes { HopesFor parts.old notes.old.asked.hopes }
+    requires looked { AreLookedAt parts.old notes.old.reached.reached attend }
+    ensures rests { Rests parts.old parts.new }
+    ensures hopes { HopesFor parts.old notes.new.asked.hopes }
+    ensures reached { notes.new.reached ≡ notes.old.reached }
+{
+    mark(parts, &notes.reached, &mut notes.asked, attend);
+    parts.forget_passed();
 }

@@ -48,7 +48,7 @@ use Rattle.ep_order.specs.Event.{IsAltered, end_of}
 use Rattle.ep_plain.proofs.ComeLemmas.{date_left, keys_left, linked_left, longer}
 use Rattle.ep_plain.proofs.NamedLemmas.{had_key, is_found, is_named}
 use Rattle.ep_plain.proofs.ReportedLemmas.{was_then}
-use Rattle.ep_plain.specs.Called.{IsCalled}
+use Rattle.ep_alarms.specs.Called.{IsCalled}
 use Rattle.ep_plain.specs.Dating.{touched_in}
 use Rattle.ep_plain.specs.Exact.{Follows, TellsReady}
 use Rattle.ep_plain.specs.Since.{IsDated}

@@ -18,7 +18,7 @@ use Rattle.ep_machine.specs.State.{State, Watch}
 use Rattle.ep_machine.specs.Watches.{number_in}
 use Rattle.ep_order.specs.Ending.{is_called}
 use Rattle.ep_order.specs.Event.{IsAltered}
-use Rattle.ep_plain.specs.Called.{IsCalled}
+use Rattle.ep_alarms.specs.Called.{IsCalled}
 use Rattle.ep_plain.specs.Exact.{IsNamed}
 use Rattle.ep_table.specs.Value.{Seen, Sound as SoundTables, number_under as desc_number}
 use Rattle.ep_view.proofs.AtRestLemmas.{none_holds}

@@ -2,7 +2,6 @@ pub mod Dating
 pub mod Loses
 pub mod Exact
 pub mod Spread
-pub mod Called
 pub mod Control
 pub mod Standing
 pub mod Choose

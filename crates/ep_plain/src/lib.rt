@@ -3,7 +3,6 @@
 
 mod act;
 mod by_dates;
-mod called;
 mod choose;
 mod control;
 mod date;

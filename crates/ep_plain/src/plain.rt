@@ -16,13 +16,12 @@ ghost use Rattle.ep_order.specs.Mark.{UnmarkedAreReached};
 ghost use Rattle.ep_table.specs.Value.{Sound as SoundTables};
 ghost use Rattle.ep_plain.specs.StepWith.{AddsBy, HasStep, StepsWith};
 
-use crate::called::find_called;
 use crate::date::date_all;
 use crate::dating::Dating;
 use crate::settle::{know, rest, spread};
 use crate::stamp::Stamp;
 use crate::these::{act_with, allows};
-use ep_alarms::Alarms;
+use ep_alarms::{Alarms, find_called};
 use ep_base::{Answer, CallerId, Errno, Event, Limits, Record};
 use ep_calls::{Kernel, Parts, Spare};
 use ep_climb::{attend, resumed_at};
@@ -151,7 +150,8 @@ impl PlainKernel {
             picks,
             kept,
         )?;
-        self.alarms.follow(&self.parts, &event, &outcome, has_room);
+        self.alarms
+            .follow(&self.parts, &event, called, &outcome, has_room);
         let raising = outcome.raising;
         let (answer, spare, record) = outcome.into_record(caller, event, kept);
         self.history.push_reserved(record);
@@ -163,13 +163,8 @@ impl PlainKernel {
             raising,
         );
         self.dating.dates.number();
-        date_all(
-            &self.parts,
-            step,
-            called,
-            last_picked(&self.history),
-            &mut self.dating,
-        );
+        let reported = last_picked(&self.history);
+        date_all(&self.parts, step, called, reported, &mut self.dating);
         rest(&mut self.parts, &self.dating, attend(resumed, raising));
         Ok((answer, spare))
     }

@@ -1,23 +1,22 @@
-use Rattle.std.proofs.Common.{◌≡◌, ◌+◌, ◌++◌, [], ◌∷◌, List, None, Option, ap, length, map, ◌∙◌, arith, subst, sym, vec_capacity}
+use Rattle.std.proofs.Common.{◌≡◌, ◌+◌, ◌++◌, [], ◌∷◌, List, None, Option, ap, length, ◌∙◌, arith, subst, sym, vec_capacity}
 use Rattle.ep_alarms.specs.Alarms.{AreSet}
 use Rattle.ep_base.specs.declared.answer.Answer.{Answer}
 use Rattle.ep_base.specs.declared.ids.DescId.{DescId}
 use Rattle.ep_base.specs.declared.record.Record.{Record}
 use Rattle.ep_machine.specs.Effect.{first}
 use Rattle.ep_machine.specs.Refusal.{refusals}
-use Rattle.ep_machine.specs.State.{Waiter}
 use Rattle.ep_machine.specs.Step.{next_event}
 use Rattle.ep_calls.specs.Acts.{Adds}
 use Rattle.ep_calls.specs.Book.{Book, state_of}
 use Rattle.ep_kernel.specs.ReadyBook.{AreAdded, LeavesReportable, ReadyBook, TurnsLists, list_of, listed}
-use Rattle.ep_calls.specs.Ends.{Rests}
 use Rattle.ep_calls.specs.Parts.{Parts}
-use Rattle.ep_interest.specs.Registrations.{Registrations, settled}
 use Rattle.ep_calls.proofs.KeepsLemmas.{record_of}
 use Rattle.ep_calls.proofs.KeptLemmas.{inline_event}
 use Rattle.ep_kernel.proofs.ReadyBookLemmas.{same_lists}
 use Rattle.ep_kernel.specs.Listed.{HopesFor, lists_of}
 use Rattle.ep_climb.specs.Mark.{AreLookedAt, attends}
+use Rattle.ep_kernel.specs.Places.{HasRoomFor}
+use Rattle.ep_ready.specs.Walk.{Walk}
 use Rattle.ep_kernel.specs.Running.{Runs, book_of}
 use Rattle.ep_climb.proofs.AreLookedAtLemmas.{looked_at}
 use Rattle.ep_kernel.proofs.HopesForLemmas.{hopes_after, hopes_left}
@@ -80,24 +79,24 @@ hoped c =
     let outcome = c.in_ok-outcome.outcome in
     let runs = c.self.invariant.runs in
     let done = does_fairly k.history.items k.parts c.act.new.parts k.lists runs n c.args.caller.0 c.args.event outcome (at_step c) c.in_ok-outcome.ensures.ok in
-    hopes_left c.reportables_are_spread.ensures.law k.history.items k.parts c.act.new.parts c.spread.new.parts runs.keeps c.know.ensures.tables c.know.ensures.interest
+    hopes_left c.know_laws.ensures.spread k.history.items k.parts c.act.new.parts c.spread.new.parts runs.keeps c.know_laws.ensures.tables c.know_laws.ensures.interest
     c.args.caller c.args.event outcome n (at_step c) done c.in_ok-outcome.ensures.turns.ids c.in_ok-outcome.ensures.ok.keys c.spread.ensures.spreads.spreads c.act.new.notes.asked.hopes c.spread.new.notes.asked.hopes c.act.ensures.hopes c.spread.ensures.spreads.hopes
 
-pub mark-requires-clause-hopes : goal.mark-requires-clause-hopes
-mark-requires-clause-hopes c = hoped (goal.at.mark-requires-clause-hopes c).After-attend-attended
+pub rest-requires-clause-hopes : goal.rest-requires-clause-hopes
+rest-requires-clause-hopes c = hoped (goal.at.rest-requires-clause-hopes c).After-attend-attended
 
-pub mark-requires-clause-reached : goal.mark-requires-clause-reached
-mark-requires-clause-reached c =
+pub rest-requires-clause-looked : goal.rest-requires-clause-looked
+rest-requires-clause-looked c =
     let k = c.self.inside in
     let n = c.len.result + 1 in
     let outcome = c.in_ok-outcome.outcome in
     let runs = c.self.invariant.runs in
     let ks = c.spread.new.notes.reached.reached in
-    let at = at_step (goal.at.mark-requires-clause-reached c).After-attend-attended in
+    let at = at_step (goal.at.rest-requires-clause-looked c).After-attend-attended in
     let done = does_fairly k.history.items k.parts c.act.new.parts k.lists runs n c.args.caller.0 c.args.event outcome at c.in_ok-outcome.ensures.ok in
     subst (AreLookedAt c.spread.new.parts ks) (sym (c.attend-attended.ensures ∙ ap (λ (o : Option DescId). attends o outcome.raising) c.resumed_at-resumed.ensures))
-    (looked_at k.history.items k.parts c.act.new.parts c.spread.new.parts runs.keeps c.args.caller c.args.event outcome n at done c.in_ok-outcome.ensures.ok.keys c.know.ensures.coherent.placed
-    c.unmarked_are_reached.ensures.law c.spread.ensures.spreads.spreads ks c.spread.ensures.spreads.reached)
+    (looked_at k.history.items k.parts c.act.new.parts c.spread.new.parts runs.keeps c.args.caller c.args.event outcome n at done c.in_ok-outcome.ensures.ok.keys c.know_laws.ensures.coherent.placed
+    c.know_laws.ensures.reached c.spread.ensures.spreads.spreads ks c.spread.ensures.spreads.reached)
 
 pub spread-requires-clause-hopes : goal.spread-requires-clause-hopes
 spread-requires-clause-hopes c = c.act.ensures.hopes.places
@@ -111,41 +110,27 @@ records : (c : goal.After-push_reserved) → c.push_reserved.new.self.items ≡ 
 records c =
     c.push_reserved.ensures.items ∙ (λ i. c.reserve.ensures.items i ++ c.into_record-answer.ensures.record i ∷ [])
 
--- what follows the spread
-rests : (c : goal.After-push_reserved) → Rests c.spread.new.parts c.forget_passed.new.self
-rests c =
-    let marked : c.mark.new.parts ≡ record c.spread.new.parts { parked = c.mark.new.parts.parked } = c.mark.ensures.others in
-    let parked : c.mark.new.parts.parked ≡ c.forget_passed.new.self.parked = sym (ap (λ (p : Parts). p.parked) c.forget_passed.ensures.others) in
-    let interest : c.mark.new.parts.interest ≡ c.spread.new.parts.interest = ap (λ (p : Parts). p.interest) marked in
-    record {
-      marks = ap (λ (p : Parts). p.parked) c.forget_passed.ensures.others ∙ c.mark.ensures.marks;
-      entries = c.forget_passed.ensures.entries ∙ ap (λ (r : Registrations). map settled r.entries) interest;
-      keys = c.forget_passed.ensures.keys ∙ ap (λ (r : Registrations). r.keys) interest;
-      added = c.forget_passed.ensures.added ∙ ap (λ (r : Registrations). r.added) interest;
-      others = c.forget_passed.ensures.others ∙ (ap (λ (p : Parts). record p { interest = c.forget_passed.new.self.interest }) marked ∙ ap (λ (ws : List Waiter). record c.spread.new.parts { interest = c.forget_passed.new.self.interest; parked = ws }) parked);
-    }
-
 pub invariant_of-self-2 : goal.invariant_of-self-2
 invariant_of-self-2 c =
     let k = c.self.inside in
-    let runs = subst (λ (rs : List Record). Runs rs c.forget_passed.new.self c.spread.new.lists) (sym (records c))
-    (runs_on c.lists_go_on.ensures.law k.history.items k.parts c.act.new.parts c.forget_passed.new.self k.lists c.act.new.lists c.spread.new.lists c.self.invariant.runs c.know.ensures.coherent c.know.ensures.tables c.know.ensures.interest c.known.ensures c.known-2.ensures
-    c.args.caller c.args.event c.in_ok-outcome.outcome (c.len.result + 1) (number c) c.in_ok-outcome.ensures.ok c.in_ok-outcome.ensures.turns c.spread.new.parts c.spread.ensures.spreads.spreads c.spread.ensures.spreads.lists (rests c)) in
+    let runs = subst (λ (rs : List Record). Runs rs c.rest.new.parts c.spread.new.lists) (sym (records c))
+    (runs_on c.know_laws.ensures.turns k.history.items k.parts c.act.new.parts c.rest.new.parts k.lists c.act.new.lists c.spread.new.lists c.self.invariant.runs c.know_laws.ensures.coherent c.know_laws.ensures.tables c.know_laws.ensures.interest c.know_laws.ensures.lists c.known.ensures
+    c.args.caller c.args.event c.in_ok-outcome.outcome (c.len.result + 1) (number c) c.in_ok-outcome.ensures.ok c.in_ok-outcome.ensures.turns c.spread.new.parts c.spread.ensures.spreads.spreads c.spread.ensures.spreads.lists c.rest.ensures.rests) in
     record {
       runs = runs;
-      set = subst (λ (p : Parts). AreSet p.tables p.clock c.spread.new.alarms) (sym (rests c).others) c.spread.ensures.set;
-      hopes = hopes_after c.spread.new.parts c.forget_passed.new.self (rests c) c.mark.new.asked.hopes c.mark.ensures.hopes;
-      room = room_within c.spread.new.notes.asked.hopes c.mark.new.asked.hopes c.spread.new.notes.reached (within_hopes c.spread.new.parts c.spread.new.notes.asked.hopes c.mark.new.asked.hopes (hoped (goal.at.invariant_of-self-2 c).After-attend-attended) c.mark.ensures.hopes) c.spread.ensures.room;
+      set = subst (λ (p : Parts). AreSet p.tables p.clock c.spread.new.alarms) (sym c.rest.ensures.rests.others) c.spread.ensures.set;
+      hopes = hopes_after c.spread.new.parts c.rest.new.parts c.rest.ensures.rests c.rest.new.notes.asked.hopes c.rest.ensures.hopes;
+      room = subst (λ (w : Walk). HasRoomFor c.rest.new.notes.asked.hopes w) (sym c.rest.ensures.reached) (room_within c.spread.new.notes.asked.hopes c.rest.new.notes.asked.hopes c.spread.new.notes.reached (within_hopes c.spread.new.parts c.spread.new.notes.asked.hopes c.rest.new.notes.asked.hopes (hoped (goal.at.invariant_of-self-2 c).After-attend-attended) c.rest.ensures.hopes) c.spread.ensures.room);
     }
 
 pub returns-clause-ok : goal.returns-clause-ok
 returns-clause-ok c =
     let k = c.self.inside in
     let outcome = c.in_ok-outcome.outcome in
-    let new : Book = record { limits = c.forget_passed.new.self.tables.limits; past = c.push_reserved.new.self.items; capacity = vec_capacity c.push_reserved.new.self } in
+    let new : Book = record { limits = c.rest.new.parts.tables.limits; past = c.push_reserved.new.self.items; capacity = vec_capacity c.push_reserved.new.self } in
     let adds =
-    adds_on c.lists_go_on.ensures.law k.history.items k.parts c.act.new.parts c.forget_passed.new.self k.lists c.act.new.lists c.spread.new.lists c.self.invariant.runs c.know.ensures.coherent c.know.ensures.tables c.know.ensures.interest c.known.ensures c.known-2.ensures
-    c.args.caller c.args.event outcome (c.len.result + 1) (number c) c.in_ok-outcome.ensures.ok c.in_ok-outcome.ensures.turns c.spread.new.parts c.spread.ensures.spreads.spreads c.spread.ensures.spreads.lists (rests c) in
+    adds_on c.know_laws.ensures.turns k.history.items k.parts c.act.new.parts c.rest.new.parts k.lists c.act.new.lists c.spread.new.lists c.self.invariant.runs c.know_laws.ensures.coherent c.know_laws.ensures.tables c.know_laws.ensures.interest c.know_laws.ensures.lists c.known.ensures
+    c.args.caller c.args.event outcome (c.len.result + 1) (number c) c.in_ok-outcome.ensures.ok c.in_ok-outcome.ensures.turns c.spread.new.parts c.spread.ensures.spreads.spreads c.spread.ensures.spreads.lists c.rest.ensures.rests in
     let old = c.args.self.now.book in
     subst (λ (a : Answer). Adds old.limits c.args.caller c.args.event a (state_of old) (state_of new) old.past new.past) (sym c.into_record-answer.ensures.answer)
     (subst (λ (b : ReadyBook). Adds b.book.limits c.args.caller c.args.event outcome.answer (state_of b.book) (state_of new) b.book.past new.past) c.self.view_is
@@ -155,17 +140,17 @@ pub returns-clause-lists : goal.returns-clause-lists
 returns-clause-lists c =
     let k = c.self.inside in
     let outcome = c.in_ok-outcome.outcome in
-    let book : Book = record { limits = c.forget_passed.new.self.tables.limits; past = c.push_reserved.new.self.items; capacity = vec_capacity c.push_reserved.new.self } in
-    let new : ReadyBook = record { book = book; lists = lists_of c.forget_passed.new.self c.spread.new.lists } in
+    let book : Book = record { limits = c.rest.new.parts.tables.limits; past = c.push_reserved.new.self.items; capacity = vec_capacity c.push_reserved.new.self } in
+    let new : ReadyBook = record { book = book; lists = lists_of c.rest.new.parts c.spread.new.lists } in
     let first =
-    first_on c.lists_go_on.ensures.law k.history.items k.parts c.act.new.parts c.forget_passed.new.self k.lists c.act.new.lists c.spread.new.lists c.self.invariant.runs c.know.ensures.coherent c.know.ensures.tables c.know.ensures.interest c.known.ensures c.known-2.ensures
-    c.args.caller c.args.event outcome (c.len.result + 1) (number c) c.in_ok-outcome.ensures.ok c.in_ok-outcome.ensures.turns c.spread.new.parts c.spread.ensures.spreads.spreads c.spread.ensures.spreads.lists (rests c) c.in_ok-outcome.ensures.order in
+    first_on c.know_laws.ensures.turns k.history.items k.parts c.act.new.parts c.rest.new.parts k.lists c.act.new.lists c.spread.new.lists c.self.invariant.runs c.know_laws.ensures.coherent c.know_laws.ensures.tables c.know_laws.ensures.interest c.know_laws.ensures.lists c.known.ensures
+    c.args.caller c.args.event outcome (c.len.result + 1) (number c) c.in_ok-outcome.ensures.ok c.in_ok-outcome.ensures.turns c.spread.new.parts c.spread.ensures.spreads.spreads c.spread.ensures.spreads.lists c.rest.ensures.rests c.in_ok-outcome.ensures.order in
     let few =
-    few_on c.lists_go_on.ensures.law k.history.items k.parts c.act.new.parts c.forget_passed.new.self k.lists c.act.new.lists c.spread.new.lists c.self.invariant.runs c.know.ensures.coherent c.know.ensures.tables c.know.ensures.interest c.known.ensures c.known-2.ensures
-    c.args.caller c.args.event outcome (c.len.result + 1) (number c) c.in_ok-outcome.ensures.ok c.in_ok-outcome.ensures.turns c.spread.new.parts c.spread.ensures.spreads.spreads c.spread.ensures.spreads.lists (rests c) c.in_ok-outcome.ensures.order in
+    few_on c.know_laws.ensures.turns k.history.items k.parts c.act.new.parts c.rest.new.parts k.lists c.act.new.lists c.spread.new.lists c.self.invariant.runs c.know_laws.ensures.coherent c.know_laws.ensures.tables c.know_laws.ensures.interest c.know_laws.ensures.lists c.known.ensures
+    c.args.caller c.args.event outcome (c.len.result + 1) (number c) c.in_ok-outcome.ensures.ok c.in_ok-outcome.ensures.turns c.spread.new.parts c.spread.ensures.spreads.spreads c.spread.ensures.spreads.lists c.rest.ensures.rests c.in_ok-outcome.ensures.order in
     let added =
-    added_on c.lists_go_on.ensures.law k.history.items k.parts c.act.new.parts c.forget_passed.new.self k.lists c.act.new.lists c.spread.new.lists c.self.invariant.runs c.know.ensures.coherent c.know.ensures.tables c.know.ensures.interest c.known.ensures c.known-2.ensures
-    c.args.caller c.args.event outcome (c.len.result + 1) (number c) c.in_ok-outcome.ensures.ok c.in_ok-outcome.ensures.turns c.spread.new.parts c.spread.ensures.spreads.spreads c.spread.ensures.spreads.lists (rests c) in
+    added_on c.know_laws.ensures.turns k.history.items k.parts c.act.new.parts c.rest.new.parts k.lists c.act.new.lists c.spread.new.lists c.self.invariant.runs c.know_laws.ensures.coherent c.know_laws.ensures.tables c.know_laws.ensures.interest c.know_laws.ensures.lists c.known.ensures
+    c.args.caller c.args.event outcome (c.len.result + 1) (number c) c.in_ok-outcome.ensures.ok c.in_ok-outcome.ensures.turns c.spread.new.parts c.spread.ensures.spreads.spreads c.spread.ensures.spreads.lists c.rest.ensures.rests in
     subst (λ (a : Answer). TurnsLists c.args.caller c.args.event a c.args.self.now new) (sym c.into_record-answer.ensures.answer)
     (subst (λ (b : ReadyBook). TurnsLists c.args.caller c.args.event outcome.answer b new) c.self.view_is
     (record {

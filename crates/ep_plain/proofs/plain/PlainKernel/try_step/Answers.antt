@@ -149,7 +149,7 @@ date_all-requires-clause-homes c =
 
 pub date_all-requires-clause-begins : goal.date_all-requires-clause-begins
 date_all-requires-clause-begins c =
-    let reported : c.last_picked.result.now ≡ c.in_ok-outcome.outcome.picked = c.last_picked.ensures (past c) (record_of c.args.caller c.args.event c.in_ok-outcome.outcome) (history_now c) in
+    let reported : c.last_picked-reported.result.now ≡ c.in_ok-outcome.outcome.picked = c.last_picked-reported.ensures (past c) (record_of c.args.caller c.args.event c.in_ok-outcome.outcome) (history_now c) in
     let law =
     begins_left c.know_laws.ensures.spread (past c) (old c) c.act_with.new.parts c.spread.new.parts (begun c).keeps c.args.caller c.args.event c.in_ok-outcome.outcome (c.len.result + 1) (number c) (does c) c.in_ok-outcome.ensures.ok.keys c.know_laws.ensures.tables (d c)
     c.act_with.new.dating c.spread.new.dating (g c) (begun c).dated c.in_ok-outcome.ensures.follows c.spread.ensures.spreads (more c) c.find_called-called.result in
@@ -157,15 +157,15 @@ date_all-requires-clause-begins c =
 
 pub date_all-requires-clause-ends : goal.date_all-requires-clause-ends
 date_all-requires-clause-ends c =
-    let reported : c.last_picked.result.now ≡ c.in_ok-outcome.outcome.picked = c.last_picked.ensures (past c) (record_of c.args.caller c.args.event c.in_ok-outcome.outcome) (history_now c) in
+    let reported : c.last_picked-reported.result.now ≡ c.in_ok-outcome.outcome.picked = c.last_picked-reported.ensures (past c) (record_of c.args.caller c.args.event c.in_ok-outcome.outcome) (history_now c) in
     let law =
     ends_left c.know_laws.ensures.stay (past c) (old c) c.act_with.new.parts c.spread.new.parts (begun c).keeps c.args.caller c.args.event c.in_ok-outcome.outcome (c.len.result + 1) (number c) (does c) c.in_ok-outcome.ensures.ok.keys c.know_laws.ensures.tables (d c)
-    c.act_with.new.dating c.spread.new.dating (g c) (begun c).dated (begun c).ready c.in_ok-outcome.ensures.follows c.spread.ensures.spreads (more c) c.find_called-called.result c.find_called-called.ensures in
+    c.act_with.new.dating c.spread.new.dating (g c) (begun c).dated (begun c).ready c.in_ok-outcome.ensures.follows c.spread.ensures.spreads (more c) c.find_called-called.result c.find_called-called.ensures.called in
     subst (λ (ks : List ℕ). Ends c.spread.new.parts (g c) c.find_called-called.result ks) (sym reported) law
 
 pub date_all-requires-clause-reported : goal.date_all-requires-clause-reported
 date_all-requires-clause-reported c id x at =
-    let reported : c.last_picked.result.now ≡ c.in_ok-outcome.outcome.picked = c.last_picked.ensures (past c) (record_of c.args.caller c.args.event c.in_ok-outcome.outcome) (history_now c) in
+    let reported : c.last_picked-reported.result.now ≡ c.in_ok-outcome.outcome.picked = c.last_picked-reported.ensures (past c) (record_of c.args.caller c.args.event c.in_ok-outcome.outcome) (history_now c) in
     ap (λ (ks : List ℕ). is_among ks x.number) reported
     ∙ reported_left (c.len.result + 1) c.in_ok-outcome.outcome.raising c.act_with.new.parts c.spread.new.parts c.spread.ensures.spreads.spreads c.in_ok-outcome.outcome.picked c.in_ok-outcome.ensures.follows.told id x at
 
