@@ -1,6 +1,7 @@
 //! Whether a list of records is a run of the machine.
 ghost use Rattle.std.specs.Prelude.{◌≡◌, ◌↔◌, ℕ, IfOk, IsErrOf, IsOk, IsTrue, Some, false};
 ghost use Rattle.ep_base.specs.Answer.{is_no_memory};
+ghost use Rattle.ep_base.specs.Limits.{Limits as Bounds};
 ghost use Rattle.ep_machine.specs.Run.{is_run};
 ghost use Rattle.ep_machine.specs.State.{opening};
 ghost use Rattle.ep_calls.specs.Book.{state_of};
@@ -8,7 +9,7 @@ ghost use Rattle.ep_audit.specs.Audit.{Finds, Follows, IfJudged, IsFirstIllegal}
 ghost use Rattle.ep_audit.specs.declared.verdict.AuditFault.TheVariants.{Illegal, Memory};
 
 use ep_base::{Answer, Limits, Record};
-use ep_plain::PlainKernel;
+use ep_plain::{Kernel, PlainKernel};
 use std::alloc::{AllocError, Global};
 
 /// Why an audit is not Ok.
@@ -67,6 +68,34 @@ fn first_illegal(kernel: &mut PlainKernel, records: &[Record]) -> Result<Option<
     Ok(None)
 }
 
+/// A kernel on which records can be judged.
+trait Judging: Kernel {
+    /// The place of the first record that the machine does not allow, if there is one.
+    fn first_illegal(&mut self, records: &[Record]) -> Result<Option<usize>, AllocError>
+        requires { Self.state self.old ≡ opening }
+        ensures { IfOk result (Finds (Self.bounds self.old) records.now) };
+}
+
+impl Judging for PlainKernel {
+    fn first_illegal(&mut self, records: &[Record]) -> Result<Option<usize>, AllocError> {
+        first_illegal(self, records)
+    }
+}
+
+/// The same of the records on a new kernel, if there was memory to make it. It owns the kernel as one of any kind,
+/// since the proof of a function that owns what it knows the parts of grows with them.
+fn first_illegal_on<K: Judging + Drop>(
+    made: Result<K, AllocError>,
+    records: &[Record],
+) -> Result<Option<usize>, AllocError>
+    requires { IfOk made (λ kernel. K.state kernel ≡ opening) }
+    ensures { (limits : Bounds) → IfOk made (λ kernel. K.bounds kernel ≡ limits)
+        → IfOk result (Finds limits records.now) }
+{
+    let mut kernel = made?;
+    kernel.first_illegal(records)
+}
+
 /// The same of the records on a new kernel of these limits.
 fn first_illegal_from_new(
     alloc: Global,
@@ -75,8 +104,7 @@ fn first_illegal_from_new(
 ) -> Result<Option<usize>, AllocError>
     ensures { IfOk result (Finds limits.now records.now) }
 {
-    let mut kernel = PlainKernel::new(alloc, *limits)?;
-    first_illegal(&mut kernel, records)
+    first_illegal_on(PlainKernel::new(alloc, *limits), records)
 }
 
 /// Whether a list of records, asked and answered from the opening state on, is a run of the machine under these limits.

@@ -1,12 +1,15 @@
 -- What the verdict says of a history that is read from its lines.
 use Rattle.std.specs.List.{slice_get}
-use Rattle.std.specs.Prelude.{◌≡◌, ◌<◌, List, None, Option, Some, length, true, ℕ}
+use Rattle.std.specs.Prelude.{◌≡◌, ◌<◌, IfOk, IfSome, IsErrOf, List, None, Option, Result, Some, length, true, ℕ}
 use Rattle.ep_base.specs.Limits.{Limits}
 use Rattle.ep_base.specs.declared.record.Record.{Record}
 use Rattle.ep_machine.specs.Run.{is_run}
 use Rattle.ep_audit.specs.Audit.{IsFirstIllegal}
 use Rattle.ep_audit.specs.Auditor.{HasAllowed}
-use Rattle.ep_script.specs.ReadHistory.{AreLinesOf}
+use Rattle.ep_script.specs.Lines.{lines_of}
+use Rattle.ep_script.specs.ReadHistory.{AreLinesOf, IsFirstBad, IsFirstLong}
+use Rattle.ep_script.specs.declared.fault.HistoryFault.{HistoryFault}
+use Rattle.ep_script.specs.declared.fault.HistoryFault.TheVariants.{Line, NoRecord}
 use Rattle.ep_audit_program.specs.declared.judge.Illegal.{Illegal as IllegalRecord}
 use Rattle.ep_audit_program.specs.declared.judge.Judge.{Judge}
 use Rattle.ep_audit_program.specs.declared.judge.Verdict.{Verdict}
@@ -37,3 +40,9 @@ Found limits records lines judge (Some found) = IsIllegalAt limits records lines
 -- it was told these records, each with its line
 abbrev pub WasTold : Limits → List Record → List (List ℕ) → Judge → Type 0
 WasTold limits records lines judge = Found limits records lines judge judge.illegal
+
+-- what a history of these bytes is read as, if they are known
+pub record IsJudgedAs (limits : Limits) (input : Option (List ℕ)) (result : Result Verdict HistoryFault) : Type 0 where
+  pub verdict : IfOk result (λ found. IfSome input (λ bytes. Judged limits (lines_of bytes) found))
+  pub bad : (number : ℕ) → IsErrOf result (NoRecord number) → IfSome input (λ bytes. IsFirstBad number (lines_of bytes))
+  pub long : (number : ℕ) → IsErrOf result (Line number) → IfSome input (λ bytes. IsFirstLong number (lines_of bytes))

@@ -4,12 +4,12 @@ ghost use Rattle.std.specs.Prelude.{◌≡◌, [], ℕ, IfOk, IfSome, IsErrOf};
 ghost use Rattle.ep_base.specs.Limits.{Limits as Bounds};
 ghost use Rattle.ep_script.specs.Lines.{lines_of};
 ghost use Rattle.ep_script.specs.ReadHistory.{IsFirstBad, IsFirstLong};
-ghost use Rattle.ep_audit_program.specs.Verdict.{Judged, WasTold};
+ghost use Rattle.ep_audit_program.specs.Verdict.{IsJudgedAs, Judged, WasTold};
 
 use crate::judge::{Judge, Verdict};
 use ep_base::Limits;
 use ep_script::{HistoryFault, HistoryReader, Watched};
-use std::alloc::Global;
+use std::alloc::{AllocError, Global};
 use std::io::Read;
 
 /// Reads a history to its end, and has a new judge judge each record as its line is read.
@@ -46,6 +46,49 @@ fn judge_lines<R: Read>(
     Err(HistoryFault::Memory)
 }
 
+/// Who can judge the lines of a history.
+trait Judging {
+    /// Whether it was told no record yet, and judges by these limits.
+    ghost is_new: { Bounds → Self → Type 0 };
+
+    /// Reads a history to its end, and judges each record as its line is read.
+    fn judge_lines<R: Read>(
+        &mut self,
+        alloc: Global,
+        reader: &mut Watched<R>,
+    ) -> Result<Verdict, HistoryFault>
+        ensures { (limits : Bounds) → is_new limits self.old
+            → IsJudgedAs limits (R.remaining reader.old.inner) result };
+}
+
+impl Judging for Judge {
+    ghost is_new = { λ limits judge. WasTold limits [] [] judge };
+
+    fn judge_lines<R: Read>(
+        &mut self,
+        alloc: Global,
+        reader: &mut Watched<R>,
+    ) -> Result<Verdict, HistoryFault> {
+        judge_lines(alloc, self, reader)
+    }
+}
+
+/// The same by a new judge, if there was memory to make it. It owns the judge as one of any kind, since the proof of a
+/// function that owns what it knows the parts of grows with them.
+fn judge_by<J: Judging + Drop, R: Read>(
+    alloc: Global,
+    made: Result<J, AllocError>,
+    reader: &mut Watched<R>,
+) -> Result<Verdict, HistoryFault>
+    ensures { (limits : Bounds) → IfOk made (J.is_new limits)
+        → IsJudgedAs limits (R.remaining reader.old.inner) result }
+{
+    match made {
+        Ok(mut judge) => judge.judge_lines(alloc, reader),
+        Err(_) => Err(HistoryFault::Memory),
+    }
+}
+
 /// Reads a history to its end, and judges each record as its line is read. So it keeps no line but the one at hand, and
 /// the first illegal one. A line that is no record is told before an illegal record in front of it.
 pub(crate) fn judge_history<R: Read>(
@@ -60,9 +103,5 @@ pub(crate) fn judge_history<R: Read>(
     ensures long { (number : ℕ) → IsErrOf result (HistoryFault.Line number) →
         IfSome (R.remaining reader.old.inner) (λ input. IsFirstLong number (lines_of input)) }
 {
-    // The judge is lent on: to own it beside a loop takes the prover long.
-    match Judge::new(alloc, limits) {
-        Ok(mut judge) => judge_lines(alloc, &mut judge, reader),
-        Err(_) => Err(HistoryFault::Memory),
-    }
+    judge_by(alloc, Judge::new(alloc, limits), reader)
 }

@@ -1,6 +1,6 @@
-//! What an event raised climbs through instances: which of them IN reaches, and what watches those becomes fresh. Its end
-//! sets marks at the instances that it reached. Each event goes along here, so it is inlined: a program with both
-//! kernels would make calls of it, for 1 to 3 in 100 of an event.
+//! What an event raised climbs through instances: which of them IN reaches, and what watches those becomes fresh. At
+//! its end marks are set at the instances that it reached. Each event goes along here, so it is inlined: a program with
+//! both kernels would make calls of it, for 1 to 3 in 100 of an event.
 #![tactic(auto)]
 
 mod climbing;

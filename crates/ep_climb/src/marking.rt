@@ -49,8 +49,8 @@ fn mark_due(parts: &mut Parts)
 
 /// A way to tell whether an instance is ready.
 pub trait Readiness {
-    /// What has to hold of the tables, the clock and the registrations so that it tells the truth. Who is parked doesn't
-    /// matter to it, so marks leave it.
+    /// What has to hold of the tables, the clock and the registrations so that it tells the truth. Who is parked
+    /// doesn't matter to it, so marks leave it.
     ghost knows: { Self → Seen → ℕ → Registrations → Type 0 };
 
     /// Whether something is reportable at an instance.

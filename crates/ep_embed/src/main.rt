@@ -117,7 +117,12 @@ fn act_all<K: Kernel>(rt: &HostRuntime, kernel: &mut K) -> io::Result<()> {
     let_end(rt, kernel)
 }
 
+/// The same on a kernel that it owns, as one of any kind, if there was memory to make it.
+fn act_made<K: Kernel + Drop>(rt: &HostRuntime, made: Result<K, AllocError>) -> io::Result<()> {
+    let mut kernel = made?;
+    act_all(rt, &mut kernel)
+}
+
 fn main(rt: HostRuntime) -> io::Result<()> {
-    let mut kernel = PlainKernel::new(rt.alloc(), Limits::default())?;
-    act_all(&rt, &mut kernel)
+    act_made(&rt, PlainKernel::new(rt.alloc(), Limits::default()))
 }

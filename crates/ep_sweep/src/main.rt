@@ -15,6 +15,8 @@
 //! something is answered otherwise, the status is 1, and a line says what; it is 2 if nothing could be asked.
 #![tactic(auto)]
 
+ghost use Rattle.std.specs.Prelude.{◌≡◌, [], IfOk};
+
 mod asker;
 mod fault;
 mod files;
@@ -30,7 +32,7 @@ use crate::fault::Fault;
 use crate::files::row_of;
 use ep_base::Limits;
 use ep_kernel::ReadyKernel;
-use ep_plain::PlainKernel;
+use ep_plain::{Kernel, PlainKernel};
 use std::alloc::{AllocError, Global};
 use std::env::{self, Env};
 use std::process::ExitCode;
@@ -82,20 +84,15 @@ fn ask_script(
     }
 }
 
-/// Asks a part of a new kernel that scans.
-fn ask_plain<R: Threads + Wait + Sync>(rt: &R, alloc: Global, part: &str) -> Result<Counts, Fault> {
-    let made = PlainKernel::new(alloc, Limits::default());
-    match part {
-        "room" => room::run_on(alloc, made),
-        "sessions" => sessions::run_on(rt, alloc, made),
-        "threads" => threads::run_on(rt, alloc, made),
-        _ => Err(Fault::Words),
-    }
-}
-
-/// The same of one with ready lists.
-fn ask_ready<R: Threads + Wait + Sync>(rt: &R, alloc: Global, part: &str) -> Result<Counts, Fault> {
-    let made = ReadyKernel::new(alloc, Limits::default());
+/// Asks a part of a new kernel, if there was memory to make it. It owns the kernel as one of any kind.
+fn ask_part<K: Kernel + Drop + Send, R: Threads + Wait + Sync>(
+    rt: &R,
+    alloc: Global,
+    made: Result<K, AllocError>,
+    part: &str,
+) -> Result<Counts, Fault>
+    requires { IfOk made (λ kernel. K.past kernel ≡ []) }
+{
     match part {
         "room" => room::run_on(alloc, made),
         "sessions" => sessions::run_on(rt, alloc, made),
@@ -109,10 +106,12 @@ fn ask<R: Files + Threads + Wait + Sync + AllocGlobal>(
     rt: &R,
     words: &[&str],
 ) -> Result<Counts, Fault> {
+    let alloc = rt.alloc();
+    let limits = Limits::default();
     match words {
         [kernel, way, name] => ask_script(rt, kernel, way_of(way)?, name),
-        ["plain", part] => ask_plain(rt, rt.alloc(), part),
-        ["ready", part] => ask_ready(rt, rt.alloc(), part),
+        ["plain", part] => ask_part(rt, alloc, PlainKernel::new(alloc, limits), part),
+        ["ready", part] => ask_part(rt, alloc, ReadyKernel::new(alloc, limits), part),
         _ => Err(Fault::Words),
     }
 }
