@@ -112,8 +112,8 @@ fn drop_deleted(interest: &Interest, deleted: Option<(EntryId, Entry)>, dates: &
 }
 
 /// epoll_ctl(2), as `Parts::plan` and `Parts::control` do it, with the dates: a registration that is added gets a
-/// place, and one that is deleted loses its date. Of the instance that it watches only the dates are asked whether it is
-/// ready. What it names is noted as altered. A refusal leaves the parts, and so does an `Err`, with no date changed.
+/// place, and one that is deleted loses its date. Of the instance that it watches only the dates are asked whether it
+/// is ready. What it names is noted as altered. A refusal leaves the parts, and so does an `Err`, with no date changed.
 /// That is want of memory, and comes only of an ADD that nothing refuses.
 pub fn epoll_ctl(
     parts: &mut Parts,
