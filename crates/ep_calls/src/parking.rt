@@ -103,8 +103,10 @@ impl Parts {
             self.waiters.unmark(caller);
             return Ok(Outcome::settled(self.alloc, Answer::Still, Raising::Nowhere));
         }
-        let outcome = report(self.alloc, &mut self.interest, step, chosen, kept)?;
-        leave(&mut self.tables, &mut self.waiters, caller);
-        Ok(outcome)
+        let outcome = report(self.alloc, &mut self.interest, step, chosen, kept);
+        if outcome.is_ok() {
+            leave(&mut self.tables, &mut self.waiters, caller);
+        }
+        outcome
     }
 }
