@@ -14,7 +14,7 @@ use Rattle.ep_machine.specs.Counts.{counted, no_counts}
 use Rattle.ep_machine.specs.Deaths.{buried, die, die_all, dying, is_kept}
 use Rattle.ep_machine.specs.Effect.{first}
 use Rattle.ep_machine.specs.Files.{Files, Place, is_live, object_of, opening_files, place_of, side_of}
-use Rattle.ep_law.specs.Laws.{BeginningsAreSpread, EndsAreApart, HasCause, IsNoted, Member, ReportablesAreSpread, spread_of}
+use Rattle.ep_law.specs.Laws.{BeginningsAreSpread, EndsAreApart, HasCause, IsNoted, Member, ReportablesAreSpread, spread_of, has_instance}
 use Rattle.ep_machine.specs.Lists.{is_among}
 use Rattle.ep_machine.specs.Objects.{Object, counter, instance, is_instance, object_present, pair, pipe, plain, timer}
 use Rattle.ep_law.proofs.Present.{present_at}
@@ -26,7 +26,8 @@ use Rattle.ep_machine.specs.Spread.{arrived, counts_from, raised_alive, raised_o
 use Rattle.ep_machine.specs.State.{Change, State, Watch, counts_of, opening}
 use Rattle.ep_machine.specs.Step.{next_event, change, refused_or, settled, step}
 use Rattle.ep_machine.specs.Watches.{is_legal, links}
-use Rattle.ep_law.proofs.GraphLemmas.{has_instance, member_of_map, Narrows, narrows_deaths, narrows_self, Linked, linked_begun, linked_change, linked_left, linked_run}
+use Rattle.ep_law.proofs.GraphLemmas.{member_of_map, Linked, linked_begun, linked_change, linked_left, linked_run}
+use Rattle.ep_law.proofs.InstanceLemmas.{Narrows, narrows_deaths, narrows_self}
 use Rattle.ep_law.proofs.ListLemmas.{filtered_member, filtered_passes, first_of_and, second_of_and}
 use Rattle.ep_law.proofs.DeathLemmas.{raised_before}
 use Rattle.ep_law.proofs.NamedLivesLemmas.{dying_distinct, dying_placed}

@@ -20,7 +20,7 @@ use Rattle.ep_machine.specs.Effect.{Effect, first, unless}
 use Rattle.ep_machine.specs.Files.{Files, Place, live, named_by, names_nothing, object_at, object_number, object_under, place_of, raised_at, side_under, table_of}
 use Rattle.ep_law.specs.Laws.{Kept, Member}
 use Rattle.ep_machine.specs.Lists.{is_among}
-use Rattle.ep_machine.specs.Objects.{Object, advance, is_plain, object_effect, object_present, object_refusals, plain}
+use Rattle.ep_machine.specs.Objects.{Object, advance, is_instance, is_plain, object_effect, object_present, object_refusals, plain}
 use Rattle.ep_law.proofs.Present.{present_at}
 use Rattle.ep_machine.specs.Readiness.{is_ready, is_reportable}
 use Rattle.ep_machine.specs.Refusal.{call_refusals, on_object, refusals}
@@ -31,7 +31,8 @@ use Rattle.ep_machine.specs.Step.{call_change, change, object_change}
 use Rattle.ep_machine.specs.Tables.{affected, create_one, create_two, dup2, new_object, same_number}
 use Rattle.ep_machine.specs.Waits.{advance_at, is_due, is_parked, leave, leave_after, resume_by, resume_empty, tick, unmarked, wait, wait_for, waiter_of}
 use Rattle.ep_machine.specs.Watches.{add, ctl, delete, has_key, is_add, is_del, looked_at, modified, modify, new_watch, number_in, with_watch}
-use Rattle.ep_law.proofs.GraphLemmas.{member_of_map, Narrows, narrows_affected, narrows_one, narrows_self, narrows_two}
+use Rattle.ep_law.proofs.GraphLemmas.{member_of_map}
+use Rattle.ep_law.proofs.InstanceLemmas.{FirstIsNone, Narrows, narrows_affected, narrows_one, narrows_self, narrows_two}
 use Rattle.ep_law.proofs.ListLemmas.{filtered_member, first_of_and, member_filter, member_map}
 use Rattle.ep_law.proofs.DeathLemmas.{get_other, same_or_not}
 use Rattle.ep_law.proofs.TestLemmas.{from_test}
@@ -136,6 +137,9 @@ moves_ctl b p epfd op fd mask tag own =
     moves_if b (is_add op) (add b e k d mask tag) _ (moves_add b e k d mask tag own)
     (moves_if b (is_del op) (delete b e k d) (modify b e k d mask tag) (moves_delete b e k d own) (moves_modify b e k d mask tag own))
 
+first_is_none : (f : Files) → Own f → FirstIsNone f
+first_is_none f own = (own.some, ap is_instance (plain_is (object_there f 0) own.first))
+
 -- Tables and waiters alone.
 own_same : (f g : Files) → g.descriptions ≡ f.descriptions → g.objects ≡ f.objects → Own f → Own g
 own_same f g d o own =
@@ -150,7 +154,7 @@ moves_tables b g ws d o own =
     record {
       arrivals = refl;
       own = own_same b.files g d o own;
-      narrows = subst (λ (f : Files). Narrows b.files f) same (record { longer = omega arith; made = own.made; instances = λ k lt i. i });
+      narrows = subst (λ (f : Files). Narrows b.files f) same (record { longer = omega arith; made = own.made; instances = λ k lt i. i; dead = λ k lt i. i; stays = λ k i l. i; first = λ i. i });
       shows = λ k p here. subst (λ (f : Files). Covers (present_at b.files b.now k) (present_at f b.now k) (raised_of [] k)) same (covers_self _ _);
       comes = λ x m. inl (kept_same b x m);
     }
@@ -245,7 +249,7 @@ module _ (apply : ApplyLaw) (b : State) (p : ℕ) (fd : ℤ) (call : Call) (own 
   moves_object = record {
     arrivals = refl;
     own = own_with_object b.files k made.1 own (λ s h. effect_has x e b.now call s ∙ (ap (λ (y : Object). object_has y s) (sym is_x) ∙ h)) (λ h. plain_stays x e b.now call (ap is_plain (sym is_x) ∙ h));
-    narrows = narrows_affected b.files p fd b.now call own.made;
+    narrows = narrows_affected b.files p fd b.now call own.made (first_is_none b.files own);
     shows = shows_affected;
     comes = λ y m. inl (kept_same b y m);
   }

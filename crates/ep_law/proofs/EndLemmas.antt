@@ -11,7 +11,7 @@ use Rattle.ep_machine.specs.Lists.{are_distinct}
 use Rattle.ep_machine.specs.Objects.{Object, close_end, counter, gettime, instance, is_plain, object_effect, pair, pipe, plain, read, settime, shutdown, timer, write}
 use Rattle.ep_machine.specs.Tables.{create_one, create_two, describe, new_object}
 use Rattle.ep_law.proofs.DeathLemmas.{ArePlaced, after_all, after_first, apart_from_rest, has_here, numbers, still_placed}
-use Rattle.ep_law.proofs.GraphLemmas.{AreMade, narrows_death, narrows_describe, narrows_new_object}
+use Rattle.ep_law.proofs.InstanceLemmas.{AreMade, narrows_death, narrows_describe, narrows_new_object}
 use Rattle.ep_law.proofs.NamedLivesLemmas.{get_none}
 use Rattle.ep_object.specs.Law.{object_has}
 

@@ -8,6 +8,7 @@ pub mod SoundLemmas
 pub mod ReadinessLemmas
 pub mod SpreadLemmas
 pub mod MarkLemmas
+pub mod InstanceLemmas
 pub mod GraphLemmas
 pub mod FairRoundsLemmas
 pub mod Present
@@ -18,3 +19,6 @@ pub mod EndLemmas
 pub mod RaiseLemmas
 pub mod ChangeLemmas
 pub mod BeginningLemmas
+pub mod GuardLemmas
+pub mod NarrowLemmas
+pub mod RegularLemmas

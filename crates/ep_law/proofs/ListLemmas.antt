@@ -154,7 +154,7 @@ one_number (w ∷ xs) x y h (inl a) (inr n) e = absurd (not_apart w.number y.num
 one_number (w ∷ xs) x y h (inr m) (inl b) e = absurd (not_apart w.number x.number (apart_member w.number xs x h.0 m) (sym (ap (λ (z : Watch). z.number) b) ∙ sym e))
 one_number (w ∷ xs) x y h (inr m) (inr n) e = one_number xs x y h.1 m n e
 
-not_true : (a : Bool) → (a ≡ true → ⊥) → a ≡ false
+pub not_true : (a : Bool) → (a ≡ true → ⊥) → a ≡ false
 not_true true h = absurd (h refl)
 not_true false h = refl
 

@@ -3,9 +3,11 @@ use Rattle.std.proofs.Common.{◌≡◌, ℕ, suc, ◌==◌, ◌&&◌, ◌||◌,
 use Rattle.std.proofs.lemmas.Bool.{cases_Bool}
 use Rattle.std.proofs.lemmas.Bool.Decides.{nat_tests}
 use Rattle.std.proofs.lemmas.List.Elements.{All-cons, All-map}
-use Rattle.ep_law.specs.Laws.{Member, ReadyMarked}
+use Rattle.ep_law.specs.Laws.{Member, ReadyMarked, WokenMarked}
 use Rattle.ep_machine.specs.Marks.{first_marked, marked_by, with_marks}
+use Rattle.ep_machine.specs.Exclusive.{gets_mark, is_guarded, is_guarded_within}
 use Rattle.ep_machine.specs.Readiness.{is_ready, is_ready_within, is_reportable_by}
+use Rattle.ep_machine.specs.Watches.{is_exclusive}
 use Rattle.ep_machine.specs.State.{State, Waiter, Change, opening}
 use Rattle.ep_machine.specs.Waits.{is_due, is_marked_at, marked_if_due, waits_at}
 use Rattle.ep_law.proofs.TestLemmas.{from_test, or_left, or_right}
@@ -18,7 +20,7 @@ use Rattle.ep_machine.specs.Deaths.{buried}
 use Rattle.ep_machine.specs.Effect.{first}
 use Rattle.ep_machine.specs.Refusal.{refusals}
 use Rattle.ep_machine.specs.Settle.{with_from}
-use Rattle.ep_machine.specs.Spread.{arrived}
+use Rattle.ep_machine.specs.Spread.{arrived, raised_alive}
 use Rattle.ep_machine.specs.Step.{next_event, change, refused_or, settled, step}
 use Rattle.ep_law.proofs.StepLemmas.{run_keeps}
 
@@ -127,6 +129,13 @@ module _ (r : ℕ → Bool) where
     same_test a b e = grind (arith, nat_tests, e)
   waits_where w (v ∷ ws) (inr m) = or_right _ _ (waits_where w ws m)
 
+  unchanged_by : (q : ℕ → Bool) (all before ws : List Waiter) → ((w : Waiter) → Member w ws → q w.instance ≡ true → is_marked_at all w.instance ≡ true) → first_marked q all before ws ≡ ws
+  unchanged_by q all before [] h = refl
+  unchanged_by q all before (w ∷ ws) h =
+      let one = not_twice w.marked (waits_at before w.instance) (is_marked_at all w.instance) (q w.instance) (h w (inl refl)) in
+      let rest = unchanged_by q all (w ∷ before) ws (λ v m. h v (inr m)) in
+      λ i. record w { marked = one i } ∷ rest i
+
   unchanged : (all before ws : List Waiter) → ((w : Waiter) → Member w ws → r w.instance ≡ true → is_marked_at all w.instance ≡ true) → first_marked r all before ws ≡ ws
   unchanged all before [] h = refl
   unchanged all before (w ∷ ws) h =
@@ -134,13 +143,21 @@ module _ (r : ℕ → Bool) where
       let rest = unchanged all (w ∷ before) ws (λ v m. h v (inr m)) in
       λ i. record w { marked = one i } ∷ rest i
 
+  -- by a test under which no more would be marked
+  pub marks_stay : (q : ℕ → Bool) → ((e : ℕ) → q e ≡ true → r e ≡ true) → (now : ℕ) (ws : List Waiter) → marked_by q now (marked_by r now ws) ≡ marked_by r now ws
+  marks_stay q within now ws =
+      let due = map (marked_if_due now) ws in
+      let ms = first_marked r due [] due in
+      ap (λ (xs : List Waiter). first_marked q xs [] xs) (due_again now due [] ws)
+      ∙ unchanged_by q ms [] ms (λ w m holds. none_forgotten due w.instance (waits_where w ms m) (within w.instance holds))
+
   first_again : (ws : List Waiter) → let ms = first_marked r ws [] ws in first_marked r ms [] ms ≡ ms
   first_again ws = let ms = first_marked r ws [] ws in unchanged ms [] ms (λ w m ready. none_forgotten ws w.instance (waits_where w ms m) ready)
 
   pub marks_again : (now : ℕ) (ws : List Waiter) → marked_by r now (marked_by r now ws) ≡ marked_by r now ws
   marks_again now ws = let due = map (marked_if_due now) ws in ap (λ (xs : List Waiter). first_marked r xs [] xs) (due_again now due [] ws) ∙ first_again due
 
--- At the end of each step an instance that is ready and has waiters has a marked one.
+-- At the end of each step an unguarded instance that is ready and has waiters has a marked one.
 
 -- neither the number of events nor the waiters matter to readiness
 pub within_same : (k : ℕ) (s : State) (n : ℕ) (ws : List Waiter) (e : ℕ) → is_ready_within k (record s { n = n; waiters = ws }) e ≡ is_ready_within k s e
@@ -151,16 +168,42 @@ pub ready_same : (s : State) (n : ℕ) (ws : List Waiter) (e : ℕ) → is_ready
 unfolding is_ready
 ready_same s n ws e = within_same 5 s n ws e
 
--- each instance that is ready and has waiters has a marked one
-abbrev Marked : State → Type 0
-Marked s = (e : ℕ) → waits_at s.waiters e ≡ true → is_ready s e ≡ true → is_marked_at s.waiters e ≡ true
+-- nor to what guards an instance
+guards_same : (k : ℕ) (s : State) (n : ℕ) (ws : List Waiter) (e : ℕ) → is_guarded_within k (record s { n = n; waiters = ws }) e ≡ is_guarded_within k s e
+guards_same zero s n ws e = refl
+guards_same (suc k) s n ws e = λ i. list_any (λ x. x.instance == e && (is_exclusive x || guards_same k s n ws x.target i)) s.watches
 
-marked_marks : (s : State) → Marked (with_marks s)
-marked_marks s e waits ready =
-    none_forgotten (is_ready s) (map (marked_if_due s.now) s.waiters) e waits (sym (ready_same s s.n (marked_by (is_ready s) s.now s.waiters) e) ∙ ready)
+pub guarded_same : (s : State) (n : ℕ) (ws : List Waiter) (e : ℕ) → is_guarded (record s { n = n; waiters = ws }) e ≡ is_guarded s e
+unfolding is_guarded
+guarded_same s n ws e = guards_same 5 s n ws e
+
+-- each unguarded instance that is ready and has waiters has a marked one
+abbrev Marked : State → Type 0
+Marked s = (e : ℕ) → waits_at s.waiters e ≡ true → is_ready s e ≡ true → is_guarded s e ≡ false → is_marked_at s.waiters e ≡ true
+
+gets_ready : (r g w : Bool) → r ≡ true → g ≡ false → (r && (not g || w)) ≡ true
+gets_ready r g w p q = λ i. p i && (not (q i) || w)
+
+gets_woken : (r g w : Bool) → r ≡ true → w ≡ true → (r && (not g || w)) ≡ true
+gets_woken r g w p q = ap (λ (a : Bool). a && (not g || w)) p ∙ or_right (not g) w q
+
+module _ (before : State) (raised : List (ℕ × ℕ)) (s : State) where
+  abbrev due : List Waiter
+  due = map (marked_if_due s.now) s.waiters
+
+  abbrev test : ℕ → Bool
+  test = gets_mark before s raised due
+
+  pub marked_where : (e : ℕ) → waits_at (with_marks before raised s).waiters e ≡ true → test e ≡ true → is_marked_at (with_marks before raised s).waiters e ≡ true
+  marked_where e waits gets = none_forgotten test due e waits gets
+
+  marked_marks : Marked (with_marks before raised s)
+  marked_marks e waits ready unguarded =
+      let ws = marked_by test s.now s.waiters in
+      marked_where e waits (gets_ready (is_ready s e) (is_guarded s e) _ (sym (ready_same s s.n ws e) ∙ ready) (sym (guarded_same s s.n ws e) ∙ unguarded))
 
 marked_begun : (s : State) → Marked s → Marked (next_event s)
-marked_begun s h e waits ready = h e waits (sym (ready_same s (s.n + 1) s.waiters e) ∙ ready)
+marked_begun s h e waits ready unguarded = h e waits (sym (ready_same s (s.n + 1) s.waiters e) ∙ ready) (sym (guarded_same s (s.n + 1) s.waiters e) ∙ unguarded)
 
 IsStep : Option (Answer × State) → Type 0
 IsStep o = MatchOption o (Unit {0}) (λ c. Marked c.1)
@@ -168,7 +211,7 @@ IsStep o = MatchOption o (Unit {0}) (λ c. Marked c.1)
 marked_settled : (before : State) (c : Option Change) → IsStep (settled before c)
 unfolding IsStep
 marked_settled before None = tt
-marked_settled before (Some c) = let left = buried c.1 c.2 in marked_marks (with_from before (arrived left.0 left.1))
+marked_settled before (Some c) = let left = buried c.1 c.2 in marked_marks before (raised_alive left.0 left.1) (with_from before (arrived left.0 left.1))
 
 marked_refused : (e : Option Errno) (s : State) (ks : List ℕ) (c : Option Change) → Marked s → IsStep (refused_or e s ks c)
 unfolding IsStep
@@ -184,4 +227,10 @@ marked_step limits s t caller event picked a h e =
 
 -- in each state of a run
 pub ready_marked : ReadyMarked
-ready_marked limits past s e is waits ready = run_keeps Marked limits (marked_step limits) opening s past (λ d none r. cc) is e waits ready
+ready_marked limits past s e is waits ready unguarded = run_keeps Marked limits (marked_step limits) opening s past (λ d none r g. cc) is e waits ready unguarded
+
+-- guarded or not, if the event wakes it
+pub woken_marked : WokenMarked
+woken_marked before s raised e waits ready woken =
+    let ws = marked_by (test before raised s) s.now s.waiters in
+    marked_where before raised s e waits (gets_woken (is_ready s e) (is_guarded s e) _ (sym (ready_same s s.n ws e) ∙ ready) woken)

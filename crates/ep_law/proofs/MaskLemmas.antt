@@ -64,7 +64,7 @@ asked_begins m before after raised c none some = elim (none_or_some (bit_and rai
 ]
 
 -- the test of a bit
-bit_of : (n k w : ℕ) → 2 ^ k ≡ w → has_bit n w ≡ true → bit_at n k ≡ 1
+pub bit_of : (n k w : ℕ) → 2 ^ k ≡ w → has_bit n w ≡ true → bit_at n k ≡ 1
 bit_of n k w e h = elim (zero_or_one n k) [
   | inl z ↦
       let none : bit_and n w ≡ 0 = ap (bit_and n) (sym e) ∙ (and_pow n k ∙ (ap (λ (b : ℕ). b * 2 ^ k) z ∙ omega arith)) in

@@ -9,13 +9,12 @@ use Rattle.ep_base.specs.declared.counts.Counts.{Counts}
 use Rattle.ep_machine.specs.Bits.{ET, IN, asked, has_bit, when}
 use Rattle.ep_machine.specs.Counts.{counted, every_shown_bit}
 use Rattle.ep_machine.specs.Files.{is_live, object_of, side_of}
-use Rattle.ep_law.specs.Laws.{IsNoted, Kept, Member}
+use Rattle.ep_law.specs.Laws.{IsNoted, Kept, Member, has_instance}
 use Rattle.ep_machine.specs.Objects.{Object, counter, instance, is_instance, pair, pipe, plain, timer}
 use Rattle.ep_machine.specs.Readiness.{is_fresh_since, is_ready, is_ready_within, is_reportable, is_reportable_by, present, present_by, present_of}
 use Rattle.ep_machine.specs.Spread.{is_reached, passes_on, raised_of, reaching_of, spread}
 use Rattle.ep_machine.specs.State.{State, Watch, counts_of}
 use Rattle.ep_machine.specs.Watches.{is_legal, links}
-use Rattle.ep_law.proofs.GraphLemmas.{has_instance}
 use Rattle.ep_law.proofs.SpreadLemmas.{reached_equation}
 use Rattle.ep_law.proofs.ReadinessLemmas.{ready_equation}
 use Rattle.ep_law.proofs.ListLemmas.{any_member, first_of_and, second_of_and}
@@ -56,7 +55,7 @@ instance_is (Some instance) h = refl
 not_zero_one : (b : ℕ) → b ≡ 0 → b ≡ 1 → ⊥
 not_zero_one b p q = absurd (omega (arith, p, q))
 
-in_bit : (i : ℕ) → bit_at IN i ≡ 1 → i ≡ 0
+pub in_bit : (i : ℕ) → bit_at IN i ≡ 1 → i ≡ 0
 in_bit zero h = refl
 in_bit (suc i) h = absurd (not_zero_one (bit_at IN (suc i)) (bit_at-pow_other 0 (suc i) (λ e. absurd (omega (arith, e)))) h)
 
@@ -74,7 +73,7 @@ if_some : (b : Bool) (n : ℕ) → nat_lt 0 (when b n) ≡ true → (b ≡ true)
 if_some true n h = (refl, h)
 if_some false n h = absurd (false≢true h)
 
-any_has : {X : Type 0} (f : X → Bool) (xs : List X) (x : X) → Member x xs → f x ≡ true → list_any f xs ≡ true
+pub any_has : {X : Type 0} (f : X → Bool) (xs : List X) (x : X) → Member x xs → f x ≡ true → list_any f xs ≡ true
 any_has f [] x m t = absurd m
 any_has f (y ∷ ys) x (inl e) t = ap (λ (b : Bool). b || list_any f ys) (sym (ap f e) ∙ t)
 any_has f (y ∷ ys) x (inr m) t = ap (λ (b : Bool). f y || b) (any_has f ys x m t) ∙ last (f y) where

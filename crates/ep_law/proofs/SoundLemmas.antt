@@ -185,6 +185,10 @@ fine_change limits s caller Resume ks h =
     resumes Fine s caller ks (fine_plainly ks _ h) (λ w. fine_left w.caller _ (fine_report s w.instance w.most ks h)) (λ w. fine_plainly ks _ (same_watches s _ refl refl refl h)) (λ w. fine_plainly ks _ (same_watches s _ refl refl refl h))
 fine_change limits s caller (Tick k) ks h = fine_plainly ks _ (same_watches s _ refl refl refl h)
 
+pub sound_change : (limits : Limits) (s : State) (caller : ℕ) (event : Event) (ks : List ℕ) (c : Change) → change limits s caller event ks ≡ Some c → Sound s → Sound c.1
+unfolding Fine
+sound_change limits s caller event ks c is h = subst Fine is (fine_change limits s caller event ks h)
+
 pub sound_settle : (before after : State) (raised : List (ℕ × ℕ)) → Sound after → Sound (settle before after raised)
 sound_settle before after raised h =
     let files = (die_all (after.files, raised) (dying after)).0 in

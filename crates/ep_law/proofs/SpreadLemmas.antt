@@ -13,7 +13,7 @@ use Rattle.ep_law.proofs.ListLemmas.{any_same, any_member, member_map, member_fi
 use Rattle.ep_law.proofs.ReadinessLemmas.{Goes, no_long_chain, and_same}
 use Rattle.ep_law.proofs.TestLemmas.{from_test}
 
-reaching_same : (r q : ℕ → Bool) (d : ℕ) (o : Option Object) → (is_instance (unwrap_or o plain) ≡ true → r d ≡ q d) → reaching_of r d o ≡ reaching_of q d o
+pub reaching_same : (r q : ℕ → Bool) (d : ℕ) (o : Option Object) → (is_instance (unwrap_or o plain) ≡ true → r d ≡ q d) → reaching_of r d o ≡ reaching_of q d o
 reaching_same r q d None h = refl
 reaching_same r q d (Some plain) h = refl
 reaching_same r q d (Some (pipe p)) h = refl
@@ -22,7 +22,7 @@ reaching_same r q d (Some (counter c)) h = refl
 reaching_same r q d (Some (timer t)) h = refl
 reaching_same r q d (Some instance) h = ap (λ (b : Bool). when b IN) (h refl)
 
-passes_same : (r q : ℕ → Bool) (s : State) (raised : List (ℕ × ℕ)) (x : Watch) → (is_instance (unwrap_or (object_of s.files x.target) plain) ≡ true → r x.target ≡ q x.target) → passes_on_by r s raised x ≡ passes_on_by q s raised x
+pub passes_same : (r q : ℕ → Bool) (s : State) (raised : List (ℕ × ℕ)) (x : Watch) → (is_instance (unwrap_or (object_of s.files x.target) plain) ≡ true → r x.target ≡ q x.target) → passes_on_by r s raised x ≡ passes_on_by q s raised x
 passes_same r q s raised x h =
     let same = reaching_same r q x.target (object_of s.files x.target) h in
     λ i. x.armed && nat_lt 0 (asked x.mask (bit_or (raised_of raised x.target) (same i)))

@@ -7,12 +7,14 @@ use Rattle.ep_base.specs.declared.answer.Answer.TheVariants.{Refused}
 use Rattle.ep_base.specs.declared.call.Event.{Event}
 use Rattle.ep_base.specs.declared.errno.Errno.{Errno}
 use Rattle.ep_base.specs.declared.record.Record.{Record}
-use Rattle.ep_machine.specs.Bits.{IN, asked, IsCovered}
+use Rattle.ep_machine.specs.Bits.{IN, ONESHOT, asked, has_bit, IsCovered}
 use Rattle.ep_machine.specs.Deaths.{buried, die_all, named}
 use Rattle.ep_machine.specs.Effect.{first}
-use Rattle.ep_machine.specs.Files.{Files, Place, is_live, place_of}
+use Rattle.ep_machine.specs.Exclusive.{is_guarded, is_spread_plainly, is_spread_to, is_woken}
+use Rattle.ep_machine.specs.Files.{Files, Place, is_live, object_of, place_of}
 use Rattle.ep_machine.specs.Lists.{are_distinct, is_among}
-use Rattle.ep_machine.specs.Objects.{plain}
+use Rattle.ep_machine.specs.Marks.{with_marks}
+use Rattle.ep_machine.specs.Objects.{is_instance, plain}
 use Rattle.ep_machine.specs.Readiness.{is_ready, is_reportable, reportables, present}
 use Rattle.ep_machine.specs.Refusal.{refusals}
 use Rattle.ep_machine.specs.Run.{go_on, run}
@@ -20,8 +22,8 @@ use Rattle.ep_law.specs.Sound.{Sound}
 use Rattle.ep_machine.specs.Spread.{is_reached, passes_on, spread, raised_alive}
 use Rattle.ep_machine.specs.State.{State, Watch, counts_of, opening, Change}
 use Rattle.ep_machine.specs.Step.{next_event, step, change}
-use Rattle.ep_machine.specs.Waits.{is_marked_at, waits_at}
-use Rattle.ep_machine.specs.Watches.{is_legal, links}
+use Rattle.ep_machine.specs.Waits.{is_marked_at, marked_if_due, waits_at}
+use Rattle.ep_machine.specs.Watches.{is_exclusive, is_legal, links}
 use Rattle.ep_machine.specs.Settle.{settle}
 use Rattle.ep_object.specs.Law.{object_has}
 
@@ -65,11 +67,36 @@ Determined = (limits : Limits) (past : List Record) (s t : State) → run limits
 abbrev pub EachSound : Type 0
 EachSound = (limits : Limits) (past : List Record) (s : State) → run limits opening past ≡ Some s → Sound s
 
--- in each state of a run a ready instance with waiters has a marked one
+-- in each state of a run an unguarded ready instance with waiters has a marked one
 abbrev pub ReadyMarked : Type 0
 ReadyMarked = (limits : Limits) (past : List Record) (s : State) (e : ℕ)
-    → run limits opening past ≡ Some s → waits_at s.waiters e ≡ true → is_ready s e ≡ true
+    → run limits opening past ≡ Some s → waits_at s.waiters e ≡ true → is_ready s e ≡ true → is_guarded s e ≡ false
     → is_marked_at s.waiters e ≡ true
+
+-- at the end of an event that sets marks in state s, a ready instance that it wakes has a marked one if it has waiters
+abbrev pub WokenMarked : Type 0
+WokenMarked = (before s : State) (raised : List (ℕ × ℕ)) (e : ℕ) → let t = with_marks before raised s in
+    waits_at t.waiters e ≡ true → is_ready t e ≡ true → is_woken before s raised (map (marked_if_due s.now) s.waiters) e ≡ true
+    → is_marked_at t.waiters e ≡ true
+
+-- what the spread reaches of the unguarded instances it reaches with exclusive registrations left out: so it wakes them
+abbrev pub UnguardedSpread : Type 0
+UnguardedSpread = (s : State) (raised : List (ℕ × ℕ)) (e : ℕ) → is_guarded s e ≡ false → is_spread_to s raised e ≡ is_spread_plainly s raised e
+
+-- an instance is at this description
+abbrev pub has_instance : Files → ℕ → Bool
+has_instance f d = is_instance (unwrap_or (object_of f d) plain)
+
+-- on no instance, and armed for good
+pub record IsApart (f : Files) (x : Watch) : Type 0 where
+  pub target : has_instance f x.target ≡ false
+  pub armed : x.armed ≡ true
+  pub always : has_bit x.mask ONESHOT ≡ false
+  pub refused : ⊥  -- additions with EXCLUSIVE are not accepted yet
+
+-- in each state of a run no exclusive registration is on an instance, and each is armed
+abbrev pub ExclusiveTargets : Type 0
+ExclusiveTargets = (limits : Limits) (past : List Record) (s : State) (x : Watch) → run limits opening past ≡ Some s → Member x s.watches → is_exclusive x ≡ true → IsApart s.files x
 
 -- in each state of a run no chain has more than five instances, and none is a loop
 abbrev pub GraphStaysLegal : Type 0

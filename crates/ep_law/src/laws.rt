@@ -1,5 +1,6 @@
 //! Each law is the contract of a function that does nothing, so that it is proved.
-ghost use Rattle.ep_law.specs.Laws.{BeginningsAreSpread, DeathsInAnyOrder, Determined, EachSound, EndsAreApart, FairRounds, GraphStaysLegal, NamedLives, ReadyEquation, ReadyMarked, RefusalChangesNothing, ReportablesAreSpread, SpreadEquation, SpreadLeast};
+ghost use Rattle.ep_law.specs.Narrow.{ChangesAreRegular, RunsAreRegular, WokenIsNarrowed};
+ghost use Rattle.ep_law.specs.Laws.{BeginningsAreSpread, DeathsInAnyOrder, Determined, EachSound, EndsAreApart, ExclusiveTargets, FairRounds, GraphStaysLegal, NamedLives, ReadyEquation, ReadyMarked, RefusalChangesNothing, ReportablesAreSpread, SpreadEquation, SpreadLeast, UnguardedSpread, WokenMarked};
 
 /// An instance is ready exactly where one of its registrations is reportable: five levels are enough
 /// where the graph of instances is legal.
@@ -48,9 +49,37 @@ pub fn named_lives()
     ensures law { NamedLives }
 {}
 
-/// In each state of a run a ready instance with waiters has a marked one.
+/// In each state of a run an unguarded ready instance with waiters has a marked one.
 pub fn ready_waiters_are_marked()
     ensures law { ReadyMarked }
+{}
+
+/// An unguarded instance that the spread of an event reaches is woken: the spread reaches it with exclusive
+/// registrations left out.
+pub fn unguarded_are_reached_plainly()
+    ensures law { UnguardedSpread }
+{}
+
+/// At the end of an event a ready instance with waiters that the event wakes has a marked one, guarded or not.
+pub fn woken_waiters_are_marked()
+    ensures law { WokenMarked }
+{}
+
+/// What an event wakes is what its spread reaches if only the chosen ones of the exclusive registrations pass on,
+/// and the instance of a waiter that left. So one walk finds it.
+pub fn woken_are_reached_narrowly()
+    ensures law { WokenIsNarrowed }
+{}
+
+/// Each state of a run is regular, and so is the one to which an event leads, before it sets marks.
+pub fn runs_are_regular()
+    ensures runs { RunsAreRegular }
+    ensures changes { ChangesAreRegular }
+{}
+
+/// In each state of a run no exclusive registration is on an instance, and each is armed.
+pub fn exclusive_ones_are_apart()
+    ensures law { ExclusiveTargets }
 {}
 
 /// In each state of a run no chain has more than five instances, each watching the next, and none is a loop.

@@ -22,6 +22,9 @@ RDHUP = 8192
 abbrev pub EXCLUSIVE : ℕ
 EXCLUSIVE = 268435456
 
+abbrev pub WAKEUP : ℕ
+WAKEUP = 536870912
+
 abbrev pub ONESHOT : ℕ
 ONESHOT = 1073741824
 
@@ -31,6 +34,10 @@ ET = 2147483648
 -- some of the wanted bits is among these
 abbrev pub has_bit : ℕ → ℕ → Bool
 has_bit bits wanted = not (bit_and bits wanted == 0)
+
+-- all of these are among the allowed ones
+abbrev pub has_only : ℕ → ℕ → Bool
+has_only bits allowed = bit_and bits allowed == bits
 
 abbrev pub when : Bool → ℕ → ℕ
 when holds bits = if holds then bits else 0
@@ -42,6 +49,11 @@ union (bits ∷ rest) = bit_or bits (union rest)
 -- those that the mask asks for: ERR and HUP belong to every mask
 abbrev pub asked : ℕ → ℕ → ℕ
 asked mask bits = bit_and bits (union (mask ∷ ERR ∷ HUP ∷ []))
+
+-- What the mask of an exclusive registration may have. EXCLUSIVE itself is left out, so that no addition with it is
+-- accepted yet.
+abbrev pub exclusive_bits : ℕ
+exclusive_bits = union (IN ∷ OUT ∷ ERR ∷ HUP ∷ WAKEUP ∷ ET ∷ [])
 
 -- those that hold after and not before
 abbrev pub beginning : ℕ → ℕ → ℕ

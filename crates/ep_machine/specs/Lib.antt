@@ -15,6 +15,7 @@ pub mod Watches
 pub mod Spread
 pub mod Report
 pub mod Waits
+pub mod Exclusive
 pub mod Marks
 pub mod Deaths
 pub mod Settle

@@ -7,14 +7,14 @@ use Rattle.ep_base.specs.declared.call.Event.{Event}
 use Rattle.ep_base.specs.declared.call.Event.TheVariants.{Call as CallOf, Resume, Tick}
 use Rattle.ep_base.specs.declared.errno.Errno.{Errno}
 use Rattle.ep_base.specs.declared.errno.Errno.TheVariants.{Ebadf, Ebusy, Eexist, Einval, Eloop, Enoent, Enospc, Eperm, Esrch}
-use Rattle.ep_machine.specs.Bits.{EXCLUSIVE, has_bit}
+use Rattle.ep_machine.specs.Bits.{EXCLUSIVE, exclusive_bits, has_bit, has_only}
 use Rattle.ep_machine.specs.Files.{named_by, names_nothing, object_under, side_under, table_of}
 use Rattle.ep_machine.specs.FilesCalls.{files_call}
 use Rattle.ep_machine.specs.Objects.{is_instance, is_plain, object_refusals}
 use Rattle.ep_machine.specs.State.{State}
 use Rattle.ep_machine.specs.Timer.{last_moment}
 use Rattle.ep_machine.specs.Waits.{has_parked, is_parked, is_positive}
-use Rattle.ep_machine.specs.Watches.{is_add, is_del, is_legal, is_mod, is_there, links, number_in}
+use Rattle.ep_machine.specs.Watches.{is_add, is_del, is_exclusive_there, is_legal, is_mod, is_there, links, number_in}
 
 abbrev pub ctl_refusals : Limits → State → ℕ → ℤ → ℤ → ℤ → ℕ → List (Bool × Errno)
 ctl_refusals limits s p epfd op fd mask =
@@ -27,9 +27,11 @@ ctl_refusals limits s p epfd op fd mask =
     ∷ (is_plain target, Eperm)
     ∷ (not (is_instance (object_under s.files p epfd)) || e == d, Einval)
     ∷ (not (is_add op || is_del op || is_mod op), Einval)
-    ∷ (not (is_del op) && has_bit mask EXCLUSIVE, Einval)
+    ∷ (is_add op && has_bit mask EXCLUSIVE && (is_instance target || not (has_only mask exclusive_bits)), Einval)
+    ∷ (is_mod op && has_bit mask EXCLUSIVE, Einval)
     ∷ (not (is_add op) && not there, Enoent)
     ∷ (is_add op && there, Eexist)
+    ∷ (is_mod op && is_exclusive_there s e (number_in fd) d, Einval)
     ∷ (is_add op && is_instance target && not (is_legal ((e, d) ∷ links s)), Eloop)
     ∷ (is_add op && nat_le limits.watches (length s.watches), Enospc) ∷ []
 

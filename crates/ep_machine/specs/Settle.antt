@@ -2,7 +2,7 @@
 use Rattle.std.specs.Prelude.{List, filter, if◌then◌else◌, map, not, ℕ, ◌&&◌}
 use Rattle.ep_machine.specs.Deaths.{buried}
 use Rattle.ep_machine.specs.Readiness.{is_reportable}
-use Rattle.ep_machine.specs.Spread.{arrived}
+use Rattle.ep_machine.specs.Spread.{arrived, raised_alive}
 use Rattle.ep_machine.specs.State.{State, Watch}
 use Rattle.ep_machine.specs.Marks.{with_marks}
 use Rattle.ep_machine.specs.Lists.{is_among}
@@ -21,4 +21,5 @@ with_from before s = let earlier = reportable_numbers before in record s { watch
 -- the dead go; spread and counts; from; marks
 abbrev pub settle : State → State → List (ℕ × ℕ) → State
 settle before after raised =
-    let left = buried after raised in with_marks (with_from before (arrived left.0 left.1))
+    let left = buried after raised in
+    with_marks before (raised_alive left.0 left.1) (with_from before (arrived left.0 left.1))

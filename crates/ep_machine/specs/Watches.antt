@@ -3,7 +3,7 @@ use Rattle.std.specs.List.{list_any}
 use Rattle.std.specs.Prelude.{Bool, List, None, [], false, filter, if◌then◌else◌, map, negsuc, not, pos, suc}
 use Rattle.std.specs.Prelude.{true, unwrap_or, zero, ℕ, ℤ, ◌&&◌, ◌++◌, ◌+◌, ◌==◌, ◌∷◌}
 use Rattle.ep_base.specs.declared.answer.Answer.TheVariants.{Done}
-use Rattle.ep_machine.specs.Bits.{IN, when}
+use Rattle.ep_machine.specs.Bits.{EXCLUSIVE, IN, has_bit, when}
 use Rattle.ep_machine.specs.Objects.{is_instance, plain}
 use Rattle.ep_machine.specs.Readiness.{is_reportable}
 use Rattle.ep_machine.specs.Files.{named_by, object_of}
@@ -33,6 +33,13 @@ has_key e fd d x = x.instance == e && x.fd == fd && x.target == d
 
 abbrev pub is_there : State → ℕ → ℕ → ℕ → Bool
 is_there s e fd d = list_any (has_key e fd d) s.watches
+
+abbrev pub is_exclusive : Watch → Bool
+is_exclusive x = has_bit x.mask EXCLUSIVE
+
+-- it is there, and was added with EXCLUSIVE
+abbrev pub is_exclusive_there : State → ℕ → ℕ → ℕ → Bool
+is_exclusive_there s e fd d = list_any (λ x. has_key e fd d x && is_exclusive x) s.watches
 
 -- Which instance watches which.
 abbrev pub links : State → List (ℕ × ℕ)

@@ -7,6 +7,7 @@ use Rattle.ep_base.specs.declared.counts.Counts.{Counts}
 use Rattle.ep_base.specs.declared.object.End.{End}
 use Rattle.ep_base.specs.declared.record.Record.{Record}
 use Rattle.ep_law.specs.Laws.{EndsAreApart, IsNoted, Member}
+use Rattle.ep_law.proofs.RegularLemmas.{well_made_run}
 use Rattle.ep_law.proofs.DeathLemmas.{raised_before, same_or_not}
 use Rattle.ep_law.proofs.EndLemmas.{object_there}
 use Rattle.ep_law.proofs.GraphLemmas.{linked_run}
@@ -107,7 +108,7 @@ module _ (apart : EndsAreApart) (limits : Limits) (past : List Record) (s : Stat
   rest = quiet_run limits past s is
 
   rest_end : AtRest t
-  rest_end = quiet_step limits s t caller event picked c.0 rest (step_changed limits s caller event picked c allowed made)
+  rest_end = quiet_step limits s t caller event picked c.0 (well_made_run limits past s is) rest (step_changed limits s caller event picked c allowed made)
 
   filed : Filed s.files
   filed = record { placed = rest.placed; lives = λ d e. sym (rest.named d) ∙ among_first (named_in_tables s.files.tables) (map (λ w. w.instance) s.waiters) d e }

@@ -3,10 +3,13 @@ pub mod PickLemmas
 pub mod OriginLemmas
 pub mod StepLemmas
 pub mod ReachLemmas
-pub mod RaisedLemmas
 pub mod MarkLemmas
+pub mod GuardLemmas
 pub mod EventLemmas
 pub mod OwnEndLemmas
 pub mod PresentLemmas
 pub mod EndingLemmas
 pub mod NeededLemmas
+pub mod LeftLemmas
+pub mod AboveLemmas
+pub mod LookLemmas

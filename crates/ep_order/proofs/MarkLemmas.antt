@@ -4,6 +4,7 @@ use Rattle.std.specs.List.{AllByRecursion, IsDistinct, find, list_any}
 use Rattle.std.proofs.lemmas.Bool.{cases_Bool, false≢true}
 use Rattle.std.proofs.lemmas.Bool.Decides.{nat_tests}
 use Rattle.ep_base.specs.Limits.{Limits}
+use Rattle.ep_base.specs.declared.counts.Counts.{Counts}
 use Rattle.ep_base.specs.declared.answer.Answer.TheVariants.{Events, Still}
 use Rattle.ep_base.specs.declared.call.Call.{Call}
 use Rattle.ep_base.specs.declared.call.Call.TheVariants.{Close, Dup, Dup2, EpollCreate, EpollCtl, EpollWait, EventFd, Exec, Exit, Fork, GetTime, Pipe as PipeCall, Plain, Read, SetTime, Shutdown, SocketPair, TimerFd, Write}
@@ -12,25 +13,34 @@ use Rattle.ep_base.specs.declared.call.Event.TheVariants.{Call as CallOf, Resume
 use Rattle.ep_machine.specs.Files.{named_by, object_of}
 use Rattle.ep_law.specs.Laws.{Member}
 use Rattle.ep_machine.specs.Objects.{Object, counter, instance, pair, pipe, plain, timer}
-use Rattle.ep_view.specs.AtRest.{AtRest, kind_of}
-use Rattle.ep_machine.specs.Readiness.{is_ready}
+use Rattle.ep_view.specs.AtRest.{AtRest, kind_of, marks_at_end}
+use Rattle.ep_machine.specs.Readiness.{is_ready, is_reportable}
 use Rattle.ep_machine.specs.Report.{is_pick, plainly, report}
-use Rattle.ep_machine.specs.Settle.{settle}
-use Rattle.ep_machine.specs.State.{Change, State, Waiter}
+use Rattle.ep_machine.specs.Settle.{settle, came, reportable_numbers}
+use Rattle.ep_machine.specs.State.{Change, State, Waiter, Watch}
 use Rattle.ep_machine.specs.Step.{call_change, change, next_event}
 use Rattle.ep_machine.specs.Waits.{is_marked_at, leave_after, resume, resume_by, tick, unmark, wait_for, waiter_of, waits_at}
 use Rattle.ep_machine.specs.Watches.{ctl, is_add, is_del, number_in}
-use Rattle.ep_law.proofs.GraphLemmas.{linked_begun, linked_change, linked_run}
 use Rattle.ep_law.proofs.StepLemmas.{change_counted}
-use Rattle.ep_law.proofs.MarkLemmas.{marked_parts, ready_marked, ready_same}
+use Rattle.ep_law.proofs.MarkLemmas.{marked_parts, ready_marked, ready_same, guarded_same}
 use Rattle.ep_view.proofs.AtRestLemmas.{quiet_begun, quiet_change, quiet_run}
 use Rattle.ep_view.proofs.SettleLemmas.{quiet_settled, settle_changed}
-use Rattle.ep_view.proofs.KernelViewLemmas.{readiness}
 use Rattle.ep_law.proofs.TestLemmas.{from_test, or_left, or_right}
 use Rattle.ep_object.specs.Law.{AdvanceLaw, ApplyLaw, CloseLaw}
-use Rattle.ep_order.proofs.RaisedLemmas.{in_spread_at_instance}
-use Rattle.ep_order.specs.Mark.{ResumesAt, UnmarkedAreReached}
+use Rattle.ep_view.proofs.RaisedLemmas.{in_spread_at_instance}
+use Rattle.ep_law.proofs.GraphLemmas.{linked_begun, linked_change, linked_run}
+use Rattle.ep_order.specs.Mark.{ResumesAt, UnmarkedAreReached, UnmarkedAreWoken, unmarked_end}
 use Rattle.ep_law.proofs.BeginningLemmas.{instance_begins}
+use Rattle.ep_machine.specs.Exclusive.{is_guarded, is_left}
+use Rattle.ep_machine.specs.Deaths.{buried}
+use Rattle.ep_machine.specs.Spread.{arrived, is_reached, is_reached_within, passes_on_by, raised_alive, raised_of, reaching_of, spread}
+use Rattle.ep_machine.specs.Lists.{is_among}
+use Rattle.std.specs.Prelude.{bit_or}
+use Rattle.std.specs.Int.{bit_at}
+use Rattle.ep_law.proofs.RegularLemmas.{changes_are_regular}
+use Rattle.ep_law.proofs.NarrowLemmas.{in_has}
+use Rattle.ep_law.proofs.GuardLemmas.{unguarded_spread}
+use Rattle.ep_law.proofs.ReachLemmas.{any_has}
 
 pub instance_of_kind : (o : Option Object) → kind_of o ≡ 1 → o ≡ Some instance
 instance_of_kind None h = cc
@@ -41,10 +51,10 @@ instance_of_kind (Some (counter c)) h = cc
 instance_of_kind (Some (timer t)) h = cc
 instance_of_kind (Some instance) h = refl
 
-abbrev at_any : ℕ → List ℕ → Bool
+abbrev pub at_any : ℕ → List ℕ → Bool
 at_any e ks = list_any (λ k. k == e) ks
 
-waits_by : (ws : List Waiter) (e : ℕ) → waits_at ws e ≡ at_any e (map (λ w. w.instance) ws)
+pub waits_by : (ws : List Waiter) (e : ℕ) → waits_at ws e ≡ at_any e (map (λ w. w.instance) ws)
 waits_by [] e = refl
 waits_by (w ∷ ws) e = ap (λ (b : Bool). w.instance == e || b) (waits_by ws e)
 
@@ -164,7 +174,7 @@ not_apart : (a c : ℕ) → nat_eq a c ≡ false → a ≡ c → ⊥
 not_apart a c h e = grind (arith, nat_tests, h, e)
 
 -- a caller has one waiter
-one_caller : (ws : List Waiter) (v w : Waiter) → IsDistinct nat_eq (map (λ u. u.caller) ws) → Member v ws → Member w ws → v.caller ≡ w.caller → v ≡ w
+pub one_caller : (ws : List Waiter) (v w : Waiter) → IsDistinct nat_eq (map (λ u. u.caller) ws) → Member v ws → Member w ws → v.caller ≡ w.caller → v ≡ w
 unfolding IsDistinct
 one_caller [] v w h m n e = absurd m
 one_caller (u ∷ ws) v w h (inl a) (inl c) e = a ∙ sym c
@@ -172,7 +182,7 @@ one_caller (u ∷ ws) v w h (inl a) (inr n) e = absurd (not_apart u.caller w.cal
 one_caller (u ∷ ws) v w h (inr m) (inl c) e = absurd (not_apart u.caller v.caller (apart_caller u.caller ws v h.0 m) (sym (ap (λ (x : Waiter). x.caller) c) ∙ sym e))
 one_caller (u ∷ ws) v w h (inr m) (inr n) e = one_caller ws v w h.1 m n e
 
-found_waiter : (ws : List Waiter) (caller : ℕ) (w : Waiter) → find (λ v. v.caller == caller) ws ≡ Some w → Member w ws
+pub found_waiter : (ws : List Waiter) (caller : ℕ) (w : Waiter) → find (λ v. v.caller == caller) ws ≡ Some w → Member w ws
 found_waiter [] caller w h = cc
 found_waiter (v ∷ ws) caller w h = elim (cases_Bool (v.caller == caller)) [
   | inl t ↦ let same : Some v ≡ Some w = sym (ap (λ (b : Bool). cond b (Some v) (find (λ u. u.caller == caller) ws)) t) ∙ h in let e : w ≡ v = cc in inl e
@@ -250,12 +260,46 @@ module _ (limits : Limits) (b : State) (e caller : ℕ) (distinct : IsDistinct n
     stays_after_marked true true q = stays_after_gone
     stays_after_marked true false q = stays_after_empty q
 
-  stays_after_resume : (ks : List ℕ) → ResumesAt b caller Resume e ⊎ StaysAfter limits b e (resume b caller ks)
-  stays_after_resume ks = by (waiter_of b caller) refl where
-    by : (o : Option Waiter) → waiter_of b caller ≡ o → ResumesAt b caller Resume e ⊎ StaysAfter limits b e (resume_by b o ks)
+  -- or leaves the instance
+  LeftAfter : Option Change → Type 0
+  LeftAfter c = MatchOption c (Unit {0}) (λ o. is_left b o.1 e ≡ true)
+
+  gone_left : (w : Waiter) → Member w b.waiters → (w.instance == e) ≡ true → list_any (λ v. v.instance == e && not (list_any (λ x. x.caller == v.caller) (filter (λ u. not (u.caller == w.caller)) b.waiters))) b.waiters ≡ true
+  gone_left w m here =
+      any_has (λ v. v.instance == e && not (list_any (λ x. x.caller == v.caller) (filter (λ u. not (u.caller == w.caller)) b.waiters))) b.waiters w m
+      (λ i. here i && not (none_of w.caller b.waiters i)) where
+        none_of : (c : ℕ) (ws : List Waiter) → list_any (λ x. x.caller == c) (filter (λ v. not (v.caller == c)) ws) ≡ false
+        none_of c [] = refl
+        none_of c (v ∷ ws) = by (v.caller == c) refl (none_of c ws) where
+          by : (d : Bool) → (v.caller == c) ≡ d → list_any (λ x. x.caller == c) (filter (λ x. not (x.caller == c)) ws) ≡ false → list_any (λ x. x.caller == c) (cond (not d) (v ∷ filter (λ x. not (x.caller == c)) ws) (filter (λ x. not (x.caller == c)) ws)) ≡ false
+          by true is rest = rest
+          by false is rest = λ i. is i || rest i
+
+  module _ (w : Waiter) (m : Member w b.waiters) (here : (w.instance == e) ≡ true) (ks : List ℕ) (ready : is_ready b w.instance ≡ true) where
+    leaves_after_gone : LeftAfter (leave_after w.caller (report b w.instance w.most ks))
+    unfolding LeftAfter
+    leaves_after_gone = by (is_pick b w.instance w.most ks) _ _ where
+      by : (d : Bool) (a : _) (ws : _) → MatchOption (leave_after w.caller (cond d (Some (a, record b { watches = ws }, [])) None)) (Unit {0}) (λ o. is_left b o.1 e ≡ true)
+      by true a ws = gone_left w m here
+      by false a ws = tt
+
+    leaves_or_stays : (d r : Bool) (o : Option Change) → r ≡ true
+        → LeftAfter (if not d then plainly ks (Still, b, []) else if r then leave_after w.caller (report b w.instance w.most ks) else o) ⊎ StaysAfter limits b e (if not d then plainly ks (Still, b, []) else if r then leave_after w.caller (report b w.instance w.most ks) else o)
+    leaves_or_stays false r o h = inr (stays_after_same limits b e ks _ refl)
+    leaves_or_stays true true o h = inl leaves_after_gone
+    leaves_or_stays true false o h = absurd (false≢true h)
+
+  stays_after_resume : (ks : List ℕ) → is_ready b e ≡ true → (LeftAfter (resume b caller ks) × ResumesAt b caller Resume e) ⊎ StaysAfter limits b e (resume b caller ks)
+  stays_after_resume ks ready = by (waiter_of b caller) refl where
+    by : (o : Option Waiter) → waiter_of b caller ≡ o → (LeftAfter (resume_by b o ks) × ResumesAt b caller Resume e) ⊎ StaysAfter limits b e (resume_by b o ks)
     by None is = inr (stays_after_same limits b e ks _ refl)
     by (Some w) is = elim (cases_Bool (w.instance == e)) [
-      | inl here ↦ inl (w, is, from_test w.instance e here)
+      | inl here ↦
+          let there : is_ready b w.instance ≡ true = ap (is_ready b) (from_test w.instance e here) ∙ ready in
+          elim (leaves_or_stays w (found_waiter b.waiters caller w is) here ks there w.marked (is_ready b w.instance) _ there) [
+            | inl leaves ↦ inl (leaves, (w, is, from_test w.instance e here))
+            | inr stays ↦ inr stays
+          ]
       | inr apart ↦
           let others : AreOthers w.caller e b.waiters = λ v m at. elim (cases_Bool (v.caller == w.caller)) [
             | inl same ↦
@@ -266,10 +310,14 @@ module _ (limits : Limits) (b : State) (e caller : ℕ) (distinct : IsDistinct n
           inr (stays_after_marked w others ks w.marked (is_ready b w.instance) _)
     ]
 
-  stays_after_event : (event : Event) (ks : List ℕ) → ResumesAt b caller event e ⊎ StaysAfter limits b e (change limits b caller event ks)
-  stays_after_event (CallOf p call) ks = inr (stays_after_call limits b e caller p.0 call ks)
-  stays_after_event Resume ks = stays_after_resume ks
-  stays_after_event (Tick n) ks = inr (stays_after_same limits b e ks (tick b n) refl)
+  stays_after_event : (event : Event) (ks : List ℕ) → is_ready b e ≡ true → (LeftAfter (change limits b caller event ks) × ResumesAt b caller event e) ⊎ StaysAfter limits b e (change limits b caller event ks)
+  stays_after_event (CallOf p call) ks ready = inr (stays_after_call limits b e caller p.0 call ks)
+  stays_after_event Resume ks ready = stays_after_resume ks ready
+  stays_after_event (Tick n) ks ready = inr (stays_after_same limits b e ks (tick b n) refl)
+
+  from_left : (o : Option Change) (c : Change) → o ≡ Some c → LeftAfter o → is_left b c.1 e ≡ true
+  unfolding LeftAfter
+  from_left o c is f = subst (λ (q : Option Change). MatchOption q (Unit {0}) (λ x. is_left b x.1 e ≡ true)) is f
 
   from_stays : (o : Option Change) (c : Change) → o ≡ Some c → StaysAfter limits b e o → Stays b c.1 e
   unfolding StaysAfter
@@ -278,16 +326,74 @@ module _ (limits : Limits) (b : State) (e caller : ℕ) (distinct : IsDistinct n
 not_true : (a : Bool) → a ≡ false → a ≡ true → ⊥
 not_true a h k = absurd (false≢true (sym h ∙ k))
 
+-- that it came to be reportable plays no part in what a registration passes on
+module _ (earlier : List ℕ) (a left : State) (counts : List Counts) (raised : List (ℕ × ℕ)) where
+  abbrev ended : State
+  ended = record left { arrivals = counts; watches = map (came earlier a) left.watches }
+
+  came_passes : (f : Watch → Bool) → ((x : Watch) (n : ℕ) → f (record x { from = n }) ≡ f x) → (xs : List Watch) → list_any f (map (came earlier a) xs) ≡ list_any f xs
+  came_passes f same [] = refl
+  came_passes f same (x ∷ xs) = λ i. by (not (is_among earlier x.number) && is_reportable a x) i || came_passes f same xs i where
+    by : (d : Bool) → f (cond d (record x { from = a.n }) x) ≡ f x
+    by true = same x a.n
+    by false = refl
+
+  spread_within : (k : ℕ) (e : ℕ) → is_reached_within k ended raised e ≡ is_reached_within k left raised e
+  spread_within zero e = refl
+  spread_within (suc k) e =
+      came_passes (λ x. x.instance == e && passes_on_by (is_reached_within k ended raised) ended raised x) (λ x n. refl) left.watches
+      ∙ ap (λ (r : ℕ → Bool). list_any (λ x. x.instance == e && passes_on_by r left raised x) left.watches) (λ i d. spread_within k d i)
+
+  spread_ended : (e : ℕ) → is_reached ended raised e ≡ is_reached left raised e
+  unfolding is_reached
+  spread_ended e = spread_within 5 e
+
+pub unmarked_are_woken : ApplyLaw → CloseLaw → AdvanceLaw → UnmarkedAreWoken
+unmarked_are_woken apply close clock limits past s caller event picked c e is allowed made waits unmarked ready free =
+    let b = next_event s in
+    let t = settle b c.1 c.2 in
+    let u = unmarked_end b c in
+    let left = (buried c.1 c.2).0 in
+    let up = raised_alive left (buried c.1 c.2).1 in
+    let quiet = quiet_run limits past s is in
+    let still = quiet_begun s quiet in
+    let changed = quiet_change limits b caller event picked c still allowed made in
+    let settled = settle_changed b c.1 c.2 (change_counted limits s caller event picked c made) changed (changes_are_regular limits past s caller event picked c is allowed made) in
+    let after : AtRest t = quiet_settled c.1 changed b.waiters c.2 t settled in
+    let places : map (λ w. w.instance) t.waiters ≡ map (λ w. w.instance) c.1.waiters = ap (map (λ (w : Waiter). w.instance)) settled.waiters ∙ marked_parts (marks_at_end b.waiters c.1 c.2 t) (λ w. w.instance) (λ w x. refl) t.now c.1.waiters in
+    let there : waits_at t.waiters e ≡ true = waits_by t.waiters e ∙ (ap (at_any e) places ∙ (sym (waits_by c.1.waiters e) ∙ waits)) in
+    let who = waiter_there (λ w. kind_of (object_of t.files w.instance) ≡ 1) t.waiters e after.waiting there in
+    let here : object_of t.files e ≡ Some instance = instance_of_kind (object_of t.files e) (ap (λ (d : ℕ). kind_of (object_of t.files d)) (sym who.2) ∙ who.1) in
+    let unguarded : is_guarded u e ≡ false = sym (guarded_same u t.n t.waiters e) ∙ free in
+    elim (cases_Bool (is_guarded s e)) [
+      | inl guarded ↦ inr guarded
+      | inr open_before ↦ inl (elim (cases_Bool (is_ready b e)) [
+        | inr silent ↦
+            let begins = instance_begins apply close clock limits past s caller event picked c is allowed made e here ready silent in
+            let same : is_reached u up ≡ is_reached left up = λ i d. spread_ended (reportable_numbers b) (arrived left (buried c.1 c.2).1) left (arrived left (buried c.1 c.2).1).arrivals up d i in
+            let reaches : bit_at (spread u up e) 0 ≡ 1 = ap (λ (r : ℕ → Bool). bit_at (bit_or (raised_of up e) (reaching_of r e (object_of left.files e))) 0) same ∙ begins in
+            or_left _ _ (or_left _ _ (sym (unguarded_spread u up e unguarded) ∙ in_has (spread u up e) reaches))
+        | inl was ↦ elim (stays_after_event limits b e caller quiet.callers event picked was) [
+          | inl leaves ↦ or_right _ _ (from_left limits b e caller quiet.callers (change limits b caller event picked) c made leaves.0)
+          | inr kept ↦
+              let stays = from_stays limits b e caller quiet.callers (change limits b caller event picked) c made kept in
+              let waited = stays.waits waits was in
+              let marked = ready_marked limits past s e is waited (sym (ready_same s (s.n + 1) s.waiters e) ∙ was) open_before in
+              absurd (not_true (is_marked_at c.1.waiters e) unmarked (stays.marks marked))
+        ]
+      ])
+    ]
+
 pub unmarked_are_reached : ApplyLaw → CloseLaw → AdvanceLaw → UnmarkedAreReached
-unmarked_are_reached apply close clock limits past s caller event picked c e is allowed made waits unmarked ready =
+unmarked_are_reached apply close clock limits past s caller event picked c e is allowed made waits unmarked ready open_before =
     let b = next_event s in
     let t = settle b c.1 c.2 in
     let quiet = quiet_run limits past s is in
     let still = quiet_begun s quiet in
     let changed = quiet_change limits b caller event picked c still allowed made in
-    let settled = settle_changed b c.1 c.2 (change_counted limits s caller event picked c made) changed in
-    let after : AtRest t = quiet_settled c.1 changed c.2 t settled in
-    let places : map (λ w. w.instance) t.waiters ≡ map (λ w. w.instance) c.1.waiters = ap (map (λ (w : Waiter). w.instance)) settled.waiters ∙ marked_parts (readiness t) (λ w. w.instance) (λ w x. refl) t.now c.1.waiters in
+    let settled = settle_changed b c.1 c.2 (change_counted limits s caller event picked c made) changed (changes_are_regular limits past s caller event picked c is allowed made) in
+    let after : AtRest t = quiet_settled c.1 changed b.waiters c.2 t settled in
+    let places : map (λ w. w.instance) t.waiters ≡ map (λ w. w.instance) c.1.waiters = ap (map (λ (w : Waiter). w.instance)) settled.waiters ∙ marked_parts (marks_at_end b.waiters c.1 c.2 t) (λ w. w.instance) (λ w x. refl) t.now c.1.waiters in
     let there : waits_at t.waiters e ≡ true = waits_by t.waiters e ∙ (ap (at_any e) places ∙ (sym (waits_by c.1.waiters e) ∙ waits)) in
     let who = waiter_there (λ w. kind_of (object_of t.files w.instance) ≡ 1) t.waiters e after.waiting there in
     let here : object_of t.files e ≡ Some instance = instance_of_kind (object_of t.files e) (ap (λ (d : ℕ). kind_of (object_of t.files d)) (sym who.2) ∙ who.1) in
@@ -298,12 +404,12 @@ unmarked_are_reached apply close clock limits past s caller event picked c e is 
             | inl reached ↦ inl reached
             | inr raised ↦ inr (inl raised)
           ]
-      | inl was ↦ elim (stays_after_event limits b e caller quiet.callers event picked) [
-        | inl resumes ↦ inr (inr resumes)
+      | inl was ↦ elim (stays_after_event limits b e caller quiet.callers event picked was) [
+        | inl leaves ↦ inr (inr (from_left limits b e caller quiet.callers (change limits b caller event picked) c made leaves.0, leaves.1))
         | inr kept ↦
             let stays = from_stays limits b e caller quiet.callers (change limits b caller event picked) c made kept in
             let waited = stays.waits waits was in
-            let marked = ready_marked limits past s e is waited (sym (ready_same s (s.n + 1) s.waiters e) ∙ was) in
+            let marked = ready_marked limits past s e is waited (sym (ready_same s (s.n + 1) s.waiters e) ∙ was) open_before in
             absurd (not_true (is_marked_at c.1.waiters e) unmarked (stays.marks marked))
       ]
     ]

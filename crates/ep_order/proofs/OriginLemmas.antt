@@ -39,9 +39,16 @@ pub record Told (b : State) (picked : List ℕ) (x : Watch) : Type 0 where
   pub number : x.number ≡ was.number
   pub instance : x.instance ≡ was.instance
   pub stayed : Stayed b x
+  pub target : x.target ≡ was.target
+  pub mask : x.mask ≡ was.mask
   pub told : is_among picked x.number ≡ true
   pub rep : x.rep ≡ b.n
   pub from : x.from ≡ b.n
+
+-- the mask of an epoll_ctl
+abbrev pub HasMask : Event → ℕ → Type 0
+HasMask (CallOf p (EpollCtl epfd op fd mask tag)) k = k ≡ mask.0
+HasMask event k = ⊥
 
 -- one that the event modified
 pub record Modified (b : State) (event : Event) (x : Watch) : Type 0 where
@@ -51,6 +58,9 @@ pub record Modified (b : State) (event : Event) (x : Watch) : Type 0 where
   pub instance : x.instance ≡ was.instance
   pub rep : x.rep ≡ was.rep
   pub from : x.from ≡ was.from
+  pub fd : x.fd ≡ was.fd
+  pub target : x.target ≡ was.target
+  pub mask : HasMask event x.mask
   pub altered : IsAltered b event x
   pub was_altered : IsAltered b event was
 
@@ -118,7 +128,7 @@ module _ (b : State) (event : Event) where
         | inl t ↦
             let is : after_report b w.0 ≡ x = ap (λ (c : Bool). cond c (after_report b w.0) w.0) (sym t) ∙ w.2 in
             let kept : Kept b (after_report b w.0) = record { was = w.0; there = w.1; instance = refl; target = refl; mask = refl; armed = λ a. first_of_and w.0.armed _ a; seen = inr refl } in
-            subst (Origin b event ks) is (inl (record { was = w.0; there = w.1; number = refl; instance = refl; stayed = record { kept = kept; number = refl }; told = t; rep = refl; from = refl }))
+            subst (Origin b event ks) is (inl (record { was = w.0; there = w.1; number = refl; instance = refl; stayed = record { kept = kept; number = refl }; target = refl; mask = refl; told = t; rep = refl; from = refl }))
         | inr f ↦
             let is : w.0 ≡ x = ap (λ (c : Bool). cond c (after_report b w.0) w.0) (sym f) ∙ w.2 in
             subst (Origin b event ks) is (inr (f, inl w.1))
@@ -142,7 +152,7 @@ module _ (b : State) (event : Event) where
   fine_moved : (ks : List ℕ) (c : Change) → c.1.n ≡ b.n → c.1.added ≡ b.added → c.1.watches ≡ b.watches → Fine ks (plainly ks c)
   fine_moved ks c n a w = fine_plainly ks c (good_moved c.1 n a w)
 
-  module _ (e fd d mask tag : ℕ) (alters : (x : Watch) → has_key e fd d x ≡ true → IsAltered b event x) where
+  module _ (e fd d mask tag : ℕ) (sets : HasMask event mask) (alters : (x : Watch) → has_key e fd d x ≡ true → IsAltered b event x) where
     good_add : Good [] (with_watch b (new_watch b e fd d mask tag))
     unfolding Good
     good_add =
@@ -166,7 +176,7 @@ module _ (b : State) (event : Event) where
           let w = member_of_map (modified e fd d mask tag) b.watches x m in
           let made : Watch = record (w.0) { mask = mask; tag = tag; armed = true; seen = None } in
           subst (Origin b event []) w.2 (elim (has_key e fd d w.0) as (λ c. has_key e fd d w.0 ≡ c → Origin b event [] (cond c made w.0)) [
-            | true ↦ λ is. inr (refl, inr (inl (record { was = w.0; there = w.1; number = refl; instance = refl; rep = refl; from = refl; altered = alters made is; was_altered = alters w.0 is })))
+            | true ↦ λ is. inr (refl, inr (inl (record { was = w.0; there = w.1; number = refl; instance = refl; rep = refl; from = refl; fd = refl; target = refl; mask = sets; altered = alters made is; was_altered = alters w.0 is })))
             | false ↦ λ is. inr (refl, inl w.1)
           ] refl),
     )
@@ -204,9 +214,9 @@ module _ (limits : Limits) (b : State) where
       let d = named_by b.files p.0 fd.0 in
       let k = number_in fd.0 in
       good_by b event op _ _ _
-      (λ keeps. good_add b event e k d mask.0 tag (λ x has. (keeps, has)))
+      (λ keeps. good_add b event e k d mask.0 tag refl (λ x has. (keeps, has)))
       (good_delete b event (λ x. not (has_key e k d x)))
-      (λ keeps. good_modify b event e k d mask.0 tag (λ x has. (keeps, has)))
+      (λ keeps. good_modify b event e k d mask.0 tag refl (λ x has. (keeps, has)))
 
   fine_call : (caller : ℕ) (p : Pid) (call : Call) (ks : List ℕ) → Fine b (CallOf p call) ks (call_change limits b caller p.0 call ks)
   fine_call caller p (PipeCall cloexec) ks = fine_moved b _ ks _ refl refl refl

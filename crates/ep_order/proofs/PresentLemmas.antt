@@ -14,7 +14,7 @@ use Rattle.ep_base.specs.declared.ids.Pid.{Pid}
 use Rattle.ep_law.specs.Laws.{HaveOwnEnds}
 use Rattle.ep_law.proofs.DeathLemmas.{has_here}
 use Rattle.ep_law.proofs.EndLemmas.{object_there, set_object}
-use Rattle.ep_law.proofs.GraphLemmas.{AreMade}
+use Rattle.ep_law.proofs.InstanceLemmas.{AreMade}
 use Rattle.ep_law.proofs.RaiseLemmas.{covers_self, covers_then, lived_before}
 use Rattle.ep_law.proofs.StepLemmas.{left_after, resumes}
 use Rattle.ep_law.proofs.TestLemmas.{same_test}

@@ -11,27 +11,27 @@ use Rattle.ep_law.proofs.TestLemmas.{from_test, or_left, or_right, same_test}
 use Rattle.ep_nest.specs.Chains.{IsAbove, IsShort, LeadsBy}
 use Rattle.ep_order.specs.Reach.{IsReachedFrom, ReachedIsAbove, lets_by, open_links}
 
-to_contains : (es : List (ℕ × ℕ)) (p : ℕ × ℕ) → Member p es → Contains es p
+pub to_contains : (es : List (ℕ × ℕ)) (p : ℕ × ℕ) → Member p es → Contains es p
 to_contains [] p m = absurd m
 to_contains (q ∷ es) p (inl e) = (0, omega arith, sym e)
 to_contains (q ∷ es) p (inr m) = let r = to_contains es p m in (suc r.0, let lt = r.1 in omega (arith, lt), r.2)
 
-from_contains : (es : List (ℕ × ℕ)) (p : ℕ × ℕ) (i : ℕ) → i < length es → (d : ℕ × ℕ) → get_or es i d ≡ p → Member p es
+pub from_contains : (es : List (ℕ × ℕ)) (p : ℕ × ℕ) (i : ℕ) → i < length es → (d : ℕ × ℕ) → get_or es i d ≡ p → Member p es
 from_contains [] p i lt d e = absurd (omega (arith, lt))
 from_contains (q ∷ es) p zero lt d e = inl (sym e)
 from_contains (q ∷ es) p (suc i) lt d e = inr (from_contains es p i (omega (arith, lt)) d e)
 
-any_has : (f : KernelWatch → Bool) (xs : List KernelWatch) (x : KernelWatch) → Member x xs → f x ≡ true → list_any f xs ≡ true
+pub any_has : (f : KernelWatch → Bool) (xs : List KernelWatch) (x : KernelWatch) → Member x xs → f x ≡ true → list_any f xs ≡ true
 any_has f [] x m t = absurd m
 any_has f (y ∷ ys) x (inl e) t = or_left _ _ (ap f (sym e) ∙ t)
 any_has f (y ∷ ys) x (inr m) t = or_right _ _ (any_has f ys x m t)
 
 -- the first links of a chain
-abbrev longer : ℕ → ℕ → ℕ
+abbrev pub longer : ℕ → ℕ → ℕ
 longer zero k = k
 longer (suc m) k = suc (longer m k)
 
-starts : (es : List (ℕ × ℕ)) (m k : ℕ) (x y : ℕ) → LeadsBy es (longer m k) x y → (z : ℕ) × LeadsBy es m x z
+pub starts : (es : List (ℕ × ℕ)) (m k : ℕ) (x y : ℕ) → LeadsBy es (longer m k) x y → (z : ℕ) × LeadsBy es m x z
 starts es zero k x y c = (x, refl)
 starts es (suc m) k x y c = let r = starts es m k c.0 y c.2 in (r.0, (c.0, c.1, r.1))
 

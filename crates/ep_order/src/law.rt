@@ -1,10 +1,11 @@
 //! The laws. Each is the contract of a function that does nothing.
 ghost use Rattle.ep_order.specs.Ending.{CallEndsHereOnly, ClockEndsNothing, CloseEndsNothing, UntouchedStayReportable};
 ghost use Rattle.ep_order.specs.Event.{BeginningKeepsTurns, DeadListsAreEmpty, ListsGoOn};
-ghost use Rattle.ep_order.specs.Mark.{UnmarkedAreReached};
+ghost use Rattle.ep_order.specs.Mark.{LeavesByResuming, LosesGuard, MarkedAreLookedAt, UnmarkedAreReached};
+ghost use Rattle.ep_order.specs.Mark.{UnmarkedAreWoken};
 ghost use Rattle.ep_order.specs.Order.{FirstAreFair, StaysComplete, StaysFair};
 ghost use Rattle.ep_order.specs.Pick.{FirstArePick};
-ghost use Rattle.ep_order.specs.Reach.{ReachedIsAbove};
+ghost use Rattle.ep_order.specs.Reach.{AboveIsAbove, GuardedIsAbove, ReachedIsAbove};
 ghost use Rattle.ep_order.specs.Step.{StepAddsOne, StepKeepsTurns};
 
 /// A list stays in a fair order over an event, where what stays keeps its order and what comes, comes behind. Does
@@ -45,14 +46,52 @@ pub fn reached_is_above()
     ensures law { ReachedIsAbove }
 {}
 
-/// An instance that is ready after an event and has waiters, none of them marked before marks are set, is one that IN
-/// reaches from below, or the event raised IN at it, or resumed a caller that waits there. So no other instance needs
-/// a look when marks are set. Does nothing.
+/// The instances above one, by registrations that let IN climb, are those to which chains of such links lead. Does
+/// nothing.
+pub fn above_is_above()
+    ensures law { AboveIsAbove }
+{}
+
+/// The guarded instances are those that have an exclusive registration in them or beneath them. Does nothing.
+pub fn guarded_is_above()
+    ensures law { GuardedIsAbove }
+{}
+
+/// An instance that is ready and unguarded after an event and has waiters, none of them marked before marks are set, is
+/// woken by the event, or was guarded before it. So no other instance needs a look when marks are set. Does nothing.
+pub fn unmarked_are_woken()
+    ensures law { UnmarkedAreWoken }
+{
+    ep_object::arrivals_are_raised();
+}
+
+/// An instance that was unguarded before an event and is ready after it, with waiters, none of them marked before marks
+/// are set, is reached from below, or the event raised IN at it, or resumed a caller that left it. Does nothing.
 pub fn unmarked_are_reached()
     ensures law { UnmarkedAreReached }
 {
     ep_object::arrivals_are_raised();
 }
+
+/// Whoever is to be marked at the end of an event waits at an instance that it wakes, or at one that was guarded before
+/// it and has lost a guard. So no other instance needs a look. Does nothing.
+pub fn marked_are_looked_at()
+    ensures law { MarkedAreLookedAt }
+{
+    ep_object::arrivals_are_raised();
+}
+
+/// A caller leaves an instance exactly if the event resumes one that waits there, and it is parked no more. Does
+/// nothing.
+pub fn leaves_by_resuming()
+    ensures law { LeavesByResuming }
+{}
+
+/// An instance that an event leaves unguarded has lost a registration that was exclusive or on an instance, or is
+/// above one that has. Does nothing.
+pub fn loses_guard()
+    ensures law { LosesGuard }
+{}
 
 /// That an event begins changes no turn, and a refused event does nothing else. Does nothing.
 pub fn beginning_keeps_turns()

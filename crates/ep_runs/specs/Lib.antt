@@ -9,3 +9,6 @@ pub mod RegistrationRuns
 pub mod EdgeRuns
 pub mod NestRuns
 pub mod ParkRuns
+pub mod Ahead
+pub mod ExclusiveRuns
+pub mod ExclusiveScripts

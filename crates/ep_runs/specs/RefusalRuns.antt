@@ -65,16 +65,16 @@ ctl_run of_plain =
     ∷ refused (ctl_call (pos 3) (negsuc 0) (pos 4) 1 0) Einval
     ∷ []
 
--- epoll_ctl: an exclusive registration, which is not accepted, bits without effect, a key that is there or is not
+-- epoll_ctl: EXCLUSIVE beside a bit that it may not stand beside, bits without effect, a key that is there or is not
 abbrev pub masks_run : Answer → List Record
 masks_run of_bits =
     opened
     ++ answered create_call (Num 6)
     ∷ refused (del_call 3 4) Enoent
     ∷ refused (mod_call 3 4 1 0) Enoent
-    ∷ refused (add_call 3 4 268435457 0) Einval
+    ∷ refused (add_call 3 4 268435459 0) Einval
     ∷ answered (add_call 3 4 536870915 0) of_bits
-    ∷ refused (add_call 3 4 268435457 0) Einval
+    ∷ refused (add_call 3 4 268435459 0) Einval
     ∷ refused (mod_call 3 4 268435457 0) Einval
     ∷ refused (add_call 3 4 1 0) Eexist
     ∷ answered (add_call 3 5 0 0) Done

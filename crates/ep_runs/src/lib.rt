@@ -5,6 +5,8 @@
 pub mod counters;
 pub mod descriptors;
 pub mod edge;
+pub mod exclusive;
+pub mod exclusive_scripts;
 pub mod level;
 pub mod nests;
 pub mod parking;

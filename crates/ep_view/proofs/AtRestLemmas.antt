@@ -40,6 +40,8 @@ use Rattle.ep_view.proofs.FilesLemmas.{Extends, Filed, among_either, among_first
 use Rattle.ep_view.proofs.FreshLemmas.{past_itself}
 use Rattle.ep_view.proofs.SettleLemmas.{quiet_settled, settle_changed}
 use Rattle.std.proofs.lemmas.Option.{none-some}
+use Rattle.ep_law.specs.Narrow.{IsRegular}
+use Rattle.ep_law.proofs.RegularLemmas.{WellMade, regular_settle, well_made_opening, well_made_step}
 
 -- In each state of a run no waiter is forgotten, and the rest of what holds at the end of each event holds.
 
@@ -364,16 +366,20 @@ IsStep o = MatchOption o (Unit {0}) (λ c. AtRest c.1)
 abbrev IsCounted : Option Change → Type 0
 IsCounted c = (made : Change) → c ≡ Some made → (0 == made.1.n) ≡ false
 
-fine_settled : (before : State) (c : Option Change) → IsCounted c → Fine c → IsStep (settled before c)
-unfolding Fine IsStep
-fine_settled before None k h = tt
-fine_settled before (Some c) k h = quiet_settled c.1 h c.2 (settle before c.1 c.2) (settle_changed before c.1 c.2 (k c refl) h)
+-- and leads to a regular state
+abbrev IsRegularAfter : State → Option Change → Type 0
+IsRegularAfter before c = (made : Change) → c ≡ Some made → IsRegular (settle before made.1 made.2)
 
-fine_refused : (e : Option Errno) (s : State) (ks : List ℕ) (c : Option Change) → AtRest s → IsCounted c → (e ≡ None → Fine c) → IsStep (refused_or e s ks c)
+fine_settled : (before : State) (c : Option Change) → IsCounted c → IsRegularAfter before c → Fine c → IsStep (settled before c)
+unfolding Fine IsStep
+fine_settled before None k r h = tt
+fine_settled before (Some c) k r h = quiet_settled c.1 h before.waiters c.2 (settle before c.1 c.2) (settle_changed before c.1 c.2 (k c refl) h (r c refl))
+
+fine_refused : (e : Option Errno) (s : State) (ks : List ℕ) (c : Option Change) → AtRest s → IsCounted c → (e ≡ None → IsRegularAfter s c) → (e ≡ None → Fine c) → IsStep (refused_or e s ks c)
 unfolding IsStep
-fine_refused None s ks c h n k = fine_settled s c n (k refl)
-fine_refused (Some e) s [] c h n k = h
-fine_refused (Some e) s (x ∷ ks) c h n k = tt
+fine_refused None s ks c h n r k = fine_settled s c n (r refl) (k refl)
+fine_refused (Some e) s [] c h n r k = h
+fine_refused (Some e) s (x ∷ ks) c h n r k = tt
 
 pub quiet_begun : (s : State) → AtRest s → AtRest (next_event s)
 quiet_begun s h = record { now = h.now; placed = h.placed; named = h.named; watches = h.watches; seen = h.seen; waiting = h.waiting; callers = h.callers; marks = h.marks }
@@ -391,22 +397,23 @@ quiet_opening = record {
   marks = refl;
 }
 
-pub quiet_step : (limits : Limits) (s t : State) (caller : ℕ) (event : Event) (picked : List ℕ) (a : Answer) → AtRest s → step limits s caller event picked ≡ Some (a, t) → AtRest t
+pub quiet_step : (limits : Limits) (s t : State) (caller : ℕ) (event : Event) (picked : List ℕ) (a : Answer) → WellMade s → AtRest s → step limits s caller event picked ≡ Some (a, t) → AtRest t
 unfolding IsStep
-quiet_step limits s t caller event picked a h e =
+quiet_step limits s t caller event picked a well h e =
     let now = next_event s in
     let start = quiet_begun s h in
-    subst IsStep e (fine_refused (first (refusals limits now caller event)) now picked (change limits now caller event picked) start (change_counted limits s caller event picked) (fine_change limits now caller event picked start))
+    subst IsStep e (fine_refused (first (refusals limits now caller event)) now picked (change limits now caller event picked) start (change_counted limits s caller event picked)
+    (λ allowed c made. regular_settle limits s caller event picked c well allowed made) (fine_change limits now caller event picked start))
 
 -- each state of a run
 pub quiet_run : (limits : Limits) (past : List Record) (s : State) → run limits opening past ≡ Some s → AtRest s
-quiet_run limits past s e = run_keeps AtRest limits (quiet_step limits) opening s past quiet_opening e
+quiet_run limits past s e = (run_keeps (λ t. WellMade t × AtRest t) limits (λ u t caller event picked a h is. (well_made_step limits u t caller event picked a h.0 is, quiet_step limits u t caller event picked a h.0 h.1 is)) opening s past (well_made_opening, quiet_opening) e).1
 
 -- a step that isn't refused, as far as registrations are kept
-pub step_quiet : (limits : Limits) (s : State) (caller : ℕ) (event : Event) (picked : List ℕ) (c : Change) → AtRest s → first (refusals limits (next_event s) caller event) ≡ None → change limits (next_event s) caller event picked ≡ Some c
-    → (t : State) × (step limits s caller event picked ≡ Some (c.0, t)) × Settles c.1 c.2 t
-step_quiet limits s caller event picked c h allowed e =
-    (settle (next_event s) c.1 c.2, step_changed limits s caller event picked c allowed e, settle_changed (next_event s) c.1 c.2 (change_counted limits s caller event picked c e) (quiet_change limits (next_event s) caller event picked c (quiet_begun s h) allowed e))
+pub step_quiet : (limits : Limits) (s : State) (caller : ℕ) (event : Event) (picked : List ℕ) (c : Change) → WellMade s → AtRest s → first (refusals limits (next_event s) caller event) ≡ None → change limits (next_event s) caller event picked ≡ Some c
+    → (t : State) × (step limits s caller event picked ≡ Some (c.0, t)) × Settles s.waiters c.1 c.2 t
+step_quiet limits s caller event picked c well h allowed e =
+    (settle (next_event s) c.1 c.2, step_changed limits s caller event picked c allowed e, settle_changed (next_event s) c.1 c.2 (change_counted limits s caller event picked c e) (quiet_change limits (next_event s) caller event picked c (quiet_begun s h) allowed e) (regular_settle limits s caller event picked c well allowed e))
 
 -- What a change leaves of the files: what lives and what can be watched stays.
 

@@ -14,7 +14,7 @@ use Rattle.ep_view.proofs.FreshLemmas.{asked_either, brings_either, alive_raised
 use Rattle.ep_law.proofs.TestLemmas.{same_nat}
 
 -- IN reaches instances alone
-reaching_is : (r : ℕ → Bool) (d : ℕ) (o : Option Object) → reaching_of r d o ≡ when (is_instance (unwrap_or o plain) && r d) IN
+pub reaching_is : (r : ℕ → Bool) (d : ℕ) (o : Option Object) → reaching_of r d o ≡ when (is_instance (unwrap_or o plain) && r d) IN
 reaching_is r d None = refl
 reaching_is r d (Some plain) = refl
 reaching_is r d (Some (pipe p)) = refl
@@ -40,18 +40,18 @@ brings_when : (mask bits : ℕ) (b : Bool) → brings mask (when b bits) ≡ (b 
 brings_when mask bits true = refl
 brings_when mask bits false = zero_brings mask
 
-asked_when : (mask bits : ℕ) (b : Bool) → nat_lt 0 (asked mask (when b bits)) ≡ (b && nat_lt 0 (asked mask bits))
+pub asked_when : (mask bits : ℕ) (b : Bool) → nat_lt 0 (asked mask (when b bits)) ≡ (b && nat_lt 0 (asked mask bits))
 asked_when mask bits true = refl
 asked_when mask bits false = zero_asked mask
 
-passes : (a p i r q : Bool) → (a && (p || i && r && q)) ≡ (a && p || a && i && r && q)
+pub passes : (a p i r q : Bool) → (a && (p || i && r && q)) ≡ (a && p || a && i && r && q)
 passes false p i r q = refl
 passes true p i r q = refl
 
 -- a registration notes the event where it passes something on
-noted : (n : ℕ) (c : Bool) → (0 == n) ≡ false → ((if c then n else 0) == n) ≡ c
-noted n true apart = same_nat n
-noted n false apart = apart
+pub noted_in : (n : ℕ) (c : Bool) → (0 == n) ≡ false → ((if c then n else 0) == n) ≡ c
+noted_in n true apart = same_nat n
+noted_in n false apart = apart
 
 fresh_joined : (f d c : Bool) → (f || (d || c)) ≡ (c || (d || f))
 fresh_joined true true true = refl
@@ -71,7 +71,7 @@ any_left p f g (x ∷ xs) h = with_one (p x) (h x) (any_left p f g xs h) where
   with_one true one rest = let here = one refl in λ i. here i || rest i
   with_one false one rest = rest
 
-any_map : {X Y : Type 0} (f : Y → Bool) (g : X → Y) (xs : List X) → list_any f (map g xs) ≡ list_any (λ x. f (g x)) xs
+pub any_map : {X Y : Type 0} (f : Y → Bool) (g : X → Y) (xs : List X) → list_any f (map g xs) ≡ list_any (λ x. f (g x)) xs
 any_map f g [] = refl
 any_map f g (x ∷ xs) = ap (λ (b : Bool). f (g x) || b) (any_map f g xs)
 
@@ -109,7 +109,7 @@ module _ (after : State) (g : Files) (n : ℕ) (raised : List (ℕ × ℕ)) (apa
       ap (λ (k : ℕ). x.armed && nat_lt 0 (asked x.mask k)) (bits_are r x holds)
       ∙ (ap (λ (t : Bool). x.armed && t) (asked_either x.mask (raised_of raised x.target) (when below IN) ∙ ap (λ (t : Bool). direct || t) (asked_when x.mask IN below))
       ∙ (passes x.armed direct (watches_instance g (kernel_watch after x)) (r x.target) (nat_lt 0 (asked x.mask IN))
-      ∙ ap (λ (t : Bool). t || x.armed && watches_instance g (kernel_watch after x) && r x.target && nat_lt 0 (asked x.mask IN)) (sym (noted n (x.armed && direct) apart))))
+      ∙ ap (λ (t : Bool). t || x.armed && watches_instance g (kernel_watch after x) && r x.target && nat_lt 0 (asked x.mask IN)) (sym (noted_in n (x.armed && direct) apart))))
 
   within_same : (k : ℕ) (e : ℕ) → is_reached_within k b live e ≡ reached_within k g n (map (freshened n raised) (kernel_watches after left)) e
   within_same zero e = refl

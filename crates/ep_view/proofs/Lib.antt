@@ -5,5 +5,8 @@ pub mod WaiterLemmas
 pub mod FreshLemmas
 pub mod DeathLemmas
 pub mod ClimbLemmas
+pub mod MarkingLemmas
+pub mod NarrowingLemmas
+pub mod RaisedLemmas
 pub mod SettleLemmas
 pub mod AtRestLemmas

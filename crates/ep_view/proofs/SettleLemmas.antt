@@ -1,5 +1,5 @@
 -- What a settling leaves.
-use Rattle.std.proofs.Common.{◌≡◌, ℕ, zero, suc, ◌<◌, ◌≤◌, ◌==◌, ◌&&◌, ◌||◌, ◌++◌, ◌∙◌, All, Bool, List, [], ◌∷◌, Some, true, false, not, ap, arith, cond, filter, get_or, inl, inr, is_some, map, nat_eq, nat_lt, refl, subst, sym}
+use Rattle.std.proofs.Common.{◌≡◌, ℕ, zero, suc, ◌<◌, ◌≤◌, ◌==◌, ◌&&◌, ◌||◌, ◌++◌, ◌∙◌, All, Bool, List, [], ◌∷◌, Some, true, false, not, ap, arith, cond, filter, get_or, inl, inr, is_some, map, nat_eq, nat_lt, refl, subst, sym, if◌then◌else◌, None, Option, unwrap_or, length}
 use Rattle.std.proofs.lemmas.Bool.{cases_Bool, false≢true}
 use Rattle.std.proofs.lemmas.List.Elements.{All-cons, All-map}
 use Rattle.std.proofs.lemmas.Bool.Decides.{nat_tests}
@@ -7,28 +7,38 @@ use Rattle.ep_base.specs.declared.counts.Counts.{Counts}
 use Rattle.ep_machine.specs.Bits.{ERR, HUP, IN, ONESHOT, OUT, RDHUP, asked, has_bit}
 use Rattle.ep_machine.specs.Counts.{arrived_since, brings, every_shown_bit}
 use Rattle.ep_machine.specs.Deaths.{buried, die_all, dying, is_kept, named, named_in_tables}
-use Rattle.ep_machine.specs.Files.{Files, Place, is_live, object_of, place_of}
+use Rattle.ep_machine.specs.Files.{Files, Place, is_live, object_of, place_of, object_at}
 use Rattle.ep_machine.specs.Lists.{is_among}
-use Rattle.ep_view.specs.KernelView.{KernelWatch, carries, climbed, climbed_all, freshened, kernel_reported, kernel_watches, kernel_watch, reached_now, reached_within, settled_watches, stays_in, stirred, watches_instance}
-use Rattle.ep_view.specs.AtRest.{Changed, HasSeen, Settles, IsSteady, AtRest, can_be_watched, is_backed, kind_of, marks_of}
+use Rattle.ep_view.specs.KernelView.{KernelWatch, carries, climbed, freshened, kernel_reported, kernel_watches, kernel_watch, reached_now, reached_within, settled_watches, stays_in, stirred, watches_instance, climbing, climbing_all, resting, ready_now}
+use Rattle.ep_view.specs.AtRest.{Changed, HasSeen, Settles, IsSteady, AtRest, can_be_watched, is_backed, kind_of, marks_of, all_raised, standing, marks_at_end, needs_mark, wakes_at_end, Remains}
 use Rattle.ep_machine.specs.Readiness.{is_fresh, is_ready, is_reportable}
 use Rattle.ep_machine.specs.Report.{reported}
 use Rattle.ep_machine.specs.Settle.{came, reportable_numbers, settle, with_from}
-use Rattle.ep_machine.specs.Spread.{arrived}
+use Rattle.ep_machine.specs.Spread.{arrived, raised_alive, raised_of}
 use Rattle.ep_machine.specs.State.{State, Waiter, Watch, counts_of}
 use Rattle.ep_machine.specs.Timer.{last_moment}
-use Rattle.ep_machine.specs.Marks.{marked_by, with_marks}
+use Rattle.ep_machine.specs.Marks.{marked_by}
 use Rattle.ep_machine.specs.Waits.{is_due, is_marked_at, marked_if_due, waits_at}
 use Rattle.ep_view.proofs.DeathLemmas.{Buried, all_buried}
-use Rattle.ep_law.proofs.MarkLemmas.{all_due, marked_all, marked_parts, marks_again, none_forgotten}
+use Rattle.ep_law.proofs.MarkLemmas.{all_due, marked_all, marked_parts, none_forgotten, marks_stay, guarded_same, ready_same as law_ready_same}
 use Rattle.ep_law.proofs.NamedLivesLemmas.{live_left, dying_distinct, dying_placed, dying_unnamed, unnamed_dying}
 use Rattle.ep_law.proofs.DeathLemmas.{ArePlaced, after_all, differs, numbers, raised_before, same_or_not}
 use Rattle.ep_view.proofs.FilesLemmas.{among_second, among_waits, watched_same}
-use Rattle.ep_view.proofs.FreshLemmas.{fresh_arrived, seen_arrived}
-use Rattle.ep_view.proofs.ClimbLemmas.{kept_arrived, reached, zero_asked, zero_brings}
-use Rattle.ep_view.proofs.KernelViewLemmas.{kept_filter, readiness, ready_kept}
+use Rattle.ep_view.proofs.FreshLemmas.{fresh_arrived, seen_arrived, alive_raised}
+use Rattle.ep_view.proofs.ClimbLemmas.{kept_arrived, reached, zero_asked, zero_brings, noted_in}
+use Rattle.ep_view.proofs.KernelViewLemmas.{kept_filter, ready_kept}
 use Rattle.ep_law.proofs.TestLemmas.{both_true, same_nat}
 use Rattle.std.specs.List.{IsDistinct, list_any}
+use Rattle.ep_view.specs.Marking.{gets_mark_now, guarded_now, keeps_passing, left_now, narrowed_now, passing_if}
+use Rattle.ep_law.specs.Laws.{Member, has_instance}
+use Rattle.ep_law.specs.Narrow.{IsRegular}
+use Rattle.ep_machine.specs.Objects.{Object, counter, instance, is_instance, pair, pipe, plain, timer}
+use Rattle.ep_machine.specs.Exclusive.{gets_mark, is_guarded, is_left, is_woken}
+use Rattle.ep_law.proofs.ListLemmas.{all_member}
+use Rattle.ep_law.proofs.ReachLemmas.{any_has}
+use Rattle.ep_view.proofs.MarkingLemmas.{AreSeen, IsSeen, climbed_rests, due_member, first_same, gets_seen, guarded_kept, guarded_rests, marks_same, ready_rests, guarded_seen, woken_seen}
+use Rattle.ep_view.proofs.RaisedLemmas.{raised_in_same}
+use Rattle.ep_law.proofs.InstanceLemmas.{AreMade}
 
 pub lt_test : (a b : ℕ) → a < b → nat_lt a b ≡ true
 lt_test a b h = grind (arith, nat_tests)
@@ -95,11 +105,25 @@ module _ (after : State) (h : Changed after) where
       let lives = live_after e ∙ among_second (named_in_tables f.tables) (map (λ v. v.instance) after.waiters) e (among_waits after.waiters k w lt) in
       left.shows e lives (ap (nat_lt 0) one) ∙ one
 
-  pub quiet_settled : (raised : List (ℕ × ℕ)) (t : State) → Settles after raised t → AtRest t
-  quiet_settled raised t same =
+  -- if a mark is needed then, one was set
+  needs_at_end : (waited : List Waiter) (raised : List (ℕ × ℕ)) (t : State) → Settles waited after raised t → (e : ℕ) → needs_mark t e ≡ true → marks_at_end waited after raised t e ≡ true
+  needs_at_end waited raised t same e h =
+      let zs = standing after raised t.files in
+      let ys = map (freshened after.n (all_raised after raised)) (filter (stays_in t.files) (kernel_watches after after.watches)) in
+      let is : kernel_watches t t.watches ≡ map resting zs = same.watches ∙ climbed_rests (reached_now t.files after.n ys) t.files ys in
+      let stands : needs_mark t e ≡ (ready_now t.files t.now zs e && not (guarded_now zs e)) =
+      ap (λ (xs : List KernelWatch). ready_now t.files t.now xs e && not (guarded_now xs e)) is ∙ (λ i. ready_rests t.files t.now zs e i && not (guarded_rests zs e i)) in
+      or_more (ready_now t.files t.now zs e) (not (guarded_now zs e)) _ (sym stands ∙ h) where
+        or_more : (r g x : Bool) → (r && g) ≡ true → (r && (g || x)) ≡ true
+        or_more true true x h = refl
+        or_more true false x h = cc
+        or_more false g x h = cc
+
+  pub quiet_settled : (waited : List Waiter) (raised : List (ℕ × ℕ)) (t : State) → Settles waited after raised t → AtRest t
+  quiet_settled waited raised t same =
       let files : (P : Files → Type 0) → P g → P t.files = λ P. subst P (sym same.files) in
-      let came = (die_all (after.files, raised) (dying after)).1 in
-      let ready = readiness t in
+      let came = all_raised after raised in
+      let ready = marks_at_end waited after raised t in
       let places : map (λ w. w.instance) t.waiters ≡ map (λ w. w.instance) after.waiters = ap (map (λ (w : Waiter). w.instance)) same.waiters ∙ marked_parts ready (λ w. w.instance) (λ w b. refl) t.now after.waiters in
       let who : map (λ w. w.caller) t.waiters ≡ map (λ w. w.caller) after.waiters = ap (map (λ (w : Waiter). w.caller)) same.waiters ∙ marked_parts ready (λ w. w.caller) (λ w b. refl) t.now after.waiters in
       record {
@@ -113,7 +137,7 @@ module _ (after : State) (h : Changed after) where
         waiting = subst (λ (ws : List Waiter). All (λ w. kind_of (object_of t.files w.instance) ≡ 1) ws) (sym same.waiters)
             (marked_all ready (λ e. kind_of (object_of t.files e) ≡ 1) t.now after.waiters (files (λ u. All (λ w. kind_of (object_of u w.instance) ≡ 1) after.waiters) waits_on));
         callers = subst (IsDistinct nat_eq) (sym who) h.callers;
-        marks = ap (marks_of t) same.waiters ∙ (marks_again ready t.now after.waiters ∙ sym same.waiters);
+        marks = ap (marks_of t) same.waiters ∙ (marks_stay ready (needs_mark t) (needs_at_end waited raised t same) t.now after.waiters ∙ sym same.waiters);
       }
 
 -- the registrations after arrivals in a state of other files
@@ -173,26 +197,154 @@ seen_came earlier a xs h = All-map (λ x. HasSeen x.seen (counts_of a x.target))
   one : (x : Watch) → HasSeen x.seen (counts_of a x.target) → HasSeen (came earlier a x).seen (counts_of a (came earlier a x).target)
   one x h = elim (not (is_among earlier x.number) && is_reportable a x) as (λ b. HasSeen (cond b (record x { from = a.n }) x).seen (counts_of a (cond b (record x { from = a.n }) x).target)) [ true ↦ h | false ↦ h ]
 
--- marks, by registrations as they are kept
-kept_marks : (s : State) → (with_marks s).waiters ≡ marked_by (readiness s) s.now s.waiters
-kept_marks s = ap (λ (r : ℕ → Bool). marked_by r s.now s.waiters) (λ i e. ready_kept s e i)
+-- an instance, which lives
+kind_instance : (o : Option Object) → kind_of o ≡ 1 → is_instance (unwrap_or o plain) ≡ true
+kind_instance None h = cc
+kind_instance (Some plain) h = cc
+kind_instance (Some (pipe p)) h = cc
+kind_instance (Some (pair p)) h = cc
+kind_instance (Some (counter c)) h = cc
+kind_instance (Some (timer t)) h = cc
+kind_instance (Some instance) h = refl
 
--- the settling of a change
-pub settle_changed : (before after : State) (raised : List (ℕ × ℕ)) → (0 == after.n) ≡ false → Changed after → Settles after raised (settle before after raised)
-settle_changed before after raised counted h =
-    let g = (die_all (after.files, raised) (dying after)).0 in
-    let buried_now = buried after raised in
-    let same : g ≡ after_all after.files (dying after) = raised_before after.files raised (dying after) in
-    let left = filter (is_kept (record after { files = g })) after.watches in
-    record {
-      n = refl;
-      now = refl;
-      files = same;
-      watches = kept_came (reportable_numbers before) (arrived buried_now.0 buried_now.1) left ∙ settled_all after g buried_now.1 counted h.seen;
-      added = refl;
-      waiters = kept_marks (with_from before (arrived buried_now.0 buried_now.1));
-      seen = seen_came (reportable_numbers before) (arrived buried_now.0 buried_now.1) left (settled_seen after g buried_now.1 counted after.watches h.seen);
-    }
+instance_lives : (f : Files) (d : ℕ) → has_instance f d ≡ true → is_live f d ≡ true
+instance_lives f d h = by (place_of f d) h where
+  by : (o : Option Place) → is_instance (unwrap_or (object_at f o) plain) ≡ true → is_some o ≡ true
+  by None h = absurd (false≢true h)
+  by (Some p) h = refl
+
+-- what has its object was made
+some_below : (os : List (Option Object)) (k : ℕ) → is_some (get_or os k None) ≡ true → k < length os
+some_below [] k h = absurd (false≢true h)
+some_below (o ∷ os) zero h = omega arith
+some_below (o ∷ os) (suc k) h = let lt = some_below os k h in omega (arith, lt)
+
+made_if_backed : (f : Files) → ((d : ℕ) → is_backed f (place_of f d) ≡ true) → AreMade f
+made_if_backed f backed d p e = some_below f.objects p.object (ap (is_backed f) (sym e) ∙ backed d)
+
+-- the registrations as they stand when marks are set
+module _ (before after : State) (raised : List (ℕ × ℕ)) (counted : (0 == after.n) ≡ false) where
+  abbrev left_files : Files
+  left_files = (die_all (after.files, raised) (dying after)).0
+
+  abbrev alive : List (ℕ × ℕ)
+  alive = raised_alive (buried after raised).0 (all_raised after raised)
+
+  abbrev unmarked : State
+  unmarked = with_from before (arrived (buried after raised).0 (all_raised after raised))
+
+  abbrev zs : List KernelWatch
+  zs = standing after raised left_files
+
+  seen_one : (r : ℕ → Bool) (x : Watch) → stays_in left_files (kernel_watch after x) ≡ true → (c : Bool) → IsSeen after.n alive (cond c (record x { from = after.n }) x) (climbing r left_files (freshened after.n (all_raised after raised) (kernel_watch after x)))
+  seen_one r x holds c = by c where
+    passes : (x.armed && nat_lt 0 (asked x.mask (raised_of alive x.target))) ≡ ((freshened after.n (all_raised after raised) (kernel_watch after x)).passes_in == after.n)
+    passes =
+        ap (λ (b : ℕ). x.armed && nat_lt 0 (asked x.mask b)) (alive_raised left_files (all_raised after raised) x.target (both_true (is_live left_files x.instance) (is_live left_files x.target) holds).1)
+        ∙ sym (noted_in after.n (x.armed && nat_lt 0 (asked x.mask (raised_of (all_raised after raised) x.target))) counted)
+
+    by : (c : Bool) → IsSeen after.n alive (cond c (record x { from = after.n }) x) (climbing r left_files (freshened after.n (all_raised after raised) (kernel_watch after x)))
+    by true = record { number = refl; instance_of = refl; target = refl; mask = refl; armed = refl; passes_on = passes }
+    by false = record { number = refl; instance_of = refl; target = refl; mask = refl; armed = refl; passes_on = passes }
+
+  seen_all : (r : ℕ → Bool) (earlier : List ℕ) (a : State) → a.n ≡ after.n → (xs : List Watch)
+      → AreSeen after.n alive (map (came earlier a) (filter (λ x. stays_in left_files (kernel_watch after x)) xs)) (map (climbing r left_files) (map (freshened after.n (all_raised after raised)) (filter (stays_in left_files) (kernel_watches after xs))))
+  seen_all r earlier a at [] = tt
+  seen_all r earlier a at (x ∷ xs) = with_one (stays_in left_files (kernel_watch after x)) refl (seen_all r earlier a at xs) where
+    with_one : (b : Bool) → stays_in left_files (kernel_watch after x) ≡ b
+        → AreSeen after.n alive (map (came earlier a) (filter (λ y. stays_in left_files (kernel_watch after y)) xs)) (map (climbing r left_files) (map (freshened after.n (all_raised after raised)) (filter (stays_in left_files) (kernel_watches after xs))))
+        → AreSeen after.n alive (map (came earlier a) (cond b (x ∷ filter (λ y. stays_in left_files (kernel_watch after y)) xs) (filter (λ y. stays_in left_files (kernel_watch after y)) xs)))
+        (map (climbing r left_files) (map (freshened after.n (all_raised after raised)) (cond b (kernel_watch after x ∷ filter (stays_in left_files) (kernel_watches after xs)) (filter (stays_in left_files) (kernel_watches after xs)))))
+    with_one true holds rest = (subst (λ (n : ℕ). IsSeen after.n alive (cond (not (is_among earlier x.number) && is_reportable a x) (record x { from = n }) x) (climbing r left_files (freshened after.n (all_raised after raised) (kernel_watch after x)))) (sym at) (seen_one r x holds (not (is_among earlier x.number) && is_reportable a x)), rest)
+    with_one false fails rest = rest
+
+  -- what a change leaves but for its waiters
+  pub settle_remains : Changed after → Remains after raised (settle before after raised)
+  settle_remains h =
+      let buried_now = buried after raised in
+      let left = filter (is_kept (record after { files = left_files })) after.watches in
+      record {
+        n = refl;
+        now = refl;
+        files = raised_before after.files raised (dying after);
+        watches = kept_came (reportable_numbers before) (arrived buried_now.0 buried_now.1) left ∙ settled_all after left_files buried_now.1 counted h.seen;
+        added = refl;
+        seen = seen_came (reportable_numbers before) (arrived buried_now.0 buried_now.1) left (settled_seen after left_files buried_now.1 counted after.watches h.seen);
+      }
+
+  module _ (h : Changed after) (regular : IsRegular (settle before after raised)) where
+    abbrev t : State
+    t = settle before after raised
+
+    watches_are : kernel_watches t t.watches ≡ settled_watches after.n left_files (freshened after.n (all_raised after raised)) (filter (stays_in left_files) (kernel_watches after after.watches))
+    watches_are =
+        let buried_now = buried after raised in
+        let left = filter (is_kept (record after { files = left_files })) after.watches in
+        kept_came (reportable_numbers before) (arrived buried_now.0 buried_now.1) left ∙ settled_all after left_files buried_now.1 counted h.seen
+
+    ready_same : (e : ℕ) → is_ready unmarked e ≡ ready_now left_files unmarked.now zs e
+    ready_same e =
+        let ys = map (freshened after.n (all_raised after raised)) (filter (stays_in left_files) (kernel_watches after after.watches)) in
+        ready_kept unmarked e ∙ (ap (λ (xs : List KernelWatch). ready_now left_files unmarked.now xs e) (watches_are ∙ climbed_rests (reached_now left_files after.n ys) left_files ys) ∙ ready_rests left_files unmarked.now zs e)
+
+    waits_in : (w : Waiter) → Member w (map (marked_if_due unmarked.now) after.waiters) → has_instance left_files w.instance ≡ true
+    waits_in w m =
+        let v = due_member unmarked.now after.waiters w m in
+        let at = all_member (λ u. kind_of (object_of (after_all after.files (dying after)) u.instance) ≡ 1) after.waiters v.0 (waits_on after h) v.1 in
+        let same : left_files ≡ after_all after.files (dying after) = raised_before after.files raised (dying after) in
+        ap (has_instance left_files) (sym v.2) ∙ (ap (λ (f : Files). has_instance f v.0.instance) same ∙ kind_instance _ at)
+
+    abbrev due_now : List Waiter
+    due_now = map (marked_if_due unmarked.now) after.waiters
+
+    seen_now : AreSeen after.n alive unmarked.watches zs
+    seen_now = seen_all (reached_now left_files after.n (map (freshened after.n (all_raised after raised)) (filter (stays_in left_files) (kernel_watches after after.watches)))) (reportable_numbers before) (arrived (buried after raised).0 (all_raised after raised)) refl after.watches
+
+    regular_now : IsRegular unmarked
+    regular_now = record { legal = regular.legal; instances = regular.instances; exclusive = regular.exclusive; numbers = regular.numbers }
+
+    raised_alike : (e : ℕ) → has_instance left_files e ≡ true → has_bit (raised_of alive e) IN ≡ has_bit (raised_of raised e) IN
+    raised_alike e inst = ap (λ (k : ℕ). has_bit k IN) (alive_raised left_files (all_raised after raised) e (instance_lives left_files e inst)) ∙ raised_in_same after.files raised (dying after) e (made_if_backed after.files h.placed) inst
+
+    -- what is ready, guarded and woken at the end, by registrations as they stand then
+    pub ready_at_end : (e : ℕ) → is_ready t e ≡ ready_now t.files t.now (standing after raised t.files) e
+    ready_at_end e = law_ready_same unmarked t.n t.waiters e ∙ ready_same e
+
+    pub guarded_at_end : (e : ℕ) → is_guarded t e ≡ guarded_now (standing after raised t.files) e
+    guarded_at_end e = guarded_same unmarked t.n t.waiters e ∙ guarded_seen after.n alive unmarked zs seen_now e
+
+    pub woken_at_end : (e : ℕ) → has_instance t.files e ≡ true → is_woken before unmarked alive due_now e ≡ wakes_at_end before.waiters after raised t e
+    woken_at_end e inst =
+        woken_seen after.n alive unmarked zs seen_now regular_now counted (ready_now left_files unmarked.now zs) ready_same due_now waits_in before e inst
+        ∙ ap (λ (b : Bool). b || reached_now left_files after.n (narrowed_now left_files after.n zs (ready_now left_files unmarked.now zs) due_now) e || is_left before unmarked e) (raised_alike e inst)
+
+    -- marks, by registrations as they are kept
+    kept_marks : t.waiters ≡ marked_by (marks_at_end before.waiters after raised t) t.now after.waiters
+    kept_marks =
+        let due = map (marked_if_due unmarked.now) after.waiters in
+        let seen = seen_all (reached_now left_files after.n (map (freshened after.n (all_raised after raised)) (filter (stays_in left_files) (kernel_watches after after.watches)))) (reportable_numbers before) (arrived (buried after raised).0 (all_raised after raised)) refl after.watches in
+        first_same (gets_mark before unmarked alive due) (marks_at_end before.waiters after raised t) due [] due (λ w m.
+        let inst = waits_in w m in
+        gets_seen after.n alive unmarked zs seen regular_before counted (ready_now left_files unmarked.now zs) ready_same due waits_in before w.instance inst
+        ∙ ap (λ (b : Bool). ready_now left_files unmarked.now zs w.instance && (not (guarded_now zs w.instance) || (b || reached_now left_files after.n (narrowed_now left_files after.n zs (ready_now left_files unmarked.now zs) due) w.instance || is_left before unmarked w.instance)))
+        (ap (λ (k : ℕ). has_bit k IN) (alive_raised left_files (all_raised after raised) w.instance (instance_lives left_files w.instance inst)) ∙ raised_in_same after.files raised (dying after) w.instance (made_if_backed after.files h.placed) inst)) where
+          regular_before : IsRegular unmarked
+          regular_before = record { legal = regular.legal; instances = regular.instances; exclusive = regular.exclusive; numbers = regular.numbers }
+
+    -- the settling of a change
+    pub settle_changed : Settles before.waiters after raised t
+    settle_changed =
+        let buried_now = buried after raised in
+        let left = filter (is_kept (record after { files = left_files })) after.watches in
+        record {
+          n = refl;
+          now = refl;
+          files = raised_before after.files raised (dying after);
+          watches = watches_are;
+          added = refl;
+          waiters = kept_marks;
+          seen = seen_came (reportable_numbers before) (arrived buried_now.0 buried_now.1) left (settled_seen after left_files buried_now.1 counted after.watches h.seen);
+        }
 
 -- a report, by registrations as they are kept
 no_news : (wanted : ℕ) (c : Counts) → arrived_since wanted c c ≡ false
@@ -301,19 +453,66 @@ module _ (s : State) (counted : (0 == s.n) ≡ false) where
   unfolding reached_now
   reached_none files xs = reaches_none 5 files xs
 
-  unclimbed : (files : Files) (xs : List Watch) → map (climbed (λ d. false) files) (kernel_watches s xs) ≡ kernel_watches s xs
+  unclimbed : (files : Files) (xs : List Watch) → map (climbing (λ d. false) files) (kernel_watches s xs) ≡ kernel_watches s xs
   unclimbed files [] = refl
   unclimbed files (x ∷ xs) = λ i. still (watches_instance files (kernel_watch s x)) i ∷ unclimbed files xs i where
-    still : (w : Bool) → record (kernel_watch s x) { fresh = w && false && brings x.mask IN || is_fresh s x; passes_in = 0 } ≡ kernel_watch s x
+    still : (w : Bool) → record (kernel_watch s x) { fresh = w && false && brings x.mask IN || is_fresh s x } ≡ kernel_watch s x
     still true = refl
     still false = refl
 
+  rested : (xs : List Watch) → map resting (kernel_watches s xs) ≡ kernel_watches s xs
+  rested [] = refl
+  rested (x ∷ xs) = ap (λ (ys : List KernelWatch). kernel_watch s x ∷ ys) (rested xs)
+
+  quiet_climb : (files : Files) (xs : List Watch) → climbing_all s.n files (map (freshened s.n []) (kernel_watches s xs)) ≡ kernel_watches s xs
+  quiet_climb files xs =
+      ap (climbing_all s.n files) (unnoted (kernel_watches s xs))
+      ∙ (ap (λ (r : ℕ → Bool). map (climbing r files) (kernel_watches s xs)) (reached_none files xs) ∙ unclimbed files xs)
+
   quiet_watches : (files : Files) (xs : List Watch) → settled_watches s.n files (freshened s.n []) (kernel_watches s xs) ≡ kernel_watches s xs
   quiet_watches files xs =
-      ap (climbed_all s.n files) (unnoted (kernel_watches s xs))
-      ∙ (ap (λ (r : ℕ → Bool). map (climbed r files) (kernel_watches s xs)) (reached_none files xs) ∙ unclimbed files xs)
+      let ys = map (freshened s.n []) (kernel_watches s xs) in
+      climbed_rests (reached_now files s.n ys) files ys ∙ (ap (map resting) (quiet_climb files xs) ∙ rested xs)
 
-pub settled_quiet : (s : State) → (0 == s.n) ≡ false → AtRest s → Settles s [] s
+  -- nothing passes anything on, so nothing is to be narrowed, and nobody leaves
+  quiet_narrow : (k : KernelWatch → Bool) (xs : List Watch) → map (λ x. passing_if (k x) x) (kernel_watches s xs) ≡ kernel_watches s xs
+  quiet_narrow k [] = refl
+  quiet_narrow k (x ∷ xs) = λ i. zero_if (k (kernel_watch s x)) i ∷ quiet_narrow k xs i where
+    zero_if : (b : Bool) → record (kernel_watch s x) { passes_in = if b then 0 else 0 } ≡ kernel_watch s x
+    zero_if true = refl
+    zero_if false = refl
+
+  here_still : (all ws : List Waiter) → ((w : Waiter) → Member w ws → Member w all) → (e : ℕ) → left_now ws all e ≡ false
+  here_still all [] within e = refl
+  here_still all (w ∷ ws) within e =
+      let there : list_any (λ v. v.caller == w.caller) all ≡ true = any_has (λ v. v.caller == w.caller) all w (within w (inl refl)) (same_nat w.caller) in
+      let rest = here_still all ws (λ v m. within v (inr m)) e in
+      (λ i. w.instance == e && not (there i) || rest i) ∙ never (w.instance == e) where
+        never : (p : Bool) → (p && false || false) ≡ false
+        never true = refl
+        never false = refl
+
+  quiet_standing : AtRest s → standing s [] s.files ≡ kernel_watches s s.watches
+  quiet_standing h =
+      ap (λ (xs : List (ℕ × Place)). climbing_all s.n s.files (map (freshened s.n (die_all (s.files, []) xs).1) (filter (stays_in s.files) (kernel_watches s s.watches)))) (none_dying s h)
+      ∙ (ap (λ (xs : List KernelWatch). climbing_all s.n s.files (map (freshened s.n []) xs)) (all_stay s.files (kernel_watches s s.watches) (all_to_kept s.files s s.watches h.watches))
+      ∙ quiet_climb s.files s.watches)
+
+  quiet_marks : AtRest s → (e : ℕ) → needs_mark s e ≡ marks_at_end s.waiters s [] s e
+  quiet_marks h e =
+      let xs = kernel_watches s s.watches in
+      let due = map (marked_if_due s.now) s.waiters in
+      let ready = ready_now s.files s.now xs in
+      let reached : reached_now s.files s.n (narrowed_now s.files s.n xs ready due) e ≡ false =
+      ap (λ (ys : List KernelWatch). reached_now s.files s.n ys e) (quiet_narrow (keeps_passing s.files s.n xs ready due) s.watches) ∙ ap (λ (f : ℕ → Bool). f e) (reached_none s.files s.watches) in
+      sym ((λ i. gets_mark_now s.files s.now s.n (quiet_standing h i) due (λ d. false) (left_now s.waiters s.waiters) e)
+      ∙ ((λ i. ready e && (not (guarded_now xs e) || (false || reached i || here_still s.waiters s.waiters (λ w m. m) e i))) ∙ last (ready e) (not (guarded_now xs e)))) where
+        last : (r g : Bool) → (r && (g || (false || false || false))) ≡ (r && g)
+        last true true = refl
+        last true false = refl
+        last false g = refl
+
+pub settled_quiet : (s : State) → (0 == s.n) ≡ false → AtRest s → Settles s.waiters s [] s
 settled_quiet s counted h = record {
   n = refl;
   now = refl;
@@ -323,18 +522,18 @@ settled_quiet s counted h = record {
       ∙ (ap (settled_watches s.n s.files (freshened s.n [])) (sym (all_stay s.files (kernel_watches s s.watches) (all_to_kept s.files s s.watches h.watches)))
       ∙ ap (λ (xs : List (ℕ × Place)). settled_watches s.n s.files (freshened s.n (die_all (s.files, []) xs).1) (filter (stays_in s.files) (kernel_watches s s.watches))) (sym (none_dying s h)));
   added = refl;
-  waiters = sym h.marks;
+  waiters = sym h.marks ∙ marks_same (needs_mark s) (marks_at_end s.waiters s [] s) s.now s.waiters (λ w m. quiet_marks s counted h w.instance);
   seen = h.seen;
 }
 
--- No waiter is forgotten.
+-- No waiter is forgotten at an unguarded instance.
 module _ (s : State) (h : AtRest s) where
-  pub ready_has_mark : (e : ℕ) → waits_at s.waiters e ≡ true → is_ready s e ≡ true → is_marked_at s.waiters e ≡ true
-  ready_has_mark e waits ready =
-      let r = readiness s in
+  pub ready_has_mark : (e : ℕ) → waits_at s.waiters e ≡ true → is_ready s e ≡ true → is_guarded s e ≡ false → is_marked_at s.waiters e ≡ true
+  ready_has_mark e waits ready free =
+      let r = needs_mark s in
       let due = map (marked_if_due s.now) s.waiters in
       ap (λ (ws : List Waiter). is_marked_at ws e) (sym h.marks)
-      ∙ none_forgotten r due e (ap (λ (ws : List Waiter). waits_at ws e) h.marks ∙ waits) (sym (ready_kept s e) ∙ ready)
+      ∙ none_forgotten r due e (ap (λ (ws : List Waiter). waits_at ws e) h.marks ∙ waits) (λ i. (sym (ready_kept s e) ∙ ready) i && not ((sym (guarded_kept s e) ∙ free) i))
 
   pub due_is_marked : All (λ w. is_due s.now w.deadline ≡ true → w.marked ≡ true) s.waiters
-  due_is_marked = subst (λ (ws : List Waiter). All (λ w. is_due s.now w.deadline ≡ true → w.marked ≡ true) ws) h.marks (all_due (readiness s) s.now s.waiters)
+  due_is_marked = subst (λ (ws : List Waiter). All (λ w. is_due s.now w.deadline ≡ true → w.marked ≡ true) ws) h.marks (all_due (needs_mark s) s.now s.waiters)

@@ -61,12 +61,12 @@ module _ (number : ℕ → ℕ) where
     same_at : (w v : Waiter) → Member w all → Member v all → (number w.instance == number v.instance) ≡ (w.instance == v.instance)
     same_at w v m n = apart w.instance v.instance (member_map (λ u. u.instance) w all m) (member_map (λ u. u.instance) v all n)
 
-    waits_where : (before : List Waiter) (v : Waiter) → ((w : Waiter) → Member w before → Member w all) → Member v all → waits_at (map (at_number number) before) (number v.instance) ≡ waits_at before v.instance
+    pub waits_where : (before : List Waiter) (v : Waiter) → ((w : Waiter) → Member w before → Member w all) → Member v all → waits_at (map (at_number number) before) (number v.instance) ≡ waits_at before v.instance
     waits_where before v within n =
         any_at (λ w. w.instance == number v.instance) (λ w. number w.instance == number v.instance) (λ w. refl) before
         ∙ any_same (λ w. number w.instance == number v.instance) (λ w. w.instance == v.instance) before (λ w m. same_at w v (within w m) n)
 
-    marked_where : (v : Waiter) → Member v all → is_marked_at (map (at_number number) all) (number v.instance) ≡ is_marked_at all v.instance
+    pub marked_where : (v : Waiter) → Member v all → is_marked_at (map (at_number number) all) (number v.instance) ≡ is_marked_at all v.instance
     marked_where v n =
         any_at (λ w. w.instance == number v.instance && w.marked) (λ w. number w.instance == number v.instance && w.marked) (λ w. refl) all
         ∙ any_same (λ w. number w.instance == number v.instance && w.marked) (λ w. w.instance == v.instance && w.marked) all (λ w m. ap (λ (b : Bool). b && w.marked) (same_at w v m n))

@@ -111,8 +111,18 @@ unfoldable pub reached_now : Files → ℕ → List KernelWatch → ℕ → Bool
 reached_now files n xs e = reached_within 5 files n xs e
 
 -- and what watches such an instance is fresh
+abbrev pub climbing : (ℕ → Bool) → Files → KernelWatch → KernelWatch
+climbing reached files x = record x { fresh = watches_instance files x && reached x.target && brings x.mask IN || x.fresh }
+
+abbrev pub climbing_all : ℕ → Files → List KernelWatch → List KernelWatch
+climbing_all n files xs = map (climbing (reached_now files n xs) files) xs
+
+-- at the end of the event nothing is passed on any more
+abbrev pub resting : KernelWatch → KernelWatch
+resting x = record x { passes_in = 0 }
+
 abbrev pub climbed : (ℕ → Bool) → Files → KernelWatch → KernelWatch
-climbed reached files x = record x { fresh = watches_instance files x && reached x.target && brings x.mask IN || x.fresh; passes_in = 0 }
+climbed reached files x = resting (climbing reached files x)
 
 abbrev pub climbed_all : ℕ → Files → List KernelWatch → List KernelWatch
 climbed_all n files xs = map (climbed (reached_now files n xs) files) xs

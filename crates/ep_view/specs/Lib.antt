@@ -1,2 +1,3 @@
 pub mod KernelView
+pub mod Marking
 pub mod AtRest

@@ -1,0 +1,334 @@
+-- Where instances are: no description comes to be an instance.
+use Rattle.std.proofs.Common.{◌≡◌, ℕ, zero, suc, Bool, true, List, [], ◌∷◌, inl, inr, refl, sym, subst, unwrap_or, ◌<◌, ◌≤◌, ◌++◌, ◌∙◌, false, None, Option, Some, ℤ, get_or, if◌then◌else◌, length, ap, arith, set, ◌==◌, ◌+◌, is_some}
+use Rattle.std.specs.List.{list_any}
+use Rattle.ep_law.proofs.DeathLemmas.{get_other, same_or_not}
+use Rattle.ep_law.proofs.TestLemmas.{or_left, or_right, same_test}
+use Rattle.ep_machine.specs.Files.{Files, is_live, object_of, Place, named_by, object_at, object_number, object_under, place_of, side_under, with_object}
+use Rattle.ep_machine.specs.Lists.{numbered}
+use Rattle.ep_machine.specs.Objects.{is_instance, plain, Object, close_end, counter, gettime, instance, is_plain, object_effect, pair, pipe, read, settime, shutdown, timer, write}
+use Rattle.ep_law.proofs.ListLemmas.{not_true}
+use Rattle.std.proofs.lemmas.Bool.{false≢true, cases_Bool}
+use Rattle.std.proofs.lemmas.List.{get_or_append_left, length_push, length-set}
+use Rattle.ep_base.specs.declared.call.Call.{Call}
+use Rattle.ep_base.specs.declared.call.Call.TheVariants.{Close, Dup, Dup2, EpollCreate, EpollCtl, EpollWait, EventFd, Exec, Exit, Fork, GetTime, Pipe as PipeCall, Plain, Read, SetTime, Shutdown, SocketPair, TimerFd, Write}
+use Rattle.ep_base.specs.declared.object.End.{End}
+use Rattle.ep_base.specs.declared.object.End.TheVariants.{First, Second}
+use Rattle.ep_machine.specs.Deaths.{die, die_all, kept_object}
+use Rattle.ep_machine.specs.Tables.{affected, create_one, create_two, describe, new_object}
+use Rattle.ep_machine.specs.Effect.{first}
+use Rattle.ep_law.specs.Laws.{has_instance}
+
+-- each place is of an object that was made
+abbrev pub AreMade : Files → Type 0
+AreMade f = (d : ℕ) (p : Place) → place_of f d ≡ Some p → p.object < length f.objects
+
+-- what has an object was made
+some_below : (ds : List (Option Place)) (d : ℕ) (p : Place) → get_or ds d None ≡ Some p → d < length ds
+some_below [] d p e = cc
+some_below (x ∷ ds) zero p e = omega arith
+some_below (x ∷ ds) (suc d) p e = let lt = some_below ds d p e in omega (arith, lt)
+
+pub instance_below : (f : Files) (d : ℕ) → has_instance f d ≡ true → d < length f.descriptions
+instance_below f d h = at (place_of f d) refl h where
+  at : (o : Option Place) → place_of f d ≡ o → is_instance (unwrap_or (object_at f o) plain) ≡ true → d < length f.descriptions
+  at None e h = absurd (false≢true h)
+  at (Some p) e h = some_below f.descriptions d p e
+
+-- the object of number 0, for which a number that names nothing stands, is no instance
+abbrev pub FirstIsNone : Files → Type 0
+FirstIsNone f = (0 < length f.objects) × (is_instance (unwrap_or (get_or f.objects 0 None) plain) ≡ false)
+
+-- From f to g the objects that were made stay so, no description of f comes to be an instance, none lives again, and
+-- what is an instance stays one while it lives.
+pub record Narrows (f g : Files) : Type 0 where
+  pub longer : length f.descriptions ≤ length g.descriptions
+  pub made : AreMade g
+  pub instances : (d : ℕ) → d < length f.descriptions → has_instance g d ≡ true → has_instance f d ≡ true
+  pub dead : (d : ℕ) → d < length f.descriptions → is_live f d ≡ false → is_live g d ≡ false
+  pub stays : (d : ℕ) → has_instance f d ≡ true → is_live g d ≡ true → has_instance g d ≡ true
+  pub first : FirstIsNone f → FirstIsNone g
+
+pub narrows_self : (f : Files) → AreMade f → Narrows f f
+narrows_self f b = record { longer = omega arith; made = b; instances = λ d lt h. h; dead = λ d lt h. h; stays = λ d h l. h; first = λ h. h }
+
+pub narrows_trans : (f g h : Files) → Narrows f g → Narrows g h → Narrows f h
+narrows_trans f g h a b =
+    let first = a.longer in
+    let second = b.longer in
+    record {
+      longer = omega (arith, first, second);
+      made = b.made;
+      instances = λ d lt i. a.instances d lt (b.instances d (omega (arith, lt, first)) i);
+      dead = λ d lt i. b.dead d (omega (arith, lt, first)) (a.dead d lt i);
+      stays = λ d i l. let lt = instance_below f d i in elim (cases_Bool (is_live g d)) [
+        | inl lives ↦ b.stays d (a.stays d i lives) l
+        | inr died ↦ absurd (false≢true (sym (b.dead d (omega (arith, lt, first)) died) ∙ l))
+      ];
+      first = λ i. b.first (a.first i);
+    }
+
+-- Objects.
+abbrev is_instance_at : List (Option Object) → ℕ → Bool
+is_instance_at os k = is_instance (unwrap_or (get_or os k None) plain)
+
+-- what gives way to an instance was one
+set_instance : (os : List (Option Object)) (k j : ℕ) (o : Option Object) → (is_instance (unwrap_or o plain) ≡ true → is_instance_at os k ≡ true) → is_instance_at (set os k o) j ≡ true → is_instance_at os j ≡ true
+set_instance [] k j o keep h = h
+set_instance (x ∷ os) zero zero o keep h = keep h
+set_instance (x ∷ os) zero (suc j) o keep h = h
+set_instance (x ∷ os) (suc k) zero o keep h = h
+set_instance (x ∷ os) (suc k) (suc j) o keep h = set_instance os k j o keep h
+
+-- what gives way to one is one
+set_stays : (os : List (Option Object)) (k j : ℕ) (o : Option Object) → (is_instance_at os k ≡ true → is_instance (unwrap_or o plain) ≡ true) → is_instance_at os j ≡ true → is_instance_at (set os k o) j ≡ true
+set_stays [] k j o keep h = h
+set_stays (x ∷ os) zero zero o keep h = keep h
+set_stays (x ∷ os) zero (suc j) o keep h = h
+set_stays (x ∷ os) (suc k) zero o keep h = h
+set_stays (x ∷ os) (suc k) (suc j) o keep h = set_stays os k j o keep h
+
+-- at one place, under other objects
+place_instance : (f g : Files) (o : Option Place) → ((k : ℕ) → is_instance_at g.objects k ≡ true → is_instance_at f.objects k ≡ true) → is_instance (unwrap_or (object_at g o) plain) ≡ true → is_instance (unwrap_or (object_at f o) plain) ≡ true
+place_instance f g None keep h = h
+place_instance f g (Some p) keep h = keep p.object h
+
+-- an object in the place of one
+pub narrows_with_object : (f : Files) (k : ℕ) (x : Object) → AreMade f → (is_instance x ≡ true → is_instance_at f.objects k ≡ true) → (is_instance_at f.objects k ≡ true → is_instance x ≡ true) → Narrows f (with_object f k x)
+narrows_with_object f k x b keep stay =
+    let same = length-set f.objects k (Some x) in
+    record {
+      longer = omega arith;
+      made = λ d p e. let lt = b d p e in omega (arith, same, lt);
+      instances = λ d lt h. place_instance f (with_object f k x) (place_of f d) (λ j. set_instance f.objects k j (Some x) keep) h;
+      dead = λ d lt h. h;
+      stays = λ d h l. place_instance (with_object f k x) f (place_of f d) (λ j. set_stays f.objects k j (Some x) stay) h;
+      first = λ h. let some = h.0 in (omega (arith, same, some), not_true _ (λ t. false≢true (sym h.1 ∙ set_instance f.objects k 0 (Some x) keep t)));
+    }
+
+-- A new object.
+pub narrows_new_object : (f : Files) (x : Object) → AreMade f → Narrows f (new_object f x)
+narrows_new_object f x b =
+    let more = length_push f.objects (Some x) in
+    record {
+      longer = omega arith;
+      made = λ d p e. let lt = b d p e in omega (arith, more, lt);
+      instances = λ d lt h. before d (place_of f d) refl h;
+      dead = λ d lt h. h;
+      stays = λ d h l. after d (place_of f d) refl h;
+      first = λ h. let some = h.0 in (omega (arith, more, some), ap (λ (o : Option Object). is_instance (unwrap_or o plain)) (get_or_append_left f.objects (Some x ∷ []) None 0 some) ∙ h.1);
+    } where
+      before : (d : ℕ) (o : Option Place) → place_of f d ≡ o → is_instance (unwrap_or (object_at (new_object f x) o) plain) ≡ true → is_instance (unwrap_or (object_at f o) plain) ≡ true
+      before d None e h = h
+      before d (Some p) e h = ap (λ (o : Option Object). is_instance (unwrap_or o plain)) (sym (get_or_append_left f.objects (Some x ∷ []) None p.object (b d p e))) ∙ h
+
+      after : (d : ℕ) (o : Option Place) → place_of f d ≡ o → is_instance (unwrap_or (object_at f o) plain) ≡ true → is_instance (unwrap_or (object_at (new_object f x) o) plain) ≡ true
+      after d None e h = h
+      after d (Some p) e h = ap (λ (o : Option Object). is_instance (unwrap_or o plain)) (get_or_append_left f.objects (Some x ∷ []) None p.object (b d p e)) ∙ h
+
+-- A description of an object that was made.
+push_made : (ds : List (Option Place)) (new : Place) (m : ℕ) → new.object < m → ((d : ℕ) (p : Place) → get_or ds d None ≡ Some p → p.object < m) → (d : ℕ) (p : Place) → get_or (ds ++ Some new ∷ []) d None ≡ Some p → p.object < m
+push_made [] new m lt b zero p e = let same : new ≡ p = cc in subst (λ (q : Place). q.object < m) same lt
+push_made [] new m lt b (suc d) p e = cc
+push_made (x ∷ ds) new m lt b zero p e = b 0 p e
+push_made (x ∷ ds) new m lt b (suc d) p e = push_made ds new m lt (λ j q. b (suc j) q) d p e
+
+pub narrows_describe : (f : Files) (p k : ℕ) (e : End) (cloexec : Bool) → k < length f.objects → AreMade f → Narrows f (describe f p k e cloexec)
+narrows_describe f p k e cloexec lt b =
+    let place : Place = record { object = k; side = e } in
+    let more = length_push f.descriptions (Some place) in
+    record {
+      longer = omega (arith, more);
+      made = push_made f.descriptions place (length f.objects) lt b;
+      instances = λ d l h. ap (λ (o : Option Place). is_instance (unwrap_or (object_at f o) plain)) (sym (get_or_append_left f.descriptions (Some place ∷ []) None d l)) ∙ h;
+      dead = λ d l h. ap is_some (get_or_append_left f.descriptions (Some place ∷ []) None d l) ∙ h;
+      stays = λ d h l. ap (λ (o : Option Place). is_instance (unwrap_or (object_at f o) plain)) (get_or_append_left f.descriptions (Some place ∷ []) None d (instance_below f d h)) ∙ h;
+      first = λ h. h;
+    }
+
+pub narrows_one : (f : Files) (p : ℕ) (x : Object) (cloexec : Bool) → AreMade f → Narrows f (create_one f p x cloexec)
+narrows_one f p x cloexec b =
+    let one = narrows_new_object f x b in
+    let more = length_push f.objects (Some x) in
+    narrows_trans f (new_object f x) (create_one f p x cloexec) one (narrows_describe (new_object f x) p (length f.objects) First cloexec (omega (arith, more)) one.made)
+
+pub narrows_two : (f : Files) (p : ℕ) (x : Object) (cloexec : Bool) → AreMade f → Narrows f (create_two f p x cloexec)
+narrows_two f p x cloexec b =
+    let one = narrows_one f p x cloexec b in
+    let more = length_push f.objects (Some x) in
+    narrows_trans f (create_one f p x cloexec) (create_two f p x cloexec) one (narrows_describe (create_one f p x cloexec) p (length f.objects) Second cloexec (omega (arith, more)) one.made)
+
+-- Effects keep the kind of an object.
+read_instance : (x : Object) (e : End) (n now : ℕ) → is_instance (read x e n now).1 ≡ is_instance x
+read_instance plain e n now = refl
+read_instance (pipe p) e n now = refl
+read_instance (pair p) e n now = refl
+read_instance (counter c) e n now = refl
+read_instance (timer t) e n now = refl
+read_instance instance e n now = refl
+
+write_instance : (x : Object) (e : End) (bytes : List ℕ) → is_instance (write x e bytes).1 ≡ is_instance x
+write_instance plain e bytes = refl
+write_instance (pipe p) e bytes = refl
+write_instance (pair p) e bytes = refl
+write_instance (counter c) e bytes = refl
+write_instance (timer t) e bytes = refl
+write_instance instance e bytes = refl
+
+shutdown_instance : (x : Object) (e : End) → is_instance (shutdown x e).1 ≡ is_instance x
+shutdown_instance plain e = refl
+shutdown_instance (pipe p) e = refl
+shutdown_instance (pair p) e = refl
+shutdown_instance (counter c) e = refl
+shutdown_instance (timer t) e = refl
+shutdown_instance instance e = refl
+
+settime_instance : (x : Object) (absolute : Bool) (value interval now : ℕ) → is_instance (settime x absolute value interval now).1 ≡ is_instance x
+settime_instance plain absolute value interval now = refl
+settime_instance (pipe p) absolute value interval now = refl
+settime_instance (pair p) absolute value interval now = refl
+settime_instance (counter c) absolute value interval now = refl
+settime_instance (timer t) absolute value interval now = refl
+settime_instance instance absolute value interval now = refl
+
+gettime_instance : (x : Object) (now : ℕ) → is_instance (gettime x now).1 ≡ is_instance x
+gettime_instance plain now = refl
+gettime_instance (pipe p) now = refl
+gettime_instance (pair p) now = refl
+gettime_instance (counter c) now = refl
+gettime_instance (timer t) now = refl
+gettime_instance instance now = refl
+
+effect_instance : (x : Object) (e : End) (now : ℕ) (call : Call) → is_instance (object_effect x e now call).1 ≡ is_instance x
+effect_instance x e now (PipeCall cloexec) = refl
+effect_instance x e now (EventFd init semaphore cloexec) = refl
+effect_instance x e now (TimerFd clock cloexec) = refl
+effect_instance x e now (SocketPair cloexec) = refl
+effect_instance x e now (Plain cloexec) = refl
+effect_instance x e now (EpollCreate cloexec) = refl
+effect_instance x e now (EpollCtl epfd op fd mask tag) = refl
+effect_instance x e now (EpollWait epfd most timeout) = refl
+effect_instance x e now (Read fd n) = read_instance x e n now
+effect_instance x e now (Write fd bytes) = write_instance x e bytes
+effect_instance x e now (Shutdown fd) = shutdown_instance x e
+effect_instance x e now (SetTime fd absolute value interval) = settime_instance x absolute value interval now
+effect_instance x e now (GetTime fd) = gettime_instance x now
+effect_instance x e now (Dup fd) = refl
+effect_instance x e now (Dup2 fd to) = refl
+effect_instance x e now (Close fd) = refl
+effect_instance x e now Fork = refl
+effect_instance x e now Exec = refl
+effect_instance x e now Exit = refl
+
+at_number : (f : Files) (o : Option Place) → is_instance (unwrap_or (object_at f o) plain) ≡ true → is_instance_at f.objects (object_number o) ≡ true
+at_number f None h = absurd (false≢true h)
+at_number f (Some p) h = h
+
+from_number : (f : Files) (o : Option Place) → FirstIsNone f → is_instance_at f.objects (object_number o) ≡ true → is_instance (unwrap_or (object_at f o) plain) ≡ true
+from_number f None first h = absurd (false≢true (sym first.1 ∙ h))
+from_number f (Some p) first h = h
+
+pub narrows_affected : (f : Files) (p : ℕ) (fd : ℤ) (now : ℕ) (call : Call) → AreMade f → FirstIsNone f → Narrows f (affected f (named_by f p fd) (object_effect (object_under f p fd) (side_under f p fd) now call))
+narrows_affected f p fd now call b first =
+    let x = object_under f p fd in
+    let e = side_under f p fd in
+    let o = place_of f (named_by f p fd) in
+    narrows_with_object f (object_number o) (object_effect x e now call).1 b (λ h. at_number f o (sym (effect_instance x e now call) ∙ h)) (λ h. effect_instance x e now call ∙ from_number f o first h)
+
+-- Deaths.
+close_instance : (x : Object) (e : End) → is_instance (close_end x e).0 ≡ is_instance x
+close_instance plain e = refl
+close_instance (pipe p) e = refl
+close_instance (pair p) e = refl
+close_instance (counter c) e = refl
+close_instance (timer t) e = refl
+close_instance instance e = refl
+
+-- an object that a description names is kept
+still_named : (k : ℕ) (ds : List (Option Place)) (d : ℕ) (p : Place) → get_or ds d None ≡ Some p → list_any (λ y. y.1.object == p.object) (numbered k ds) ≡ true
+still_named k [] d p e = cc
+still_named k (None ∷ ds) zero p e = cc
+still_named k (None ∷ ds) (suc d) p e = still_named (k + 1) ds d p e
+still_named k (Some q ∷ ds) zero p e = let same : q ≡ p = cc in or_left _ _ (same_test q.object p.object (ap (λ (x : Place). x.object) same))
+still_named k (Some q ∷ ds) (suc d) p e = or_right _ _ (still_named (k + 1) ds d p e)
+
+kept_instance : (b : Bool) (x : Object) → is_instance (unwrap_or (if b then Some x else None) plain) ≡ true → is_instance x ≡ true
+kept_instance true x h = h
+kept_instance false x h = absurd (false≢true h)
+
+was_there : (ds : List (Option Place)) (k d : ℕ) (p : Place) → get_or (set ds k None) d None ≡ Some p → get_or ds d None ≡ Some p
+was_there [] k d p e = e
+was_there (x ∷ ds) zero zero p e = cc
+was_there (x ∷ ds) zero (suc d) p e = e
+was_there (x ∷ ds) (suc k) zero p e = e
+was_there (x ∷ ds) (suc k) (suc d) p e = was_there ds k d p e
+
+died : (ds : List (Option Place)) (k d : ℕ) → is_some (get_or ds d None) ≡ false → is_some (get_or (set ds k None) d None) ≡ false
+died [] k d h = h
+died (x ∷ ds) zero zero h = refl
+died (x ∷ ds) zero (suc d) h = h
+died (x ∷ ds) (suc k) zero h = h
+died (x ∷ ds) (suc k) (suc d) h = died ds k d h
+
+module _ (f : Files) (x : ℕ × Place) (b : AreMade f) where
+  abbrev k : ℕ
+  k = x.1.object
+
+  abbrev shut : Object
+  shut = (close_end (unwrap_or (get_or f.objects k None) plain) x.1.side).0
+
+  abbrev rest : Files
+  rest = record f { descriptions = set f.descriptions x.0 None }
+
+  abbrev g : Files
+  g = (die (f, []) x).0
+
+  objects_after : (j : ℕ) → is_instance_at g.objects j ≡ true → is_instance_at f.objects j ≡ true
+  objects_after j = set_instance f.objects k j (kept_object rest k shut) (λ h.
+      sym (close_instance (unwrap_or (get_or f.objects k None) plain) x.1.side) ∙ kept_instance _ shut h)
+
+  instance_before : (d : ℕ) (o : Option Place) → place_of g d ≡ o → is_instance (unwrap_or (object_at f o) plain) ≡ true → has_instance f d ≡ true
+  instance_before d None e h = absurd (false≢true h)
+  instance_before d (Some p) e h = ap (λ (o : Option Place). is_instance (unwrap_or (object_at f o) plain)) (was_there f.descriptions x.0 d p e) ∙ h
+
+  -- if d lives on, its object is kept
+  on : (d : ℕ) (p : Place) → place_of g d ≡ Some p → is_instance_at f.objects p.object ≡ true → is_instance_at g.objects p.object ≡ true
+  on d p e h = elim (same_or_not k p.object) [
+    | inl same ↦
+        let named : list_any (λ y. y.1.object == k) (numbered 0 rest.descriptions) ≡ true = subst (λ (i : ℕ). list_any (λ y. y.1.object == i) (numbered 0 rest.descriptions) ≡ true) (sym same) (still_named 0 rest.descriptions d p e) in
+        set_stays f.objects k p.object (kept_object rest k shut) (λ t.
+        ap (λ (b : Bool). is_instance (unwrap_or (if b then Some shut else None) plain)) named ∙ (close_instance (unwrap_or (get_or f.objects k None) plain) x.1.side ∙ t)) h
+    | inr apart ↦ ap (λ (o : Option Object). is_instance (unwrap_or o plain)) (get_other f.objects k p.object (kept_object rest k shut) apart) ∙ h
+  ]
+
+  lives_on : (d : ℕ) (o : Option Place) → place_of g d ≡ o → is_some o ≡ true → has_instance f d ≡ true → is_instance (unwrap_or (object_at g o) plain) ≡ true
+  lives_on d None e s h = absurd (false≢true s)
+  lives_on d (Some p) e s h =
+      let was : is_instance_at f.objects p.object ≡ true = ap (λ (o : Option Place). is_instance (unwrap_or (object_at f o) plain)) (sym (was_there f.descriptions x.0 d p e)) ∙ h in
+      on d p e was
+
+  pub narrows_death : Narrows f g
+  narrows_death =
+      let places = length-set f.descriptions x.0 None in
+      let objects = length-set f.objects k (kept_object rest k shut) in
+      record {
+        longer = omega (arith, places);
+        made = λ d p e. let lt = b d p (was_there f.descriptions x.0 d p e) in omega (arith, objects, lt);
+        instances = λ d lt h. instance_before d (place_of g d) refl (place_instance f g (place_of g d) objects_after h);
+        dead = λ d lt h. died f.descriptions x.0 d h;
+        stays = λ d h l. lives_on d (place_of g d) refl l h;
+        first = λ h. let some = h.0 in (omega (arith, objects, some), not_true _ (λ t. false≢true (sym h.1 ∙ objects_after 0 t)));
+      }
+
+pub narrows_deaths : (f : Files) (raised : List (ℕ × ℕ)) (xs : List (ℕ × Place)) → AreMade f → Narrows f (die_all (f, raised) xs).0
+narrows_deaths f raised [] b = narrows_self f b
+narrows_deaths f raised (x ∷ xs) b =
+    let one = narrows_death f x b in
+    let now = die (f, raised) x in
+    narrows_trans f now.0 (die_all now xs).0 one (narrows_deaths now.0 now.1 xs one.made)
+
+-- what is not plain was made
+pub watched_below : (f : Files) (d : ℕ) → is_plain (unwrap_or (object_of f d) plain) ≡ false → d < length f.descriptions
+watched_below f d h = at (place_of f d) refl h where
+  at : (o : Option Place) → place_of f d ≡ o → is_plain (unwrap_or (object_at f o) plain) ≡ false → d < length f.descriptions
+  at None e h = absurd (false≢true (sym h))
+  at (Some p) e h = some_below f.descriptions d p e

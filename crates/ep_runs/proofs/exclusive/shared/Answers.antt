@@ -1,0 +1,21 @@
+use Rattle.std.proofs.Common.{refl}
+use Rattle.ep_machine.specs.Exclusive.{is_guarded}
+use Rattle.ep_machine.specs.Readiness.{is_ready}
+use Rattle.ep_machine.specs.Spread.{is_reached}
+use Rattle.ep_runs.proofs.exclusive.shared.Goals as goal
+
+pub returns-clause-run : goal.returns-clause-run
+unfolding is_ready is_reached is_guarded
+returns-clause-run c = refl
+
+pub returns-clause-no_last : goal.returns-clause-no_last
+unfolding is_ready is_reached is_guarded
+returns-clause-no_last c = refl
+
+pub returns-clause-no_none : goal.returns-clause-no_none
+unfolding is_ready is_reached is_guarded
+returns-clause-no_none c = refl
+
+pub returns-clause-no_mod : goal.returns-clause-no_mod
+unfolding is_ready is_reached is_guarded
+returns-clause-no_mod c = refl
