@@ -1,5 +1,5 @@
 -- What a closure leaves that is called at each registration, and what an arrival keeps.
-use Rattle.std.proofs.Common.{if◌then◌else◌, ◌≡◌, ◌∙◌, ◌+◌, ◌<◌, ◌≤◌, ◌==◌, ◌&&◌, ◌||◌, ℕ, zero, suc, Bool, true, false, List, [], ◌∷◌, length, vec_capacity, None, Option, Some, MutBor, ap, cond, get_or, map, nat_lt, refl, subst, sym, unwrap_or}
+use Rattle.std.proofs.Common.{if◌then◌else◌, ◌≡◌, ◌∙◌, ◌+◌, ◌<◌, ◌≤◌, ◌==◌, ◌&&◌, ◌||◌, ℕ, zero, suc, Bool, true, false, List, [], ◌∷◌, length, vec_capacity, None, Option, Some, MutBor, ap, cond, get_or, map, nat_lt, refl, subst, sym, unwrap_or, count_by}
 use Rattle.std.proofs.lemmas.Option.{none-some}
 use Rattle.std.specs.List.{cons_option, filter_map, range_with_len}
 use Rattle.std.specs.Option.{option_map}
@@ -14,10 +14,12 @@ use Rattle.ep_interest.specs.Registrations.{freshened_on, is_on, raised_on, sett
 use Rattle.std.specs.HashMap as hash
 use Rattle.ep_interest.specs.View.{HasRows, IsIndex, IsInterest, instance_of, key_of, number_in, same_key, target_of}
 use Rattle.ep_interest.specs.declared.interest.Interest.TheInside.{Inside}
+use Rattle.ep_interest.specs.Exclusive.{is_exclusive_slot}
 use Rattle.ep_interest.specs.Passes.{ArePassing}
 use Rattle.ep_interest.specs.Touched.{AreTouched, is_noted}
 use Rattle.ep_interest.specs.declared.entry.Entry.{Entry}
 use Rattle.ep_interest.specs.declared.passes.Passes.{Passes}
+use Rattle.ep_interest.proofs.GuardsLemmas.{count_changed}
 use Rattle.ep_interest.proofs.KeysWithLemmas.{rows_changed}
 
 module _ {F : Type 0} (step : F → ℕ → MutBor Entry → Bool → MutBor Entry → F → Type 0) (P : F → Type 0) (g : Entry → Entry)
@@ -98,6 +100,7 @@ pub record Keeps (f : Entry → Entry) : Type 0 where
   pub instance : (x : Entry) → (f x).instance ≡ x.instance
   pub target : (x : Entry) → (f x).desc ≡ x.desc
   pub descriptor : (x : Entry) → (f x).fd ≡ x.fd
+  pub mask : (x : Entry) → (f x).mask ≡ x.mask
 
 pub freshened_keeps : (desc : DescId) (bits : Mask) → Keeps (freshened_on desc bits)
 freshened_keeps desc bits = record {
@@ -105,6 +108,7 @@ freshened_keeps desc bits = record {
   instance = λ x. elim (is_on desc x && brings x.mask.0 bits.0) as (λ b. (cond b (record x { fresh = true }) x).instance ≡ x.instance) [ true ↦ refl | false ↦ refl ];
   target = λ x. elim (is_on desc x && brings x.mask.0 bits.0) as (λ b. (cond b (record x { fresh = true }) x).desc ≡ x.desc) [ true ↦ refl | false ↦ refl ];
   descriptor = λ x. elim (is_on desc x && brings x.mask.0 bits.0) as (λ b. (cond b (record x { fresh = true }) x).fd ≡ x.fd) [ true ↦ refl | false ↦ refl ];
+  mask = λ x. elim (is_on desc x && brings x.mask.0 bits.0) as (λ b. (cond b (record x { fresh = true }) x).mask ≡ x.mask) [ true ↦ refl | false ↦ refl ];
 }
 
 pub raised_keeps : (desc : DescId) (bits : Mask) (event : ℕ) → Keeps (raised_on desc bits event)
@@ -113,12 +117,13 @@ raised_keeps desc bits event = record {
   instance = λ x. elim (is_on desc x) as (λ b. (cond b (changed x) x).instance ≡ x.instance) [ true ↦ refl | false ↦ refl ];
   target = λ x. elim (is_on desc x) as (λ b. (cond b (changed x) x).desc ≡ x.desc) [ true ↦ refl | false ↦ refl ];
   descriptor = λ x. elim (is_on desc x) as (λ b. (cond b (changed x) x).fd ≡ x.fd) [ true ↦ refl | false ↦ refl ];
+  mask = λ x. elim (is_on desc x) as (λ b. (cond b (changed x) x).mask ≡ x.mask) [ true ↦ refl | false ↦ refl ];
 } where
   changed : Entry → Entry
   changed x = record x { fresh = brings x.mask.0 bits.0 || x.fresh; passes_in = if x.armed && nat_lt 0 (asked x.mask.0 bits.0) then event else x.passes_in }
 
 pub settled_keeps : Keeps settled
-settled_keeps = record { number = λ x. refl; instance = λ x. refl; target = λ x. refl; descriptor = λ x. refl }
+settled_keeps = record { number = λ x. refl; instance = λ x. refl; target = λ x. refl; descriptor = λ x. refl; mask = λ x. refl }
 
 -- the same registrations changed in place are those of an `Interest` again
 pub interest_changed : {A : Type 0} (k : Inside A) (f : Entry → Entry) (slots : Slab Entry) (passes : Passes A) → Keeps f → slots.slots ≡ map (option_map f) k.slots.slots → ArePassing slots.slots passes.keys.items → length slots.slots ≤ vec_capacity passes.keys → IsInterest k
@@ -139,4 +144,5 @@ interest_changed k f slots passes keeps same passing room h =
       passing = passing;
       room = room;
       touched = subst (λ (xs : List (Option Entry)). AreTouched xs k.touched.numbers.keys) (sym same) t;
+      guards = h.guards ∙ (sym (count_changed f keeps.mask old) ∙ ap (count_by is_exclusive_slot) (sym same));
     }

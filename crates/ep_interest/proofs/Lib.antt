@@ -13,5 +13,7 @@ pub mod ChangeLemmas
 pub mod EntriesLemmas
 pub mod PurgeLemmas
 pub mod InTurnLemmas
+pub mod GuardsLemmas
+pub mod StopLemmas
 pub mod PassesLemmas
 pub mod TouchedLemmas

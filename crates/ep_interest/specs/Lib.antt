@@ -1,4 +1,5 @@
 pub mod ByNumber
+pub mod Exclusive
 pub mod Heads
 pub mod InTurn
 pub mod Listed

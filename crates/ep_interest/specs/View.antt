@@ -1,9 +1,10 @@
 -- How the parts of an `Interest` hold its registrations.
 use Rattle.std.specs.HashMap as hash
 use Rattle.std.specs.Ordering.{int_eq}
-use Rattle.std.specs.Prelude.{◌≡◌, ◌≤◌, ◌&&◌, ◌==◌, Bool, ℕ, List, Option, Some, None, filter, length, map, slice_index_or, vec_capacity}
+use Rattle.std.specs.Prelude.{◌≡◌, ◌≤◌, ◌&&◌, ◌==◌, Bool, ℕ, List, Option, Some, None, count_by, filter, length, map, slice_index_or, vec_capacity}
 use Rattle.ep_base.specs.declared.ids.EntryId.{EntryId}
 use Rattle.ep_interest.specs.ByNumber.{NumberedBy, in_order}
+use Rattle.ep_interest.specs.Exclusive.{is_exclusive_slot}
 use Rattle.ep_interest.specs.Registrations.{Registrations, place_among}
 use Rattle.ep_interest.specs.Passes.{ArePassing}
 use Rattle.ep_interest.specs.Rows.{IsRows, row}
@@ -62,3 +63,4 @@ pub record IsInterest {A : Type 0} (k : Inside A) : Type 0 where
   pub passing : ArePassing k.slots.slots k.passes.keys.items
   pub room : length k.slots.slots ≤ vec_capacity k.passes.keys
   pub touched : AreTouched k.slots.slots k.touched.numbers.keys
+  pub guards : k.guards ≡ count_by is_exclusive_slot k.slots.slots

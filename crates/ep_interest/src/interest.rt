@@ -4,6 +4,7 @@ ghost use Rattle.std.specs.Bool.{OnFalse};
 ghost use Rattle.std.specs.Map.Iter.{ShowsInOrder};
 ghost use Rattle.std.specs.Option.{option_map};
 ghost use Rattle.ep_base.specs.declared.ids.EntryId.{EntryId};
+ghost use Rattle.ep_interest.specs.Exclusive.{exclusive_of, is_exclusive as exclusive, kept_passing};
 ghost use Rattle.ep_interest.specs.InTurn.{AllHeld, changed_at};
 ghost use Rattle.ep_interest.specs.Listed.{shown};
 ghost use Rattle.std.specs.List.{IsDistinct, find as first_where, list_any};
@@ -13,10 +14,12 @@ ghost use Rattle.ep_machine.specs.Bits.{ONESHOT, asked, has_bit};
 ghost use Rattle.ep_machine.specs.Counts.{brings};
 
 use crate::addition::Addition;
-use crate::entries::{Entries, Watchers};
+use crate::entries::{Entries, ExclusiveWatchers, Watchers, is_exclusive};
 use crate::entry::Entry;
+use crate::guards::{with_one, without_one};
 use crate::passes::Passes;
 use crate::rows::Rows;
+use crate::stop::stop_each;
 use crate::touched::Touched;
 use bitflags::Flags;
 use ep_base::{DescId, EntryId, Fd, Mask};
@@ -220,6 +223,8 @@ pub struct Interest<A: Allocator = Global> {
     by_target: Rows<A>,
     passes: Passes<A>,
     touched: Touched<A>,
+    // How many registrations are exclusive.
+    guards: u64,
     added: u64,
 }
 
@@ -253,6 +258,7 @@ impl<A: Allocator> Interest<A> {
             by_target: Rows::new(alloc),
             passes: Passes::new(alloc),
             touched: Touched::new(alloc),
+            guards: 0,
             added: 0,
         }
     }
@@ -282,11 +288,56 @@ impl<A: Allocator> Interest<A> {
         }
     }
 
+    /// The registrations on a description with their keys, in order of registration.
+    fn entries_on(&self, desc: DescId) -> Entries<'_, A>
+        ensures exact { result ≡ with_ids self.now (filter (is_on desc) self.now.entries) }
+        ensures runs { ShowsInOrder shown }
+    {
+        let keys = self.by_target.keys(desc);
+        Entries {
+            slots: &self.slots,
+            keys,
+        }
+    }
+
+    /// The exclusive registrations on a description with their keys, in order of registration. All on it are visited.
+    pub fn exclusive_watchers(&self, desc: DescId) -> ExclusiveWatchers<'_, A>
+        ensures { result
+            ≡ exclusive_of (with_ids self.now (filter (is_on desc) self.now.entries)) }
+    {
+        ExclusiveWatchers {
+            watchers: self.entries_on(desc),
+        }
+    }
+
+    /// How many exclusive registrations an instance has. They are counted, and all of the instance are visited.
+    pub fn exclusive_count(&self, instance: DescId) -> usize
+        ensures { result
+            ≡ length (exclusive_of
+            (with_ids self.now (filter (is_of instance) self.now.entries))) }
+    {
+        let most = self.count();
+        let mut counted = 0;
+        for (_, entry) in self.entries(instance) {
+            if is_exclusive(entry) {
+                counted += 1;
+            }
+        }
+        counted
+    }
+
     /// How many registrations there are, which is kept and not counted.
     pub fn count(&self) -> usize
         ensures { result ≡ length self.now.entries }
     {
         self.slots.len()
+    }
+
+    /// How many registrations are exclusive, which is kept and not counted.
+    pub fn guards(&self) -> u64
+        ensures { result ≡ length (filter exclusive self.now.entries) }
+    {
+        self.guards
     }
 
     /// How many registrations were ever added.
@@ -338,6 +389,7 @@ impl<A: Allocator> Interest<A> {
         let key = Key::new(addition.instance, addition.fd, addition.desc);
         self.by_key.insert(key, id).unwrap();
         let entry = Entry::new(number, addition);
+        self.guards = with_one(self.guards, is_exclusive(&entry));
         self.slots.insert_reserved(entry);
         let _room = self.slots.capacity();
         self.added = number;
@@ -425,6 +477,7 @@ impl<A: Allocator> Interest<A> {
         ensures next { self.new.next ≡ self.old.next }
     {
         let changed = &mut self.slots[id.0];
+        let others = without_one(self.guards, is_exclusive(changed));
         *changed = Entry {
             mask,
             tag,
@@ -432,6 +485,7 @@ impl<A: Allocator> Interest<A> {
             fresh: true,
             ..*changed
         };
+        self.guards = with_one(others, is_exclusive(changed));
     }
 
     /// Notes that an event raised these bits at a description. Each registration on it whose mask asks for one of
@@ -455,7 +509,20 @@ impl<A: Allocator> Interest<A> {
         );
     }
 
-    /// The same of what reached a description from below, where nothing is left to pass on: each registration on it
+    /// Of the exclusive registrations on a description the one with this number passes on what it does, and the others
+    /// nothing any more. Those on the description are visited. It takes no memory.
+    pub fn keep_passing(&mut self, desc: DescId, keep: Option<u64>)
+        ensures entries { self.new.entries ≡ map (kept_passing desc keep) self.old.entries }
+        ensures keys { self.new.keys ≡ self.old.keys }
+        ensures added { self.new.added ≡ self.old.added }
+        ensures next { self.new.next ≡ self.old.next }
+    {
+        let keys = self.by_target.keys(desc);
+        let watchers = Watchers { keys };
+        stop_each(&mut self.slots, &mut self.passes, watchers, desc, keep);
+    }
+
+    /// Notes what reached a description from below, where nothing is left to pass on: each registration on it
     /// whose mask asks for one of these bits is fresh. Only those on it are visited, as by `raise`.
     pub fn freshen(&mut self, desc: DescId, bits: Mask)
         ensures entries { self.new.entries ≡ map (freshened_on desc bits) self.old.entries }
@@ -500,6 +567,7 @@ impl<A: Allocator> Interest<A> {
         ensures next { self.new.next ≡ id.0 }
     {
         let entry = self.slots.remove(id.0);
+        self.guards = without_one(self.guards, is_exclusive(&entry));
         self.passes.follow(id, entry.passes_in > 0, false);
         let key = Key::new(entry.instance, entry.fd, entry.desc);
         self.by_key.swap_remove(&key);

@@ -4,13 +4,15 @@
 mod addition;
 mod entries;
 mod entry;
+mod guards;
 mod heads;
 mod interest;
 mod passes;
 mod rows;
+mod stop;
 mod touched;
 
 pub use crate::addition::Addition;
-pub use crate::entries::{Entries, Watchers};
+pub use crate::entries::{Entries, ExclusiveWatchers, Watchers};
 pub use crate::entry::Entry;
 pub use crate::interest::Interest;

@@ -17,3 +17,4 @@ pub mod RuleLemmas
 pub mod RenameLemmas
 pub mod NoteLemmas
 pub mod AscentLemmas
+pub mod DescentLemmas

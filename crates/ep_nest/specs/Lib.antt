@@ -8,3 +8,4 @@ pub mod Storage
 pub mod Walk
 pub mod Graph
 pub mod Ascent
+pub mod Descent

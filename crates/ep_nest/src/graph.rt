@@ -8,6 +8,7 @@ ghost use Rattle.ep_machine.specs.Lists.{are_distinct, is_among};
 ghost use Rattle.ep_machine.specs.Watches.{is_legal};
 ghost use Rattle.ep_nest.specs.Ascent.{Finds};
 ghost use Rattle.ep_nest.specs.Chains.{IsLegalGraph};
+ghost use Rattle.ep_nest.specs.Descent.{AreBeneath};
 ghost use Rattle.ep_nest.specs.Graph.{IsKept};
 ghost use Rattle.ep_nest.specs.Links.{edges, entries, is_apart_from, is_between, keys, starts_at, without};
 ghost use Rattle.ep_nest.specs.contracts.graph.Graph.{the_row};
@@ -15,6 +16,7 @@ ghost use Rattle.ep_nest.specs.declared.link.Link.{Link as Tie};
 
 use crate::ascend::ascend;
 use crate::depths::{Depths, are_too_deep};
+use crate::descend::descend;
 use crate::link::{Link, Way};
 use crate::links::Links;
 use crate::walk::Walk;
@@ -188,6 +190,18 @@ impl<A: Allocator> Graph<A> {
         ensures once { are_distinct (keys result.now) ≡ true }
     {
         ascend(&self.links, inner, passes, &mut self.walk);
+        &self.walk.reached
+    }
+
+    /// The instances, each once, to which a chain of links leads down from one. It looks once at each link from `outer`
+    /// and from what it finds, and at no other. It takes no memory, and its cost grows as the number of these links.
+    pub fn beneath(&mut self, outer: DescId) -> &[DescId]
+        ensures* stays { sem 𝓛 (follows_so (the_row A.row A.Allocator) (the_row A.row A.Allocator)
+            self.entry.ghost_name none (λ _ _. ⊤) (λ v. v ≡ self.old)) }
+        ensures exact { AreBeneath self.old outer.0 (keys result.now) }
+        ensures once { are_distinct (keys result.now) ≡ true }
+    {
+        descend(&self.links, outer, &mut self.walk);
         &self.walk.reached
     }
 }

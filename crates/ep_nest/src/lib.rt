@@ -4,6 +4,7 @@
 mod adjacent;
 mod ascend;
 mod depths;
+mod descend;
 mod graph;
 mod link;
 mod links;

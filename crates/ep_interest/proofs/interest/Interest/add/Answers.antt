@@ -18,6 +18,8 @@ use Rattle.ep_interest.proofs.KeyLemmas.{find_none}
 use Rattle.ep_interest.proofs.KeysWithLemmas.{rows_again, rows_few, rows_fresh, rows_more}
 use Rattle.ep_interest.proofs.PassesLemmas.{passing_more, passing_same}
 use Rattle.ep_interest.proofs.RowLemmas.{joined_there}
+use Rattle.ep_interest.proofs.GuardsLemmas.{count_but, one as one_of}
+use Rattle.ep_interest.specs.Exclusive.{is_exclusive, is_exclusive_slot}
 use Rattle.ep_interest.proofs.TouchedLemmas.{touched_kept, touched_more}
 use Rattle.ep_interest.proofs.interest.Interest.add.Given.{Over}
 use Rattle.ep_interest.proofs.interest.Interest.add.Goals as goal
@@ -51,13 +53,13 @@ push-requires-2-clause-fresh g c =
     let k = c.self.inside in
     rows_fresh k.slots.slots k.added c.self.invariant.numbered target_of c.vacant_key.result (vacant g (goal.at.push-requires-2-clause-fresh g c).After-vacant_key) k.by_target c.reserve-5.new.self c.self.invariant.by_target c.reserve-5.ensures.kept
 
-abbrev one : (g : Over) (c : goal.After-self-1 g) → Entry
+abbrev one : (g : Over) (c : goal.After-self-2-1 g) → Entry
 one g c = entry_of (c.self.inside.added + 1) c.args.addition
 
-in_slots : (g : Over) (c : goal.After-self-1 g) → Inserted c.self.inside.slots.slots c.insert_reserved.new.self.slots c.vacant_key.result (one g c)
+in_slots : (g : Over) (c : goal.After-self-2-1 g) → Inserted c.self.inside.slots.slots c.insert_reserved.new.self.slots c.vacant_key.result (one g c)
 in_slots g c = inserted c.self.inside.slots.slots c.reserve.new.self c.insert_reserved.new.self c.insert_reserved.result c.vacant_key.result (one g c) (ap (λ (s : Slab Entry). s.slots) c.reserve.ensures.rest_kept) (c.vacant_key.ensures.value ∙ sym c.insert_reserved.ensures.key) c.insert_reserved.ensures.was_vacant (subst (λ (x : Entry). Updates c.reserve.new.self c.insert_reserved.new.self c.insert_reserved.result (Some x)) c.new-entry.ensures c.insert_reserved.ensures.updates)
 
-by_key : (g : Over) (c : goal.After-self-1 g) → IsIndex key_of c.insert_reserved.new.self.slots (hash.get same_key c.insert.new.self)
+by_key : (g : Over) (c : goal.After-self-2-1 g) → IsIndex key_of c.insert_reserved.new.self.slots (hash.get same_key c.insert.new.self)
 by_key g c =
     let k = c.self.inside in
     let absent = subst (λ (r : Registrations). list_any (has_key c.args.addition.instance c.args.addition.fd c.args.addition.desc) r.entries ≡ false) (sym c.self.view_is) c.requires.absent in
@@ -66,6 +68,16 @@ by_key g c =
     key_more k.slots.slots c.insert_reserved.new.self.slots c.vacant_key.result (one g c) (in_slots g c) (hash.get same_key k.by_key) (hash.get same_key c.insert.new.self) fresh
     (λ q. u.0 q ∙ (λ i. cond (same_key (c.new-key.ensures i) q) (Some (record { 0 = c.vacant_key.result })) (lookup (same_key q) (c.reserve-2.ensures.entries i))))
     c.self.invariant.by_key
+
+guards_added : (g : Over) (c : goal.After-self-2-1 g) → Inserted c.self.inside.slots.slots c.insert_reserved.new.self.slots c.vacant_key.result (one g c) → c.with_one-self-inside.result ≡ count_by is_exclusive_slot c.insert_reserved.new.self.slots
+guards_added g c s =
+    let old = c.self.inside.slots.slots in
+    let new = c.insert_reserved.new.self.slots in
+    let b = count_but old new c.vacant_key.result s.others in
+    let o : one_of (is_exclusive_slot (get_or old c.vacant_key.result None)) ≡ 0 = λ i. one_of (is_exclusive_slot (s.was i)) in
+    let n : one_of (is_exclusive_slot (get_or new c.vacant_key.result None)) ≡ one_of (is_exclusive (one g c)) = λ i. one_of (is_exclusive_slot (s.here i)) in
+    let e : one_of c.is_exclusive.result ≡ one_of (is_exclusive (one g c)) = ap one_of c.is_exclusive.ensures ∙ ap (λ (x : Entry). one_of (is_exclusive x)) c.new-entry.ensures in
+    omega (arith, c.self.invariant.guards, b, o, n, e, c.with_one-self-inside.ensures)
 
 pub invariant_of-self-2 : goal.invariant_of-self-2
 invariant_of-self-2 g c =
@@ -79,6 +91,7 @@ invariant_of-self-2 g c =
       passing = passing_more k.slots.slots c.insert_reserved.new.self.slots k.passes.keys.items c.reserve-3.new.self.keys.items c.reserve-3.ensures.keys c.vacant_key.result (one g c) s.was s.here refl s.others c.self.invariant.passing;
       room = omega (arith, c.capacity-room.ensures.slots, c.capacity-room.ensures.value, c.insert_reserved.ensures.capacity, c.capacity-many.ensures.value, c.in_ok-reserve-3.ensures.room);
       touched = touched_more k.slots.slots c.insert_reserved.new.self.slots c.vacant_key.result (one g c) s k.touched.numbers.keys c.note-2.new.self.numbers.keys (λ n h. c.note-2.ensures.kept n (c.note.ensures.kept n h)) (c.note-2.ensures.kept c.args.addition.instance.0 c.in_ok-note.ensures.noted) c.in_ok-note-2.ensures.noted c.self.invariant.touched;
+      guards = guards_added g c s;
     }
 
 pub returns-clause-entries : goal.returns-clause-entries
@@ -86,7 +99,7 @@ returns-clause-entries g c = subst (λ (r : Registrations). in_order c.insert_re
     (entries_more c.self.inside.slots.slots c.insert_reserved.new.self.slots c.vacant_key.result (one g c) (in_slots g c) c.self.inside.added refl c.self.invariant.numbered)
 
 pub returns-clause-keys : goal.returns-clause-keys
-returns-clause-keys g c = subst (λ (r : Registrations). GainsKey r (registrations {A = g.row.A.Denot} (record { slots = c.insert_reserved.new.self; by_key = c.insert.new.self; by_instance = c.push.new.self; by_target = c.push-2.new.self; passes = c.reserve-3.new.self; touched = c.note-2.new.self; added = c.self.inside.added + 1 })) (record { 0 = c.vacant_key.result }) (r.added + 1)) c.self.view_is
+returns-clause-keys g c = subst (λ (r : Registrations). GainsKey r (registrations {A = g.row.A.Denot} (record { slots = c.insert_reserved.new.self; by_key = c.insert.new.self; by_instance = c.push.new.self; by_target = c.push-2.new.self; passes = c.reserve-3.new.self; touched = c.note-2.new.self; guards = c.with_one-self-inside.result; added = c.self.inside.added + 1 })) (record { 0 = c.vacant_key.result }) (r.added + 1)) c.self.view_is
     (keys_more c.self.inside.slots.slots c.insert_reserved.new.self.slots c.vacant_key.result (one g c) (in_slots g c) c.self.inside.added refl c.self.invariant.numbered c.self.inside.slots.vacant_key c.insert_reserved.new.self.vacant_key)
 
 pub push-requires-clause-linked : goal.push-requires-clause-linked
@@ -103,7 +116,7 @@ nothing_added : (g : Over) (c : After-vacant_key g) (instance target : Rows g.ro
     → HasRows instance_of c.self.inside.slots.slots c.self.inside.added instance
     → HasRows target_of c.self.inside.slots.slots c.self.inside.added target
     → ((n : ℕ) → is_noted c.self.inside.touched.numbers.keys n ≡ true → is_noted touched.numbers.keys n ≡ true)
-    → IsInterest {A = g.row.A.Denot} (record { slots = c.reserve.new.self; by_key = c.reserve-2.new.self; by_instance = instance; by_target = target; passes = c.reserve-3.new.self; touched = touched; added = c.self.inside.added })
+    → IsInterest {A = g.row.A.Denot} (record { slots = c.reserve.new.self; by_key = c.reserve-2.new.self; by_instance = instance; by_target = target; passes = c.reserve-3.new.self; touched = touched; guards = c.self.inside.guards; added = c.self.inside.added })
 nothing_added g c instance target touched i t noted =
     let k = c.self.inside in
     let slots = ap (λ (s : Slab Entry). s.slots) (sym c.reserve.ensures.rest_kept) in
@@ -115,6 +128,7 @@ nothing_added g c instance target touched i t noted =
       passing = passing_same k.slots.slots c.reserve.new.self.slots k.passes.keys.items c.reserve-3.new.self.keys.items c.reserve-3.ensures.keys (λ j. ap (λ (xs : List (Option Entry)). passes_on (get_or xs j None)) (sym slots)) c.self.invariant.passing;
       room = subst (λ (xs : List (Option Entry)). length xs ≤ vec_capacity c.reserve-3.new.self.keys) slots (omega (arith, c.self.invariant.room, c.reserve-3.ensures.kept));
       touched = touched_kept k.slots.slots c.reserve.new.self.slots k.touched.numbers.keys touched.numbers.keys (sym slots) noted c.self.invariant.touched;
+      guards = c.self.invariant.guards ∙ ap (count_by is_exclusive_slot) slots;
     }
 
 pub invariant_of-self-in_err-reserve-4 : goal.invariant_of-self-in_err-reserve-4

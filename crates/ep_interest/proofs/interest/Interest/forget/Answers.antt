@@ -16,4 +16,5 @@ invariant_of-self g c =
       passing = h.passing;
       room = h.room;
       touched = touched_forgotten k.slots.slots k.added h.numbered k.touched.numbers.keys c.forget.new.self.numbers.keys c.args.desc all c.forget.ensures h.touched;
+      guards = h.guards;
     }

@@ -1,4 +1,4 @@
-use Rattle.std.proofs.Common.{◌≡◌, ℕ, List, None, Option, ap, arith, cond, false, filter, map, slice_set, subst, sym, unwrap_or, ◌∙◌}
+use Rattle.std.proofs.Common.{◌≡◌, ℕ, List, None, Option, ap, arith, cond, count_by, get_or, false, filter, map, slice_set, subst, sym, unwrap_or, ◌∙◌}
 use Rattle.std.proofs.lemmas.List.{length-set}
 use Rattle.std.specs.HashMap as hash
 use Rattle.ep_interest.specs.ByNumber.{in_order}
@@ -12,6 +12,8 @@ use Rattle.ep_interest.proofs.RemoveLemmas.{Emptied, held_less, keys_less, numbe
 use Rattle.ep_interest.proofs.KeyLemmas.{same_key_exact, same_key_self}
 use Rattle.ep_interest.proofs.PassesLemmas.{held_within, passing_one, room_for}
 use Rattle.ep_interest.proofs.KeysWithLemmas.{rows_less, rows_there}
+use Rattle.ep_interest.proofs.GuardsLemmas.{count_but, one}
+use Rattle.ep_interest.specs.Exclusive.{is_exclusive, is_exclusive_slot}
 use Rattle.ep_interest.proofs.TouchedLemmas.{touched_less}
 use Rattle.ep_interest.proofs.interest.Interest.remove.Given.{Over}
 use Rattle.ep_interest.proofs.interest.Interest.remove.Goals as goal
@@ -44,6 +46,17 @@ follow-requires-clause-room g c off =
     let fits = room_for k.slots.slots k.passes.keys.items c.args.id.0 c.self.invariant.passing (held_within k.slots.slots c.args.id.0 c.remove-entry.result was) (c.self.invariant.passing.each c.args.id.0 ∙ (ap passes_on was ∙ off)) in
     omega (arith, fits, c.self.invariant.room)
 
+guards_left : (g : Over) (c : goal.After-remove-2 g) → Emptied c.self.inside.slots.slots c.remove-entry.new.self.slots c.args.id.0 c.remove-entry.result
+    → c.without_one-self-inside.result ≡ count_by is_exclusive_slot c.remove-entry.new.self.slots
+guards_left g c s =
+    let old = c.self.inside.slots.slots in
+    let new = c.remove-entry.new.self.slots in
+    let b = count_but old new c.args.id.0 s.others in
+    let o : one (is_exclusive_slot (get_or old c.args.id.0 None)) ≡ one (is_exclusive c.remove-entry.result) = λ i. one (is_exclusive_slot (s.was i)) in
+    let n : one (is_exclusive_slot (get_or new c.args.id.0 None)) ≡ 0 = λ i. one (is_exclusive_slot (s.gone i)) in
+    let e : one c.is_exclusive.result ≡ one (is_exclusive c.remove-entry.result) = ap one c.is_exclusive.ensures in
+    omega (arith, c.self.invariant.guards, b, o, n, e, c.without_one-self-inside.ensures)
+
 pub invariant_of-self : goal.invariant_of-self
 invariant_of-self g c = record {
   numbered = numbered_less c.self.inside.slots.slots c.remove-entry.new.self.slots c.args.id.0 c.remove-entry.result (in_slots g c) c.self.inside.added c.self.invariant.numbered;
@@ -52,6 +65,7 @@ invariant_of-self g c = record {
   by_target = rows_less c.self.inside.slots.slots c.remove-entry.new.self.slots c.args.id.0 c.remove-entry.result (in_slots g c) c.self.inside.added c.self.invariant.numbered target_of c.self.inside.by_target c.remove-2.new.self c.self.invariant.by_target c.remove-2.ensures.sound c.remove-2.ensures.rows;
   passing = let k = c.self.inside in let s = in_slots g c in passing_one k.slots.slots c.remove-entry.new.self.slots k.passes.keys.items c.follow.new.self.keys.items c.args.id.0 false c.self.invariant.passing c.follow.ensures.once c.follow.ensures.noted (ap passes_on s.gone) s.others;
   room = rw (c.remove-entry.ensures.slots, length-set c.self.inside.slots.slots c.args.id.0 None) (omega (arith, c.follow.ensures.kept, c.self.invariant.room));
+  guards = guards_left g c (in_slots g c);
   touched = touched_less c.self.inside.slots.slots c.remove-entry.new.self.slots c.self.inside.touched.numbers.keys c.args.id.0 c.remove-entry.result (in_slots g c) c.self.invariant.touched;
 }
 

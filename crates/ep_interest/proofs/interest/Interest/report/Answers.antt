@@ -1,5 +1,5 @@
 use Rattle.std.proofs.lemmas.List.{length-set}
-use Rattle.std.proofs.Common.{◌≡◌, ℕ, false, Some, ap, map, refl, set, subst, sym, unwrap_or, ◌∙◌}
+use Rattle.std.proofs.Common.{◌≡◌, ℕ, false, None, Some, arith, get_or, ap, map, refl, set, subst, sym, unwrap_or, ◌∙◌}
 use Rattle.std.specs.HashMap as hash
 use Rattle.ep_interest.specs.ByNumber.{in_order}
 use Rattle.ep_interest.specs.Registrations.{Registrations, number_under, reported}
@@ -11,6 +11,8 @@ use Rattle.ep_interest.proofs.ReplaceLemmas.{Replaced, reported_keeps, keys_same
 use Rattle.ep_interest.proofs.PassesLemmas.{passing_replaced}
 use Rattle.ep_interest.proofs.KeysWithLemmas.{rows_changed}
 use Rattle.ep_interest.proofs.TouchedLemmas.{touched_next}
+use Rattle.ep_interest.proofs.GuardsLemmas.{count_but, one}
+use Rattle.ep_interest.specs.Exclusive.{is_exclusive_slot}
 use Rattle.ep_interest.proofs.interest.Interest.report.Given.{Over}
 use Rattle.ep_interest.proofs.interest.Interest.report.Goals as goal
 
@@ -42,6 +44,7 @@ invariant_of-self g c =
       passing = passing_replaced k.slots.slots after k.passes.keys.items c.args.id.0 x (next g c) s refl c.self.invariant.passing;
       room = rw (length-set k.slots.slots c.args.id.0 (Some (next g c))) c.self.invariant.room;
       touched = touched_next k.slots.slots after k.touched.numbers.keys c.args.id.0 x (next g c) s refl refl c.self.invariant.touched;
+      guards = let b = count_but k.slots.slots after c.args.id.0 s.others in let g : one (is_exclusive_slot (get_or after c.args.id.0 None)) ≡ one (is_exclusive_slot (get_or k.slots.slots c.args.id.0 None)) = (λ i. one (is_exclusive_slot (s.here i))) ∙ sym (λ i. one (is_exclusive_slot (s.was i))) in omega (arith, c.self.invariant.guards, b, g);
     }
 
 pub returns-clause-entries : goal.returns-clause-entries
