@@ -43,8 +43,8 @@ use Rattle.ep_order.specs.Event.{IsAltered, end_of}
 use Rattle.ep_table.specs.Value.{Seen}
 use Rattle.ep_view.proofs.AtRestLemmas.{quiet_begun, quiet_change}
 use Rattle.ep_view.proofs.KernelViewLemmas.{readiness as machine_readiness, reportable_kept}
-use Rattle.ep_view.proofs.SettleLemmas.{settle_changed}
-use Rattle.ep_view.specs.AtRest.{Changed, Settles as SettlesChange}
+use Rattle.ep_view.proofs.SettleLemmas.{settle_remains}
+use Rattle.ep_view.specs.AtRest.{Changed, Remains}
 use Rattle.ep_view.specs.KernelView.{KernelWatch, carries, kernel_watch, kernel_watches, ready_now, reached_now, shows, watches_instance}
 
 or_either : (a b : Bool) → (a || b) ≡ true → (a ≡ true) ⊎ (b ≡ true)
@@ -128,8 +128,8 @@ module _ (law : ReportablesAreSpread) (past : List Record) (old mid left : Parts
       changed : Changed c.1
       changed = quiet_change limits b caller.0 event outcome.picked c (quiet_begun s keeps.quiet) allowed m.is
 
-      settled_change : SettlesChange c.1 c.2 (settle_state b c.1 c.2)
-      settled_change = settle_changed b c.1 c.2 (change_counted limits s caller.0 event outcome.picked c m.is) changed
+      settled_change : Remains c.1 c.2 (settle_state b c.1 c.2)
+      settled_change = settle_remains b c.1 c.2 (change_counted limits s caller.0 event outcome.picked c m.is) changed
 
       begins : s.n + 1 ≡ n
       begins = ap (λ (k : ℕ). k + 1) keeps.n ∙ sym at

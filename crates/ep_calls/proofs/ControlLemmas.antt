@@ -1,10 +1,10 @@
 -- epoll_ctl over the parts.
-use Rattle.std.proofs.Common.{◌≡◌, ◌∙◌, ◌+◌, ◌++◌, ◌==◌, ℕ, All, Bool, List, [], ◌∷◌, None, Option, Some, true, false, ap, cond, length, nat_le, refl, subst, sym, unwrap_or}
+use Rattle.std.proofs.Common.{◌≡◌, ◌∙◌, ◌+◌, ◌++◌, ◌==◌, ℕ, All, Bool, List, [], ◌∷◌, None, Option, Some, true, false, ap, cond, length, map, nat_le, refl, subst, sym, unwrap_or}
 use Rattle.std.specs.Prelude.{MatchBool}
 use Rattle.std.proofs.lemmas.List.Elements.{All-append, All-cons, All-filter, All-map, All-nil, All-weaker}
 use Rattle.ep_base.specs.declared.answer.Answer.{Answer}
 use Rattle.ep_base.specs.declared.answer.Answer.TheVariants.{Done, Refused}
-use Rattle.ep_base.specs.declared.errno.Errno.TheVariants.{Enospc}
+use Rattle.ep_base.specs.declared.errno.Errno.TheVariants.{Einval, Enospc}
 use Rattle.ep_base.specs.declared.mask.Mask.{Mask}
 use Rattle.ep_interest.specs.Registrations.{Registrations, is_other, modified, new_entry}
 use Rattle.ep_interest.specs.declared.entry.Entry.{Entry}
@@ -18,7 +18,7 @@ use Rattle.ep_calls.specs.Does.{DoesCall}
 use Rattle.ep_calls.specs.Parts.{AreWatched, Parts}
 use Rattle.ep_calls.specs.declared.outcome.Outcome.{Outcome}
 use Rattle.ep_nest.specs.declared.link.Link.{Link}
-use Rattle.ep_calls.specs.Control.{Alters, ChangesIf, Controls, Enters, IsFound, Names, raising_after, control_call, naming_refusals}
+use Rattle.ep_calls.specs.Control.{Alters, ChangesIf, Controls, Enters, IsFound, Names, is_exclusive_at, raising_after, control_call, naming_refusals}
 use Rattle.ep_calls.specs.Moves.{Goes, MovesBy}
 use Rattle.ep_calls.specs.Raising.{IsRaising, Raises}
 use Rattle.ep_calls.specs.Stands.{number_at}
@@ -56,8 +56,11 @@ module _ (v : Seen) (r : Registrations) (p : ℕ) (args : Control) (named : Name
   pub watched_altered : (k : ℕ) (operation : Operation) (new : Registrations) (answer : Answer) → Alters operation k args.mask args.tag r new answer → AreWatched v new
   watched_altered k Add new answer h = subst (λ (q : Registrations). AreWatched v q) (sym h.1) watched
   watched_altered k Delete new answer h = subst (All IsShown) (sym h.1) (All-filter (is_other k) IsShown r.entries watched)
-  watched_altered k Modify new answer h =
-      subst (All IsShown) (sym h.1) (All-map IsShown (modified k args.mask args.tag) r.entries (All-weaker IsShown (λ x. IsShown (modified k args.mask args.tag x)) (modified_shown k args.mask args.tag) r.entries watched))
+  watched_altered k Modify new answer h = by (is_exclusive_at r k) h where
+    by : (b : Bool) → MatchBool b ((answer ≡ Refused Einval) × (new ≡ r)) ((answer ≡ Done) × (new.entries ≡ map (modified k args.mask args.tag) r.entries) × (new.added ≡ r.added)) → AreWatched v new
+    by true h = subst (λ (q : Registrations). AreWatched v q) (sym h.1) watched
+    by false h =
+        subst (All IsShown) (sym h.1) (All-map IsShown (modified k args.mask args.tag) r.entries (All-weaker IsShown (λ x. IsShown (modified k args.mask args.tag x)) (modified_shown k args.mask args.tag) r.entries watched))
 
   abbrev added_entry : Entry
   added_entry = new_entry (r.added + 1) named.instance args.fd named.desc args.mask args.tag

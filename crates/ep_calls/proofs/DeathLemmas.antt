@@ -4,13 +4,18 @@ use Rattle.std.proofs.lemmas.Bool.{false≢true}
 use Rattle.std.proofs.lemmas.List.{append-nil}
 use Rattle.std.proofs.lemmas.List.Elements.{All-cons, All-head, All-map, All-nil, All-tail, All-weaker}
 use Rattle.ep_base.specs.declared.ids.DescId.{DescId}
-use Rattle.ep_machine.specs.Bits.{asked}
+use Rattle.ep_machine.specs.Bits.{IN, asked, has_bit}
 use Rattle.ep_machine.specs.Counts.{brings}
 use Rattle.ep_machine.specs.Deaths.{die_all, dying, named_in_tables}
 use Rattle.ep_machine.specs.Files.{Files, Place, is_live, object_at, object_of, place_of}
-use Rattle.ep_view.specs.KernelView.{KernelWatch, climbed_all, freshened, kernel_watches, settled_watches, stays_in, stirred}
+use Rattle.ep_law.specs.Laws.{Member}
+use Rattle.ep_machine.specs.Marks.{marked_by}
+use Rattle.ep_machine.specs.Waits.{marked_if_due}
+use Rattle.ep_view.proofs.MarkingLemmas.{marks_same}
+use Rattle.ep_view.specs.KernelView.{KernelWatch, climbed_all, climbing_all, freshened, kernel_watches, reached_now, ready_now, settled_watches, stays_in, stirred}
+use Rattle.ep_view.specs.Marking.{gets_mark_now, guarded_now, left_now, narrowed_now}
 use Rattle.ep_machine.specs.Lists.{are_distinct, is_among}
-use Rattle.ep_view.specs.AtRest.{Settles, can_be_watched, is_backed, kind_of, marks_of}
+use Rattle.ep_view.specs.AtRest.{Remains, Settles, can_be_watched, is_backed, kind_of, standing}
 use Rattle.ep_machine.specs.Spread.{raised_of}
 use Rattle.ep_machine.specs.State.{State, Waiter}
 use Rattle.ep_machine.specs.Timer.{last_moment}
@@ -175,7 +180,7 @@ module _ (n : ℕ) (mid new : Parts) (coherent : AreCoherent mid) (burial : Buri
   }
 
   -- the state before and after settling, with what the event raised
-  module _ (after t : State) (raised : List (ℕ × ℕ)) (settled : Settles after raised t) (at : after.n ≡ n) (stands : StandsRaised n mid raised after) where
+  module _ (after t : State) (raised : List (ℕ × ℕ)) (settled : Remains after raised t) (at : after.n ≡ n) (stands : StandsRaised n mid raised after) where
     placed : ArePlaced after.files dead
     placed = subst (λ (f : Files). ArePlaced f dead) (sym stands.files) burial.buries.placed
 
@@ -271,16 +276,50 @@ module _ (n : ℕ) (mid new : Parts) (coherent : AreCoherent mid) (burial : Buri
         ∙ (fresh_left ws
         ∙ (ap (map (freshened n of_kernel)) (stay_all mid.interest.entries coherent.linked) ∙ sym burial.buries.watches)))))
 
-    pub buried_stands : StandsBuried n new t
-    buried_stands =
-        let same : t.files ≡ new.tables.files = files_left ∙ sym burial.buries.files in
-        record {
-          now = settled.now ∙ (stands.now ∙ sym clock);
-          files = same;
-          watches =
-              settled.watches
-              ∙ ((λ i. settled_watches (at i) t.files (freshened (at i) (die_all (after.files, raised) (dying after)).1) (filter (stays_in t.files) (kernel_watches after after.watches)))
-              ∙ (ap (climbed_all n t.files) all_noted ∙ ap (λ (f : Files). climbed_all n f (map (watch_at new.tables.keys) new.interest.entries)) same));
-          added = settled.added ∙ (stands.added ∙ sym burial.buries.added);
-          waiters = settled.waiters ∙ ap (marks_of t) (stands.waiters ∙ (waiters_left ∙ ap (waiters_at new.tables.keys) (sym left_parked)));
-        }
+    same_files : t.files ≡ new.tables.files
+    same_files = files_left ∙ sym burial.buries.files
+
+    same_clock : t.now ≡ new.clock
+    same_clock = settled.now ∙ (stands.now ∙ sym clock)
+
+    same_waiters : after.waiters ≡ waiters_at new.tables.keys new.parked
+    same_waiters = stands.waiters ∙ (waiters_left ∙ ap (waiters_at new.tables.keys) (sym left_parked))
+
+    -- as they stand when marks are set
+    same_standing : standing after raised t.files ≡ climbing_all n new.tables.files (map (watch_at new.tables.keys) new.interest.entries)
+    same_standing =
+        (λ i. climbing_all (at i) t.files (map (freshened (at i) (die_all (after.files, raised) (dying after)).1) (filter (stays_in t.files) (kernel_watches after after.watches))))
+        ∙ (λ i. climbing_all n (same_files i) (all_noted i))
+
+    module _ (waited : List Waiter) (marked : Settles waited after raised t) (raised_in : ℕ → Bool) (told : (w : Waiter) → Member w after.waiters → has_bit (raised_of raised w.instance) IN ≡ raised_in w.instance) where
+      -- the test of marks, with what is told of what was raised
+      marks_by : (ℕ → Bool) → ℕ → Bool
+      marks_by test e = gets_mark_now t.files t.now after.n (standing after raised t.files) (map (marked_if_due t.now) after.waiters) test (left_now waited after.waiters) e
+
+      told_marks : (e : ℕ) → has_bit (raised_of raised e) IN ≡ raised_in e → marks_by (λ d. has_bit (raised_of raised d) IN) e ≡ marks_by raised_in e
+      unfolding marks_by
+      told_marks e is =
+          let zs = standing after raised t.files in
+          let ready = ready_now t.files t.now zs in
+          let due = map (marked_if_due t.now) after.waiters in
+          ap (λ (b : Bool). ready e && (not (guarded_now zs e) || (b || reached_now t.files after.n (narrowed_now t.files after.n zs ready due) e || left_now waited after.waiters e))) is
+
+      pub buried_stands : StandsBuried n waited raised_in new t
+      unfolding marks_by
+      buried_stands = record {
+        now = same_clock;
+        files = same_files;
+        watches =
+            settled.watches
+            ∙ ((λ i. settled_watches (at i) t.files (freshened (at i) (die_all (after.files, raised) (dying after)).1) (filter (stays_in t.files) (kernel_watches after after.watches)))
+            ∙ (ap (climbed_all n t.files) all_noted ∙ ap (λ (f : Files). climbed_all n f (map (watch_at new.tables.keys) new.interest.entries)) same_files));
+        added = settled.added ∙ (stands.added ∙ sym burial.buries.added);
+        waiters =
+            marked.waiters
+            ∙ (marks_same (marks_by (λ d. has_bit (raised_of raised d) IN)) (marks_by raised_in) t.now after.waiters (λ w m. told_marks w.instance (told w m))
+            ∙ (λ i. marked_by (λ e. gets_mark_now (same_files i) (same_clock i) (at i) (same_standing i) (map (marked_if_due (same_clock i)) (same_waiters i)) raised_in (left_now waited (same_waiters i)) e) t.now (same_waiters i)));
+      }
+
+-- all that a settling leaves but the waiters
+pub remains_of : (waited : List Waiter) (after t : State) (raised : List (ℕ × ℕ)) → Settles waited after raised t → Remains after raised t
+remains_of ws after t raised h = record { n = h.n; now = h.now; files = h.files; watches = h.watches; added = h.added; seen = h.seen }

@@ -1,5 +1,5 @@
 -- The registration under a key, by its number.
-use Rattle.std.proofs.Common.{◌≡◌, ◌==◌, ◌&&◌, ◌||◌, ◌<◌, ℕ, ℤ, Bool, true, false, not, List, [], ◌∷◌, Option, Some, None, IsSome, All, cond, filter, find, map, unwrap_or, refl, ap, sym, ◌∙◌, arith, inl, inr, pos}
+use Rattle.std.proofs.Common.{◌≡◌, ◌==◌, ◌&&◌, ◌||◌, ◌<◌, ℕ, ℤ, Bool, true, false, not, List, [], ◌∷◌, Option, Some, None, IsSome, All, cond, filter, find, map, unwrap_or, refl, ap, sym, ◌∙◌, arith, inl, inr, pos, subst}
 use Rattle.std.specs.List.{AllByRecursion, list_any}
 use Rattle.std.specs.Ordering.{int_eq}
 use Rattle.std.proofs.lemmas.Bool.{cases_Bool, false≢true}
@@ -13,7 +13,9 @@ use Rattle.ep_interest.specs.declared.entry.Entry.{Entry}
 use Rattle.ep_view.specs.KernelView.{KernelWatch, is_at, kernel_modified, kernel_watches, kernel_watch}
 use Rattle.ep_machine.specs.State.{State, Watch}
 use Rattle.ep_machine.specs.Watches.{has_key as has_numbers, modified as modified_watch, number_in}
+use Rattle.ep_calls.specs.Control.{is_exclusive_entry}
 use Rattle.ep_calls.specs.Stands.{IsLinked, number_at, watch_at}
+use Rattle.ep_interest.specs.Exclusive.{is_exclusive}
 use Rattle.ep_calls.proofs.RegistrationLemmas.{same_key_test}
 use Rattle.ep_table.specs.Value.{Seen, Sound, number_under}
 use Rattle.ep_law.proofs.TestLemmas.{from_test, same_nat}
@@ -92,6 +94,35 @@ module _ (r : Registrations) (instance : DescId) (fd : Fd) (desc : DescId) (k : 
   has_number = each (each_numbered 0 r.entries sound.rises) where
     each : AllByRecursion (λ x. numbered r.entries x.number ≡ Some x) r.entries → AllByRecursion (λ x. has_key instance fd desc x ≡ (x.number == k)) r.entries
     each h = both_of (λ x. numbered r.entries x.number ≡ Some x) (λ x. numbered r.entries x.number ≡ Some x) (λ x. has_key instance fd desc x ≡ (x.number == k)) (λ x a b. has x a) r.entries h h
+
+-- Of a number there is one at most.
+none_numbered : (k : ℕ) (q : Entry → Bool) (xs : List Entry) → AllByRecursion (λ x. k < x.number) xs → list_any (λ x. x.number == k && q x) xs ≡ false
+none_numbered k q [] h = refl
+none_numbered k q (x ∷ xs) h = let rest = none_numbered k q xs h.1 in let other = apart_after k x.number h.0 in λ i. other i && q x || rest i where
+  apart_after : (a b : ℕ) → a < b → (b == a) ≡ false
+  apart_after a b lt = grind (arith, nat_tests, lt)
+
+one_numbered : (m k : ℕ) (xs : List Entry) → RisesFrom m xs → list_any (λ x. x.number == k && is_exclusive x) xs ≡ is_exclusive_entry (numbered xs k)
+one_numbered m k [] h = refl
+one_numbered m k (x ∷ xs) h = elim (cases_Bool (x.number == k)) [
+  | inl e ↦
+      let none = none_numbered k is_exclusive xs (subst (λ (n : ℕ). AllByRecursion (λ y. n < y.number) xs) (from_test x.number k e) (rises_above x.number xs h.1)) in
+      (λ i. e i && is_exclusive x || none i) ∙ (or_false (is_exclusive x) ∙ sym (ap (λ (b : Bool). is_exclusive_entry (cond b (Some x) (numbered xs k))) e))
+  | inr e ↦
+      let rest = one_numbered x.number k xs h.1 in
+      (λ i. e i && is_exclusive x || rest i) ∙ sym (ap (λ (b : Bool). is_exclusive_entry (cond b (Some x) (numbered xs k))) e)
+] where
+  or_false : (b : Bool) → (b || false) ≡ b
+  or_false true = refl
+  or_false false = refl
+
+-- what has a key is exclusive if the one of its number is
+pub exclusive_numbered : (instance : DescId) (fd : Fd) (desc : DescId) (k : ℕ) (xs : List Entry) → AllByRecursion (λ x. has_key instance fd desc x ≡ (x.number == k)) xs → RisesFrom 0 xs
+    → list_any (λ x. has_key instance fd desc x && is_exclusive x) xs ≡ is_exclusive_entry (numbered xs k)
+exclusive_numbered instance fd desc k xs has rises = by_number xs has ∙ one_numbered 0 k xs rises where
+  by_number : (ys : List Entry) → AllByRecursion (λ x. has_key instance fd desc x ≡ (x.number == k)) ys → list_any (λ x. has_key instance fd desc x && is_exclusive x) ys ≡ list_any (λ x. x.number == k && is_exclusive x) ys
+  by_number [] h = refl
+  by_number (y ∷ ys) h = let one = h.0 in let rest = by_number ys h.1 in λ i. one i && is_exclusive y || rest i
 
 -- The machine's registrations without the one of a key, and with it modified.
 module _ (v : Seen) (instance : DescId) (fd : ℤ) (desc : DescId) (k : ℕ) (sound : Sound v) (instance_lives : IsSome (number_under v instance)) (desc_lives : IsSome (number_under v desc)) (descriptor : fd ≡ pos (number_in fd)) where

@@ -1,5 +1,6 @@
 -- What a kernel keeps, at the start and over one event.
-use Rattle.std.proofs.Common.{◌≡◌, ◌+◌, ◌++◌, ◌∙◌, ℕ, List, [], ◌∷◌, Option, Some, ap, length, map, refl, subst, sym, unwrap_or}
+use Rattle.std.proofs.Common.{◌≡◌, ◌+◌, ◌++◌, ◌∙◌, ℕ, Bool, false, inl, inr, List, [], ◌∷◌, Option, Some, ap, length, map, refl, subst, sym, unwrap_or}
+use Rattle.std.proofs.lemmas.Bool.{cases_Bool}
 use Rattle.std.proofs.lemmas.List.{length-append}
 use Rattle.ep_base.specs.Limits.{Limits}
 use Rattle.ep_base.specs.declared.call.Event.{Event}
@@ -9,23 +10,26 @@ use Rattle.ep_interest.specs.Registrations.{Registrations}
 use Rattle.ep_machine.specs.Marks.{marked_by}
 use Rattle.ep_machine.specs.Refusal.{refusals}
 use Rattle.ep_machine.specs.Run.{run}
-use Rattle.ep_machine.specs.State.{State, opening}
+use Rattle.ep_machine.specs.State.{State, Waiter, Watch, opening}
 use Rattle.ep_machine.specs.Step.{next_event, change, step}
+use Rattle.ep_law.proofs.GraphLemmas.{exclusive_targets}
+use Rattle.ep_law.specs.Laws.{Member}
+use Rattle.ep_machine.specs.Watches.{is_exclusive}
 use Rattle.ep_view.proofs.AtRestLemmas.{quiet_opening}
 use Rattle.ep_law.proofs.SoundLemmas.{sound_opening}
 use Rattle.ep_law.proofs.StepLemmas.{run_next}
 use Rattle.ep_calls.specs.Acts.{Adds}
 use Rattle.ep_calls.specs.Burial.{Burial}
 use Rattle.ep_calls.specs.Climb.{Climbs}
-use Rattle.ep_calls.specs.Moves.{Goes}
-use Rattle.ep_calls.specs.Parking.{ready_key}
+use Rattle.ep_calls.specs.Moves.{Goes, StandFor, StandsBuried, gets_mark_in}
+use Rattle.ep_calls.specs.Parking.{raises_in, ready_key}
 use Rattle.ep_calls.specs.Raising.{IsRaising, Raises, Stirs}
-use Rattle.ep_calls.specs.Stands.{waiters_at, watch_at}
+use Rattle.ep_calls.specs.Stands.{number_at, waiters_at, watch_at}
 use Rattle.ep_calls.specs.declared.raising.Raising.{Raising}
 use Rattle.ep_calls.specs.Keeps.{Keeps}
 use Rattle.ep_calls.specs.Parts.{AreCoherent, AreOpening, Parts}
 use Rattle.ep_calls.specs.declared.outcome.Outcome.{Outcome}
-use Rattle.ep_calls.proofs.StepLemmas.{Leads, climbed_stands, leads}
+use Rattle.ep_calls.proofs.StepLemmas.{Leads, climbed_stands, leads, marked_stands}
 use Rattle.ep_table.specs.Value.{Sound as SoundTables}
 
 -- the opening parts stand for the opening state
@@ -59,8 +63,9 @@ pub record DoesAt (s : State) (caller : ℕ) (event : Event) (outcome : Outcome)
   pub raising : IsRaising outcome.raising new.tables
   pub limits : new.tables.limits ≡ old.tables.limits
 
--- what follows a change in event n: what it raised is noted, the dead are taken, what was raised climbs, and marks are set
-pub record Settles (n : ℕ) (raising : Raising) (mid noted buried climbed new : Parts) : Type 0 where
+-- what follows a change in event n: what it raised is noted, the dead are taken, what was raised climbs and is
+-- forgotten, and marks are set by a test of the keys of instances
+pub record SettlesBy (test : ℕ → Bool) (n : ℕ) (raising : Raising) (mid noted buried climbed new : Parts) : Type 0 where
   pub coherent : AreCoherent mid
   pub sound : SoundTables mid.tables
   pub stirs : Stirs raising mid.tables mid.clock n mid.interest noted.interest
@@ -72,22 +77,36 @@ pub record Settles (n : ℕ) (raising : Raising) (mid noted buried climbed new :
   pub sound_buried : SoundTables buried.tables
   pub climbs : Climbs n buried.tables buried.interest climbed.interest
   pub climbed_others : climbed ≡ record buried { interest = climbed.interest }
-  pub marks : new.parked ≡ marked_by (ready_key climbed.tables climbed.clock climbed.interest) climbed.clock climbed.parked
+  pub marks : new.parked ≡ marked_by test climbed.clock climbed.parked
   pub marked_others : new ≡ record climbed { parked = new.parked }
 
+-- by what is ready
+abbrev pub Settles : ℕ → Raising → Parts → Parts → Parts → Parts → Parts → Type 0
+Settles n raising mid noted buried climbed new =
+    SettlesBy (ready_key climbed.tables climbed.clock climbed.interest) n raising mid noted buried climbed new
+
+-- by what the machine marks, for an event that began with the parts `old`: what is ready, and unguarded or woken
+abbrev pub SettlesMarks : ℕ → Raising → Parts → Parts → Parts → Parts → Parts → Parts → Type 0
+SettlesMarks n raising old mid noted buried climbed new =
+    SettlesBy (λ k. gets_mark_in n (waiters_at old.tables.keys old.parked) (raises_in raising mid.tables mid.clock) buried (number_at buried.tables.keys (record { 0 = k })))
+    n raising mid noted buried climbed new
+
+-- by a test for which the parts at the end stand for each state to which the event leads
 module _ (past : List Record) (old mid noted buried climbed new : Parts) (keeps : Keeps past old) (caller : CallerId) (event : Event) (outcome : Outcome) (n : ℕ) (at : n ≡ length past + 1)
-    (does : DoesAt (next_event keeps.state) caller.0 event outcome old mid) (settles : Settles n outcome.raising mid noted buried climbed new) where
+    (does : DoesAt (next_event keeps.state) caller.0 event outcome old mid) (test : ℕ → Bool) (settles : SettlesBy test n outcome.raising mid noted buried climbed new)
+    (stand : (t : State) → run old.tables.limits opening (past ++ record_of caller event outcome ∷ []) ≡ Some t → StandsBuried n keeps.state.waiters (raises_in outcome.raising mid.tables mid.clock) buried t
+    → StandFor (record buried { interest = climbed.interest; parked = new.parked }) t) where
   abbrev after : List Record
   after = past ++ record_of caller event outcome ∷ []
 
   burial : Burial n mid.tables noted.interest buried.tables buried.interest
   burial = subst (λ (p : Parts). Burial n p.tables p.interest buried.tables buried.interest) settles.noted_others settles.burial
 
-  next : Leads old.tables.limits keeps.state caller.0 event outcome.answer outcome.picked n buried
+  next : Leads old.tables.limits keeps.state caller.0 event outcome.answer outcome.picked n (raises_in outcome.raising mid.tables mid.clock) buried
   next =
       leads n mid noted.interest outcome.raising settles.coherent settles.sound does.raising settles.stirs
       buried burial (settles.parked ∙ ap (λ (p : Parts). p.parked) settles.noted_others) (settles.clock ∙ ap (λ (p : Parts). p.clock) settles.noted_others) settles.sound_buried
-      old.tables.limits keeps.state caller.0 event outcome.answer outcome.picked (ap (λ (k : ℕ). k + 1) keeps.n ∙ sym at) keeps.sound keeps.quiet does.goes does.raises
+      old.tables.limits keeps.state caller.0 event outcome.answer outcome.picked (ap (λ (k : ℕ). k + 1) keeps.n ∙ sym at) keeps.sound keeps.quiet past keeps.leads does.goes does.raises
 
   leads_on : run old.tables.limits opening after ≡ Some next.to
   leads_on = run_next old.tables.limits keeps.state next.to past (record_of caller event outcome) keeps.leads next.goes
@@ -95,42 +114,79 @@ module _ (past : List Record) (old mid noted buried climbed new : Parts) (keeps 
   length_is : length after ≡ length past + 1
   length_is = length-append past (record_of caller event outcome ∷ [])
 
-  limits_left : buried.tables.limits ≡ old.tables.limits
-  limits_left = burial.buries.limits ∙ does.limits
-
-  abbrev settled : Parts
-  settled = record buried { interest = climbed.interest; parked = new.parked }
-
-  settled_is : new ≡ settled
+  settled_is : new ≡ record buried { interest = climbed.interest; parked = new.parked }
   settled_is = settles.marked_others ∙ ap (λ (p : Parts). record p { parked = new.parked }) settles.climbed_others
 
-  settled_keeps : Keeps after settled
-  settled_keeps = record {
+  limits_left : new.tables.limits ≡ old.tables.limits
+  limits_left = ap (λ (p : Parts). p.tables.limits) settled_is ∙ (burial.buries.limits ∙ does.limits)
+
+  pub keeps_after : Keeps after new
+  keeps_after = record {
     state = next.to;
     leads = ap (λ (l : Limits). run l opening after) limits_left ∙ leads_on;
     n = next.n ∙ (at ∙ sym length_is);
     sound = next.sound;
     quiet = next.quiet;
-    stands =
-        climbed_stands n buried climbed.interest new.parked next.to settles.climbs settles.sound_buried settles.coherent_buried.placed
-        (settles.marks ∙ ap (λ (p : Parts). marked_by (ready_key p.tables p.clock p.interest) p.clock p.parked) settles.climbed_others) next.stands;
+    stands = subst (λ (p : Parts). StandFor p next.to) (sym settled_is) (stand next.to leads_on next.stands);
   }
-
-  pub keeps_next : Keeps after new
-  keeps_next = subst (λ (p : Parts). Keeps after p) (sym settled_is) settled_keeps
 
   -- the state to which the history leads then
   state_now : unwrap_or (run new.tables.limits opening after) opening ≡ next.to
-  state_now =
-      let limits : new.tables.limits ≡ old.tables.limits = ap (λ (p : Parts). p.tables.limits) settled_is ∙ limits_left in
-      ap (λ (o : Option State). unwrap_or o opening) (ap (λ (l : Limits). run l opening after) limits ∙ leads_on)
+  state_now = ap (λ (o : Option State). unwrap_or o opening) (ap (λ (l : Limits). run l opening after) limits_left ∙ leads_on)
 
-  pub step_next : step old.tables.limits keeps.state caller.0 event outcome.picked ≡ Some (outcome.answer, unwrap_or (run new.tables.limits opening after) opening)
-  step_next = next.goes ∙ ap (λ (s : State). Some (outcome.answer, s)) (sym state_now)
+  pub step_after : step old.tables.limits keeps.state caller.0 event outcome.picked ≡ Some (outcome.answer, unwrap_or (run new.tables.limits opening after) opening)
+  step_after = next.goes ∙ ap (λ (s : State). Some (outcome.answer, s)) (sym state_now)
 
-  pub adds_next : Adds old.tables.limits caller event outcome.answer (unwrap_or (run old.tables.limits opening past) opening) (unwrap_or (run new.tables.limits opening after) opening) past after
-  adds_next = record {
+  pub adds_after : Adds old.tables.limits caller event outcome.answer (unwrap_or (run old.tables.limits opening past) opening) (unwrap_or (run new.tables.limits opening after) opening) past after
+  adds_after = record {
     picked = outcome.picked;
-    goes = ap (λ (s : State). step old.tables.limits s caller.0 event outcome.picked) (state_is past old keeps) ∙ step_next;
+    goes = ap (λ (s : State). step old.tables.limits s caller.0 event outcome.picked) (state_is past old keeps) ∙ step_after;
     added = refl;
   }
+
+-- whatever is exclusive
+module _ (past : List Record) (old mid noted buried climbed new : Parts) (keeps : Keeps past old) (caller : CallerId) (event : Event) (outcome : Outcome) (n : ℕ) (at : n ≡ length past + 1)
+    (does : DoesAt (next_event keeps.state) caller.0 event outcome old mid) (settles : SettlesMarks n outcome.raising old mid noted buried climbed new) where
+  abbrev by_marks : ℕ → Bool
+  by_marks k = gets_mark_in n (waiters_at old.tables.keys old.parked) (raises_in outcome.raising mid.tables mid.clock) buried (number_at buried.tables.keys (record { 0 = k }))
+
+  stand_marked : (t : State) → run old.tables.limits opening (past ++ record_of caller event outcome ∷ []) ≡ Some t → StandsBuried n keeps.state.waiters (raises_in outcome.raising mid.tables mid.clock) buried t
+      → StandFor (record buried { interest = climbed.interest; parked = new.parked }) t
+  stand_marked t led h =
+      marked_stands n buried climbed.interest new.parked keeps.state.waiters (raises_in outcome.raising mid.tables mid.clock) t settles.climbs settles.sound_buried settles.coherent_buried.placed
+      (settles.marks
+      ∙ ((λ i. marked_by by_marks (settles.climbed_others i).clock (settles.climbed_others i).parked)
+      ∙ ap (λ (ws : List Waiter). marked_by (λ k. gets_mark_in n ws (raises_in outcome.raising mid.tables mid.clock) buried (number_at buried.tables.keys (record { 0 = k }))) buried.clock buried.parked) (sym keeps.stands.waiters))) h
+
+  pub keeps_marked : Keeps (past ++ record_of caller event outcome ∷ []) new
+  keeps_marked = keeps_after past old mid noted buried climbed new keeps caller event outcome n at does by_marks settles stand_marked
+
+  pub step_marked : step old.tables.limits keeps.state caller.0 event outcome.picked ≡ Some (outcome.answer, unwrap_or (run new.tables.limits opening (past ++ record_of caller event outcome ∷ [])) opening)
+  step_marked = step_after past old mid noted buried climbed new keeps caller event outcome n at does by_marks settles stand_marked
+
+  pub adds_marked : Adds old.tables.limits caller event outcome.answer (unwrap_or (run old.tables.limits opening past) opening) (unwrap_or (run new.tables.limits opening (past ++ record_of caller event outcome ∷ [])) opening) past (past ++ record_of caller event outcome ∷ [])
+  adds_marked = adds_after past old mid noted buried climbed new keeps caller event outcome n at does by_marks settles stand_marked
+
+-- If no registration is exclusive, marks by readiness will do.
+module _ (past : List Record) (old mid noted buried climbed new : Parts) (keeps : Keeps past old) (caller : CallerId) (event : Event) (outcome : Outcome) (n : ℕ) (at : n ≡ length past + 1)
+    (does : DoesAt (next_event keeps.state) caller.0 event outcome old mid) (settles : Settles n outcome.raising mid noted buried climbed new) where
+  abbrev by_ready : ℕ → Bool
+  by_ready = ready_key climbed.tables climbed.clock climbed.interest
+
+  none_exclusive : (t : State) → run old.tables.limits opening (past ++ record_of caller event outcome ∷ []) ≡ Some t → (x : Watch) → Member x t.watches → is_exclusive x ≡ false
+  none_exclusive t led x m = elim (cases_Bool (is_exclusive x)) [ inl is ↦ absurd (exclusive_targets old.tables.limits (past ++ record_of caller event outcome ∷ []) t x led m is).refused | inr isnt ↦ isnt ]
+
+  stand_ready : (t : State) → run old.tables.limits opening (past ++ record_of caller event outcome ∷ []) ≡ Some t → StandsBuried n keeps.state.waiters (raises_in outcome.raising mid.tables mid.clock) buried t
+      → StandFor (record buried { interest = climbed.interest; parked = new.parked }) t
+  stand_ready t led h =
+      climbed_stands n buried climbed.interest new.parked keeps.state.waiters (raises_in outcome.raising mid.tables mid.clock) t (none_exclusive t led) settles.climbs settles.sound_buried settles.coherent_buried.placed
+      (settles.marks ∙ ap (λ (p : Parts). marked_by (ready_key p.tables p.clock p.interest) p.clock p.parked) settles.climbed_others) h
+
+  pub keeps_next : Keeps (past ++ record_of caller event outcome ∷ []) new
+  keeps_next = keeps_after past old mid noted buried climbed new keeps caller event outcome n at does by_ready settles stand_ready
+
+  pub step_next : step old.tables.limits keeps.state caller.0 event outcome.picked ≡ Some (outcome.answer, unwrap_or (run new.tables.limits opening (past ++ record_of caller event outcome ∷ [])) opening)
+  step_next = step_after past old mid noted buried climbed new keeps caller event outcome n at does by_ready settles stand_ready
+
+  pub adds_next : Adds old.tables.limits caller event outcome.answer (unwrap_or (run old.tables.limits opening past) opening) (unwrap_or (run new.tables.limits opening (past ++ record_of caller event outcome ∷ [])) opening) past (past ++ record_of caller event outcome ∷ [])
+  adds_next = adds_after past old mid noted buried climbed new keeps caller event outcome n at does by_ready settles stand_ready

@@ -17,14 +17,14 @@ use Rattle.ep_base.specs.declared.object.End.{End}
 use Rattle.ep_base.specs.declared.record.Record.{Record}
 use Rattle.ep_interest.specs.Registrations.{has_key}
 use Rattle.ep_machine.specs.Effect.{first}
-use Rattle.ep_machine.specs.Files.{Files, table_of, under}
+use Rattle.ep_machine.specs.Files.{Files, named_by, table_of, under}
 use Rattle.ep_machine.specs.Objects.{Object, object_refusals, pair, pipe}
 use Rattle.ep_machine.specs.Refusal.{call_refusals, refusals}
 use Rattle.ep_machine.specs.Run.{run}
 use Rattle.ep_machine.specs.State.{State, Waiter, opening}
 use Rattle.ep_machine.specs.Step.{next_event}
 use Rattle.ep_machine.specs.Waits.{is_parked}
-use Rattle.ep_machine.specs.Watches.{is_add}
+use Rattle.ep_machine.specs.Watches.{is_add, is_exclusive_there, is_mod, number_in}
 use Rattle.ep_object.specs.Memory.{asked_of, object_waiting}
 use Rattle.ep_park.specs.Waiters.{is_caller, parked}
 use Rattle.ep_park.specs.declared.waiter.Waiter.{Waiter as ParkedWaiter}
@@ -78,14 +78,15 @@ module _ (p : Parts) (pid : ℕ) where
       ∙ (refusals_are p.tables pid fd.0 desc found lives p.clock call ∙ long_call _ _ p.clock call h))
 
   pub control_last : (args : Control) (plan : Plan) → AreCoherent p → Sound p.tables → IsPlan p pid args plan → list_any (has_key plan.named.instance args.fd plan.named.desc) p.interest.entries ≡ false
-      → first (room_refusals (is_add (code_of plan.operation)) false (is_deep_at p.tables p.graph plan.named) p.tables.limits.watches (length p.interest.entries)) ≡ None → NothingRefusesCall p pid (control_call args)
+      → ((exclusive : Bool) → first (room_refusals (is_add (code_of plan.operation)) (is_mod (code_of plan.operation)) false exclusive (is_deep_at p.tables p.graph plan.named) p.tables.limits.watches (length p.interest.entries)) ≡ None) → NothingRefusesCall p pid (control_call args)
   control_last args plan h sound is absent left = λ n s at sound_state quiet legal stands.
       let v = p.tables in
       let r = p.interest in
       let named = plan.named in
       let deep = is_deep_at v p.graph named in
+      let exclusive = is_exclusive_there s (named_by s.files pid args.epfd.0) (number_in args.fd.0) (named_by s.files pid args.fd.0) in
       left_to_refuse p.graph v.limits v r s pid args named is.names sound p.clock stands h.linked deep (deep_is_at v.limits v r s pid args named is.names sound p.clock stands h.linked p.graph h.nested) is.accepted
-      ∙ ((λ i. first (room_refusals (is_add (is.code i)) (absent i) deep v.limits.watches (length r.entries))) ∙ left)
+      ∙ ((λ i. first (room_refusals (is_add (is.code i)) (is_mod (is.code i)) (absent i) exclusive deep v.limits.watches (length r.entries))) ∙ left exclusive)
 
 pub resume_last : (p : Parts) (caller : ℕ) (w : ParkedWaiter) → find (is_caller caller) p.parked ≡ Some (parked caller w) → NothingRefuses p caller Resume
 resume_last p caller w is = λ n s at sound quiet legal stands.

@@ -50,3 +50,4 @@ pub mod NextMomentLemmas
 pub mod FirstMarkedLemmas
 pub mod SparedLemmas
 pub mod LastLemmas
+pub mod AttendLemmas

@@ -10,8 +10,7 @@ use Rattle.ep_machine.specs.State.{State, Waiter}
 use Rattle.ep_machine.specs.Timer.{last_moment, unread}
 use Rattle.ep_machine.specs.Waits.{advance_at, is_due, is_marked_at, marked_if_due, waits_at}
 use Rattle.ep_view.proofs.WaiterLemmas.{any_at}
-use Rattle.ep_view.specs.AtRest.{AtRest}
-use Rattle.ep_view.specs.KernelView.{kernel_watches, ready_now}
+use Rattle.ep_view.specs.AtRest.{AtRest, needs_mark}
 use Rattle.ep_calls.specs.Arrivals.{arrives_by}
 use Rattle.ep_calls.specs.Driver.{HasNoEffect, IsNextEffect, has_effect, tick_marks, tick_raises}
 use Rattle.ep_calls.specs.Moves.{StandFor}
@@ -82,7 +81,7 @@ no_effect_now s rest = λ i. raises i || marks i
 
     marks : tick_marks s 0 ≡ false
     marks =
-        let ready = ready_now s.files s.now (kernel_watches s s.watches) in
+        let ready = needs_mark s in
         let due = map (marked_if_due s.now) s.waiters in
         (λ i. list_any (awaits_mark (same_moment s.now i)) (sym rest.marks i)) ∙ none_awaits ready s.now due [] s.waiters
 

@@ -19,11 +19,11 @@ use Rattle.ep_machine.specs.Spread.{is_reached, passes_on_by, raised_alive}
 use Rattle.ep_machine.specs.State.{Change, State, Watch}
 use Rattle.ep_view.proofs.ClimbLemmas.{passes_as_noted, reached_same}
 use Rattle.ep_view.proofs.KernelViewLemmas.{kept_filter}
-use Rattle.ep_view.specs.AtRest.{Changed, Settles}
+use Rattle.ep_view.specs.AtRest.{Changed, Remains}
 use Rattle.ep_view.specs.KernelView.{KernelWatch, carries, freshened, kernel_watch, kernel_watches, reached_now, stays_in}
 
 module _ (n : ℕ) (raising : Raising) (mid : Parts) (noted : Registrations) (buried : Parts) (leaves : Leaves n raising mid noted buried)
-    (b : State) (c : Change) (stands : StandFor mid c.1) (changed : Changed c.1) (settled : Settles c.1 c.2 (settle b c.1 c.2)) (at : c.1.n ≡ n) (counted : (0 == n) ≡ false)
+    (b : State) (c : Change) (stands : StandFor mid c.1) (changed : Changed c.1) (settled : Remains c.1 c.2 (settle b c.1 c.2)) (at : c.1.n ≡ n) (counted : (0 == n) ≡ false)
     (as_raised : AsRaisedIn c.1.files raising mid.tables mid.clock c.2) (same_files : (settle b c.1 c.2).files ≡ buried.tables.files) where
   -- what the event and the deaths of the machine raised
   abbrev pub by_machine : List (ℕ × ℕ)

@@ -1,5 +1,5 @@
 -- What registrations show, looking down through instances.
-use Rattle.std.proofs.Common.{◌≡◌, ◌-◌, ℕ, Bool, true, None, Option, Some, ap, refl, unwrap_or}
+use Rattle.std.proofs.Common.{◌≡◌, ℕ, Bool, true, None, Option, Some, ap, refl, unwrap_or}
 use Rattle.ep_base.specs.declared.object.End.{End}
 use Rattle.ep_interest.specs.declared.entry.Entry.{Entry}
 use Rattle.ep_machine.specs.Bits.{asked, when}

@@ -6,14 +6,15 @@ use Rattle.std.proofs.lemmas.Bool.Decides.{Decides-int_eq, Decides-eqb, same_fro
 use Rattle.std.proofs.lemmas.List.{length-map}
 use Rattle.std.proofs.lemmas.List.Elements.{All-head, All-tail}
 use Rattle.ep_base.specs.declared.ids.DescId.{DescId}
-use Rattle.ep_machine.specs.Bits.{asked}
+use Rattle.ep_interest.specs.Exclusive.{is_exclusive}
+use Rattle.ep_machine.specs.Bits.{EXCLUSIVE, asked, has_bit}
 use Rattle.ep_machine.specs.Counts.{every_shown_bit, no_counts}
 use Rattle.ep_view.specs.KernelView.{KernelWatch, at_number, is_at, kernel_watches, kernel_watch}
 use Rattle.ep_machine.specs.Readiness.{is_fresh_since}
 use Rattle.ep_machine.specs.State.{State, Waiter, Watch}
 use Rattle.ep_machine.specs.Waits.{has_parked, is_marked, is_parked}
 use Rattle.ep_view.proofs.WaiterLemmas.{any_at, of_process_at, parked_at}
-use Rattle.ep_machine.specs.Watches.{has_key as has_numbers, is_there, number_in}
+use Rattle.ep_machine.specs.Watches.{has_key as has_numbers, is_exclusive as is_exclusive_watch, is_exclusive_there, is_there, number_in}
 use Rattle.ep_interest.specs.Registrations.{Registrations, has_key}
 use Rattle.ep_park.specs.Waiters.{is_caller, is_marked_caller, is_of}
 use Rattle.ep_calls.specs.Stands.{AreHeld, KeepsHolds}
@@ -54,6 +55,25 @@ pub there_is : {ws : List Waiter} (v : Seen) (r : Registrations) (now : ℕ) (s 
 there_is v r now s instance desc fd sound h linked hi hd hf =
     let f = list_any (is_at (number_at v.keys instance) (number_in fd) (number_at v.keys desc)) in
     sym (there_kept s _ _ _ s.watches) ∙ (ap f h.watches ∙ there_linked v instance desc fd sound hi hd hf r.entries linked)
+
+-- the same of exclusive ones
+exclusive_kept : (s : State) (e fd d : ℕ) (xs : List Watch) → list_any (λ x. has_numbers e fd d x && is_exclusive_watch x) xs ≡ list_any (λ w. is_at e fd d w && has_bit w.mask EXCLUSIVE) (kernel_watches s xs)
+exclusive_kept s e fd d [] = refl
+exclusive_kept s e fd d (x ∷ xs) = ap (λ (b : Bool). has_numbers e fd d x && is_exclusive_watch x || b) (exclusive_kept s e fd d xs)
+
+exclusive_linked : (v : Seen) (instance desc : DescId) (fd : ℤ) → Sound v → IsSome (number_under v instance) → IsSome (number_under v desc) → fd ≡ pos (number_in fd) → (xs : List Entry) → All (IsLinked v.keys) xs
+    → list_any (λ w. is_at (number_at v.keys instance) (number_in fd) (number_at v.keys desc) w && has_bit w.mask EXCLUSIVE) (map (watch_at v.keys) xs) ≡ list_any (λ x. has_key instance (record { 0 = fd }) desc x && is_exclusive x) xs
+exclusive_linked v instance desc fd sound hi hd hf [] linked = refl
+exclusive_linked v instance desc fd sound hi hd hf (x ∷ xs) linked =
+    let one = same_key_test v instance desc fd sound hi hd hf x (All-head (IsLinked v.keys) x xs linked) in
+    let rest = exclusive_linked v instance desc fd sound hi hd hf xs (All-tail (IsLinked v.keys) x xs linked) in λ i. one i && is_exclusive x || rest i
+
+pub exclusive_there_is : {ws : List Waiter} (v : Seen) (r : Registrations) (now : ℕ) (s : State) (instance desc : DescId) (fd : ℤ) → Sound v → Stands v r ws now s → AreLinked v r → IsSome (number_under v instance) → IsSome (number_under v desc) → fd ≡ pos (number_in fd)
+    → is_exclusive_there s (number_at v.keys instance) (number_in fd) (number_at v.keys desc) ≡ list_any (λ x. has_key instance (record { 0 = fd }) desc x && is_exclusive x) r.entries
+exclusive_there_is v r now s instance desc fd sound h linked hi hd hf =
+    exclusive_kept s (number_at v.keys instance) (number_in fd) (number_at v.keys desc) s.watches
+    ∙ (ap (list_any (λ w. is_at (number_at v.keys instance) (number_in fd) (number_at v.keys desc) w && has_bit w.mask EXCLUSIVE)) h.watches
+    ∙ exclusive_linked v instance desc fd sound hi hd hf r.entries linked)
 
 -- as many registrations
 pub count_is : {ws : List Waiter} (v : Seen) (r : Registrations) (now : ℕ) (s : State) → Stands v r ws now s → length s.watches ≡ length r.entries

@@ -1,5 +1,6 @@
 -- An event of a kernel as a step of the machine.
-use Rattle.std.proofs.Common.{◌≡◌, ◌+◌, ◌&&◌, ◌∙◌, nat_lt, ℕ, All, List, [], ◌∷◌, Option, Some, None, ap, map, refl, subst, sym}
+use Rattle.std.proofs.Common.{◌≡◌, ◌+◌, ◌==◌, ◌&&◌, ◌||◌, ◌∙◌, nat_lt, ℕ, zero, suc, All, Bool, true, false, not, List, [], ◌∷◌, Option, Some, None, ap, inl, inr, map, refl, subst, sym}
+use Rattle.std.specs.List.{list_any}
 use Rattle.std.specs.Prelude.{MatchOption}
 use Rattle.std.proofs.lemmas.List.Elements.{All-head, All-tail}
 use Rattle.ep_base.specs.Limits.{Limits}
@@ -10,14 +11,25 @@ use Rattle.ep_base.specs.declared.errno.Errno.{Errno}
 use Rattle.ep_interest.specs.Registrations.{Registrations}
 use Rattle.ep_machine.specs.Effect.{first}
 use Rattle.ep_machine.specs.Counts.{brings}
-use Rattle.ep_machine.specs.Bits.{asked}
-use Rattle.ep_view.specs.KernelView.{freshened, freshened_by, kernel_watches, kernel_watch, ready_now, stirred as raised_in, at_number}
+use Rattle.ep_base.specs.declared.record.Record.{Record}
+use Rattle.ep_law.proofs.ListLemmas.{all_member}
+use Rattle.ep_law.proofs.RegularLemmas.{changes_are_regular, well_made_run}
+use Rattle.ep_law.specs.Laws.{Member}
+use Rattle.ep_machine.specs.Bits.{IN, asked, has_bit}
+use Rattle.ep_machine.specs.Exclusive.{is_guarded, is_guarded_within}
+use Rattle.ep_machine.specs.Files.{object_of}
+use Rattle.ep_machine.specs.Run.{run}
+use Rattle.ep_machine.specs.Waits.{marked_if_due}
+use Rattle.ep_machine.specs.Watches.{is_exclusive}
+use Rattle.ep_view.proofs.MarkingLemmas.{climbed_rests, guarded_kept, guarded_rests, marks_same, ready_rests}
+use Rattle.ep_view.specs.Marking.{guarded_now, left_now, narrowed_now}
+use Rattle.ep_view.specs.KernelView.{KernelWatch, climbing_all, freshened, freshened_by, kernel_watches, kernel_watch, reached_now, ready_now, resting, stirred as raised_in, at_number}
 use Rattle.ep_machine.specs.Marks.{marked_by}
-use Rattle.ep_view.specs.AtRest.{Changed, Settles, IsSteady, AtRest}
+use Rattle.ep_view.specs.AtRest.{Changed, Settles, IsSteady, AtRest, kind_of}
 use Rattle.ep_machine.specs.Refusal.{refusals}
 use Rattle.ep_machine.specs.Settle.{settle}
 use Rattle.ep_law.specs.Sound.{Sound}
-use Rattle.ep_machine.specs.State.{Change, State, Waiter, Watch}
+use Rattle.ep_machine.specs.State.{Change, State, Waiter, Watch, opening}
 use Rattle.ep_machine.specs.Step.{next_event, change, step}
 use Rattle.ep_law.proofs.StepLemmas.{after_first, change_counted, change_n, refused_step, step_changed}
 use Rattle.ep_view.proofs.AtRestLemmas.{quiet_begun, quiet_change, quiet_step, weaken}
@@ -26,16 +38,16 @@ use Rattle.ep_view.proofs.SettleLemmas.{settle_changed, settled_quiet}
 use Rattle.ep_law.proofs.SoundLemmas.{sound_begun, sound_step}
 use Rattle.ep_calls.specs.Burial.{Burial}
 use Rattle.ep_calls.specs.Climb.{Climbs}
-use Rattle.ep_calls.specs.Moves.{Goes, Makes, Refuses, StandFor, StandsBuried, StandsRaised}
-use Rattle.ep_calls.specs.Parking.{ready_key}
+use Rattle.ep_calls.specs.Moves.{Goes, gets_mark_in, Makes, Refuses, StandFor, StandsBuried, StandsRaised}
+use Rattle.ep_calls.specs.Parking.{raises_in, ready_key}
 use Rattle.ep_calls.specs.Raising.{AsRaised, AsRaisedIn, IsRaising, Raises, Stirs, raised_bits}
 use Rattle.ep_calls.specs.Readiness.{readiness}
-use Rattle.ep_calls.specs.Stands.{ArePlaced, number_at, waiters_at}
+use Rattle.ep_calls.specs.Stands.{ArePlaced, number_at, waiters_at, watch_at}
 use Rattle.ep_calls.specs.declared.raising.Raising.{Raising}
 use Rattle.ep_calls.proofs.HoldLemmas.{numbers_apart_at}
 use Rattle.ep_calls.proofs.RaiseLemmas.{Freshens, stirs_added, stirs_watches}
 use Rattle.ep_calls.specs.Parts.{AreCoherent, Parts}
-use Rattle.ep_calls.proofs.DeathLemmas.{buried_stands}
+use Rattle.ep_calls.proofs.DeathLemmas.{buried_stands, remains_of}
 use Rattle.ep_calls.proofs.PartsLemmas.{coherent_raised}
 use Rattle.ep_table.specs.Value.{Sound as SoundTables}
 
@@ -43,13 +55,13 @@ settle_n : (before after : State) (raised : List (ℕ × ℕ)) → (settle befor
 settle_n before after raised = refl
 
 -- what an event leads to, once the dead are gone
-pub record Leads (limits : Limits) (s : State) (caller : ℕ) (event : Event) (answer : Answer) (picked : List ℕ) (events : ℕ) (buried : Parts) : Type 0 where
+pub record Leads (limits : Limits) (s : State) (caller : ℕ) (event : Event) (answer : Answer) (picked : List ℕ) (events : ℕ) (raised : ℕ → Bool) (buried : Parts) : Type 0 where
   pub to : State
   pub goes : step limits s caller event picked ≡ Some (answer, to)
   pub n : to.n ≡ events
   pub sound : Sound to
   pub quiet : AtRest to
-  pub stands : StandsBuried events buried to
+  pub stands : StandsBuried events s.waiters raised buried to
 
 -- what is noted in event n of what it raised, in the registrations `noted`
 module _ (n : ℕ) (mid : Parts) (noted : Registrations) (raising : Raising) (coherent : AreCoherent mid) (sound : SoundTables mid.tables) (is : IsRaising raising mid.tables) (stirs : Stirs raising mid.tables mid.clock n mid.interest noted) where
@@ -77,14 +89,19 @@ module _ (n : ℕ) (mid : Parts) (noted : Registrations) (raising : Raising) (co
 
   -- and once the dead are gone
   module _ (buried : Parts) (burial : Burial n mid.tables noted buried.tables buried.interest) (parked : buried.parked ≡ mid.parked) (clock : buried.clock ≡ mid.clock) (sound_buried : SoundTables buried.tables) where
-    left_stands : (made t : State) (raised : List (ℕ × ℕ)) → StandFor mid made → Changed made → Settles made raised t → made.n ≡ n → AsRaisedIn made.files raising mid.tables mid.clock raised → StandsBuried n buried t
-    left_stands made t raised stands changed settled at as_raised =
-        buried_stands n (record mid { interest = noted }) buried (coherent_raised n mid raising noted coherent sound is stirs) burial parked clock sound_buried made t raised settled at
-        (raised_stands made raised as_raised stands changed.watches)
+    abbrev raised_now : ℕ → Bool
+    raised_now = raises_in raising mid.tables mid.clock
+
+    left_stands : (waited : List Waiter) (made t : State) (raised : List (ℕ × ℕ)) → StandFor mid made → Changed made → Settles waited made raised t → made.n ≡ n → AsRaisedIn made.files raising mid.tables mid.clock raised → StandsBuried n waited raised_now buried t
+    left_stands waited made t raised stands changed settled at as_raised =
+        buried_stands n (record mid { interest = noted }) buried (coherent_raised n mid raising noted coherent sound is stirs) burial parked clock sound_buried made t raised (remains_of waited made t raised settled) at
+        (raised_stands made raised as_raised stands changed.watches) waited settled raised_now (λ w m.
+        let one = all_member (λ u. kind_of (object_of made.files u.instance) ≡ 1) made.waiters w changed.waiting m in
+        ap (λ (b : ℕ). has_bit b IN) (as_raised w.instance (ap (λ (k : ℕ). nat_lt 0 k) one)))
 
     -- from the state before, as the event begins
-    module _ (limits : Limits) (s : State) (caller : ℕ) (event : Event) (answer : Answer) (picked : List ℕ) (at : s.n + 1 ≡ n) (sound_old : Sound s) (quiet : AtRest s) where
-      by_refusal : (e : Errno) → first (refusals limits (next_event s) caller event) ≡ Some e → Refuses (next_event s) e answer picked mid → AsRaised raising mid.tables mid.clock [] → Leads limits s caller event answer picked n buried
+    module _ (limits : Limits) (s : State) (caller : ℕ) (event : Event) (answer : Answer) (picked : List ℕ) (at : s.n + 1 ≡ n) (sound_old : Sound s) (quiet : AtRest s) (past : List Record) (led : run limits opening past ≡ Some s) where
+      by_refusal : (e : Errno) → first (refusals limits (next_event s) caller event) ≡ Some e → Refuses (next_event s) e answer picked mid → AsRaised raising mid.tables mid.clock [] → Leads limits s caller event answer picked n raised_now buried
       by_refusal e h r none =
           let P : Answer → List ℕ → Type 0 = λ a ks. step limits s caller event ks ≡ Some (a, next_event s) in
           let still = quiet_begun s quiet in
@@ -94,15 +111,15 @@ module _ (n : ℕ) (mid : Parts) (noted : Registrations) (raising : Raising) (co
             n = at;
             sound = sound_begun s sound_old;
             quiet = still;
-            stands = left_stands (next_event s) (next_event s) [] r.stands (weaken (next_event s) still) (settled_quiet (next_event s) (after_first s.n) still) at (λ d w. none d);
+            stands = left_stands s.waiters (next_event s) (next_event s) [] r.stands (weaken (next_event s) still) (settled_quiet (next_event s) (after_first s.n) still) at (λ d w. none d);
           }
 
       by_change : first (refusals limits (next_event s) caller event) ≡ None → Makes (change limits (next_event s) caller event picked) answer mid
-          → ((made : Change) → change limits (next_event s) caller event picked ≡ Some made → AsRaisedIn made.1.files raising mid.tables mid.clock made.2) → Leads limits s caller event answer picked n buried
+          → ((made : Change) → change limits (next_event s) caller event picked ≡ Some made → AsRaisedIn made.1.files raising mid.tables mid.clock made.2) → Leads limits s caller event answer picked n raised_now buried
       by_change h m raises =
           let t = settle (next_event s) m.made.1 m.made.2 in
           let changed = quiet_change limits (next_event s) caller event picked m.made (quiet_begun s quiet) h m.is in
-          let settled = settle_changed (next_event s) m.made.1 m.made.2 (change_counted limits s caller event picked m.made m.is) changed in
+          let settled = settle_changed (next_event s) m.made.1 m.made.2 (change_counted limits s caller event picked m.made m.is) changed (changes_are_regular limits past s caller event picked m.made led h m.is) in
           let made_at = change_n limits (next_event s) caller event picked m.made m.is ∙ at in
           let goes : step limits s caller event picked ≡ Some (answer, t) = step_changed limits s caller event picked m.made h m.is ∙ ap (λ (a : Answer). Some (a, t)) m.answers in
           record {
@@ -110,23 +127,69 @@ module _ (n : ℕ) (mid : Parts) (noted : Registrations) (raising : Raising) (co
             goes = goes;
             n = settle_n (next_event s) m.made.1 m.made.2 ∙ made_at;
             sound = sound_step limits s t caller event picked answer sound_old goes;
-            quiet = quiet_step limits s t caller event picked answer quiet goes;
-            stands = left_stands m.made.1 t m.made.2 m.stands changed settled made_at (raises m.made m.is);
+            quiet = quiet_step limits s t caller event picked answer (well_made_run limits past s led) quiet goes;
+            stands = left_stands s.waiters m.made.1 t m.made.2 m.stands changed settled made_at (raises m.made m.is);
           }
 
       by_cases : (o : Option Errno) → first (refusals limits (next_event s) caller event) ≡ o → MatchOption o (Makes (change limits (next_event s) caller event picked) answer mid) (λ e. Refuses (next_event s) e answer picked mid)
-          → MatchOption o ((made : Change) → change limits (next_event s) caller event picked ≡ Some made → AsRaisedIn made.1.files raising mid.tables mid.clock made.2) (λ e. AsRaised raising mid.tables mid.clock []) → Leads limits s caller event answer picked n buried
+          → MatchOption o ((made : Change) → change limits (next_event s) caller event picked ≡ Some made → AsRaisedIn made.1.files raising mid.tables mid.clock made.2) (λ e. AsRaised raising mid.tables mid.clock []) → Leads limits s caller event answer picked n raised_now buried
       by_cases None h m raises = by_change h m raises
       by_cases (Some e) h r raises = by_refusal e h r raises
 
       pub leads : Goes (refusals limits (next_event s) caller event) (change limits (next_event s) caller event picked) (next_event s) answer picked mid
-          → Raises (refusals limits (next_event s) caller event) (change limits (next_event s) caller event picked) raising mid.tables mid.clock → Leads limits s caller event answer picked n buried
+          → Raises (refusals limits (next_event s) caller event) (change limits (next_event s) caller event picked) raising mid.tables mid.clock → Leads limits s caller event answer picked n raised_now buried
       leads goes raises = by_cases (first (refusals limits (next_event s) caller event)) refl goes raises
 
+-- If no registration is exclusive, whatever is ready gets a mark.
+none_within : (s : State) → ((x : Watch) → Member x s.watches → is_exclusive x ≡ false) → (k e : ℕ) → is_guarded_within k s e ≡ false
+none_within s none zero e = refl
+none_within s none (suc k) e = each (λ d. none_within s none k d) s.watches none where
+  each : ((d : ℕ) → is_guarded_within k s d ≡ false) → (xs : List Watch) → ((x : Watch) → Member x xs → is_exclusive x ≡ false) → list_any (λ x. x.instance == e && (is_exclusive x || is_guarded_within k s x.target)) xs ≡ false
+  each below [] h = refl
+  each below (x ∷ xs) h = (λ i. x.instance == e && (h x (inl refl) i || below x.target i) || each below xs (λ y m. h y (inr m)) i) ∙ never (x.instance == e) where
+    never : (b : Bool) → (b && false || false) ≡ false
+    never true = refl
+    never false = refl
+
+pub none_guarded : (s : State) → ((x : Watch) → Member x s.watches → is_exclusive x ≡ false) → (e : ℕ) → is_guarded s e ≡ false
+unfolding is_guarded
+none_guarded s none e = none_within s none 5 e
+
+module _ (n : ℕ) (buried : Parts) (waited : List Waiter) (raised : ℕ → Bool) (t : State) (none : (x : Watch) → Member x t.watches → is_exclusive x ≡ false) (h : StandsBuried n waited raised buried t) where
+  abbrev noted : List KernelWatch
+  noted = map (watch_at buried.tables.keys) buried.interest.entries
+
+  abbrev risen : List KernelWatch
+  risen = climbing_all n buried.tables.files noted
+
+  rests : kernel_watches t t.watches ≡ map resting risen
+  rests = h.watches ∙ climbed_rests (reached_now buried.tables.files n noted) buried.tables.files noted
+
+  unguarded : (e : ℕ) → guarded_now risen e ≡ false
+  unguarded e = sym (guarded_rests risen e) ∙ (ap (λ (xs : List KernelWatch). guarded_now xs e) (sym rests) ∙ (sym (guarded_kept t e) ∙ none_guarded t none e))
+
+  ready_same : (e : ℕ) → ready_now buried.tables.files buried.clock risen e ≡ ready_now t.files t.now (kernel_watches t t.watches) e
+  ready_same e = sym (ready_rests buried.tables.files buried.clock risen e) ∙ (λ i. ready_now (sym h.files i) (sym h.now i) (sym rests i) e)
+
+  gets_ready : (e : ℕ) → gets_mark_in n waited raised buried e ≡ ready_now t.files t.now (kernel_watches t t.watches) e
+  gets_ready e =
+      let ws = waiters_at buried.tables.keys buried.parked in
+      let due = map (marked_if_due buried.clock) ws in
+      let ready = ready_now buried.tables.files buried.clock risen in
+      let woken = raised e || reached_now buried.tables.files n (narrowed_now buried.tables.files n risen ready due) e || left_now waited ws e in
+      (λ i. ready_same e i && (not (unguarded e i) || woken)) ∙ same (ready_now t.files t.now (kernel_watches t t.watches) e) where
+        same : (b : Bool) → (b && true) ≡ b
+        same true = refl
+        same false = refl
+
+  -- so marks are set at whatever is ready
+  pub marks_ready : t.waiters ≡ marked_by (ready_now t.files t.now (kernel_watches t t.watches)) t.now (waiters_at buried.tables.keys buried.parked)
+  marks_ready = h.waiters ∙ marks_same (gets_mark_in n waited raised buried) (ready_now t.files t.now (kernel_watches t t.watches)) t.now (waiters_at buried.tables.keys buried.parked) (λ w m. gets_ready w.instance)
+
 -- and once what was raised has climbed, and marks are set
-pub climbed_stands : (n : ℕ) (buried : Parts) (interest : Registrations) (ws : List Waiter) (t : State) → Climbs n buried.tables buried.interest interest → SoundTables buried.tables → ArePlaced buried.tables buried.parked
-    → ws ≡ marked_by (ready_key buried.tables buried.clock interest) buried.clock buried.parked → StandsBuried n buried t → StandFor (record buried { interest = interest; parked = ws }) t
-climbed_stands n buried interest ws t climbs sound placed marks h =
+pub climbed_stands : (n : ℕ) (buried : Parts) (interest : Registrations) (ws : List Waiter) (waited : List Waiter) (raised : ℕ → Bool) (t : State) → ((x : Watch) → Member x t.watches → is_exclusive x ≡ false) → Climbs n buried.tables buried.interest interest → SoundTables buried.tables → ArePlaced buried.tables buried.parked
+    → ws ≡ marked_by (ready_key buried.tables buried.clock interest) buried.clock buried.parked → StandsBuried n waited raised buried t → StandFor (record buried { interest = interest; parked = ws }) t
+climbed_stands n buried interest ws waited raised t none climbs sound placed marks h =
     let keys = buried.tables.keys in
     let number : ℕ → ℕ = λ k. number_at keys (record { 0 = k }) in
     let watches = h.watches ∙ sym climbs.watches in
@@ -136,8 +199,26 @@ climbed_stands n buried interest ws t climbs sound placed marks h =
       watches = watches;
       added = h.added ∙ sym climbs.added;
       waiters =
-          h.waiters
+          marks_ready n buried waited raised t none h
           ∙ ((λ i. marked_by (ready_now (h.files i) (h.now i) (watches i)) (h.now i) (waiters_at keys buried.parked))
           ∙ (marks_at number (readiness buried.tables buried.clock interest) buried.clock buried.parked (numbers_apart_at buried.tables sound buried.parked placed)
+          ∙ ap (map (at_number number)) (sym marks)));
+    }
+
+-- and by the test of the end of an event, whatever is exclusive
+pub marked_stands : (n : ℕ) (buried : Parts) (interest : Registrations) (ws : List Waiter) (waited : List Waiter) (raised : ℕ → Bool) (t : State) → Climbs n buried.tables buried.interest interest → SoundTables buried.tables → ArePlaced buried.tables buried.parked
+    → ws ≡ marked_by (λ k. gets_mark_in n waited raised buried (number_at buried.tables.keys (record { 0 = k }))) buried.clock buried.parked → StandsBuried n waited raised buried t → StandFor (record buried { interest = interest; parked = ws }) t
+marked_stands n buried interest ws waited raised t climbs sound placed marks h =
+    let keys = buried.tables.keys in
+    let number : ℕ → ℕ = λ k. number_at keys (record { 0 = k }) in
+    record {
+      now = h.now;
+      files = h.files;
+      watches = h.watches ∙ sym climbs.watches;
+      added = h.added ∙ sym climbs.added;
+      waiters =
+          h.waiters
+          ∙ ((λ i. marked_by (gets_mark_in n waited raised buried) (h.now i) (waiters_at keys buried.parked))
+          ∙ (marks_at number (gets_mark_in n waited raised buried) buried.clock buried.parked (numbers_apart_at buried.tables sound buried.parked placed)
           ∙ ap (map (at_number number)) (sym marks)));
     }

@@ -16,7 +16,8 @@ use Rattle.ep_base.specs.declared.ids.Fd.{Fd}
 use Rattle.ep_interest.specs.Registrations.{GainsKey, Registrations, entry_of, has_key, is_other, modified, numbered, number_under as number_of_entry}
 use Rattle.ep_interest.specs.declared.addition.Addition.{Addition}
 use Rattle.ep_interest.specs.declared.entry.Entry.{Entry}
-use Rattle.ep_machine.specs.Bits.{EXCLUSIVE, has_bit}
+use Rattle.ep_interest.specs.Exclusive.{is_exclusive}
+use Rattle.ep_machine.specs.Bits.{EXCLUSIVE, exclusive_bits, has_bit, has_only}
 use Rattle.ep_machine.specs.Effect.{first}
 use Rattle.ep_machine.specs.Files.{Files, named_by, names_nothing, object_under, under}
 use Rattle.ep_machine.specs.Objects.{is_instance, is_plain}
@@ -48,14 +49,28 @@ naming_refusals files p epfd fd =
     ∷ (is_plain (object_under files p fd), Eperm)
     ∷ (not (is_instance (object_under files p epfd)) || named_by files p epfd == named_by files p fd, Einval) ∷ []
 
--- the operation or the mask is not accepted
-abbrev pub is_refused_op : ℤ → ℕ → Bool
-is_refused_op op mask = not (is_add op || is_del op || is_mod op) || not (is_del op) && has_bit mask EXCLUSIVE
+-- an exclusive registration with this mask is not accepted; `nested` says that it would be on an instance
+abbrev pub is_refused_exclusive : Bool → ℕ → Bool
+is_refused_exclusive nested mask = has_bit mask EXCLUSIVE && (nested || not (has_only mask exclusive_bits))
 
--- where the operation and the mask are accepted; `deep` says that the graph of instances would not be legal
-abbrev pub room_refusals : Bool → Bool → Bool → ℕ → ℕ → List (Bool × Errno)
-room_refusals adds there deep watches count =
-    (not adds && not there, Enoent) ∷ (adds && there, Eexist) ∷ (adds && deep, Eloop)
+-- the operation or the mask is not accepted
+abbrev pub is_refused_op : Bool → ℤ → ℕ → Bool
+is_refused_op nested op mask =
+    if is_mod op then has_bit mask EXCLUSIVE else if is_add op then is_refused_exclusive nested mask else not (is_del op)
+
+-- the registration with a number is exclusive
+abbrev pub is_exclusive_entry : Option Entry → Bool
+is_exclusive_entry None = false
+is_exclusive_entry (Some x) = is_exclusive x
+
+abbrev pub is_exclusive_at : Registrations → ℕ → Bool
+is_exclusive_at r k = is_exclusive_entry (numbered r.entries k)
+
+-- if the operation and the mask are accepted; `exclusive` says that what is there is exclusive, and `deep` that the
+-- graph of instances would not be legal
+abbrev pub room_refusals : Bool → Bool → Bool → Bool → Bool → ℕ → ℕ → List (Bool × Errno)
+room_refusals adds mods there exclusive deep watches count =
+    (not adds && not there, Enoent) ∷ (adds && there, Eexist) ∷ (mods && exclusive, Einval) ∷ (adds && deep, Eloop)
     ∷ (adds && nat_le watches count, Enospc) ∷ []
 
 abbrev pub code_of : Operation → ℤ
@@ -67,7 +82,9 @@ code_of Modify = pos 3
 abbrev pub Alters : Operation → ℕ → Mask → ℕ → Registrations → Registrations → Answer → Type 0
 Alters Add k mask tag old new answer = (answer ≡ Refused Eexist) × (new ≡ old)
 Alters Delete k mask tag old new answer = (answer ≡ Done) × (new.entries ≡ filter (is_other k) old.entries) × (new.added ≡ old.added)
-Alters Modify k mask tag old new answer = (answer ≡ Done) × (new.entries ≡ map (modified k mask tag) old.entries) × (new.added ≡ old.added)
+Alters Modify k mask tag old new answer =
+    MatchBool (is_exclusive_at old k) ((answer ≡ Refused Einval) × (new ≡ old))
+    ((answer ≡ Done) × (new.entries ≡ map (modified k mask tag) old.entries) × (new.added ≡ old.added))
 
 -- with no registration there; `deep` says that its link would make the graph of instances illegal
 abbrev pub Enters : Operation → Bool → ℕ → Entry → Registrations → Registrations → Answer → Type 0
@@ -132,7 +149,7 @@ pub record IsFound (r : Registrations) (named : Named) (fd : Fd) (found : Option
 pub record IsPlan (p : Parts) (pid : ℕ) (args : Control) (plan : Plan) : Type 0 where
   pub names : Names p.tables pid args.epfd.0 args.fd.0 plan.named
   pub code : args.op ≡ code_of plan.operation
-  pub accepted : is_refused_op args.op args.mask.0 ≡ false
+  pub accepted : is_refused_op (is_nested_key p.tables plan.named.desc) args.op args.mask.0 ≡ false
   pub found : IsFound p.interest plan.named args.fd plan.found
 
 -- whether the instance that a registration with this key watches is ready

@@ -7,11 +7,14 @@ use Rattle.ep_base.specs.declared.call.Call.{Call}
 use Rattle.ep_base.specs.declared.call.Event.{Event}
 use Rattle.ep_base.specs.declared.errno.Errno.{Errno}
 use Rattle.ep_machine.specs.Effect.{first}
-use Rattle.ep_view.specs.KernelView.{climbed_all, freshened, kernel_watches}
-use Rattle.ep_view.specs.AtRest.{AtRest, marks_of}
+use Rattle.ep_machine.specs.Marks.{marked_by}
+use Rattle.ep_machine.specs.Waits.{marked_if_due}
+use Rattle.ep_view.specs.KernelView.{climbed_all, climbing_all, freshened, kernel_watches}
+use Rattle.ep_view.specs.AtRest.{AtRest}
+use Rattle.ep_view.specs.Marking.{gets_mark_now, left_now}
 use Rattle.ep_machine.specs.Refusal.{call_refusals, refusals}
 use Rattle.ep_law.specs.Sound.{Sound}
-use Rattle.ep_machine.specs.State.{Change, State}
+use Rattle.ep_machine.specs.State.{Change, State, Waiter}
 use Rattle.ep_machine.specs.Step.{call_change, change}
 use Rattle.ep_machine.specs.Watches.{is_legal, links}
 use Rattle.ep_calls.specs.Raising.{Raises}
@@ -31,13 +34,21 @@ pub record StandsRaised (n : ℕ) (p : Parts) (raised : List (ℕ × ℕ)) (s : 
   pub added : s.added ≡ p.interest.added
   pub waiters : s.waiters ≡ waiters_at p.tables.keys p.parked
 
+-- Whether the end of event n marks somebody at an instance. The parts are those once the dead are gone; `waited` were
+-- parked before the event, and `raised` says at which instances it raised IN.
+abbrev pub gets_mark_in : ℕ → List Waiter → (ℕ → Bool) → Parts → ℕ → Bool
+gets_mark_in n waited raised p e =
+    let ws = waiters_at p.tables.keys p.parked in
+    let watches = climbing_all n p.tables.files (map (watch_at p.tables.keys) p.interest.entries) in
+    gets_mark_now p.tables.files p.clock n watches (map (marked_if_due p.clock) ws) raised (left_now waited ws) e
+
 -- and once the dead are gone, before what was raised climbs through instances and before marks are set
-pub record StandsBuried (n : ℕ) (p : Parts) (s : State) : Type 0 where
+pub record StandsBuried (n : ℕ) (waited : List Waiter) (raised : ℕ → Bool) (p : Parts) (s : State) : Type 0 where
   pub now : s.now ≡ p.clock
   pub files : s.files ≡ p.tables.files
   pub watches : kernel_watches s s.watches ≡ climbed_all n p.tables.files (map (watch_at p.tables.keys) p.interest.entries)
   pub added : s.added ≡ p.interest.added
-  pub waiters : s.waiters ≡ marks_of s (waiters_at p.tables.keys p.parked)
+  pub waiters : s.waiters ≡ marked_by (gets_mark_in n waited raised p) s.now (waiters_at p.tables.keys p.parked)
 
 -- the machine makes this change, with this answer, to a state for which the parts stand
 pub record Makes (o : Option Change) (answer : Answer) (new : Parts) : Type 0 where

@@ -1,13 +1,14 @@
 //! epoll_ctl.
-ghost use Rattle.std.specs.Prelude.{All, ◌≡◌, ◌≢◌, ◌==◌, ◌+◌, ◌++◌, ◌∷◌, ◌≤◌, ◌||◌, ℕ, [], if◌then◌else◌, IfErr, IfNone, IfOk, IfSome, IsOk, IsSome, MatchResult, None, OnErr, Some, false, length, not, true, unwrap_or};
+ghost use Rattle.std.specs.Prelude.{All, Bool, ◌≡◌, ◌≢◌, ◌==◌, ◌+◌, ◌++◌, ◌∷◌, ◌≤◌, ◌||◌, ℕ, [], if◌then◌else◌, IfErr, IfNone, IfOk, IfSome, IsOk, IsSome, MatchResult, None, OnErr, Some, false, length, not, true, unwrap_or};
 ghost use Rattle.std.specs.List.{list_any};
 ghost use Rattle.ep_base.specs.Answer.{FitsInline};
+ghost use Rattle.ep_machine.specs.Bits.{exclusive_bits, has_only};
 ghost use Rattle.ep_machine.specs.Effect.{first};
 ghost use Rattle.ep_calls.specs.Acts.{is_no_memory};
-ghost use Rattle.ep_machine.specs.Watches.{is_add, is_legal};
+ghost use Rattle.ep_machine.specs.Watches.{is_add, is_legal, is_mod};
 ghost use Rattle.ep_nest.specs.Links.{edges, without};
-ghost use Rattle.ep_calls.specs.Climb.{AreNested, KeepsLinks};
-ghost use Rattle.ep_calls.specs.Control.{Alters, ChangesIf, Controls, EntersAt, IsBelow, IsPlan, Names, TellsBelow, addition, code_of, control_call, is_deep_at, is_done, is_refused_op, raising_of_ctl, naming_refusals, next_entry, next_link, raising_after, room_refusals};
+ghost use Rattle.ep_calls.specs.Climb.{AreNested, KeepsLinks, is_nested_key};
+ghost use Rattle.ep_calls.specs.Control.{Alters, ChangesIf, Controls, EntersAt, IsBelow, IsPlan, Names, TellsBelow, addition, code_of, control_call, is_deep_at, is_done, is_exclusive_at, is_refused_exclusive, is_refused_op, raising_of_ctl, naming_refusals, next_entry, next_link, raising_after, room_refusals};
 ghost use Rattle.ep_calls.specs.Last.{NothingRefusesCall};
 ghost use Rattle.ep_interest.specs.Registrations.{GainsKey, has_key, number_under as number_of_entry};
 ghost use Rattle.ep_machine.specs.Timer.{last_moment};
@@ -109,22 +110,60 @@ fn is_same(tables: &Tables, a: DescId, b: DescId) -> bool
     a.0 == b.0
 }
 
-/// The operation that is asked for. `None` if its number or the mask is not accepted; DEL looks at no mask.
-fn operation_of(args: Control) -> Option<Operation>
-    ensures none { IfNone result (is_refused_op args.op args.mask.0 ≡ true) }
-    ensures some { IfSome result
-        (λ operation. (args.op ≡ code_of operation) × (is_refused_op args.op args.mask.0 ≡ false)) }
+/// Whether a mask has nothing but what the mask of an exclusive registration may have. EXCLUSIVE itself is not among
+/// that yet.
+fn is_allowed(mask: Mask) -> bool
+    ensures { result ≡ has_only mask.0 exclusive_bits }
 {
-    let operation = match args.op {
-        1 => Operation::Add,
-        2 => return Some(Operation::Delete),
-        3 => Operation::Modify,
-        _ => return None,
-    };
-    if args.mask.intersects(Mask::EXCLUSIVE) {
-        return None;
+    let errors = Mask::ERR.union(Mask::HUP.union(Mask::WAKEUP.union(Mask::ET)));
+    let allowed = Mask::IN.union(Mask::OUT.union(errors));
+    mask.intersection(allowed).0 == mask.0
+}
+
+/// Whether an addition with this mask and this target is refused for its EXCLUSIVE.
+fn is_refused_addition(tables: &Tables, desc: DescId, mask: Mask) -> bool
+    requires live { IsSome (number_under tables.now desc) }
+    ensures { result ≡ is_refused_exclusive (is_nested_key tables.now desc) mask.0 }
+{
+    mask.intersects(Mask::EXCLUSIVE) && (tables.object(desc).is_instance() || !is_allowed(mask))
+}
+
+/// The operation that is asked for at this target. `None` if its number or the mask isn't accepted. DEL looks at no
+/// mask.
+fn operation_of(tables: &Tables, desc: DescId, args: Control) -> Option<Operation>
+    requires live { IsSome (number_under tables.now desc) }
+    ensures none { IfNone result
+        (is_refused_op (is_nested_key tables.now desc) args.op args.mask.0 ≡ true) }
+    ensures some { IfSome result
+        (λ operation. (args.op ≡ code_of operation)
+        × (is_refused_op (is_nested_key tables.now desc) args.op args.mask.0 ≡ false)) }
+{
+    match args.op {
+        1 => {
+            if is_refused_addition(tables, desc, args.mask) {
+                return None;
+            }
+            Some(Operation::Add)
+        }
+        2 => Some(Operation::Delete),
+        3 => {
+            if args.mask.intersects(Mask::EXCLUSIVE) {
+                return None;
+            }
+            Some(Operation::Modify)
+        }
+        _ => None,
     }
-    Some(operation)
+}
+
+/// Whether a registration is exclusive.
+fn is_exclusive(interest: &Interest, id: EntryId) -> bool
+    requires there { IsSome (number_of_entry interest.now id) }
+    ensures { result
+        ≡ is_exclusive_at interest.now (unwrap_or (number_of_entry interest.now id) 0) }
+{
+    let entry = interest.entry(id);
+    entry.mask.intersects(Mask::EXCLUSIVE)
 }
 
 /// Takes the link of a registration away. Only one of an instance has a link: for any other it looks at no link.
@@ -141,7 +180,8 @@ fn unlink(tables: &Tables, interest: &Interest, graph: &mut Graph, id: EntryId)
     }
 }
 
-/// Deletes or modifies a registration that is there. EEXIST, and it stays, for an addition.
+/// Deletes or modifies a registration that is there. It stays, with EEXIST for an addition, and with EINVAL if it is
+/// exclusive and to be modified.
 fn alter(
     tables: &Tables,
     interest: &mut Interest,
@@ -172,6 +212,9 @@ fn alter(
             Answer::Done
         }
         Operation::Modify => {
+            if is_exclusive(interest, id) {
+                return Answer::Refused(Errno::Einval);
+            }
             interest.modify(id, args.mask, args.tag);
             Answer::Done
         }
@@ -289,7 +332,8 @@ fn enter(
     ensures inline { IfOk result FitsInline }
     ensures real { IfOk result (λ answer. is_no_memory answer ≡ false) }
     ensures last { OnErr result
-        (first (room_refusals (is_add (code_of plan.operation)) false
+        ((exclusive : Bool) → first (room_refusals (is_add (code_of plan.operation))
+        (is_mod (code_of plan.operation)) false exclusive
         (is_deep_at tables.now graph.old plan.named) tables.now.limits.watches
         (length interest.old.entries)) ≡ None) }
     ensures room { plan.has_room ≡ false
@@ -379,9 +423,9 @@ impl Parts {
 
     /// What an epoll_ctl with these arguments is about. If they alone refuse it, its outcome, by the refusal that
     /// comes first: EBADF if a descriptor names nothing, EPERM for a target that can't be polled, EINVAL if
-    /// `epfd` is no instance or both name the same, and EINVAL for an operation or a mask that this version doesn't
-    /// accept. It doesn't ask whether the target is an instance that is ready, and takes it that the kernel has room
-    /// for what it keeps of a registration.
+    /// `epfd` is no instance or both name the same, and EINVAL for an operation or a mask that isn't accepted. It
+    /// doesn't ask whether the target is an instance that is ready, and takes it that the kernel has room for what it
+    /// keeps of a registration.
     pub fn plan(&self, pid: Pid, args: Control) -> Result<Plan, Outcome>
         ensures ok { IfOk result (IsPlan self.now pid.0 args) }
         ensures room { IfOk result (λ plan. plan.has_room ≡ true) }
@@ -396,7 +440,7 @@ impl Parts {
             Ok(named) => named,
             Err(errno) => return Err(Outcome::refused(self.alloc, errno)),
         };
-        let Some(operation) = operation_of(args) else {
+        let Some(operation) = operation_of(&self.tables, named.desc, args) else {
             return Err(Outcome::refused(self.alloc, Errno::Einval));
         };
         let found = self.interest.find(named.instance, args.fd, named.desc);
@@ -410,11 +454,11 @@ impl Parts {
     }
 
     /// Does what an epoll_ctl is about, or answers the refusal that comes first, in this order: ENOENT for MOD and
-    /// DEL of what is not there, EEXIST for ADD of what is, ELOOP if instances would watch each other in a loop or
-    /// in a chain of more than five, and ENOSPC past `watches`. What is added or modified and reportable at once
-    /// raises IN at its instance. It looks at links between instances only if the target is an instance, and at no
-    /// registration of that one. A refusal and an `Err` leave the parts. An `Err` is want of memory, or of the room
-    /// that the plan tells of. It comes only of an ADD that nothing refuses.
+    /// DEL of what is not there, EEXIST for ADD of what is, EINVAL for MOD of an exclusive registration, ELOOP if
+    /// instances would watch each other in a loop or in a chain of more than five, and ENOSPC past `watches`. What is
+    /// added or modified and reportable at once raises IN at its instance. It looks at links between instances only
+    /// if the target is an instance, and at no registration of that one. A refusal and an `Err` leave the parts. An
+    /// `Err` is want of memory, or of the room that the plan tells of. It comes only of an ADD that nothing refuses.
     pub fn control(&mut self, pid: Pid, args: Control, plan: Plan) -> Result<Outcome, AllocError>
         requires plan { IsPlan self.old pid.0 args plan }
         requires below { TellsBelow plan.operation plan.below self.old plan.named.desc }

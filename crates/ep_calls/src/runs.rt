@@ -1,5 +1,6 @@
 //! Lists of events, and what holds after each.
-ghost use Rattle.std.specs.Prelude.{◌≡◌, ℕ, IfOk, OnErr, true};
+ghost use Rattle.std.specs.Prelude.{◌≡◌, ℕ, IfOk, OnErr, false, true};
+ghost use Rattle.ep_machine.specs.Exclusive.{is_guarded};
 ghost use Rattle.ep_machine.specs.Readiness.{is_ready};
 ghost use Rattle.ep_machine.specs.Waits.{is_marked_at, waits_at};
 ghost use Rattle.ep_calls.specs.Acts.{Answers};
@@ -29,10 +30,11 @@ pub fn run<K: Kernel>(
 }
 
 /// No waiter is forgotten: at each instance that is ready and has waiters, one of them is marked, whatever events came
-/// before. A fact for proofs.
+/// before, unless an exclusive registration is in it or in an instance beneath it. A fact for proofs.
 pub fn ready_waiters_are_marked<K: Kernel>(kernel: &K)
     ensures { (instance : ℕ) → waits_at (K.state kernel.now).waiters instance ≡ true
         → is_ready (K.state kernel.now) instance ≡ true
+        → is_guarded (K.state kernel.now) instance ≡ false
         → is_marked_at (K.state kernel.now).waiters instance ≡ true }
 {
     let _past = kernel.history();

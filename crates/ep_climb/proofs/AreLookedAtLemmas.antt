@@ -1,5 +1,9 @@
 -- Which instances an event leaves to be marked: those that it reached, and the one that it attends.
 use Rattle.std.proofs.Common.{◌≡◌, ◌∙◌, ◌+◌, ◌&&◌, ◌||◌, ◌==◌, ◌++◌, ℕ, All, Bool, true, false, IsSome, List, [], ◌∷◌, None, Option, Some, ap, inl, inr, is_some, length, map, refl, slice_index_or, subst, sym, unwrap_or}
+use Rattle.ep_machine.specs.Watches.{is_exclusive}
+use Rattle.ep_machine.specs.Exclusive.{is_guarded}
+use Rattle.ep_law.proofs.GraphLemmas.{exclusive_targets}
+use Rattle.ep_calls.proofs.StepLemmas.{none_guarded}
 use Rattle.std.specs.Int.{bit_at}
 use Rattle.std.specs.List.{find}
 use Rattle.std.specs.Option.{option_map}
@@ -62,7 +66,7 @@ use Rattle.ep_climb.specs.Mark.{AreLookedAt, attended, attends, resumed_at}
 use Rattle.ep_table.specs.Value.{Seen, Sound as SoundTables, number_of, number_under as desc_number}
 use Rattle.ep_view.proofs.AtRestLemmas.{quiet_begun, quiet_change}
 use Rattle.ep_view.proofs.KernelViewLemmas.{ready_kept}
-use Rattle.ep_view.proofs.SettleLemmas.{settle_changed}
+use Rattle.ep_view.proofs.SettleLemmas.{settle_remains}
 use Rattle.ep_view.proofs.WaiterLemmas.{AreApart, any_at, find_at}
 use Rattle.ep_view.specs.AtRest.{can_be_watched, kind_of}
 use Rattle.ep_view.specs.KernelView.{at_number, ready_now}
@@ -271,6 +275,10 @@ module _ (past : List Record) (old mid left : Parts) (keeps : Keeps past old) (c
         ∙ (ap (λ (ready : ℕ → Bool). ready d) (readiness_settled left.tables left.clock left.interest marked.interest refl)
         ∙ (ap (λ (v : Seen). ready_now left.tables.files left.clock (watches_of left.tables left.interest) (number_at v.keys i)) (sym left_tables) ∙ ready)))
 
+    -- no registration is exclusive
+    unguarded : is_guarded s d ≡ false
+    unguarded = none_guarded s (λ x m. elim (cases_Bool (is_exclusive x)) [ inl is ↦ absurd (exclusive_targets old.tables.limits past s x keeps.leads m is).refused | inr isnt ↦ isnt ]) d
+
     abbrev attend : Option DescId
     attend = attends (resumed_at old.parked caller.0 event) outcome.raising
 
@@ -287,7 +295,7 @@ module _ (past : List Record) (old mid left : Parts) (keeps : Keeps past old) (c
     by_reach c allowed is stands as_raised to_end from_below =
         let limits = old.tables.limits in
         let changed = quiet_change limits (next_event s) caller.0 event outcome.picked c (quiet_begun s keeps.quiet) allowed is in
-        let settled_change = settle_changed (next_event s) c.1 c.2 (change_counted limits s caller.0 event outcome.picked c is) changed in
+        let settled_change = settle_remains (next_event s) c.1 c.2 (change_counted limits s caller.0 event outcome.picked c is) changed in
         let begins : s.n + 1 ≡ n = ap (λ (k : ℕ). k + 1) keeps.n ∙ sym at in
         let at_c : c.1.n ≡ n = change_n limits (next_event s) caller.0 event outcome.picked c is ∙ begins in
         let counted : (0 == n) ≡ false = ap (λ (k : ℕ). 0 == k) (sym begins) ∙ after_first s.n in
@@ -319,7 +327,7 @@ module _ (past : List Record) (old mid left : Parts) (keeps : Keeps past old) (c
         let limits = old.tables.limits in
         let stays : t ≡ next_event s = same_state _ outcome.answer _ t (next_event s) (ap (step limits s caller.0 event) (sym r.unpicked) ∙ goes) (refused_step limits s caller.0 event error refused) in
         let was_ready : is_ready s d ≡ true = sym (ready_same s (s.n + 1) s.waiters d) ∙ (ap (λ (u : State). is_ready u d) (sym stays) ∙ ready_now_there) in
-        let mark = ready_marked limits past s d keeps.leads (waits_in (next_event s) r.stands) was_ready in
+        let mark = ready_marked limits past s d keeps.leads (waits_in (next_event s) r.stands) was_ready unguarded in
         absurd (false≢true (sym (unmarked_in (next_event s) r.stands) ∙ mark))
 
     by_change : first (refusals old.tables.limits (next_event s) caller.0 event) ≡ None → (m : Makes (change old.tables.limits (next_event s) caller.0 event outcome.picked) outcome.answer mid)
@@ -332,10 +340,10 @@ module _ (past : List Record) (old mid left : Parts) (keeps : Keeps past old) (c
         let waits_there = waits_in c.1 m.stands in
         let w = waiter_there (λ x. kind_of (object_of c.1.files x.instance) ≡ 1) c.1.waiters d changed.waiting waits_there in
         let here : object_of c.1.files d ≡ Some instance = instance_of_kind (object_of c.1.files d) (ap (λ (k : ℕ). kind_of (object_of c.1.files k)) (sym w.2) ∙ w.1) in
-        elim (reach limits past s caller.0 event outcome.picked c d keeps.leads allowed m.is waits_there (unmarked_in c.1 m.stands) (ap (λ (u : State). is_ready u d) (sym to_end) ∙ ready_now_there)) [
+        elim (reach limits past s caller.0 event outcome.picked c d keeps.leads allowed m.is waits_there (unmarked_in c.1 m.stands) (ap (λ (u : State). is_ready u d) (sym to_end) ∙ ready_now_there) unguarded) [
           | inl from_below ↦ by_reach c allowed m.is m.stands (raises c m.is) to_end from_below
           | inr (inl raised) ↦ by_raising c allowed m.is m.stands (raises c m.is) here raised
-          | inr (inr resumes) ↦ by_resumption resumes
+          | inr (inr resumes) ↦ by_resumption resumes.1
         ]
 
     by_cases : (o : Option Errno) → first (refusals old.tables.limits (next_event s) caller.0 event) ≡ o

@@ -85,7 +85,7 @@ module _ (ready : ℕ → Bool) where
   turn_more [] e ws = refl
   turn_more (x ∷ es) e ws = turn_more es e (longest_marked x ws)
 
-  turn_both : (es fs : List ℕ) (ws : List Waiter) → marked_in_turn (es ++ fs) ws ≡ marked_in_turn fs (marked_in_turn es ws)
+  pub turn_both : (es fs : List ℕ) (ws : List Waiter) → marked_in_turn (es ++ fs) ws ≡ marked_in_turn fs (marked_in_turn es ws)
   turn_both [] fs ws = refl
   turn_both (e ∷ es) fs ws = turn_both es fs (longest_marked e ws)
 
@@ -94,7 +94,7 @@ module _ (ready : ℕ → Bool) where
   by_test es e ws false = ap (λ (ks : List ℕ). marked_in_turn ks ws) (append-nil es)
 
   -- the next one's turn
-  turn_next : (ks : List ℕ) (i e : ℕ) (ws : List Waiter) → i < length ks → slice_get ks i ≡ Some e
+  pub turn_next : (ks : List ℕ) (i e : ℕ) (ws : List Waiter) → i < length ks → slice_get ks i ≡ Some e
       → marked_in_turn (filter ready (take (i + 1) ks)) ws ≡ marked_where ready e (marked_in_turn (filter ready (take i ks)) ws)
   turn_next ks i e ws lt is =
       let before = filter ready (take i ks) in
@@ -103,13 +103,13 @@ module _ (ready : ℕ → Bool) where
       ∙ by_test before e ws (ready e))
 
   -- each of those that are reached, and the one that is attended
-  none_more : (ks : List ℕ) (e : ℕ) → ready e ≡ false → is_among (filter ready ks) e ≡ false
+  pub none_more : (ks : List ℕ) (e : ℕ) → ready e ≡ false → is_among (filter ready ks) e ≡ false
   none_more ks e idle_here = elim (cases_Bool (is_among (filter ready ks) e)) [
     | inl t ↦ absurd (false≢true (sym idle_here ∙ filtered_passes ready ks e (among_member (filter ready ks) e t)))
     | inr f ↦ f
   ]
 
-  names_unmarked : (now : ℕ) (ws : List Waiter) (ks : List ℕ) → ((e : ℕ) → waits_at ws e ≡ true → is_marked_at (map (marked_if_due now) ws) e ≡ false → ready e ≡ true → is_among ks e ≡ true) → NamesUnmarked ready (map (marked_if_due now) ws) (filter ready ks)
+  pub names_unmarked : (now : ℕ) (ws : List Waiter) (ks : List ℕ) → ((e : ℕ) → waits_at ws e ≡ true → is_marked_at (map (marked_if_due now) ws) e ≡ false → ready e ≡ true → is_among ks e ≡ true) → NamesUnmarked ready (map (marked_if_due now) ws) (filter ready ks)
   names_unmarked now ws ks reached = λ e waits none. elim (cases_Bool (ready e)) [
     | inl r ↦ r ∙ sym (among e (filter ready ks) (member_filter ready e ks (among_member ks e (reached e (sym (waits_due ws e) ∙ waits) none r)) r))
     | inr f ↦ f ∙ sym (none_more ks e f)
@@ -150,3 +150,16 @@ marked_all p a b c reached attend due each more are law =
     (sym (turn_both ready (filter ready reached) (filter ready (attended attend)) ws)
     ∙ (ap (λ (es : List ℕ). marked_in_turn es ws) (sym (filter-append ready reached (attended attend)))
     ∙ law (filter ready (reached ++ attended attend)) (names_unmarked ready p.clock p.parked (reached ++ attended attend) are)))
+
+-- both
+pub marked_both : (p b c : Parts) (reached : List ℕ) (attend : Option DescId) → b ≡ with_parked p (marked_in_turn (filter (ready_in p) reached) p.parked)
+    → c ≡ with_parked b (marked_in_turn (filter (ready_in b) (attended attend)) b.parked)
+    → c ≡ with_parked p (marked_in_turn (filter (ready_in p) (reached ++ attended attend)) p.parked)
+marked_both p b c reached attend each more =
+    let ready = ready_in p in
+    let ws = p.parked in
+    let c_is : c ≡ with_parked p (marked_in_turn (filter ready (attended attend)) (marked_in_turn (filter ready reached) ws)) = more ∙ ap (λ (q : Parts). with_parked q (marked_in_turn (filter (ready_in q) (attended attend)) q.parked)) each in
+    c_is
+    ∙ ap (with_parked p)
+    (sym (turn_both ready (filter ready reached) (filter ready (attended attend)) ws)
+    ∙ ap (λ (es : List ℕ). marked_in_turn es ws) (sym (filter-append ready reached (attended attend))))

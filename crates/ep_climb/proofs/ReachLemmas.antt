@@ -99,7 +99,7 @@ module _ (v : Seen) (tables : SoundTables v) (r : Registrations) (sound : IsSoun
       let at = under x.0 (All-contains (IsKeyed r) r.entries x.0 (each_keyed r sound) x.1) (All-contains (IsFound r) r.entries x.0 (each_found r sound) x.1) in
       subst (λ (l : Link). l.outer.0 < w.room) x.2 (roomy (id_of r x.0.number) x.0 at)
 
-  ends_live : (e : ℕ × ℕ) → Contains es e → Lives v e.0 × Lives v e.1
+  pub ends_live : (e : ℕ × ℕ) → Contains es e → Lives v e.0 × Lives v e.1
   ends_live e there =
       let m = Contains-from_map (ends_of Down) (admitted_by lets graph) e there in
       let w = Contains-from_filter (λ (l : Link). lets l.entry.0) graph m.0 m.1 in
@@ -130,7 +130,7 @@ module _ (v : Seen) (tables : SoundTables v) (r : Registrations) (sound : IsSoun
         | false ↦ ap (λ (b : Bool). map (λ (y : KernelWatch). (y.instance, y.target)) (cond b (w ∷ others) others)) (never x.armed (nat_lt 0 (asked x.mask.0 IN))) ∙ rest
       ]
 
-  all_open : open_links v.files watches ≡ map by_number es
+  pub all_open : open_links v.files watches ≡ map by_number es
   all_open =
       open_is r.entries (λ x m. ap lets_in (under x (all_member (IsKeyed r) r.entries x (each_keyed r sound) m) (all_member (IsFound r) r.entries x (each_found r sound) m)))
       ∙ ap (λ (ls : List Link). map by_number (edges (admitted_by lets ls))) (sym nested)
@@ -144,7 +144,7 @@ module _ (v : Seen) (tables : SoundTables v) (r : Registrations) (sound : IsSoun
           let w = Contains-from_filter (λ (l : Link). lets l.entry.0) graph m.0 m.1 in
           subst (Contains (edges graph)) m.2 (Contains-map (ends_of Down) graph m.0 w.0)
 
-    short : IsShort (open_links v.files watches)
+    pub short : IsShort (open_links v.files watches)
     short = subst IsShort (sym all_open) (short_both (number v) (Lives v) (numbers_apart v tables) es ends_live short_edges)
 
     module _ (n : ℕ) (old new : Walk) (walks : Walks n r graph old new) where

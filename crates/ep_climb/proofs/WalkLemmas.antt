@@ -1,5 +1,5 @@
 -- A walk that reaches instances, one after another.
-use Rattle.std.proofs.Common.{◌≡◌, ◌<◌, ◌+◌, ◌++◌, ◌||◌, ◌==◌, ◌⊎◌, ◌↔◌, ◌∙◌, ℕ, suc, Bool, true, false, List, [], ◌∷◌, None, Option, Some, ap, arith, cond, get_or, inl, inr, length, nat_lt, refl, rules, subst, sym, take}
+use Rattle.std.proofs.Common.{◌≡◌, ◌<◌, ◌+◌, ◌++◌, ◌||◌, ◌==◌, ◌⊎◌, ◌↔◌, ◌∙◌, ℕ, suc, Bool, true, false, List, [], ◌∷◌, None, Option, Some, ap, append-nil, append_assoc, arith, cond, get_or, inl, inr, length, nat_lt, refl, rules, subst, sym, take}
 use Rattle.std.proofs.Math.Bool.{or-false, or_assoc}
 use Rattle.std.proofs.lemmas.Bool.{cases_Bool, cases_eq, false≢true}
 use Rattle.std.proofs.lemmas.List.{map_more, take_more}
@@ -22,7 +22,7 @@ use Rattle.ep_nest.specs.declared.link.Link.{Link}
 use Rattle.ep_nest.specs.declared.link.Way.TheVariants.{Down}
 use Rattle.ep_ready.specs.ReadyLists.{entry_id}
 use Rattle.ep_ready.specs.Walk.{Walk, with_reached}
-use Rattle.ep_climb.specs.Reach.{AreHome, AreRoomy, Ascends, AscendsFrom, IsClosed, IsFrom, PassesTo, Reaches, Walks, open_edges, passed_by}
+use Rattle.ep_climb.specs.Reach.{AreHome, AreRoomy, Ascends, AscendsFrom, IsClosed, IsFrom, IsGrown, PassesTo, Reaches, Walks, open_edges, passed_by}
 
 or_cases : (a b : Bool) → (a || b) ≡ true → (a ≡ true) ⊎ (b ≡ true)
 or_cases true b h = inl refl
@@ -35,17 +35,21 @@ pub among_at : (ds : List DescId) (i : ℕ) (d : DescId) → i < length ds → i
 among_at ds i d lt = let k = (get_or ds i d).0 in or_at (λ es. is_among (keys es) k) (λ e. k == e.0) refl (λ e es. refl) ds i d lt (same_nat k)
 
 -- One after another.
+pub not_grown : (ks : List ℕ) → IsGrown ks ks
+not_grown ks = ([], sym (append-nil ks))
+
 pub reaches_none : (w : Walk) → Reaches (λ i. false) w w
-reaches_none w = record { room = refl; each = λ i. sym (or-false (is_among w.reached i)) }
+reaches_none w = record { room = refl; grown = not_grown w.reached; each = λ i. sym (or-false (is_among w.reached i)) }
 
 reaches_both : (f g : ℕ → Bool) (old mid new : Walk) → Reaches f old mid → Reaches g mid new → Reaches (λ i. f i || g i) old new
 reaches_both f g old mid new a b = record {
   room = b.room ∙ a.room;
+  grown = (a.grown.0 ++ b.grown.0, b.grown.1 ∙ (ap (λ (ks : List ℕ). ks ++ b.grown.0) a.grown.1 ∙ append_assoc old.reached a.grown.0 b.grown.0));
   each = λ i. b.each i ∙ (ap (λ (t : Bool). t || g i) (a.each i) ∙ or_assoc (is_among old.reached i) (f i) (g i));
 }
 
 reaches_same : (f g : ℕ → Bool) (old new : Walk) → ((i : ℕ) → f i ≡ g i) → Reaches f old new → Reaches g old new
-reaches_same f g old new same a = record { room = a.room; each = λ i. a.each i ∙ ap (λ (t : Bool). is_among old.reached i || t) (same i) }
+reaches_same f g old new same a = record { room = a.room; grown = a.grown; each = λ i. a.each i ∙ ap (λ (t : Bool). is_among old.reached i || t) (same i) }
 
 pub reaches_one : (w : Walk) (j : ℕ) (new : Walk) → new ≡ with_reached w j → Reaches (λ i. i == j) w new
 reaches_one w j new is = subst (Reaches (λ i. i == j) w) (sym is) (by_case (is_among w.reached j) refl) where
@@ -56,8 +60,8 @@ reaches_one w j new is = subst (Reaches (λ i. i == j) w) (sym is) (by_case (is_
   ]
 
   by_case : (b : Bool) → is_among w.reached j ≡ b → Reaches (λ i. i == j) w (cond b w (record w { reached = w.reached ++ j ∷ [] }))
-  by_case true t = record { room = refl; each = stood t }
-  by_case false f = record { room = refl; each = among_end w.reached j }
+  by_case true t = record { room = refl; grown = not_grown w.reached; each = stood t }
+  by_case false f = record { room = refl; grown = (j ∷ [], refl); each = among_end w.reached j }
 
 pub reaches_next : (ds : List DescId) (i : ℕ) (d : DescId) (old mid new : Walk) → i < length ds → Reaches (is_among (keys (take i ds))) old mid → new ≡ with_reached mid (get_or ds i d).0
     → Reaches (is_among (keys (take (i + 1) ds))) old new
@@ -101,14 +105,14 @@ module _ (es : List (ℕ × ℕ)) where
     pub ascends_early : IsClosed es w.reached → is_among w.reached j ≡ true → (new : Walk) → new ≡ with_reached w j → Ascends es j w new
     ascends_early closed t new is =
         subst (Ascends es j w) (sym (is ∙ ap (λ (b : Bool). cond b w (record w { reached = w.reached ++ j ∷ [] })) t))
-        (record { room = refl; exact = λ i. (λ h. inl h, λ h. back i h) }) where
+        (record { room = refl; grown = not_grown w.reached; exact = λ i. (λ h. inl h, λ h. back i h) }) where
           back : (i : ℕ) → (is_among w.reached i ≡ true) ⊎ IsFrom es i j → is_among w.reached i ≡ true
           back i (inl old) = old
           back i (inr (inl e)) = subst (λ (k : ℕ). is_among w.reached k ≡ true) (sym e) t
           back i (inr (inr up)) = closed i j t up
 
     pub ascends_far : (mid new : Walk) (ks : List ℕ) → mid ≡ with_reached w j → ((i : ℕ) → (is_among ks i ≡ true) ↔ IsAbove es i j) → Reaches (is_among ks) mid new → Ascends es j w new
-    ascends_far mid new ks is above a = record { room = both.room; exact = λ i. (forth i, back i) } where
+    ascends_far mid new ks is above a = record { room = both.room; grown = both.grown; exact = λ i. (forth i, back i) } where
       both : Reaches (λ i. i == j || is_among ks i) w new
       both = reaches_both (λ i. i == j) (is_among ks) w mid new (reaches_one w j mid is) a
 
@@ -151,6 +155,12 @@ module _ (es : List (ℕ × ℕ)) where
     by : (is_among old.reached j ≡ true) ⊎ ((e : DescId) × (o ≡ Some e) × IsFrom es j e.0) → (is_among old.reached i ≡ true) ⊎ ((e : DescId) × (o ≡ Some e) × IsFrom es i e.0)
     by (inl h) = inl (closed i j h up)
     by (inr f) = inr (f.0, f.1, inr (over i j f.0.0 up f.2))
+
+  pub ascends_closed : (k : ℕ) (old new : Walk) → IsClosed es old.reached → Ascends es k old new → IsClosed es new.reached
+  ascends_closed k old new closed a i j t up = (a.exact i).1 (by ((a.exact j).0 t)) where
+    by : (is_among old.reached j ≡ true) ⊎ IsFrom es j k → (is_among old.reached i ≡ true) ⊎ IsFrom es i k
+    by (inl h) = inl (closed i j h up)
+    by (inr f) = inr (inr (over i j k up f))
 
 -- The instance to which a registration passes something on.
 pub passed_of : (n : ℕ) (o : Option Entry) (d : DescId) → passed_by n o ≡ Some d → (x : Entry) × (o ≡ Some x) × ((x.passes_in == n) ≡ true) × (x.instance ≡ d)

@@ -1,5 +1,5 @@
 -- Which instances get a mark at the end of an event.
-use Rattle.std.specs.List.{find}
+use Rattle.std.specs.List.{find, list_any}
 use Rattle.std.specs.Option.{option_map}
 use Rattle.std.specs.Prelude.{Bool, List, None, Option, Some, [], false, if◌then◌else◌, map, true, ℕ, ◌++◌, ◌∷◌, ◌≡◌}
 use Rattle.ep_base.specs.declared.call.Event.{Event}
@@ -23,7 +23,11 @@ abbrev pub resumed_at : List Waiter → ℕ → Event → Option DescId
 resumed_at ws caller Resume = option_map (λ w. record { 0 = w.instance }) (find (is_caller caller) ws)
 resumed_at ws caller event = None
 
--- what an event attends: that instance, or the one at which it raised IN
+-- the same instance, if the caller is not parked
+abbrev pub left_at : List Waiter → ℕ → Option DescId → Option DescId
+left_at ws caller resumed = if list_any (is_caller caller) ws then None else resumed
+
+-- what an event attends: the instance that a caller left, or the one at which it raised IN
 abbrev pub attends : Option DescId → Raising → Option DescId
 attends (Some desc) raising = Some desc
 attends None (Instance desc) = Some desc

@@ -1,6 +1,6 @@
 -- Which instances IN reaches in an event.
 use Rattle.std.specs.List.{Contains}
-use Rattle.std.specs.Prelude.{◌≡◌, ◌<◌, ◌⊎◌, ◌↔◌, ◌==◌, ◌&&◌, ◌||◌, Bool, IsSome, List, None, Option, Some, if◌then◌else◌, is_some, true, ℕ}
+use Rattle.std.specs.Prelude.{◌++◌, ◌≡◌, ◌<◌, ◌⊎◌, ◌↔◌, ◌==◌, ◌&&◌, ◌||◌, Bool, IsSome, List, None, Option, Some, if◌then◌else◌, is_some, true, ℕ}
 use Rattle.ep_base.specs.declared.ids.DescId.{DescId}
 use Rattle.ep_base.specs.declared.ids.EntryId.{EntryId}
 use Rattle.ep_calls.specs.Climb.{is_reached_key}
@@ -38,14 +38,20 @@ AreRoomy r w = (id : EntryId) (x : Entry) → entry_under r id ≡ Some x → x.
 abbrev pub AreHome : List Link → Walk → Type 0
 AreHome ls w = (link : Link) → Contains ls link → link.outer.0 < w.room
 
--- the walk reaches these instances, too
+-- the second list begins with the first
+abbrev pub IsGrown : List ℕ → List ℕ → Type 0
+IsGrown old new = (more : List ℕ) × (new ≡ old ++ more)
+
+-- the walk reaches these instances, too, after those that it had reached
 pub record Reaches (f : ℕ → Bool) (old new : Walk) : Type 0 where
   pub room : new.room ≡ old.room
+  pub grown : IsGrown old.reached new.reached
   pub each : (i : ℕ) → is_among new.reached i ≡ (is_among old.reached i || f i)
 
 -- and this one, with those above it
 pub record Ascends (es : List (ℕ × ℕ)) (j : ℕ) (old new : Walk) : Type 0 where
   pub room : new.room ≡ old.room
+  pub grown : IsGrown old.reached new.reached
   pub exact : (i : ℕ) → (is_among new.reached i ≡ true) ↔ ((is_among old.reached i ≡ true) ⊎ IsFrom es i j)
 
 -- the same, where there is one

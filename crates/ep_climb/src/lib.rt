@@ -8,5 +8,5 @@ mod marking;
 mod reaching;
 
 pub use crate::climbing::{climb, freshen};
-pub use crate::marking::{Readiness, attend, mark, resumed_at};
-pub use crate::reaching::{has_links, reach};
+pub use crate::marking::{Readiness, attend, left, mark, mark_at, mark_due, resumed_at};
+pub use crate::reaching::{ascend, has_links, reach, reach_each};

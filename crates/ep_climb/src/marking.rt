@@ -1,16 +1,14 @@
 //! Marks at the end of an event, at the instances that it reached and at the one that it attends.
-ghost use Rattle.std.specs.Prelude.{◌≡◌, IsSome, filter, map, ℕ};
+ghost use Rattle.std.specs.Prelude.{◌≡◌, ◌++◌, IsSome, filter, map, ℕ};
 ghost use Rattle.ep_calls.specs.Parking.{ready_key};
-ghost use Rattle.ep_climb.specs.Mark.{AreLookedAt, attended, attends, marked_where, resumed_at as resumed};
+ghost use Rattle.ep_climb.specs.Mark.{attended, attends, left_at, marked_where, resumed_at as resumed};
 ghost use Rattle.ep_interest.specs.Registrations.{Registrations};
-ghost use Rattle.ep_machine.specs.Marks.{marked_by};
 ghost use Rattle.ep_machine.specs.Waits.{marked_if_due};
 ghost use Rattle.ep_park.specs.Turns.{marked_in_turn};
 ghost use Rattle.ep_table.specs.Value.{Seen, number_under};
 
 use ep_base::{CallerId, DescId, Event};
 use ep_calls::{Parts, Raising};
-use ep_park::laws::unmarked_in_turn;
 use ep_ready::Walk;
 use std::alloc::Global;
 
@@ -24,13 +22,25 @@ pub fn resumed_at(parts: &Parts, caller: CallerId, event: &Event) -> Option<Desc
     }
 }
 
-/// The instance that an event attends beside those that it reaches: the one at which a caller waited that it resumed,
-/// or the one at which it raised IN. `None` if it did neither.
-pub fn attend(resumed: Option<DescId>, raising: Raising) -> Option<DescId>
-    ensures { result ≡ attends resumed raising }
+/// Of the instance at which a caller waited that an event resumed, whether the caller left it: it is parked no more.
+/// `None` if it still waits, or none was resumed.
+pub fn left(parts: &Parts, caller: CallerId, resumed: Option<DescId>) -> Option<DescId>
+    ensures { result ≡ left_at parts.now.parked caller.0 resumed }
 {
-    if resumed.is_some() {
-        return resumed;
+    let instance = resumed?;
+    if parts.waiters.is_parked(caller) {
+        return None;
+    }
+    Some(instance)
+}
+
+/// The instance that an event attends beside those that it reaches: the one that a caller left, or the one at which it
+/// raised IN. `None` if there is neither.
+pub fn attend(left: Option<DescId>, raising: Raising) -> Option<DescId>
+    ensures { result ≡ attends left raising }
+{
+    if left.is_some() {
+        return left;
     }
     match raising {
         Raising::Instance { desc } => Some(desc),
@@ -40,7 +50,7 @@ pub fn attend(resumed: Option<DescId>, raising: Raising) -> Option<DescId>
 
 /// Marks whoever is due. The cost grows with those that this marks, and not with others.
 #[inline(always)]
-fn mark_due(parts: &mut Parts)
+pub fn mark_due(parts: &mut Parts)
     ensures { parts.new
         ≡ record parts.old { parked = map (marked_if_due parts.old.clock) parts.old.parked } }
 {
@@ -65,7 +75,7 @@ pub trait Readiness {
 /// Marks the caller that waits longest at an instance, if that is ready and none is marked there. Nothing is looked at
 /// if nobody waits or one is marked.
 #[inline(always)]
-fn mark_at<R: Readiness>(parts: &mut Parts, ready: &mut R, instance: DescId)
+pub fn mark_at<R: Readiness>(parts: &mut Parts, ready: &mut R, instance: DescId)
     requires { R.knows ready.old parts.old.tables parts.old.clock parts.old.interest }
     ensures marks { parts.new
         ≡ record parts.old {
@@ -119,9 +129,9 @@ fn mark_attended<R: Readiness>(parts: &mut Parts, ready: &mut R, attend: Option<
     }
 }
 
-/// Sets marks at the end of an event: whoever is due, and of those that wait at a ready instance the longest waiting
-/// one, if none is marked there. `attend` is the instance at which an epoll_ctl raised IN, or at which a caller that
-/// was resumed waited. Only that one and the instances that the event reached are looked at.
+/// Sets marks at what an event wakes: of those that wait at a ready instance the longest waiting one, if none is marked
+/// there. `attend` is the instance at which an epoll_ctl raised IN, or that a caller left. Only that one and the
+/// instances that were reached are looked at. Whoever is due was marked before.
 pub fn mark<R: Readiness>(
     parts: &mut Parts,
     ready: &mut R,
@@ -129,15 +139,14 @@ pub fn mark<R: Readiness>(
     attend: Option<DescId>,
 )
     requires knows { R.knows ready.old parts.old.tables parts.old.clock parts.old.interest }
-    requires looked { AreLookedAt parts.old reached.now.reached attend }
     ensures marks { parts.new.parked
-        ≡ marked_by (ready_key parts.old.tables parts.old.clock parts.old.interest) parts.old.clock
+        ≡ marked_in_turn
+        (filter (ready_key parts.old.tables parts.old.clock parts.old.interest)
+        (reached.now.reached ++ attended attend))
         parts.old.parked }
     ensures others { parts.new ≡ record parts.old { parked = parts.new.parked } }
     ensures knows { R.knows ready.new parts.new.tables parts.new.clock parts.new.interest }
 {
-    unmarked_in_turn();
-    mark_due(parts);
     mark_reached(parts, ready, reached);
     mark_attended(parts, ready, attend);
 }

@@ -31,7 +31,7 @@ fn passed_to(interest: &Interest, id: EntryId, step: u64) -> Option<DescId>
 }
 
 /// Reaches each of these instances.
-fn reach_each(reached: &mut Walk<Global>, instances: &[DescId])
+pub fn reach_each(reached: &mut Walk<Global>, instances: &[DescId])
     requires { (i : ℕ) → is_among (keys instances.now) i ≡ true → i < reached.old.room }
     ensures { Reaches (is_among (keys instances.now)) reached.old reached.new }
 {
@@ -40,9 +40,9 @@ fn reach_each(reached: &mut Walk<Global>, instances: &[DescId])
     }
 }
 
-/// Reaches an instance and those above it to which IN goes on from there. Where it was reached before, so were those.
+/// Reaches an instance and those above it to which IN goes on from there. If it was reached before, so were those.
 #[inline(always)]
-fn ascend(interest: &Interest, graph: &mut Graph, reached: &mut Walk<Global>, instance: DescId)
+pub fn ascend(interest: &Interest, graph: &mut Graph, reached: &mut Walk<Global>, instance: DescId)
     requires closed { IsClosed (open_edges interest.now graph.old) reached.old.reached }
     requires room { instance.0 < reached.old.room }
     requires home { AreHome graph.old reached.old }

@@ -1,5 +1,5 @@
 -- If no instance watches another, no registration is on an instance: what turned has nothing more to ask.
-use Rattle.std.proofs.Common.{◌≡◌, ◌∙◌, ◌⊎◌, [], ℕ, Bool, List, Some, ap, drop, inl, inr, sym, take, true}
+use Rattle.std.proofs.Common.{◌≡◌, ◌∙◌, [], ℕ, Bool, List, Some, ap, drop, inl, inr, sym, take, true}
 use Rattle.std.proofs.lemmas.List.{take-append-drop}
 use Rattle.std.proofs.lemmas.Bool.{false≢true}
 use Rattle.ep_base.specs.declared.ids.EntryId.{EntryId}

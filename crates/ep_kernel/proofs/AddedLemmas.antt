@@ -59,8 +59,8 @@ use Rattle.ep_ready.specs.ReadyLists.{Lists, entry_id, instance_at, list_at}
 use Rattle.ep_table.specs.Value.{number_under as desc_number}
 use Rattle.ep_view.proofs.AtRestLemmas.{quiet_begun, quiet_change, weaken}
 use Rattle.ep_view.proofs.KernelViewLemmas.{reportable_kept}
-use Rattle.ep_view.proofs.SettleLemmas.{settle_changed}
-use Rattle.ep_view.specs.AtRest.{Changed, Settles}
+use Rattle.ep_view.proofs.SettleLemmas.{settle_remains}
+use Rattle.ep_view.specs.AtRest.{Changed, Remains}
 use Rattle.ep_view.specs.KernelView.{KernelWatch, kernel_watch, ready_now, shows}
 use Rattle.ep_law.specs.Sound.{Sound}
 
@@ -178,7 +178,7 @@ module _ (n : ℕ) (event : Event) (outcome : Outcome) (old mid noted buried cli
       let same : x ≡ w.0 = one_number t.watches x w.0 sound.numbers m w.1 (is ∙ sym number_too) in
       ap (kernel_watch t) same ∙ (w.2 ∙ come.is)
 
-  module _ (b : State) (c : Change) (made : StandFor mid c.1) (changed : Changed c.1) (settled_change : Settles c.1 c.2 (settle b c.1 c.2)) (at : c.1.n ≡ n) (counted : (0 == n) ≡ false) (as_raised : AsRaisedIn c.1.files outcome.raising mid.tables mid.clock c.2)
+  module _ (b : State) (c : Change) (made : StandFor mid c.1) (changed : Changed c.1) (settled_change : Remains c.1 c.2 (settle b c.1 c.2)) (at : c.1.n ≡ n) (counted : (0 == n) ≡ false) (as_raised : AsRaisedIn c.1.files outcome.raising mid.tables mid.clock c.2)
       (same_files : (settle b c.1 c.2).files ≡ buried.tables.files) (number : ℕ) (come : HasCome number) where
     -- what comes in the climb
     pub passing : comes_in n buried come.k ≡ true → (w : Watch) × (passes_on_of c w ≡ true) × (w.armed ≡ come.v.armed) × (w.mask ≡ come.v.mask) × (w.target ≡ come.v.target)
@@ -266,7 +266,7 @@ module _ (law : ListsGoOn) (past : List Record) (n : ℕ) (event : Event) (outco
         to_state law past n event outcome old mid noted buried climbed new l0 l1 l2 l3 follows caller at runs does _ outcome.answer c.0 after (end_of before c) (goes law past n event outcome old mid noted buried climbed new l0 l1 l2 l3 follows caller at runs does)
         (step_changed limits before caller.0 event outcome.picked c allowed m.is) in
         let changed = quiet_change limits b caller.0 event outcome.picked c (quiet_begun before runs.keeps.quiet) allowed m.is in
-        let settled_change = settle_changed b c.1 c.2 (change_counted limits before caller.0 event outcome.picked c m.is) changed in
+        let settled_change = settle_remains b c.1 c.2 (change_counted limits before caller.0 event outcome.picked c m.is) changed in
         let at_c : c.1.n ≡ n = change_n limits b caller.0 event outcome.picked c m.is ∙ begins in
         let files = ap (λ (u : State). u.files) (sym ends) ∙ (stands_after law past n event outcome old mid noted buried climbed new l0 l1 l2 l3 follows caller at runs does).files in
         let may = may_be e k on in
@@ -300,7 +300,7 @@ module _ (law : ListsGoOn) (past : List Record) (n : ℕ) (event : Event) (outco
         to_state law past n event outcome old mid noted buried climbed new l0 l1 l2 l3 follows caller at runs does _ outcome.answer _ after b (ap (step limits before caller.0 event) (sym r.unpicked) ∙ goes law past n event outcome old mid noted buried climbed new l0 l1 l2 l3 follows caller at runs does)
         (refused_step limits before caller.0 event error refused) in
         let changed = weaken b quiet in
-        let settled_change = settle_changed b b [] (after_first before.n) changed in
+        let settled_change = settle_remains b b [] (after_first before.n) changed in
         let files = rest_files b quiet ∙ (ap (λ (u : State). u.files) (sym stays) ∙ (stands_after law past n event outcome old mid noted buried climbed new l0 l1 l2 l3 follows caller at runs does).files) in
         elim come.cause [
           | inl comes ↦

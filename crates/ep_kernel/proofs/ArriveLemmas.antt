@@ -30,7 +30,7 @@ use Rattle.ep_machine.specs.State.{Change, State, Watch}
 use Rattle.ep_nest.specs.declared.link.Link.{Link}
 use Rattle.ep_calls.specs.Climb.{is_reached_key}
 use Rattle.ep_ready.specs.ReadyLists.{entry_id}
-use Rattle.ep_view.specs.AtRest.{Changed, Settles}
+use Rattle.ep_view.specs.AtRest.{Changed, Remains}
 use Rattle.ep_view.specs.KernelView.{KernelWatch, carries, freshened, kernel_watch, kernel_watches, reached_now, watches_instance}
 
 -- a number that is the event's or none
@@ -39,7 +39,7 @@ stamped n true h = same_nat n
 stamped n false h = absurd (false≢true h)
 
 module _ (n : ℕ) (raising : Raising) (mid : Parts) (noted : Registrations) (buried : Parts) (leaves : Leaves n raising mid noted buried)
-    (b : State) (c : Change) (stands : StandFor mid c.1) (changed : Changed c.1) (settled : Settles c.1 c.2 (settle b c.1 c.2)) (at : c.1.n ≡ n) (counted : (0 == n) ≡ false)
+    (b : State) (c : Change) (stands : StandFor mid c.1) (changed : Changed c.1) (settled : Remains c.1 c.2 (settle b c.1 c.2)) (at : c.1.n ≡ n) (counted : (0 == n) ≡ false)
     (as_raised : AsRaisedIn c.1.files raising mid.tables mid.clock c.2) (same_files : (settle b c.1 c.2).files ≡ buried.tables.files) (coherent : AreCoherent buried) where
   abbrev keys : List (Option ℕ)
   keys = buried.tables.keys

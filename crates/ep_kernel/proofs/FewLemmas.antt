@@ -58,8 +58,8 @@ use Rattle.ep_order.specs.Event.{ListsGoOn, end_of}
 use Rattle.ep_ready.specs.ReadyLists.{Lists, entry_id, instance_at, list_at}
 use Rattle.ep_table.specs.Value.{number_under as desc_number}
 use Rattle.ep_view.proofs.AtRestLemmas.{quiet_begun, quiet_change}
-use Rattle.ep_view.proofs.SettleLemmas.{settle_changed}
-use Rattle.ep_view.specs.AtRest.{AtRest, Changed, Settles}
+use Rattle.ep_view.proofs.SettleLemmas.{settle_remains}
+use Rattle.ep_view.specs.AtRest.{AtRest, Changed, Remains}
 use Rattle.ep_view.specs.KernelView.{KernelWatch, kernel_watch}
 use Rattle.ep_law.specs.Sound.{Sound}
 
@@ -79,7 +79,7 @@ from_not false h = refl
 -- what a report leaves of the list of its instance e
 module _ (n : ℕ) (event : Event) (outcome : Outcome) (old mid noted buried climbed new : Parts) (l0 l1 l2 l3 : Lists) (follows : Follows n event outcome old mid noted buried climbed new l0 l1 l2 l3) (s t : State)
     (rest : AtRest s) (sound : Sound s) (begins : s.n + 1 ≡ n) (legal : is_legal (links s) ≡ true) (stands_before : StandFor old s) (stands_after : StandFor (settled n event outcome old mid noted buried climbed new l0 l1 l2 l3 follows) t)
-    (c : Change) (made : StandFor mid c.1) (ends : t ≡ end_of s c) (changed : Changed c.1) (settled_change : Settles c.1 c.2 (end_of s c)) (at : c.1.n ≡ n) (counted : (0 == n) ≡ false) (as_raised : AsRaisedIn c.1.files outcome.raising mid.tables mid.clock c.2)
+    (c : Change) (made : StandFor mid c.1) (ends : t ≡ end_of s c) (changed : Changed c.1) (settled_change : Remains c.1 c.2 (end_of s c)) (at : c.1.n ≡ n) (counted : (0 == n) ≡ false) (as_raised : AsRaisedIn c.1.files outcome.raising mid.tables mid.clock c.2)
     (e : ℕ) (report : IsReport (next_event s) e outcome.picked c) (live : is_live t.files e ≡ true) where
   abbrev b : State
   b = next_event s
@@ -227,7 +227,7 @@ module _ (law : ListsGoOn) (past : List Record) (n : ℕ) (event : Event) (outco
         to_state law past n event outcome old mid noted buried climbed new l0 l1 l2 l3 follows caller at runs does _ outcome.answer c.0 after (end_of s c) (goes law past n event outcome old mid noted buried climbed new l0 l1 l2 l3 follows caller at runs does)
         (step_changed limits s caller.0 event outcome.picked c allowed m.is) in
         let changed = quiet_change limits b caller.0 event outcome.picked c (quiet_begun s runs.keeps.quiet) allowed m.is in
-        let settled_change = settle_changed b c.1 c.2 (change_counted limits s caller.0 event outcome.picked c m.is) changed in
+        let settled_change = settle_remains b c.1 c.2 (change_counted limits s caller.0 event outcome.picked c m.is) changed in
         let begins : s.n + 1 ≡ n = ap (λ (j : ℕ). j + 1) runs.keeps.n ∙ sym at in
         let at_c : c.1.n ≡ n = change_n limits b caller.0 event outcome.picked c m.is ∙ begins in
         let counted : (0 == n) ≡ false = ap (λ (j : ℕ). 0 == j) (sym begins) ∙ after_first s.n in

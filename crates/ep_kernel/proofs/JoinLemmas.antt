@@ -48,7 +48,7 @@ use Rattle.ep_machine.specs.State.{Change, Watch}
 use Rattle.ep_machine.specs.Step.{next_event}
 use Rattle.ep_order.specs.Event.{EndsReportable, IsAltered, Relists, end_of}
 use Rattle.ep_view.proofs.KernelViewLemmas.{reportable_kept}
-use Rattle.ep_view.specs.AtRest.{Changed, Settles as SettlesChange}
+use Rattle.ep_view.specs.AtRest.{Changed, Remains}
 use Rattle.ep_view.specs.KernelView.{KernelWatch, carries, kernel_watch, reached_now, ready_now, shows}
 use Rattle.ep_ready.specs.ReadyLists.{IsSound as AreSoundLists, Lists, entry_id, instance_at, list_at, stands, stands_by}
 use Rattle.ep_table.specs.Value.{Sound as SoundTables, number_under as desc_number}
@@ -310,7 +310,7 @@ module _ (n : ℕ) (event : Event) (outcome : Outcome) (old mid noted buried cli
           ]
 
       -- after a change that is not refused
-      module _ (c : Change) (made : StandFor mid c.1) (ends : t ≡ end_of s c) (changed : Changed c.1) (settled_change : SettlesChange c.1 c.2 (end_of s c)) (at : c.1.n ≡ n) (counted : (0 == n) ≡ false) (as_raised : AsRaisedIn c.1.files outcome.raising mid.tables mid.clock c.2) where
+      module _ (c : Change) (made : StandFor mid c.1) (ends : t ≡ end_of s c) (changed : Changed c.1) (settled_change : Remains c.1 c.2 (end_of s c)) (at : c.1.n ≡ n) (counted : (0 == n) ≡ false) (as_raised : AsRaisedIn c.1.files outcome.raising mid.tables mid.clock c.2) where
         same_files : (end_of s c).files ≡ buried.tables.files
         same_files = ap (λ (u : State). u.files) (sym ends) ∙ stands_after.files
 

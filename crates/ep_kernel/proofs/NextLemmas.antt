@@ -43,7 +43,7 @@ use Rattle.ep_calls.proofs.KeyLemmas.{under_key}
 use Rattle.ep_interest.specs.Registrations.{number_under}
 use Rattle.ep_table.specs.Value.{number_under as desc_number}
 use Rattle.ep_view.proofs.AtRestLemmas.{quiet_begun, quiet_change}
-use Rattle.ep_view.proofs.SettleLemmas.{settle_changed}
+use Rattle.ep_view.proofs.SettleLemmas.{settle_remains}
 
 -- An order behind whose end nothing reportable comes.
 member_either : (x : ℕ) (xs ys : List ℕ) → Member x (xs ++ ys) → Member x xs ⊎ Member x ys
@@ -165,7 +165,7 @@ module _ (law : ListsGoOn) (past : List Record) (n : ℕ) (event : Event) (outco
         let c = m.made in
         let ends : t ≡ end_of s c = to_state _ outcome.answer c.0 t (end_of s c) goes (step_changed limits s caller.0 event outcome.picked c allowed m.is) in
         let changed = quiet_change limits (next_event s) caller.0 event outcome.picked c (quiet_begun s runs.keeps.quiet) allowed m.is in
-        let settled_change = settle_changed (next_event s) c.1 c.2 (change_counted limits s caller.0 event outcome.picked c m.is) changed in
+        let settled_change = settle_remains (next_event s) c.1 c.2 (change_counted limits s caller.0 event outcome.picked c m.is) changed in
         let begins : s.n + 1 ≡ n = ap (λ (k : ℕ). k + 1) runs.keeps.n ∙ sym at in
         let at_c : c.1.n ≡ n = change_n limits (next_event s) caller.0 event outcome.picked c m.is ∙ begins in
         let counted : (0 == n) ≡ false = ap (λ (k : ℕ). 0 == k) (sym begins) ∙ after_first s.n in

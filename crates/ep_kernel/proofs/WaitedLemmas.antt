@@ -32,8 +32,9 @@ use Rattle.ep_machine.specs.Watches.{is_legal, links}
 use Rattle.ep_order.proofs.PickLemmas.{all_found, found_one}
 use Rattle.ep_view.proofs.ClimbLemmas.{zero_asked}
 use Rattle.ep_view.proofs.KernelViewLemmas.{reportables_kept}
-use Rattle.ep_view.proofs.SettleLemmas.{dying_test, settle_changed, settled_quiet}
-use Rattle.ep_view.specs.AtRest.{AtRest, Changed, Settles, kind_of}
+use Rattle.ep_view.proofs.SettleLemmas.{dying_test, settle_remains, settled_quiet}
+use Rattle.ep_view.specs.AtRest.{AtRest, Changed, Remains, kind_of}
+use Rattle.ep_view.specs.Marking.{guarded_now}
 use Rattle.ep_view.specs.KernelView.{KernelWatch, freshened, kernel_watches, ready_now, settled_watches, shows_in, stays_in}
 
 -- Chains of instances.
@@ -202,7 +203,7 @@ module _ (b : State) (rest : AtRest b) (counted : (0 == b.n) ≡ false) (ks : Li
 
   -- with the marks that it would have with the waiters of before
   abbrev u : State
-  u = record b { watches = left.watches; waiters = marked_by (ready_now b.files b.now (kernel_watches b left.watches)) b.now b.waiters }
+  u = record b { watches = left.watches; waiters = marked_by (λ e. ready_now b.files b.now (kernel_watches b left.watches) e && not (guarded_now (kernel_watches b left.watches) e)) b.now b.waiters }
 
   module _ (changed : Changed left) (all : (d : ℕ) → is_live b.files d ≡ true → is_among (named left) d ≡ true) where
     abbrev pub end : State
@@ -210,7 +211,7 @@ module _ (b : State) (rest : AtRest b) (counted : (0 == b.n) ≡ false) (ks : Li
 
     at_rest : AtRest u
     at_rest =
-        let ready = ready_now b.files b.now (kernel_watches b left.watches) in
+        let ready : ℕ → Bool = λ e. ready_now b.files b.now (kernel_watches b left.watches) e && not (guarded_now (kernel_watches b left.watches) e) in
         record {
           now = rest.now;
           placed = rest.placed;
@@ -229,8 +230,8 @@ module _ (b : State) (rest : AtRest b) (counted : (0 == b.n) ≡ false) (ks : Li
     abbrev settled_by : List (ℕ × Place) → Files → List KernelWatch
     settled_by dead files = settled_watches b.n files (freshened b.n (die_all (b.files, []) dead).1) (filter (stays_in files) (kernel_watches b left.watches))
 
-    settles : Settles left [] end
-    settles = settle_changed b left [] counted changed
+    settles : Remains left [] end
+    settles = settle_remains b left [] counted changed
 
     pub same_files : end.files ≡ b.files
     same_files = settles.files ∙ ap (λ (xs : List (ℕ × Place)). (die_all (b.files, []) xs).0) none_dies

@@ -10,7 +10,8 @@ use crate::asked::Asked;
 use crate::readiness::is_ready;
 use ep_base::DescId;
 use ep_calls::Parts;
-use ep_climb::Readiness;
+use ep_climb::{Readiness, mark_due};
+use ep_park::laws::unmarked_in_turn;
 use ep_ready::Walk;
 use std::alloc::Global;
 
@@ -36,5 +37,7 @@ pub fn mark(parts: &mut Parts, reached: &Walk<Global>, asked: &mut Asked, attend
     ensures hopes { HopesFor parts.old asked.new.hopes }
 {
     asked.forget();
+    unmarked_in_turn();
+    mark_due(parts);
     ep_climb::mark(parts, asked, reached, attend);
 }

@@ -20,8 +20,9 @@ use crate::dating::Dating;
 use ep_alarms::{Alarms, burial_leaves_alarms};
 use ep_base::DescId;
 use ep_calls::{Parts, Raising};
-use ep_climb::{climb, mark};
+use ep_climb::{climb, mark, mark_due};
 use ep_dates::drop_dying;
+use ep_park::laws::unmarked_in_turn;
 
 /// Does nothing. What holds of the parts between calls, with their registrations; a fact for proofs.
 pub fn know(parts: &Parts)
@@ -90,6 +91,8 @@ pub fn rest(parts: &mut Parts, dating: &Dating, attend: Option<DescId>)
     let mut by_dates = ByDates {
         dates: &dating.dates,
     };
+    unmarked_in_turn();
+    mark_due(parts);
     mark(parts, &mut by_dates, &dating.reached, attend);
     parts.forget_passed();
 }

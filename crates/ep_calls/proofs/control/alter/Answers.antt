@@ -13,8 +13,8 @@ returns-in-Delete-clause-nested c = λ tables nested.
     ∙ (ap (without c.args.id.0) nested
     ∙ links_removed (is_nested tables) r c.known.ensures c.args.id c.requires.there c.remove.new.self c.known-in-Delete.ensures c.remove.ensures.entries c.remove.ensures.keys)
 
-pub returns-in-Modify-clause-nested : goal.returns-in-Modify-clause-nested
-returns-in-Modify-clause-nested c = λ tables nested.
+pub returns-else-is_exclusive-clause-nested : goal.returns-else-is_exclusive-clause-nested
+returns-else-is_exclusive-clause-nested c = λ tables nested.
     let r = c.args.interest.now in
     nested
     ∙ (sym (links_modified r tables (unwrap_or (number_under r c.args.id) 0) c.args.args.mask c.args.args.tag r.entries)

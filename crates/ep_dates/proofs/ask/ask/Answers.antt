@@ -3,10 +3,9 @@ use Rattle.std.proofs.lemmas.Bool.Decides.{nat_tests}
 use Rattle.ep_calls.proofs.EntryLemmas.{holds_under}
 use Rattle.ep_calls.specs.Parts.{Parts}
 use Rattle.ep_calls.specs.Stands.{IsLinked}
-use Rattle.ep_calls.specs.Readiness.{entry_shows}
-use Rattle.ep_dates.proofs.AskLemmas.{alike, asked_begun, asked_ended, asked_idle, asked_nothing, asked_same, other_truth, same_truth, shows_told, unlike}
-use Rattle.ep_dates.specs.Ask.{Asks, shows_by, shows_over}
-use Rattle.ep_dates.specs.Dates.{is_dated, is_ready}
+use Rattle.ep_dates.proofs.AskLemmas.{alike, asked_begun, asked_ended, asked_idle, asked_nothing, asked_same, other_truth, same_truth, unlike}
+use Rattle.ep_dates.specs.Ask.{Asks}
+use Rattle.ep_dates.specs.Dates.{is_dated}
 use Rattle.ep_interest.specs.Registrations.{IsSound, entry_under}
 use Rattle.ep_table.specs.Value.{number_under}
 use Rattle.ep_dates.proofs.ask.ask.Goals as goal

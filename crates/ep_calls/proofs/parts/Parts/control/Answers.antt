@@ -64,7 +64,7 @@ returns-in-Some-clause-ok c = λ n caller.
     rw (← c.self.view_is) (ctl_does p new c.alter-answer.new.graph pid a c.alter-answer.result c.controlled.result e.answer e.picked
     (subst (λ (q : Raising). IsRaising q v) (sym e.raising) (lives_if v k.clock new c.args.plan.named a.fd (is_done c.alter-answer.result) plan.names.instance_lives)) n caller (λ s at sound quiet legal stands.
     let goes = goes_altered c.alter-answer.new.graph limits v r s pid a c.args.plan.named plan.names c.known.ensures k.clock stands h.linked (is_deep limits s pid a.epfd.0 a.op a.fd.0 a.mask.0) refl number found
-    (has_number r c.args.plan.named.instance a.fd c.args.plan.named.desc number c.known-2.ensures found f.entry) plan.accepted n caller c.args.plan.operation new c.alter-answer.result plan.code c.alter-answer.ensures.alters in
+    (has_number r c.args.plan.named.instance a.fd c.args.plan.named.desc number c.known-2.ensures found f.entry) plan.accepted c.known-2.ensures.rises n caller c.args.plan.operation new c.alter-answer.result plan.code c.alter-answer.ensures.alters in
     (goes.0, goes.1 c.controlled.result.raising e.raising)))
 
 pub invariant_of-self-in-None : goal.invariant_of-self-in-None
