@@ -1,0 +1,13 @@
+pub mod AboveLemmas
+pub mod ChoiceLemmas
+pub mod KeepLemmas
+pub mod NarrowLemmas
+pub mod TargetLemmas
+pub mod WalkLemmas
+pub mod GatherLemmas
+pub mod ClimbLemmas
+pub mod LooseLemmas
+pub mod GuardedLemmas
+pub mod LosingLemmas
+pub mod MarkingLemmas
+pub mod GetsLemmas

@@ -1,0 +1,76 @@
+-- What is above by all links, and marks there.
+use Rattle.std.proofs.Common.{◌≡◌, ◌∙◌, ◌+◌, ◌<◌, ◌&&◌, ◌||◌, ◌==◌, ◌⊎◌, Bool, List, [], ◌∷◌, Some, ap, false, filter, get_or, if◌then◌else◌, inl, inr, length, not, refl, slice_get, subst, sym, take, true, ℕ}
+use Rattle.std.proofs.lemmas.Bool.{false≢true}
+use Rattle.std.proofs.lemmas.List.{take_more}
+use Rattle.std.proofs.lemmas.List.Recursion.{or_push}
+use Rattle.ep_calls.specs.Parts.{Parts}
+use Rattle.ep_choice.proofs.WalkLemmas.{at_place}
+use Rattle.ep_choice.specs.Guarded.{guarded_key}
+use Rattle.ep_choice.specs.Lost.{AreAbove, is_loose, marked_loose}
+use Rattle.ep_climb.proofs.MarkLemmas.{ready_in, turn_next, with_parked}
+use Rattle.ep_climb.specs.Mark.{marked_where}
+use Rattle.ep_climb.specs.Reach.{Ascends, IsFrom}
+use Rattle.ep_law.proofs.NarrowLemmas.{either_or}
+use Rattle.ep_law.proofs.TestLemmas.{from_test, or_left, or_right, same_nat}
+use Rattle.ep_machine.specs.Lists.{is_among}
+use Rattle.ep_nest.specs.Links.{admitted_by}
+use Rattle.ep_nest.specs.declared.link.Link.{Link}
+use Rattle.ep_park.specs.Turns.{marked_in_turn}
+use Rattle.ep_park.specs.Waiters.{longest_marked}
+use Rattle.ep_ready.specs.Walk.{Walk}
+
+pub admitted_all : (ls : List Link) → admitted_by (λ k. true) ls ≡ ls
+admitted_all [] = refl
+admitted_all (l ∷ ls) = ap (λ (ks : List Link). l ∷ ks) (admitted_all ls)
+
+-- What is above these, once some were gone through.
+module _ (es : List (ℕ × ℕ)) where
+  pub above_none : (w : Walk) → w.reached ≡ [] → AreAbove es [] w.reached
+  above_none w none e = (λ t. absurd (false≢true (sym (ap (λ (ks : List ℕ). is_among ks e) none) ∙ t)), λ h. absurd (false≢true h.1))
+
+  pub above_next : (ks : List ℕ) (i k : ℕ) (mid new : Walk) → i < length ks → slice_get ks i ≡ Some k → AreAbove es (take i ks) mid.reached → Ascends es k mid new → AreAbove es (take (i + 1) ks) new.reached
+  above_next ks i k mid new lt is above a e = (λ t. to ((a.exact e).0 t), from) where
+    among_more : (j : ℕ) → is_among (take (i + 1) ks) j ≡ (is_among (take i ks) j || j == k)
+    among_more j =
+        ap (λ (xs : List ℕ). is_among xs j) (take_more ks i 0 lt)
+        ∙ (or_push (λ (xs : List ℕ). is_among xs j) (λ x. j == x) refl (λ x xs. refl) (take i ks) (get_or ks i 0)
+        ∙ ap (λ (m : ℕ). is_among (take i ks) j || j == m) (at_place ks i k is))
+
+    to : (is_among mid.reached e ≡ true) ⊎ IsFrom es e k → (j : ℕ) × (is_among (take (i + 1) ks) j ≡ true) × IsFrom es e j
+    to (inl old) = let h = (above e).0 old in (h.0, among_more h.0 ∙ or_left (is_among (take i ks) h.0) (h.0 == k) h.1, h.2)
+    to (inr up) = (k, among_more k ∙ or_right (is_among (take i ks) k) (k == k) (same_nat k), up)
+
+    from : (j : ℕ) × (is_among (take (i + 1) ks) j ≡ true) × IsFrom es e j → is_among new.reached e ≡ true
+    from h = elim (either_or (is_among (take i ks) h.0) (h.0 == k) (sym (among_more h.0) ∙ h.1)) [
+      | inl before ↦ (a.exact e).1 (inl ((above e).1 (h.0, before, h.2)))
+      | inr here ↦ (a.exact e).1 (inr (subst (λ (n : ℕ). IsFrom es e n) (from_test h.0 k here) h.2))
+    ]
+
+-- A guarded instance is not loose, and another is where it is ready.
+and_false : (a : Bool) → (a && false) ≡ false
+and_false true = refl
+and_false false = refl
+
+and_true : (a : Bool) → (a && true) ≡ a
+and_true true = refl
+and_true false = refl
+
+pub guarded_still : (p : Parts) (e : ℕ) → guarded_key p.tables p.interest e ≡ true → p ≡ with_parked p (marked_loose p e p.parked)
+guarded_still p e h = ap (λ (b : Bool). with_parked p (if b then longest_marked e p.parked else p.parked)) (sym (ap (λ (b : Bool). ready_in p e && not b) h ∙ and_false (ready_in p e)))
+
+pub unguarded_marked : (p mid new : Parts) (e : ℕ) → mid ≡ p → new ≡ with_parked mid (marked_where (ready_in mid) e mid.parked) → guarded_key p.tables p.interest e ≡ false → new ≡ with_parked p (marked_loose p e p.parked)
+unguarded_marked p mid new e same is h =
+    is
+    ∙ (ap (λ (q : Parts). with_parked q (marked_where (ready_in q) e q.parked)) same
+    ∙ ap (λ (b : Bool). with_parked p (if b then longest_marked e p.parked else p.parked)) (sym (ap (λ (b : Bool). ready_in p e && not b) h ∙ and_true (ready_in p e))))
+
+-- once the first i of these had their turn
+pub record HadLoose (old : Parts) (ks : List ℕ) (i : ℕ) (new : Parts) : Type 0 where
+  pub is : new ≡ with_parked old (marked_in_turn (filter (is_loose old) (take i ks)) old.parked)
+
+pub loose_on : (old : Parts) (ks : List ℕ) (i e : ℕ) (mid new : Parts) → HadLoose old ks i mid → i < length ks → slice_get ks i ≡ Some e → new ≡ with_parked mid (marked_loose mid e mid.parked) → HadLoose old ks (i + 1) new
+loose_on old ks i e mid new h lt at is = record {
+  is = is
+      ∙ (ap (λ (p : Parts). with_parked p (marked_loose p e p.parked)) h.is
+      ∙ ap (with_parked old) (sym (turn_next (is_loose old) ks i e old.parked lt at)));
+}

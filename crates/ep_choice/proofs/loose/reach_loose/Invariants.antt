@@ -1,0 +1,13 @@
+use Rattle.std.proofs.Common.{◌≡◌, take}
+use Rattle.ep_choice.specs.Lost.{AreAbove}
+use Rattle.ep_climb.specs.Reach.{IsClosed}
+use Rattle.ep_nest.specs.Links.{edges}
+use Rattle.ep_choice.proofs.loose.reach_loose.Given as goal
+
+abbrev pub invariant-loop-index : goal.invariant-loop-index
+invariant-loop-index l = record {
+  inside : l.parts-inside ≡ l.initial.parts-inside;
+  room : l.reached.room ≡ l.fn.reached.room;
+  closed : IsClosed (edges l.initial.parts-inside.graph) l.reached.reached;
+  above : AreAbove (edges l.initial.parts-inside.graph) (take l.index l.lost.reached) l.reached.reached;
+}

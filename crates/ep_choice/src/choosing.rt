@@ -1,0 +1,154 @@
+//! The first of the exclusive registrations on a target that finds somebody.
+ghost use Rattle.std.specs.Prelude.{◌≡◌, ◌<◌, [], IsSome, false, take};
+ghost use Rattle.std.specs.List.{list_any};
+ghost use Rattle.ep_choice.specs.Choose.{AreCandidates, AreKeys, HasKeys, HaveInstances, awaited_key, chosen_number, finds_key, with_candidate};
+ghost use Rattle.ep_climb.specs.Reach.{AreLive, AreRoomy, IsClosed, IsGrown, open_edges};
+ghost use Rattle.ep_interest.specs.Registrations.{number_under as number_of_entry};
+ghost use Rattle.ep_table.specs.Value.{number_under};
+
+use ep_base::{DescId, EntryId};
+use ep_calls::Parts;
+use ep_climb::{Readiness, ascend};
+use ep_interest::{Entry, Interest};
+use ep_ready::Walk;
+use std::alloc::Global;
+
+/// Whether an instance is ready and somebody waits there, and nobody who does is marked.
+fn is_awaited<R: Readiness>(parts: &Parts, ready: &mut R, instance: DescId) -> bool
+    requires live { IsSome (number_under parts.now.tables instance) }
+    requires knows { R.knows ready.old parts.now.tables parts.now.clock parts.now.interest }
+    ensures exact { result
+        ≡ awaited_key parts.now.tables parts.now.clock parts.now.interest parts.now.parked
+        instance.0 }
+    ensures knows { R.knows ready.new parts.now.tables parts.now.clock parts.now.interest }
+{
+    if !parts.waiters.has_waiter(instance) {
+        return false;
+    }
+    if parts.waiters.has_mark(instance) {
+        return false;
+    }
+    ready.is_ready(parts, instance)
+}
+
+/// Whether one of the instances that a walk reached is. The first `asked` of them were asked in vain.
+fn is_any_awaited<R: Readiness>(
+    parts: &Parts,
+    ready: &mut R,
+    reached: &Walk<Global>,
+    asked: usize,
+) -> bool
+    requires live { AreLive parts.now.tables reached.now.reached }
+    requires asked { list_any
+        (awaited_key parts.now.tables parts.now.clock parts.now.interest parts.now.parked)
+        (take asked reached.now.reached)
+        ≡ false }
+    requires knows { R.knows ready.old parts.now.tables parts.now.clock parts.now.interest }
+    ensures exact { result
+        ≡ list_any
+        (awaited_key parts.now.tables parts.now.clock parts.now.interest parts.now.parked)
+        reached.now.reached }
+    ensures knows { R.knows ready.new parts.now.tables parts.now.clock parts.now.interest }
+{
+    for index in asked..reached.count() {
+        if is_awaited(parts, ready, DescId(reached.at(index))) {
+            return true;
+        }
+    }
+    false
+}
+
+/// Notes the key of an exclusive registration, if that passes something of this event on.
+fn gather_one(candidates: &mut Walk<Global>, id: EntryId, entry: &Entry, step: u64)
+    requires { id.0 < candidates.old.room }
+    ensures { candidates.new ≡ with_candidate step (id, entry.now) candidates.old }
+{
+    if entry.passes_in == step {
+        candidates.reach(id.0);
+    }
+}
+
+/// Finds the exclusive registrations on a description that pass something of this event on, by their keys.
+fn gather(interest: &Interest, candidates: &mut Walk<Global>, target: DescId, step: u64)
+    requires none { candidates.old.reached ≡ [] }
+    requires room { HasKeys interest.now candidates.old }
+    ensures room { candidates.new.room ≡ candidates.old.room }
+    ensures sound { AreKeys interest.now candidates.new.reached }
+    ensures exact { AreCandidates interest.now target step candidates.new.reached }
+{
+    interest.known();
+    for (id, entry) in interest.exclusive_watchers(target) {
+        gather_one(candidates, id, entry, step);
+    }
+}
+
+/// Reaches the instance of a registration, and those above it to which IN goes on from there. What was reached before
+/// was asked in vain.
+fn climb_from(parts: &mut Parts, reached: &mut Walk<Global>, id: EntryId)
+    requires there { IsSome (number_of_entry parts.old.interest id) }
+    requires instances { HaveInstances parts.old }
+    requires room { AreRoomy parts.old.interest reached.old }
+    requires closed { IsClosed (open_edges parts.old.interest parts.old.graph) reached.old.reached }
+    requires live { AreLive parts.old.tables reached.old.reached }
+    requires vain { list_any
+        (awaited_key parts.old.tables parts.old.clock parts.old.interest parts.old.parked)
+        reached.old.reached
+        ≡ false }
+    ensures parts { parts.new ≡ parts.old }
+    ensures room { reached.new.room ≡ reached.old.room }
+    ensures grown { IsGrown reached.old.reached reached.new.reached }
+    ensures closed { IsClosed (open_edges parts.old.interest parts.old.graph) reached.new.reached }
+    ensures live { AreLive parts.old.tables reached.new.reached }
+    ensures exact { list_any
+        (awaited_key parts.old.tables parts.old.clock parts.old.interest parts.old.parked)
+        reached.new.reached
+        ≡ finds_key parts.old.tables parts.old.clock parts.old.interest parts.old.parked id.0 }
+{
+    parts.known();
+    parts.interest.known();
+    parts.graph.known();
+    let instance = parts.interest.entry(id).instance;
+    ascend(&parts.interest, &mut parts.graph, reached, instance);
+}
+
+/// The number of the first exclusive registration on a description that passes something of this event on and finds
+/// somebody: an instance, its own or one above that to which IN goes on from there, that is ready and has waiters, none
+/// of them marked. It takes no memory. Its time grows with the registrations on the description, and with the instances
+/// of those that pass something on and what is above them; each is asked once.
+pub fn choose<R: Readiness>(
+    parts: &mut Parts,
+    ready: &mut R,
+    reached: &mut Walk<Global>,
+    candidates: &mut Walk<Global>,
+    target: DescId,
+    step: u64,
+) -> Option<u64>
+    requires live { IsSome (number_under parts.old.tables target) }
+    requires instances { HaveInstances parts.old }
+    requires room { AreRoomy parts.old.interest reached.old }
+    requires keys { HasKeys parts.old.interest candidates.old }
+    requires knows { R.knows ready.old parts.old.tables parts.old.clock parts.old.interest }
+    ensures parts { parts.new ≡ parts.old }
+    ensures room { reached.new.room ≡ reached.old.room }
+    ensures keys { candidates.new.room ≡ candidates.old.room }
+    ensures knows { R.knows ready.new parts.old.tables parts.old.clock parts.old.interest }
+    ensures exact { result
+        ≡ chosen_number parts.old.tables parts.old.clock parts.old.interest parts.old.parked step
+        target }
+{
+    parts.known();
+    parts.interest.known();
+    candidates.forget();
+    reached.forget();
+    gather(&parts.interest, candidates, target, step);
+    for index in 0..candidates.count() {
+        let id = EntryId(candidates.at(index));
+        let asked = reached.count();
+        climb_from(parts, reached, id);
+        if is_any_awaited(parts, ready, reached, asked) {
+            let number = parts.interest.entry(id).number;
+            return Some(number);
+        }
+    }
+    None
+}

@@ -1,0 +1,97 @@
+//! Marks at instances that have lost a guard.
+ghost use Rattle.std.specs.Prelude.{◌≡◌, ◌<◌, [], List, filter, ℕ};
+ghost use Rattle.ep_choice.specs.Choose.{HaveInstances};
+ghost use Rattle.ep_choice.specs.Lost.{AreAbove, is_loose, marked_loose};
+ghost use Rattle.ep_choice.specs.Room.{HaveRoom};
+ghost use Rattle.ep_climb.specs.Reach.{Ascends, AreHome, AreRoomy, IsClosed};
+ghost use Rattle.ep_nest.specs.Links.{edges};
+ghost use Rattle.ep_park.specs.Turns.{marked_in_turn};
+
+use crate::guarded::is_guarded;
+use ep_base::{DescId, EntryId};
+use ep_calls::Parts;
+use ep_climb::{Readiness, mark_at, reach_each};
+use ep_nest::Graph;
+use ep_ready::Walk;
+use std::alloc::Global;
+
+/// Reaches an instance and those above it, by all links. If it was reached before, so were those.
+fn ascend_all(graph: &mut Graph, reached: &mut Walk<Global>, instance: DescId)
+    requires closed { IsClosed (edges graph.old) reached.old.reached }
+    requires room { instance.0 < reached.old.room }
+    requires home { AreHome graph.old reached.old }
+    ensures graph { graph.new ≡ graph.old }
+    ensures exact { Ascends (edges graph.old) instance.0 reached.old reached.new }
+{
+    if !reached.reach(instance.0) {
+        return;
+    }
+    let above = graph.above(instance, &|_id: EntryId| true);
+    reach_each(reached, above);
+}
+
+/// Reaches exactly the instances that lost a registration, and those above them.
+fn reach_loose(parts: &mut Parts, reached: &mut Walk<Global>, lost: &Walk<Global>)
+    requires room { AreRoomy parts.old.interest reached.old }
+    requires fits { HaveRoom lost.now.reached reached.old }
+    ensures parts { parts.new ≡ parts.old }
+    ensures room { reached.new.room ≡ reached.old.room }
+    ensures exact { AreAbove (edges parts.old.graph) lost.now.reached reached.new.reached }
+{
+    parts.known();
+    parts.interest.known();
+    reached.forget();
+    for index in 0..lost.count() {
+        ascend_all(&mut parts.graph, reached, DescId(lost.at(index)));
+    }
+}
+
+/// Marks the caller that waits longest at an instance, if that is ready and not guarded, and none is marked there.
+fn mark_unguarded<R: Readiness>(parts: &mut Parts, ready: &mut R, instance: DescId)
+    requires instances { HaveInstances parts.old }
+    requires knows { R.knows ready.old parts.old.tables parts.old.clock parts.old.interest }
+    ensures marks { parts.new
+        ≡ record parts.old { parked = marked_loose parts.old instance.0 parts.old.parked } }
+    ensures knows { R.knows ready.new parts.old.tables parts.old.clock parts.old.interest }
+{
+    parts.known();
+    if !parts.waiters.has_waiter(instance) {
+        return;
+    }
+    if is_guarded(parts, instance) {
+        return;
+    }
+    mark_at(parts, ready, instance);
+}
+
+/// The same at each instance that lost a registration in an event that may have guarded it, or what is above it, and at
+/// those above, by all links. What was lost is forgotten. It takes no memory. `reached` is a walk that nothing is asked
+/// of any more.
+#[cold]
+#[inline(never)]
+pub fn mark_loose<R: Readiness>(
+    parts: &mut Parts,
+    ready: &mut R,
+    reached: &mut Walk<Global>,
+    lost: &mut Walk<Global>,
+)
+    requires instances { HaveInstances parts.old }
+    requires knows { R.knows ready.old parts.old.tables parts.old.clock parts.old.interest }
+    requires room { AreRoomy parts.old.interest reached.old }
+    requires fits { HaveRoom lost.old.reached reached.old }
+    ensures marks { (ks : List ℕ) × (AreAbove (edges parts.old.graph) lost.old.reached ks)
+        × (parts.new
+        ≡ record parts.old {
+          parked = marked_in_turn (filter (is_loose parts.old) ks) parts.old.parked;
+        }) }
+    ensures knows { R.knows ready.new parts.old.tables parts.old.clock parts.old.interest }
+    ensures reached { reached.new.room ≡ reached.old.room }
+    ensures room { lost.new.room ≡ lost.old.room }
+    ensures none { lost.new.reached ≡ [] }
+{
+    reach_loose(parts, reached, lost);
+    for index in 0..reached.count() {
+        mark_unguarded(parts, ready, DescId(reached.at(index)));
+    }
+    lost.forget();
+}
