@@ -1,4 +1,4 @@
-use Rattle.std.proofs.Common.{◌≡◌, ◌∙◌, ◌++◌, List, ap, filter, map, subst, sym, ℕ}
+use Rattle.std.proofs.Common.{◌≡◌, ◌∙◌, ◌++◌, ap, filter, map, subst, sym}
 use Rattle.ep_calls.specs.Parts.{Parts}
 use Rattle.ep_climb.proofs.MarkLemmas.{names_unmarked, ready_in}
 use Rattle.ep_climb.specs.Mark.{attended}
@@ -6,15 +6,14 @@ use Rattle.ep_kernel.proofs.AskedLemmas.{knows_forgotten}
 use Rattle.ep_kernel.proofs.MarkLemmas.{knows_in}
 use Rattle.ep_kernel.proofs.mark.mark.Goals as goal
 use Rattle.ep_kernel.specs.Asked.{KnowsIn}
-use Rattle.ep_machine.specs.Marks.{marked_by}
 use Rattle.ep_machine.specs.Waits.{marked_if_due}
 use Rattle.ep_park.specs.Turns.{marked_in_turn}
 
-pub mark-requires-clause-knows : goal.mark-requires-clause-knows
-mark-requires-clause-knows c =
+pub mark-requires : goal.mark-requires
+mark-requires c =
     let p = c.args.parts.now in
-    subst (λ (q : Parts). KnowsIn c.forget.new.self q.tables q.clock q.interest) (sym c.mark_due.ensures)
-    (knows_in p c.forget.new.self (knows_forgotten p c.args.asked.now.hopes c.forget.new.self c.requires.hopes c.forget.ensures.hopes c.forget.ensures.ready c.forget.ensures.idle))
+    let knows = knows_in p c.forget.new.self (knows_forgotten p c.args.asked.now.hopes c.forget.new.self c.requires.hopes c.forget.ensures.hopes c.forget.ensures.ready c.forget.ensures.idle) in
+    record { knows = subst (λ (q : Parts). KnowsIn c.forget.new.self q.tables q.clock q.interest) (sym c.mark_due.ensures) knows }
 
 -- the parts but for who is marked
 with_marks : (c : goal.After-mark) → c.mark.new.parts ≡ record c.args.parts.now { parked = c.mark.new.parts.parked }

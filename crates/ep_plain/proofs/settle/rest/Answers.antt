@@ -1,4 +1,4 @@
-use Rattle.std.proofs.Common.{◌≡◌, ◌∙◌, ◌++◌, List, ap, filter, map, subst, sym, ℕ}
+use Rattle.std.proofs.Common.{◌≡◌, ◌∙◌, ◌++◌, List, ap, filter, map, subst, sym}
 use Rattle.ep_calls.specs.Parts.{Parts}
 use Rattle.ep_climb.proofs.MarkLemmas.{names_unmarked, ready_in}
 use Rattle.ep_climb.specs.Mark.{attended}
@@ -10,8 +10,8 @@ use Rattle.ep_park.specs.Turns.{marked_in_turn}
 use Rattle.ep_plain.proofs.settle.rest.Goals as goal
 use Rattle.ep_plain.specs.Exact.{TellsReady}
 
-pub mark-requires-clause-knows : goal.mark-requires-clause-knows
-mark-requires-clause-knows c = subst (λ (p : Parts). TellsReady p c.args.dating.now.dates) (sym c.mark_due.ensures) c.requires.ready
+pub mark-requires : goal.mark-requires
+mark-requires c = record { knows = subst (λ (p : Parts). TellsReady p c.args.dating.now.dates) (sym c.mark_due.ensures) c.requires.ready }
 
 pub returns : goal.returns
 returns c =
