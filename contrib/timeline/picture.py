@@ -142,7 +142,8 @@ class Picture:
         y = MARGIN
         for band in self.bands:
             y = self.draw_band(band, y) + BETWEEN
-        width = self.width if len(self.bands) > 1 else max(self.bands[0].right + MARGIN, 620)
+        # A short picture is as wide as the legend looks well in, if that is allowed.
+        width = self.width if len(self.bands) > 1 else max(self.bands[0].right + MARGIN, min(620, self.width))
         height = self.draw_legend(y - 4, width)
         lines = f"lines {self.first + 1} to {self.last + 1} of {self.count}"
         return self.drawing.svg(width, height, f"A history: {lines}")
