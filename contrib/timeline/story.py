@@ -8,7 +8,9 @@ from dataclasses import dataclass, field
 from typing import Optional
 
 ADD, DEL, MOD = 1, 2, 3
-#: The calls that can make an instance ready, and so mark a caller, unless they are refused; of ctl ADD and MOD.
+EXCLUSIVE = 1 << 28
+#: The calls that can make an instance ready, and so mark a caller, unless they are refused; of ctl ADD and MOD. Once
+#: there was an exclusive registration DEL can mark one, too: at an instance that was passed over and has lost its last.
 RAISING = {"read", "write", "shutdown", "settime", "close", "dup2", "exec", "exit", "ctl"}
 #: The kinds of the descriptors that a call opens, in the order of its answer.
 OPENED = {
@@ -96,6 +98,8 @@ class Story:
         self.now, self.tables, self.numbers, self.parked = 0, {1: {}}, {}, {}
         #: The registrations that are there by now, and whether some of them may have lost their instance or target.
         self.current, self.may_die = [], False
+        #: The record that added the first exclusive registration.
+        self.exclusive = None
         plain = Description("plain")
         for fd in range(3):
             self.open(1, fd, plain, None)
@@ -175,6 +179,8 @@ class Story:
         if call["act"] == ADD:
             number = len(self.numbers) + 1
             self.numbers[number] = None
+            if call["mask"] & EXCLUSIVE and self.exclusive is None:
+                self.exclusive = at
         if not instance or not target:
             return
         self.scenes[-1].link = Link(call["act"], instance, target, call["mask"])
@@ -234,7 +240,9 @@ class Story:
         if record.tick is not None or record.call is None:
             return record.answer[0] in ("done", "events")
         call = record.call
-        return record.answer[0] != "err" and call["op"] in RAISING and call.get("act") != DEL
+        if record.answer[0] == "err" or call["op"] not in RAISING:
+            return False
+        return call.get("act") != DEL or self.exclusive is not None and self.exclusive < at
 
     def report(self, record, pid):
         for number in record.picked:
