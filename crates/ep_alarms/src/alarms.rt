@@ -88,6 +88,7 @@ impl Alarms {
     }
 
     /// Takes the descriptions out that nothing names or holds any more.
+    #[inline(always)]
     pub fn drop_dying(&mut self, tables: &Tables)
         ensures { LosesDying tables.now self.old self.new }
     {

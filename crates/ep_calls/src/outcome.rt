@@ -50,6 +50,7 @@ impl Outcome {
     }
 
     /// An answer that takes no memory to copy, and reports nothing.
+    #[inline(always)]
     pub fn settled(alloc: Global, answer: Answer, raising: Raising) -> Outcome
         requires inline { FitsInline answer }
         requires real { is_no_memory answer ≡ false }

@@ -42,6 +42,7 @@ fn picked_of(alloc: Global, chosen: &[Reportable]) -> Result<Picked, AllocError>
 }
 
 /// Notes that they are reported in this step.
+#[inline(always)]
 fn note(interest: &mut Interest, step: u64, chosen: &[Reportable])
     requires { All (λ x. number_of_entry interest.old x.id ≡ Some x.entry.number) chosen.now }
     ensures entries { interest.new.entries
@@ -55,6 +56,7 @@ fn note(interest: &mut Interest, step: u64, chosen: &[Reportable])
 }
 
 /// Copies for a second record, if one is asked for.
+#[inline(always)]
 fn spare_of(reports: &ReportList, picked: &Picked, kept: bool) -> Result<Option<Spare>, AllocError>
     ensures { IfOk result
         (λ spare. MatchOption spare (kept ≡ false)
