@@ -10,7 +10,7 @@ use Rattle.ep_base.specs.declared.errno.Errno.{Errno}
 use Rattle.ep_base.specs.declared.ids.CallerId.{CallerId}
 use Rattle.ep_base.specs.declared.record.Record.{Record}
 use Rattle.ep_calls.proofs.EndLemmas.{rested, rests_so, settles, shows_settled}
-use Rattle.ep_calls.proofs.KeepsLemmas.{DoesAt, Settles, keeps_next, record_of, state_is, step_next}
+use Rattle.ep_calls.proofs.KeepsLemmas.{DoesAt, SettlesMarks, keeps_marked, machine_marks, record_of, state_is, step_marked}
 use Rattle.ep_calls.proofs.EntryLemmas.{one_member}
 use Rattle.ep_calls.proofs.PassLemmas.{left_member, noted_watch, passes_is}
 use Rattle.ep_calls.specs.Causes.{HasCause, WasAltered, is_above}
@@ -66,8 +66,11 @@ module _ (law : ReportablesAreSpread) (past : List Record) (old mid left : Parts
   abbrev buried : Parts
   buried = spreads.buried
 
+  abbrev test : ℕ → Bool
+  test = machine_marks n outcome.raising old mid buried
+
   abbrev new : Parts
-  new = rested left
+  new = rested test left
 
   abbrev noted_parts : Parts
   noted_parts = record mid { interest = spreads.noted }
@@ -75,20 +78,20 @@ module _ (law : ReportablesAreSpread) (past : List Record) (old mid left : Parts
   abbrev forgotten : Parts
   forgotten = record left { interest = new.interest }
 
-  so : Settles n outcome.raising mid noted_parts buried forgotten new
-  so = settles n outcome.raising mid left new spreads (rests_so left)
+  so : SettlesMarks n outcome.raising old mid noted_parts buried forgotten new
+  so = settles n outcome.raising mid left new test spreads (rests_so test left)
 
   abbrev after : List Record
   after = past ++ record_of caller event outcome ∷ []
 
   keeps_after : Keeps after new
-  keeps_after = keeps_next past old mid noted_parts buried forgotten new keeps caller event outcome n at does so
+  keeps_after = keeps_marked past old mid noted_parts buried forgotten new keeps caller event outcome n at does so
 
   abbrev t : State
   t = keeps_after.state
 
   goes : step old.tables.limits s caller.0 event outcome.picked ≡ Some (outcome.answer, t)
-  goes = step_next past old mid noted_parts buried forgotten new keeps caller event outcome n at does so ∙ ap (λ (u : State). Some (outcome.answer, u)) (state_is after new keeps_after)
+  goes = step_marked past old mid noted_parts buried forgotten new keeps caller event outcome n at does so ∙ ap (λ (u : State). Some (outcome.answer, u)) (state_is after new keeps_after)
 
   to_state : (o : Option (Answer × State)) (a b : Answer) (u v : State) → o ≡ Some (a, u) → o ≡ Some (b, v) → u ≡ v
   to_state o a b u v h k = ap (λ (q : Option (Answer × State)). unwrap_or (option_map (λ (r : Answer × State). r.1) q) u) (sym h ∙ k)

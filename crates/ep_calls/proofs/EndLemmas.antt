@@ -3,13 +3,12 @@ use Rattle.std.proofs.Common.{◌≡◌, ◌∙◌, ◌==◌, ◌&&◌, ◌||◌
 use Rattle.std.specs.List.{list_any}
 use Rattle.std.proofs.lemmas.List.Elements.{All-cons, All-head, All-tail}
 use Rattle.ep_calls.proofs.ClimbLemmas.{linked_settled}
-use Rattle.ep_calls.proofs.KeepsLemmas.{Settles}
+use Rattle.ep_calls.proofs.KeepsLemmas.{SettlesBy}
 use Rattle.ep_calls.specs.Climb.{Climbs, risen}
-use Rattle.ep_calls.specs.Ends.{Rests, Spreads}
-use Rattle.ep_calls.specs.Parking.{ready_key}
+use Rattle.ep_calls.specs.Ends.{RestsBy, Spreads}
 use Rattle.ep_calls.specs.Parts.{Parts}
 use Rattle.ep_calls.specs.Readiness.{entry_shows, readiness}
-use Rattle.ep_calls.specs.Stands.{IsLinked, number_at, watch_at}
+use Rattle.ep_calls.specs.Stands.{IsLinked, watch_at}
 use Rattle.ep_calls.specs.declared.raising.Raising.{Raising}
 use Rattle.ep_interest.specs.Registrations.{Registrations, settled}
 use Rattle.ep_interest.specs.declared.entry.Entry.{Entry}
@@ -55,7 +54,7 @@ module _ (reached : ℕ → Bool) (v : Seen) where
 pub readiness_settled : (v : Seen) (now : ℕ) (r q : Registrations) → q.entries ≡ map settled r.entries → readiness v now q ≡ readiness v now r
 readiness_settled v now r q entries = ap (λ (xs : List Entry). ready_now v.files now (map (watch_at v.keys) xs)) entries ∙ ready_settled v.keys v.files now r.entries
 
-module _ (n : ℕ) (raising : Raising) (mid left new : Parts) (spreads : Spreads n raising mid left) (rests : Rests left new) where
+module _ (n : ℕ) (raising : Raising) (mid left new : Parts) (test : ℕ → Bool) (spreads : Spreads n raising mid left) (rests : RestsBy test left new) where
   abbrev v : Seen
   v = spreads.buried.tables
 
@@ -83,12 +82,7 @@ module _ (n : ℕ) (raising : Raising) (mid left new : Parts) (spreads : Spreads
   abbrev pub with_noted : Parts
   with_noted = record mid { interest = spreads.noted }
 
-  same_ready : ready_key left.tables left.clock left.interest ≡ ready_key left.tables left.clock new.interest
-  same_ready =
-      let by_key : (ℕ → Bool) → ℕ → Bool = λ ready e. ready (number_at left.tables.keys (record { 0 = e })) in
-      ap by_key (sym (readiness_settled left.tables left.clock left.interest new.interest rests.entries))
-
-  pub settles : Settles n raising mid with_noted spreads.buried forgotten new
+  pub settles : SettlesBy test n raising mid with_noted spreads.buried forgotten new
   settles = record {
     coherent = spreads.leaves.coherent;
     sound = spreads.leaves.tables;
@@ -101,16 +95,16 @@ module _ (n : ℕ) (raising : Raising) (mid left new : Parts) (spreads : Spreads
     sound_buried = spreads.leaves.tables_buried;
     climbs = climbs;
     climbed_others = ap (λ (p : Parts). record p { interest = new.interest }) spreads.others;
-    marks = rests.marks ∙ ap (λ (ready : ℕ → Bool). marked_by ready left.clock left.parked) same_ready;
+    marks = rests.marks;
     marked_others = rests.others;
   }
 
 -- the end of an event, made up before it comes
-abbrev pub rested : Parts → Parts
-rested p = record p {
+abbrev pub rested : (ℕ → Bool) → Parts → Parts
+rested test p = record p {
   interest = record p.interest { entries = map settled p.interest.entries };
-  parked = marked_by (ready_key p.tables p.clock p.interest) p.clock p.parked;
+  parked = marked_by test p.clock p.parked;
 }
 
-pub rests_so : (p : Parts) → Rests p (rested p)
-rests_so p = record { marks = refl; entries = refl; keys = refl; added = refl; others = refl }
+pub rests_so : (test : ℕ → Bool) (p : Parts) → RestsBy test p (rested test p)
+rests_so test p = record { marks = refl; entries = refl; keys = refl; added = refl; others = refl }

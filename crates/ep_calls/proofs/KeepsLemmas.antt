@@ -1,6 +1,5 @@
 -- What a kernel keeps, at the start and over one event.
-use Rattle.std.proofs.Common.{◌≡◌, ◌+◌, ◌++◌, ◌∙◌, ℕ, Bool, false, inl, inr, List, [], ◌∷◌, Option, Some, ap, length, map, refl, subst, sym, unwrap_or}
-use Rattle.std.proofs.lemmas.Bool.{cases_Bool}
+use Rattle.std.proofs.Common.{◌≡◌, ◌+◌, ◌++◌, ◌∙◌, ℕ, Bool, List, [], ◌∷◌, Option, Some, ap, length, map, refl, subst, sym, unwrap_or}
 use Rattle.std.proofs.lemmas.List.{length-append}
 use Rattle.ep_base.specs.Limits.{Limits}
 use Rattle.ep_base.specs.declared.call.Event.{Event}
@@ -10,11 +9,8 @@ use Rattle.ep_interest.specs.Registrations.{Registrations}
 use Rattle.ep_machine.specs.Marks.{marked_by}
 use Rattle.ep_machine.specs.Refusal.{refusals}
 use Rattle.ep_machine.specs.Run.{run}
-use Rattle.ep_machine.specs.State.{State, Waiter, Watch, opening}
+use Rattle.ep_machine.specs.State.{State, Waiter, opening}
 use Rattle.ep_machine.specs.Step.{next_event, change, step}
-use Rattle.ep_law.proofs.GraphLemmas.{exclusive_targets}
-use Rattle.ep_law.specs.Laws.{Member}
-use Rattle.ep_machine.specs.Watches.{is_exclusive}
 use Rattle.ep_view.proofs.AtRestLemmas.{quiet_opening}
 use Rattle.ep_law.proofs.SoundLemmas.{sound_opening}
 use Rattle.ep_law.proofs.StepLemmas.{run_next}
@@ -22,14 +18,14 @@ use Rattle.ep_calls.specs.Acts.{Adds}
 use Rattle.ep_calls.specs.Burial.{Burial}
 use Rattle.ep_calls.specs.Climb.{Climbs}
 use Rattle.ep_calls.specs.Moves.{Goes, StandFor, StandsBuried, gets_mark_in}
-use Rattle.ep_calls.specs.Parking.{raises_in, ready_key}
+use Rattle.ep_calls.specs.Parking.{raises_in}
 use Rattle.ep_calls.specs.Raising.{IsRaising, Raises, Stirs}
 use Rattle.ep_calls.specs.Stands.{number_at, waiters_at, watch_at}
 use Rattle.ep_calls.specs.declared.raising.Raising.{Raising}
 use Rattle.ep_calls.specs.Keeps.{Keeps}
 use Rattle.ep_calls.specs.Parts.{AreCoherent, AreOpening, Parts}
 use Rattle.ep_calls.specs.declared.outcome.Outcome.{Outcome}
-use Rattle.ep_calls.proofs.StepLemmas.{Leads, climbed_stands, leads, marked_stands}
+use Rattle.ep_calls.proofs.StepLemmas.{Leads, leads, marked_stands}
 use Rattle.ep_table.specs.Value.{Sound as SoundTables}
 
 -- the opening parts stand for the opening state
@@ -80,16 +76,16 @@ pub record SettlesBy (test : ℕ → Bool) (n : ℕ) (raising : Raising) (mid no
   pub marks : new.parked ≡ marked_by test climbed.clock climbed.parked
   pub marked_others : new ≡ record climbed { parked = new.parked }
 
--- by what is ready
-abbrev pub Settles : ℕ → Raising → Parts → Parts → Parts → Parts → Parts → Type 0
-Settles n raising mid noted buried climbed new =
-    SettlesBy (ready_key climbed.tables climbed.clock climbed.interest) n raising mid noted buried climbed new
+-- what the machine marks, by the keys of instances, for an event that began with the parts `old`: what is ready, and
+-- unguarded or woken
+abbrev pub machine_marks : ℕ → Raising → Parts → Parts → Parts → ℕ → Bool
+machine_marks n raising old mid buried k =
+    gets_mark_in n (waiters_at old.tables.keys old.parked) (raises_in raising mid.tables mid.clock) buried (number_at buried.tables.keys (record { 0 = k }))
 
--- by what the machine marks, for an event that began with the parts `old`: what is ready, and unguarded or woken
+-- by that
 abbrev pub SettlesMarks : ℕ → Raising → Parts → Parts → Parts → Parts → Parts → Parts → Type 0
 SettlesMarks n raising old mid noted buried climbed new =
-    SettlesBy (λ k. gets_mark_in n (waiters_at old.tables.keys old.parked) (raises_in raising mid.tables mid.clock) buried (number_at buried.tables.keys (record { 0 = k })))
-    n raising mid noted buried climbed new
+    SettlesBy (machine_marks n raising old mid buried) n raising mid noted buried climbed new
 
 -- by a test for which the parts at the end stand for each state to which the event leads
 module _ (past : List Record) (old mid noted buried climbed new : Parts) (keeps : Keeps past old) (caller : CallerId) (event : Event) (outcome : Outcome) (n : ℕ) (at : n ≡ length past + 1)
@@ -148,7 +144,7 @@ module _ (past : List Record) (old mid noted buried climbed new : Parts) (keeps 
 module _ (past : List Record) (old mid noted buried climbed new : Parts) (keeps : Keeps past old) (caller : CallerId) (event : Event) (outcome : Outcome) (n : ℕ) (at : n ≡ length past + 1)
     (does : DoesAt (next_event keeps.state) caller.0 event outcome old mid) (settles : SettlesMarks n outcome.raising old mid noted buried climbed new) where
   abbrev by_marks : ℕ → Bool
-  by_marks k = gets_mark_in n (waiters_at old.tables.keys old.parked) (raises_in outcome.raising mid.tables mid.clock) buried (number_at buried.tables.keys (record { 0 = k }))
+  by_marks = machine_marks n outcome.raising old mid buried
 
   stand_marked : (t : State) → run old.tables.limits opening (past ++ record_of caller event outcome ∷ []) ≡ Some t → StandsBuried n keeps.state.waiters (raises_in outcome.raising mid.tables mid.clock) buried t
       → StandFor (record buried { interest = climbed.interest; parked = new.parked }) t
@@ -166,27 +162,3 @@ module _ (past : List Record) (old mid noted buried climbed new : Parts) (keeps 
 
   pub adds_marked : Adds old.tables.limits caller event outcome.answer (unwrap_or (run old.tables.limits opening past) opening) (unwrap_or (run new.tables.limits opening (past ++ record_of caller event outcome ∷ [])) opening) past (past ++ record_of caller event outcome ∷ [])
   adds_marked = adds_after past old mid noted buried climbed new keeps caller event outcome n at does by_marks settles stand_marked
-
--- If no registration is exclusive, marks by readiness will do.
-module _ (past : List Record) (old mid noted buried climbed new : Parts) (keeps : Keeps past old) (caller : CallerId) (event : Event) (outcome : Outcome) (n : ℕ) (at : n ≡ length past + 1)
-    (does : DoesAt (next_event keeps.state) caller.0 event outcome old mid) (settles : Settles n outcome.raising mid noted buried climbed new) where
-  abbrev by_ready : ℕ → Bool
-  by_ready = ready_key climbed.tables climbed.clock climbed.interest
-
-  none_exclusive : (t : State) → run old.tables.limits opening (past ++ record_of caller event outcome ∷ []) ≡ Some t → (x : Watch) → Member x t.watches → is_exclusive x ≡ false
-  none_exclusive t led x m = elim (cases_Bool (is_exclusive x)) [ inl is ↦ absurd (exclusive_targets old.tables.limits (past ++ record_of caller event outcome ∷ []) t x led m is).refused | inr isnt ↦ isnt ]
-
-  stand_ready : (t : State) → run old.tables.limits opening (past ++ record_of caller event outcome ∷ []) ≡ Some t → StandsBuried n keeps.state.waiters (raises_in outcome.raising mid.tables mid.clock) buried t
-      → StandFor (record buried { interest = climbed.interest; parked = new.parked }) t
-  stand_ready t led h =
-      climbed_stands n buried climbed.interest new.parked keeps.state.waiters (raises_in outcome.raising mid.tables mid.clock) t (none_exclusive t led) settles.climbs settles.sound_buried settles.coherent_buried.placed
-      (settles.marks ∙ ap (λ (p : Parts). marked_by (ready_key p.tables p.clock p.interest) p.clock p.parked) settles.climbed_others) h
-
-  pub keeps_next : Keeps (past ++ record_of caller event outcome ∷ []) new
-  keeps_next = keeps_after past old mid noted buried climbed new keeps caller event outcome n at does by_ready settles stand_ready
-
-  pub step_next : step old.tables.limits keeps.state caller.0 event outcome.picked ≡ Some (outcome.answer, unwrap_or (run new.tables.limits opening (past ++ record_of caller event outcome ∷ [])) opening)
-  step_next = step_after past old mid noted buried climbed new keeps caller event outcome n at does by_ready settles stand_ready
-
-  pub adds_next : Adds old.tables.limits caller event outcome.answer (unwrap_or (run old.tables.limits opening past) opening) (unwrap_or (run new.tables.limits opening (past ++ record_of caller event outcome ∷ [])) opening) past (past ++ record_of caller event outcome ∷ [])
-  adds_next = adds_after past old mid noted buried climbed new keeps caller event outcome n at does by_ready settles stand_ready

@@ -1,6 +1,5 @@
 -- An event of a kernel as a step of the machine.
-use Rattle.std.proofs.Common.{◌≡◌, ◌+◌, ◌==◌, ◌&&◌, ◌||◌, ◌∙◌, nat_lt, ℕ, zero, suc, All, Bool, true, false, not, List, [], ◌∷◌, Option, Some, None, ap, inl, inr, map, refl, subst, sym}
-use Rattle.std.specs.List.{list_any}
+use Rattle.std.proofs.Common.{◌≡◌, ◌+◌, ◌&&◌, ◌∙◌, nat_lt, ℕ, All, Bool, List, [], ◌∷◌, Option, Some, None, ap, map, refl, subst, sym}
 use Rattle.std.specs.Prelude.{MatchOption}
 use Rattle.std.proofs.lemmas.List.Elements.{All-head, All-tail}
 use Rattle.ep_base.specs.Limits.{Limits}
@@ -14,16 +13,10 @@ use Rattle.ep_machine.specs.Counts.{brings}
 use Rattle.ep_base.specs.declared.record.Record.{Record}
 use Rattle.ep_law.proofs.ListLemmas.{all_member}
 use Rattle.ep_law.proofs.RegularLemmas.{changes_are_regular, well_made_run}
-use Rattle.ep_law.specs.Laws.{Member}
 use Rattle.ep_machine.specs.Bits.{IN, asked, has_bit}
-use Rattle.ep_machine.specs.Exclusive.{is_guarded, is_guarded_within}
 use Rattle.ep_machine.specs.Files.{object_of}
 use Rattle.ep_machine.specs.Run.{run}
-use Rattle.ep_machine.specs.Waits.{marked_if_due}
-use Rattle.ep_machine.specs.Watches.{is_exclusive}
-use Rattle.ep_view.proofs.MarkingLemmas.{climbed_rests, guarded_kept, guarded_rests, marks_same, ready_rests}
-use Rattle.ep_view.specs.Marking.{guarded_now, left_now, narrowed_now}
-use Rattle.ep_view.specs.KernelView.{KernelWatch, climbing_all, freshened, freshened_by, kernel_watches, kernel_watch, reached_now, ready_now, resting, stirred as raised_in, at_number}
+use Rattle.ep_view.specs.KernelView.{freshened, freshened_by, kernel_watches, kernel_watch, stirred as raised_in, at_number}
 use Rattle.ep_machine.specs.Marks.{marked_by}
 use Rattle.ep_view.specs.AtRest.{Changed, Settles, IsSteady, AtRest, kind_of}
 use Rattle.ep_machine.specs.Refusal.{refusals}
@@ -39,10 +32,9 @@ use Rattle.ep_law.proofs.SoundLemmas.{sound_begun, sound_step}
 use Rattle.ep_calls.specs.Burial.{Burial}
 use Rattle.ep_calls.specs.Climb.{Climbs}
 use Rattle.ep_calls.specs.Moves.{Goes, gets_mark_in, Makes, Refuses, StandFor, StandsBuried, StandsRaised}
-use Rattle.ep_calls.specs.Parking.{raises_in, ready_key}
+use Rattle.ep_calls.specs.Parking.{raises_in}
 use Rattle.ep_calls.specs.Raising.{AsRaised, AsRaisedIn, IsRaising, Raises, Stirs, raised_bits}
-use Rattle.ep_calls.specs.Readiness.{readiness}
-use Rattle.ep_calls.specs.Stands.{ArePlaced, number_at, waiters_at, watch_at}
+use Rattle.ep_calls.specs.Stands.{ArePlaced, number_at, waiters_at}
 use Rattle.ep_calls.specs.declared.raising.Raising.{Raising}
 use Rattle.ep_calls.proofs.HoldLemmas.{numbers_apart_at}
 use Rattle.ep_calls.proofs.RaiseLemmas.{Freshens, stirs_added, stirs_watches}
@@ -140,72 +132,7 @@ module _ (n : ℕ) (mid : Parts) (noted : Registrations) (raising : Raising) (co
           → Raises (refusals limits (next_event s) caller event) (change limits (next_event s) caller event picked) raising mid.tables mid.clock → Leads limits s caller event answer picked n raised_now buried
       leads goes raises = by_cases (first (refusals limits (next_event s) caller event)) refl goes raises
 
--- If no registration is exclusive, whatever is ready gets a mark.
-none_within : (s : State) → ((x : Watch) → Member x s.watches → is_exclusive x ≡ false) → (k e : ℕ) → is_guarded_within k s e ≡ false
-none_within s none zero e = refl
-none_within s none (suc k) e = each (λ d. none_within s none k d) s.watches none where
-  each : ((d : ℕ) → is_guarded_within k s d ≡ false) → (xs : List Watch) → ((x : Watch) → Member x xs → is_exclusive x ≡ false) → list_any (λ x. x.instance == e && (is_exclusive x || is_guarded_within k s x.target)) xs ≡ false
-  each below [] h = refl
-  each below (x ∷ xs) h = (λ i. x.instance == e && (h x (inl refl) i || below x.target i) || each below xs (λ y m. h y (inr m)) i) ∙ never (x.instance == e) where
-    never : (b : Bool) → (b && false || false) ≡ false
-    never true = refl
-    never false = refl
-
-pub none_guarded : (s : State) → ((x : Watch) → Member x s.watches → is_exclusive x ≡ false) → (e : ℕ) → is_guarded s e ≡ false
-unfolding is_guarded
-none_guarded s none e = none_within s none 5 e
-
-module _ (n : ℕ) (buried : Parts) (waited : List Waiter) (raised : ℕ → Bool) (t : State) (none : (x : Watch) → Member x t.watches → is_exclusive x ≡ false) (h : StandsBuried n waited raised buried t) where
-  abbrev noted : List KernelWatch
-  noted = map (watch_at buried.tables.keys) buried.interest.entries
-
-  abbrev risen : List KernelWatch
-  risen = climbing_all n buried.tables.files noted
-
-  rests : kernel_watches t t.watches ≡ map resting risen
-  rests = h.watches ∙ climbed_rests (reached_now buried.tables.files n noted) buried.tables.files noted
-
-  unguarded : (e : ℕ) → guarded_now risen e ≡ false
-  unguarded e = sym (guarded_rests risen e) ∙ (ap (λ (xs : List KernelWatch). guarded_now xs e) (sym rests) ∙ (sym (guarded_kept t e) ∙ none_guarded t none e))
-
-  ready_same : (e : ℕ) → ready_now buried.tables.files buried.clock risen e ≡ ready_now t.files t.now (kernel_watches t t.watches) e
-  ready_same e = sym (ready_rests buried.tables.files buried.clock risen e) ∙ (λ i. ready_now (sym h.files i) (sym h.now i) (sym rests i) e)
-
-  gets_ready : (e : ℕ) → gets_mark_in n waited raised buried e ≡ ready_now t.files t.now (kernel_watches t t.watches) e
-  gets_ready e =
-      let ws = waiters_at buried.tables.keys buried.parked in
-      let due = map (marked_if_due buried.clock) ws in
-      let ready = ready_now buried.tables.files buried.clock risen in
-      let woken = raised e || reached_now buried.tables.files n (narrowed_now buried.tables.files n risen ready due) e || left_now waited ws e in
-      (λ i. ready_same e i && (not (unguarded e i) || woken)) ∙ same (ready_now t.files t.now (kernel_watches t t.watches) e) where
-        same : (b : Bool) → (b && true) ≡ b
-        same true = refl
-        same false = refl
-
-  -- so marks are set at whatever is ready
-  pub marks_ready : t.waiters ≡ marked_by (ready_now t.files t.now (kernel_watches t t.watches)) t.now (waiters_at buried.tables.keys buried.parked)
-  marks_ready = h.waiters ∙ marks_same (gets_mark_in n waited raised buried) (ready_now t.files t.now (kernel_watches t t.watches)) t.now (waiters_at buried.tables.keys buried.parked) (λ w m. gets_ready w.instance)
-
--- and once what was raised has climbed, and marks are set
-pub climbed_stands : (n : ℕ) (buried : Parts) (interest : Registrations) (ws : List Waiter) (waited : List Waiter) (raised : ℕ → Bool) (t : State) → ((x : Watch) → Member x t.watches → is_exclusive x ≡ false) → Climbs n buried.tables buried.interest interest → SoundTables buried.tables → ArePlaced buried.tables buried.parked
-    → ws ≡ marked_by (ready_key buried.tables buried.clock interest) buried.clock buried.parked → StandsBuried n waited raised buried t → StandFor (record buried { interest = interest; parked = ws }) t
-climbed_stands n buried interest ws waited raised t none climbs sound placed marks h =
-    let keys = buried.tables.keys in
-    let number : ℕ → ℕ = λ k. number_at keys (record { 0 = k }) in
-    let watches = h.watches ∙ sym climbs.watches in
-    record {
-      now = h.now;
-      files = h.files;
-      watches = watches;
-      added = h.added ∙ sym climbs.added;
-      waiters =
-          marks_ready n buried waited raised t none h
-          ∙ ((λ i. marked_by (ready_now (h.files i) (h.now i) (watches i)) (h.now i) (waiters_at keys buried.parked))
-          ∙ (marks_at number (readiness buried.tables buried.clock interest) buried.clock buried.parked (numbers_apart_at buried.tables sound buried.parked placed)
-          ∙ ap (map (at_number number)) (sym marks)));
-    }
-
--- and by the test of the end of an event, whatever is exclusive
+-- Once what was raised has climbed, and marks are set.
 pub marked_stands : (n : ℕ) (buried : Parts) (interest : Registrations) (ws : List Waiter) (waited : List Waiter) (raised : ℕ → Bool) (t : State) → Climbs n buried.tables buried.interest interest → SoundTables buried.tables → ArePlaced buried.tables buried.parked
     → ws ≡ marked_by (λ k. gets_mark_in n waited raised buried (number_at buried.tables.keys (record { 0 = k }))) buried.clock buried.parked → StandsBuried n waited raised buried t → StandFor (record buried { interest = interest; parked = ws }) t
 marked_stands n buried interest ws waited raised t climbs sound placed marks h =

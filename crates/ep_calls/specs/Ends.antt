@@ -1,9 +1,8 @@
 -- What follows the change of an event: its spread, and its rest.
-use Rattle.std.specs.Prelude.{◌≡◌, map, ℕ}
+use Rattle.std.specs.Prelude.{◌≡◌, Bool, map, ℕ}
 use Rattle.ep_calls.specs.Burial.{Burial}
 use Rattle.ep_calls.specs.Climb.{Rises}
 use Rattle.ep_calls.specs.Ids.{KeepsIds}
-use Rattle.ep_calls.specs.Parking.{ready_key}
 use Rattle.ep_calls.specs.Parts.{AreCoherent, Parts}
 use Rattle.ep_calls.specs.Raising.{IsRaising, Stirs}
 use Rattle.ep_calls.specs.declared.raising.Raising.{Raising}
@@ -38,9 +37,9 @@ pub record Spreads (n : ℕ) (raising : Raising) (mid left : Parts) : Type 0 whe
   pub sound : IsSound left.interest
   pub others : left ≡ record buried { interest = left.interest }
 
--- the rest: marks are set, and what was passed on is forgotten
-pub record Rests (left new : Parts) : Type 0 where
-  pub marks : new.parked ≡ marked_by (ready_key left.tables left.clock left.interest) left.clock left.parked
+-- the rest: the instances that a test names by their keys get a mark, and what was passed on is forgotten
+pub record RestsBy (test : ℕ → Bool) (left new : Parts) : Type 0 where
+  pub marks : new.parked ≡ marked_by test left.clock left.parked
   pub entries : new.interest.entries ≡ map settled left.interest.entries
   pub keys : new.interest.keys ≡ left.interest.keys
   pub added : new.interest.added ≡ left.interest.added

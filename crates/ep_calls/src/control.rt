@@ -110,13 +110,12 @@ fn is_same(tables: &Tables, a: DescId, b: DescId) -> bool
     a.0 == b.0
 }
 
-/// Whether a mask has nothing but what the mask of an exclusive registration may have. EXCLUSIVE itself is not among
-/// that yet.
+/// Whether a mask has nothing but what the mask of an exclusive registration may have.
 fn is_allowed(mask: Mask) -> bool
     ensures { result ≡ has_only mask.0 exclusive_bits }
 {
     let errors = Mask::ERR.union(Mask::HUP.union(Mask::WAKEUP.union(Mask::ET)));
-    let allowed = Mask::IN.union(Mask::OUT.union(errors));
+    let allowed = Mask::IN.union(Mask::OUT.union(Mask::EXCLUSIVE.union(errors)));
     mask.intersection(allowed).0 == mask.0
 }
 

@@ -92,7 +92,8 @@ pub trait Kernel {
         ensures { result ≡ is_parked (state self.now) caller.0 };
 
     /// Whether a caller is parked and marked: its next resumption looks at its instance, and ends the wait if
-    /// something is reportable or its deadline has come. At each ready instance that has waiters one is marked.
+    /// something is reportable or its deadline has come. At each ready instance that has waiters one is marked, unless
+    /// an exclusive registration is in it or beneath it: there one is marked by an event that wakes it.
     fn is_marked(&self, caller: CallerId) -> bool
         ensures { result ≡ is_marked (state self.now) caller.0 };
 

@@ -13,7 +13,7 @@ use Rattle.ep_machine.specs.Waits.{marked_if_due}
 use Rattle.ep_view.specs.KernelView.{KernelWatch, at_number, climbing_all, reached_now, ready_now}
 use Rattle.ep_view.specs.Marking.{guarded_now, left_now, narrowed_now}
 
-due_there : (keys : List (Option ℕ)) (now : ℕ) (ws : List Waiter) → waiters_at keys (map (marked_if_due now) ws) ≡ map (marked_if_due now) (waiters_at keys ws)
+pub due_there : (keys : List (Option ℕ)) (now : ℕ) (ws : List Waiter) → waiters_at keys (map (marked_if_due now) ws) ≡ map (marked_if_due now) (waiters_at keys ws)
 due_there keys now [] = refl
 due_there keys now (w ∷ ws) = ap (λ (us : List Waiter). marked_if_due now (at_number (λ k. number_at keys (record { 0 = k })) w) ∷ us) (due_there keys now ws)
 

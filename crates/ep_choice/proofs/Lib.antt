@@ -9,5 +9,12 @@ pub mod ClimbLemmas
 pub mod LooseLemmas
 pub mod GuardedLemmas
 pub mod LosingLemmas
+pub mod NotesLostLemmas
+pub mod SuitsLemmas
 pub mod MarkingLemmas
 pub mod GetsLemmas
+pub mod AttendedLemmas
+pub mod ChangesLemmas
+pub mod UnguardedLemmas
+pub mod EndLemmas
+pub mod ReachedLemmas

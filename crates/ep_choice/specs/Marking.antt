@@ -13,7 +13,6 @@ use Rattle.ep_climb.specs.Mark.{attended}
 use Rattle.ep_climb.specs.Reach.{AreRoomy, IsFrom}
 use Rattle.ep_interest.specs.Registrations.{settled}
 use Rattle.ep_machine.specs.Lists.{is_among}
-use Rattle.ep_machine.specs.Marks.{marked_by}
 use Rattle.ep_machine.specs.State.{Waiter}
 use Rattle.ep_machine.specs.Waits.{is_marked_at, marked_if_due, waits_at}
 use Rattle.ep_nest.specs.Links.{edges}
@@ -63,12 +62,3 @@ pub record IsNarrowed (n : ℕ) (old new : Parts) : Type 0 where
   pub added : new.interest.added ≡ old.interest.added
   pub next : new.interest.next ≡ old.interest.next
   pub others : new ≡ record old { interest = new.interest; parked = new.parked }
-
--- the rest of an event: the instances that this test names by their keys get a mark, and what was passed on is
--- forgotten
-pub record RestsBy (test : ℕ → Bool) (left new : Parts) : Type 0 where
-  pub marks : new.parked ≡ marked_by test left.clock left.parked
-  pub entries : new.interest.entries ≡ map settled left.interest.entries
-  pub keys : new.interest.keys ≡ left.interest.keys
-  pub added : new.interest.added ≡ left.interest.added
-  pub others : new ≡ record left { interest = new.interest; parked = new.parked }

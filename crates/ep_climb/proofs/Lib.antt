@@ -2,6 +2,5 @@ pub mod WalkLemmas
 pub mod ReachLemmas
 pub mod ClimbLemmas
 pub mod MarkLemmas
-pub mod AreLookedAtLemmas
 pub mod SetLemmas
 pub mod LinkLemmas

@@ -10,15 +10,12 @@ use Rattle.ep_calls.proofs.WaitLemmas.{coherent_parked}
 use Rattle.ep_calls.specs.Parking.{ready_key}
 use Rattle.ep_calls.specs.Parts.{AreCoherent, Parts}
 use Rattle.ep_calls.specs.Stands.{ArePlaced, IsPlaced}
-use Rattle.ep_law.proofs.ListLemmas.{among, among_member, filtered_passes, member_filter}
 use Rattle.ep_law.proofs.TestLemmas.{from_test}
-use Rattle.ep_machine.specs.Lists.{is_among}
-use Rattle.ep_machine.specs.Marks.{first_marked as first_of_each, marked_by}
 use Rattle.ep_machine.specs.State.{Waiter}
 use Rattle.ep_machine.specs.Waits.{is_marked_at, marked_if_due, waits_at}
-use Rattle.ep_park.specs.Turns.{NamesUnmarked, marked_in_turn}
+use Rattle.ep_park.specs.Turns.{marked_in_turn}
 use Rattle.ep_park.specs.Waiters.{first_marked, longest_marked, with_mark}
-use Rattle.ep_climb.specs.Mark.{AreLookedAt, attended, marked_where}
+use Rattle.ep_climb.specs.Mark.{attended, marked_where}
 use Rattle.ep_table.specs.Value.{Seen}
 
 abbrev pub with_parked : Parts → List Waiter → Parts
@@ -102,22 +99,6 @@ module _ (ready : ℕ → Bool) where
       ∙ (ap (λ (k : ℕ). marked_in_turn (before ++ cond (ready k) (k ∷ []) []) ws) (get_or_from_slice_get ks i e 0 is)
       ∙ by_test before e ws (ready e))
 
-  -- each of those that are reached, and the one that is attended
-  pub none_more : (ks : List ℕ) (e : ℕ) → ready e ≡ false → is_among (filter ready ks) e ≡ false
-  none_more ks e idle_here = elim (cases_Bool (is_among (filter ready ks) e)) [
-    | inl t ↦ absurd (false≢true (sym idle_here ∙ filtered_passes ready ks e (among_member (filter ready ks) e t)))
-    | inr f ↦ f
-  ]
-
-  pub names_unmarked : (now : ℕ) (ws : List Waiter) (ks : List ℕ) → ((e : ℕ) → waits_at ws e ≡ true → is_marked_at (map (marked_if_due now) ws) e ≡ false → ready e ≡ true → is_among ks e ≡ true) → NamesUnmarked ready (map (marked_if_due now) ws) (filter ready ks)
-  names_unmarked now ws ks reached = λ e waits none. elim (cases_Bool (ready e)) [
-    | inl r ↦ r ∙ sym (among e (filter ready ks) (member_filter ready e ks (among_member ks e (reached e (sym (waits_due ws e) ∙ waits) none r)) r))
-    | inr f ↦ f ∙ sym (none_more ks e f)
-  ] where
-    waits_due : (us : List Waiter) (e : ℕ) → waits_at (map (marked_if_due now) us) e ≡ waits_at us e
-    waits_due [] e = refl
-    waits_due (u ∷ us) e = ap (λ (b : Bool). u.instance == e || b) (waits_due us e)
-
 -- The parts while marks are set.
 abbrev pub ready_in : Parts → ℕ → Bool
 ready_in p = ready_key p.tables p.clock p.interest
@@ -133,25 +114,7 @@ turns_on old ks i e mid new h lt at is = record {
       ∙ ap (with_parked old) (sym (turn_next (ready_in old) ks i e old.parked lt at)));
 }
 
--- all three
-pub marked_all : (p a b c : Parts) (reached : List ℕ) (attend : Option DescId) → a ≡ with_parked p (map (marked_if_due p.clock) p.parked)
-    → b ≡ with_parked a (marked_in_turn (filter (ready_in a) reached) a.parked)
-    → c ≡ with_parked b (marked_in_turn (filter (ready_in b) (attended attend)) b.parked)
-    → AreLookedAt p reached attend
-    → ((es : List ℕ) → NamesUnmarked (ready_in p) (map (marked_if_due p.clock) p.parked) es → marked_in_turn es (map (marked_if_due p.clock) p.parked) ≡ first_of_each (ready_in p) (map (marked_if_due p.clock) p.parked) [] (map (marked_if_due p.clock) p.parked))
-    → c ≡ with_parked p (marked_by (ready_in p) p.clock p.parked)
-marked_all p a b c reached attend due each more are law =
-    let ready = ready_in p in
-    let ws = map (marked_if_due p.clock) p.parked in
-    let b_is : b ≡ with_parked p (marked_in_turn (filter ready reached) ws) = each ∙ ap (λ (q : Parts). with_parked q (marked_in_turn (filter (ready_in q) reached) q.parked)) due in
-    let c_is : c ≡ with_parked p (marked_in_turn (filter ready (attended attend)) (marked_in_turn (filter ready reached) ws)) = more ∙ ap (λ (q : Parts). with_parked q (marked_in_turn (filter (ready_in q) (attended attend)) q.parked)) b_is in
-    c_is
-    ∙ ap (with_parked p)
-    (sym (turn_both ready (filter ready reached) (filter ready (attended attend)) ws)
-    ∙ (ap (λ (es : List ℕ). marked_in_turn es ws) (sym (filter-append ready reached (attended attend)))
-    ∙ law (filter ready (reached ++ attended attend)) (names_unmarked ready p.clock p.parked (reached ++ attended attend) are)))
-
--- both
+-- those that were reached, and the one that is attended
 pub marked_both : (p b c : Parts) (reached : List ℕ) (attend : Option DescId) → b ≡ with_parked p (marked_in_turn (filter (ready_in p) reached) p.parked)
     → c ≡ with_parked b (marked_in_turn (filter (ready_in b) (attended attend)) b.parked)
     → c ≡ with_parked p (marked_in_turn (filter (ready_in p) (reached ++ attended attend)) p.parked)

@@ -1,17 +1,13 @@
 -- Which instances get a mark at the end of an event.
 use Rattle.std.specs.List.{find, list_any}
 use Rattle.std.specs.Option.{option_map}
-use Rattle.std.specs.Prelude.{Bool, List, None, Option, Some, [], false, if◌then◌else◌, map, true, ℕ, ◌++◌, ◌∷◌, ◌≡◌}
+use Rattle.std.specs.Prelude.{Bool, List, None, Option, Some, [], if◌then◌else◌, ℕ, ◌∷◌}
 use Rattle.ep_base.specs.declared.call.Event.{Event}
 use Rattle.ep_base.specs.declared.call.Event.TheVariants.{Resume}
 use Rattle.ep_base.specs.declared.ids.DescId.{DescId}
-use Rattle.ep_calls.specs.Parking.{ready_key}
-use Rattle.ep_calls.specs.Parts.{Parts}
 use Rattle.ep_calls.specs.declared.raising.Raising.{Raising}
 use Rattle.ep_calls.specs.declared.raising.Raising.TheVariants.{Instance}
-use Rattle.ep_machine.specs.Lists.{is_among}
 use Rattle.ep_machine.specs.State.{Waiter}
-use Rattle.ep_machine.specs.Waits.{is_marked_at, marked_if_due, waits_at}
 use Rattle.ep_park.specs.Waiters.{is_caller, longest_marked}
 
 -- with a mark for the one that waits longest at an instance, if it is ready and none is marked there
@@ -37,10 +33,3 @@ attends None raising = None
 abbrev pub attended : Option DescId → List ℕ
 attended None = []
 attended (Some desc) = desc.0 ∷ []
-
--- a ready instance at which somebody waits, and none is marked once the due ones are, is among the reached ones, or
--- it is the attended one
-abbrev pub AreLookedAt : Parts → List ℕ → Option DescId → Type 0
-AreLookedAt p reached attend = (e : ℕ) → waits_at p.parked e ≡ true
-    → is_marked_at (map (marked_if_due p.clock) p.parked) e ≡ false
-    → ready_key p.tables p.clock p.interest e ≡ true → is_among (reached ++ attended attend) e ≡ true

@@ -1,5 +1,5 @@
 -- The hopes over one event: what is reportable at its end stands among them.
-use Rattle.std.proofs.Common.{◌≡◌, ◌∙◌, ◌+◌, ◌&&◌, ◌||◌, ◌⊎◌, ◌≤◌, ℕ, Bool, true, false, not, List, None, Option, Some, ap, arith, cond, filter, inl, inr, length, map, nat_lt, refl, subst, sym}
+use Rattle.std.proofs.Common.{◌≡◌, ◌∙◌, ◌+◌, ◌&&◌, ◌||◌, ◌⊎◌, ◌≤◌, ℕ, Bool, true, false, not, List, None, Option, Some, ap, arith, cond, filter, inl, inr, length, map, nat_lt, refl, slice_index_or, subst, sym}
 use Rattle.std.specs.Option.{option_map}
 use Rattle.std.proofs.lemmas.Bool.{cases_Bool, false≢true}
 use Rattle.ep_base.specs.declared.call.Event.{Event}
@@ -7,13 +7,12 @@ use Rattle.ep_base.specs.declared.ids.CallerId.{CallerId}
 use Rattle.ep_base.specs.declared.ids.EntryId.{EntryId}
 use Rattle.ep_base.specs.declared.record.Record.{Record}
 use Rattle.ep_calls.proofs.CauseLemmas.{causes}
-use Rattle.ep_calls.proofs.EndLemmas.{shows_settled}
 use Rattle.ep_calls.proofs.EntryLemmas.{holds_under, member_of, within}
 use Rattle.ep_calls.proofs.KeepsLemmas.{DoesAt}
 use Rattle.ep_calls.proofs.MappedLemmas.{under_mapped, under_settled}
 use Rattle.ep_calls.specs.Causes.{WasAltered, WasReportable, is_above}
 use Rattle.ep_calls.specs.Climb.{is_nested, link_of, risen}
-use Rattle.ep_calls.specs.Ends.{Leaves, Rests, Spreads}
+use Rattle.ep_calls.specs.Ends.{Leaves, Spreads}
 use Rattle.ep_calls.specs.Ids.{HadOrAdds}
 use Rattle.ep_calls.specs.Keeps.{Keeps}
 use Rattle.ep_calls.specs.Moves.{StandFor}
@@ -21,8 +20,9 @@ use Rattle.ep_calls.specs.Parts.{Parts}
 use Rattle.ep_calls.specs.Readiness.{entry_shows, readiness}
 use Rattle.ep_calls.specs.Stands.{IsLinked, KeepsKeys, number_at, watch_at}
 use Rattle.ep_calls.specs.declared.outcome.Outcome.{Outcome}
+use Rattle.ep_choice.proofs.MarkingLemmas.{ready_settled}
 use Rattle.ep_interest.specs.Passes.{has_id}
-use Rattle.ep_interest.specs.Registrations.{IsSound, Registrations, entry_under, ids, is_on, lets_in, number_under, settled}
+use Rattle.ep_interest.specs.Registrations.{IsSound, Registrations, entry_found, entry_under, ids, is_on, lets_in, number_under, settled}
 use Rattle.ep_interest.specs.declared.entry.Entry.{Entry}
 use Rattle.ep_kernel.proofs.AlteredLemmas.{IsOf, altered_stands}
 use Rattle.ep_kernel.proofs.EntryLemmas.{is_under}
@@ -250,22 +250,38 @@ module _ (law : ReportablesAreSpread) (past : List Record) (old mid left : Parts
   hopes_left = record { places = places_now; complete = complete_now }
 
 -- What is passed on plays no part in what is reportable.
-shows_rested : (p : Parts) (r : Registrations) (ws : List Waiter) → r.entries ≡ map settled p.interest.entries → r.keys ≡ p.interest.keys → (k : ℕ) → key_shows (record p { interest = r; parked = ws }) k ≡ key_shows p k
-shows_rested p r ws entries keys k = ap (shows_found (record p { interest = r; parked = ws })) (under_settled p.interest r entries keys (entry_id k)) ∙ by (entry_under p.interest (entry_id k)) where
-  by : (o : Option Entry) → shows_found (record p { interest = r; parked = ws }) (option_map settled o) ≡ shows_found p o
-  by None = refl
-  by (Some x) = shows_settled p.tables p.clock p.interest r entries x
+abbrev at_rest : Registrations → Registrations
+at_rest r = record r { entries = map settled r.entries }
 
-places_rested : (p : Registrations) (r : Registrations) → r.entries ≡ map settled p.entries → r.keys ≡ p.keys → (id : EntryId) → option_map (λ (x : Entry). x.instance.0) (entry_under r id) ≡ option_map (λ (x : Entry). x.instance.0) (entry_under p id)
-places_rested p r entries keys id = ap (option_map (λ (x : Entry). x.instance.0)) (under_settled p r entries keys id) ∙ by (entry_under p id) where
-  by : (o : Option Entry) → option_map (λ (x : Entry). x.instance.0) (option_map settled o) ≡ option_map (λ (x : Entry). x.instance.0) o
-  by None = refl
-  by (Some x) = refl
+module _ (p : Parts) (r : Registrations) (ws : List Waiter) (entries : map settled r.entries ≡ map settled p.interest.entries) (keys : r.keys ≡ p.interest.keys) where
+  abbrev q : Parts
+  q = record p { interest = r; parked = ws }
 
-module _ (left new : Parts) (rests : Rests left new) (l : Lists) where
-  -- hopes that fit before the rest of an event fit after it
-  pub hopes_after : HopesFor left l → HopesFor new l
-  hopes_after h = record {
-    places = λ id. h.places id ∙ sym (places_rested left.interest new.interest rests.entries rests.keys id);
-    complete = λ k shown. h.complete k (sym (shows_rested left new.interest new.parked rests.entries rests.keys k) ∙ (ap (λ (p : Parts). key_shows p k) (sym rests.others) ∙ shown));
+  -- under a key stands what stood there, but for what it passes on
+  under_same : (id : EntryId) → option_map settled (entry_under r id) ≡ option_map settled (entry_under p.interest id)
+  under_same id =
+      sym (under_settled r (at_rest r) refl refl id)
+      ∙ ((λ i. entry_found (entries i) (slice_index_or (keys i) id.0 None)) ∙ under_settled p.interest (at_rest p.interest) refl refl id)
+
+  shows_same : (k : ℕ) → key_shows q k ≡ key_shows p k
+  shows_same k = over (entry_under r (entry_id k)) ∙ (ap (shows_found p) (under_same (entry_id k)) ∙ of (entry_under p.interest (entry_id k))) where
+    over : (o : Option Entry) → shows_found q o ≡ shows_found p (option_map settled o)
+    over None = refl
+    over (Some x) = ap (λ (ready : ℕ → Bool). entry_shows ready p.tables p.clock x) (ready_settled p.tables p.clock p.interest r entries)
+
+    of : (o : Option Entry) → shows_found p (option_map settled o) ≡ shows_found p o
+    of None = refl
+    of (Some x) = refl
+
+  places_same : (id : EntryId) → option_map (λ (x : Entry). x.instance.0) (entry_under r id) ≡ option_map (λ (x : Entry). x.instance.0) (entry_under p.interest id)
+  places_same id = sym (of (entry_under r id)) ∙ (ap (option_map (λ (x : Entry). x.instance.0)) (under_same id) ∙ of (entry_under p.interest id)) where
+    of : (o : Option Entry) → option_map (λ (x : Entry). x.instance.0) (option_map settled o) ≡ option_map (λ (x : Entry). x.instance.0) o
+    of None = refl
+    of (Some x) = refl
+
+  -- hopes that fit go on fitting
+  pub hopes_settled : (l : Lists) → HopesFor p l → HopesFor q l
+  hopes_settled l h = record {
+    places = λ id. h.places id ∙ sym (places_same id);
+    complete = λ k shown. h.complete k (sym (shows_same k) ∙ shown);
   }

@@ -8,7 +8,7 @@ use Rattle.std.proofs.lemmas.List.Elements.{filter-append}
 use Rattle.ep_base.specs.declared.call.Event.{Event}
 use Rattle.ep_base.specs.declared.ids.DescId.{DescId}
 use Rattle.ep_base.specs.declared.ids.EntryId.{EntryId}
-use Rattle.ep_calls.proofs.KeepsLemmas.{Settles}
+use Rattle.ep_calls.proofs.KeepsLemmas.{SettlesMarks}
 use Rattle.ep_calls.proofs.KeyLemmas.{number_kept}
 use Rattle.ep_calls.specs.Burial.{Burial}
 use Rattle.ep_calls.specs.Moves.{StandFor}
@@ -90,7 +90,7 @@ pub record Follows (n : ℕ) (event : Event) (outcome : Outcome) (old mid noted 
   pub tables : SoundTables old.tables
   pub keys : KeepsKeys old.tables mid.tables
   pub leaves : Leaves n outcome.raising mid noted.interest buried
-  pub settles : Settles n outcome.raising mid noted buried climbed new
+  pub settles : SettlesMarks n outcome.raising old mid noted buried climbed new
   pub climbed_keys : climbed.interest.keys ≡ buried.interest.keys
   pub was : IsSound old.interest
   pub now : IsSound climbed.interest
@@ -101,7 +101,7 @@ pub record Follows (n : ℕ) (event : Event) (outcome : Outcome) (old mid noted 
   pub lists_after : AreSoundLists l3
 
 module _ (n : ℕ) (event : Event) (outcome : Outcome) (old mid noted buried climbed new : Parts) (l0 l1 l2 l3 : Lists) (follows : Follows n event outcome old mid noted buried climbed new l0 l1 l2 l3) where
-  abbrev settles : Settles n outcome.raising mid noted buried climbed new
+  abbrev settles : SettlesMarks n outcome.raising old mid noted buried climbed new
   settles = follows.settles
 
   pub burial : Burial n mid.tables noted.interest buried.tables buried.interest

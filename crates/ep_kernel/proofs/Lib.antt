@@ -21,6 +21,7 @@ pub mod RunLemmas
 pub mod AskedLemmas
 pub mod PrunesLemmas
 pub mod HopesGoLemmas
+pub mod StillSuitsLemmas
 pub mod HopesForLemmas
 pub mod ReadinessLemmas
 pub mod MarkLemmas

@@ -10,7 +10,7 @@ use Rattle.ep_base.specs.declared.errno.Errno.{Errno}
 use Rattle.ep_base.specs.declared.ids.CallerId.{CallerId}
 use Rattle.ep_base.specs.declared.ids.DescId.{DescId}
 use Rattle.ep_base.specs.declared.record.Record.{Record}
-use Rattle.ep_calls.proofs.KeepsLemmas.{DoesAt, adds_next, keeps_next, record_of, state_is}
+use Rattle.ep_calls.proofs.KeepsLemmas.{DoesAt, adds_marked, keeps_marked, record_of, state_is}
 use Rattle.ep_calls.specs.Keeps.{Keeps}
 use Rattle.ep_calls.specs.Moves.{Makes, Refuses, StandFor}
 use Rattle.ep_calls.specs.Parts.{Parts}
@@ -86,14 +86,14 @@ module _ (law : ListsGoOn) (past : List Record) (n : ℕ) (event : Event) (outco
   after = past ++ record_of caller event outcome ∷ []
 
   pub keeps_after : Keeps after new
-  keeps_after = keeps_next past old mid noted buried climbed new runs.keeps caller event outcome n at does follows.settles
+  keeps_after = keeps_marked past old mid noted buried climbed new runs.keeps caller event outcome n at does follows.settles
 
   abbrev t : State
   t = keeps_after.state
 
   pub goes : step old.tables.limits s caller.0 event outcome.picked ≡ Some (outcome.answer, t)
   goes =
-      let adds = adds_next past old mid noted buried climbed new runs.keeps caller event outcome n at does follows.settles in
+      let adds = adds_marked past old mid noted buried climbed new runs.keeps caller event outcome n at does follows.settles in
       let picked : outcome.picked ≡ adds.picked = ap (λ (r : Record). r.picked) (last_is past _ _ adds.added) in
       (λ i. step old.tables.limits (sym (state_is past old runs.keeps) i) caller.0 event (picked i))
       ∙ (adds.goes ∙ ap (λ (u : State). Some (outcome.answer, u)) (state_is after new keeps_after))

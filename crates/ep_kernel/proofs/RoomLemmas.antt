@@ -1,5 +1,5 @@
 -- The walk has room for the instances of places.
-use Rattle.std.proofs.Common.{◌≡◌, ◌∙◌, ◌<◌, ◌==◌, ◌≤◌, ℕ, Bool, true, false, None, Option, Some, ap, arith, cond, inl, inr, subst, sym}
+use Rattle.std.proofs.Common.{◌≡◌, ◌∙◌, ◌<◌, ◌==◌, ◌≤◌, ℕ, Bool, true, false, None, Option, Some, ap, arith, cond, inl, inr, refl, subst, sym}
 use Rattle.std.specs.Option.{option_map}
 use Rattle.std.specs.Prelude.{MatchBool}
 use Rattle.std.proofs.lemmas.Bool.{cases_eq}
@@ -7,7 +7,7 @@ use Rattle.ep_base.specs.declared.ids.EntryId.{EntryId}
 use Rattle.ep_calls.specs.Parts.{Parts}
 use Rattle.ep_calls.specs.declared.raising.Raising.{Raising}
 use Rattle.ep_climb.specs.Reach.{AreRoomy}
-use Rattle.ep_interest.specs.Registrations.{Registrations}
+use Rattle.ep_interest.specs.Registrations.{Registrations, entry_under}
 use Rattle.ep_interest.specs.declared.entry.Entry.{Entry}
 use Rattle.ep_kernel.specs.Control.{Settles, is_at_instance}
 use Rattle.ep_kernel.specs.Listed.{HavePlaces, HopesFor}
@@ -69,6 +69,16 @@ room_gained old new w instance id gains lt room k i at = elim (cases_eq k.0 id.0
 -- each registration has a place
 pub roomy_for : (r : Registrations) (l : Lists) (w : Walk) → HavePlaces r l → HasRoomFor l w → AreRoomy r w
 roomy_for r l w places room id x at = room id x.instance.0 (places id ∙ ap (option_map (λ (y : Entry). y.instance.0)) at)
+
+-- each place is that of a registration
+pub room_placed : (r : Registrations) (l : Lists) (w : Walk) → HavePlaces r l → AreRoomy r w → HasRoomFor l w
+room_placed r l w places roomy id i at = by (entry_under r id) refl where
+  by : (o : Option Entry) → entry_under r id ≡ o → i < w.room
+  by None none = absurd (let no : None ≡ Some i = sym (places id ∙ ap (option_map (λ (x : Entry). x.instance.0)) none) ∙ at in cc)
+  by (Some x) is =
+      let one : Some x.instance.0 ≡ Some i = sym (places id ∙ ap (option_map (λ (y : Entry). y.instance.0)) is) ∙ at in
+      let same : x.instance.0 ≡ i = cc in
+      subst (λ (k : ℕ). k < w.room) same (roomy id x is)
 
 -- no registration and no room
 pub room_none : (l : Lists) (w : Walk) → ((id : EntryId) → instance_at l id ≡ None) → HasRoomFor l w

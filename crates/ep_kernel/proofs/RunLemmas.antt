@@ -6,16 +6,17 @@ use Rattle.ep_base.specs.declared.call.Event.{Event}
 use Rattle.ep_base.specs.declared.ids.CallerId.{CallerId}
 use Rattle.ep_base.specs.declared.ids.EntryId.{EntryId}
 use Rattle.ep_base.specs.declared.record.Record.{Record}
-use Rattle.ep_calls.proofs.EndLemmas.{settles}
-use Rattle.ep_calls.proofs.KeepsLemmas.{DoesAt, Settles, adds_next, keeps_opening, record_of, state_is, step_next}
+use Rattle.ep_calls.proofs.KeepsLemmas.{DoesAt, SettlesMarks, adds_marked, keeps_opening, record_of, state_is, step_marked}
 use Rattle.ep_calls.specs.Acts.{Adds}
 use Rattle.ep_calls.proofs.MappedLemmas.{sound_settled}
 use Rattle.ep_calls.specs.Does.{DoesEventIf}
-use Rattle.ep_calls.specs.Ends.{Rests, Spreads}
+use Rattle.ep_calls.specs.Ends.{RestsBy, Spreads}
 use Rattle.ep_calls.specs.Moves.{StandFor}
 use Rattle.ep_calls.specs.Parts.{AreCoherent, AreOpening, Parts}
 use Rattle.ep_calls.specs.Stands.{number_at}
 use Rattle.ep_calls.specs.declared.outcome.Outcome.{Outcome}
+use Rattle.ep_choice.specs.Marking.{gets_mark_key}
+use Rattle.ep_climb.specs.Mark.{attends, left_at, resumed_at}
 use Rattle.ep_interest.specs.Registrations.{IsSound, Registrations, entry_under, number_under}
 use Rattle.ep_kernel.proofs.JoinLemmas.{Follows}
 use Rattle.ep_kernel.proofs.AddedLemmas.{all_added}
@@ -24,6 +25,7 @@ use Rattle.ep_kernel.proofs.NextLemmas.{keeps_after, runs_next}
 use Rattle.ep_interest.specs.declared.entry.Entry.{Entry}
 use Rattle.std.specs.Option.{option_map}
 use Rattle.ep_kernel.proofs.ReportsFirstLemmas.{waits_begun}
+use Rattle.ep_choice.proofs.EndLemmas.{settles_marks}
 use Rattle.ep_kernel.specs.Listed.{AreFair, HavePlaces, HopesFor, key_shows, lists_of, order_at, shows_found}
 use Rattle.ep_kernel.specs.ReadyBook.{AreAdded, LeavesReportable, ReportsFirst, WaitsAt, list_of}
 use Rattle.ep_kernel.specs.Running.{ListsSpread, Runs}
@@ -102,7 +104,8 @@ does_fairly past old new l runs n caller event outcome at does =
 
 module _ (law : ListsGoOn) (past : List Record) (old mid new : Parts) (l0 l1 l3 : Lists) (runs : Runs past old l0) (coherent : AreCoherent old) (tables : SoundTables old.tables) (was : IsSound old.interest) (before : AreSoundLists l0) (after : AreSoundLists l3)
     (caller : CallerId) (event : Event) (outcome : Outcome) (n : ℕ) (at : n ≡ length past + 1) (does : DoesEventIf (λ s. AreFair s old l0) n caller.0 event outcome old mid)
-    (turns : Turns event outcome.picked old l0 mid l1) (left : Parts) (spreads : Spreads n outcome.raising mid left) (lists : ListsSpread n mid spreads.noted spreads.buried l1 l3) (rests : Rests left new) where
+    (turns : Turns event outcome.picked old l0 mid l1) (left : Parts) (spreads : Spreads n outcome.raising mid left) (lists : ListsSpread n mid spreads.noted spreads.buried l1 l3)
+    (rests : RestsBy (gets_mark_key n left (attends (left_at left.parked caller.0 (resumed_at old.parked caller.0 event)) outcome.raising)) left new) where
   -- once what the event raised was noted
   abbrev pub noted : Parts
   noted = record mid { interest = spreads.noted }
@@ -111,8 +114,11 @@ module _ (law : ListsGoOn) (past : List Record) (old mid new : Parts) (l0 l1 l3 
   abbrev pub climbed : Parts
   climbed = record left { interest = new.interest }
 
-  settled_so : Settles n outcome.raising mid noted spreads.buried climbed new
-  settled_so = settles n outcome.raising mid left new spreads rests
+  pub does_at : DoesAt (next_event runs.keeps.state) caller.0 event outcome old mid
+  does_at = does_fairly past old mid l0 runs n caller.0 event outcome at does
+
+  settled_so : SettlesMarks n outcome.raising old mid noted spreads.buried climbed new
+  settled_so = settles_marks past old mid left runs.keeps caller event outcome n at does_at does.keys coherent spreads new rests
 
   pub follows : Follows n event outcome old mid noted spreads.buried climbed new l0 l1 lists.between l3
   follows = record {
@@ -131,17 +137,14 @@ module _ (law : ListsGoOn) (past : List Record) (old mid new : Parts) (l0 l1 l3 
     lists_after = after;
   }
 
-  pub does_at : DoesAt (next_event runs.keeps.state) caller.0 event outcome old mid
-  does_at = does_fairly past old mid l0 runs n caller.0 event outcome at does
-
   pub runs_on : Runs (past ++ record_of caller event outcome ∷ []) new l3
   runs_on = runs_next law past n event outcome old mid noted spreads.buried climbed new l0 l1 lists.between l3 follows caller at runs does_at
 
   pub adds_on : Adds old.tables.limits caller event outcome.answer (unwrap_or (run old.tables.limits opening past) opening) (unwrap_or (run new.tables.limits opening (past ++ record_of caller event outcome ∷ [])) opening) past (past ++ record_of caller event outcome ∷ [])
-  adds_on = adds_next past old mid noted spreads.buried climbed new runs.keeps caller event outcome n at does_at settled_so
+  adds_on = adds_marked past old mid noted spreads.buried climbed new runs.keeps caller event outcome n at does_at settled_so
 
   pub step_on : step old.tables.limits runs.keeps.state caller.0 event outcome.picked ≡ Some (outcome.answer, unwrap_or (run new.tables.limits opening (past ++ record_of caller event outcome ∷ [])) opening)
-  step_on = step_next past old mid noted spreads.buried climbed new runs.keeps caller event outcome n at does_at settled_so
+  step_on = step_marked past old mid noted spreads.buried climbed new runs.keeps caller event outcome n at does_at settled_so
 
   -- it reports in the order of the lists
   pub first_on : ReportsInOrder l0 n caller.0 event outcome old mid l1 → ReportsFirst (unwrap_or (run old.tables.limits opening past) opening) caller.0 event outcome.answer outcome.picked (list_of (lists_of old l0))

@@ -5,6 +5,7 @@ pub mod Asked
 pub mod Choose
 pub mod Take
 pub mod Places
+pub mod Choice
 pub mod Push
 pub mod Turns
 pub mod Control

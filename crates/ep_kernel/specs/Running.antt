@@ -1,11 +1,12 @@
 -- What holds of the kernel with ready lists between two events, and what the spread of an event does to its lists.
-use Rattle.std.specs.Prelude.{List, vec_capacity, ℕ}
+use Rattle.std.specs.Prelude.{[], List, vec_capacity, ℕ, ◌≡◌}
 use Rattle.ep_alarms.specs.Alarms.{AreSet}
 use Rattle.ep_base.specs.declared.record.Record.{Record}
 use Rattle.ep_calls.specs.Ends.{Spreads}
 use Rattle.ep_calls.specs.Keeps.{Keeps}
 use Rattle.ep_calls.specs.Parts.{Parts}
 use Rattle.ep_calls.specs.declared.raising.Raising.{Raising}
+use Rattle.ep_choice.specs.Room.{Suits}
 use Rattle.ep_climb.specs.Reach.{AreReached}
 use Rattle.ep_interest.specs.Registrations.{Registrations}
 use Rattle.ep_kernel.specs.Listed.{AreFair, HopesFor, IsListed, lists_of}
@@ -28,12 +29,14 @@ book_of k = record {
   lists = lists_of k.parts k.lists;
 }
 
--- the same, each timer has its moment, what is reportable is among the hopes, and the walk has room for their instances
+-- the same, each timer has its moment, what is reportable is among the hopes, the walks have room, and nothing is lost
 pub record IsRunning (k : Inside) : Type 0 where
   pub runs : Runs k.history.items k.parts k.lists
   pub set : AreSet k.parts.tables k.parts.clock k.alarms
   pub hopes : HopesFor k.parts k.notes.asked.hopes
   pub room : HasRoomFor k.notes.asked.hopes k.notes.reached
+  pub choice : Suits k.parts.interest k.notes.choice
+  pub unlost : k.notes.choice.lost.reached ≡ []
 
 -- what the spread of event n does to lists: they lose the places that go with the dead, and what passes something on
 -- comes to the end of its list

@@ -7,6 +7,8 @@ ghost use Rattle.ep_calls.specs.Kept.{KeepsCall, KeepsEvent};
 ghost use Rattle.ep_calls.specs.Last.{NothingRefuses, NothingRefusesCall};
 ghost use Rattle.ep_calls.specs.Spared.{IsSpared, TakesNoMemory};
 ghost use Rattle.ep_calls.specs.TableCall.{MakesTimer};
+ghost use Rattle.ep_choice.specs.Lost.{NotesLost};
+ghost use Rattle.ep_choice.specs.Room.{HaveRoom, Suits};
 ghost use Rattle.ep_kernel.specs.Listed.{HopesFor, IsListed};
 ghost use Rattle.ep_kernel.specs.Places.{HasRoomFor};
 ghost use Rattle.ep_alarms.specs.Changes.{CallsTables, MayCreate, MovesClock, TouchesTables};
@@ -53,6 +55,7 @@ fn make_call(
     requires listed { IsListed parts.old lists.old }
     requires hopes { HopesFor parts.old notes.old.asked.hopes }
     requires walk { HasRoomFor notes.old.asked.hopes notes.old.reached }
+    requires choice { Suits parts.old.interest notes.old.choice }
     ensures ok { IfOk result
         (λ outcome. DoesCallFairly lists.old request.step request.caller.0 pid.0 call.now outcome
         parts.old parts.new) }
@@ -73,6 +76,13 @@ fn make_call(
         outcome parts.old parts.new lists.new) }
     ensures hopes { HopesGo (CallOf pid call.now) parts.old parts.new notes.new.asked.hopes }
     ensures walk { HasRoomFor notes.new.asked.hopes notes.new.reached }
+    ensures choice { Suits parts.new.interest notes.new.choice }
+    ensures lost { NotesLost parts.old parts.new notes.old.choice.lost.reached
+        notes.new.choice.lost.reached }
+    ensures fits { HaveRoom notes.old.choice.lost.reached notes.old.reached
+        → HaveRoom notes.new.choice.lost.reached notes.new.reached }
+    ensures err_lost { OnErr result
+        (notes.new.choice.lost.reached ≡ notes.old.choice.lost.reached) }
     ensures err { OnErr result ((parts.new ≡ parts.old) × Same lists.old lists.new) }
 {
     match *call {
@@ -100,14 +110,8 @@ fn make_call(
                 timeout,
                 kept: request.kept,
             };
-            epoll_wait(
-                parts,
-                lists,
-                &mut notes.asked,
-                request.step,
-                request.caller,
-                args,
-            )
+            let step = request.step;
+            epoll_wait(parts, lists, &mut notes.asked, step, request.caller, args)
         }
         Call::Read { fd, .. }
         | Call::Write { fd, .. }
@@ -132,6 +136,7 @@ pub fn act(
     requires listed { IsListed parts.old lists.old }
     requires hopes { HopesFor parts.old notes.old.asked.hopes }
     requires walk { HasRoomFor notes.old.asked.hopes notes.old.reached }
+    requires choice { Suits parts.old.interest notes.old.choice }
     ensures ok { IfOk result
         (λ outcome. DoesEventFairly lists.old request.step request.caller.0 event.now outcome
         parts.old parts.new) }
@@ -151,6 +156,13 @@ pub fn act(
         parts.old parts.new lists.new) }
     ensures hopes { HopesGo event.now parts.old parts.new notes.new.asked.hopes }
     ensures walk { HasRoomFor notes.new.asked.hopes notes.new.reached }
+    ensures choice { Suits parts.new.interest notes.new.choice }
+    ensures lost { NotesLost parts.old parts.new notes.old.choice.lost.reached
+        notes.new.choice.lost.reached }
+    ensures fits { HaveRoom notes.old.choice.lost.reached notes.old.reached
+        → HaveRoom notes.new.choice.lost.reached notes.new.reached }
+    ensures err_lost { OnErr result
+        (notes.new.choice.lost.reached ≡ notes.old.choice.lost.reached) }
     ensures err { OnErr result ((parts.new ≡ parts.old) × Same lists.old lists.new) }
 {
     match event {

@@ -5,7 +5,10 @@ ghost use Rattle.ep_calls.specs.Control.{IsPlan, TellsBelow, control_call};
 ghost use Rattle.ep_calls.specs.Does.{DoesCall};
 ghost use Rattle.ep_calls.specs.Last.{NothingRefusesCall};
 ghost use Rattle.ep_calls.specs.declared.control.Operation.TheVariants.{Add};
+ghost use Rattle.ep_choice.specs.Lost.{NotesLost};
+ghost use Rattle.ep_choice.specs.Room.{HasRoomFor as CanChoose, HaveRoom, Suits, Widens};
 ghost use Rattle.ep_interest.specs.Registrations.{entry_under};
+ghost use Rattle.ep_kernel.specs.Choice.{LosesDeleted, LosesNone, StillSuits};
 ghost use Rattle.ep_kernel.specs.Control.{Settles};
 ghost use Rattle.ep_kernel.specs.Listed.{HopesFor, IsListed};
 ghost use Rattle.ep_kernel.specs.Places.{AddsNoPlace, HasRoomFor};
@@ -18,8 +21,9 @@ ghost use Rattle.ep_table.specs.Value.{number_under as desc_number};
 use crate::asked::Asked;
 use crate::notes::Notes;
 use crate::readiness::is_ready;
-use ep_base::{DescId, EntryId, Pid};
-use ep_calls::{Control, Operation, Outcome, Parts, Plan, Raising};
+use ep_base::{DescId, EntryId, Mask, Pid};
+use ep_calls::{Control, Named, Operation, Outcome, Parts, Plan, Raising};
+use ep_choice::note_deleted;
 use ep_interest::Interest;
 use ep_ready::ReadyLists;
 use std::alloc::AllocError;
@@ -64,22 +68,31 @@ fn make_places(
     }
 }
 
-/// Makes room for what an ADD keeps: the places of its registration, and what is noted of its instance. `false` is want
-/// of memory, and leaves the lists and the hopes.
-fn make_room_for(lists: &mut ReadyLists, notes: &mut Notes, instance: DescId, id: EntryId) -> bool
+/// Makes room for what an ADD keeps: the places of its registration, and what is noted of it. `false` is want of
+/// memory, and leaves the lists and the hopes.
+fn make_room_for(
+    lists: &mut ReadyLists,
+    notes: &mut Notes,
+    named: Named,
+    mask: Mask,
+    id: EntryId,
+) -> bool
     requires free { instance_at lists.old id ≡ None }
     requires hope { instance_at notes.old.asked.hopes id ≡ None }
-    ensures made { result ≡ true → GainsPlace lists.old lists.new instance.0 id }
-    ensures hoped { result ≡ true → GainsPlace notes.old.asked.hopes notes.new.asked.hopes instance.0 id }
+    ensures made { result ≡ true → GainsPlace lists.old lists.new named.instance.0 id }
+    ensures hoped { result ≡ true
+        → GainsPlace notes.old.asked.hopes notes.new.asked.hopes named.instance.0 id }
     ensures refused { result ≡ false
         → Same lists.old lists.new × Same notes.old.asked.hopes notes.new.asked.hopes }
     ensures more { notes.old.reached.room ≤ notes.new.reached.room }
-    ensures room { result ≡ true → instance.0 < notes.new.reached.room }
+    ensures room { result ≡ true → named.instance.0 < notes.new.reached.room }
+    ensures choice { result ≡ true → CanChoose notes.new.choice named mask id.0 }
+    ensures widens { Widens notes.old.choice notes.new.choice }
 {
-    if notes.make_room(instance).is_err() {
+    if notes.make_room(named, mask, id).is_err() {
         return false;
     }
-    make_places(lists, &mut notes.asked.hopes, instance, id).is_ok()
+    make_places(lists, &mut notes.asked.hopes, named.instance, id).is_ok()
 }
 
 /// Whether the instance that an ADD or a MOD is about is ready; `false` for what is no instance. DEL asks nothing.
@@ -126,6 +139,8 @@ fn alter(
     ensures spared { plan.operation ≢ Add → IsOk result }
     ensures hopes { HopesGo (CallOf pid (control_call args)) parts.old parts.new asked.new.hopes }
     ensures within { AddsNoPlace asked.old.hopes asked.new.hopes }
+    ensures choice { StillSuits parts.old.interest parts.new.interest }
+    ensures lost { LosesDeleted plan parts.old parts.new }
     ensures err { OnErr result ((parts.new ≡ parts.old) × Same lists.old lists.new) }
 {
     let Some(id) = plan.found else {
@@ -159,8 +174,8 @@ fn refuse(parts: &mut Parts, pid: Pid, args: Control, mut plan: Plan) -> Result<
     parts.control(pid, args, plan)
 }
 
-/// Adds a registration that is not there, with its places, and makes room for what is noted of its instance. An `Err`
-/// is want of memory and leaves the parts and the lists. It comes only if nothing refuses the call.
+/// Adds a registration that is not there, with its places, and makes room for what is noted of it. An `Err` is want of
+/// memory and leaves the parts and the lists. It comes only if nothing refuses the call.
 fn add(
     parts: &mut Parts,
     lists: &mut ReadyLists,
@@ -176,6 +191,7 @@ fn add(
     requires listed { IsListed parts.old lists.old }
     requires hopes { HopesFor parts.old notes.old.asked.hopes }
     requires room { HasRoomFor notes.old.asked.hopes notes.old.reached }
+    requires choice { Suits parts.old.interest notes.old.choice }
     ensures ok { IfOk result
         (λ outcome. (n caller : ℕ)
         → DoesCall n caller pid.0 (control_call args) outcome parts.old parts.new) }
@@ -187,6 +203,10 @@ fn add(
     ensures hopes { HopesGo (CallOf pid (control_call args)) parts.old parts.new
         notes.new.asked.hopes }
     ensures room { HasRoomFor notes.new.asked.hopes notes.new.reached }
+    ensures choice { Suits parts.new.interest notes.new.choice }
+    ensures more { notes.old.reached.room ≤ notes.new.reached.room }
+    ensures kept { notes.new.choice.lost.reached ≡ notes.old.choice.lost.reached }
+    ensures lost { LosesNone parts.old parts.new }
     ensures err { OnErr result ((parts.new ≡ parts.old) × Same lists.old lists.new) }
 {
     parts.known();
@@ -194,7 +214,7 @@ fn add(
     lists.known();
     let id = parts.interest.next_key();
     notes.asked.hopes.known();
-    if !make_room_for(lists, notes, plan.named.instance, id) {
+    if !make_room_for(lists, notes, plan.named, args.mask, id) {
         let refused = refuse(parts, pid, args, plan)?;
         return Ok(refused);
     }
@@ -228,6 +248,7 @@ fn enter(
     requires listed { IsListed parts.old lists.old }
     requires hopes { HopesFor parts.old notes.old.asked.hopes }
     requires room { HasRoomFor notes.old.asked.hopes notes.old.reached }
+    requires choice { Suits parts.old.interest notes.old.choice }
     ensures ok { IfOk result
         (λ outcome. (n caller : ℕ)
         → DoesCall n caller pid.0 (control_call args) outcome parts.old parts.new) }
@@ -240,6 +261,10 @@ fn enter(
     ensures hopes { HopesGo (CallOf pid (control_call args)) parts.old parts.new
         notes.new.asked.hopes }
     ensures room { HasRoomFor notes.new.asked.hopes notes.new.reached }
+    ensures choice { Suits parts.new.interest notes.new.choice }
+    ensures more { notes.old.reached.room ≤ notes.new.reached.room }
+    ensures kept { notes.new.choice.lost.reached ≡ notes.old.choice.lost.reached }
+    ensures lost { LosesNone parts.old parts.new }
     ensures err { OnErr result ((parts.new ≡ parts.old) × Same lists.old lists.new) }
 {
     match plan.operation {
@@ -251,9 +276,10 @@ fn enter(
 
 /// epoll_ctl(2), as `Parts::plan` and `Parts::control` do it, with the ready lists: a registration that is added gets a
 /// place, and one that is deleted loses it; what is added or modified and reportable comes to the end of its list. The
-/// same goes for the hopes. Of the instances below its target only the hopes are looked at, as `is_ready` says. A
-/// refusal leaves the parts and the lists, and so does an `Err`. That is want of memory, and comes only of an ADD that
-/// nothing refuses.
+/// same goes for the hopes. Of the instances below its target only the hopes are looked at, as `is_ready` says. If a DEL
+/// takes away what may have guarded its instance, that is noted as one that lost a registration. A refusal leaves
+/// the parts and the lists, and so does an `Err`. That is want of memory, and comes only of an ADD that nothing
+/// refuses.
 pub fn epoll_ctl(
     parts: &mut Parts,
     lists: &mut ReadyLists,
@@ -264,6 +290,7 @@ pub fn epoll_ctl(
     requires listed { IsListed parts.old lists.old }
     requires hopes { HopesFor parts.old notes.old.asked.hopes }
     requires room { HasRoomFor notes.old.asked.hopes notes.old.reached }
+    requires choice { Suits parts.old.interest notes.old.choice }
     ensures ok { IfOk result
         (λ outcome. (n caller : ℕ)
         → DoesCall n caller pid.0 (control_call args) outcome parts.old parts.new) }
@@ -276,6 +303,13 @@ pub fn epoll_ctl(
     ensures hopes { HopesGo (CallOf pid (control_call args)) parts.old parts.new
         notes.new.asked.hopes }
     ensures room { HasRoomFor notes.new.asked.hopes notes.new.reached }
+    ensures choice { Suits parts.new.interest notes.new.choice }
+    ensures lost { NotesLost parts.old parts.new notes.old.choice.lost.reached
+        notes.new.choice.lost.reached }
+    ensures fits { HaveRoom notes.old.choice.lost.reached notes.old.reached
+        → HaveRoom notes.new.choice.lost.reached notes.new.reached }
+    ensures err_lost { OnErr result
+        (notes.new.choice.lost.reached ≡ notes.old.choice.lost.reached) }
     ensures err { OnErr result ((parts.new ≡ parts.old) × Same lists.old lists.new) }
 {
     let mut plan = match parts.plan(pid, args) {
@@ -283,6 +317,7 @@ pub fn epoll_ctl(
         Err(refused) => return Ok(refused),
     };
     plan.below = is_below_ready(parts, &mut notes.asked, plan.operation, plan.named.desc);
+    note_deleted(parts, &mut notes.choice.lost, plan);
     match plan.found {
         Some(_) => alter(parts, lists, &mut notes.asked, pid, args, plan),
         None => enter(parts, lists, notes, pid, args, plan),

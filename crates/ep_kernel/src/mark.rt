@@ -1,19 +1,17 @@
 //! The hopes tell whether an instance is ready, and marks are set by them at the end of an event.
-ghost use Rattle.std.specs.Prelude.{◌≡◌};
-ghost use Rattle.ep_calls.specs.Parking.{ready_key};
-ghost use Rattle.ep_climb.specs.Mark.{AreLookedAt};
+ghost use Rattle.std.specs.Prelude.{◌≡◌, ◌<◌, []};
+ghost use Rattle.ep_choice.specs.Marking.{AreLookedAt, Fits, IsNarrowed, due_in, gets_mark_key};
+ghost use Rattle.ep_climb.specs.Reach.{AreReached};
 ghost use Rattle.ep_kernel.specs.Asked.{KnowsIn};
 ghost use Rattle.ep_kernel.specs.Listed.{HopesFor};
 ghost use Rattle.ep_machine.specs.Marks.{marked_by};
 
 use crate::asked::Asked;
+use crate::notes::Notes;
 use crate::readiness::is_ready;
 use ep_base::DescId;
 use ep_calls::Parts;
-use ep_climb::{Readiness, mark_due};
-use ep_park::laws::unmarked_in_turn;
-use ep_ready::Walk;
-use std::alloc::Global;
+use ep_climb::Readiness;
 
 impl Readiness for Asked {
     ghost knows = { KnowsIn };
@@ -23,21 +21,30 @@ impl Readiness for Asked {
     }
 }
 
-/// Sets marks at the end of an event: whoever is due, and of those that wait at a ready instance the longest waiting
-/// one, if none is marked there. `attend` is the instance at which an epoll_ctl raised IN, or at which a caller that
-/// was resumed waited. Only the instances that the event reached and that one are looked at, and each instance below
-/// them is asked once. All that is reportable stays among the hopes.
-pub fn mark(parts: &mut Parts, reached: &Walk<Global>, asked: &mut Asked, attend: Option<DescId>)
-    requires hopes { HopesFor parts.old asked.old.hopes }
-    requires reached { AreLookedAt parts.old reached.now.reached attend }
+/// Sets marks at the end of an event, as ep_choice does, by what the hopes tell. Each instance below those that are
+/// looked at is asked once. All that is reportable stays among the hopes.
+pub fn mark(parts: &mut Parts, notes: &mut Notes, attend: Option<DescId>, step: u64)
+    requires step { 0 < step }
+    requires hopes { HopesFor parts.old notes.old.asked.hopes }
+    requires fits { Fits parts.old notes.old.reached notes.old.choice }
+    requires reached { AreReached step parts.old.tables parts.old.interest
+        notes.old.reached.reached }
+    requires looked { AreLookedAt step parts.old notes.old.choice.lost.reached attend }
     ensures marks { parts.new.parked
-        ≡ marked_by (ready_key parts.old.tables parts.old.clock parts.old.interest) parts.old.clock
-        parts.old.parked }
-    ensures others { parts.new ≡ record parts.old { parked = parts.new.parked } }
-    ensures hopes { HopesFor parts.old asked.new.hopes }
+        ≡ marked_by (gets_mark_key step parts.old attend) parts.old.clock parts.old.parked }
+    ensures narrowed { IsNarrowed step (record parts.old { parked = due_in parts.old })
+        parts.new }
+    ensures hopes { HopesFor parts.new notes.new.asked.hopes }
+    ensures fits { Fits parts.new notes.new.reached notes.new.choice }
+    ensures unlost { notes.new.choice.lost.reached ≡ [] }
 {
-    asked.forget();
-    unmarked_in_turn();
-    mark_due(parts);
-    ep_climb::mark(parts, asked, reached, attend);
+    notes.asked.forget();
+    ep_choice::mark(
+        parts,
+        &mut notes.asked,
+        &mut notes.reached,
+        &mut notes.choice,
+        attend,
+        step,
+    );
 }

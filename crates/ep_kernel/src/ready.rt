@@ -13,7 +13,7 @@ ghost use Rattle.ep_machine.specs.Lists.{are_distinct, is_among};
 ghost use Rattle.ep_machine.specs.Refusal.{refusals};
 ghost use Rattle.ep_machine.specs.Step.{next_event};
 ghost use Rattle.ep_order.specs.Event.{ListsGoOn};
-ghost use Rattle.ep_order.specs.Mark.{UnmarkedAreReached};
+ghost use Rattle.ep_order.specs.Mark.{MarkedAreLookedAt};
 ghost use Rattle.ep_ready.specs.ReadyLists.{IsSound as AreSoundLists};
 ghost use Rattle.ep_table.specs.Value.{Sound as SoundTables};
 ghost use Rattle.ep_view.specs.AtRest.{IsSteady, kind_of};
@@ -24,9 +24,9 @@ use crate::settle::{know, rest, spread};
 use ep_alarms::{Alarms, find_called};
 use ep_base::{Answer, CallerId, Errno, Event, Limits, Record};
 use ep_calls::{Kernel, Parts, Spare};
-use ep_climb::{attend, resumed_at};
+use ep_climb::{attend, left, resumed_at};
 use ep_law::laws::{ends_are_apart, reportables_are_spread};
-use ep_order::{lists_go_on, unmarked_are_reached};
+use ep_order::{lists_go_on, marked_are_looked_at};
 use ep_ready::ReadyLists;
 use std::alloc::{AllocError, Global};
 use std::marker::Model;
@@ -65,12 +65,12 @@ fn know_laws(parts: &Parts, lists: &ReadyLists)
     ensures lists { AreSoundLists lists.now }
     ensures apart { EndsAreApart }
     ensures spread { ReportablesAreSpread }
-    ensures reached { UnmarkedAreReached }
+    ensures looked { MarkedAreLookedAt }
     ensures turns { ListsGoOn }
 {
     lists_go_on();
     ends_are_apart();
-    unmarked_are_reached();
+    marked_are_looked_at();
     reportables_are_spread();
     know(parts);
     lists.known();
@@ -172,8 +172,8 @@ impl ReadyKernel {
             raising,
         );
         self.lists.known();
-        let attended = attend(resumed, raising);
-        rest(&mut self.parts, &mut self.notes, attended);
+        let attended = attend(left(&self.parts, caller, resumed), raising);
+        rest(&mut self.parts, &mut self.notes, attended, step);
         self.history.push_reserved(record);
         Ok((answer, spare))
     }

@@ -1,11 +1,14 @@
 //! The end of an event, with the ready lists and the hopes.
-ghost use Rattle.std.specs.Prelude.{◌≡◌, ◌<◌};
+ghost use Rattle.std.specs.Prelude.{◌≡◌, ◌<◌, []};
 ghost use Rattle.ep_alarms.specs.Alarms.{AreSet};
 ghost use Rattle.ep_alarms.specs.Changes.{AreSetSince};
-ghost use Rattle.ep_calls.specs.Ends.{Rests};
+ghost use Rattle.ep_calls.specs.Ends.{RestsBy};
 ghost use Rattle.ep_calls.specs.Parts.{AreCoherent};
 ghost use Rattle.ep_calls.specs.Raising.{IsRaising};
-ghost use Rattle.ep_climb.specs.Mark.{AreLookedAt};
+ghost use Rattle.ep_choice.specs.Lost.{NotesLost};
+ghost use Rattle.ep_choice.specs.Marking.{AreLookedAt, Fits, gets_mark_key};
+ghost use Rattle.ep_choice.specs.Room.{HaveRoom, Suits};
+ghost use Rattle.ep_climb.specs.Reach.{AreReached};
 ghost use Rattle.ep_interest.specs.Registrations.{IsSound};
 ghost use Rattle.ep_kernel.specs.Listed.{HavePlaces, HopesFor};
 ghost use Rattle.ep_kernel.specs.Places.{HasRoomFor};
@@ -19,6 +22,7 @@ use crate::places::drop_dying;
 use ep_alarms::{Alarms, burial_leaves_alarms};
 use ep_base::DescId;
 use ep_calls::{Parts, Raising};
+use ep_choice::note_dying;
 use ep_ready::ReadyLists;
 
 /// Does nothing. What holds of the parts between calls, with their registrations; a fact for proofs.
@@ -31,9 +35,10 @@ pub fn know(parts: &Parts)
     parts.interest.known();
 }
 
-/// Notes what an event raised, takes the dead away with their places and moments, puts what passes something on at
-/// the end of its list and among the hopes, and lets what was raised climb. The instances that IN reached are noted.
-/// Marks are still to be set, and what was passed on is still to be forgotten.
+/// Notes what an event raised, takes the dead away with their places and moments, puts what passes something on at the
+/// end of its list and among the hopes, and lets what was raised climb. The instances that IN reached are noted, and
+/// those that lost a registration that may have guarded them. Marks are still to be set, and what was passed on is
+/// still to be forgotten.
 pub fn spread(
     parts: &mut Parts,
     lists: &mut ReadyLists,
@@ -47,16 +52,23 @@ pub fn spread(
     requires places { HavePlaces parts.old.interest lists.old }
     requires hopes { HavePlaces parts.old.interest notes.old.asked.hopes }
     requires room { HasRoomFor notes.old.asked.hopes notes.old.reached }
+    requires choice { Suits parts.old.interest notes.old.choice }
     requires set { AreSetSince raising parts.old.tables parts.old.clock alarms.old }
     ensures spreads { SpreadsWith step raising parts.old lists.old notes.old.asked.hopes parts.new
         lists.new notes.new.asked.hopes notes.new.reached.reached }
     ensures room { HasRoomFor notes.new.asked.hopes notes.new.reached }
+    ensures choice { Suits parts.new.interest notes.new.choice }
+    ensures lost { NotesLost parts.old parts.new notes.old.choice.lost.reached
+        notes.new.choice.lost.reached }
+    ensures fits { HaveRoom notes.old.choice.lost.reached notes.old.reached
+        → HaveRoom notes.new.choice.lost.reached notes.new.reached }
     ensures set { AreSet parts.new.tables parts.new.clock alarms.new }
 {
     know(parts);
     alarms.raise(parts, step, raising);
     know(parts);
     drop_dying(parts, lists, &mut notes.asked.hopes);
+    note_dying(parts, &mut notes.choice.lost);
     burial_leaves_alarms();
     alarms.drop_dying(&parts.tables);
     parts.bury(step);
@@ -71,15 +83,21 @@ pub fn spread(
     know(parts);
 }
 
-/// Sets marks, and forgets what was passed on in an event. All that is reportable stays among the hopes.
+/// Sets marks, and forgets what was passed on in an event, and what was lost. All that is reportable stays among the
+/// hopes.
 #[inline(always)]
-pub fn rest(parts: &mut Parts, notes: &mut Notes, attend: Option<DescId>)
+pub fn rest(parts: &mut Parts, notes: &mut Notes, attend: Option<DescId>, step: u64)
+    requires step { 0 < step }
     requires hopes { HopesFor parts.old notes.old.asked.hopes }
-    requires looked { AreLookedAt parts.old notes.old.reached.reached attend }
-    ensures rests { Rests parts.old parts.new }
-    ensures hopes { HopesFor parts.old notes.new.asked.hopes }
-    ensures reached { notes.new.reached ≡ notes.old.reached }
+    requires fits { Fits parts.old notes.old.reached notes.old.choice }
+    requires reached { AreReached step parts.old.tables parts.old.interest
+        notes.old.reached.reached }
+    requires looked { AreLookedAt step parts.old notes.old.choice.lost.reached attend }
+    ensures rests { RestsBy (gets_mark_key step parts.old attend) parts.old parts.new }
+    ensures hopes { HopesFor parts.new notes.new.asked.hopes }
+    ensures fits { Fits parts.new notes.new.reached notes.new.choice }
+    ensures unlost { notes.new.choice.lost.reached ≡ [] }
 {
-    mark(parts, &notes.reached, &mut notes.asked, attend);
+    mark(parts, notes, attend, step);
     parts.forget_passed();
 }

@@ -5,6 +5,7 @@ ghost use Rattle.ep_base.specs.declared.call.Event.TheVariants.{Call as CallOf, 
 ghost use Rattle.ep_calls.specs.Kept.{IsKept};
 ghost use Rattle.ep_calls.specs.Last.{NothingRefuses, NothingRefusesCall};
 ghost use Rattle.ep_calls.specs.Wait.{wait_call};
+ghost use Rattle.ep_kernel.specs.Choice.{LosesNone, StillSuits};
 ghost use Rattle.ep_kernel.specs.Listed.{HopesFor, IsListed};
 ghost use Rattle.ep_kernel.specs.Places.{AddsNoPlace};
 ghost use Rattle.ep_alarms.specs.Changes.{LeavesFiles};
@@ -59,6 +60,8 @@ pub fn epoll_wait(
         outcome parts.old parts.new lists.new) }
     ensures hopes { HopesGo (CallOf args.pid (wait_call args)) parts.old parts.new asked.new.hopes }
     ensures within { AddsNoPlace asked.old.hopes asked.new.hopes }
+    ensures choice { StillSuits parts.old.interest parts.new.interest }
+    ensures lost { LosesNone parts.old parts.new }
     ensures last { OnErr result (NothingRefusesCall parts.old args.pid.0 (wait_call args)) }
     ensures err { OnErr result (parts.new ≡ parts.old) }
     ensures err_lists { OnErr result (lists.new ≡ lists.old) }
@@ -102,6 +105,8 @@ pub fn resume(
         lists.new) }
     ensures hopes { HopesGo Resume parts.old parts.new asked.new.hopes }
     ensures within { AddsNoPlace asked.old.hopes asked.new.hopes }
+    ensures choice { StillSuits parts.old.interest parts.new.interest }
+    ensures lost { LosesNone parts.old parts.new }
     ensures last { OnErr result (NothingRefuses parts.old caller.0 Resume) }
     ensures err { OnErr result (parts.new ≡ parts.old) }
     ensures err_lists { OnErr result (lists.new ≡ lists.old) }

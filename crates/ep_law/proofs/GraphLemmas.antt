@@ -123,7 +123,6 @@ linked_narrows s t narrows of h = record {
         target = not_true _ (λ holds. false≢true (sym was.target ∙ (ap (has_instance s.files) same ∙ narrows.instances y.target (below y m) holds)));
         armed = alike.1 was.armed was.always;
         always = ap (λ (k : ℕ). has_bit k ONESHOT) (sym alike.0) ∙ was.always;
-        refused = was.refused;
       };
 } where
   still : (e : ℕ) → IsInstance s.files e → IsInstance t.files e
@@ -223,7 +222,7 @@ and_not false b h e = absurd (false≢true e)
 
 -- what may be asked of a new registration
 abbrev MayStand : Files → ℕ → ℕ → Type 0
-MayStand f d mask = has_bit mask EXCLUSIVE ≡ true → (has_instance f d ≡ false) × (has_bit mask ONESHOT ≡ false) × ⊥
+MayStand f d mask = has_bit mask EXCLUSIVE ≡ true → (has_instance f d ≡ false) × (has_bit mask ONESHOT ≡ false)
 
 module _ (s : State) (e fd d mask tag : ℕ) (h : Linked s) (allowed : (has_instance s.files d && not (is_legal ((e, d) ∷ links s))) ≡ false) where
   abbrev x : Watch
@@ -260,7 +259,7 @@ module _ (s : State) (e fd d mask tag : ℕ) (h : Linked s) (allowed : (has_inst
     ];
     exclusive = λ y m. elim (pushed_member s.watches x y m) [
       | inl old ↦ h.exclusive y old
-      | inr new ↦ subst (λ (w : Watch). is_exclusive w ≡ true → IsApart s.files w) (sym new) (λ is. let may = stands is in record { target = may.0; armed = refl; always = may.1; refused = may.2 })
+      | inr new ↦ subst (λ (w : Watch). is_exclusive w ≡ true → IsApart s.files w) (sym new) (λ is. let may = stands is in record { target = may.0; armed = refl; always = may.1 })
     ];
     targets = λ y m. elim (pushed_member s.watches x y m) [
       | inl old ↦ h.targets y old
@@ -301,10 +300,6 @@ no_one_shot : (mask : ℕ) → has_only mask exclusive_bits ≡ true → has_bit
 no_one_shot mask only = ap (λ (k : ℕ). not (k == 0)) (
     ap (λ (k : ℕ). bit_and k ONESHOT) (sym (from_test (bit_and mask exclusive_bits) mask only)) ∙ (and_assoc ONESHOT mask exclusive_bits ∙ and_zero_r mask))
 
-no_exclusive : (mask : ℕ) → has_only mask exclusive_bits ≡ true → has_bit mask EXCLUSIVE ≡ false
-no_exclusive mask only = ap (λ (k : ℕ). not (k == 0)) (
-    ap (λ (k : ℕ). bit_and k EXCLUSIVE) (sym (from_test (bit_and mask exclusive_bits) mask only)) ∙ (and_assoc EXCLUSIVE mask exclusive_bits ∙ and_zero_r mask))
-
 -- Bools of refusals.
 may_stand : (a x i o : Bool) → a ≡ true → (a && x && (i || not o)) ≡ false → x ≡ true → (i ≡ false) × (o ≡ true)
 may_stand true true false true e h t = (refl, refl)
@@ -341,7 +336,7 @@ linked_ctl s p epfd op fd mask tag h loops shows instances ops adds mods =
     linked_watches s (map (modified e k d mask tag) s.watches) (of_map (modified e k d mask tag) (modified_link e k d mask tag) (modified_armed e k d mask tag plainly) s.watches) h in
     let new : is_add op ≡ true → Linked (add s e k d mask tag).1 = λ is.
     linked_add s e k d mask tag h (ap (λ (b : Bool). b && has_instance s.files d && not (is_legal ((e, d) ∷ links s))) (sym is) ∙ loops) shows here
-    (λ exclusive. let may = may_stand (is_add op) (has_bit mask EXCLUSIVE) (has_instance s.files d) (has_only mask exclusive_bits) is adds exclusive in (may.0, no_one_shot mask may.1, false≢true (sym (no_exclusive mask may.1) ∙ exclusive))) in
+    (λ exclusive. let may = may_stand (is_add op) (has_bit mask EXCLUSIVE) (has_instance s.files d) (has_only mask exclusive_bits) is adds exclusive in (may.0, no_one_shot mask may.1)) in
     by_add (is_add op) _ _ new (λ no. by_del (is_del op) _ _ removed (λ neither_is. changed (not_exclusive (is_add op) (is_del op) (is_mod op) (has_bit mask EXCLUSIVE) no neither_is ops mods))) where
       by_add : (b : Bool) (c c' : Change) → (b ≡ true → Linked c.1) → (b ≡ false → Linked c'.1) → Linked (cond b c c').1
       by_add true c c' new other = new refl

@@ -92,7 +92,6 @@ pub record IsApart (f : Files) (x : Watch) : Type 0 where
   pub target : has_instance f x.target ≡ false
   pub armed : x.armed ≡ true
   pub always : has_bit x.mask ONESHOT ≡ false
-  pub refused : ⊥  -- additions with EXCLUSIVE are not accepted yet
 
 -- in each state of a run no exclusive registration is on an instance, and each is armed
 abbrev pub ExclusiveTargets : Type 0

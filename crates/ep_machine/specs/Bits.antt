@@ -50,10 +50,9 @@ union (bits ∷ rest) = bit_or bits (union rest)
 abbrev pub asked : ℕ → ℕ → ℕ
 asked mask bits = bit_and bits (union (mask ∷ ERR ∷ HUP ∷ []))
 
--- What the mask of an exclusive registration may have. EXCLUSIVE itself is left out, so that no addition with it is
--- accepted yet.
+-- what the mask of an exclusive registration may have
 abbrev pub exclusive_bits : ℕ
-exclusive_bits = union (IN ∷ OUT ∷ ERR ∷ HUP ∷ WAKEUP ∷ ET ∷ [])
+exclusive_bits = union (IN ∷ OUT ∷ ERR ∷ HUP ∷ EXCLUSIVE ∷ WAKEUP ∷ ET ∷ [])
 
 -- those that hold after and not before
 abbrev pub beginning : ℕ → ℕ → ℕ

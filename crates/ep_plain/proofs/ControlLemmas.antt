@@ -16,7 +16,8 @@ use Rattle.ep_base.specs.declared.mask.Mask.{Mask}
 use Rattle.ep_calls.proofs.ControlLemmas.{found_as}
 use Rattle.ep_calls.proofs.EntryLemmas.{holds_under, member_of, number_of, some_entry, within}
 use Rattle.ep_calls.proofs.FindLemmas.{has_number}
-use Rattle.ep_calls.specs.Control.{Changes, Controls, IsFound, Names, control_call, is_done, next_entry}
+use Rattle.ep_calls.specs.Climb.{is_nested_key}
+use Rattle.ep_calls.specs.Control.{Changes, Controls, IsFound, IsPlan, Names, code_of, control_call, is_done, is_refused_op, next_entry}
 use Rattle.ep_calls.specs.Parts.{Parts}
 use Rattle.ep_calls.specs.Stands.{AreLinked, IsLinked}
 use Rattle.ep_calls.specs.declared.control.Control.{Control}
@@ -25,25 +26,34 @@ use Rattle.ep_calls.specs.declared.control.Operation.{Operation}
 use Rattle.ep_calls.specs.declared.control.Operation.TheVariants.{Add, Delete, Modify}
 use Rattle.ep_calls.specs.declared.control.Plan.{Plan}
 use Rattle.ep_calls.specs.declared.outcome.Outcome.{Outcome}
+use Rattle.ep_choice.proofs.LosingLemmas.{reaches_home}
+use Rattle.ep_choice.proofs.NotesLostLemmas.{notes_controlled}
+use Rattle.ep_choice.proofs.SuitsLemmas.{room_deleted}
+use Rattle.ep_choice.specs.Lost.{NotesLost, deleted_by, deleted_home, with_home}
+use Rattle.ep_choice.specs.Room.{HaveRoom}
+use Rattle.ep_climb.proofs.SetLemmas.{apart_nat, clears_deleted, renewed, sets_added, sets_modified, some_of}
 use Rattle.ep_dates.proofs.DropLemmas.{drops_none, drops_one}
 use Rattle.ep_dates.specs.Dates.{Dates, HasPlace, ended, event_at, is_dated}
 use Rattle.ep_dates.specs.Drop.{Drops}
 use Rattle.ep_dates.specs.Kept.{AreKept}
 use Rattle.ep_dates.specs.Moves.{IsAdded, Moves}
+use Rattle.ep_interest.specs.Exclusive.{is_exclusive}
 use Rattle.ep_interest.specs.Registrations.{IsSound, Registrations, entry_found, entry_under, has_key, is_other, modified, number_under, numbered}
 use Rattle.ep_interest.specs.declared.entry.Entry.{Entry}
 use Rattle.ep_law.proofs.TestLemmas.{from_test, same_nat}
 use Rattle.ep_law.specs.Laws.{Member}
+use Rattle.ep_machine.specs.Bits.{EXCLUSIVE, has_bit}
 use Rattle.ep_machine.specs.Files.{under}
 use Rattle.ep_machine.specs.Lists.{is_among}
+use Rattle.ep_plain.proofs.FitsLemmas.{IsRoomy, fits_from}
 use Rattle.ep_plain.proofs.LosesLemmas.{loses_moves}
-use Rattle.ep_plain.proofs.RoomLemmas.{fits_from, fits_grown, kept_grown, loses_grown, same_event}
-use Rattle.ep_climb.proofs.SetLemmas.{apart_nat, clears_deleted, renewed, sets_added, sets_modified, some_of}
+use Rattle.ep_plain.proofs.RoomLemmas.{fits_grown, kept_grown, loses_grown, same_event}
 use Rattle.ep_plain.specs.Control.{IsInRow, deleted_in, key_of, without_deleted}
 use Rattle.ep_plain.specs.Dating.{Fits, Grows, HasRoomFor}
 use Rattle.ep_plain.specs.Exact.{Follows, IsExact, IsNamed, TellsReports}
 use Rattle.ep_plain.specs.Loses.{Loses}
 use Rattle.ep_plain.specs.declared.dating.Dating.{Dating}
+use Rattle.ep_ready.specs.Walk.{Walk}
 use Rattle.ep_rings.specs.PlacedRows.{keys_at}
 use Rattle.ep_table.specs.Value.{Seen, Sound, number_under as desc_number}
 
@@ -103,6 +113,7 @@ pub record WasAbout (r : Registrations) (id : EntryId) (x : Entry) : Type 0 wher
   pub instance : was.instance ≡ x.instance
   pub fd : was.fd ≡ x.fd
   pub desc : was.desc ≡ x.desc
+  pub exclusive : is_exclusive x ≡ true → is_exclusive was ≡ true
 
 -- each was there and stays, or is added, and no other goes
 pub record Edits (old new : Registrations) (gone : ℕ → Bool) (Added : EntryId → Entry → Type 0) : Type 0 where
@@ -115,7 +126,7 @@ abbrev pub IsNext : Registrations → Named → Control → EntryId → Entry �
 IsNext r named args id x = (id.0 ≡ r.next) × (x ≡ next_entry r named args)
 
 same_about : (r : Registrations) (id : EntryId) (x : Entry) → entry_under r id ≡ Some x → WasAbout r id x
-same_about r id x at = record { was = x; there = at; number = refl; instance = refl; fd = refl; desc = refl }
+same_about r id x at = record { was = x; there = at; number = refl; instance = refl; fd = refl; desc = refl; exclusive = λ h. h }
 
 edits_none : (old new : Registrations) → new ≡ old → Edits old new (λ k. false) (λ id x. ⊥)
 edits_none old new same = subst (λ (r : Registrations). Edits old r (λ k. false) (λ id x. ⊥)) (sym same) (record {
@@ -148,8 +159,9 @@ module _ (old new : Registrations) (was : IsSound old) (is : IsSound new) (named
       }
 
   module _ (key : EntryId) (it : Entry) (here : entry_under old key ≡ Some it) (added : new.added ≡ old.added) where
-    edits_modified : Changes Modify (Some key) named args old new → Edits old new (λ k. false) (λ id x. ⊥)
-    edits_modified changes =
+    -- a MOD to an exclusive one is refused
+    edits_modified : has_bit args.mask.0 EXCLUSIVE ≡ false → Changes Modify (Some key) named args old new → Edits old new (λ k. false) (λ id x. ⊥)
+    edits_modified plain changes =
         let sets = sets_modified old new was key it here args.mask args.tag changes.0 changes.1 in
         record {
           each = λ id x at. elim (cases_eq id.0 key.0) [
@@ -163,6 +175,7 @@ module _ (old new : Registrations) (was : IsSound old) (is : IsSound new) (named
                     instance = ap (λ (z : Entry). z.instance) same;
                     fd = ap (λ (z : Entry). z.fd) same;
                     desc = ap (λ (z : Entry). z.desc) same;
+                    exclusive = λ h. absurd (false≢true (sym plain ∙ (ap (λ (z : Entry). is_exclusive z) same ∙ h)));
                   },
                   refl,
                 )
@@ -259,15 +272,10 @@ module _ (n : ℕ) (event_pid : Pid) (args : Control) (old new : Parts) (d e : D
   fits : Fits old.interest e
   fits = fits_grown old.interest d e grows exact.fits
 
-  record IsRoomy (id : EntryId) (x : Entry) : Type 0 where
-    pub reached : x.instance.0 < e.reached.room
-    pub gone : x.instance.0 < e.gone.room
-    pub flags : id.0 < e.flags.room
-
   module _ (gone : ℕ → Bool) (Added : EntryId → Entry → Type 0) (edits : Edits old.interest new.interest gone Added) (f : Dates) (drops : Drops old.interest gone e.dates f)
-      (added : (id : EntryId) (x : Entry) → Added id x → IsAdded f id x × (old.interest.added < x.number) × IsRoomy id x)
+      (added : (id : EntryId) (x : Entry) → Added id x → IsAdded f id x × (old.interest.added < x.number) × IsRoomy e id x)
       (named : (id : EntryId) (x : Entry) → entry_under new.interest id ≡ Some x → IsNamed old.tables (CallOf event_pid (control_call args)) x → e.altered ≡ Some id)
-      (told : TellsReports n [] new.interest)
+      (told : TellsReports n [] new.interest) (lost : Walk) (room : lost.room ≡ e.choice.lost.room) (roomy : HaveRoom lost.reached e.reached) (notes : NotesLost old new d.choice.lost.reached lost.reached)
     where
       moves : Moves f old.interest new.interest
       moves = record {
@@ -287,20 +295,24 @@ module _ (n : ℕ) (event_pid : Pid) (args : Control) (old new : Parts) (d e : D
         | inr new ↦ inr (added id x new).1
       ]))
 
-      edited_follow : Follows n (CallOf event_pid (control_call args)) [] old d new (record e { dates = f })
+      edited_follow : Follows n (CallOf event_pid (control_call args)) [] old d new (record e { dates = f; choice = record e.choice { lost = lost } })
       edited_follow = record {
         loses = loses;
-        fits = fits_from old.interest new.interest e (record e { dates = f }) fits loses.kept (omega arith) (omega arith) (omega arith) refl (λ id x at. elim (edits.each id x at) [
-          | inl stays ↦ let was = stays.0 in inl (was.was, was.there, ap (λ (i : DescId). i.0) was.instance)
-          | inr new ↦ let room = (added id x new).2 in inr (room.reached, room.gone, room.flags)
-        ]);
+        fits = fits_from old.interest new.interest e (record e { dates = f; choice = record e.choice { lost = lost } }) fits loses.kept
+            (record { reached = refl; gone = refl; flags = refl; lost = room; targets = refl; candidates = refl }) roomy (λ id x at. elim (edits.each id x at) [
+              | inl stays ↦
+                  let was = stays.0 in
+                  inl (record { was = was.was; there = was.there; instance = ap (λ (i : DescId). i.0) was.instance; desc = ap (λ (i : DescId). i.0) was.desc; exclusive = was.exclusive })
+              | inr new ↦ inr (added id x new).2
+            ]);
         told = told;
         altered = named;
+        lost = notes;
       }
 
   -- the one that is added has a place, and no date
-  next_added : (r_sound : IsSound old.interest) (named : Named) (is : number_under old.interest (record { 0 = old.interest.next }) ≡ None) → HasRoomFor e (old.interest.added + 1) named.instance.0 old.interest.next
-      → (id : EntryId) (x : Entry) → IsNext old.interest named args id x → IsAdded e.dates id x × (old.interest.added < x.number) × IsRoomy id x
+  next_added : (r_sound : IsSound old.interest) (named : Named) (is : number_under old.interest (record { 0 = old.interest.next }) ≡ None) → HasRoomFor e (old.interest.added + 1) named args.mask old.interest.next
+      → (id : EntryId) (x : Entry) → IsNext old.interest named args id x → IsAdded e.dates id x × (old.interest.added < x.number) × IsRoomy e id x
   next_added r_sound named is room id x next =
       let y = next_entry old.interest named args in
       let key : EntryId = record { 0 = old.interest.next } in
@@ -313,21 +325,46 @@ module _ (n : ℕ) (event_pid : Pid) (args : Control) (old new : Parts) (d e : D
         | inl t ↦ let found = fits.kept.only i key.0 t in absurd (none_some found.0 (sym (ap (entry_found old.interest.entries) is) ∙ found.1))
         | inr f ↦ f
       ] in
-      let P : EntryId → Entry → Type 0 = λ j z. IsAdded e.dates j z × (old.interest.added < z.number) × IsRoomy j z in
-      let here : P key y = (record { place = spot; undated = ap (λ (k : ℕ). nat_lt 0 k) undated; absent = free }, omega arith, record { reached = room.reached; gone = room.gone; flags = room.flags }) in
+      let P : EntryId → Entry → Type 0 = λ j z. IsAdded e.dates j z × (old.interest.added < z.number) × IsRoomy e j z in
+      let here : P key y = (
+        record { place = spot; undated = ap (λ (k : ℕ). nat_lt 0 k) undated; absent = free },
+        omega arith,
+        record { reached = room.reached; gone = room.gone; flags = room.flags; lost = room.choice.lost; targets = room.choice.targets; candidates = room.choice.candidates },
+      ) in
       subst (λ (z : Entry). P id z) (sym next.1) (subst (λ (j : EntryId). P j y) (sym (id_is id key next.0)) here)
 
 -- What an epoll_ctl that its arguments alone don't refuse leaves.
 module _ (n : ℕ) (counted : 0 < n) (pid : Pid) (args : Control) (plan : Plan) (outcome : Outcome) (old new : Parts) (d e : Dating) (exact : IsExact n old d) (grows : Grows d e)
-    (sound : Sound old.tables) (was : IsSound old.interest) (is : IsSound new.interest) (names : Names old.tables pid.0 args.epfd.0 args.fd.0 plan.named)
-    (found_by : IsFound old.interest plan.named args.fd plan.found) (controls : Controls plan args outcome old new)
+    (sound : Sound old.tables) (was : IsSound old.interest) (is : IsSound new.interest) (plans : IsPlan old pid.0 args plan) (controls : Controls plan args outcome old new)
     (others : plan.operation ≢ Add → new.interest.added ≡ old.interest.added) (without : plan.operation ≡ Add → plan.has_room ≡ false → new ≡ old)
-    (room : plan.operation ≡ Add → plan.found ≡ None → plan.has_room ≡ true → HasRoomFor e (old.interest.added + 1) plan.named.instance.0 old.interest.next)
-    (altered : e.altered ≡ Some (key_of old.interest plan.found))
+    (room : plan.operation ≡ Add → plan.found ≡ None → plan.has_room ≡ true → HasRoomFor e (old.interest.added + 1) plan.named args.mask old.interest.next)
+    (altered : e.altered ≡ Some (key_of old.interest plan.found)) (lost : Walk) (noted_lost : lost ≡ with_home (deleted_by plan old) e.choice.lost)
   where
-    -- with these dates
+    abbrev names : Names old.tables pid.0 args.epfd.0 args.fd.0 plan.named
+    names = plans.names
+
+    abbrev found_by : IsFound old.interest plan.named args.fd plan.found
+    found_by = plans.found
+
+    -- with these dates, and what was lost
     abbrev Done : Dates → Type 0
-    Done f = Follows n (CallOf pid (control_call args)) [] old d new (record e { dates = f })
+    Done f = Follows n (CallOf pid (control_call args)) [] old d new (record e { dates = f; choice = record e.choice { lost = lost } })
+
+    -- there is room for what is lost
+    lost_room : lost.room ≡ e.choice.lost.room
+    lost_room = (reaches_home (deleted_by plan old) e.choice.lost lost noted_lost).room
+
+    lost_roomy : HaveRoom lost.reached e.reached
+    lost_roomy =
+        let fits_now = fits_grown old.interest d e grows exact.fits in
+        subst (λ (w : Walk). HaveRoom w.reached e.reached) (sym noted_lost) (room_deleted plan.operation plan.found old e.choice.lost e.reached fits_now.reached fits_now.lost)
+
+    -- and it is noted
+    notes : NotesLost old new d.choice.lost.reached lost.reached
+    notes =
+        subst (λ (w : Walk). NotesLost old new d.choice.lost.reached w.reached) (sym noted_lost)
+        (subst (λ (ks : List ℕ). NotesLost old new ks (with_home (deleted_by plan old) e.choice.lost).reached) grows.choice.kept
+        (notes_controlled outcome.answer plan.operation plan.found plan.named args old new was controls.interest e.choice.lost))
 
     kept : AreKept old.interest e.dates
     kept = kept_grown d.dates e.dates grows.dates old.interest exact.fits.kept
@@ -345,7 +382,7 @@ module _ (n : ℕ) (counted : 0 < n) (pid : Pid) (args : Control) (plan : Plan) 
 
     edited : (gone : ℕ → Bool) → Edits old.interest new.interest gone (λ id x. ⊥) → (f : Dates) → Drops old.interest gone e.dates f → TellsReports n [] new.interest → Done f
     edited gone edits f drops told =
-        edited_follow n pid args old new d e exact grows gone (λ id x. ⊥) edits f drops (λ id x none. absurd none) (noted gone (λ id x. ⊥) edits (λ id x none. absurd none)) told
+        edited_follow n pid args old new d e exact grows gone (λ id x. ⊥) edits f drops (λ id x none. absurd none) (noted gone (λ id x. ⊥) edits (λ id x none. absurd none)) told lost lost_room lost_roomy notes
 
     refused : (operation : Operation) (found : Option EntryId) → new.interest ≡ old.interest → Done (without_deleted (deleted_in operation found old.interest) new.interest e.dates)
     refused operation found same =
@@ -372,6 +409,7 @@ module _ (n : ℕ) (counted : 0 < n) (pid : Pid) (args : Control) (plan : Plan) 
           edited_follow n pid args old new d e exact grows (λ k. false) (IsNext old.interest plan.named args) edits e.dates (drops_nothing old.interest e.dates kept)
           (next_added n pid args old new d e exact grows was plan.named changes.1.was (room is_add none t))
           (noted (λ k. false) (IsNext old.interest plan.named args) edits (λ id x next. ap (key_of old.interest) none ∙ id_is (record { 0 = old.interest.next }) id (sym next.0))) told
+          lost lost_room lost_roomy notes
     ]
     done Delete is_del (Some key) found changes =
         let x = it key found in
@@ -384,7 +422,9 @@ module _ (n : ℕ) (counted : 0 < n) (pid : Pid) (args : Control) (plan : Plan) 
         differ h = cc
     done Modify is_mod (Some key) found changes =
         let x = it key found in
-        let edits = edits_modified old.interest new.interest was is plan.named args key x.0 x.1 (others (λ add. differ (sym is_mod ∙ add))) changes in
+        let plain : has_bit args.mask.0 EXCLUSIVE ≡ false =
+        ap (λ (z : ℤ). is_refused_op (is_nested_key old.tables plan.named.desc) z args.mask.0) (ap code_of (sym is_mod) ∙ sym plans.code) ∙ plans.accepted in
+        let edits = edits_modified old.interest new.interest was is plan.named args key x.0 x.1 (others (λ add. differ (sym is_mod ∙ add))) plain changes in
         let told = tells_none n new.interest (past_changed n counted Modify (Some key) plan.named args old.interest new.interest changes exact.past) in
         edited (λ k. false) edits e.dates (drops_nothing old.interest e.dates kept) told
       where
@@ -398,14 +438,29 @@ module _ (n : ℕ) (counted : 0 < n) (pid : Pid) (args : Control) (plan : Plan) 
     either true changes = done plan.operation refl plan.found refl changes
     either false same = refused plan.operation plan.found same
 
-    pub control_follow : Follows n (CallOf pid (control_call args)) outcome.picked old d new (record e { dates = without_deleted (deleted_in plan.operation plan.found old.interest) new.interest e.dates })
+    pub control_follow : Follows n (CallOf pid (control_call args)) outcome.picked old d new
+        (record e { dates = without_deleted (deleted_in plan.operation plan.found old.interest) new.interest e.dates; choice = record e.choice { lost = lost } })
     control_follow =
-        subst (λ (ks : List ℕ). Follows n (CallOf pid (control_call args)) ks old d new (record e { dates = without_deleted (deleted_in plan.operation plan.found old.interest) new.interest e.dates })) (sym controls.picked)
+        subst
+        (λ (ks : List ℕ). Follows n (CallOf pid (control_call args)) ks old d new
+        (record e { dates = without_deleted (deleted_in plan.operation plan.found old.interest) new.interest e.dates; choice = record e.choice { lost = lost } }))
+        (sym controls.picked)
         (either (is_done outcome.answer) controls.interest)
 
 -- whatever was noted as altered before
 pub grows_altered : (d e : Dating) (a : Option EntryId) → Grows (record d { altered = a }) e → Grows d e
-grows_altered d e a g = record { dates = g.dates; reached = g.reached; gone = g.gone; flags = g.flags; flagged = g.flagged }
+grows_altered d e a g = record { dates = g.dates; reached = g.reached; gone = g.gone; flags = g.flags; flagged = g.flagged; choice = g.choice }
+
+-- an ADD loses nothing
+adds : (operation : Operation) → (operation ≢ Add → ⊥) → operation ≡ Add
+adds Add h = refl
+adds Delete h = absurd (h (λ e. let differ : Delete ≡ Add = e in cc))
+adds Modify h = absurd (h (λ e. let differ : Modify ≡ Add = e in cc))
+
+pub grows_adding : (plan : Plan) (p : Parts) (d e : Dating) (lost : Walk) → (plan.operation ≢ Add → ⊥) → Grows d e → lost ≡ with_home (deleted_by plan p) e.choice.lost → Grows d (record e { choice = record e.choice { lost = lost } })
+grows_adding plan p d e lost add g noted =
+    let none : lost ≡ e.choice.lost = noted ∙ ap (λ (o : Operation). with_home (deleted_home o plan.found p) e.choice.lost) (adds plan.operation add) in
+    subst (λ (w : Walk). Grows d (record e { choice = record e.choice { lost = w } })) (sym none) g
 
 -- What names nothing.
 none_lives : (o p : Option ℕ) → IsSome o → o ≡ p → p ≡ None → ⊥

@@ -13,14 +13,15 @@ use Rattle.ep_calls.specs.ObjectCall.{fd_of}
 use Rattle.ep_calls.specs.Parts.{Parts}
 use Rattle.ep_calls.specs.TableCall.{IsTableCall}
 use Rattle.ep_calls.specs.Wait.{with_report}
+use Rattle.ep_choice.proofs.NotesLostLemmas.{notes_mapped}
 use Rattle.ep_dates.specs.Dates.{Dates}
 use Rattle.ep_interest.specs.Registrations.{Registrations}
 use Rattle.ep_interest.specs.declared.entry.Entry.{Entry}
 use Rattle.ep_law.proofs.TestLemmas.{same_nat}
 use Rattle.ep_machine.specs.Bits.{ONESHOT, has_bit}
 use Rattle.ep_machine.specs.Lists.{is_among}
+use Rattle.ep_plain.proofs.FitsLemmas.{fits_from, remained_mapped}
 use Rattle.ep_plain.proofs.LosesLemmas.{Stay, loses_none, stay_mapped}
-use Rattle.ep_plain.proofs.RoomLemmas.{fits_from}
 use Rattle.ep_plain.specs.Exact.{Follows, IsAlteredKey, IsExact, IsNamed, TellsReports}
 use Rattle.ep_plain.specs.Loses.{Loses}
 use Rattle.ep_plain.specs.declared.dating.Dating.{Dating}
@@ -42,10 +43,22 @@ module _ (n : ℕ) (ks : List ℕ) where
     | inr f ↦ ap (λ (y : Entry). y.number) (is_same x f)
   ]
 
-  instance_told : (x : Entry) → (with_report n ks x).instance.0 ≡ x.instance.0
+  instance_told : (x : Entry) → (with_report n ks x).instance ≡ x.instance
   instance_told x = elim (cases_Bool (is_among ks x.number)) [
-    | inl t ↦ ap (λ (y : Entry). y.instance.0) (is_told x t)
-    | inr f ↦ ap (λ (y : Entry). y.instance.0) (is_same x f)
+    | inl t ↦ ap (λ (y : Entry). y.instance) (is_told x t)
+    | inr f ↦ ap (λ (y : Entry). y.instance) (is_same x f)
+  ]
+
+  desc_told : (x : Entry) → (with_report n ks x).desc ≡ x.desc
+  desc_told x = elim (cases_Bool (is_among ks x.number)) [
+    | inl t ↦ ap (λ (y : Entry). y.desc) (is_told x t)
+    | inr f ↦ ap (λ (y : Entry). y.desc) (is_same x f)
+  ]
+
+  mask_told : (x : Entry) → (with_report n ks x).mask ≡ x.mask
+  mask_told x = elim (cases_Bool (is_among ks x.number)) [
+    | inl t ↦ ap (λ (y : Entry). y.mask) (is_told x t)
+    | inr f ↦ ap (λ (y : Entry). y.mask) (is_same x f)
   ]
 
   -- it is reported in event n exactly if it is picked
@@ -91,7 +104,7 @@ module _ (n : ℕ) (event : Event) (picked : List ℕ) (old new : Parts) (d : Da
     aside = record new.interest { added = old.interest.added }
 
     stay : Stay old.interest aside
-    stay = stay_mapped (with_report n picked) (number_told n picked) (instance_told n picked) old.interest aside entries keys refl
+    stay = stay_mapped (with_report n picked) (number_told n picked) (λ x i. (instance_told n picked x i).0) old.interest aside entries keys refl
 
     loses : Loses old.interest new.interest d.dates d.dates
     loses = loses_aside old.interest new.interest old.interest.added d.dates (loses_none old.interest aside stay d.dates exact.fits.kept)
@@ -100,10 +113,11 @@ module _ (n : ℕ) (event : Event) (picked : List ℕ) (old new : Parts) (d : Da
     pub altered_follow : (a : Option EntryId) → IsAlteredKey old.tables event new.interest a → Follows n event picked old d new (record d { altered = a })
     altered_follow a altered = record {
       loses = loses;
-      fits = fits_from old.interest new.interest d (record d { altered = a }) exact.fits loses.kept (omega arith) (omega arith) (omega arith) refl
-          (λ id x at. let was = stay.each id x at in inl (was.was, was.there, was.instance));
+      fits = fits_from old.interest new.interest d (record d { altered = a }) exact.fits loses.kept (record { reached = refl; gone = refl; flags = refl; lost = refl; targets = refl; candidates = refl }) exact.fits.lost
+          (λ id x at. inl (remained_mapped (with_report n picked) (number_told n picked) (instance_told n picked) (desc_told n picked) (mask_told n picked) old.interest new.interest entries keys id x at));
       told = tells_picked n picked old.interest new.interest entries exact.past;
       altered = altered;
+      lost = notes_mapped (with_report n picked) (number_told n picked) old new entries d.choice.lost.reached;
     }
 
     pub reports_follow : ((x : Entry) → IsNamed old.tables event x → ⊥) → Follows n event picked old d new d

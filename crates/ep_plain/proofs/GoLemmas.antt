@@ -2,6 +2,7 @@
 use Rattle.std.proofs.Common.{◌≡◌, ◌∙◌, ◌+◌, ◌&&◌, ◌||◌, ◌++◌, ℕ, Bool, true, false, IsSome, List, [], ◌∷◌, MatchOption, None, Option, Some, ap, inl, inr, is_some, length, map, nat_lt, not, refl, subst, sym, unwrap_or}
 use Rattle.std.specs.Option.{option_map}
 use Rattle.std.proofs.lemmas.Bool.{cases_Bool, false≢true}
+use Rattle.ep_alarms.specs.Called.{IsCalled}
 use Rattle.ep_base.specs.Limits.{Limits}
 use Rattle.ep_base.specs.declared.answer.Answer.{Answer}
 use Rattle.ep_base.specs.declared.call.Event.{Event}
@@ -11,16 +12,18 @@ use Rattle.ep_base.specs.declared.ids.DescId.{DescId}
 use Rattle.ep_base.specs.declared.ids.EntryId.{EntryId}
 use Rattle.ep_base.specs.declared.object.End.{End}
 use Rattle.ep_base.specs.declared.record.Record.{Record}
-use Rattle.ep_calls.proofs.EndLemmas.{rested, rests_so, settles}
+use Rattle.ep_calls.proofs.EndLemmas.{rested, rests_so}
 use Rattle.ep_calls.proofs.EntryLemmas.{holds_under, member_of}
-use Rattle.ep_calls.proofs.KeepsLemmas.{DoesAt, Settles, keeps_next, record_of, state_is, step_next}
+use Rattle.ep_calls.proofs.KeepsLemmas.{DoesAt, SettlesMarks, keeps_marked, record_of, state_is, step_marked}
 use Rattle.ep_calls.proofs.KeyLemmas.{number_kept, some_kept}
 use Rattle.ep_calls.specs.Keeps.{Keeps}
 use Rattle.ep_calls.specs.Moves.{Makes, Refuses}
-use Rattle.ep_calls.specs.Parts.{Parts}
+use Rattle.ep_calls.specs.Parts.{AreCoherent, Parts}
 use Rattle.ep_calls.specs.Readiness.{readiness}
 use Rattle.ep_calls.specs.Stands.{IsLinked, KeepsKeys, number_at, watch_at}
 use Rattle.ep_calls.specs.declared.outcome.Outcome.{Outcome}
+use Rattle.ep_choice.proofs.EndLemmas.{attend_of, settles_marks}
+use Rattle.ep_choice.specs.Marking.{gets_mark_key}
 use Rattle.ep_dates.specs.Ask.{is_on, shows_by, shows_over}
 use Rattle.ep_dates.specs.Dates.{event_at, is_dated, is_ready}
 use Rattle.ep_dates.specs.Touched.{has_number, is_it, is_numbered, is_on_any, may_go, watches_any, watches_maybe}
@@ -48,7 +51,6 @@ use Rattle.ep_order.specs.Event.{IsAltered, end_of}
 use Rattle.ep_plain.proofs.ComeLemmas.{date_left, keys_left, linked_left, longer}
 use Rattle.ep_plain.proofs.NamedLemmas.{had_key, is_found, is_named}
 use Rattle.ep_plain.proofs.ReportedLemmas.{was_then}
-use Rattle.ep_alarms.specs.Called.{IsCalled}
 use Rattle.ep_plain.specs.Dating.{touched_in}
 use Rattle.ep_plain.specs.Exact.{Follows, TellsReady}
 use Rattle.ep_plain.specs.Since.{IsDated}
@@ -88,7 +90,7 @@ to_state o a b u v h k = ap (λ (q : Option (Answer × State)). unwrap_or (optio
 
 -- One event.
 module _ (law : UntouchedStayReportable) (past : List Record) (old mid left : Parts) (keeps : Keeps past old) (caller : CallerId) (event : Event) (outcome : Outcome) (n : ℕ) (at : n ≡ length past + 1)
-    (does : DoesAt (next_event keeps.state) caller.0 event outcome old mid) (keys : KeepsKeys old.tables mid.tables) (sound : SoundTables old.tables) (d e f g : Dating) (dated : IsDated keeps.state d.dates.since) (ready : TellsReady old d.dates)
+    (does : DoesAt (next_event keeps.state) caller.0 event outcome old mid) (keys : KeepsKeys old.tables mid.tables) (coherent : AreCoherent old) (sound : SoundTables old.tables) (d e f g : Dating) (dated : IsDated keeps.state d.dates.since) (ready : TellsReady old d.dates)
     (follows : Follows n event outcome.picked old d mid e) (spread : SpreadsTo n outcome.raising mid e left f) (more : g ≡ longer f) (called : Option DescId) (is_call : IsCalled old.tables event called) where
   abbrev s : State
   s = keeps.state
@@ -102,23 +104,30 @@ module _ (law : UntouchedStayReportable) (past : List Record) (old mid left : Pa
   abbrev noted_parts : Parts
   noted_parts = record mid { interest = spread.spreads.noted }
 
-  abbrev forgotten : Parts
-  forgotten = record left { interest = (rested left).interest }
+  -- the end, made up
+  abbrev test : ℕ → Bool
+  test = gets_mark_key n left (attend_of past old mid left keeps caller event outcome n at does keys coherent spread.spreads)
 
-  so : Settles n outcome.raising mid noted_parts spread.spreads.buried forgotten (rested left)
-  so = settles n outcome.raising mid left (rested left) spread.spreads (rests_so left)
+  abbrev new : Parts
+  new = rested test left
+
+  abbrev forgotten : Parts
+  forgotten = record left { interest = new.interest }
+
+  so : SettlesMarks n outcome.raising old mid noted_parts spread.spreads.buried forgotten new
+  so = settles_marks past old mid left keeps caller event outcome n at does keys coherent spread.spreads new (rests_so test left)
 
   abbrev after : List Record
   after = past ++ record_of caller event outcome ∷ []
 
-  keeps_after : Keeps after (rested left)
-  keeps_after = keeps_next past old mid noted_parts spread.spreads.buried forgotten (rested left) keeps caller event outcome n at does so
+  keeps_after : Keeps after new
+  keeps_after = keeps_marked past old mid noted_parts spread.spreads.buried forgotten new keeps caller event outcome n at does so
 
   abbrev t : State
   t = keeps_after.state
 
   goes : step limits s caller.0 event outcome.picked ≡ Some (outcome.answer, t)
-  goes = step_next past old mid noted_parts spread.spreads.buried forgotten (rested left) keeps caller event outcome n at does so ∙ ap (λ (u : State). Some (outcome.answer, u)) (state_is after (rested left) keeps_after)
+  goes = step_marked past old mid noted_parts spread.spreads.buried forgotten new keeps caller event outcome n at does so ∙ ap (λ (u : State). Some (outcome.answer, u)) (state_is after new keeps_after)
 
   -- A registration that is left, with a date, and not touched.
   module _ (id : EntryId) (x : Entry) (up : entry_under left.interest id ≡ Some x) (untouched : may_go left.interest (touched_in (longer f) called outcome.picked) id.0 ≡ false) (on : is_dated (longer f).dates x ≡ true) where

@@ -5,9 +5,9 @@ pub mod ChooseLemmas
 pub mod CollectLemmas
 pub mod ComeLemmas
 pub mod ControlLemmas
+pub mod FitsLemmas
 pub mod FollowsLemmas
 pub mod GoLemmas
-pub mod HomeLemmas
 pub mod LeavesLemmas
 pub mod LosesLemmas
 pub mod NamedLemmas

@@ -1,6 +1,6 @@
 -- Room that grows leaves what holds of the dates.
-use Rattle.std.proofs.Common.{◌≡◌, ◌<◌, ◌≤◌, ◌∙◌, ◌⊎◌, ℕ, List, None, Option, Some, ap, arith, inl, inr, is_some, length, map, nat_lt, refl, subst, sym}
-use Rattle.ep_base.specs.declared.ids.EntryId.{EntryId}
+use Rattle.std.proofs.Common.{◌≡◌, ◌<◌, ◌≤◌, ◌∙◌, ℕ, List, None, Option, Some, ap, arith, is_some, length, map, nat_lt, refl, subst, sym}
+use Rattle.ep_choice.proofs.SuitsLemmas.{room_for, suits_widened}
 use Rattle.ep_dates.specs.Dates.{Dates, Widens, event_at, is_ready}
 use Rattle.ep_dates.specs.Kept.{AreKept}
 use Rattle.ep_dates.specs.Order.{AreInTurn, Rise, date_found, date_under}
@@ -71,6 +71,8 @@ fits_grown r d e g fits = record {
   gone = λ id x at. let lt = fits.gone id x at in let le = g.gone in omega (arith, lt, le);
   flags = λ id x at. let lt = fits.flags id x at in let le = g.flags in omega (arith, lt, le);
   unflagged = g.flagged ∙ fits.unflagged;
+  choice = suits_widened r d.choice e.choice g.choice fits.choice;
+  lost = room_for d.choice.lost.reached e.choice.lost.reached d.reached e.reached g.choice.kept g.reached fits.lost;
 }
 
 -- dates are in turn as before
@@ -93,26 +95,5 @@ grows_none d e is = subst (Grows d) (sym is) (record {
   gone = omega arith;
   flags = omega arith;
   flagged = refl;
+  choice = record { candidates = omega arith; targets = omega arith; lost = omega arith; kept = refl };
 })
-
--- each registration was there under its key, or there is room for it
-pub fits_from : (old new : Registrations) (d e : Dating) → Fits old d → AreKept new e.dates → d.reached.room ≤ e.reached.room → d.gone.room ≤ e.gone.room → d.flags.room ≤ e.flags.room → e.flags.reached ≡ d.flags.reached
-    → ((id : EntryId) (x : Entry) → entry_under new id ≡ Some x
-    → ((w : Entry) × (entry_under old id ≡ Some w) × (w.instance.0 ≡ x.instance.0)) ⊎ ((x.instance.0 < e.reached.room) × (x.instance.0 < e.gone.room) × (id.0 < e.flags.room)))
-    → Fits new e
-fits_from old new d e fits kept reached gone flags flagged from = record {
-  kept = kept;
-  reached = λ id x at. elim (from id x at) [
-    | inl was ↦ let lt = fits.reached id was.0 was.1 in let same = was.2 in omega (arith, lt, same, reached)
-    | inr room ↦ room.0
-  ];
-  gone = λ id x at. elim (from id x at) [
-    | inl was ↦ let lt = fits.gone id was.0 was.1 in let same = was.2 in omega (arith, lt, same, gone)
-    | inr room ↦ room.1
-  ];
-  flags = λ id x at. elim (from id x at) [
-    | inl was ↦ let lt = fits.flags id was.0 was.1 in omega (arith, lt, flags)
-    | inr room ↦ room.2
-  ];
-  unflagged = flagged ∙ fits.unflagged;
-}

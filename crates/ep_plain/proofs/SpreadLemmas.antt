@@ -9,12 +9,13 @@ use Rattle.ep_calls.specs.Raising.{Stirs, bits_of, due_bits, raised_each, raised
 use Rattle.ep_calls.specs.Stands.{watch_at}
 use Rattle.ep_calls.specs.declared.raising.Raising.{Raising}
 use Rattle.ep_calls.specs.declared.raising.Raising.TheVariants.{Clock, Instance, Nowhere, Object}
+use Rattle.ep_choice.specs.Room.{HaveRoom, Suits}
 use Rattle.ep_climb.specs.Reach.{AreRoomy}
 use Rattle.ep_dates.proofs.MovesLemmas.{kept_handed, kept_roomy}
 use Rattle.ep_dates.specs.Dates.{Dates}
 use Rattle.ep_dates.specs.Kept.{AreKept}
 use Rattle.ep_dates.specs.Moves.{WasThere}
-use Rattle.ep_interest.specs.Registrations.{Registrations, entry_found, entry_under, is_on, raised_on}
+use Rattle.ep_interest.specs.Registrations.{Registrations, entry_found, entry_under, is_on, raised_on, settled}
 use Rattle.ep_interest.specs.declared.entry.Entry.{Entry}
 use Rattle.ep_machine.specs.Bits.{IN, at_end}
 use Rattle.ep_machine.specs.Files.{side_of}
@@ -91,26 +92,43 @@ module _ (old new : Registrations) (each : (id : EntryId) (x : Entry) → entry_
   roomy_left : (w : Walk) → AreRoomy old w → AreRoomy new w
   roomy_left w roomy id x at = let was = each id x at in subst (λ (i : ℕ). i < w.room) was.instance (roomy id was.was was.there)
 
-  pub fits_left : (d e : Dating) → Fits old d → AreKept new e.dates → e.reached.room ≡ d.reached.room → AreRoomy new e.gone → e.flags ≡ d.flags → Fits new e
-  fits_left d e fits kept reached gone flags = record {
+  pub fits_left : (d e : Dating) → Fits old d → AreKept new e.dates → e.reached.room ≡ d.reached.room → AreRoomy new e.gone → e.flags ≡ d.flags → Suits new e.choice → HaveRoom e.choice.lost.reached d.reached → Fits new e
+  fits_left d e fits kept reached gone flags suits lost = record {
     kept = kept;
     reached = λ id x at. subst (λ (k : ℕ). x.instance.0 < k) (sym reached) (roomy_left d.reached fits.reached id x at);
     gone = gone;
     flags = λ id x at. let was = each id x at in subst (λ (w : Walk). id.0 < w.room) (sym flags) (fits.flags id was.was was.there);
     unflagged = ap (λ (w : Walk). w.reached) flags ∙ fits.unflagged;
+    choice = suits;
+    lost = λ i t. subst (λ (k : ℕ). i < k) (sym reached) (lost i t);
   }
 
   -- dates change hands
-  pub fits_handed : (d e : Dating) (dropped : Dates) → Fits old d → AreKept new dropped → e.dates ≡ record dropped { turned = d.gone } → e.gone ≡ dropped.turned → e.reached ≡ d.reached → e.flags ≡ d.flags → Fits new e
-  fits_handed d e dropped fits kept dates gone reached flags =
+  pub fits_handed : (d e : Dating) (dropped : Dates) → Fits old d → AreKept new dropped → e.dates ≡ record dropped { turned = d.gone } → e.gone ≡ dropped.turned → e.reached ≡ d.reached → e.flags ≡ d.flags
+      → Suits new e.choice → HaveRoom e.choice.lost.reached d.reached → Fits new e
+  fits_handed d e dropped fits kept dates gone reached flags suits lost =
       fits_left d e fits (subst (AreKept new) (sym dates) (kept_handed new dropped d.gone kept (roomy_left d.gone fits.gone))) (ap (λ (w : Walk). w.room) reached)
-      (subst (AreRoomy new) (sym gone) (kept_roomy new dropped kept)) flags
+      (subst (AreRoomy new) (sym gone) (kept_roomy new dropped kept)) flags suits lost
 
 -- the same where registrations stay
-pub fits_stay : (old new : Registrations) → Stay old new → (d e : Dating) → Fits old d → e.dates ≡ d.dates → e.reached.room ≡ d.reached.room → e.gone ≡ d.gone → e.flags ≡ d.flags → Fits new e
-fits_stay old new stay d e fits dates reached gone flags =
+pub fits_stay : (old new : Registrations) → Stay old new → (d e : Dating) → Fits old d → e.dates ≡ d.dates → e.reached.room ≡ d.reached.room → e.gone ≡ d.gone → e.flags ≡ d.flags → Suits new e.choice
+    → HaveRoom e.choice.lost.reached d.reached → Fits new e
+fits_stay old new stay d e fits dates reached gone flags suits lost =
     fits_left old new stay.each d e fits (subst (AreKept new) (sym dates) (loses_none old new stay d.dates fits.kept).kept) reached
-    (subst (AreRoomy new) (sym gone) (roomy_left old new stay.each d.gone fits.gone)) flags
+    (subst (AreRoomy new) (sym gone) (roomy_left old new stay.each d.gone fits.gone)) flags suits lost
+
+-- and where what was reached is found anew
+pub fits_rested : (old new : Registrations) → Stay old new → (d e : Dating) → Fits old d → e.dates ≡ d.dates → AreRoomy new e.reached → e.gone ≡ d.gone → e.flags ≡ d.flags → Suits new e.choice
+    → HaveRoom e.choice.lost.reached e.reached → Fits new e
+fits_rested old new stay d e fits dates reached gone flags suits lost = record {
+  kept = subst (AreKept new) (sym dates) (loses_none old new stay d.dates fits.kept).kept;
+  reached = reached;
+  gone = subst (AreRoomy new) (sym gone) (roomy_left old new stay.each d.gone fits.gone);
+  flags = λ id x at. let was = stay.each id x at in subst (λ (w : Walk). id.0 < w.room) (sym flags) (fits.flags id was.was was.there);
+  unflagged = ap (λ (w : Walk). w.reached) flags ∙ fits.unflagged;
+  choice = suits;
+  lost = lost;
+}
 
 -- once the walks are handed back the dates are what they were
 pub handed_back : (dropped e : Dates) (w noted : Walk) → e ≡ record dropped { turned = w } → noted ≡ dropped.turned → record e { turned = noted } ≡ dropped
@@ -122,3 +140,14 @@ loses_between r s t u d e first each more last kept loses =
     let begun = loses_both r s t d d e (λ id x at. let was = each id x at in (was.was, was.there, was.number)) more (loses_none r s first d kept) loses in
     let same = last.added in
     loses_both r t u d e e (stay_number t u last) (omega (arith, same)) begun (loses_none t u last e loses.kept)
+
+-- what nothing is passed on by any more stays
+settled_twice : (xs : List Entry) → map settled (map settled xs) ≡ map settled xs
+settled_twice [] = refl
+settled_twice (x ∷ xs) = λ i. settled x ∷ settled_twice xs i
+
+pub settled_rest : (xs ys : List Entry) → ys ≡ map settled xs → map settled ys ≡ map settled xs
+settled_rest xs ys is = ap (map settled) is ∙ settled_twice xs
+
+pub stay_settled : (old new : Registrations) → new.entries ≡ map settled old.entries → new.keys ≡ old.keys → new.added ≡ old.added → Stay old new
+stay_settled old new entries keys added = stay_mapped settled (λ x. refl) (λ x. refl) old new entries keys added

@@ -9,6 +9,26 @@ use Rattle.ep_base.specs.declared.call.Event.{Event}
 use Rattle.ep_base.specs.declared.ids.CallerId.{CallerId}
 use Rattle.ep_base.specs.declared.ids.EntryId.{EntryId}
 use Rattle.ep_base.specs.declared.record.Record.{Record}
+use Rattle.ep_calls.proofs.EndLemmas.{readiness_settled, shows_settled}
+use Rattle.ep_calls.proofs.EntryLemmas.{key_of}
+use Rattle.ep_calls.proofs.KeepsLemmas.{DoesAt, SettlesMarks, adds_marked, keeps_marked, keeps_opening, record_of, state_is, step_marked}
+use Rattle.ep_calls.proofs.RaiseLemmas.{stirs_added}
+use Rattle.ep_calls.specs.Does.{DoesEventIf}
+use Rattle.ep_calls.specs.Ends.{RestsBy, Spreads}
+use Rattle.ep_calls.specs.Keeps.{Keeps}
+use Rattle.ep_calls.specs.Moves.{Goes, MovesBy}
+use Rattle.ep_calls.specs.Parking.{ready_key}
+use Rattle.ep_calls.specs.Parts.{AreCoherent, AreOpening, Parts}
+use Rattle.ep_calls.specs.Raising.{Raises}
+use Rattle.ep_calls.specs.Readiness.{entry_shows, readiness}
+use Rattle.ep_calls.specs.Stands.{KeepsKeys, number_at, watch_at}
+use Rattle.ep_calls.specs.declared.outcome.Outcome.{Outcome}
+use Rattle.ep_choice.proofs.EndLemmas.{attend_of, settles_marks}
+use Rattle.ep_choice.specs.Marking.{gets_mark_key}
+use Rattle.ep_dates.specs.Dates.{Dates, event_at, is_ready}
+use Rattle.ep_dates.specs.Kept.{AreKept}
+use Rattle.ep_dates.specs.Order.{AreInTurn, Rise, date_found, date_under}
+use Rattle.ep_dates.specs.Touched.{date_of}
 use Rattle.ep_interest.specs.Registrations.{Registrations, entry_found, entry_under, settled}
 use Rattle.ep_interest.specs.declared.entry.Entry.{Entry}
 use Rattle.ep_law.proofs.GraphLemmas.{graph_stays_legal}
@@ -20,33 +40,12 @@ use Rattle.ep_machine.specs.Refusal.{refusals}
 use Rattle.ep_machine.specs.Run.{run}
 use Rattle.ep_machine.specs.State.{State, Watch, opening}
 use Rattle.ep_machine.specs.Step.{change, next_event, step}
-use Rattle.ep_view.proofs.AtRestLemmas.{quiet_begun}
-use Rattle.ep_view.specs.KernelView.{KernelWatch, kernel_watch, ready_now}
-use Rattle.ep_calls.proofs.EndLemmas.{readiness_settled, settles, shows_settled}
-use Rattle.ep_calls.proofs.EntryLemmas.{key_of}
-use Rattle.ep_calls.proofs.KeepsLemmas.{DoesAt, Settles, adds_next, keeps_next, keeps_opening, record_of, state_is, step_next}
-use Rattle.ep_calls.proofs.RaiseLemmas.{stirs_added}
-use Rattle.ep_calls.specs.Does.{DoesEventIf}
-use Rattle.ep_calls.specs.Ends.{Rests, Spreads}
-use Rattle.ep_calls.specs.Keeps.{Keeps}
-use Rattle.ep_calls.specs.Moves.{Goes, MovesBy}
-use Rattle.ep_calls.specs.Parking.{ready_key}
-use Rattle.ep_calls.specs.Parts.{AreOpening, Parts}
-use Rattle.ep_calls.specs.Raising.{Raises}
-use Rattle.ep_calls.specs.Readiness.{entry_shows, readiness}
-use Rattle.ep_calls.specs.Stands.{number_at, watch_at}
-use Rattle.ep_calls.specs.declared.outcome.Outcome.{Outcome}
-use Rattle.ep_dates.specs.Dates.{Dates, event_at, is_ready}
-use Rattle.ep_dates.specs.Kept.{AreKept}
-use Rattle.ep_dates.specs.Order.{AreInTurn, Rise, date_found, date_under}
-use Rattle.ep_dates.specs.Touched.{date_of}
 use Rattle.ep_order.proofs.StepLemmas.{step_adds_one, step_keeps_turns}
 use Rattle.ep_plain.proofs.AllowLemmas.{all_below, dated_shown}
 use Rattle.ep_plain.proofs.ComeLemmas.{date_left}
 use Rattle.ep_plain.proofs.LosesLemmas.{Stay, loses_none, stay_mapped}
-use Rattle.ep_plain.proofs.SpreadLemmas.{fits_stay}
-use Rattle.ep_plain.proofs.RoomLemmas.{fits_grown, turn_grown}
 use Rattle.ep_plain.proofs.NumberLemmas.{kept_numbered, order_numbered}
+use Rattle.ep_plain.proofs.RoomLemmas.{fits_grown, turn_grown}
 use Rattle.ep_plain.proofs.SinceLemmas.{all_by, event_more, next_dated, opening_dated}
 use Rattle.ep_plain.specs.Dating.{Fits, Grows, IsNew}
 use Rattle.ep_plain.specs.Exact.{Follows, IsExact, TellsReady}
@@ -59,6 +58,8 @@ use Rattle.ep_plain.specs.declared.dating.Dating.{Dating}
 use Rattle.ep_rings.specs.KeyWalk.{id_at as number_key}
 use Rattle.ep_rings.specs.PlacedRows.{PlacedRows, first_in, keys_at, no_rows}
 use Rattle.ep_table.specs.Value.{Seen}
+use Rattle.ep_view.proofs.AtRestLemmas.{quiet_begun}
+use Rattle.ep_view.specs.KernelView.{KernelWatch, kernel_watch, ready_now}
 
 -- At the start nothing is registered.
 none_under : (id : EntryId) (x : Entry) → entry_under (record { entries = []; keys = []; added = 0; next = 0 }) id ≡ Some x → ⊥
@@ -91,7 +92,10 @@ standing_opening limits p d at_start new = record {
     gone = λ id x at. absurd (none_under id x at);
     flags = λ id x at. absurd (none_under id x at);
     unflagged = new.flags;
+    choice = record { candidates = λ id x at. absurd (none_under id x at); targets = λ id x at. absurd (none_under id x at); lost = λ id x at. absurd (none_under id x at) };
+    lost = λ i t. absurd (false≢true (ap (λ (ks : List ℕ). is_among ks i) (sym new.lost) ∙ t));
   });
+  unlost = new.lost;
 } where
   keeps : Keeps [] p
   keeps = keeps_opening limits p at_start
@@ -139,6 +143,7 @@ module _ (past : List Record) (p : Parts) (d : Dating) (standing : Standing past
     fits = standing.fits;
     places = omega (arith, standing.dated.places, standing.keeps.stands.added);
     later = λ k lt. standing.dated.later k (omega (arith, lt, standing.keeps.stands.added));
+    unlost = standing.unlost;
   }
 
 -- with more room, the same holds
@@ -149,6 +154,7 @@ standing_grown past p d e grows h = record {
   ready = λ i lives. ap (λ (ks : List ℕ). is_some (first_in ks)) (grows.dates.rows.rows i.0) ∙ h.ready i lives;
   order = turn_grown (length past) p.interest d e grows h.order;
   fits = fits_grown p.interest d e grows h.fits;
+  unlost = grows.choice.kept ∙ h.unlost;
 }
 
 -- room for more numbers, too
@@ -176,7 +182,16 @@ standing_reserved past p d e same h = record {
   dated = subst (IsDated h.keeps.state) (sym (ap (λ (q : Dates). q.since) same)) h.dated;
   ready = λ i lives. ap (λ (q : Dates). is_ready q i.0) same ∙ h.ready i lives;
   order = order_reserved (length past) p.interest d.dates e same h.order;
-  fits = record { kept = kept_reserved p.interest d.dates e same h.fits.kept; reached = h.fits.reached; gone = h.fits.gone; flags = h.fits.flags; unflagged = h.fits.unflagged };
+  fits = record {
+    kept = kept_reserved p.interest d.dates e same h.fits.kept;
+    reached = h.fits.reached;
+    gone = h.fits.gone;
+    flags = h.fits.flags;
+    unflagged = h.fits.unflagged;
+    choice = h.fits.choice;
+    lost = h.fits.lost;
+  };
+  unlost = h.unlost;
 }
 
 module _ (past : List Record) (old mid left : Parts) (d e f g h : Dating) (standing : Standing past old d) (caller : CallerId) (event : Event) (outcome : Outcome) (n : ℕ) (at : n ≡ length past + 1)
@@ -203,7 +218,15 @@ module _ (past : List Record) (old mid left : Parts) (d e f g h : Dating) (stand
   -- Once there is a place for one number more.
   module _ (number : g ≡ record f { dates = record f.dates { since = f.dates.since ++ 0 ∷ [] } }) where
     pub fits_numbered : Fits left.interest g
-    fits_numbered = subst (Fits left.interest) (sym number) (record { kept = kept_numbered left.interest f.dates to.fits.kept; reached = to.fits.reached; gone = to.fits.gone; flags = to.fits.flags; unflagged = to.fits.unflagged })
+    fits_numbered = subst (Fits left.interest) (sym number) (record {
+      kept = kept_numbered left.interest f.dates to.fits.kept;
+      reached = to.fits.reached;
+      gone = to.fits.gone;
+      flags = to.fits.flags;
+      unflagged = to.fits.unflagged;
+      choice = to.fits.choice;
+      lost = to.fits.lost;
+    })
 
     -- the dates don't sink along a row
     pub order_left : AreInTurn n left.interest g.dates
@@ -231,15 +254,15 @@ module _ (past : List Record) (old mid left : Parts) (d e f g h : Dating) (stand
         }
 
   -- Once what was passed on is forgotten.
-  module _ (new : Parts) (rests : Rests left new) where
-    so : Settles n outcome.raising mid noted_parts spreads.buried (forgotten new) new
-    so = settles n outcome.raising mid left new spreads rests
+  module _ (keys : KeepsKeys old.tables mid.tables) (coherent : AreCoherent old) (new : Parts) (rests : RestsBy (gets_mark_key n left (attend_of past old mid left standing.keeps caller event outcome n at does keys coherent spreads)) left new) where
+    so : SettlesMarks n outcome.raising old mid noted_parts spreads.buried (forgotten new) new
+    so = settles_marks past old mid left standing.keeps caller event outcome n at does keys coherent spreads new rests
 
     keeps_new : Keeps after new
-    keeps_new = keeps_next past old mid noted_parts spreads.buried (forgotten new) new standing.keeps caller event outcome n at does so
+    keeps_new = keeps_marked past old mid noted_parts spreads.buried (forgotten new) new standing.keeps caller event outcome n at does so
 
     goes : step old.tables.limits standing.keeps.state caller.0 event outcome.picked ≡ Some (outcome.answer, keeps_new.state)
-    goes = step_next past old mid noted_parts spreads.buried (forgotten new) new standing.keeps caller event outcome n at does so ∙ ap (λ (t : State). Some (outcome.answer, t)) (state_is after new keeps_new)
+    goes = step_marked past old mid noted_parts spreads.buried (forgotten new) new standing.keeps caller event outcome n at does so ∙ ap (λ (t : State). Some (outcome.answer, t)) (state_is after new keeps_new)
 
     -- the parts then
     tables : new.tables ≡ left.tables
@@ -272,27 +295,30 @@ module _ (past : List Record) (old mid left : Parts) (d e f g h : Dating) (stand
         subst (λ (q : Parts). TellsReady q h.dates) (sym rests.others) here
 
     pub standing_next : AreDated (entry_shows (readiness left.tables left.clock left.interest) left.tables left.clock) n left.interest longer h.dates.since
-        → TellsReady left h.dates → Fits left.interest h → AreInTurn n left.interest h.dates → Standing after new h
-    standing_next dates ready fits order = record {
+        → TellsReady left h.dates → Fits left.interest h → AreInTurn n left.interest h.dates
+        → (k : Dating) → k.dates ≡ h.dates → Fits new.interest k → k.choice.lost.reached ≡ [] → Standing after new k
+    standing_next dates ready fits order k same fits_now unlost = record {
       keeps = keeps_new;
-      dated =
+      dated = subst (λ (q : Dates). IsDated keeps_new.state q.since) (sym same) (
           next_dated standing.keeps.state d.dates.since standing.keeps.sound standing.dated old.tables.limits keeps_new.state caller.0 event outcome.picked outcome.answer new.tables new.interest new.clock n h.dates.since
-          step_keeps_turns step_adds_one goes keeps_new.stands (at ∙ ap (λ (k : ℕ). k + 1) (sym standing.keeps.n)) (dates_rest h.dates.since dates);
-      ready = ready_rest ready;
-      order = subst (λ (k : ℕ). AreInTurn k new.interest h.dates) (at ∙ sym (length-append past (record_of caller event outcome ∷ []))) ((loses_none left.interest new.interest stay h.dates fits.kept).order n order);
-      fits = fits_stay left.interest new.interest stay h h fits refl refl refl refl;
+          step_keeps_turns step_adds_one goes keeps_new.stands (at ∙ ap (λ (k : ℕ). k + 1) (sym standing.keeps.n)) (dates_rest h.dates.since dates));
+      ready = subst (TellsReady new) (sym same) (ready_rest ready);
+      order = subst (λ (q : Dates). AreInTurn (length after) new.interest q) (sym same)
+          (subst (λ (m : ℕ). AreInTurn m new.interest h.dates) (at ∙ sym (length-append past (record_of caller event outcome ∷ []))) ((loses_none left.interest new.interest stay h.dates fits.kept).order n order));
+      fits = fits_now;
+      unlost = unlost;
     }
 
     -- the record that is added
     pub adds_by : (given : Option (List ℕ))
         → IfSome given (λ picks. outcome.picked ≡ picks)
         → AddsBy old.tables.limits caller event given outcome.answer (unwrap_or (run old.tables.limits opening past) opening) (unwrap_or (run new.tables.limits opening after) opening) past after
-    adds_by None told = adds_next past old mid noted_parts spreads.buried (forgotten new) new standing.keeps caller event outcome n at does so
+    adds_by None told = adds_marked past old mid noted_parts spreads.buried (forgotten new) new standing.keeps caller event outcome n at does so
     adds_by (Some picks) told = record {
       goes =
           ap (λ (s : State). step old.tables.limits s caller.0 event picks) (state_is past old standing.keeps)
           ∙ (ap (λ (ks : List ℕ). step old.tables.limits standing.keeps.state caller.0 event ks) (sym told)
-          ∙ step_next past old mid noted_parts spreads.buried (forgotten new) new standing.keeps caller event outcome n at does so);
+          ∙ step_marked past old mid noted_parts spreads.buried (forgotten new) new standing.keeps caller event outcome n at does so);
       added = λ i. past ++ record { caller = caller; event = event; answer = outcome.answer; picked = told i } ∷ [];
     }
 

@@ -1,5 +1,5 @@
 -- What is known of the dates between events, and what an event does to them before what it raised spreads.
-use Rattle.std.specs.Prelude.{◌<◌, ◌≡◌, ◌==◌, ◌+◌, All, IsSome, List, Option, Some, length, nat_lt, ℕ}
+use Rattle.std.specs.Prelude.{[], ◌<◌, ◌≡◌, ◌==◌, ◌+◌, All, IsSome, List, Option, Some, length, nat_lt, ℕ}
 use Rattle.ep_base.specs.declared.call.Call.TheVariants.{EpollCtl}
 use Rattle.ep_base.specs.declared.call.Event.{Event}
 use Rattle.ep_base.specs.declared.call.Event.TheVariants.{Call as CallOf}
@@ -8,6 +8,7 @@ use Rattle.ep_base.specs.declared.ids.EntryId.{EntryId}
 use Rattle.ep_calls.specs.Parking.{ready_key}
 use Rattle.ep_calls.specs.Parts.{Parts}
 use Rattle.ep_calls.specs.Readiness.{entry_shows, readiness}
+use Rattle.ep_choice.specs.Lost.{NotesLost}
 use Rattle.ep_dates.specs.Dates.{Dates, event_at, is_ready}
 use Rattle.ep_dates.specs.Order.{AreInTurn}
 use Rattle.ep_interest.specs.Registrations.{Registrations, entry_under}
@@ -39,6 +40,7 @@ pub record IsExact (n : ℕ) (p : Parts) (d : Dating) : Type 0 where
   pub fits : Fits p.interest d
   pub places : p.interest.added + 1 < length d.dates.since
   pub later : (k : ℕ) → p.interest.added < k → event_at d.dates.since k ≡ 0
+  pub unlost : d.choice.lost.reached ≡ []
 
 -- exactly the registrations with these numbers were last reported in event n
 abbrev pub TellsReports : ℕ → List ℕ → Registrations → Type 0
@@ -60,3 +62,4 @@ pub record Follows (n : ℕ) (event : Event) (picked : List ℕ) (old : Parts) (
   pub fits : Fits new.interest e
   pub told : TellsReports n picked new.interest
   pub altered : IsAlteredKey old.tables event new.interest e.altered
+  pub lost : NotesLost old new d.choice.lost.reached e.choice.lost.reached

@@ -3,6 +3,7 @@ use Rattle.std.specs.Prelude.{◌≡◌, ℕ}
 use Rattle.ep_calls.specs.Ends.{Spreads}
 use Rattle.ep_calls.specs.Parts.{Parts}
 use Rattle.ep_calls.specs.declared.raising.Raising.{Raising}
+use Rattle.ep_choice.specs.Lost.{NotesLost}
 use Rattle.ep_climb.specs.Reach.{AreReached}
 use Rattle.ep_plain.specs.Dating.{Fits}
 use Rattle.ep_plain.specs.Loses.{Loses}
@@ -15,3 +16,4 @@ pub record SpreadsTo (n : ℕ) (raising : Raising) (old : Parts) (d : Dating) (n
   pub loses : Loses old.interest new.interest d.dates (record e.dates { turned = e.gone })
   pub fits : Fits new.interest e
   pub altered : e.altered ≡ d.altered
+  pub lost : NotesLost old new d.choice.lost.reached e.choice.lost.reached

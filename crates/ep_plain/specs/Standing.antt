@@ -1,5 +1,5 @@
 -- What contracts see of the kernel, and what holds of it.
-use Rattle.std.specs.Prelude.{List, length, min, vec_capacity, ℕ, ◌+◌, ◌-◌}
+use Rattle.std.specs.Prelude.{[], List, length, min, vec_capacity, ℕ, ◌+◌, ◌-◌, ◌≡◌}
 use Rattle.ep_alarms.specs.Alarms.{AreSet}
 use Rattle.ep_base.specs.declared.record.Record.{Record}
 use Rattle.ep_calls.specs.Book.{Book}
@@ -27,6 +27,7 @@ pub record Standing (past : List Record) (p : Parts) (d : Dating) : Type 0 where
   pub ready : TellsReady p d.dates
   pub order : AreInTurn (length past) p.interest d.dates
   pub fits : Fits p.interest d
+  pub unlost : d.choice.lost.reached ≡ []
 
 -- the same, and each timer has its moment
 pub record IsStanding (k : Inside) : Type 0 where

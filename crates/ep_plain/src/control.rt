@@ -14,38 +14,38 @@ ghost use Rattle.ep_plain.specs.Exact.{Follows, IsAlteredKey, IsExact};
 
 use crate::dating::Dating;
 use crate::settle::know;
-use ep_base::{Call, DescId, EntryId, Fd, Mask, Pid};
-use ep_calls::{Control, Operation, Outcome, Parts, Plan};
+use ep_base::{Call, EntryId, Fd, Mask, Pid};
+use ep_calls::{Control, Named, Operation, Outcome, Parts, Plan};
+use ep_choice::note_deleted;
 use ep_dates::Dates;
 use ep_interest::{Entry, Interest};
 use std::alloc::AllocError;
 
-/// Makes room for the dates of the registration of an instance that is added next, and answers whether there is.
-/// `false` is want of memory. No date changes.
-fn make_next_room(parts: &Parts, dating: &mut Dating, instance: DescId) -> bool
+/// Makes room for what is kept of the registration that is added next, and answers whether there is. `false` is want of
+/// memory. No date changes.
+fn make_next_room(parts: &Parts, dating: &mut Dating, named: Named, mask: Mask) -> bool
     ensures grows { Grows dating.old dating.new }
     ensures altered { dating.new.altered ≡ dating.old.altered }
     ensures room { result ≡ true
-        → HasRoomFor dating.new (parts.now.interest.added + 1) instance.0
-        parts.now.interest.next }
+        → HasRoomFor dating.new (parts.now.interest.added + 1) named mask parts.now.interest.next }
 {
     let Some(number) = parts.interest.added().checked_add(1) else {
         return false;
     };
-    dating.make_room(instance, parts.interest.next_key(), number)
+    dating.make_room(named, mask, parts.interest.next_key(), number)
 }
 
-/// Makes room for the dates of what a call adds, and answers whether there is; `true` if it adds nothing. `false` is
+/// Makes room for what is kept of what a call adds, and answers whether there is; `true` if it adds nothing. `false` is
 /// want of memory. No date changes.
-fn make_room(parts: &Parts, dating: &mut Dating, plan: Plan) -> bool
+fn make_room(parts: &Parts, dating: &mut Dating, plan: Plan, mask: Mask) -> bool
     ensures grows { Grows dating.old dating.new }
     ensures altered { dating.new.altered ≡ dating.old.altered }
     ensures room { plan.operation ≡ Add → plan.found ≡ None → result ≡ true
-        → HasRoomFor dating.new (parts.now.interest.added + 1) plan.named.instance.0
+        → HasRoomFor dating.new (parts.now.interest.added + 1) plan.named mask
         parts.now.interest.next }
 {
     match (plan.operation, plan.found) {
-        (Operation::Add, None) => make_next_room(parts, dating, plan.named.instance),
+        (Operation::Add, None) => make_next_room(parts, dating, plan.named, mask),
         _ => true,
     }
 }
@@ -147,7 +147,8 @@ pub fn epoll_ctl(
     };
     dating.altered = Some(key_of(parts, plan));
     plan.below = dating.dates.is_ready(plan.named.desc);
-    plan.has_room = make_room(parts, dating, plan);
+    plan.has_room = make_room(parts, dating, plan, args.mask);
+    note_deleted(parts, &mut dating.choice.lost, plan);
     let deleted = find_deleted(parts, plan);
     let outcome = parts.control(pid, args, plan)?;
     know(parts);

@@ -52,6 +52,7 @@ pub fn date_all(
         → AreInTurn step parts.now.interest dating.new.dates }
     ensures places { dating.new.dates.places ≡ dating.old.dates.places }
     ensures reached { dating.new.reached ≡ dating.old.reached }
+    ensures choice { dating.new.choice ≡ dating.old.choice }
 {
     parts.interest.known();
     let touched = Touched {

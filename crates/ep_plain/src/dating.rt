@@ -2,7 +2,9 @@
 ghost use Rattle.std.specs.Prelude.{◌≡◌, IfOk, OnOk, true};
 ghost use Rattle.ep_plain.specs.Dating.{Grows, HasRoomFor, IsNew};
 
-use ep_base::{DescId, EntryId};
+use ep_base::{EntryId, Mask};
+use ep_calls::Named;
+use ep_choice::Choice;
 use ep_dates::Dates;
 use ep_ready::Walk;
 use std::alloc::{AllocError, Global};
@@ -20,6 +22,8 @@ pub struct Dating {
     pub gone: Walk<Global>,
     /// The registrations that a report is said to be of, by their keys.
     pub flags: Walk<Global>,
+    /// What chooses among exclusive registrations.
+    pub choice: Choice,
 }
 
 impl Dating {
@@ -34,28 +38,37 @@ impl Dating {
             reached: Walk::new(alloc),
             gone: Walk::new(alloc),
             flags: Walk::new(alloc),
+            choice: Choice::new(alloc),
         })
     }
 
-    /// Makes room for a registration of an instance, under a key and with a number. An `Err` is want of memory. No date
-    /// changes, and there is no less room than before.
-    fn try_room(&mut self, instance: DescId, id: EntryId, number: u64) -> Result<(), AllocError>
+    /// Makes room for a registration of these two with a mask, under a key and with a number. An `Err` is want of
+    /// memory. No date changes, and there is no less room than before.
+    fn try_room(
+        &mut self,
+        named: Named,
+        mask: Mask,
+        id: EntryId,
+        number: u64,
+    ) -> Result<(), AllocError>
         ensures grows { Grows self.old self.new }
         ensures altered { self.new.altered ≡ self.old.altered }
-        ensures room { OnOk result (HasRoomFor self.new number instance.0 id.0) }
+        ensures room { OnOk result (HasRoomFor self.new number named mask id.0) }
     {
+        let Named { instance, .. } = named;
         self.dates.make_room(instance, id, number)?;
         self.reached.make_room(instance.0)?;
         self.gone.make_room(instance.0)?;
+        self.choice.make_room(named, mask, id)?;
         self.flags.make_room(id.0)
     }
 
     /// The same, and whether there is room then. `false` is want of memory.
-    pub fn make_room(&mut self, instance: DescId, id: EntryId, number: u64) -> bool
+    pub fn make_room(&mut self, named: Named, mask: Mask, id: EntryId, number: u64) -> bool
         ensures grows { Grows self.old self.new }
         ensures altered { self.new.altered ≡ self.old.altered }
-        ensures room { result ≡ true → HasRoomFor self.new number instance.0 id.0 }
+        ensures room { result ≡ true → HasRoomFor self.new number named mask id.0 }
     {
-        self.try_room(instance, id, number).is_ok()
+        self.try_room(named, mask, id, number).is_ok()
     }
 }

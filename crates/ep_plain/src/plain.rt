@@ -12,7 +12,7 @@ ghost use Rattle.ep_calls.specs.Parts.{AreCoherent};
 ghost use Rattle.ep_interest.specs.Registrations.{IsSound};
 ghost use Rattle.ep_law.specs.Laws.{EndsAreApart, ReportablesAreSpread};
 ghost use Rattle.ep_order.specs.Ending.{UntouchedStayReportable};
-ghost use Rattle.ep_order.specs.Mark.{UnmarkedAreReached};
+ghost use Rattle.ep_order.specs.Mark.{MarkedAreLookedAt};
 ghost use Rattle.ep_table.specs.Value.{Sound as SoundTables};
 ghost use Rattle.ep_plain.specs.StepWith.{AddsBy, HasStep, StepsWith};
 
@@ -24,9 +24,9 @@ use crate::these::{act_with, allows};
 use ep_alarms::{Alarms, find_called};
 use ep_base::{Answer, CallerId, Errno, Event, Limits, Record};
 use ep_calls::{Kernel, Parts, Spare};
-use ep_climb::{attend, resumed_at};
+use ep_climb::{attend, left, resumed_at};
 use ep_law::laws::{ends_are_apart, reportables_are_spread};
-use ep_order::{unmarked_are_reached, untouched_stay_reportable};
+use ep_order::{marked_are_looked_at, untouched_stay_reportable};
 use std::alloc::{AllocError, Global};
 use std::marker::Model;
 
@@ -62,12 +62,12 @@ fn know_laws(parts: &Parts)
     ensures apart { EndsAreApart }
     ensures spread { ReportablesAreSpread }
     ensures stay { UntouchedStayReportable }
-    ensures reached { UnmarkedAreReached }
+    ensures looked { MarkedAreLookedAt }
 {
     ends_are_apart();
     reportables_are_spread();
     untouched_stay_reportable();
-    unmarked_are_reached();
+    marked_are_looked_at();
     know(parts);
 }
 
@@ -165,7 +165,8 @@ impl PlainKernel {
         self.dating.dates.number();
         let reported = last_picked(&self.history);
         date_all(&self.parts, step, called, reported, &mut self.dating);
-        rest(&mut self.parts, &self.dating, attend(resumed, raising));
+        let attended = attend(left(&self.parts, caller, resumed), raising);
+        rest(&mut self.parts, &mut self.dating, attended, step);
         Ok((answer, spare))
     }
 

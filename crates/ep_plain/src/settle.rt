@@ -1,13 +1,16 @@
 //! The end of an event.
-ghost use Rattle.std.specs.Prelude.{◌≡◌, ◌<◌};
+ghost use Rattle.std.specs.Prelude.{◌≡◌, ◌<◌, []};
 ghost use Rattle.ep_alarms.specs.Alarms.{AreSet};
 ghost use Rattle.ep_alarms.specs.Changes.{AreSetSince};
 ghost use Rattle.ep_calls.specs.Burial.{Burial};
-ghost use Rattle.ep_calls.specs.Ends.{Rests};
+ghost use Rattle.ep_calls.specs.Ends.{RestsBy};
 ghost use Rattle.ep_calls.specs.Ids.{KeepsIds};
 ghost use Rattle.ep_calls.specs.Parts.{AreCoherent};
 ghost use Rattle.ep_calls.specs.Raising.{IsRaising};
-ghost use Rattle.ep_climb.specs.Mark.{AreLookedAt};
+ghost use Rattle.ep_choice.specs.Choose.{HaveInstances};
+ghost use Rattle.ep_choice.specs.Lost.{NotesLost};
+ghost use Rattle.ep_choice.specs.Marking.{AreLookedAt, gets_mark_key};
+ghost use Rattle.ep_climb.specs.Reach.{AreReached};
 ghost use Rattle.ep_interest.specs.Registrations.{IsSound};
 ghost use Rattle.ep_plain.specs.Dating.{Fits};
 ghost use Rattle.ep_plain.specs.Exact.{TellsReady};
@@ -20,9 +23,9 @@ use crate::dating::Dating;
 use ep_alarms::{Alarms, burial_leaves_alarms};
 use ep_base::DescId;
 use ep_calls::{Parts, Raising};
-use ep_climb::{climb, mark, mark_due};
+use ep_choice::{mark, note_dying};
+use ep_climb::climb;
 use ep_dates::drop_dying;
-use ep_park::laws::unmarked_in_turn;
 
 /// Does nothing. What holds of the parts between calls, with their registrations; a fact for proofs.
 pub fn know(parts: &Parts)
@@ -35,7 +38,8 @@ pub fn know(parts: &Parts)
 }
 
 /// Takes the dead away, with the dates of their registrations and of those on them. The instances that lost the last
-/// of their reportable registrations in this event are `gone` then.
+/// of their reportable registrations in this event are `gone` then, and those that lost one that may have guarded them
+/// are noted as `lost`.
 fn bury(parts: &mut Parts, dating: &mut Dating, step: u64)
     requires fits { Fits parts.old.interest dating.old }
     ensures burial { Burial step parts.old.tables parts.old.interest parts.new.tables
@@ -47,9 +51,12 @@ fn bury(parts: &mut Parts, dating: &mut Dating, step: u64)
         (record dating.new.dates { turned = dating.new.gone }) }
     ensures fits { Fits parts.new.interest dating.new }
     ensures altered { dating.new.altered ≡ dating.old.altered }
+    ensures lost { NotesLost parts.old parts.new dating.old.choice.lost.reached
+        dating.new.choice.lost.reached }
 {
     know(parts);
     drop_dying(parts, &mut dating.dates);
+    note_dying(parts, &mut dating.choice.lost);
     parts.bury(step);
     know(parts);
     dating.dates.hand_over(&mut dating.gone);
@@ -82,17 +89,31 @@ pub fn spread(
     know(parts);
 }
 
-/// Sets marks by the dates of the registrations, and forgets what was passed on in an event.
-pub fn rest(parts: &mut Parts, dating: &Dating, attend: Option<DescId>)
-    requires ready { TellsReady parts.old dating.now.dates }
-    requires looked { AreLookedAt parts.old dating.now.reached.reached attend }
-    ensures { Rests parts.old parts.new }
+/// Sets marks by the dates of the registrations, and forgets what was passed on in an event, and what was lost.
+pub fn rest(parts: &mut Parts, dating: &mut Dating, attend: Option<DescId>, step: u64)
+    requires step { 0 < step }
+    requires ready { TellsReady parts.old dating.old.dates }
+    requires instances { HaveInstances parts.old }
+    requires fits { Fits parts.old.interest dating.old }
+    requires reached { AreReached step parts.old.tables parts.old.interest
+        dating.old.reached.reached }
+    requires looked { AreLookedAt step parts.old dating.old.choice.lost.reached attend }
+    ensures rests { RestsBy (gets_mark_key step parts.old attend) parts.old parts.new }
+    ensures fits { Fits parts.new.interest dating.new }
+    ensures unlost { dating.new.choice.lost.reached ≡ [] }
+    ensures dates { dating.new.dates ≡ dating.old.dates }
+    ensures altered { dating.new.altered ≡ dating.old.altered }
 {
     let mut by_dates = ByDates {
         dates: &dating.dates,
     };
-    unmarked_in_turn();
-    mark_due(parts);
-    mark(parts, &mut by_dates, &dating.reached, attend);
+    mark(
+        parts,
+        &mut by_dates,
+        &mut dating.reached,
+        &mut dating.choice,
+        attend,
+        step,
+    );
     parts.forget_passed();
 }

@@ -61,8 +61,7 @@ fn wait_these(
 {
     parts.tables.known();
     let chosen = take(parts, &dating.dates, instance, picks)?;
-    let outcome = parts.wait_with(stamp.step, stamp.caller, args, instance, &chosen)?;
-    Ok(outcome)
+    parts.wait_with(stamp.step, stamp.caller, args, instance, &chosen)
 }
 
 /// The resumption of a marked caller that reports what it is given. An `Err` is want of memory and leaves the parts.
@@ -93,8 +92,7 @@ fn resume_these(
 {
     parts.tables.known();
     let chosen = take(parts, &dating.dates, waiter.instance, picks)?;
-    let outcome = parts.resume_with(stamp.step, stamp.caller, waiter, &chosen, false)?;
-    Ok(outcome)
+    parts.resume_with(stamp.step, stamp.caller, waiter, &chosen, false)
 }
 
 /// One event whose report is of these registrations, in this order. An `Err` is want of memory, or of room for what it

@@ -9,6 +9,5 @@ pub mod RegistrationRuns
 pub mod EdgeRuns
 pub mod NestRuns
 pub mod ParkRuns
-pub mod Ahead
 pub mod ExclusiveRuns
 pub mod ExclusiveScripts

@@ -1,3 +1,5 @@
+use Rattle.ep_nest.proofs.AdjacentLemmas.{on_err}
+use Rattle.ep_kernel.proofs.StillSuitsLemmas.{loses_same, loses_stay, suits_same}
 use Rattle.std.proofs.Common.{◌≡◌, ◌∙◌, ap, false, inl, inr, is_some, refl, subst, sym, true}
 use Rattle.std.specs.List.{list_any}
 use Rattle.std.proofs.lemmas.Result.{IfOk-weaker, on_err_weaker}
@@ -170,3 +172,25 @@ returns-in-Tick-clause-hopes c =
 
 pub returns-in-Resume-clause-walk : goal.returns-in-Resume-clause-walk
 returns-in-Resume-clause-walk c = room_within c.args.notes.now.asked.hopes c.resume.new.asked.hopes c.args.notes.now.reached c.resume.ensures.within c.requires.walk
+
+-- The room for a choice, and what is lost.
+pub returns-then-not-has_process-clause-lost : goal.returns-then-not-has_process-clause-lost
+returns-then-not-has_process-clause-lost c = loses_stay c.args.parts.now c.args.parts.now refl c.args.notes.now.choice.lost.reached
+
+pub returns-then-is_parked-clause-lost : goal.returns-then-is_parked-clause-lost
+returns-then-is_parked-clause-lost c = loses_stay c.args.parts.now c.args.parts.now refl c.args.notes.now.choice.lost.reached
+
+pub returns-in-Resume-clause-choice : goal.returns-in-Resume-clause-choice
+returns-in-Resume-clause-choice c = c.resume.ensures.choice c.args.notes.now.choice c.requires.choice
+
+pub returns-in-Resume-clause-lost : goal.returns-in-Resume-clause-lost
+returns-in-Resume-clause-lost c = c.resume.ensures.lost c.args.notes.now.choice.lost.reached
+
+pub returns-in-Tick-clause-choice : goal.returns-in-Tick-clause-choice
+returns-in-Tick-clause-choice c = suits_same c.args.parts.now.interest c.tick.new.self.interest (ap (λ (r : Parts). r.interest) c.tick.ensures.others) c.args.notes.now.choice c.requires.choice
+
+pub returns-in-Tick-clause-lost : goal.returns-in-Tick-clause-lost
+returns-in-Tick-clause-lost c = loses_same c.args.parts.now c.tick.new.self (ap (λ (r : Parts). r.interest) c.tick.ensures.others) c.args.notes.now.choice.lost.reached
+
+pub returns-in-Resume-clause-err_lost : goal.returns-in-Resume-clause-err_lost
+returns-in-Resume-clause-err_lost c = on_err c.resume.result refl

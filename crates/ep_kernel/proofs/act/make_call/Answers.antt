@@ -1,4 +1,6 @@
-use Rattle.std.proofs.Common.{◌≡◌, ℤ, IsSome, Some, ap, of_z, rules, subst, sym, to_z, w32, w64}
+use Rattle.ep_nest.proofs.AdjacentLemmas.{on_err}
+use Rattle.ep_kernel.proofs.StillSuitsLemmas.{loses_same, suits_same}
+use Rattle.std.proofs.Common.{◌≡◌, ℤ, IsSome, Some, ap, of_z, refl, rules, subst, sym, to_z, w32, w64}
 use Rattle.std.proofs.lemmas.Int.{to_z-of_z}
 use Rattle.std.proofs.lemmas.Result.{IfOk-weaker, on_err_weaker}
 use mir.Val.{SFits}
@@ -41,6 +43,10 @@ returns-in_default c =
       last = c.table_call.ensures.last;
       room = c.table_call.ensures.room;
       walk = c.requires.walk;
+      choice = suits_same p.interest c.table_call.new.self.interest c.table_call.ensures.interest c.args.notes.now.choice c.requires.choice;
+      lost = loses_same p c.table_call.new.self c.table_call.ensures.interest c.args.notes.now.choice.lost.reached;
+      fits = λ h. h;
+      err_lost = on_err c.table_call.result refl;
       spared = λ h. c.table_call.ensures.frees (table_call_frees p.tables.files c.args.pid.0 call on_tables h);
       err = on_err_weaker c.table_call.result (λ same. (same, same_lists l)) c.table_call.ensures.err;
     }
@@ -140,3 +146,22 @@ returns-in-Read-clause-hopes c =
 
 pub returns-in-EpollWait-clause-walk : goal.returns-in-EpollWait-clause-walk
 returns-in-EpollWait-clause-walk c = room_within c.args.notes.now.asked.hopes c.epoll_wait.new.asked.hopes c.args.notes.now.reached c.epoll_wait.ensures.within c.requires.walk
+
+-- The room for a choice, and what is lost.
+pub returns-in-Read-clause-choice : goal.returns-in-Read-clause-choice
+returns-in-Read-clause-choice c = suits_same c.args.parts.now.interest c.object_call.new.self.interest c.object_call.ensures.interest c.args.notes.now.choice c.requires.choice
+
+pub returns-in-Read-clause-lost : goal.returns-in-Read-clause-lost
+returns-in-Read-clause-lost c = loses_same c.args.parts.now c.object_call.new.self c.object_call.ensures.interest c.args.notes.now.choice.lost.reached
+
+pub returns-in-EpollWait-clause-choice : goal.returns-in-EpollWait-clause-choice
+returns-in-EpollWait-clause-choice c = c.epoll_wait.ensures.choice c.args.notes.now.choice c.requires.choice
+
+pub returns-in-EpollWait-clause-lost : goal.returns-in-EpollWait-clause-lost
+returns-in-EpollWait-clause-lost c = c.epoll_wait.ensures.lost c.args.notes.now.choice.lost.reached
+
+pub returns-in-Read-clause-err_lost : goal.returns-in-Read-clause-err_lost
+returns-in-Read-clause-err_lost c = on_err c.object_call.result refl
+
+pub returns-in-EpollWait-clause-err_lost : goal.returns-in-EpollWait-clause-err_lost
+returns-in-EpollWait-clause-err_lost c = on_err c.epoll_wait.result refl

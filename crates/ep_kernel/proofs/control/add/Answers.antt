@@ -1,3 +1,5 @@
+use Rattle.ep_choice.proofs.SuitsLemmas.{suits_widened}
+use Rattle.ep_kernel.proofs.StillSuitsLemmas.{loses_missed, loses_stay, suits_added, suits_stay}
 use Rattle.ep_alarms.proofs.ChangesLemmas.{controls_leave}
 use Rattle.ep_kernel.proofs.RoomLemmas.{room_gained, room_grown, room_within, within_dropped, within_same, within_settled}
 use Rattle.ep_kernel.proofs.ControlTurnsLemmas.{next_at, none_placed, same_again, settled_at, some_placed, sound_at, turns_added, vacant_at}
@@ -99,3 +101,34 @@ returns-in-Err-clause-room c =
     let grown = room_grown h c.args.notes.now.reached w c.make_room_for.ensures.more c.requires.room in
     let gained = room_gained h k w c.args.plan.named.instance.0 c.next_key-id.result (c.make_room_for.ensures.hoped made) (c.make_room_for.ensures.room made) grown in
     room_within k c.drop_place-in-Err.new.self w (within_dropped k c.drop_place-in-Err.new.self c.next_key-id.result c.drop_place-in-Err.ensures) gained
+
+-- The room for a choice.
+pub returns-clause-choice : goal.returns-clause-choice
+returns-clause-choice c =
+    suits_added c.args.pid c.args.args c.args.plan c.in-Ok.outcome c.args.parts.now c.control.new.self c.in-Ok.ensures.controls (sound_at _ _ c.parts.view_is c.known-2.ensures) c.next_key-id.result (next_at _ _ _ c.parts.view_is c.next_key-id.ensures.next) c.requires.adds c.requires.found
+    c.make_room_for.new.notes.choice (c.make_room_for.ensures.choice c.if-not-make_room_for.false) (suits_widened c.args.parts.now.interest c.args.notes.now.choice c.make_room_for.new.notes.choice c.make_room_for.ensures.widens c.requires.choice)
+
+pub returns-then-not-make_room_for-clause-choice : goal.returns-then-not-make_room_for-clause-choice
+returns-then-not-make_room_for-clause-choice c =
+    suits_stay c.args.parts.now c.refuse.new.parts c.refuse.ensures.stays c.make_room_for.new.notes.choice (suits_widened c.args.parts.now.interest c.args.notes.now.choice c.make_room_for.new.notes.choice c.make_room_for.ensures.widens c.requires.choice)
+
+pub returns-in_err-refused-clause-choice : goal.returns-in_err-refused-clause-choice
+returns-in_err-refused-clause-choice c =
+    suits_stay c.args.parts.now c.refuse.new.parts c.refuse.ensures.stays c.make_room_for.new.notes.choice (suits_widened c.args.parts.now.interest c.args.notes.now.choice c.make_room_for.new.notes.choice c.make_room_for.ensures.widens c.requires.choice)
+
+pub returns-in-Err-clause-choice : goal.returns-in-Err-clause-choice
+returns-in-Err-clause-choice c =
+    suits_stay c.args.parts.now c.control.new.self c.in-Err.ensures.err c.make_room_for.new.notes.choice (suits_widened c.args.parts.now.interest c.args.notes.now.choice c.make_room_for.new.notes.choice c.make_room_for.ensures.widens c.requires.choice)
+
+-- and what is lost
+pub returns-clause-lost : goal.returns-clause-lost
+returns-clause-lost c = loses_missed c.args.pid c.args.args c.args.plan c.in-Ok.outcome c.args.parts.now c.control.new.self c.in-Ok.ensures.controls c.requires.found
+
+pub returns-then-not-make_room_for-clause-lost : goal.returns-then-not-make_room_for-clause-lost
+returns-then-not-make_room_for-clause-lost c = loses_stay c.args.parts.now c.refuse.new.parts c.refuse.ensures.stays
+
+pub returns-in_err-refused-clause-lost : goal.returns-in_err-refused-clause-lost
+returns-in_err-refused-clause-lost c = loses_stay c.args.parts.now c.refuse.new.parts c.refuse.ensures.stays
+
+pub returns-in-Err-clause-lost : goal.returns-in-Err-clause-lost
+returns-in-Err-clause-lost c = loses_stay c.args.parts.now c.control.new.self c.in-Err.ensures.err

@@ -1,3 +1,4 @@
+use Rattle.ep_kernel.proofs.StillSuitsLemmas.{loses_controlled, loses_failed, suits_altered, suits_stay}
 use Rattle.ep_alarms.proofs.ChangesLemmas.{controls_leave}
 use Rattle.ep_kernel.proofs.RoomLemmas.{within_settled}
 use Rattle.ep_kernel.proofs.ControlTurnsLemmas.{found_placed, settled_at, sound_at, turns_altered}
@@ -28,3 +29,17 @@ returns-in_err-outcome-clause-hopes c = hopes_stay (CallOf c.args.pid (control_c
 
 pub returns-clause-within : goal.returns-clause-within
 returns-clause-within c = within_settled c.in-Some.id _ c.in_ok-outcome.outcome.raising c.args.asked.now.hopes c.settle-2.new.lists c.settle-2.ensures
+
+-- The room for a choice, and what is lost.
+pub returns-clause-choice : goal.returns-clause-choice
+returns-clause-choice c =
+    suits_altered c.args.pid c.args.args c.args.plan c.in_ok-outcome.outcome c.args.parts.now c.control.new.self c.in_ok-outcome.ensures.controls (sound_at _ _ c.parts.view_is c.known-2.ensures) c.requires.plan c.in-Some.id c.in-Some.is
+
+pub returns-in_err-outcome-clause-choice : goal.returns-in_err-outcome-clause-choice
+returns-in_err-outcome-clause-choice c = suits_stay c.args.parts.now c.control.new.self c.in_err-outcome.ensures.err
+
+pub returns-clause-lost : goal.returns-clause-lost
+returns-clause-lost c = loses_controlled c.args.pid c.args.args c.args.plan c.in_ok-outcome.outcome c.args.parts.now c.control.new.self c.in_ok-outcome.ensures.controls (sound_at _ _ c.parts.view_is c.known-2.ensures)
+
+pub returns-in_err-outcome-clause-lost : goal.returns-in_err-outcome-clause-lost
+returns-in_err-outcome-clause-lost c = loses_failed c.args.plan c.args.parts.now c.control.new.self c.in_err-outcome.ensures.err

@@ -1,19 +1,48 @@
-use Rattle.std.proofs.Common.{◌≡◌, ◌∙◌, List, ap, map, sym}
+use Rattle.std.proofs.Common.{◌≡◌, ◌∙◌, List, [], ◌∷◌, ap, map, refl, subst, sym}
 use Rattle.ep_calls.specs.Parts.{Parts}
-use Rattle.ep_interest.specs.Registrations.{Registrations, settled}
+use Rattle.ep_choice.proofs.MarkingLemmas.{fits_settled}
+use Rattle.ep_interest.specs.Registrations.{settled}
+use Rattle.ep_interest.specs.declared.entry.Entry.{Entry}
+use Rattle.ep_kernel.proofs.HopesForLemmas.{hopes_settled}
+use Rattle.ep_kernel.specs.Listed.{HopesFor}
 use Rattle.ep_machine.specs.State.{Waiter}
 use Rattle.ep_kernel.proofs.settle.rest.Goals as goal
+
+-- what is forgotten once is forgotten
+settled_twice : (xs : List Entry) → map settled (map settled xs) ≡ map settled xs
+settled_twice [] = refl
+settled_twice (x ∷ xs) = ap (λ (ys : List Entry). settled x ∷ ys) (settled_twice xs)
 
 pub returns-clause-rests : goal.returns-clause-rests
 returns-clause-rests c =
     let left = c.args.parts.now in
-    let marked : c.mark.new.parts ≡ record left { parked = c.mark.new.parts.parked } = c.mark.ensures.others in
-    let parked : c.mark.new.parts.parked ≡ c.forget_passed.new.self.parked = sym (ap (λ (p : Parts). p.parked) c.forget_passed.ensures.others) in
-    let interest : c.mark.new.parts.interest ≡ left.interest = ap (λ (p : Parts). p.interest) marked in
+    let mid = c.mark.new.parts in
+    let new = c.forget_passed.new.self in
+    let narrowed = c.mark.ensures.narrowed in
+    let forgot = c.forget_passed.ensures in
+    let parked : mid.parked ≡ new.parked = ap (λ (p : Parts). p.parked) (sym forgot.others) in
     record {
-      marks = ap (λ (p : Parts). p.parked) c.forget_passed.ensures.others ∙ c.mark.ensures.marks;
-      entries = c.forget_passed.ensures.entries ∙ ap (λ (r : Registrations). map settled r.entries) interest;
-      keys = c.forget_passed.ensures.keys ∙ ap (λ (r : Registrations). r.keys) interest;
-      added = c.forget_passed.ensures.added ∙ ap (λ (r : Registrations). r.added) interest;
-      others = c.forget_passed.ensures.others ∙ (ap (λ (p : Parts). record p { interest = c.forget_passed.new.self.interest }) marked ∙ ap (λ (ws : List Waiter). record left { interest = c.forget_passed.new.self.interest; parked = ws }) parked);
+      marks = sym parked ∙ c.mark.ensures.marks;
+      entries = forgot.entries ∙ narrowed.entries;
+      keys = forgot.keys ∙ narrowed.keys;
+      added = forgot.added ∙ narrowed.added;
+      others = forgot.others ∙ (ap (λ (p : Parts). record p { interest = new.interest }) narrowed.others ∙ ap (λ (ws : List Waiter). record left { interest = new.interest; parked = ws }) parked);
     }
+
+pub returns-clause-hopes : goal.returns-clause-hopes
+returns-clause-hopes c =
+    let mid = c.mark.new.parts in
+    let new = c.forget_passed.new.self in
+    let forgot = c.forget_passed.ensures in
+    let hopes = c.mark.new.notes.asked.hopes in
+    subst (λ (p : Parts). HopesFor p hopes) (sym forgot.others)
+    (hopes_settled mid new.interest mid.parked (ap (map settled) forgot.entries ∙ settled_twice mid.interest.entries) forgot.keys hopes c.mark.ensures.hopes)
+
+pub returns-clause-fits : goal.returns-clause-fits
+returns-clause-fits c =
+    let mid = c.mark.new.parts in
+    let new = c.forget_passed.new.self in
+    let forgot = c.forget_passed.ensures in
+    let notes = c.mark.new.notes in
+    let fits = c.mark.ensures.fits in
+    fits_settled mid new notes.reached notes.reached notes.choice notes.choice (ap (map settled) forgot.entries ∙ settled_twice mid.interest.entries) forgot.keys (ap (λ (p : Parts). p.tables) forgot.others) refl refl refl refl fits.lost fits

@@ -1,3 +1,4 @@
+use Rattle.ep_kernel.proofs.StillSuitsLemmas.{loses_reported, loses_stay, suits_reported, suits_stay}
 use Rattle.ep_alarms.proofs.ChangesLemmas.{nowhere_leaves}
 use Rattle.std.proofs.Common.{◌≡◌, ◌∙◌, ℤ, Some, true, SFits, ap, find, refl, rules, subst, sym, w32}
 use Rattle.std.proofs.lemmas.Int.{to_z-of_z}
@@ -172,3 +173,34 @@ returns-in_err-outcome-clause-within c = within_hopes c.args.parts.now c.args.as
 
 pub returns-clause-within : goal.returns-clause-within
 returns-clause-within c = within_hopes c.args.parts.now c.args.asked.now.hopes c.choose.new.asked.hopes c.requires.hopes c.choose.ensures.hopes
+
+-- The room for a choice, and what is lost.
+pub returns-in_default-clause-choice : goal.returns-in_default-clause-choice
+returns-in_default-clause-choice c = suits_stay c.args.parts.now c.args.parts.now refl
+
+pub returns-in_default-clause-lost : goal.returns-in_default-clause-lost
+returns-in_default-clause-lost c = loses_stay c.args.parts.now c.args.parts.now refl
+
+pub returns-then-not-waiter-clause-choice : goal.returns-then-not-waiter-clause-choice
+returns-then-not-waiter-clause-choice c = suits_stay c.args.parts.now c.args.parts.now refl
+
+pub returns-then-not-waiter-clause-lost : goal.returns-then-not-waiter-clause-lost
+returns-then-not-waiter-clause-lost c = loses_stay c.args.parts.now c.args.parts.now refl
+
+pub returns-in_err-found-clause-choice : goal.returns-in_err-found-clause-choice
+returns-in_err-found-clause-choice c = suits_stay c.args.parts.now c.args.parts.now refl
+
+pub returns-in_err-found-clause-lost : goal.returns-in_err-found-clause-lost
+returns-in_err-found-clause-lost c = loses_stay c.args.parts.now c.args.parts.now refl
+
+pub returns-in_err-outcome-clause-choice : goal.returns-in_err-outcome-clause-choice
+returns-in_err-outcome-clause-choice c = suits_stay c.args.parts.now c.resume_with.new.self c.in_err-outcome.ensures.err
+
+pub returns-in_err-outcome-clause-lost : goal.returns-in_err-outcome-clause-lost
+returns-in_err-outcome-clause-lost c = loses_stay c.args.parts.now c.resume_with.new.self c.in_err-outcome.ensures.err
+
+pub returns-clause-choice : goal.returns-clause-choice
+returns-clause-choice c = suits_reported c.args.parts.now c.resume_with.new.self c.args.step c.in_ok-outcome.outcome.picked c.in_ok-outcome.ensures.entries c.in_ok-outcome.ensures.ids
+
+pub returns-clause-lost : goal.returns-clause-lost
+returns-clause-lost c = loses_reported c.args.parts.now c.resume_with.new.self c.args.step c.in_ok-outcome.outcome.picked c.in_ok-outcome.ensures.entries

@@ -1,33 +1,40 @@
-use Rattle.std.proofs.Common.{◌≡◌, ◌∙◌, ◌++◌, List, ap, filter, map, subst, sym}
+use Rattle.std.proofs.Common.{◌≡◌, ◌∙◌, ap, refl, sym}
 use Rattle.ep_calls.specs.Parts.{Parts}
-use Rattle.ep_climb.proofs.MarkLemmas.{names_unmarked, ready_in}
-use Rattle.ep_climb.specs.Mark.{attended}
-use Rattle.ep_interest.specs.Registrations.{Registrations, settled}
-use Rattle.ep_machine.specs.Marks.{marked_by}
-use Rattle.ep_machine.specs.State.{Waiter}
-use Rattle.ep_machine.specs.Waits.{marked_if_due}
-use Rattle.ep_park.specs.Turns.{marked_in_turn}
+use Rattle.ep_choice.proofs.MarkingLemmas.{fits_settled, ready_lasts}
+use Rattle.ep_dates.specs.Dates.{is_ready}
+use Rattle.ep_plain.proofs.SpreadLemmas.{fits_rested, settled_rest, stay_settled}
 use Rattle.ep_plain.proofs.settle.rest.Goals as goal
-use Rattle.ep_plain.specs.Exact.{TellsReady}
 
-pub mark-requires : goal.mark-requires
-mark-requires c = record { knows = subst (λ (p : Parts). TellsReady p c.args.dating.now.dates) (sym c.mark_due.ensures) c.requires.ready }
+pub mark-requires-clause-fits : goal.mark-requires-clause-fits
+mark-requires-clause-fits c = record { instances = c.requires.instances; reached = c.requires.fits.reached; choice = c.requires.fits.choice; lost = c.requires.fits.lost }
 
-pub returns : goal.returns
-returns c =
+pub mark-requires-clause-lasts : goal.mark-requires-clause-lasts
+mark-requires-clause-lasts c = ready_lasts (λ by. is_ready by.dates.now)
+
+pub returns-clause-rests : goal.returns-clause-rests
+returns-clause-rests c =
     let left = c.args.parts.now in
-    let ks = c.args.dating.now.reached.reached ++ attended c.args.attend in
-    let turns : c.mark.new.parts.parked ≡ marked_in_turn (filter (ready_in left) ks) (map (marked_if_due left.clock) left.parked) =
-    c.mark.ensures.marks ∙ ap (λ (q : Parts). marked_in_turn (filter (ready_in q) ks) q.parked) c.mark_due.ensures in
-    let marks : c.mark.new.parts.parked ≡ marked_by (ready_in left) left.clock left.parked =
-    turns ∙ c.unmarked_in_turn.ensures (ready_in left) (map (marked_if_due left.clock) left.parked) (filter (ready_in left) ks) (names_unmarked (ready_in left) left.clock left.parked ks c.requires.looked) in
-    let marked : c.mark.new.parts ≡ record left { parked = c.mark.new.parts.parked } = c.mark.ensures.others ∙ ap (λ (q : Parts). record q { parked = c.mark.new.parts.parked }) c.mark_due.ensures in
-    let parked : c.mark.new.parts.parked ≡ c.forget_passed.new.self.parked = sym (ap (λ (p : Parts). p.parked) c.forget_passed.ensures.others) in
-    let interest : c.mark.new.parts.interest ≡ left.interest = ap (λ (p : Parts). p.interest) marked in
+    let marked = c.mark.new.parts in
+    let rested = c.forget_passed.new.self in
+    let narrowed = c.mark.ensures.narrowed in
+    let parked : rested.parked ≡ marked.parked = ap (λ (p : Parts). p.parked) c.forget_passed.ensures.others in
     record {
-      marks = ap (λ (p : Parts). p.parked) c.forget_passed.ensures.others ∙ marks;
-      entries = c.forget_passed.ensures.entries ∙ ap (λ (r : Registrations). map settled r.entries) interest;
-      keys = c.forget_passed.ensures.keys ∙ ap (λ (r : Registrations). r.keys) interest;
-      added = c.forget_passed.ensures.added ∙ ap (λ (r : Registrations). r.added) interest;
-      others = c.forget_passed.ensures.others ∙ (ap (λ (p : Parts). record p { interest = c.forget_passed.new.self.interest }) marked ∙ ap (λ (ws : List Waiter). record left { interest = c.forget_passed.new.self.interest; parked = ws }) parked);
+      marks = parked ∙ c.mark.ensures.marks;
+      entries = c.forget_passed.ensures.entries ∙ narrowed.entries;
+      keys = c.forget_passed.ensures.keys ∙ narrowed.keys;
+      added = c.forget_passed.ensures.added ∙ narrowed.added;
+      others = c.forget_passed.ensures.others ∙ (λ i. record (narrowed.others i) { interest = rested.interest; parked = sym parked i });
     }
+
+pub returns-clause-fits : goal.returns-clause-fits
+returns-clause-fits c =
+    let left = c.args.parts.now in
+    let marked = c.mark.new.parts in
+    let rested = c.forget_passed.new.self in
+    let narrowed = c.mark.ensures.narrowed in
+    let forgot = c.forget_passed.ensures in
+    let w = c.mark.new.reached in
+    let d = c.mark.new.choice in
+    let fits = fits_settled marked rested w w d d (settled_rest marked.interest.entries rested.interest.entries forgot.entries) forgot.keys (ap (λ (p : Parts). p.tables) forgot.others) refl refl refl refl c.mark.ensures.fits.lost c.mark.ensures.fits in
+    let stay = stay_settled left.interest rested.interest (forgot.entries ∙ narrowed.entries) (forgot.keys ∙ narrowed.keys) (forgot.added ∙ narrowed.added) in
+    fits_rested left.interest rested.interest stay c.args.dating.now _ c.requires.fits refl fits.reached refl refl fits.choice fits.lost

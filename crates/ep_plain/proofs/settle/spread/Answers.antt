@@ -1,15 +1,24 @@
-use Rattle.std.proofs.Common.{◌∙◌, ℕ, ap, arith, refl, subst, sym}
+use Rattle.std.proofs.Common.{◌∙◌, ℕ, IsSome, ap, arith, refl, subst, sym}
 use Rattle.ep_alarms.specs.Alarms.{AreSet, LosesDying}
 use Rattle.ep_calls.specs.Burial.{Burial}
 use Rattle.ep_calls.specs.Parts.{Parts}
+use Rattle.ep_choice.proofs.NotesLostLemmas.{guards_placed, notes_after, notes_then, placed_stirred, stay_risen as stay_numbers}
+use Rattle.ep_choice.proofs.SuitsLemmas.{suits_left, were_risen, were_stirred}
 use Rattle.ep_plain.proofs.BuryLemmas.{each_buried}
 use Rattle.ep_plain.proofs.SpreadLemmas.{fits_stay, loses_between, stay_risen, stay_stirred}
+use Rattle.ep_table.specs.Value.{number_under}
 use Rattle.ep_plain.proofs.settle.spread.Goals as goal
 
 pub bury-requires : goal.bury-requires
-bury-requires c = record {
-  fits = fits_stay c.args.parts.now.interest c.raise.new.parts.interest (stay_stirred c.args.raising c.args.parts.now.tables c.args.parts.now.clock c.args.step c.args.parts.now.interest c.raise.new.parts.interest c.raise.ensures.stirs) c.args.dating.now c.args.dating.now c.requires.fits refl refl refl refl;
-}
+bury-requires c =
+    let mid = c.args.parts.now in
+    let noted = c.raise.new.parts.interest in
+    let d = c.args.dating.now in
+    let were = were_stirred c.args.raising mid.tables mid.clock c.args.step mid.interest noted c.raise.ensures.stirs in
+    record {
+      fits = fits_stay mid.interest noted (stay_stirred c.args.raising mid.tables mid.clock c.args.step mid.interest noted c.raise.ensures.stirs) d d c.requires.fits refl refl refl refl
+          (suits_left mid.interest noted d.choice d.choice were refl refl refl c.requires.fits.choice) c.requires.fits.lost;
+    }
 
 pub returns-clause-spreads : goal.returns-clause-spreads
 returns-clause-spreads c =
@@ -50,8 +59,16 @@ returns-clause-spreads c =
       reached = c.climb.ensures.reached;
       loses = loses_between mid.interest noted.interest buried.interest left.interest c.args.dating.now.dates (record c.bury.new.dating.dates { turned = c.bury.new.dating.gone }) stirred each (let same = burial.buries.added in omega (arith, same)) climbed
           c.requires.fits.kept c.bury.ensures.loses;
-      fits = fits_stay buried.interest left.interest climbed c.bury.new.dating _ c.bury.ensures.fits refl c.climb.ensures.room refl refl;
+      fits = fits_stay buried.interest left.interest climbed c.bury.new.dating _ c.bury.ensures.fits refl c.climb.ensures.room refl refl
+          (suits_left buried.interest left.interest c.bury.new.dating.choice c.bury.new.dating.choice (were_risen n buried.tables buried.interest left.interest c.climb.ensures.rises c.climb.ensures.keys) refl refl refl c.bury.ensures.fits.choice)
+          c.bury.ensures.fits.lost;
       altered = c.bury.ensures.altered;
+      lost =
+          let raised = guards_placed mid noted (ap (λ (p : Parts). p.tables) c.raise.ensures.others) (placed_stirred c.args.raising mid.tables mid.clock n mid.interest noted.interest c.raise.ensures.stirs) in
+          let ks = c.args.dating.now.choice.lost.reached in
+          let ls = c.bury.new.dating.choice.lost.reached in
+          notes_then mid buried left ks ls (λ d lives. subst (λ (p : Parts). IsSome (number_under p.tables d)) c.climb.ensures.others lives)
+          (stay_numbers n buried.tables buried.interest left.interest c.climb.ensures.rises) (notes_after mid noted buried ks ls raised c.bury.ensures.lost);
     }
 
 pub returns-clause-set : goal.returns-clause-set

@@ -5,6 +5,7 @@ use Rattle.ep_kernel.specs.Running.{Runs}
 use Rattle.ep_kernel.proofs.ReadyBookLemmas.{no_lists}
 use Rattle.ep_kernel.proofs.RoomLemmas.{room_none}
 use Rattle.ep_kernel.proofs.RunLemmas.{hopes_opening, runs_opening}
+use Rattle.ep_kernel.proofs.StillSuitsLemmas.{suits_opening}
 use Rattle.ep_alarms.proofs.ChangesLemmas.{set_opening}
 use Rattle.ep_kernel.proofs.ready.ReadyKernel.new.Goals as goal
 
@@ -14,8 +15,10 @@ invariant_of-result c =
     record {
       runs = subst (λ (rs : List Record). Runs rs p c.new-2.result) (sym c.new-5.ensures.items) (runs_opening c.args.limits p c.new-2.result c.in_ok-new.ensures c.new-2.ensures);
       set = set_opening c.args.limits p c.new-3.result c.in_ok-new.ensures c.new-3.ensures;
-      hopes = hopes_opening c.args.limits p c.new-4.result.asked.hopes c.in_ok-new.ensures c.new-4.ensures;
-      room = room_none c.new-4.result.asked.hopes c.new-4.result.reached (λ id. ap (λ (l : Lists). instance_at l id) c.new-4.ensures);
+      hopes = hopes_opening c.args.limits p c.new-4.result.asked.hopes c.in_ok-new.ensures c.new-4.ensures.hopes;
+      room = room_none c.new-4.result.asked.hopes c.new-4.result.reached (λ id. ap (λ (l : Lists). instance_at l id) c.new-4.ensures.hopes);
+      choice = suits_opening c.args.limits p c.in_ok-new.ensures c.new-4.result.choice;
+      unlost = c.new-4.ensures.unlost;
     }
 
 -- no list is there yet

@@ -1,29 +1,33 @@
-use Rattle.std.proofs.Common.{◌≡◌, ◌+◌, ◌++◌, [], ◌∷◌, List, None, Option, ap, length, ◌∙◌, arith, subst, sym, vec_capacity}
+use Rattle.std.proofs.Common.{◌≡◌, ◌+◌, ◌++◌, [], ◌∷◌, ℕ, List, None, Option, ap, length, ◌∙◌, arith, subst, sym, vec_capacity}
+use Rattle.std.proofs.lemmas.Bool.{false≢true}
 use Rattle.ep_alarms.specs.Alarms.{AreSet}
 use Rattle.ep_base.specs.declared.answer.Answer.{Answer}
 use Rattle.ep_base.specs.declared.ids.DescId.{DescId}
 use Rattle.ep_base.specs.declared.record.Record.{Record}
 use Rattle.ep_machine.specs.Effect.{first}
+use Rattle.ep_machine.specs.Lists.{is_among}
 use Rattle.ep_machine.specs.Refusal.{refusals}
 use Rattle.ep_machine.specs.Step.{next_event}
+use Rattle.ep_calls.specs.Ends.{RestsBy}
 use Rattle.ep_calls.specs.Acts.{Adds}
 use Rattle.ep_calls.specs.Book.{Book, state_of}
 use Rattle.ep_kernel.specs.ReadyBook.{AreAdded, LeavesReportable, ReadyBook, TurnsLists, list_of, listed}
 use Rattle.ep_calls.specs.Parts.{Parts}
-use Rattle.ep_calls.proofs.KeepsLemmas.{record_of}
+use Rattle.ep_calls.proofs.KeepsLemmas.{DoesAt, record_of}
 use Rattle.ep_calls.proofs.KeptLemmas.{inline_event}
 use Rattle.ep_kernel.proofs.ReadyBookLemmas.{same_lists}
 use Rattle.ep_kernel.specs.Listed.{HopesFor, lists_of}
-use Rattle.ep_climb.specs.Mark.{AreLookedAt, attends}
-use Rattle.ep_kernel.specs.Places.{HasRoomFor}
-use Rattle.ep_ready.specs.Walk.{Walk}
+use Rattle.ep_choice.specs.Lost.{NotesLost}
+use Rattle.ep_choice.specs.Marking.{AreLookedAt, gets_mark_key}
+use Rattle.ep_climb.specs.Mark.{attends, left_at, resumed_at}
 use Rattle.ep_kernel.specs.Running.{Runs, book_of}
-use Rattle.ep_climb.proofs.AreLookedAtLemmas.{looked_at}
-use Rattle.ep_kernel.proofs.HopesForLemmas.{hopes_after, hopes_left}
+use Rattle.ep_choice.proofs.EndLemmas.{have_instances, looked_at, notes_event}
+use Rattle.ep_kernel.proofs.HopesForLemmas.{hopes_left}
+use Rattle.ep_choice.proofs.ReachedLemmas.{reached_left}
 use Rattle.ep_calls.proofs.LastLemmas.{event_last}
 use Rattle.ep_nest.proofs.AdjacentLemmas.{on_err}
 use Rattle.ep_kernel.proofs.HopesGoLemmas.{hopes_again}
-use Rattle.ep_kernel.proofs.RoomLemmas.{room_within, within_hopes}
+use Rattle.ep_kernel.proofs.RoomLemmas.{room_placed, roomy_for}
 use Rattle.ep_kernel.proofs.RunLemmas.{added_on, adds_on, does_fairly, few_on, first_on, runs_on, runs_same}
 use Rattle.ep_alarms.proofs.ChangesLemmas.{set_same}
 use Rattle.ep_kernel.proofs.ready.ReadyKernel.try_step.Goals as goal
@@ -41,6 +45,8 @@ invariant_of-self-in_err-outcome c =
       set = subst (λ (p : Parts). AreSet p.tables p.clock c.make_room-has_room.new.self) (sym same.0) set;
       hopes = hopes_again c.args.event k.parts c.act.new.parts c.act.new.notes.asked.hopes same.0 c.act.ensures.hopes;
       room = c.act.ensures.walk;
+      choice = c.act.ensures.choice;
+      unlost = c.in_err-outcome.ensures.err_lost ∙ c.self.invariant.unlost;
     }
 
 pub returns-in_err-outcome-clause-err_lists : goal.returns-in_err-outcome-clause-err_lists
@@ -68,35 +74,63 @@ into_record-answer-requires c asked none =
     let does = does_fairly k.history.items k.parts c.act.new.parts k.lists c.self.invariant.runs (c.len.result + 1) c.args.caller.0 c.args.event o n c.in_ok-outcome.ensures.ok in
     inline_event k.parts.tables.limits (next_event c.self.invariant.runs.keeps.state) c.args.caller.0 o c.args.kept asked none c.args.event c.act.new.parts does.goes c.in_ok-outcome.ensures.kept
 
--- where marks are set the hopes fit, and no other instance has a caller to mark
+-- Where marks are set.
 at_step : (c : After-attend-attended) → c.len.result + 1 ≡ length c.self.inside.history.items + 1
 at_step c = omega (arith, c.len.ensures, c.reserve.ensures.len)
 
+-- what is attended
+attended : (c : After-attend-attended) → c.attend-attended.result ≡ attends (left_at c.spread.new.parts.parked c.args.caller.0 (resumed_at c.self.inside.parts.parked c.args.caller.0 c.args.event)) c.in_ok-outcome.outcome.raising
+attended c =
+    c.attend-attended.ensures
+    ∙ ap (λ (o : Option DescId). attends o c.in_ok-outcome.outcome.raising) (c.left.ensures ∙ ap (left_at c.spread.new.parts.parked c.args.caller.0) c.resumed_at-resumed.ensures)
+
+-- what the event does
+done : (c : After-attend-attended) → DoesAt (next_event c.self.invariant.runs.keeps.state) c.args.caller.0 c.args.event c.in_ok-outcome.outcome c.self.inside.parts c.act.new.parts
+done c = does_fairly c.self.inside.history.items c.self.inside.parts c.act.new.parts c.self.inside.lists c.self.invariant.runs (c.len.result + 1) c.args.caller.0 c.args.event c.in_ok-outcome.outcome (at_step c) c.in_ok-outcome.ensures.ok
+
+-- the hopes fit
 hoped : (c : After-attend-attended) → HopesFor c.spread.new.parts c.spread.new.notes.asked.hopes
 hoped c =
     let k = c.self.inside in
-    let n = c.len.result + 1 in
-    let outcome = c.in_ok-outcome.outcome in
     let runs = c.self.invariant.runs in
-    let done = does_fairly k.history.items k.parts c.act.new.parts k.lists runs n c.args.caller.0 c.args.event outcome (at_step c) c.in_ok-outcome.ensures.ok in
     hopes_left c.know_laws.ensures.spread k.history.items k.parts c.act.new.parts c.spread.new.parts runs.keeps c.know_laws.ensures.tables c.know_laws.ensures.interest
-    c.args.caller c.args.event outcome n (at_step c) done c.in_ok-outcome.ensures.turns.ids c.in_ok-outcome.ensures.ok.keys c.spread.ensures.spreads.spreads c.act.new.notes.asked.hopes c.spread.new.notes.asked.hopes c.act.ensures.hopes c.spread.ensures.spreads.hopes
+    c.args.caller c.args.event c.in_ok-outcome.outcome (c.len.result + 1) (at_step c) (done c) c.in_ok-outcome.ensures.turns.ids c.in_ok-outcome.ensures.ok.keys c.spread.ensures.spreads.spreads c.act.new.notes.asked.hopes c.spread.new.notes.asked.hopes c.act.ensures.hopes c.spread.ensures.spreads.hopes
+
+-- what it lost
+lost : (c : After-attend-attended) → NotesLost c.self.inside.parts c.spread.new.parts [] c.spread.new.notes.choice.lost.reached
+lost c =
+    let k = c.self.inside in
+    notes_event k.history.items k.parts c.act.new.parts c.spread.new.parts c.self.invariant.runs.keeps c.args.caller c.args.event c.in_ok-outcome.outcome (c.len.result + 1) (at_step c) (done c) c.in_ok-outcome.ensures.ok.keys c.know_laws.ensures.coherent c.spread.ensures.spreads.spreads
+    c.act.new.notes.choice.lost.reached c.spread.new.notes.choice.lost.reached (subst (λ (ks : List ℕ). NotesLost k.parts c.act.new.parts ks c.act.new.notes.choice.lost.reached) c.self.invariant.unlost c.act.ensures.lost) c.spread.ensures.lost
 
 pub rest-requires-clause-hopes : goal.rest-requires-clause-hopes
 rest-requires-clause-hopes c = hoped (goal.at.rest-requires-clause-hopes c).After-attend-attended
 
+pub rest-requires-clause-fits : goal.rest-requires-clause-fits
+rest-requires-clause-fits c =
+    let k = c.self.inside in
+    let now = (goal.at.rest-requires-clause-fits c).After-attend-attended in
+    let left = c.spread.new.parts in
+    let notes = c.spread.new.notes in
+    record {
+      instances = have_instances k.history.items k.parts c.act.new.parts left c.self.invariant.runs.keeps c.args.caller c.args.event c.in_ok-outcome.outcome (c.len.result + 1) (at_step now) (done now) c.in_ok-outcome.ensures.ok.keys c.know_laws.ensures.coherent c.spread.ensures.spreads.spreads;
+      reached = roomy_for left.interest notes.asked.hopes notes.reached (hoped now).places c.spread.ensures.room;
+      choice = c.spread.ensures.choice;
+      lost = c.spread.ensures.fits (c.act.ensures.fits (λ i t. absurd (false≢true (ap (λ (ks : List ℕ). is_among ks i) (sym c.self.invariant.unlost) ∙ t))));
+    }
+
+pub rest-requires-clause-reached : goal.rest-requires-clause-reached
+rest-requires-clause-reached c =
+    reached_left (c.len.result + 1) c.in_ok-outcome.outcome.raising c.act.new.parts c.spread.new.parts c.spread.ensures.spreads.spreads c.spread.new.notes.reached.reached c.spread.ensures.spreads.reached
+
 pub rest-requires-clause-looked : goal.rest-requires-clause-looked
 rest-requires-clause-looked c =
     let k = c.self.inside in
-    let n = c.len.result + 1 in
-    let outcome = c.in_ok-outcome.outcome in
-    let runs = c.self.invariant.runs in
-    let ks = c.spread.new.notes.reached.reached in
-    let at = at_step (goal.at.rest-requires-clause-looked c).After-attend-attended in
-    let done = does_fairly k.history.items k.parts c.act.new.parts k.lists runs n c.args.caller.0 c.args.event outcome at c.in_ok-outcome.ensures.ok in
-    subst (AreLookedAt c.spread.new.parts ks) (sym (c.attend-attended.ensures ∙ ap (λ (o : Option DescId). attends o outcome.raising) c.resumed_at-resumed.ensures))
-    (looked_at k.history.items k.parts c.act.new.parts c.spread.new.parts runs.keeps c.args.caller c.args.event outcome n at done c.in_ok-outcome.ensures.ok.keys c.know_laws.ensures.coherent.placed
-    c.know_laws.ensures.reached c.spread.ensures.spreads.spreads ks c.spread.ensures.spreads.reached)
+    let now = (goal.at.rest-requires-clause-looked c).After-attend-attended in
+    let ks = c.spread.new.notes.choice.lost.reached in
+    subst (AreLookedAt (c.len.result + 1) c.spread.new.parts ks) (sym (attended now))
+    (looked_at k.history.items k.parts c.act.new.parts c.spread.new.parts c.self.invariant.runs.keeps c.args.caller c.args.event c.in_ok-outcome.outcome (c.len.result + 1) (at_step now) (done now) c.in_ok-outcome.ensures.ok.keys c.know_laws.ensures.coherent c.spread.ensures.spreads.spreads
+    c.know_laws.ensures.looked ks (lost now))
 
 pub spread-requires-clause-hopes : goal.spread-requires-clause-hopes
 spread-requires-clause-hopes c = c.act.ensures.hopes.places
@@ -110,17 +144,25 @@ records : (c : goal.After-push_reserved) → c.push_reserved.new.self.items ≡ 
 records c =
     c.push_reserved.ensures.items ∙ (λ i. c.reserve.ensures.items i ++ c.into_record-answer.ensures.record i ∷ [])
 
+-- the rest of the event, with what is attended
+rested : (c : goal.After-push_reserved) → RestsBy (gets_mark_key (c.len.result + 1) c.spread.new.parts (attends (left_at c.spread.new.parts.parked c.args.caller.0 (resumed_at c.self.inside.parts.parked c.args.caller.0 c.args.event)) c.in_ok-outcome.outcome.raising)) c.spread.new.parts c.rest.new.parts
+rested c =
+    subst (λ (o : Option DescId). RestsBy (gets_mark_key (c.len.result + 1) c.spread.new.parts o) c.spread.new.parts c.rest.new.parts)
+    (c.attend-attended.ensures ∙ ap (λ (o : Option DescId). attends o c.in_ok-outcome.outcome.raising) (c.left.ensures ∙ ap (left_at c.spread.new.parts.parked c.args.caller.0) c.resumed_at-resumed.ensures)) c.rest.ensures.rests
+
 pub invariant_of-self-2 : goal.invariant_of-self-2
 invariant_of-self-2 c =
     let k = c.self.inside in
     let runs = subst (λ (rs : List Record). Runs rs c.rest.new.parts c.spread.new.lists) (sym (records c))
     (runs_on c.know_laws.ensures.turns k.history.items k.parts c.act.new.parts c.rest.new.parts k.lists c.act.new.lists c.spread.new.lists c.self.invariant.runs c.know_laws.ensures.coherent c.know_laws.ensures.tables c.know_laws.ensures.interest c.know_laws.ensures.lists c.known.ensures
-    c.args.caller c.args.event c.in_ok-outcome.outcome (c.len.result + 1) (number c) c.in_ok-outcome.ensures.ok c.in_ok-outcome.ensures.turns c.spread.new.parts c.spread.ensures.spreads.spreads c.spread.ensures.spreads.lists c.rest.ensures.rests) in
+    c.args.caller c.args.event c.in_ok-outcome.outcome (c.len.result + 1) (number c) c.in_ok-outcome.ensures.ok c.in_ok-outcome.ensures.turns c.spread.new.parts c.spread.ensures.spreads.spreads c.spread.ensures.spreads.lists (rested c)) in
     record {
       runs = runs;
       set = subst (λ (p : Parts). AreSet p.tables p.clock c.spread.new.alarms) (sym c.rest.ensures.rests.others) c.spread.ensures.set;
-      hopes = hopes_after c.spread.new.parts c.rest.new.parts c.rest.ensures.rests c.rest.new.notes.asked.hopes c.rest.ensures.hopes;
-      room = subst (λ (w : Walk). HasRoomFor c.rest.new.notes.asked.hopes w) (sym c.rest.ensures.reached) (room_within c.spread.new.notes.asked.hopes c.rest.new.notes.asked.hopes c.spread.new.notes.reached (within_hopes c.spread.new.parts c.spread.new.notes.asked.hopes c.rest.new.notes.asked.hopes (hoped (goal.at.invariant_of-self-2 c).After-attend-attended) c.rest.ensures.hopes) c.spread.ensures.room);
+      hopes = c.rest.ensures.hopes;
+      room = room_placed c.rest.new.parts.interest c.rest.new.notes.asked.hopes c.rest.new.notes.reached c.rest.ensures.hopes.places c.rest.ensures.fits.reached;
+      choice = c.rest.ensures.fits.choice;
+      unlost = c.rest.ensures.unlost;
     }
 
 pub returns-clause-ok : goal.returns-clause-ok
@@ -130,7 +172,7 @@ returns-clause-ok c =
     let new : Book = record { limits = c.rest.new.parts.tables.limits; past = c.push_reserved.new.self.items; capacity = vec_capacity c.push_reserved.new.self } in
     let adds =
     adds_on c.know_laws.ensures.turns k.history.items k.parts c.act.new.parts c.rest.new.parts k.lists c.act.new.lists c.spread.new.lists c.self.invariant.runs c.know_laws.ensures.coherent c.know_laws.ensures.tables c.know_laws.ensures.interest c.know_laws.ensures.lists c.known.ensures
-    c.args.caller c.args.event outcome (c.len.result + 1) (number c) c.in_ok-outcome.ensures.ok c.in_ok-outcome.ensures.turns c.spread.new.parts c.spread.ensures.spreads.spreads c.spread.ensures.spreads.lists c.rest.ensures.rests in
+    c.args.caller c.args.event outcome (c.len.result + 1) (number c) c.in_ok-outcome.ensures.ok c.in_ok-outcome.ensures.turns c.spread.new.parts c.spread.ensures.spreads.spreads c.spread.ensures.spreads.lists (rested c) in
     let old = c.args.self.now.book in
     subst (λ (a : Answer). Adds old.limits c.args.caller c.args.event a (state_of old) (state_of new) old.past new.past) (sym c.into_record-answer.ensures.answer)
     (subst (λ (b : ReadyBook). Adds b.book.limits c.args.caller c.args.event outcome.answer (state_of b.book) (state_of new) b.book.past new.past) c.self.view_is
@@ -144,13 +186,13 @@ returns-clause-lists c =
     let new : ReadyBook = record { book = book; lists = lists_of c.rest.new.parts c.spread.new.lists } in
     let first =
     first_on c.know_laws.ensures.turns k.history.items k.parts c.act.new.parts c.rest.new.parts k.lists c.act.new.lists c.spread.new.lists c.self.invariant.runs c.know_laws.ensures.coherent c.know_laws.ensures.tables c.know_laws.ensures.interest c.know_laws.ensures.lists c.known.ensures
-    c.args.caller c.args.event outcome (c.len.result + 1) (number c) c.in_ok-outcome.ensures.ok c.in_ok-outcome.ensures.turns c.spread.new.parts c.spread.ensures.spreads.spreads c.spread.ensures.spreads.lists c.rest.ensures.rests c.in_ok-outcome.ensures.order in
+    c.args.caller c.args.event outcome (c.len.result + 1) (number c) c.in_ok-outcome.ensures.ok c.in_ok-outcome.ensures.turns c.spread.new.parts c.spread.ensures.spreads.spreads c.spread.ensures.spreads.lists (rested c) c.in_ok-outcome.ensures.order in
     let few =
     few_on c.know_laws.ensures.turns k.history.items k.parts c.act.new.parts c.rest.new.parts k.lists c.act.new.lists c.spread.new.lists c.self.invariant.runs c.know_laws.ensures.coherent c.know_laws.ensures.tables c.know_laws.ensures.interest c.know_laws.ensures.lists c.known.ensures
-    c.args.caller c.args.event outcome (c.len.result + 1) (number c) c.in_ok-outcome.ensures.ok c.in_ok-outcome.ensures.turns c.spread.new.parts c.spread.ensures.spreads.spreads c.spread.ensures.spreads.lists c.rest.ensures.rests c.in_ok-outcome.ensures.order in
+    c.args.caller c.args.event outcome (c.len.result + 1) (number c) c.in_ok-outcome.ensures.ok c.in_ok-outcome.ensures.turns c.spread.new.parts c.spread.ensures.spreads.spreads c.spread.ensures.spreads.lists (rested c) c.in_ok-outcome.ensures.order in
     let added =
     added_on c.know_laws.ensures.turns k.history.items k.parts c.act.new.parts c.rest.new.parts k.lists c.act.new.lists c.spread.new.lists c.self.invariant.runs c.know_laws.ensures.coherent c.know_laws.ensures.tables c.know_laws.ensures.interest c.know_laws.ensures.lists c.known.ensures
-    c.args.caller c.args.event outcome (c.len.result + 1) (number c) c.in_ok-outcome.ensures.ok c.in_ok-outcome.ensures.turns c.spread.new.parts c.spread.ensures.spreads.spreads c.spread.ensures.spreads.lists c.rest.ensures.rests in
+    c.args.caller c.args.event outcome (c.len.result + 1) (number c) c.in_ok-outcome.ensures.ok c.in_ok-outcome.ensures.turns c.spread.new.parts c.spread.ensures.spreads.spreads c.spread.ensures.spreads.lists (rested c) in
     subst (λ (a : Answer). TurnsLists c.args.caller c.args.event a c.args.self.now new) (sym c.into_record-answer.ensures.answer)
     (subst (λ (b : ReadyBook). TurnsLists c.args.caller c.args.event outcome.answer b new) c.self.view_is
     (record {

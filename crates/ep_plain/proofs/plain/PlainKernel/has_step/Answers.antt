@@ -46,7 +46,10 @@ invariant_of-self c =
           gone = fits.gone;
           flags = λ id x at. subst (λ (n : ℕ). id.0 < n) (sym c.allows.ensures.room) (fits.flags id x at);
           unflagged = c.allows.ensures.unflagged;
+          choice = fits.choice;
+          lost = fits.lost;
         };
+        unlost = standing.unlost;
       });
       set = c.self.invariant.set;
     }

@@ -5,13 +5,25 @@ use Rattle.ep_base.specs.declared.answer.Answer.{Answer}
 use Rattle.ep_base.specs.declared.ids.DescId.{DescId}
 use Rattle.ep_base.specs.declared.ids.EntryId.{EntryId}
 use Rattle.ep_base.specs.declared.record.Record.{Record}
+use Rattle.ep_choice.proofs.ReachedLemmas.{reached_left}
+use Rattle.ep_calls.specs.Ends.{RestsBy}
+use Rattle.ep_calls.proofs.EntryLemmas.{holds_under}
 use Rattle.ep_calls.proofs.KeepsLemmas.{DoesAt, record_of}
 use Rattle.ep_calls.proofs.KeptLemmas.{inline_event}
 use Rattle.ep_calls.proofs.LastLemmas.{event_last}
 use Rattle.ep_calls.specs.Book.{Book, state_of}
+use Rattle.ep_calls.specs.Climb.{is_nested_key}
+use Rattle.ep_calls.specs.Keeps.{Keeps}
 use Rattle.ep_calls.specs.Kept.{KeepsEvent}
 use Rattle.ep_calls.specs.Parts.{Parts}
 use Rattle.ep_calls.specs.Readiness.{entry_shows, readiness}
+use Rattle.ep_calls.specs.declared.outcome.Outcome.{Outcome}
+use Rattle.ep_choice.proofs.EndLemmas.{attend_of, have_instances, looked_at, notes_event}
+use Rattle.ep_choice.specs.Lost.{NotesLost}
+use Rattle.ep_choice.specs.Marking.{AreLookedAt, gets_mark_key}
+use Rattle.ep_choice.specs.declared.choice.Choice.{Choice}
+use Rattle.ep_climb.specs.Mark.{attends, left_at, resumed_at}
+use Rattle.ep_climb.specs.Reach.{AreReached}
 use Rattle.ep_dates.specs.Ask.{shows_by, shows_over}
 use Rattle.ep_dates.specs.Dates.{is_dated}
 use Rattle.ep_dates.specs.Touched.{may_come, may_go}
@@ -22,19 +34,17 @@ use Rattle.ep_machine.specs.Lists.{is_among}
 use Rattle.ep_machine.specs.Refusal.{refusals}
 use Rattle.ep_machine.specs.Step.{next_event}
 use Rattle.ep_nest.proofs.AdjacentLemmas.{on_err}
-use Rattle.ep_climb.proofs.AreLookedAtLemmas.{looked_at}
 use Rattle.ep_plain.proofs.ComeLemmas.{begins as begins_left}
 use Rattle.ep_plain.proofs.GoLemmas.{ends_left}
-use Rattle.ep_plain.proofs.HomeLemmas.{homes_left}
 use Rattle.ep_plain.proofs.ReportedLemmas.{reported_left}
 use Rattle.ep_plain.proofs.StandingLemmas.{adds_by, dates_from, does_with, exact_now, fits_numbered, kept_of, may_report, order_left, reports, standing_grown, standing_next, standing_reserved}
 use Rattle.ep_plain.specs.Dating.{touched_in}
 use Rattle.ep_plain.specs.Exact.{IsExact}
-use Rattle.ep_climb.specs.Mark.{AreLookedAt, attends}
 use Rattle.ep_plain.specs.Standing.{Standing, book_of}
 use Rattle.ep_plain.specs.StepWith.{AddsBy, HasStep}
 use Rattle.ep_plain.specs.These.{MayReport}
 use Rattle.ep_plain.specs.declared.dating.Dating.{Dating}
+use Rattle.ep_plain.specs.declared.plain.PlainKernel.TheInside.{Inside}
 use Rattle.ep_ready.specs.Walk.{Walk}
 use Rattle.ep_plain.proofs.plain.PlainKernel.try_step.Goals as goal
 
@@ -145,7 +155,10 @@ date_all-requires-clause-fits c =
 
 pub date_all-requires-clause-homes : goal.date_all-requires-clause-homes
 date_all-requires-clause-homes c =
-    homes_left (past c) (old c) c.act_with.new.parts c.spread.new.parts (begun c).keeps c.args.caller c.args.event c.in_ok-outcome.outcome (c.len.result + 1) (number c) (does c) c.spread.ensures.spreads.spreads
+    let left = c.spread.new.parts in
+    let instances = have_instances (past c) (old c) c.act_with.new.parts left (begun c).keeps c.args.caller c.args.event c.in_ok-outcome.outcome (c.len.result + 1) (number c) (does c) c.in_ok-outcome.ensures.ok.keys c.know_laws.ensures.coherent
+    c.spread.ensures.spreads.spreads in
+    λ id x up. holds_under (λ y. is_nested_key left.tables y.instance ≡ true) left.interest id x instances up
 
 pub date_all-requires-clause-begins : goal.date_all-requires-clause-begins
 date_all-requires-clause-begins c =
@@ -159,7 +172,7 @@ pub date_all-requires-clause-ends : goal.date_all-requires-clause-ends
 date_all-requires-clause-ends c =
     let reported : c.last_picked-reported.result.now ≡ c.in_ok-outcome.outcome.picked = c.last_picked-reported.ensures (past c) (record_of c.args.caller c.args.event c.in_ok-outcome.outcome) (history_now c) in
     let law =
-    ends_left c.know_laws.ensures.stay (past c) (old c) c.act_with.new.parts c.spread.new.parts (begun c).keeps c.args.caller c.args.event c.in_ok-outcome.outcome (c.len.result + 1) (number c) (does c) c.in_ok-outcome.ensures.ok.keys c.know_laws.ensures.tables (d c)
+    ends_left c.know_laws.ensures.stay (past c) (old c) c.act_with.new.parts c.spread.new.parts (begun c).keeps c.args.caller c.args.event c.in_ok-outcome.outcome (c.len.result + 1) (number c) (does c) c.in_ok-outcome.ensures.ok.keys c.know_laws.ensures.coherent c.know_laws.ensures.tables (d c)
     c.act_with.new.dating c.spread.new.dating (g c) (begun c).dated (begun c).ready c.in_ok-outcome.ensures.follows c.spread.ensures.spreads (more c) c.find_called-called.result c.find_called-called.ensures.called in
     subst (λ (ks : List ℕ). Ends c.spread.new.parts (g c) c.find_called-called.result ks) (sym reported) law
 
@@ -169,22 +182,60 @@ date_all-requires-clause-reported c id x at =
     ap (λ (ks : List ℕ). is_among ks x.number) reported
     ∙ reported_left (c.len.result + 1) c.in_ok-outcome.outcome.raising c.act_with.new.parts c.spread.new.parts c.spread.ensures.spreads.spreads c.in_ok-outcome.outcome.picked c.in_ok-outcome.ensures.follows.told id x at
 
+-- Before the marks.
+module _ (c : goal.After-rest-arg-2-1) where
+  abbrev k : Inside
+  k = c.self.inside
+
+  abbrev outcome : Outcome
+  outcome = c.in_ok-outcome.outcome
+
+  abbrev keeps : Keeps k.history.items k.parts
+  keeps = c.self.invariant.standing.keeps
+
+  n_is : c.len.result + 1 ≡ length k.history.items + 1
+  n_is = omega (arith, c.len.ensures, c.reserve.ensures.len)
+
+  done : DoesAt (next_event keeps.state) c.args.caller.0 c.args.event outcome k.parts c.act_with.new.parts
+  done =
+      does_with k.history.items k.parts keeps (c.len.result + 1) n_is (MayReport k.parts c.args.caller.0 c.args.event (option_copied c.args.picks)) c.args.caller.0 c.args.event outcome c.act_with.new.parts c.in_ok-outcome.ensures.ok
+      (may_report k.history.items k.parts keeps c.args.caller c.args.event (option_copied c.args.picks)
+      (subst (λ (b : Book). HasStep b.limits (state_of b) c.args.caller c.args.event (option_copied c.args.picks)) (sym c.self.view_is) c.requires.there))
+
+  -- what is attended
+  attended : c.attend-attended.result ≡ attends (left_at c.spread.new.parts.parked c.args.caller.0 (resumed_at k.parts.parked c.args.caller.0 c.args.event)) outcome.raising
+  attended =
+      c.attend-attended.ensures
+      ∙ ap (λ (o : Option DescId). attends o outcome.raising) (c.left.ensures ∙ ap (left_at c.spread.new.parts.parked c.args.caller.0) c.resumed_at-resumed.ensures)
+
+  -- what was lost over the event
+  lost_now : NotesLost k.parts c.spread.new.parts [] c.spread.new.dating.choice.lost.reached
+  lost_now =
+      let d : Dating = record k.dating { dates = c.reserve-2.new.self } in
+      let first : NotesLost k.parts c.act_with.new.parts [] c.act_with.new.dating.choice.lost.reached =
+      subst (λ (ks : List ℕ). NotesLost k.parts c.act_with.new.parts ks c.act_with.new.dating.choice.lost.reached) c.self.invariant.standing.unlost c.in_ok-outcome.ensures.follows.lost in
+      notes_event k.history.items k.parts c.act_with.new.parts c.spread.new.parts keeps c.args.caller c.args.event outcome (c.len.result + 1) n_is done c.in_ok-outcome.ensures.ok.keys c.know_laws.ensures.coherent
+      c.spread.ensures.spreads.spreads c.act_with.new.dating.choice.lost.reached c.spread.new.dating.choice.lost.reached first c.spread.ensures.spreads.lost
+
+pub rest-requires-clause-instances : goal.rest-requires-clause-instances
+rest-requires-clause-instances c =
+    have_instances (k c).history.items (k c).parts c.act_with.new.parts c.spread.new.parts (keeps c) c.args.caller c.args.event (outcome c) (c.len.result + 1) (n_is c) (done c) c.in_ok-outcome.ensures.ok.keys c.know_laws.ensures.coherent
+    c.spread.ensures.spreads.spreads
+
+pub rest-requires-clause-reached : goal.rest-requires-clause-reached
+rest-requires-clause-reached c =
+    let q = c.spread.new.parts in
+    subst (λ (w : Walk). AreReached (c.len.result + 1) q.tables q.interest w.reached) (sym c.date_all.ensures.reached)
+    (reached_left (c.len.result + 1) (outcome c).raising c.act_with.new.parts q c.spread.ensures.spreads.spreads c.spread.new.dating.reached.reached c.spread.ensures.spreads.reached)
+
 pub rest-requires-clause-looked : goal.rest-requires-clause-looked
 rest-requires-clause-looked c =
-    let k = c.self.inside in
-    let outcome = c.in_ok-outcome.outcome in
-    let n : c.len.result + 1 ≡ length k.history.items + 1 = omega (arith, c.len.ensures, c.reserve.ensures.len) in
-    let keeps = c.self.invariant.standing.keeps in
-    let go =
-    may_report k.history.items k.parts keeps c.args.caller c.args.event (option_copied c.args.picks)
-    (subst (λ (b : Book). HasStep b.limits (state_of b) c.args.caller c.args.event (option_copied c.args.picks)) (sym c.self.view_is) c.requires.there) in
-    let done =
-    does_with k.history.items k.parts keeps (c.len.result + 1) n (MayReport k.parts c.args.caller.0 c.args.event (option_copied c.args.picks)) c.args.caller.0 c.args.event outcome c.act_with.new.parts c.in_ok-outcome.ensures.ok go in
+    let q = c.spread.new.parts in
     let looked =
-    looked_at k.history.items k.parts c.act_with.new.parts c.spread.new.parts keeps c.args.caller c.args.event outcome (c.len.result + 1) n done c.in_ok-outcome.ensures.ok.keys c.know_laws.ensures.coherent.placed
-    c.know_laws.ensures.reached c.spread.ensures.spreads.spreads c.spread.new.dating.reached.reached c.spread.ensures.spreads.reached in
-    subst (λ (w : Walk). AreLookedAt c.spread.new.parts w.reached c.attend.result) (sym c.date_all.ensures.reached)
-    (subst (AreLookedAt c.spread.new.parts c.spread.new.dating.reached.reached) (sym (c.attend.ensures ∙ ap (λ (o : Option DescId). attends o outcome.raising) c.resumed_at-resumed.ensures)) looked)
+    looked_at (k c).history.items (k c).parts c.act_with.new.parts q (keeps c) c.args.caller c.args.event (outcome c) (c.len.result + 1) (n_is c) (done c) c.in_ok-outcome.ensures.ok.keys c.know_laws.ensures.coherent
+    c.spread.ensures.spreads.spreads c.know_laws.ensures.looked c.spread.new.dating.choice.lost.reached (lost_now c) in
+    subst (λ (w : Choice). AreLookedAt (c.len.result + 1) q w.lost.reached c.attend-attended.result) (sym c.date_all.ensures.choice)
+    (subst (AreLookedAt (c.len.result + 1) q c.spread.new.dating.choice.lost.reached) (sym (attended c)) looked)
 
 -- Once the record is added.
 module _ (c : goal.After-rest) where
@@ -220,6 +271,18 @@ module _ (c : goal.After-rest) where
   place : asked ≡ record c.spread.new.dating { dates = record c.spread.new.dating.dates { since = c.spread.new.dating.dates.since ++ 0 ∷ [] } }
   place = ap (λ q. record c.spread.new.dating { dates = q }) c.number.ensures
 
+  -- what is attended
+  rests : RestsBy
+      (gets_mark_key (c.len.result + 1) c.spread.new.parts
+      (attend_of before first_parts c.act_with.new.parts c.spread.new.parts standing.keeps c.args.caller c.args.event c.in_ok-outcome.outcome (c.len.result + 1) number_then does_then c.in_ok-outcome.ensures.ok.keys c.know_laws.ensures.coherent
+      c.spread.ensures.spreads.spreads))
+      c.spread.new.parts c.rest.new.parts
+  rests =
+      let raising = c.in_ok-outcome.outcome.raising in
+      let left = c.spread.new.parts in
+      let attended = c.attend-attended.ensures ∙ ap (λ (o : Option DescId). attends o raising) (c.left.ensures ∙ ap (left_at left.parked c.args.caller.0) c.resumed_at-resumed.ensures) in
+      subst (λ (o : Option DescId). RestsBy (gets_mark_key (c.len.result + 1) left o) left c.rest.new.parts) attended c.rest.ensures.rests
+
   -- the history has its record
   records : c.push_reserved.new.self.items ≡ before ++ record_of c.args.caller c.args.event c.in_ok-outcome.outcome ∷ []
   records = c.push_reserved.ensures.items ∙ (λ i. c.reserve.ensures.items i ++ c.into_record-answer.ensures.record i ∷ [])
@@ -235,10 +298,11 @@ invariant_of-self-2 c =
     c.in_ok-outcome.ensures.follows c.spread.ensures.spreads (place c)) in
     let next =
     standing_next (before c) (first_parts c) c.act_with.new.parts q (first_dating c) c.act_with.new.dating c.spread.new.dating (asked c) c.date_all.new.dating (standing c) c.args.caller c.args.event c.in_ok-outcome.outcome (c.len.result + 1) (number_then c) (does_then c)
-    c.in_ok-outcome.ensures.follows c.spread.ensures.spreads c.rest.new.parts c.rest.ensures from c.date_all.ensures.ready c.date_all.ensures.fits order in
+    c.in_ok-outcome.ensures.follows c.spread.ensures.spreads c.in_ok-outcome.ensures.ok.keys c.know_laws.ensures.coherent c.rest.new.parts (rests c) from c.date_all.ensures.ready c.date_all.ensures.fits order
+    c.rest.new.dating c.rest.ensures.dates c.rest.ensures.fits c.rest.ensures.unlost in
     record {
-      standing = subst (λ (rs : List Record). Standing rs c.rest.new.parts c.date_all.new.dating) (sym (records c)) next;
-      set = subst (λ (p : Parts). AreSet p.tables p.clock c.spread.new.alarms) (sym c.rest.ensures.others) c.spread.ensures.set;
+      standing = subst (λ (rs : List Record). Standing rs c.rest.new.parts c.rest.new.dating) (sym (records c)) next;
+      set = subst (λ (p : Parts). AreSet p.tables p.clock c.spread.new.alarms) (sym c.rest.ensures.rests.others) c.spread.ensures.set;
     }
 
 pub returns-clause-ok : goal.returns-clause-ok
@@ -250,7 +314,7 @@ returns-clause-ok c =
     let told = reports (before c) (first_parts c) (standing c).keeps c.args.caller c.args.event (c.len.result + 1) (number_then c) given outcome.picked (may c) c.in_ok-outcome.ensures.picked in
     let adds =
     adds_by (before c) (first_parts c) c.act_with.new.parts c.spread.new.parts (first_dating c) c.act_with.new.dating c.spread.new.dating (asked c) c.date_all.new.dating (standing c) c.args.caller c.args.event outcome (c.len.result + 1) (number_then c) (does_then c)
-    c.in_ok-outcome.ensures.follows c.spread.ensures.spreads c.rest.new.parts c.rest.ensures given told in
+    c.in_ok-outcome.ensures.follows c.spread.ensures.spreads c.in_ok-outcome.ensures.ok.keys c.know_laws.ensures.coherent c.rest.new.parts (rests c) given told in
     let was = c.args.self.now in
     subst (λ (a : Answer). AddsBy was.limits c.args.caller c.args.event given a (state_of was) (state_of new) was.past new.past) (sym c.into_record-answer.ensures.answer)
     (subst (λ (b : Book). AddsBy b.limits c.args.caller c.args.event given outcome.answer (state_of b) (state_of new) b.past new.past) c.self.view_is
