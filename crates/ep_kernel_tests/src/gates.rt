@@ -65,3 +65,80 @@ impl Gate for Shut {
         false
     }
 }
+
+/// Lets everybody go at once.
+#[derive(Drop)]
+pub(crate) struct Open;
+
+impl Gate for Open {
+    fn may_go(&self, _caller: CallerId, _step: usize, _parked: &[CallerId]) -> bool {
+        true
+    }
+}
+
+/// How many workers there are: callers 1 to 4.
+pub(crate) const WORKERS: usize = 4;
+
+/// Rounds of callers 1 to 4, who wait and read in each, and of caller 5, who writes once for each of them. A worker
+/// begins a round, and the writer writes, only once all workers have read in the round before, and the first write of a
+/// round only once all of them are parked.
+#[derive(Drop)]
+pub(crate) struct InRounds {
+    /// How many rounds each worker has made.
+    first: AtomicU64,
+    second: AtomicU64,
+    third: AtomicU64,
+    fourth: AtomicU64,
+}
+
+impl InRounds {
+    /// Nobody has made a round.
+    pub(crate) fn new() -> InRounds {
+        InRounds {
+            first: AtomicU64::new(0),
+            second: AtomicU64::new(0),
+            third: AtomicU64::new(0),
+            fourth: AtomicU64::new(0),
+        }
+    }
+
+    /// Notes that a worker has made so many rounds.
+    fn note(&self, worker: CallerId, rounds: u64) {
+        match worker.0 {
+            1 => self.first.store(rounds, Ordering::SeqCst),
+            2 => self.second.store(rounds, Ordering::SeqCst),
+            3 => self.third.store(rounds, Ordering::SeqCst),
+            _ => self.fourth.store(rounds, Ordering::SeqCst),
+        }
+    }
+
+    /// Whether all workers have made so many rounds.
+    fn have_made(&self, rounds: u64) -> bool {
+        self.first.load(Ordering::SeqCst) >= rounds
+            && self.second.load(Ordering::SeqCst) >= rounds
+            && self.third.load(Ordering::SeqCst) >= rounds
+            && self.fourth.load(Ordering::SeqCst) >= rounds
+    }
+
+    /// Whether the writer may make this step, if so many callers are parked.
+    fn may_write(&self, step: usize, parked: usize) -> bool {
+        if step % WORKERS > 0 {
+            return true;
+        }
+        self.have_made((step / WORKERS) as u64) && parked == WORKERS
+    }
+}
+
+impl Gate for InRounds {
+    fn may_go(&self, caller: CallerId, step: usize, parked: &[CallerId]) -> bool {
+        if caller.0 > 4 {
+            return self.may_write(step, parked.len());
+        }
+        if step % 2 > 0 {
+            return true;
+        }
+        let rounds = (step / 2) as u64;
+        self.note(caller, rounds);
+        self.have_made(rounds)
+    }
+}

@@ -24,3 +24,5 @@ mod program;
 mod sessions;
 #[cfg(test)]
 mod verdicts;
+#[cfg(test)]
+mod workers;

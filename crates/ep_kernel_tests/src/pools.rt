@@ -19,7 +19,7 @@ use std::thread::Threads;
 /// How often the test of two threads is run.
 const TIMES: u32 = 100;
 
-fn check(holds: bool) -> Result<(), Fail> {
+pub(crate) fn check(holds: bool) -> Result<(), Fail> {
     if holds { Ok(()) } else { Err(Fail::new("no")) }
 }
 
@@ -62,7 +62,7 @@ fn are_open(records: &[Record]) -> bool {
 }
 
 /// A write of a number below 256 to an eventfd.
-fn write(alloc: Global, fd: Fd, number: u8) -> Result<Step, AllocError> {
+pub(crate) fn write(alloc: Global, fd: Fd, number: u8) -> Result<Step, AllocError> {
     let bytes = Buffer::new(vec![in alloc; number, 0, 0, 0, 0, 0, 0, 0]?);
     Ok(Step::Call {
         pid: PROCESS,
