@@ -56,6 +56,37 @@ static void parked_callers(const char *path) {
     EXPECT(nippersage_end(&kernel) == 0);
 }
 
+/* Two callers, each at an instance of its own with an exclusive registration of one counter: a write wakes one. */
+static void exclusive(const char *path) {
+    struct nippersage kernel;
+    struct nippersage_report reports[8];
+    uint32_t mask = NIPPERSAGE_IN | NIPPERSAGE_EXCLUSIVE;
+    EXPECT(nippersage_start(&kernel, path, NULL) == 0);
+    EXPECT(nippersage_eventfd(&kernel, 0, 0, 0) == 3);
+    EXPECT(nippersage_epoll(&kernel, 0) == 4 && nippersage_epoll(&kernel, 0) == 5);
+    EXPECT(nippersage_ctl(&kernel, 4, NIPPERSAGE_ADD, 3, mask, 4) == 0);
+    EXPECT(nippersage_ctl(&kernel, 5, NIPPERSAGE_ADD, 3, mask, 5) == 0);
+    EXPECT(nippersage_ctl(&kernel, 5, NIPPERSAGE_ADD, 3, mask, 5) == -EEXIST);
+    EXPECT(nippersage_ctl(&kernel, 5, NIPPERSAGE_ADD, 3, mask | NIPPERSAGE_ONESHOT, 5) == -EINVAL);
+    EXPECT(nippersage_ctl(&kernel, 5, NIPPERSAGE_ADD, 4, mask, 5) == -EINVAL);
+    EXPECT(nippersage_ctl(&kernel, 5, NIPPERSAGE_MOD, 3, mask, 5) == -EINVAL);
+    EXPECT(nippersage_ctl(&kernel, 5, NIPPERSAGE_MOD, 3, NIPPERSAGE_IN, 5) == -EINVAL);
+    kernel.by = 1;
+    EXPECT(nippersage_wait(&kernel, 4, reports, 8, -1) == NIPPERSAGE_PARKED);
+    kernel.by = 2;
+    EXPECT(nippersage_wait(&kernel, 5, reports, 8, -1) == NIPPERSAGE_PARKED);
+    kernel.by = 0;
+    EXPECT(nippersage_write(&kernel, 3, "\1\0\0\0\0\0\0", 8) == 8);
+    kernel.by = 2;
+    EXPECT(nippersage_resume(&kernel, reports, 8) == NIPPERSAGE_PARKED);
+    kernel.by = 1;
+    EXPECT(nippersage_resume(&kernel, reports, 8) == 1 && reports[0].data == 4);
+    EXPECT(nippersage_write(&kernel, 3, "\1\0\0\0\0\0\0", 8) == 8);
+    kernel.by = 2;
+    EXPECT(nippersage_resume(&kernel, reports, 8) == 1 && reports[0].data == 5);
+    EXPECT(nippersage_end(&kernel) == 0);
+}
+
 static void processes(const char *path) {
     struct nippersage kernel;
     struct nippersage_report reports[2];
@@ -163,6 +194,7 @@ int main(int count, char **words) {
     two_kernels(words[1]);
     level_triggered(words[1]);
     parked_callers(words[1]);
+    exclusive(words[1]);
     processes(words[1]);
     other_objects(words[1]);
     no_answer_of_the_kernel(words[1]);

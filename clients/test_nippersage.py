@@ -8,7 +8,7 @@ import unittest
 
 sys.dont_write_bytecode = True
 
-from nippersage import ET, HUP, IN, MOST_CALLS, OUT, Ended, Illegal, Kernel, audit
+from nippersage import ET, EXCLUSIVE, HUP, IN, MOST_CALLS, ONESHOT, OUT, Ended, Illegal, Kernel, audit
 
 #: 16 descriptors, 16 files, 2 processes, a registration, and the least room of pipes and sockets.
 SMALL = (16, 16, 2, 1, 4_096, 4_096)
@@ -67,6 +67,25 @@ class Client(unittest.TestCase):
             kernel.exit(pid=2)
             self.assertEqual(kernel.wait(instance), [(HUP, 3)])
             self.expect_refusal(errno.ESRCH, kernel.pipe, pid=2)
+
+    def test_exclusive_registrations(self):
+        """A write wakes one of two callers at instances of their own."""
+        with Kernel() as kernel:
+            counter, first, second = kernel.eventfd(0), kernel.epoll(), kernel.epoll()
+            for instance in (first, second):
+                kernel.add(instance, counter, EXCLUSIVE | IN, data=instance)
+            self.expect_refusal(errno.EEXIST, kernel.add, first, counter, EXCLUSIVE | IN)
+            self.expect_refusal(errno.EINVAL, kernel.add, first, counter, EXCLUSIVE | ONESHOT | IN)
+            self.expect_refusal(errno.EINVAL, kernel.add, first, second, EXCLUSIVE | IN)
+            self.expect_refusal(errno.EINVAL, kernel.mod, first, counter, EXCLUSIVE | IN)
+            self.expect_refusal(errno.EINVAL, kernel.mod, first, counter, IN)
+            self.assertIsNone(kernel.wait(first, timeout=-1, by=1))
+            self.assertIsNone(kernel.wait(second, timeout=-1, by=2))
+            kernel.write(counter, bytes([1, 0, 0, 0, 0, 0, 0, 0]))
+            self.assertIsNone(kernel.resume(by=2))
+            self.assertEqual(kernel.resume(by=1), [(IN, first)])
+            kernel.write(counter, bytes([1, 0, 0, 0, 0, 0, 0, 0]))
+            self.assertEqual(kernel.resume(by=2), [(IN, second)])
 
     def test_other_objects(self):
         with Kernel(limits=(16, 16, 2, 8, 4_096, 4)) as kernel:

@@ -107,7 +107,8 @@ int nippersage_plain(struct nippersage_task task, int flags);
 /* epoll_create1(2). Flags: EPOLL_CLOEXEC. -EMFILE, -ENFILE. */
 int nippersage_epoll_create1(struct nippersage_task task, int flags);
 
-/* epoll_ctl(2). A mask with EPOLLEXCLUSIVE is -EINVAL. */
+/* epoll_ctl(2). EPOLLEXCLUSIVE may stand in an ADD of what is no instance, beside EPOLLIN, EPOLLOUT, EPOLLERR, EPOLLHUP,
+ * EPOLLWAKEUP and EPOLLET; else it is -EINVAL. So is a MOD of a registration that was added with it. */
 int nippersage_epoll_ctl(struct nippersage_task task, int epfd, int op, int fd, const struct epoll_event *event);
 
 /* epoll_wait(2), by itself: where nothing is reportable and timeout, in milliseconds, isn't 0, the call parks its

@@ -196,6 +196,36 @@ static void by_hand(void) {
     IS(nippersage_close(one, ends[1]), 0);
 }
 
+/* Two callers, each at an instance of its own with an exclusive registration of one counter: a write wakes one. */
+static void exclusive(void) {
+    struct epoll_event event = {.events = EPOLLIN | EPOLLEXCLUSIVE, .data.u64 = 7}, found[2];
+    struct nippersage_task writer = {kernel, 3, 1};
+    int counter = nippersage_eventfd(one, 0, 0);
+    int first = nippersage_epoll_create1(one, 0), second = nippersage_epoll_create1(one, 0);
+    IS(nippersage_epoll_ctl(one, first, EPOLL_CTL_ADD, counter, &event), 0);
+    IS(nippersage_epoll_ctl(one, second, EPOLL_CTL_ADD, counter, &event), 0);
+    IS(nippersage_epoll_ctl(one, second, EPOLL_CTL_ADD, counter, &event), -EEXIST);
+    IS(nippersage_epoll_ctl(one, second, EPOLL_CTL_ADD, first, &event), -EINVAL);
+    IS(nippersage_epoll_ctl(one, second, EPOLL_CTL_MOD, counter, &event), -EINVAL);
+    event.events = EPOLLIN;
+    IS(nippersage_epoll_ctl(one, second, EPOLL_CTL_MOD, counter, &event), -EINVAL);
+    event.events = EPOLLIN | EPOLLEXCLUSIVE | EPOLLONESHOT;
+    IS(nippersage_epoll_ctl(one, second, EPOLL_CTL_ADD, counter, &event), -EINVAL);
+    IS(nippersage_wait_start(one, first, found, 2, -1), NIPPERSAGE_PARKED);
+    IS(nippersage_wait_start(two, second, found, 2, -1), NIPPERSAGE_PARKED);
+    IS(nippersage_write(writer, counter, "\1\0\0\0\0\0\0", 8), 8);
+    IS(nippersage_is_marked(kernel, 1), 1);
+    IS(nippersage_is_marked(kernel, 2), 0);
+    IS(nippersage_resume(two, found, 2), NIPPERSAGE_PARKED);
+    IS(nippersage_resume(one, found, 2), 1);
+    IS(found[0].events, EPOLLIN);
+    IS(nippersage_write(writer, counter, "\1\0\0\0\0\0\0", 8), 8);
+    IS(nippersage_resume(two, found, 2), 1);
+    IS(nippersage_close(one, counter), 0);
+    IS(nippersage_close(one, first), 0);
+    IS(nippersage_close(one, second), 0);
+}
+
 /* Waits that move the clock by themselves. */
 static void by_itself(void) {
     struct epoll_event event = {.events = EPOLLIN, .data.u64 = 9}, found;
@@ -286,6 +316,7 @@ int main(int argc, char **argv) {
     numbers();
     processes();
     by_hand();
+    exclusive();
     by_itself();
     many();
     history();

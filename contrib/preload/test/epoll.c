@@ -81,6 +81,32 @@ static void nests(void) {
     close(outer);
 }
 
+/* Of the exclusive registrations on a counter both show what it holds. What is refused is so on both kernels. */
+static void exclusive(void) {
+    int one = epoll_create1(0), two = epoll_create1(0), counter = eventfd(0, 0);
+    uint32_t mask = EPOLLIN | EPOLLEXCLUSIVE;
+    trace("add: %ld", control(one, EPOLL_CTL_ADD, counter, mask | EPOLLET));
+    trace("add: %ld", control(two, EPOLL_CTL_ADD, counter, mask));
+    trace("twice: %ld", control(two, EPOLL_CTL_ADD, counter, mask));
+    trace("one-shot: %ld", control(two, EPOLL_CTL_ADD, counter, mask | EPOLLONESHOT));
+    trace("half-closed: %ld", control(two, EPOLL_CTL_ADD, counter, mask | EPOLLRDHUP));
+    trace("instance: %ld", control(two, EPOLL_CTL_ADD, one, mask));
+    trace("change: %ld", control(two, EPOLL_CTL_MOD, counter, EPOLLIN));
+    trace("change: %ld", control(two, EPOLL_CTL_MOD, counter, mask));
+    wait_once(one, 100);
+    eventfd_write(counter, 5);
+    wait_once(one, 100);
+    wait_once(one, 100);
+    wait_once(two, 100);
+    trace("delete: %ld", control(two, EPOLL_CTL_DEL, counter, 0));
+    trace("change: %ld", control(two, EPOLL_CTL_MOD, counter, mask));
+    trace("plain: %ld", control(two, EPOLL_CTL_ADD, counter, EPOLLIN));
+    trace("change: %ld", control(two, EPOLL_CTL_MOD, counter, mask));
+    close(counter);
+    close(one);
+    close(two);
+}
+
 /* A timer that is set to a moment of a clock, half a second from now. */
 static void timer(int clock) {
     int instance = epoll_create1(0), fd = timerfd_create(clock, TFD_NONBLOCK);
@@ -111,6 +137,7 @@ int main(void) {
     chain();
     edges();
     nests();
+    exclusive();
     timer(CLOCK_MONOTONIC);
     timer(CLOCK_REALTIME);
     trace("close: %ld", outcome(close(-1)));

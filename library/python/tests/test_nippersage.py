@@ -22,8 +22,8 @@ FOLDER = os.path.dirname(os.path.dirname(os.path.abspath(__file__)))
 sys.path.insert(0, FOLDER)
 
 from nippersage import (
-    AUDITOR, ET, HUP, IN, LIBRARY, MOST_CALLS, OUT, PROGRAM, Ended, Illegal, Kernel, Limits, __version__, audit,
-    library_version,
+    AUDITOR, ET, EXCLUSIVE, HUP, IN, LIBRARY, MOST_CALLS, ONESHOT, OUT, PROGRAM, Ended, Illegal, Kernel, Limits,
+    __version__, audit, library_version,
 )
 
 
@@ -141,6 +141,25 @@ class Calls:
             self.assertEqual(len(kernel.wait(instance, max=1)), 1)
             self.expect_refusal(errno.EPERM, kernel.add, instance, 0, IN)
             self.expect_refusal(errno.EINVAL, kernel.mod, instance, instance, IN)
+
+    def test_exclusive_registrations(self):
+        """A write wakes one of two callers at instances of their own."""
+        with self.make() as kernel:
+            counter, first, second = kernel.eventfd(0), kernel.epoll(), kernel.epoll()
+            for instance in (first, second):
+                kernel.add(instance, counter, EXCLUSIVE | IN, data=instance)
+            self.expect_refusal(errno.EEXIST, kernel.add, first, counter, EXCLUSIVE | IN)
+            self.expect_refusal(errno.EINVAL, kernel.add, first, counter, EXCLUSIVE | ONESHOT | IN)
+            self.expect_refusal(errno.EINVAL, kernel.add, first, second, EXCLUSIVE | IN)
+            self.expect_refusal(errno.EINVAL, kernel.mod, first, counter, EXCLUSIVE | IN)
+            self.expect_refusal(errno.EINVAL, kernel.mod, first, counter, IN)
+            self.assertIsNone(kernel.wait(first, timeout=-1, by=1))
+            self.assertIsNone(kernel.wait(second, timeout=-1, by=2))
+            kernel.write(counter, bytes([1, 0, 0, 0, 0, 0, 0, 0]))
+            self.assertIsNone(kernel.resume(by=2))
+            self.assertEqual(kernel.resume(by=1), [(IN, first)])
+            kernel.write(counter, bytes([1, 0, 0, 0, 0, 0, 0, 0]))
+            self.assertEqual(kernel.resume(by=2), [(IN, second)])
 
     def test_descriptors_and_processes(self):
         with self.make(limits=(16, 16, 2, 1, 4_096, 4_096)) as kernel:

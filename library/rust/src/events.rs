@@ -30,7 +30,9 @@ impl Events {
     pub const HUP: Events = Events(1 << 4);
     /// The peer of a socket will write no more.
     pub const RDHUP: Events = Events(1 << 13);
-    /// Of those who watch, wake one. The kernel refuses it with EINVAL.
+    /// Of the exclusive registrations on a target, wake one. It is for `epoll_add` alone, and may stand beside `IN`,
+    /// `OUT`, `ERR`, `HUP`, `WAKEUP` and `ET`. Anything else is refused with EINVAL, and so is an instance as target,
+    /// and `epoll_mod` of what was added with it.
     pub const EXCLUSIVE: Events = Events(1 << 28);
     /// Without effect.
     pub const WAKEUP: Events = Events(1 << 29);

@@ -239,6 +239,41 @@ fn waits_by_hand() {
     );
 }
 
+/// Two callers, each at an instance with an exclusive registration of one counter: a write wakes one.
+#[test]
+fn exclusive_registrations() {
+    let kernel = Kernel::new().unwrap();
+    let (test, one, two) = (kernel.task(0), kernel.task(1), kernel.task(2));
+    let counter = test.eventfd(0, Flags::NONE).unwrap();
+    let first = test.epoll_create1(Flags::NONE).unwrap();
+    let second = test.epoll_create1(Flags::NONE).unwrap();
+    let mask = Events::IN | Events::EXCLUSIVE;
+    test.epoll_add(first, counter, mask, 1).unwrap();
+    test.epoll_add(second, counter, mask, 2).unwrap();
+    for (fd, mask, wanted) in [
+        (counter, mask, Errno::EEXIST),
+        (counter, mask | Events::ONESHOT, Errno::EINVAL),
+        (first, mask, Errno::EINVAL),
+    ] {
+        assert_eq!(test.epoll_add(second, fd, mask, 2), Err(wanted));
+    }
+    for mask in [mask, Events::IN] {
+        assert_eq!(
+            test.epoll_mod(second, counter, mask, 2),
+            Err(Errno::EINVAL)
+        );
+    }
+    let mut events = [Event::default(); 2];
+    assert_eq!(one.wait_start(first, &mut events, None), Ok(Poll::Pending));
+    assert_eq!(two.wait_start(second, &mut events, None), Ok(Poll::Pending));
+    test.write(counter, &1u64.to_ne_bytes()).unwrap();
+    assert_eq!(two.resume(&mut events), Ok(Poll::Pending));
+    assert_eq!(one.resume(&mut events), Ok(Poll::Ready(1)));
+    assert_eq!(events[0], Event::new(Events::IN, 1));
+    test.write(counter, &1u64.to_ne_bytes()).unwrap();
+    assert_eq!(two.resume(&mut events), Ok(Poll::Ready(1)));
+}
+
 #[test]
 fn waits_by_themselves() {
     let kernel = Kernel::new().unwrap();
