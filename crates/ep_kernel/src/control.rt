@@ -276,8 +276,8 @@ fn enter(
 
 /// epoll_ctl(2), as `Parts::plan` and `Parts::control` do it, with the ready lists: a registration that is added gets a
 /// place, and one that is deleted loses it; what is added or modified and reportable comes to the end of its list. The
-/// same goes for the hopes. Of the instances below its target only the hopes are looked at, as `is_ready` says. If a DEL
-/// takes away what may have guarded its instance, that is noted as one that lost a registration. A refusal leaves
+/// same goes for the hopes. Of the instances below its target only the hopes are looked at, as `is_ready` says. If a
+/// DEL takes away what may have guarded its instance, that is noted as one that lost a registration. A refusal leaves
 /// the parts and the lists, and so does an `Err`. That is want of memory, and comes only of an ADD that nothing
 /// refuses.
 pub fn epoll_ctl(
