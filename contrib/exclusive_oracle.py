@@ -696,7 +696,7 @@ def general(chance):
     """A script of any calls, over eventfds, pipes, timers and nests. Callers park before the first arrival."""
     it = Script(chance)
     counters = [it.open(op="eventfd", init=chance.choice([0, 0, 1])) for _ in range(chance.randint(1, 2))]
-    timers = [it.open(op="timerfd", clock=0) for _ in range(chance.choice([0, 1, 2]))]
+    timers = [it.open(op="timerfd", clock=0) for _ in range(chance.choice([0, 1, 2, 2]))]
     readers, writers = [], []
     for _ in range(chance.choice([0, 0, 1])):
         readers.append(it.open(op="pipe"))
@@ -705,9 +705,11 @@ def general(chance):
     instances = [it.open(op="epoll") for _ in range(chance.randint(2, 6))]
     sources = [*counters, *timers, *readers]
     targets = [*sources, *sources, *writers, *instances]
+    # Two timers that expire at once raise two targets in one event.
+    main = timers if len(timers) == 2 and it.likely(0.6) else counters
     will_fork = it.likely(0.3)
     for _ in range(chance.randint(4, 18)):
-        it.add(chance.choice(instances), counters[0] if it.likely(0.4) else chance.choice(targets), some_mask(chance))
+        it.add(chance.choice(instances), chance.choice(main if it.likely(0.5) else targets), some_mask(chance))
     if will_fork:
         it.put(op="fork")
         it.is_forked = True
@@ -718,6 +720,8 @@ def general(chance):
     for caller in range(1, 7):
         if it.likely(0.7):
             general_wait(it, caller, instances)
+    if main is timers and it.likely(0.7):
+        it.put(op="tick", n=3)
     for _ in range(chance.randint(10, 50)):
         general_step(it, counters, timers, readers, writers, instances, targets)
     for caller in range(1, 7):
@@ -797,7 +801,8 @@ def fault_of(words, lines, room):
     for number, (line, answer) in enumerate(zip(lines, answers), 1):
         try:
             machine.step(json.loads(line), json.loads(answer))
-        except (Wrong, ValueError) as wrong:
+        except (Wrong, ValueError, TypeError) as wrong:
+            # Of the last two is an answer that is no JSON, or no answer.
             return f"line {number}: {line} is answered {answer}; {wrong}"
     return None
 
