@@ -324,6 +324,24 @@ def together():
     yield Shape("400 numbers of one socket", script.lines, 2)
 
 
+def sharing():
+    """Workers that wait at instances of their own for one counter. One of them reads what is written, and waits again."""
+    for mask in ("IN", "IN|EXCLUSIVE"):
+        script = Script()
+        counter = script.counter()
+        sets = [script.instance() for _ in range(400)]
+        for instance in sets:
+            script.ctl("add", instance, counter, mask)
+        for by, instance in enumerate(sets):
+            script.wait(instance, 1, -1, by + 1)
+        for _ in range(200):
+            script.write(counter)
+            script.resume(1)
+            script.read(counter)
+            script.wait(sets[0], 1, -1, 1)
+        yield Shape(f"400 workers of one counter, {mask}", script.lines, 2)
+
+
 def shapes():
     yield from servers("IN|ET", True, "edge-triggered, drained")
     yield from servers("IN", True, "level-triggered, drained")
@@ -339,5 +357,6 @@ def shapes():
         waiting,
         comings_and_goings,
         together,
+        sharing,
     ):
         yield from maker()
