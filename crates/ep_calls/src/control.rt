@@ -181,6 +181,7 @@ fn unlink(tables: &Tables, interest: &Interest, graph: &mut Graph, id: EntryId)
 
 /// Deletes or modifies a registration that is there. It stays, with EEXIST for an addition, and with EINVAL if it is
 /// exclusive and to be modified.
+#[inline(always)]
 fn alter(
     tables: &Tables,
     interest: &mut Interest,
@@ -310,6 +311,7 @@ fn may_watch(graph: &mut Graph, named: Named, is_nested: bool) -> bool
 /// in a loop or in too long a chain, and ENOSPC past `watches`.
 /// A refusal and an `Err` leave the registrations. An `Err` is want of memory, or of the room that the plan tells of.
 /// It comes only of an ADD that nothing refuses.
+#[inline(always)]
 fn enter(
     tables: &Tables,
     interest: &mut Interest,
@@ -395,6 +397,7 @@ fn look_at(
 
 impl Parts {
     /// What epoll_ctl comes to with an answer: if it is done, the registration is looked at.
+    #[inline(always)]
     fn controlled(&self, plan: Plan, fd: Fd, answer: Answer) -> Outcome
         requires inline { FitsInline answer }
         requires real { is_no_memory answer ≡ false }

@@ -72,6 +72,7 @@ impl Parts {
     /// none, it gets none at its deadline, and before that loses its mark and stays parked. `kept`: a second record of
     /// it is asked for.
     /// An `Err` is want of memory and leaves the parts. Nothing refuses the event then, since the caller is parked.
+    #[inline(always)]
     pub fn resume_with(
         &mut self,
         step: u64,

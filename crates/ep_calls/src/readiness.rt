@@ -25,6 +25,7 @@ fn present(tables: &Tables, now: u64, desc: DescId, below: bool) -> Mask
 
 /// The bits that a registration shows: if it is armed, those of its target that its mask asks for, ERR and HUP
 /// unasked.
+#[inline(always)]
 pub fn shown_at(tables: &Tables, now: u64, entry: &Entry, below: bool) -> Mask
     requires target { IsSome (number_under tables.now entry.now.desc) }
     requires clock { now ≤ last_moment }

@@ -34,6 +34,7 @@ impl Choice {
 
     /// Makes room for a registration of these two under a key, in constant time if there is room. Only an exclusive one
     /// has its key and its target here. An `Err` is want of memory. There is no less room than before.
+    #[inline(always)]
     pub fn make_room(&mut self, named: Named, mask: Mask, id: EntryId) -> Result<(), AllocError>
         ensures widens { Widens self.old self.new }
         ensures room { OnOk result (HasRoomFor self.new named mask id.0) }

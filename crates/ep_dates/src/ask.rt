@@ -40,6 +40,7 @@ fn shows(parts: &Parts, dates: &Dates, entry: &Entry) -> bool
 
 /// Asks the registration under a key. If it has come to be reportable, or is so no more, its date says so. The rows say
 /// which instances are ready.
+#[inline(always)]
 pub fn ask(parts: &Parts, question: Question, id: EntryId, dates: &mut Dates)
     requires event { 0 < question.event }
     requires kept { AreKept parts.now.interest dates.old }
