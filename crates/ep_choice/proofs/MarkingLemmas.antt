@@ -285,7 +285,7 @@ marked_at_end n p b c d w attend lost was coherent woke same looked one others m
     all_marked n p b coherent woke.narrowed attend w.reached was marks.0 woke.reached looked above c d woke.due one others (λ i. (marks.2 i).parked)
 
 -- What tells of each live instance whether it is ready tells so still where registrations stop passing something on.
-kept_settled : (target : DescId) (chosen : Option ℕ) (xs : List Entry) → map settled (map (kept_passing target chosen) xs) ≡ map settled xs
+pub kept_settled : (target : DescId) (chosen : Option ℕ) (xs : List Entry) → map settled (map (kept_passing target chosen) xs) ≡ map settled xs
 kept_settled target chosen [] = refl
 kept_settled target chosen (x ∷ xs) = let first = one (stops target chosen x) in let rest = kept_settled target chosen xs in λ i. first i ∷ rest i where
   one : (b : Bool) → settled (cond b (record x { passes_in = 0 }) x) ≡ settled x

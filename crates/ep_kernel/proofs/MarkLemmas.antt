@@ -1,12 +1,9 @@
 -- The hopes and the answers of instances while marks are set.
-use Rattle.std.proofs.Common.{◌≡◌, ◌∙◌, Bool, List, [], ◌∷◌, Option, ap, cond, map, refl, ℕ, true, false}
-use Rattle.ep_base.specs.declared.ids.DescId.{DescId}
+use Rattle.std.proofs.Common.{◌∙◌, ap, map}
 use Rattle.ep_calls.specs.Parts.{Parts}
-use Rattle.ep_choice.proofs.MarkingLemmas.{ready_kept}
+use Rattle.ep_choice.proofs.MarkingLemmas.{kept_settled, ready_kept}
 use Rattle.ep_choice.specs.Narrow.{Lasts}
-use Rattle.ep_interest.specs.Exclusive.{kept_passing, stops}
 use Rattle.ep_interest.specs.Registrations.{settled}
-use Rattle.ep_interest.specs.declared.entry.Entry.{Entry}
 use Rattle.ep_kernel.proofs.HopesForLemmas.{hopes_settled}
 use Rattle.ep_kernel.specs.Asked.{Knows, KnowsIn}
 use Rattle.ep_kernel.specs.declared.asked.Asked.{Asked}
@@ -16,13 +13,6 @@ pub knows_in : (p : Parts) (a : Asked) → Knows p a → KnowsIn a p.tables p.cl
 knows_in p a h = λ graph ws. record { told = h.told; hopes = record { places = h.hopes.places; complete = h.hopes.complete } }
 
 -- nor for what registrations pass on
-kept_settled : (target : DescId) (chosen : Option ℕ) (xs : List Entry) → map settled (map (kept_passing target chosen) xs) ≡ map settled xs
-kept_settled target chosen [] = refl
-kept_settled target chosen (x ∷ xs) = let first = one (stops target chosen x) in let rest = kept_settled target chosen xs in λ i. first i ∷ rest i where
-  one : (b : Bool) → settled (cond b (record x { passes_in = 0 }) x) ≡ settled x
-  one true = refl
-  one false = refl
-
 pub knows_lasts : Lasts KnowsIn
 knows_lasts a v now old new target chosen entries keys added next h = λ graph ws.
     let p : Parts = record { tables = v; interest = old; graph = graph; parked = ws; clock = now } in
