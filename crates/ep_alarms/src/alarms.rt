@@ -5,11 +5,10 @@ ghost use Rattle.ep_alarms.specs.Timers.{timer_under};
 ghost use Rattle.ep_calls.specs.Arrivals.{TellsArrival};
 ghost use Rattle.ep_calls.specs.Raising.{due_bits, raised_each};
 ghost use Rattle.ep_due.specs.DueMap.{HasNoneReached, HasRoom, IsReachedAt, SameMoments, SetsMoment, moment_of};
-ghost use Rattle.ep_machine.specs.Timer.{last_moment};
 ghost use Rattle.ep_table.specs.Live.{live_ids};
 ghost use Rattle.ep_table.specs.Value.{Seen, Sound, number_under};
 
-use ep_base::DescId;
+use ep_base::{DescId, EventNumber, Moment};
 use ep_counters::next_arrivals;
 use ep_due::DueMap;
 use ep_interest::Interest;
@@ -54,9 +53,8 @@ impl Alarms {
     }
 
     /// Adds a timer that was created, where there is room for it: where the others were set, all are.
-    pub fn add(&mut self, tables: &Tables, desc: DescId, now: u64)
+    pub fn add(&mut self, tables: &Tables, desc: DescId, now: Moment)
         requires timer { IsSome (timer_under tables.now desc.0) }
-        requires clock { now ≤ last_moment }
         requires none { moment_of self.old desc.0 ≡ None }
         requires room { HasRoom self.old }
         ensures { AreSetBut tables.now now desc.0 self.old → AreSet tables.now now self.new }
@@ -66,9 +64,8 @@ impl Alarms {
 
     /// Gives a timer another moment once it was set or read: where the others are set, all are. Any description may
     /// be asked for.
-    pub fn set(&mut self, tables: &Tables, desc: DescId, now: u64)
+    pub fn set(&mut self, tables: &Tables, desc: DescId, now: Moment)
         requires live { IsSome (number_under tables.now desc) }
-        requires clock { now ≤ last_moment }
         ensures { IsKept tables.now desc.0 self.old → AreSetBut tables.now now desc.0 self.old
             → AreSet tables.now now self.new }
     {
@@ -108,11 +105,11 @@ impl Alarms {
     }
 
     /// A timer whose moment is at or below `now`; `None` exactly where there is none.
-    fn first(&self, now: u64) -> Option<DescId>
+    fn first(&self, now: Moment) -> Option<DescId>
         ensures { MatchOption result (HasNoneReached self.now now)
             (λ desc. IsReachedAt self.now now desc.0) }
     {
-        let key = self.moments.first(now)?;
+        let key = self.moments.first(now.at())?;
         Some(DescId(key))
     }
 
@@ -122,12 +119,11 @@ impl Alarms {
         &mut self,
         tables: &Tables,
         interest: &mut Interest,
-        since: u64,
-        now: u64,
-        step: u64,
+        since: Moment,
+        now: Moment,
+        step: EventNumber,
     )
         requires order { since ≤ now }
-        requires clock { now ≤ last_moment }
         requires set { AreSet tables.now since self.old }
         ensures entries { interest.new.entries
             ≡ raised_each (due_bits tables.now since now) step (live_ids tables.now.keys)

@@ -8,7 +8,7 @@ ghost use Rattle.ep_due.specs.DueMap.{HasRoom, SameMoments};
 ghost use Rattle.ep_machine.specs.Files.{Files};
 
 use crate::alarms::Alarms;
-use ep_base::{Answer, Call, DescId, Event, Fd, Pid};
+use ep_base::{Answer, Call, DescId, Event, EventNumber, Fd, Pid};
 use ep_calls::{Outcome, Parts, Raising};
 use ep_table::Tables;
 
@@ -86,7 +86,7 @@ impl Alarms {
     /// Notes in registrations what an event raised. Of timers only those are looked at whose moment has come, and they
     /// get their next one.
     #[inline(always)]
-    pub fn raise(&mut self, parts: &mut Parts, step: u64, raising: Raising)
+    pub fn raise(&mut self, parts: &mut Parts, step: EventNumber, raising: Raising)
         requires raises { IsRaising raising parts.old.tables }
         requires set { AreSetSince raising parts.old.tables parts.old.clock self.old }
         ensures stirs { Stirs raising parts.old.tables parts.old.clock step parts.old.interest

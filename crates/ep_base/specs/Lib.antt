@@ -3,3 +3,4 @@ pub mod Buffer
 pub mod Call
 pub mod Errno
 pub mod Limits
+pub mod Time

@@ -6,6 +6,7 @@ use crate::errno::Errno;
 use crate::ids::Fd;
 use crate::mask::Mask;
 use crate::short_list::{Bytes, Reports};
+use crate::time::Span;
 use std::alloc::AllocError;
 
 /// One registration in the answer of a wait.
@@ -30,9 +31,9 @@ pub enum Answer {
     Bytes(Bytes),
     /// What a wait reports: at most its `max` reports, none where its timeout has passed.
     Events(Reports),
-    /// The setting of a timer, in milliseconds: until its next expiration, 0 where none comes, and between two, 0 where
-    /// there is one alone.
-    Time { value: u64, interval: u64 },
+    /// The setting of a timer: the span until its next expiration, 0 where none comes, and the span between two, 0
+    /// where only one comes.
+    Time { value: Span, interval: Span },
     /// The caller of the wait is parked: nothing was reportable. Ask by `Event::Resume` whether its wait has ended.
     Parked,
     /// The caller that resumed is still parked: its wait has not ended.

@@ -5,6 +5,7 @@ ghost use Rattle.ep_base.specs.Call.{EventHasNoBytes, HasNoBytes, IsOnObject, Ma
 use crate::buffer::Buffer;
 use crate::ids::{Fd, Pid};
 use crate::mask::Mask;
+use crate::time::{Span, Timeout};
 use std::alloc::AllocError;
 
 /// A call of a process on the kernel. Everything behaves as with O_NONBLOCK; only epoll_wait(2) parks its caller.
@@ -60,13 +61,13 @@ pub enum Call {
         tag: u64,
     },
     /// epoll_wait(2): at most `max` reports of what is reportable now, answered by `Answer::Events`. Where nothing is,
-    /// a `timeout` of 0 answers no reports and any other parks the caller (`Answer::Parked`): for `timeout`
-    /// milliseconds at most, and without end where it is negative. Every `max` from 1 and every `timeout` are taken.
+    /// a `timeout` of 0 answers no reports and any other parks the caller (`Answer::Parked`): for so long at most, and
+    /// without end if it is negative. Every `max` from 1 and every `timeout` are taken.
     /// EINVAL for a `max` below 1, EBADF, EINVAL where `epfd` is no instance.
     EpollWait {
         epfd: Fd,
         max: i32,
-        timeout: i64,
+        timeout: Timeout,
     },
     /// read(2) of at most `n` bytes, answered by `Answer::Bytes`: none at the end of a pipe or socket whose writer is
     /// gone. An eventfd or a timer gives 8 bytes, the lowest first, and answers EINVAL where `n` is below 8. EBADF
@@ -88,18 +89,18 @@ pub enum Call {
     Shutdown {
         fd: Fd,
     },
-    /// timerfd_settime(2): the first expiration at the moment `value` with `absolute`, else `value`
-    /// milliseconds from now, and then one after each `interval` milliseconds; one alone where that is 0. A moment that
-    /// has passed expires at once. A `value` of 0 disarms. Answered by `Answer::Time`, the setting before.
-    /// EBADF, EINVAL where `fd` names no timer, EINVAL where `value` or `interval` is above 1,000,000,000,000.
+    /// timerfd_settime(2): the first expiration so long after the clock began with `absolute`, else so long from now,
+    /// and then one after each `interval`; only one if that is 0. A moment that has passed expires at once. A `value`
+    /// of 0 disarms. Answered by `Answer::Time`, the setting before.
+    /// EBADF, EINVAL if `fd` names no timer, EINVAL if `value` or `interval` is above `LAST_MOMENT`.
     SetTime {
         fd: Fd,
         absolute: bool,
-        value: u64,
-        interval: u64,
+        value: Span,
+        interval: Span,
     },
-    /// timerfd_gettime(2), answered by `Answer::Time`: the milliseconds until the next expiration, 0 where none comes,
-    /// and the interval. EBADF, EINVAL where `fd` names no timer.
+    /// timerfd_gettime(2), answered by `Answer::Time`: the span until the next expiration, 0 if none comes, and the
+    /// interval. EBADF, EINVAL if `fd` names no timer.
     GetTime {
         fd: Fd,
     },
@@ -234,9 +235,9 @@ pub enum Event {
     /// A parked caller asks whether its wait has ended: answered by `Answer::Events` where it has, and by
     /// `Answer::Still` where it has not. EINVAL where the caller is not parked.
     Resume,
-    /// The clock goes on by `n` milliseconds, 0 too; for everybody, whoever is parked. Answered by `Answer::Done`.
-    /// EINVAL where it would pass 1,000,000,000,000.
-    Tick { n: u64 },
+    /// The clock goes on by `n`, 0 too; for everybody, whoever is parked. Answered by `Answer::Done`.
+    /// EINVAL if it would pass `LAST_MOMENT`.
+    Tick { n: Span },
 }
 
 impl Event {

@@ -2,6 +2,7 @@
 ghost use Rattle.std.specs.Prelude.{◌≡◌, ◌≤◌, [], IfOk, IsOk, length};
 
 use crate::answer::Report;
+use crate::ids::EntryNumber;
 use smallvec::SmallVec;
 use std::alloc::{AllocError, Global};
 use std::marker::Model;
@@ -19,7 +20,7 @@ pub type Bytes = ShortList<u8, 16>;
 pub type Reports = ShortList<Report, 4>;
 
 /// The numbers of the registrations that a wait reports, counted from 1: 4 of them take no memory.
-pub type Picked = ShortList<u64, 4>;
+pub type Picked = ShortList<EntryNumber, 4>;
 
 impl<T, const N: usize> Model for ShortList<T, N> {
     ghost use Rattle.std.specs.Prelude.{List};

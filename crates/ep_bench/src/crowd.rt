@@ -3,7 +3,7 @@
 ghost use Rattle.std.specs.Prelude.{◌≡◌, IfOk, []};
 
 use crate::fault::Fault;
-use ep_base::{Answer, Buffer, Call, CallerId, Fd, Limits, Mask, Pid, Record};
+use ep_base::{Answer, Buffer, Call, CallerId, Fd, Limits, Mask, Pid, Record, Span, Timeout};
 use ep_kernel::ReadyKernel;
 use ep_plain::Kernel;
 use ep_pool::{Gate, Job, PoolReport, Step, run_sessions};
@@ -102,7 +102,7 @@ fn reads(alloc: Global, epfd: Fd, fd: Fd) -> Result<Vec<Step>, AllocError> {
             pid: PROCESS,
             epfd,
             max: 1,
-            timeout: -1,
+            timeout: Timeout(-1),
         })?;
         steps.push(call(Call::Read { fd, n: 8 }))?;
     }
@@ -125,7 +125,7 @@ fn writes(alloc: Global) -> Result<Vec<Step>, AllocError> {
 fn ticks(alloc: Global) -> Result<Vec<Step>, AllocError> {
     let mut steps = Vec::new(alloc);
     for _ in 0..ROUNDS {
-        steps.push(Step::Tick { n: 1 })?;
+        steps.push(Step::Tick { n: Span(1) })?;
     }
     Ok(steps)
 }

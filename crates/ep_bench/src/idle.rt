@@ -1,7 +1,7 @@
 //! Calls that find nothing to do, with others beside them.
 
 use crate::registrations::add;
-use ep_base::{CallerId, DescId, EntryId, Pid};
+use ep_base::{CallerId, DescId, EntryId, Moment, Pid};
 use ep_interest::Interest;
 use ep_nest::Graph;
 use ep_park::{Park, Waiter};
@@ -69,7 +69,7 @@ pub fn tick(alloc: Global, count: u32, calls: u32) -> Result<(usize, bool), Allo
         park(&mut waits, CallerId(number))?;
     }
     for call in 0..calls {
-        waits.mark_due(u64::from(call));
+        waits.mark_due(Moment::new(u64::from(call)).unwrap());
     }
     Ok((waits.count(), waits.has_mark(INSTANCE)))
 }

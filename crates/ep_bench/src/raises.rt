@@ -1,7 +1,7 @@
 //! Arrivals at one description, with others beside it.
 
 use crate::registrations::add;
-use ep_base::{DescId, Mask};
+use ep_base::{DescId, EventNumber, Mask};
 use ep_interest::Interest;
 use std::alloc::{AllocError, Global};
 
@@ -9,7 +9,7 @@ use std::alloc::{AllocError, Global};
 const IN: Mask = Mask(1);
 
 /// IN arrives at a description in one event. The answer is how many registrations pass it on.
-fn raise(sets: &mut Interest, desc: DescId, event: u64) -> usize {
+fn raise(sets: &mut Interest, desc: DescId, event: EventNumber) -> usize {
     sets.raise(desc, IN, event);
     sets.freshen(desc, IN);
     let passing = sets.passing().len();
@@ -26,7 +26,7 @@ pub fn raise_at_one(alloc: Global, count: u32, events: u32) -> Result<(usize, bo
     }
     let mut is_lost = false;
     for event in 0..events {
-        is_lost |= raise(&mut sets, DescId(1), u64::from(event) + 1) == 0;
+        is_lost |= raise(&mut sets, DescId(1), EventNumber(u64::from(event) + 1)) == 0;
     }
     Ok((sets.count(), is_lost))
 }

@@ -3,7 +3,7 @@
 
 use crate::fault::{Fault, number};
 use ep_audit::audit;
-use ep_base::{Buffer, Call, CallerId, Event, Fd, Limits, Mask, Pid};
+use ep_base::{Buffer, Call, CallerId, Event, Fd, Limits, Mask, Pid, Timeout};
 use ep_plain::{Kernel, PlainKernel};
 use std::alloc::{AllocError, Global};
 
@@ -36,7 +36,7 @@ fn call_of(alloc: Global, number: u32) -> Result<Call, AllocError> {
         1 => Call::EpollWait {
             epfd: Fd(5),
             max: 8,
-            timeout: 0,
+            timeout: Timeout(0),
         },
         _ => Call::Read { fd: Fd(3), n: 3 },
     })

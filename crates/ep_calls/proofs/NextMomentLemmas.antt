@@ -1,5 +1,8 @@
 -- The first moment that has an effect.
-use Rattle.std.proofs.Common.{◌≡◌, ◌∙◌, ◌+◌, ◌-◌, ◌<◌, ◌≤◌, ◌&&◌, ◌||◌, ◌==◌, ℕ, Bool, true, false, not, List, [], ◌∷◌, None, Option, Some, ap, arith, map, nat_le, nat_lt, refl, sym, unwrap_or}
+use Rattle.std.proofs.Common.{◌≡◌, ◌∙◌, ◌+◌, ◌-◌, ◌<◌, ◌≤◌, ◌&&◌, ◌||◌, ◌==◌, ℕ, Bool, true, false, not, List, [], ◌∷◌, None, Option, Some, ap, arith, map, nat_le, nat_lt, refl, subst, sym, unwrap_or}
+use Rattle.std.specs.Prelude.{◌↔◌, IfSome, IsSome}
+use Rattle.std.proofs.Math.Nat.{lt_of_not-le}
+use Rattle.std.proofs.lemmas.Bool.{false≢true}
 use Rattle.std.specs.List.{list_any}
 use Rattle.std.proofs.lemmas.Bool.Decides.{nat_tests}
 use Rattle.ep_machine.specs.Bits.{IN, when}
@@ -12,7 +15,7 @@ use Rattle.ep_machine.specs.Waits.{advance_at, is_due, is_marked_at, marked_if_d
 use Rattle.ep_view.proofs.WaiterLemmas.{any_at}
 use Rattle.ep_view.specs.AtRest.{AtRest, needs_mark}
 use Rattle.ep_calls.specs.Arrivals.{arrives_by}
-use Rattle.ep_calls.specs.Driver.{HasNoEffect, IsNextEffect, has_effect, tick_marks, tick_raises}
+use Rattle.ep_calls.specs.Driver.{HasNoEffect, IsNextEffect, TellsNext, has_effect, tick_marks, tick_raises}
 use Rattle.ep_calls.specs.Moves.{StandFor}
 use Rattle.ep_calls.specs.Parts.{Parts}
 use Rattle.ep_calls.specs.Raising.{clock_bits}
@@ -111,6 +114,11 @@ module _ (s : State) (first : Option ℕ) (told : (k : ℕ) → has_effect s k �
         effect = told (moment - s.now) ∙ (ap (is_due (s.now + (moment - s.now))) is ∙ reached (s.now + (moment - s.now)) moment (omega (arith, later)));
         first = λ k sooner. told k ∙ (ap (is_due (s.now + k)) is ∙ not_reached (s.now + k) moment sooner);
       }
+
+  -- of moments past the last one there is none
+  pub next_moment : (moment : ℕ) (o : Option ℕ) → AtRest s → first ≡ Some moment → (IsSome o ↔ (moment ≤ last_moment)) → IfSome o (λ m. m ≡ moment) → TellsNext s o
+  next_moment moment None rest is there at = effect_too_late moment is (lt_of_not-le (λ le. false≢true (there.1 le)))
+  next_moment moment (Some m) rest is there at = subst (λ (k : ℕ). IsNextEffect s k) (sym at) (next_effect moment rest is (there.0 refl))
 
 -- what the parts tell of each tick
 pub told_by : (p : Parts) (s : State) (arrival deadline first : Option ℕ) → StandFor p s → ((now : ℕ) → is_due now arrival ≡ arrives_by p.tables.files p.clock now)

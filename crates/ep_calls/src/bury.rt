@@ -7,12 +7,13 @@ ghost use Rattle.ep_calls.specs.Stands.{AreLinked};
 
 use crate::Parts;
 use crate::raising::{at_end, other_end, raise_there};
+use ep_base::EventNumber;
 use ep_interest::Interest;
 use ep_nest::Graph;
 use ep_table::Tables;
 
 /// Ends the descriptions that wait for it, one after another.
-fn end_each(tables: &mut Tables, interest: &mut Interest, graph: &mut Graph, step: u64)
+fn end_each(tables: &mut Tables, interest: &mut Interest, graph: &mut Graph, step: EventNumber)
     requires { AreLinked tables.old interest.old }
     ensures buries { Buries step tables.old interest.old tables.new interest.new }
     ensures none { tables.new.dying ≡ [] }
@@ -39,7 +40,7 @@ fn end_each(tables: &mut Tables, interest: &mut Interest, graph: &mut Graph, ste
 
 impl Parts {
     /// Ends each description that no descriptor names any more, and takes its registrations and those in it away.
-    pub fn bury(&mut self, step: u64)
+    pub fn bury(&mut self, step: EventNumber)
         ensures burial { Burial step self.old.tables self.old.interest self.new.tables
             self.new.interest }
         ensures ids { KeepsIds self.old.interest self.new.interest }

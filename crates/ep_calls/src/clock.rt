@@ -5,22 +5,22 @@ ghost use Rattle.ep_calls.specs.Clock.{Sets, Ticks};
 
 use crate::raising::Raising;
 use crate::{Outcome, Parts};
-use ep_base::{Answer, Errno, LAST_MOMENT};
+use ep_base::{Answer, Errno, Span};
 
 impl Parts {
-    /// The clock goes on by `n` milliseconds. EINVAL, and it stays, if that takes it past its last moment.
-    pub fn tick(&mut self, n: u64) -> Outcome
+    /// The clock goes on by `n`. EINVAL, and it stays, if that takes it past its last moment.
+    pub fn tick(&mut self, n: Span) -> Outcome
         ensures ticks { Ticks self.old.clock n self.new.clock result.answer }
         ensures picked { result.picked ≡ [] }
         ensures raising { Sets self.old.clock n result.raising }
         ensures moment { IsRaising result.raising self.old.tables }
         ensures others { self.new ≡ record self.old { clock = self.new.clock } }
     {
-        if n > LAST_MOMENT - self.clock {
-            return Outcome::refused(self.alloc, Errno::Einval);
-        }
         let since = self.clock;
-        self.clock += n;
+        let Some(now) = since.later(n) else {
+            return Outcome::refused(self.alloc, Errno::Einval);
+        };
+        self.clock = now;
         Outcome::settled(self.alloc, Answer::Done, Raising::Clock { since })
     }
 }

@@ -11,7 +11,6 @@ ghost use Rattle.ep_calls.specs.Climb.{AreNested, KeepsLinks, is_nested_key};
 ghost use Rattle.ep_calls.specs.Control.{Alters, ChangesIf, Controls, EntersAt, IsBelow, IsPlan, Names, TellsBelow, addition, code_of, control_call, is_deep_at, is_done, is_exclusive_at, is_refused_exclusive, is_refused_op, raising_of_ctl, naming_refusals, next_entry, next_link, raising_after, room_refusals};
 ghost use Rattle.ep_calls.specs.Last.{NothingRefusesCall};
 ghost use Rattle.ep_interest.specs.Registrations.{GainsKey, has_key, number_under as number_of_entry};
-ghost use Rattle.ep_machine.specs.Timer.{last_moment};
 ghost use Rattle.ep_calls.specs.Does.{DoesCall};
 ghost use Rattle.ep_calls.specs.Stands.{AreLinked};
 ghost use Rattle.ep_calls.specs.declared.control.Named.{Named};
@@ -23,7 +22,7 @@ use crate::raising::Raising;
 use crate::readiness::{is_reportable, shown_at};
 use crate::{Outcome, Parts};
 use bitflags::Flags;
-use ep_base::{Answer, DescId, EntryId, Errno, Fd, Mask, Pid};
+use ep_base::{Answer, DescId, EntryId, Errno, Fd, Mask, Moment, Pid};
 use ep_interest::{Addition, Interest};
 use ep_nest::Graph;
 use ep_table::Tables;
@@ -371,14 +370,13 @@ fn enter(
 /// whether its target is an instance that is ready.
 fn look_at(
     tables: &Tables,
-    now: u64,
+    now: Moment,
     interest: &Interest,
     named: Named,
     fd: Fd,
     below: bool,
 ) -> Raising
     requires linked { AreLinked tables.now interest.now }
-    requires clock { now ≤ last_moment }
     requires below { IsBelow below tables.now now interest.now named fd }
     ensures { result ≡ raising_of_ctl tables.now now interest.now named fd }
 {

@@ -14,7 +14,7 @@ ghost use Rattle.ep_calls.specs.Driver.{TellsNext, first_marked};
 ghost use Rattle.ep_calls.specs.KeptRecords.{KeepsRecord};
 ghost use Rattle.ep_calls.specs.Spared.{IsSpared};
 
-use ep_base::{Answer, CallerId, Event, Limits, Record};
+use ep_base::{Answer, CallerId, Event, Limits, Moment, Record};
 use std::alloc::AllocError;
 
 /// A kernel that processes make calls on. Each event is one step of the abstract machine
@@ -83,8 +83,8 @@ pub trait Kernel {
     fn limits(&self) -> &Limits
         ensures { result.now ≡ bounds self.now };
 
-    /// The simulated clock: milliseconds since it began, at most 1,000,000,000,000.
-    fn now(&self) -> u64
+    /// The present moment of the simulated clock.
+    fn now(&self) -> Moment
         ensures { result ≡ (state self.now).now };
 
     /// Whether a caller is parked in epoll_wait(2).
@@ -103,6 +103,6 @@ pub trait Kernel {
 
     /// The first moment after now to which a tick raises a bit or marks a caller; a shorter tick does neither. `None`
     /// exactly if no tick does: then nothing ends a wait but a call, or the resumption of whoever is marked.
-    fn next_moment(&self) -> Option<u64>
+    fn next_moment(&self) -> Option<Moment>
         ensures { TellsNext (state self.now) result };
 }

@@ -16,7 +16,7 @@ use crate::raising::Raising;
 use crate::report::report;
 use crate::wait::Reportable;
 use crate::{Outcome, Parts};
-use ep_base::{Answer, CallerId};
+use ep_base::{Answer, CallerId, EventNumber};
 use ep_park::{Park, Waiter, is_due};
 use ep_table::Tables;
 use std::alloc::AllocError;
@@ -75,7 +75,7 @@ impl Parts {
     #[inline(always)]
     pub fn resume_with(
         &mut self,
-        step: u64,
+        step: EventNumber,
         caller: CallerId,
         waiter: Waiter,
         chosen: &[Reportable],

@@ -3,7 +3,7 @@ ghost use Rattle.std.specs.Prelude.{IfOk};
 ghost use Rattle.ep_calls.specs.Parts.{AreCoherent, AreOpening};
 ghost use Rattle.ep_table.specs.Value.{Sound};
 
-use ep_base::Limits;
+use ep_base::{Limits, Moment};
 use ep_interest::Interest;
 use ep_nest::Graph;
 use ep_park::Park;
@@ -24,8 +24,8 @@ pub struct Parts {
     pub graph: Graph,
     /// The parked callers.
     pub waiters: Park,
-    /// The present moment, in milliseconds since the clock began.
-    pub clock: u64,
+    /// The present moment.
+    pub clock: Moment,
 }
 
 impl Model for Parts {
@@ -50,7 +50,7 @@ impl Parts {
             interest: Interest::new(alloc),
             graph: Graph::new(alloc),
             waiters: Park::new(alloc),
-            clock: 0,
+            clock: Moment::first(),
         })
     }
 

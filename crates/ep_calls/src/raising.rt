@@ -8,7 +8,7 @@ ghost use Rattle.ep_table.specs.Value.{number_under};
 
 use crate::Parts;
 use bitflags::Flags;
-use ep_base::{DescId, End, Mask, Raised};
+use ep_base::{DescId, End, EventNumber, Mask, Moment, Raised};
 use ep_interest::Interest;
 use ep_table::Tables;
 
@@ -22,7 +22,7 @@ pub enum Raising {
     /// At an instance, in which a registration is reportable that was added or modified.
     Instance { desc: DescId },
     /// At timers, by the clock going on from this moment.
-    Clock { since: u64 },
+    Clock { since: Moment },
 }
 
 /// The bits that are raised at an end.
@@ -47,7 +47,7 @@ pub fn other_end(end: End) -> End
 
 /// Raises bits at a description. If there are none no registration is looked at.
 #[inline(always)]
-pub fn raise_at(interest: &mut Interest, desc: DescId, bits: Mask, step: u64)
+pub fn raise_at(interest: &mut Interest, desc: DescId, bits: Mask, step: EventNumber)
     ensures entries { interest.new.entries ≡ map (raised_on desc bits step) interest.old.entries }
     ensures keys { interest.new.keys ≡ interest.old.keys }
     ensures added { interest.new.added ≡ interest.old.added }
@@ -58,7 +58,7 @@ pub fn raise_at(interest: &mut Interest, desc: DescId, bits: Mask, step: u64)
 }
 
 /// Raises bits at a description, if there is one.
-pub fn raise_there(interest: &mut Interest, desc: Option<DescId>, bits: Mask, step: u64)
+pub fn raise_there(interest: &mut Interest, desc: Option<DescId>, bits: Mask, step: EventNumber)
     ensures entries { interest.new.entries
         ≡ map (raised_there desc bits step) interest.old.entries }
     ensures keys { interest.new.keys ≡ interest.old.keys }
@@ -70,7 +70,13 @@ pub fn raise_there(interest: &mut Interest, desc: Option<DescId>, bits: Mask, st
 }
 
 /// Raises bits at the two ends of the object of a description.
-fn raise_object(tables: &Tables, interest: &mut Interest, desc: DescId, raised: Raised, step: u64)
+fn raise_object(
+    tables: &Tables,
+    interest: &mut Interest,
+    desc: DescId,
+    raised: Raised,
+    step: EventNumber,
+)
     requires { IsSome (number_under tables.now desc) }
     ensures { RaisesObject tables.now desc raised step interest.old interest.new }
 {
@@ -85,7 +91,7 @@ fn raise_object(tables: &Tables, interest: &mut Interest, desc: DescId, raised: 
 }
 
 /// Notes in registrations what an event raised other than by the clock.
-fn raise_all(tables: &Tables, interest: &mut Interest, raising: Raising, step: u64)
+fn raise_all(tables: &Tables, interest: &mut Interest, raising: Raising, step: EventNumber)
     requires raising { IsRaising raising tables.now }
     requires untimed { IsUntimed raising }
     ensures stirs { (now : ℕ) → Stirs raising tables.now now step interest.old interest.new }
@@ -101,7 +107,7 @@ fn raise_all(tables: &Tables, interest: &mut Interest, raising: Raising, step: u
 
 impl Parts {
     /// Notes in registrations what an event raised other than by the clock.
-    pub fn raise(&mut self, step: u64, raising: Raising)
+    pub fn raise(&mut self, step: EventNumber, raising: Raising)
         requires raises { IsRaising raising self.old.tables }
         requires untimed { IsUntimed raising }
         ensures stirs { Stirs raising self.old.tables self.old.clock step self.old.interest

@@ -2,19 +2,17 @@
 ghost use Rattle.std.specs.Prelude.{◌≡◌, ◌≤◌, ◌&&◌, ◌||◌, IsSome, nat_lt, not};
 ghost use Rattle.ep_machine.specs.Bits.{ET, has_bit};
 ghost use Rattle.ep_view.specs.KernelView.{shows};
-ghost use Rattle.ep_machine.specs.Timer.{last_moment};
 ghost use Rattle.ep_calls.specs.Readiness.{present_over, shown_over};
 ghost use Rattle.ep_table.specs.Value.{number_under};
 
 use bitflags::Flags;
-use ep_base::{DescId, Mask};
+use ep_base::{DescId, Mask, Moment};
 use ep_interest::Entry;
 use ep_table::Tables;
 
 /// The bits that hold at a description. `below`: whether it is an instance that is ready.
-fn present(tables: &Tables, now: u64, desc: DescId, below: bool) -> Mask
+fn present(tables: &Tables, now: Moment, desc: DescId, below: bool) -> Mask
     requires live { IsSome (number_under tables.now desc) }
-    requires clock { now ≤ last_moment }
     ensures { result.0 ≡ present_over below tables.now now desc }
 {
     if !tables.object(desc).is_instance() {
@@ -26,9 +24,8 @@ fn present(tables: &Tables, now: u64, desc: DescId, below: bool) -> Mask
 /// The bits that a registration shows: if it is armed, those of its target that its mask asks for, ERR and HUP
 /// unasked.
 #[inline(always)]
-pub fn shown_at(tables: &Tables, now: u64, entry: &Entry, below: bool) -> Mask
+pub fn shown_at(tables: &Tables, now: Moment, entry: &Entry, below: bool) -> Mask
     requires target { IsSome (number_under tables.now entry.now.desc) }
-    requires clock { now ≤ last_moment }
     ensures { result.0 ≡ shown_over below tables.now now entry.now }
 {
     if !entry.armed {

@@ -9,7 +9,7 @@ ghost use Rattle.ep_calls.specs.declared.raising.Raising.TheVariants.{Nowhere};
 
 use crate::wait::Reportable;
 use crate::{Outcome, Spare};
-use ep_base::{Answer, Picked, Report, Reports as ReportList};
+use ep_base::{Answer, EventNumber, Picked, Report, Reports as ReportList};
 use ep_interest::Interest;
 use smallvec::SmallVec;
 use std::alloc::{AllocError, Global};
@@ -43,7 +43,7 @@ fn picked_of(alloc: Global, chosen: &[Reportable]) -> Result<Picked, AllocError>
 
 /// Notes that they are reported in this step.
 #[inline(always)]
-fn note(interest: &mut Interest, step: u64, chosen: &[Reportable])
+fn note(interest: &mut Interest, step: EventNumber, chosen: &[Reportable])
     requires { All (λ x. number_of_entry interest.old x.id ≡ Some x.entry.number) chosen.now }
     ensures entries { interest.new.entries
         ≡ map (with_report step (numbers_of chosen.now)) interest.old.entries }
@@ -76,7 +76,7 @@ fn spare_of(reports: &ReportList, picked: &Picked, kept: bool) -> Result<Option<
 pub fn report(
     alloc: Global,
     interest: &mut Interest,
-    step: u64,
+    step: EventNumber,
     chosen: &[Reportable],
     kept: bool,
 ) -> Result<Outcome, AllocError>

@@ -2,7 +2,6 @@
 ghost use Rattle.std.specs.Prelude.{◌≡◌, ◌≤◌, IfOk, MatchResult, OnErr, Some, false, map};
 ghost use Rattle.std.specs.List.{list_any};
 ghost use Rattle.ep_machine.specs.Effect.{first};
-ghost use Rattle.ep_machine.specs.Timer.{last_moment};
 ghost use Rattle.ep_park.specs.Waiters.{is_caller};
 ghost use Rattle.ep_calls.specs.Clock.{ClockStays};
 ghost use Rattle.ep_calls.specs.Does.{DoesWait};
@@ -14,7 +13,9 @@ use crate::parking::park;
 use crate::raising::Raising;
 use crate::report::report;
 use crate::{Outcome, Parts};
-use ep_base::{Answer, CallerId, DescId, EntryId, Errno, Fd, Mask, Pid};
+use ep_base::{
+    Answer, CallerId, DescId, EntryId, Errno, EventNumber, Fd, Mask, Moment, Pid, Timeout,
+};
 use ep_interest::Entry;
 use ep_park::Waiter;
 use ep_table::Tables;
@@ -29,8 +30,8 @@ pub struct Wait {
     pub epfd: Fd,
     /// The most reports that it takes; 0 and less are refused.
     pub max: i32,
-    /// How long it waits, in milliseconds: 0 not at all, less than 0 for ever.
-    pub timeout: i64,
+    /// How long it waits.
+    pub timeout: Timeout,
     /// Whether a second record of it is asked for.
     pub kept: bool,
 }
@@ -64,25 +65,24 @@ pub fn find_instance(tables: &Tables, args: Wait) -> Result<DescId, Errno>
 }
 
 /// The moment at which a wait ends with no report; `None` for a negative timeout, which has no end.
-fn deadline(now: u64, timeout: i64) -> Option<u64>
-    requires { now ≤ last_moment }
+fn deadline(now: Moment, timeout: Timeout) -> Option<u64>
     ensures { result ≡ deadline_of now timeout }
 {
-    if timeout < 0 {
+    if timeout.0 < 0 {
         return None;
     }
-    Some(now + timeout as u64)
+    Some(now.at() + timeout.0 as u64)
 }
 
 impl Parts {
     /// A wait at an instance, with those of its registrations that it picks: it reports them. If there are none, it
-    /// makes no report with a timeout of 0, and else the caller is parked until it is marked, `timeout` milliseconds at
-    /// most, and without end if that is negative.
+    /// makes no report with a timeout of 0, and else the caller is parked until it is marked: for the timeout at most,
+    /// and without end if that is negative.
     /// An `Err` is want of memory and leaves the parts. Nothing refuses the call then, since the instance was found.
     #[inline(always)]
     pub fn wait_with(
         &mut self,
-        step: u64,
+        step: EventNumber,
         caller: CallerId,
         args: Wait,
         instance: DescId,
@@ -107,14 +107,16 @@ impl Parts {
         ensures err { OnErr result (self.new ≡ self.old) }
     {
         self.tables.known();
-        if !chosen.is_empty() || args.timeout == 0 {
+        let timeout = args.timeout;
+        let at_once = timeout.is_zero();
+        if !chosen.is_empty() || at_once {
             report(self.alloc, &mut self.interest, step, chosen, args.kept)
         } else {
             let waiter = Waiter {
                 process: args.pid,
                 instance,
                 max: args.max,
-                deadline: deadline(self.clock, args.timeout),
+                deadline: deadline(self.clock, timeout),
                 marked: false,
             };
             park(&mut self.tables, &mut self.waiters, caller, waiter)?;

@@ -6,7 +6,7 @@ ghost use Rattle.ep_climb.specs.Reach.{AreLive, AreRoomy, IsClosed, IsGrown, ope
 ghost use Rattle.ep_interest.specs.Registrations.{number_under as number_of_entry};
 ghost use Rattle.ep_table.specs.Value.{number_under};
 
-use ep_base::{DescId, EntryId};
+use ep_base::{DescId, EntryId, EntryNumber, EventNumber};
 use ep_calls::Parts;
 use ep_climb::{Readiness, ascend};
 use ep_interest::{Entry, Interest};
@@ -59,17 +59,17 @@ fn is_any_awaited<R: Readiness>(
 }
 
 /// Notes the key of an exclusive registration, if that passes something of this event on.
-fn gather_one(candidates: &mut Walk<Global>, id: EntryId, entry: &Entry, step: u64)
+fn gather_one(candidates: &mut Walk<Global>, id: EntryId, entry: &Entry, step: EventNumber)
     requires { id.0 < candidates.old.room }
     ensures { candidates.new ≡ with_candidate step (id, entry.now) candidates.old }
 {
-    if entry.passes_in == step {
+    if entry.passes_in.0 == step.0 {
         candidates.reach(id.0);
     }
 }
 
 /// Finds the exclusive registrations on a description that pass something of this event on, by their keys.
-fn gather(interest: &Interest, candidates: &mut Walk<Global>, target: DescId, step: u64)
+fn gather(interest: &Interest, candidates: &mut Walk<Global>, target: DescId, step: EventNumber)
     requires none { candidates.old.reached ≡ [] }
     requires room { HasKeys interest.now candidates.old }
     ensures room { candidates.new.room ≡ candidates.old.room }
@@ -121,8 +121,8 @@ pub fn choose<R: Readiness>(
     reached: &mut Walk<Global>,
     candidates: &mut Walk<Global>,
     target: DescId,
-    step: u64,
-) -> Option<u64>
+    step: EventNumber,
+) -> Option<EntryNumber>
     requires live { IsSome (number_under parts.old.tables target) }
     requires instances { HaveInstances parts.old }
     requires room { AreRoomy parts.old.interest reached.old }

@@ -8,7 +8,7 @@ ghost use Rattle.ep_machine.specs.Marks.{marked_by};
 use crate::choice::Choice;
 use crate::loose::mark_loose;
 use crate::narrowing::narrow;
-use ep_base::DescId;
+use ep_base::{DescId, EventNumber};
 use ep_calls::Parts;
 use ep_climb::{Readiness, mark_due, reach};
 use ep_ready::Walk;
@@ -23,7 +23,7 @@ fn wake<R: Readiness>(
     ready: &mut R,
     reached: &mut Walk<Global>,
     choice: &mut Choice,
-    step: u64,
+    step: EventNumber,
 )
     requires step { 0 < step }
     requires fits { Fits parts.old reached.old choice.old }
@@ -65,7 +65,7 @@ pub fn mark<R: Readiness>(
     reached: &mut Walk<Global>,
     choice: &mut Choice,
     attend: Option<DescId>,
-    step: u64,
+    step: EventNumber,
 )
     requires step { 0 < step }
     requires fits { Fits parts.old reached.old choice.old }

@@ -11,7 +11,7 @@ ghost use Rattle.ep_view.specs.Marking.{narrowed_now};
 
 use crate::choosing::choose;
 use bitflags::Flags;
-use ep_base::{DescId, EntryId, Mask};
+use ep_base::{DescId, EntryId, EntryNumber, EventNumber, Mask};
 use ep_calls::Parts;
 use ep_climb::Readiness;
 use ep_interest::Interest;
@@ -52,7 +52,7 @@ fn reach_targets(interest: &Interest, targets: &mut Walk<Global>)
 }
 
 /// Of the exclusive registrations on a description only the one with this number goes on passing something on.
-fn keep(parts: &mut Parts, target: DescId, chosen: Option<u64>)
+fn keep(parts: &mut Parts, target: DescId, chosen: Option<EntryNumber>)
     ensures entries { parts.new.interest.entries
         ≡ map (kept_passing target chosen) parts.old.interest.entries }
     ensures keys { parts.new.interest.keys ≡ parts.old.interest.keys }
@@ -73,7 +73,7 @@ pub fn narrow<R: Readiness>(
     reached: &mut Walk<Global>,
     candidates: &mut Walk<Global>,
     targets: &mut Walk<Global>,
-    step: u64,
+    step: EventNumber,
 )
     requires step { 0 < step }
     requires instances { HaveInstances parts.old }

@@ -7,7 +7,7 @@ ghost use Rattle.ep_nest.specs.declared.link.Link.{Link as Pair};
 ghost use Rattle.ep_table.specs.Value.{number_under};
 
 use crate::reaching::{has_links, reach};
-use ep_base::{DescId, Mask};
+use ep_base::{DescId, EventNumber, Mask};
 use ep_calls::Parts;
 use ep_interest::Interest;
 use ep_ready::Walk;
@@ -67,7 +67,7 @@ pub fn freshen(parts: &mut Parts, reached: &Walk<Global>)
 /// is still to be forgotten. It takes no memory, since `reached` has room for the instance of each registration. Its
 /// time grows with what `reached` had, with the registrations that pass something on, with the links to the instances
 /// reached, and with the registrations on those.
-pub fn climb(parts: &mut Parts, reached: &mut Walk<Global>, step: u64)
+pub fn climb(parts: &mut Parts, reached: &mut Walk<Global>, step: EventNumber)
     requires step { 0 < step }
     requires room { AreRoomy parts.old.interest reached.old }
     ensures reached { AreReached step parts.old.tables parts.old.interest reached.new.reached }

@@ -5,7 +5,7 @@ ghost use Rattle.ep_machine.specs.Lists.{is_among};
 ghost use Rattle.ep_nest.specs.Links.{keys};
 ghost use Rattle.ep_climb.specs.Reach.{AreHome, AreReached, AreRoomy, Ascends, AscendsFrom, IsClosed, Reaches, Walks, open_edges, passed_by};
 
-use ep_base::{DescId, EntryId};
+use ep_base::{DescId, EntryId, EventNumber};
 use ep_calls::Parts;
 use ep_interest::Interest;
 use ep_nest::Graph;
@@ -21,11 +21,11 @@ pub fn has_links(graph: &Graph) -> bool
 }
 
 /// The instance of a registration that passes something on which this event raised at its target.
-fn passed_to(interest: &Interest, id: EntryId, step: u64) -> Option<DescId>
+fn passed_to(interest: &Interest, id: EntryId, step: EventNumber) -> Option<DescId>
     ensures { result ≡ passed_by step (entry_under interest.now id) }
 {
     match interest.get(id) {
-        Some(entry) if entry.passes_in == step => Some(entry.instance),
+        Some(entry) if entry.passes_in.0 == step.0 => Some(entry.instance),
         _ => None,
     }
 }
@@ -66,7 +66,7 @@ fn ascend_from(
     graph: &mut Graph,
     reached: &mut Walk<Global>,
     id: EntryId,
-    step: u64,
+    step: EventNumber,
 )
     requires closed { IsClosed (open_edges interest.now graph.old) reached.old.reached }
     requires room { AreRoomy interest.now reached.old }
@@ -83,7 +83,7 @@ fn ascend_from(
 /// Reaches the instance of each registration that passes something on which this event raised at its target, and
 /// those above it to which IN goes on from there.
 #[inline(always)]
-fn walk(interest: &Interest, graph: &mut Graph, reached: &mut Walk<Global>, step: u64)
+fn walk(interest: &Interest, graph: &mut Graph, reached: &mut Walk<Global>, step: EventNumber)
     requires step { 0 < step }
     requires none { reached.old.reached ≡ [] }
     requires room { AreRoomy interest.now reached.old }
@@ -100,7 +100,7 @@ fn walk(interest: &Interest, graph: &mut Graph, reached: &mut Walk<Global>, step
 /// visits the registrations that pass something on which the event raised at their targets, and the links to what it
 /// reaches.
 #[inline(always)]
-pub fn reach(parts: &mut Parts, reached: &mut Walk<Global>, step: u64)
+pub fn reach(parts: &mut Parts, reached: &mut Walk<Global>, step: EventNumber)
     requires step { 0 < step }
     requires room { AreRoomy parts.old.interest reached.old }
     ensures parts { parts.new ≡ parts.old }

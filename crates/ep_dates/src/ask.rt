@@ -9,16 +9,17 @@ ghost use Rattle.ep_table.specs.Value.{number_under};
 
 use crate::dates::Dates;
 use bitflags::Flags;
-use ep_base::{DescId, EntryId, Mask};
+use ep_base::{DescId, EntryId, EventNumber, Mask};
 use ep_calls::{Parts, is_reportable, shown_at};
 use ep_climb::has_links;
 use ep_interest::Entry;
 
-/// What registrations are asked at the end of an event.
+/// What registrations are asked at the end of an event. The prover takes a question that is passed on as moved, so who
+/// asks more than once passes copies.
 #[derive(Clone, Copy)]
 pub struct Question {
     /// The number of the event.
-    pub event: u64,
+    pub event: EventNumber,
     /// Whether they have come to be reportable; else, whether they are so no more.
     pub comes: bool,
 }
@@ -52,7 +53,7 @@ pub fn ask(parts: &Parts, question: Question, id: EntryId, dates: &mut Dates)
     let Some(entry) = parts.interest.get(id) else {
         return;
     };
-    let is_dated = dates.since(entry.number) > 0;
+    let is_dated = dates.since(entry.number).is_event();
     if is_dated == question.comes {
         return;
     }
@@ -74,7 +75,8 @@ pub fn ask_each(parts: &Parts, question: Question, ids: &[EntryId], dates: &mut 
     ensures { Asks question.comes question.event parts.now (has_id ids.now) dates.old dates.new }
 {
     for id in ids {
-        ask(parts, question, *id, dates);
+        let asked = question;
+        ask(parts, asked, *id, dates);
     }
 }
 
@@ -88,7 +90,8 @@ pub fn ask_watchers(parts: &Parts, question: Question, desc: DescId, dates: &mut
 {
     parts.interest.known();
     for id in parts.interest.watchers(desc) {
-        ask(parts, question, id, dates);
+        let asked = question;
+        ask(parts, asked, id, dates);
     }
 }
 
@@ -114,7 +117,7 @@ fn ask_on_turned(parts: &Parts, question: Question, id: EntryId, dates: &mut Dat
     let Some(entry) = parts.interest.get(id) else {
         return;
     };
-    let is_dated = dates.since(entry.number) > 0;
+    let is_dated = dates.since(entry.number).is_event();
     if is_dated == question.comes {
         return;
     }
@@ -139,7 +142,8 @@ fn ask_turned_watchers(parts: &Parts, question: Question, instance: DescId, date
 {
     parts.interest.known();
     for id in parts.interest.watchers(instance) {
-        ask_on_turned(parts, question, id, dates);
+        let asked = question;
+        ask_on_turned(parts, asked, id, dates);
     }
 }
 
@@ -168,7 +172,8 @@ pub fn ask_turned(parts: &Parts, question: Question, from: usize, dates: &mut Da
     }
     let mut index = from;
     while index < dates.turned_count() {
-        ask_turned_watchers(parts, question, dates.turned_at(index), dates);
+        let asked = question;
+        ask_turned_watchers(parts, asked, dates.turned_at(index), dates);
         dates.known();
         index += 1;
     }

@@ -9,7 +9,7 @@ ghost use Rattle.ep_interest.specs.Passes.{has_id};
 use crate::ask::{Question, ask, ask_each, ask_turned, ask_watchers};
 use crate::dates::Dates;
 use crate::touched::Touched;
-use ep_base::{DescId, EntryId};
+use ep_base::{DescId, EntryId, EventNumber};
 use ep_calls::Parts;
 use ep_ready::Walk;
 use std::alloc::Global;
@@ -52,13 +52,14 @@ pub fn ask_above(parts: &Parts, question: Question, instances: &Walk<Global>, da
         dates.new }
 {
     for index in 0..instances.count() {
-        ask_on(parts, question, DescId(instances.at(index)), dates);
+        let asked = question;
+        ask_on(parts, asked, DescId(instances.at(index)), dates);
     }
 }
 
 /// Dates the registrations that came to be reportable in an event, one after another as far as that makes instances
 /// ready. None loses its date.
-pub fn come(parts: &Parts, event: u64, touched: &Touched<'_>, dates: &mut Dates)
+pub fn come(parts: &Parts, event: EventNumber, touched: &Touched<'_>, dates: &mut Dates)
     requires event { 0 < event }
     requires kept { AreKept parts.now.interest dates.old }
     requires homes { AreHomes parts.now }
@@ -66,13 +67,13 @@ pub fn come(parts: &Parts, event: u64, touched: &Touched<'_>, dates: &mut Dates)
     ensures settled { AreSettled true parts.now.interest (shows_over parts.now) dates.new []
         (may_come parts.now.interest (touched_of touched.now)) }
 {
-    let question = Question { event, comes: true };
+    let question = &Question { event, comes: true };
     dates.forget();
     parts.interest.known();
-    ask_altered(parts, question, touched.altered, dates);
-    ask_each(parts, question, parts.interest.passing(), dates);
-    ask_turned(parts, question, 0, dates);
+    ask_altered(parts, *question, touched.altered, dates);
+    ask_each(parts, *question, parts.interest.passing(), dates);
+    ask_turned(parts, *question, 0, dates);
     let turned = dates.turned_count();
-    ask_above(parts, question, touched.reached, dates);
-    ask_turned(parts, question, turned, dates);
+    ask_above(parts, *question, touched.reached, dates);
+    ask_turned(parts, *question, turned, dates);
 }

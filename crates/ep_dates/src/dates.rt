@@ -4,7 +4,7 @@ ghost use Rattle.ep_machine.specs.Lists.{are_distinct, is_among};
 ghost use Rattle.ep_rings.specs.PlacedRows.{keys_at};
 ghost use Rattle.ep_dates.specs.Dates.{HasPlace, begun, ended, event_at, forgot, id_at, is_ready, renewed};
 
-use ep_base::{DescId, EntryId};
+use ep_base::{DescId, EntryId, EntryNumber, EventNumber};
 use ep_interest::Entry;
 use ep_ready::Walk;
 use ep_rings::PlacedRows;
@@ -17,7 +17,7 @@ use std::mem;
 /// takes constant time but those that make room.
 #[derive(Drop)]
 pub struct Dates {
-    pub(crate) since: Vec<u64>,
+    pub(crate) since: Vec<EventNumber>,
     pub(crate) ids: Vec<EntryId>,
     pub(crate) rows: PlacedRows,
     pub(crate) turned: Walk<Global>,
@@ -40,13 +40,13 @@ impl Model for Dates {
 
 impl Dates {
     /// The event since which the registration with a number is reportable without a report; 0 where it is not.
-    pub fn since(&self, number: u64) -> u64
+    pub fn since(&self, number: EntryNumber) -> EventNumber
         ensures { result ≡ event_at self.now.since number }
     {
         let _rows = &self.rows;
-        match self.since.get(number as usize) {
+        match self.since.get(number.0 as usize) {
             Some(event) => *event,
-            None => 0,
+            None => EventNumber(0),
         }
     }
 
@@ -109,24 +109,24 @@ impl Dates {
     }
 
     /// The key that the registration with a number had when it last came to be reportable.
-    pub fn id(&self, number: u64) -> EntryId
+    pub fn id(&self, number: EntryNumber) -> EntryId
         ensures { result ≡ id_at self.now.ids number }
     {
         let _rows = &self.rows;
-        match self.ids.get(number as usize) {
+        match self.ids.get(number.0 as usize) {
             Some(id) => *id,
             None => EntryId(0),
         }
     }
 
     /// Dates the registration under a key, which is in no row: it is reportable since an event.
-    pub(crate) fn begin(&mut self, id: EntryId, entry: &Entry, event: u64)
+    pub(crate) fn begin(&mut self, id: EntryId, entry: &Entry, event: EventNumber)
         requires place { HasPlace self.old id entry.now }
         requires fresh { (i : ℕ) → is_among (keys_at self.old.rows i) id.0 ≡ false }
         ensures { self.new ≡ begun event id entry.now self.old }
     {
         let was_ready = self.is_ready(entry.instance);
-        let number = entry.number as usize;
+        let number = entry.number.0 as usize;
         self.since[number] = event;
         self.ids[number] = id;
         self.rows.push(entry.instance, id);
@@ -141,7 +141,7 @@ impl Dates {
         requires dated { is_among (keys_at self.old.rows entry.now.instance.0) id.0 ≡ true }
         ensures { self.new ≡ ended id entry.now self.old }
     {
-        self.since[entry.number as usize] = 0;
+        self.since[entry.number.0 as usize] = EventNumber(0);
         self.rows.remove(entry.instance, id);
         if !self.is_ready(entry.instance) {
             self.turned.reach(entry.instance.0);
@@ -150,13 +150,14 @@ impl Dates {
 
     /// Dates the registration under a key anew, which is in its instance's row, and gives it the last turn: it was
     /// reported in an event.
-    pub(crate) fn renew(&mut self, id: EntryId, entry: &Entry, event: u64)
+    pub(crate) fn renew(&mut self, id: EntryId, entry: &Entry, event: EventNumber)
         requires place { HasPlace self.old id entry.now }
         requires dated { is_among (keys_at self.old.rows entry.now.instance.0) id.0 ≡ true }
         ensures { self.new ≡ renewed event id entry.now self.old }
     {
         self.rows.known();
-        self.since[entry.number as usize] = event;
+        let number = entry.number;
+        self.since[number.0 as usize] = event;
         self.rows.remove(entry.instance, id);
         self.rows.push(entry.instance, id);
     }

@@ -19,12 +19,13 @@ use crate::dates::Dates;
 use crate::go::go;
 use crate::renew::renew_each;
 use crate::touched::Touched;
+use ep_base::EventNumber;
 use ep_calls::Parts;
 
 /// Dates each registration at the end of an event: one that is reportable has the event since which it is without a
 /// report, and no other has one. Only those are asked that the event touched, and those on an instance that came to be
 /// ready by them, or idle. It takes no memory.
-pub fn date(parts: &Parts, event: u64, touched: &Touched<'_>, dates: &mut Dates)
+pub fn date(parts: &Parts, event: EventNumber, touched: &Touched<'_>, dates: &mut Dates)
     requires event { 0 < event }
     requires kept { AreKept parts.now.interest dates.old }
     requires homes { AreHomes parts.now }

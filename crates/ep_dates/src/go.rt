@@ -12,11 +12,11 @@ use crate::ask::{Question, ask, ask_turned, ask_watchers};
 use crate::come::{ask_above, ask_altered};
 use crate::dates::Dates;
 use crate::touched::Touched;
-use ep_base::DescId;
+use ep_base::{DescId, EntryNumber, EventNumber};
 use ep_calls::Parts;
 
 /// Asks the registrations with these numbers whether they are still reportable. One without a date isn't.
-pub fn ask_reported(parts: &Parts, event: u64, reported: &[u64], dates: &mut Dates)
+pub fn ask_reported(parts: &Parts, event: EventNumber, reported: &[EntryNumber], dates: &mut Dates)
     requires event { 0 < event }
     requires kept { AreKept parts.now.interest dates.old }
     requires turned { AreTurned false dates.old }
@@ -28,7 +28,8 @@ pub fn ask_reported(parts: &Parts, event: u64, reported: &[u64], dates: &mut Dat
         comes: false,
     };
     for number in reported {
-        ask(parts, question, dates.id(*number), dates);
+        let asked = question;
+        ask(parts, asked, dates.id(*number), dates);
     }
 }
 
@@ -48,7 +49,7 @@ pub fn ask_called(parts: &Parts, question: Question, called: Option<DescId>, dat
 
 /// Takes the dates away of registrations that an event ended, one after another as far as that makes instances idle.
 /// What it can't have ended isn't asked.
-pub fn go(parts: &Parts, event: u64, touched: &Touched<'_>, dates: &mut Dates)
+pub fn go(parts: &Parts, event: EventNumber, touched: &Touched<'_>, dates: &mut Dates)
     requires event { 0 < event }
     requires kept { AreKept parts.now.interest dates.old }
     requires homes { AreHomes parts.now }
@@ -59,14 +60,14 @@ pub fn go(parts: &Parts, event: u64, touched: &Touched<'_>, dates: &mut Dates)
     ensures settled { AreSettled false parts.now.interest (shows_over parts.now) dates.new []
         (λ k. true) }
 {
-    let question = Question {
+    let question = &Question {
         event,
         comes: false,
     };
     dates.forget();
-    ask_altered(parts, question, touched.altered, dates);
+    ask_altered(parts, *question, touched.altered, dates);
     ask_reported(parts, event, touched.reported, dates);
-    ask_called(parts, question, touched.called, dates);
-    ask_above(parts, question, touched.gone, dates);
-    ask_turned(parts, question, 0, dates);
+    ask_called(parts, *question, touched.called, dates);
+    ask_above(parts, *question, touched.gone, dates);
+    ask_turned(parts, *question, 0, dates);
 }

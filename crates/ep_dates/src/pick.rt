@@ -6,7 +6,7 @@ ghost use Rattle.ep_dates.specs.Pick.{AreFlaggable, AreFlagged, AreLate, Flags, 
 ghost use Rattle.ep_rings.specs.PlacedRows.{keys_at};
 
 use crate::dates::Dates;
-use ep_base::{DescId, EntryId};
+use ep_base::{DescId, EntryId, EntryNumber, EventNumber};
 use ep_interest::Interest;
 use ep_ready::Walk;
 use std::alloc::Global;
@@ -18,8 +18,8 @@ fn flag(
     dates: &Dates,
     flags: &mut Walk<Global>,
     instance: DescId,
-    number: u64,
-) -> Option<u64>
+    number: EntryNumber,
+) -> Option<EventNumber>
     requires kept { AreKept interest.now dates.now }
     requires room { AreFlaggable interest.now flags.old }
     ensures some { IfSome result
@@ -28,14 +28,14 @@ fn flag(
         (FlagsNone interest.now dates.now instance.0 number flags.old) }
     ensures room { flags.new.room ≡ flags.old.room }
 {
-    if dates.since(number) == 0 {
+    if dates.since(number).0 == 0 {
         return None;
     }
     let id = dates.id(number);
     let Some(entry) = interest.get(id) else {
         return None;
     };
-    if entry.number != number {
+    if entry.number.0 != number.0 {
         return None;
     }
     if entry.instance != instance {
@@ -48,12 +48,12 @@ fn flag(
 }
 
 /// The later one of two events.
-fn later(one: u64, other: u64) -> u64
+fn later(one: EventNumber, other: EventNumber) -> EventNumber
     ensures one { one ≤ result }
     ensures other { other ≤ result }
     ensures least { (m : ℕ) → one ≤ m → other ≤ m → result ≤ m }
 {
-    if one < other { other } else { one }
+    if one.0 < other.0 { other } else { one }
 }
 
 /// Flags the registrations of an instance with these numbers, and answers the event of the last report of any of them,
@@ -63,8 +63,8 @@ fn flag_each(
     dates: &Dates,
     flags: &mut Walk<Global>,
     instance: DescId,
-    picks: &[u64],
-) -> Option<u64>
+    picks: &[EntryNumber],
+) -> Option<EventNumber>
     requires kept { AreKept interest.now dates.now }
     requires room { AreFlaggable interest.now flags.old }
     requires none { flags.old.reached ≡ [] }
@@ -75,7 +75,7 @@ fn flag_each(
     ensures room { flags.new.room ≡ flags.old.room }
 {
     interest.known();
-    let mut latest = 0;
+    let mut latest = EventNumber(0);
     for number in picks {
         let event = flag(interest, dates, flags, instance, *number)?;
         latest = later(latest, event);
@@ -99,7 +99,7 @@ fn first_left(dates: &Dates, flags: &Walk<Global>, instance: DescId) -> Option<E
 }
 
 /// Whether these are as many as are reportable at an instance, `most` at most.
-fn has_as_many(dates: &Dates, instance: DescId, most: usize, picks: &[u64]) -> bool
+fn has_as_many(dates: &Dates, instance: DescId, most: usize, picks: &[EntryNumber]) -> bool
     ensures { result ≡ (length picks.now == min most (length (keys_at dates.now.rows instance.0))) }
 {
     let many = dates.rows.len(instance);
@@ -113,7 +113,7 @@ fn are_late(
     dates: &Dates,
     flags: &Walk<Global>,
     instance: DescId,
-    latest: u64,
+    latest: EventNumber,
 ) -> bool
     requires kept { AreKept interest.now dates.now }
     requires order { (n : ℕ) × AreInTurn n interest.now dates.now }
@@ -129,7 +129,7 @@ fn are_late(
     let Some(entry) = interest.get(id) else {
         return true;
     };
-    latest <= dates.since(entry.number)
+    latest.0 <= dates.since(entry.number).0
 }
 
 /// Whether a report at an instance that takes `most` at most may be of the registrations with these numbers: different
@@ -142,7 +142,7 @@ pub fn is_pick(
     flags: &mut Walk<Global>,
     instance: DescId,
     most: usize,
-    picks: &[u64],
+    picks: &[EntryNumber],
 ) -> bool
     requires kept { AreKept interest.now dates.now }
     requires order { (n : ℕ) × AreInTurn n interest.now dates.now }

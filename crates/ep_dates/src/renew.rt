@@ -4,10 +4,11 @@ ghost use Rattle.ep_dates.specs.Kept.{AreKept};
 ghost use Rattle.ep_dates.specs.Renew.{Renews};
 
 use crate::dates::Dates;
+use ep_base::{EntryNumber, EventNumber};
 use ep_calls::Parts;
 
 /// Dates the registration with a number anew, if it is reportable, and gives it the last turn.
-fn renew(parts: &Parts, event: u64, number: u64, dates: &mut Dates)
+fn renew(parts: &Parts, event: EventNumber, number: EntryNumber, dates: &mut Dates)
     requires event { 0 < event }
     requires kept { AreKept parts.now.interest dates.old }
     ensures { Renews event parts.now.interest (number ∷ []) dates.old dates.new }
@@ -17,17 +18,17 @@ fn renew(parts: &Parts, event: u64, number: u64, dates: &mut Dates)
     let Some(entry) = parts.interest.get(id) else {
         return;
     };
-    if entry.number != number {
+    if entry.number.0 != number.0 {
         return;
     }
-    if dates.since(number) == 0 {
+    if dates.since(number).0 == 0 {
         return;
     }
     dates.renew(id, entry, event);
 }
 
 /// Dates the registrations with these numbers anew that are reportable: each has the last turn then, in their order.
-pub fn renew_each(parts: &Parts, event: u64, reported: &[u64], dates: &mut Dates)
+pub fn renew_each(parts: &Parts, event: EventNumber, reported: &[EntryNumber], dates: &mut Dates)
     requires event { 0 < event }
     requires kept { AreKept parts.now.interest dates.old }
     ensures { Renews event parts.now.interest reported.now dates.old dates.new }

@@ -3,7 +3,7 @@ ghost use Rattle.std.specs.Prelude.{◌≡◌, ◌<◌, ◌≤◌, ◌+◌, ◌+
 ghost use Rattle.ep_dates.specs.Dates.{AreNew, HasRoom, Widens};
 
 use crate::dates::Dates;
-use ep_base::{DescId, EntryId};
+use ep_base::{DescId, EntryId, EntryNumber, EventNumber};
 use ep_ready::Walk;
 use ep_rings::PlacedRows;
 use std::alloc::{AllocError, Global};
@@ -15,8 +15,8 @@ impl Dates {
         ensures { IfOk result (λ dates. AreNew dates) }
     {
         let mut since = Vec::new(alloc);
-        since.push(0)?;
-        since.push(0)?;
+        since.push(EventNumber(0))?;
+        since.push(EventNumber(0))?;
         Ok(Dates {
             since,
             ids: Vec::new(alloc),
@@ -41,7 +41,7 @@ impl Dates {
         requires { length self.old.since < self.old.places }
         ensures { self.new ≡ record self.old { since = self.old.since ++ 0 ∷ [] } }
     {
-        self.since.push_reserved(0);
+        self.since.push_reserved(EventNumber(0));
     }
 
     /// Makes room for a registration of an instance, under a key and with a number. An `Err` is want of memory. No date
@@ -50,12 +50,12 @@ impl Dates {
         &mut self,
         instance: DescId,
         id: EntryId,
-        number: u64,
+        number: EntryNumber,
     ) -> Result<(), AllocError>
         ensures same { Widens self.old self.new }
         ensures room { OnOk result (HasRoom self.new number instance.0 id.0) }
     {
-        let numbers = (number as usize).checked_add(1).ok_or(AllocError)?;
+        let numbers = (number.0 as usize).checked_add(1).ok_or(AllocError)?;
         if self.ids.len() < numbers {
             self.ids.resize(numbers, EntryId(0))?;
         }

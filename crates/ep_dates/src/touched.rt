@@ -1,6 +1,6 @@
 //! What an event touched.
 
-use ep_base::{DescId, EntryId};
+use ep_base::{DescId, EntryId, EntryNumber};
 use ep_ready::Walk;
 use std::alloc::Global;
 
@@ -12,7 +12,7 @@ pub struct Touched<'a> {
     /// The instances that IN reached.
     pub reached: &'a Walk<Global>,
     /// The numbers of the registrations that it reported.
-    pub reported: &'a [u64],
+    pub reported: &'a [EntryNumber],
     /// The description on whose object it made a call.
     pub called: Option<DescId>,
     /// The instances that lost a registration that was reportable.

@@ -2,7 +2,7 @@
 ghost use Rattle.std.specs.Prelude.{◌≡◌, None, true, false};
 ghost use Rattle.ep_calls.specs.Driver.{HasNoEffect, first_marked};
 
-use ep_base::{CallerId, Event};
+use ep_base::{CallerId, Event, Span};
 use ep_plain::Kernel;
 
 /// Resumes a marked caller, the one that was parked first. If nobody is marked, it moves the clock to the next moment.
@@ -18,7 +18,7 @@ fn turn<K: Kernel>(kernel: &mut K, clock: CallerId) -> bool
     let Some(moment) = kernel.next_moment() else {
         return false;
     };
-    let n = moment - kernel.now();
+    let n = Span(moment.at() - kernel.now().at());
     kernel.step(clock, Event::Tick { n });
     true
 }

@@ -9,7 +9,9 @@ mod timers;
 use crate::clock::advance;
 use crate::room::print_room;
 use crate::timers::let_end;
-use ep_base::{Answer, Buffer, Call, CallerId, Event, Fd, Limits, Mask, Pid, Record, Report};
+use ep_base::{
+    Answer, Buffer, Call, CallerId, Event, Fd, Limits, Mask, Pid, Record, Report, Span, Timeout,
+};
 use ep_plain::{Kernel, PlainKernel, run};
 use std::alloc::{AllocError, Global};
 use std::io;
@@ -54,8 +56,8 @@ fn print_opened(rt: &HostRuntime, answers: &[Answer]) -> io::Result<()> {
     }
 }
 
-/// A wait for 8 reports at most, for so many milliseconds.
-fn wait_at(epfd: i32, timeout: i64) -> Call {
+/// A wait for 8 reports at most, with this timeout.
+fn wait_at(epfd: i32, timeout: Timeout) -> Call {
     Call::EpollWait {
         epfd: Fd(epfd),
         max: 8,
@@ -65,7 +67,7 @@ fn wait_at(epfd: i32, timeout: i64) -> Call {
 
 /// Waits for 100 milliseconds at most: whether that parks the reader.
 fn wait<K: Kernel>(kernel: &mut K) -> bool {
-    let wait = in_process(wait_at(5, 100));
+    let wait = in_process(wait_at(5, Timeout(100)));
     matches!(kernel.step(READER, wait), Answer::Parked)
 }
 
@@ -95,11 +97,11 @@ fn act_out<K: Kernel>(rt: &HostRuntime, kernel: &mut K) -> io::Result<()> {
     let answers = open(rt.alloc(), kernel)?;
     print_opened(rt, &answers)?;
     println!(rt; "parked: {}", wait(kernel))?;
-    println!(rt; "moved: {}", advance(kernel, WRITER, 40))?;
+    println!(rt; "moved: {}", advance(kernel, WRITER, Span(40)))?;
     write(rt.alloc(), kernel)?;
     println!(rt;
         "at {} ms marked: {}",
-        kernel.now(),
+        kernel.now().at(),
         kernel.is_marked(READER)
     )?;
     println!(rt; "reported: {:?}", resume(kernel))?;

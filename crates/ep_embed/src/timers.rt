@@ -2,7 +2,7 @@
 
 use crate::driver::drive;
 use crate::{READER, WRITER, in_process, wait_at};
-use ep_base::{Answer, Call, Fd, Mask};
+use ep_base::{Answer, Call, Fd, Mask, Span, Timeout};
 use ep_plain::{Kernel, run};
 use std::alloc::{AllocError, Global};
 use std::io;
@@ -17,8 +17,8 @@ fn open_timer<K: Kernel>(alloc: Global, kernel: &mut K) -> Result<Vec<Answer>, A
     let set = Call::SetTime {
         fd: Fd(6),
         absolute: false,
-        value: 30,
-        interval: 0,
+        value: Span(30),
+        interval: Span(0),
     };
     let watch = Call::EpollCtl {
         epfd: Fd(7),
@@ -39,8 +39,8 @@ fn open_timer<K: Kernel>(alloc: Global, kernel: &mut K) -> Result<Vec<Answer>, A
 
 /// Whether two waits park: one without end at the timer's instance, and one of 50 milliseconds at the other.
 fn wait_for_both<K: Kernel>(kernel: &mut K) -> bool {
-    let first = kernel.step(READER, in_process(wait_at(7, -1)));
-    let second = kernel.step(WRITER, in_process(wait_at(8, 50)));
+    let first = kernel.step(READER, in_process(wait_at(7, Timeout(-1))));
+    let second = kernel.step(WRITER, in_process(wait_at(8, Timeout(50))));
     matches!((first, second), (Answer::Parked, Answer::Parked))
 }
 
@@ -48,8 +48,11 @@ fn wait_for_both<K: Kernel>(kernel: &mut K) -> bool {
 pub(crate) fn let_end<K: Kernel>(rt: &HostRuntime, kernel: &mut K) -> io::Result<()> {
     open_timer(rt.alloc(), kernel)?;
     println!(rt; "both parked: {}", wait_for_both(kernel))?;
-    println!(rt; "next moment: {:?}", kernel.next_moment())?;
+    println!(rt;
+        "next moment: {:?}",
+        kernel.next_moment().map(|moment| moment.at())
+    )?;
     println!(rt; "nothing more to do: {}", drive(kernel, WRITER, 8))?;
     let parked = kernel.is_parked(READER) || kernel.is_parked(WRITER);
-    println!(rt; "at {} ms parked: {parked}", kernel.now())
+    println!(rt; "at {} ms parked: {parked}", kernel.now().at())
 }

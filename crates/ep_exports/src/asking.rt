@@ -17,7 +17,7 @@ pub extern "C" fn ep_now(alloc: Global, handle: &mut Handle, moment: &mut u64) -
     match handle.take(alloc) {
         None => -EBADF,
         Some(kernel) => {
-            *moment = kernel.now();
+            *moment = kernel.now().at();
             handle.put(kernel);
             0
         }
@@ -90,7 +90,7 @@ pub extern "C" fn ep_next_moment(alloc: Global, handle: &mut Handle, moment: &mu
             handle.put(kernel);
             match next {
                 Some(then) => {
-                    *moment = then;
+                    *moment = then.at();
                     1
                 }
                 None => 0,

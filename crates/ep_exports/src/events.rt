@@ -45,7 +45,7 @@ pub extern "C" fn ep_call(
                     Ok(None) => -ENOSYS,
                     Ok(Some(event)) => {
                         let answer = kernel.step(CallerId(request.caller), event);
-                        put_answer(&answer, kernel.now(), reply, bytes, reports);
+                        put_answer(&answer, kernel.now().at(), reply, bytes, reports);
                         0
                     }
                 }

@@ -49,7 +49,7 @@ pub extern "C" fn ep_recorded(
             let result = match kernel.history().get(place) {
                 None => -EINVAL,
                 Some(entry) => {
-                    put_answer(&entry.answer, kernel.now(), reply, bytes, reports);
+                    put_answer(&entry.answer, kernel.now().at(), reply, bytes, reports);
                     0
                 }
             };

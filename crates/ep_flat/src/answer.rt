@@ -78,8 +78,8 @@ fn reply_of(answer: &Answer, now: u64) -> FlatReply
         Answer::Bytes(given) => reply.result = given.as_slice().len() as i64,
         Answer::Events(given) => reply.result = given.as_slice().len() as i64,
         Answer::Time { value, interval } => {
-            reply.value = *value;
-            reply.interval = *interval;
+            reply.value = value.0;
+            reply.interval = interval.0;
         }
         Answer::Parked => reply.result = PARKED,
         Answer::Still => reply.result = PARKED,

@@ -3,7 +3,7 @@ ghost use Rattle.std.specs.Prelude.{◌≡◌, ◌<◌, ◌≤◌, ◌⊎◌, If
 ghost use Rattle.ep_flat.specs.Flat.{Asks, AsksCall, AsksNothing, lacks_room};
 
 use crate::flat::FlatRequest;
-use ep_base::{Buffer, Call, Event, Fd, Mask, Pid};
+use ep_base::{Buffer, Call, Event, Fd, Mask, Pid, Span, Timeout};
 use std::alloc::{AllocError, Global};
 
 /// The flags of a request.
@@ -54,7 +54,7 @@ fn call_of(alloc: Global, request: &FlatRequest, bytes: &[u8]) -> Result<Option<
         8 => Call::EpollWait {
             epfd: fd,
             max: request.number,
-            timeout: request.timeout,
+            timeout: Timeout(request.timeout),
         },
         9 => Call::Read {
             fd,
@@ -68,8 +68,8 @@ fn call_of(alloc: Global, request: &FlatRequest, bytes: &[u8]) -> Result<Option<
         12 => Call::SetTime {
             fd,
             absolute: request.flags & ABSOLUTE != 0,
-            value: request.value,
-            interval: request.interval,
+            value: Span(request.value),
+            interval: Span(request.interval),
         },
         13 => Call::GetTime { fd },
         14 => Call::Dup { fd },
@@ -97,7 +97,9 @@ pub fn event_of(
 {
     Ok(match request.event {
         20 => Some(Event::Resume),
-        21 => Some(Event::Tick { n: request.value }),
+        21 => Some(Event::Tick {
+            n: Span(request.value),
+        }),
         _ => match call_of(alloc, request, bytes)? {
             Some(call) => Some(Event::Call {
                 pid: Pid(request.pid),

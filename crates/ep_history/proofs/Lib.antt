@@ -1,4 +1,5 @@
 pub mod NumberLemmas
+pub mod FitsLemmas
 pub mod RunLemmas
 pub mod CallLemmas
 pub mod DataLemmas

@@ -1,8 +1,9 @@
 -- The texts of events and records, their members in the order of the keys.
-use Rattle.std.proofs.Common.{append_assoc, codes, decimal, false, map, refl, ℕ, List, ◌++◌, ◌≡◌}
+use Rattle.std.proofs.Common.{Bool, List, ap, append_assoc, codes, decimal, drop, false, get_or, length, map, refl, sym, true, ℕ, ◌++◌, ◌+◌, ◌<◌, ◌≡◌, ◌∙◌}
+use Rattle.std.proofs.lemmas.List.{drop_more}
 use Rattle.json.specs.Print.{escape_byte}
 use Rattle.serde_json.specs.View.{items_of}
-use Rattle.serde_json.specs.Written.{compact_text, items_text}
+use Rattle.serde_json.specs.Written.{comma_if, compact_text, items_text}
 use Rattle.ep_base.specs.declared.call.Call.{Call}
 use Rattle.ep_base.specs.declared.call.Event.TheVariants.{Call as CallOf, Tick}
 use Rattle.ep_base.specs.declared.ids.Pid.{Pid}
@@ -31,3 +32,10 @@ record_text r = refl
 pub eight_joined : (s a b c d e f g h i : List ℕ) → (((((((s ++ a) ++ b) ++ (c ++ d)) ++ e) ++ f) ++ g) ++ h) ++ i
     ≡ s ++ (a ++ (b ++ (c ++ (d ++ (e ++ (f ++ (g ++ (h ++ i))))))))
 eight_joined s a b c d e f g h i = simp append_assoc
+
+-- the next number of a list
+pub next_natural : (s t : List ℕ) (later : Bool) (ns : List ℕ) (i d : ℕ) → i < length ns → s ++ items_text later (items_of (map natural (drop i ns))) ≡ t
+    → (s ++ (comma_if later ++ decimal (get_or ns i d))) ++ items_text true (items_of (map natural (drop (i + 1) ns))) ≡ t
+next_natural s t later ns i d lt before =
+    append_assoc s _ _ ∙ ap (λ x. s ++ x) (append_assoc (comma_if later) (decimal (get_or ns i d)) _)
+    ∙ ap (λ ms. s ++ items_text later (items_of (map natural ms))) (sym (drop_more ns i d lt)) ∙ before

@@ -6,7 +6,7 @@ ghost use Rattle.ep_history.specs.Records.{call_event, event_of, other_events};
 
 use crate::fields::{required_u64, single, size};
 use crate::read_call::call_of;
-use ep_base::{Event, Pid};
+use ep_base::{Event, Pid, Span};
 use serde_json::Value;
 use std::alloc::{AllocError, Global};
 
@@ -43,7 +43,9 @@ fn other_event(key: &str, value: &Value) -> Option<Event>
                 None
             }
         }
-        "tick" => Some(Event::Tick { n: value.as_u64()? }),
+        "tick" => Some(Event::Tick {
+            n: Span(value.as_u64()?),
+        }),
         _ => None,
     }
 }

@@ -4,7 +4,7 @@
 use crate::cursor::Cursor;
 use crate::guess_answer::guess_answer;
 use crate::guess_call::{RawCall, guess_call};
-use ep_base::{CallerId, Event, Picked, Pid, Record};
+use ep_base::{CallerId, EntryNumber, Event, Picked, Pid, Record, Span};
 use smallvec::SmallVec;
 use std::alloc::Global;
 
@@ -40,7 +40,7 @@ fn event<'a>(line: &mut Cursor<'a>) -> Option<RawEvent<'a>> {
         return Some(RawEvent::Whole(Event::Resume));
     }
     line.expect(b"{\"tick\":")?;
-    let n = line.natural()?;
+    let n = Span(line.natural()?);
     Some(RawEvent::Whole(Event::Tick { n }))
 }
 
@@ -51,7 +51,7 @@ fn picked(alloc: Global, line: &mut Cursor<'_>) -> Option<Picked> {
         return Some(Picked::new(numbers));
     }
     for _ in 0..line.rest.len() {
-        numbers.push(line.natural()?).ok()?;
+        numbers.push(EntryNumber(line.natural()?)).ok()?;
         if !line.take(b",") {
             break;
         }

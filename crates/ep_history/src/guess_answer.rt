@@ -3,7 +3,7 @@
 use crate::cursor::Cursor;
 use crate::digits::decoded;
 use crate::read_answer::errno_of;
-use ep_base::{Answer, Bytes, Fd, Mask, Report, Reports};
+use ep_base::{Answer, Bytes, Fd, Mask, Report, Reports, Span};
 use smallvec::SmallVec;
 use std::alloc::Global;
 
@@ -51,9 +51,9 @@ fn two(line: &mut Cursor<'_>) -> Option<Answer> {
 }
 
 fn time(line: &mut Cursor<'_>) -> Option<Answer> {
-    let value = line.natural()?;
+    let value = Span(line.natural()?);
     line.expect(b",")?;
-    let interval = line.natural()?;
+    let interval = Span(line.natural()?);
     line.expect(b"]")?;
     Some(Answer::Time { value, interval })
 }

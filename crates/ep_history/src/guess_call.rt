@@ -2,7 +2,7 @@
 
 use crate::cursor::Cursor;
 use crate::digits::decoded;
-use ep_base::{Buffer, Call, Fd, Mask};
+use ep_base::{Buffer, Call, Fd, Mask, Span, Timeout};
 use std::alloc::Global;
 
 /// A call as it stands in a line: the bytes of a write are left as their digits, since these may be many, and the rest
@@ -36,9 +36,9 @@ fn settime(line: &mut Cursor<'_>) -> Option<Call> {
     line.expect(b",\"fd\":")?;
     let fd = fd(line)?;
     line.expect(b",\"interval\":")?;
-    let interval = line.natural()?;
+    let interval = Span(line.natural()?);
     line.expect(b",\"op\":\"settime\",\"value\":")?;
-    let value = line.natural()?;
+    let value = Span(line.natural()?);
     line.expect(b"}")?;
     Some(Call::SetTime {
         fd,
@@ -110,7 +110,7 @@ fn wait(line: &mut Cursor<'_>) -> Option<Call> {
     line.expect(b",\"max\":")?;
     let max = line.integer32()?;
     line.expect(b",\"op\":\"wait\",\"timeout\":")?;
-    let timeout = line.integer()?;
+    let timeout = Timeout(line.integer()?);
     line.expect(b"}")?;
     Some(Call::EpollWait { epfd, max, timeout })
 }

@@ -3,7 +3,7 @@ ghost use Rattle.std.specs.Prelude.{◌≡◌, IfOk};
 ghost use Rattle.serde_json.specs.View.{view};
 ghost use Rattle.ep_history.specs.Fields.{each_of, u64_value};
 
-use ep_base::Picked;
+use ep_base::{EntryNumber, Picked};
 use serde_json::Value;
 use smallvec::SmallVec;
 use std::alloc::{AllocError, Global};
@@ -20,7 +20,7 @@ pub(crate) fn picks_of(alloc: Global, value: &Value) -> Result<Option<Picked>, A
         let Some(number) = item.as_u64() else {
             return Ok(None);
         };
-        picked.push(number)?;
+        picked.push(EntryNumber(number))?;
     }
     Ok(Some(Picked::new(picked)))
 }

@@ -1,7 +1,7 @@
 //! A record to its line.
 ghost use Rattle.std.specs.Prelude.{◌≡◌, ◌++◌, ◌<◌, ◌^◌, OnOk, codes, decimal, false, map};
 ghost use Rattle.serde_json.specs.View.{items_of};
-ghost use Rattle.serde_json.specs.Written.{compact_text, items_text};
+ghost use Rattle.serde_json.specs.Written.{comma_if, compact_text, items_text};
 ghost use Rattle.ep_base.specs.declared.call.Event.TheVariants.{Call as CallOf, Tick};
 ghost use Rattle.ep_history.specs.Fields.{natural};
 ghost use Rattle.ep_history.specs.Fits.{AreLongs, EventFits, RecordFits};
@@ -10,7 +10,7 @@ ghost use Rattle.ep_history.specs.Records.{event_data, record_line};
 use crate::print_answer::push_answer;
 use crate::print_call::push_call;
 use crate::push::push_natural;
-use ep_base::{Call, CallerId, Event, Pid, Record};
+use ep_base::{Call, CallerId, EntryNumber, Event, Pid, Record, Span};
 use std::alloc::AllocError;
 
 fn push_call_event(out: &mut Vec<u8>, pid: Pid, call: &Call) -> Result<(), AllocError>
@@ -25,12 +25,12 @@ fn push_call_event(out: &mut Vec<u8>, pid: Pid, call: &Call) -> Result<(), Alloc
     Ok(())
 }
 
-fn push_tick(out: &mut Vec<u8>, n: u64) -> Result<(), AllocError>
+fn push_tick(out: &mut Vec<u8>, n: Span) -> Result<(), AllocError>
     ensures text { OnOk result (out.new.items
         ≡ out.old.items ++ compact_text (event_data (Tick n))) }
     ensures fits { OnOk result (EventFits (Tick n)) }
 {
-    push_natural(out, b"{\"tick\":", n)?;
+    push_natural(out, b"{\"tick\":", n.0)?;
     out.push(b'}')?;
     Ok(())
 }
@@ -48,19 +48,28 @@ fn push_event(out: &mut Vec<u8>, event: &Event) -> Result<(), AllocError>
     }
 }
 
+/// Puts a number, and a comma before it if it is a later one.
+fn push_next(out: &mut Vec<u8>, is_later: bool, number: EntryNumber) -> Result<(), AllocError>
+    ensures text { OnOk result (out.new.items
+        ≡ out.old.items ++ (comma_if is_later ++ decimal number)) }
+    ensures fits { OnOk result (number < 2 ^ 64) }
+{
+    if is_later {
+        push_natural(out, b",", number.0)
+    } else {
+        push_natural(out, b"", number.0)
+    }
+}
+
 /// Puts a list of numbers but for the bracket that opens it.
-fn push_naturals(out: &mut Vec<u8>, numbers: &[u64]) -> Result<(), AllocError>
+fn push_naturals(out: &mut Vec<u8>, numbers: &[EntryNumber]) -> Result<(), AllocError>
     ensures text { OnOk result (out.new.items
         ≡ out.old.items ++ items_text false (items_of (map natural numbers.now))) }
     ensures fits { OnOk result (AreLongs numbers.now) }
 {
     let mut is_later = false;
     for number in numbers {
-        if is_later {
-            push_natural(out, b",", *number)?;
-        } else {
-            push_natural(out, b"", *number)?;
-        }
+        push_next(out, is_later, *number)?;
         is_later = true;
     }
     out.push(b']')?;

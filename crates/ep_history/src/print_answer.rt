@@ -7,7 +7,7 @@ ghost use Rattle.ep_history.specs.Answers.{answer_data, report_data};
 ghost use Rattle.ep_history.specs.Fits.{AnswerFits, ReportFits};
 
 use crate::push::{push_descriptor, push_hex, push_natural};
-use ep_base::{Answer, Errno, Fd, Report};
+use ep_base::{Answer, Errno, Fd, Report, Span};
 use std::alloc::AllocError;
 
 fn push_num(out: &mut Vec<u8>, number: u64) -> Result<(), AllocError>
@@ -92,13 +92,13 @@ fn push_events(out: &mut Vec<u8>, reports: &[Report]) -> Result<(), AllocError>
     Ok(())
 }
 
-fn push_time(out: &mut Vec<u8>, value: u64, interval: u64) -> Result<(), AllocError>
+fn push_time(out: &mut Vec<u8>, value: Span, interval: Span) -> Result<(), AllocError>
     ensures text { OnOk result (out.new.items
         ≡ out.old.items ++ compact_text (answer_data (Time value interval))) }
     ensures fits { OnOk result (AnswerFits (Time value interval)) }
 {
-    push_natural(out, b"{\"time\":[", value)?;
-    push_natural(out, b",", interval)?;
+    push_natural(out, b"{\"time\":[", value.0)?;
+    push_natural(out, b",", interval.0)?;
     out.extend_from_slice(b"]}")?;
     Ok(())
 }

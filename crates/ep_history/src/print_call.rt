@@ -9,7 +9,7 @@ ghost use Rattle.ep_history.specs.Fits.{CallFits, FdFits};
 
 use crate::print_write::push_write;
 use crate::push::{push_descriptor, push_flag, push_integer, push_natural};
-use ep_base::{Call, Fd, Mask};
+use ep_base::{Call, Fd, Mask, Span, Timeout};
 use std::alloc::AllocError;
 
 /// Puts an object with this flag and the text behind it.
@@ -82,14 +82,14 @@ fn push_ctl(
     Ok(())
 }
 
-fn push_wait(out: &mut Vec<u8>, epfd: Fd, max: i32, timeout: i64) -> Result<(), AllocError>
+fn push_wait(out: &mut Vec<u8>, epfd: Fd, max: i32, timeout: Timeout) -> Result<(), AllocError>
     ensures text { OnOk result (out.new.items
         ≡ out.old.items ++ compact_text (call_data (EpollWait epfd max timeout))) }
     ensures fits { OnOk result (CallFits (EpollWait epfd max timeout)) }
 {
     push_descriptor(out, b"{\"ep\":", epfd)?;
     push_integer(out, b",\"max\":", i64::from(max))?;
-    push_integer(out, b",\"op\":\"wait\",\"timeout\":", timeout)?;
+    push_integer(out, b",\"op\":\"wait\",\"timeout\":", timeout.0)?;
     out.push(b'}')?;
     Ok(())
 }
@@ -109,8 +109,8 @@ fn push_settime(
     out: &mut Vec<u8>,
     fd: Fd,
     absolute: bool,
-    value: u64,
-    interval: u64,
+    value: Span,
+    interval: Span,
 ) -> Result<(), AllocError>
     ensures text { OnOk result (out.new.items
         ≡ out.old.items ++ compact_text (call_data (SetTime fd absolute value interval))) }
@@ -118,8 +118,8 @@ fn push_settime(
 {
     push_flag(out, b"{\"abs\":", absolute)?;
     push_descriptor(out, b",\"fd\":", fd)?;
-    push_natural(out, b",\"interval\":", interval)?;
-    push_natural(out, b",\"op\":\"settime\",\"value\":", value)?;
+    push_natural(out, b",\"interval\":", interval.0)?;
+    push_natural(out, b",\"op\":\"settime\",\"value\":", value.0)?;
     out.push(b'}')?;
     Ok(())
 }

@@ -6,7 +6,7 @@ ghost use Rattle.ep_history.specs.Fields.{each_of, named};
 
 use crate::bytes::hex_bytes;
 use crate::fields::{i32_value, pair_of, single, u32_value};
-use ep_base::{Answer, Bytes, Errno, Fd, Mask, Report, Reports};
+use ep_base::{Answer, Bytes, Errno, Fd, Mask, Report, Reports, Span};
 use serde_json::Value;
 use smallvec::SmallVec;
 use std::alloc::{AllocError, Global};
@@ -74,8 +74,8 @@ fn time_answer(value: &Value) -> Option<Answer>
     ensures { result ≡ time_answer (view value.now) }
 {
     let (value, interval) = pair_of(value)?;
-    let value = value.as_u64()?;
-    let interval = interval.as_u64()?;
+    let value = Span(value.as_u64()?);
+    let interval = Span(interval.as_u64()?);
     Some(Answer::Time { value, interval })
 }
 

@@ -7,7 +7,7 @@ ghost use Rattle.ep_history.specs.Fields.{named, size};
 
 use crate::bytes::written;
 use crate::fields::{required_flag, required_i32, required_i64, required_u32, required_u64, size};
-use ep_base::{Call, Fd, Mask};
+use ep_base::{Call, Fd, Mask, Span, Timeout};
 use serde_json::Value;
 use std::alloc::{AllocError, Global};
 
@@ -82,7 +82,7 @@ fn wait_call(value: &Value) -> Option<Call>
 {
     let epfd = Fd(required_i32(value, "ep")?);
     let max = required_i32(value, "max")?;
-    let timeout = required_i64(value, "timeout")?;
+    let timeout = Timeout(required_i64(value, "timeout")?);
     Some(Call::EpollWait { epfd, max, timeout })
 }
 
@@ -118,8 +118,8 @@ fn settime_call(line: &Value) -> Option<Call>
 {
     let fd = Fd(required_i32(line, "fd")?);
     let absolute = required_flag(line, "abs")?;
-    let value = required_u64(line, "value")?;
-    let interval = required_u64(line, "interval")?;
+    let value = Span(required_u64(line, "value")?);
+    let interval = Span(required_u64(line, "interval")?);
     Some(Call::SetTime {
         fd,
         absolute,

@@ -22,7 +22,7 @@ use crate::rows::Rows;
 use crate::stop::stop_each;
 use crate::touched::Touched;
 use bitflags::Flags;
-use ep_base::{DescId, EntryId, Fd, Mask};
+use ep_base::{DescId, EntryId, EntryNumber, EventNumber, Fd, Mask};
 use indexmap::IndexMap;
 use slab::Slab;
 use std::alloc::{AllocError, Allocator, Global};
@@ -83,7 +83,7 @@ fn refresh(entry: &mut Entry, desc: DescId, bits: Mask)
 }
 
 /// Notes in a registration that these bits were raised at a description in an event.
-fn note_raise(entry: &mut Entry, desc: DescId, bits: Mask, event: u64)
+fn note_raise(entry: &mut Entry, desc: DescId, bits: Mask, event: EventNumber)
     ensures { entry.new ≡ raised_on desc bits event entry.old }
 {
     if entry.desc.0 != desc.0 {
@@ -104,7 +104,7 @@ fn raise_one<A: Allocator>(
     id: EntryId,
     desc: DescId,
     bits: Mask,
-    event: u64,
+    event: EventNumber,
 )
     requires held { IsSome (slice_index_or slots.old.slots id.0 None) }
     requires passing { ArePassing slots.old.slots passes.old.keys.items }
@@ -120,7 +120,7 @@ fn raise_one<A: Allocator>(
     let before = entry.passes_in;
     note_raise(entry, desc, bits, event);
     let after = entry.passes_in;
-    passes.follow(id, before > 0, after > 0);
+    passes.follow(id, before.is_event(), after.is_event());
 }
 
 /// Notes it in each of these registrations, one after another.
@@ -130,7 +130,7 @@ fn raise_each<A: Allocator>(
     watchers: Watchers<'_>,
     desc: DescId,
     bits: Mask,
-    event: u64,
+    event: EventNumber,
 )
     requires held { AllHeld slots.old.slots watchers }
     requires passing { ArePassing slots.old.slots passes.old.keys.items }
@@ -167,7 +167,7 @@ fn freshen_each<A: Allocator>(
 fn rest(entry: &mut Entry)
     ensures { entry.new ≡ settled entry.old }
 {
-    entry.passes_in = 0;
+    entry.passes_in = EventNumber(0);
 }
 
 /// Whether a registration is armed after a report: a one-shot is not.
@@ -388,7 +388,7 @@ impl<A: Allocator> Interest<A> {
         let number = self.added + 1;
         let key = Key::new(addition.instance, addition.fd, addition.desc);
         self.by_key.insert(key, id).unwrap();
-        let entry = Entry::new(number, addition);
+        let entry = Entry::new(EntryNumber(number), addition);
         self.guards = with_one(self.guards, is_exclusive(&entry));
         self.slots.insert_reserved(entry);
         let _room = self.slots.capacity();
@@ -449,7 +449,7 @@ impl<A: Allocator> Interest<A> {
 
     /// Notes that an event reports the registration under a key, as epoll_wait(2) does: nothing arrived since, and a
     /// one-shot is disarmed. The cost doesn't grow with the registrations.
-    pub fn report(&mut self, id: EntryId, event: u64)
+    pub fn report(&mut self, id: EntryId, event: EventNumber)
         requires { IsSome (number_under self.old id) }
         ensures entries { self.new.entries
             ≡ map (reported (unwrap_or (number_under self.old id) 0) event) self.old.entries }
@@ -491,7 +491,7 @@ impl<A: Allocator> Interest<A> {
     /// Notes that an event raised these bits at a description. Each registration on it whose mask asks for one of
     /// them, ERR and HUP unasked, is fresh; one that is armed passes them on in this event. Only those on it are
     /// visited, and the first is found in constant time.
-    pub fn raise(&mut self, desc: DescId, bits: Mask, event: u64)
+    pub fn raise(&mut self, desc: DescId, bits: Mask, event: EventNumber)
         ensures entries { self.new.entries ≡ map (raised_on desc bits event) self.old.entries }
         ensures keys { self.new.keys ≡ self.old.keys }
         ensures added { self.new.added ≡ self.old.added }
@@ -511,7 +511,7 @@ impl<A: Allocator> Interest<A> {
 
     /// Of the exclusive registrations on a description the one with this number passes on what it does, and the others
     /// nothing any more. Those on the description are visited. It takes no memory.
-    pub fn keep_passing(&mut self, desc: DescId, keep: Option<u64>)
+    pub fn keep_passing(&mut self, desc: DescId, keep: Option<EntryNumber>)
         ensures entries { self.new.entries ≡ map (kept_passing desc keep) self.old.entries }
         ensures keys { self.new.keys ≡ self.old.keys }
         ensures added { self.new.added ≡ self.old.added }
@@ -519,7 +519,7 @@ impl<A: Allocator> Interest<A> {
     {
         let keys = self.by_target.keys(desc);
         let watchers = Watchers { keys };
-        stop_each(&mut self.slots, &mut self.passes, watchers, desc, keep);
+        stop_each(&mut self.slots, &mut self.passes, watchers, desc, &keep);
     }
 
     /// Notes what reached a description from below, where nothing is left to pass on: each registration on it
@@ -568,7 +568,7 @@ impl<A: Allocator> Interest<A> {
     {
         let entry = self.slots.remove(id.0);
         self.guards = without_one(self.guards, is_exclusive(&entry));
-        self.passes.follow(id, entry.passes_in > 0, false);
+        self.passes.follow(id, entry.passes_in.is_event(), false);
         let key = Key::new(entry.instance, entry.fd, entry.desc);
         self.by_key.swap_remove(&key);
         self.by_instance.remove(entry.instance, id);

@@ -8,26 +8,26 @@ ghost use Rattle.ep_interest.specs.Passes.{ArePassing};
 use crate::entries::{Watchers, is_exclusive};
 use crate::entry::Entry;
 use crate::passes::Passes;
-use ep_base::{DescId, EntryId};
+use ep_base::{DescId, EntryId, EntryNumber, EventNumber};
 use slab::Slab;
 use std::alloc::Allocator;
 
 /// Whether this is the number that is kept.
-fn is_number(keep: Option<u64>, number: u64) -> bool
+fn is_number(keep: Option<EntryNumber>, number: EntryNumber) -> bool
     ensures { result ≡ has_number keep number }
 {
     match keep {
-        Some(kept) => kept == number,
+        Some(kept) => kept.0 == number.0,
         None => false,
     }
 }
 
 /// An exclusive registration on a description passes nothing on any more, unless it has this number.
-fn stop(entry: &mut Entry, desc: DescId, keep: Option<u64>)
+fn stop(entry: &mut Entry, desc: DescId, keep: Option<EntryNumber>)
     ensures { entry.new ≡ kept_passing desc keep entry.old }
 {
     if entry.desc.0 == desc.0 && is_exclusive(entry) && !is_number(keep, entry.number) {
-        entry.passes_in = 0;
+        entry.passes_in = EventNumber(0);
     }
 }
 
@@ -37,7 +37,7 @@ fn stop_one<A: Allocator>(
     passes: &mut Passes<A>,
     id: EntryId,
     desc: DescId,
-    keep: Option<u64>,
+    keep: Option<EntryNumber>,
 )
     requires held { IsSome (slice_index_or slots.old.slots id.0 None) }
     requires passing { ArePassing slots.old.slots passes.old.keys.items }
@@ -53,27 +53,28 @@ fn stop_one<A: Allocator>(
     let before = entry.passes_in;
     stop(entry, desc, keep);
     let after = entry.passes_in;
-    passes.follow(id, before > 0, after > 0);
+    passes.follow(id, before.is_event(), after.is_event());
 }
 
-/// The same of each of these registrations, one after another.
+/// The same of each of these registrations, one after another. The prover follows `keep` through a loop only behind a
+/// reference.
 pub(crate) fn stop_each<A: Allocator>(
     slots: &mut Slab<Entry, A>,
     passes: &mut Passes<A>,
     watchers: Watchers<'_>,
     desc: DescId,
-    keep: Option<u64>,
+    keep: &Option<EntryNumber>,
 )
     requires held { AllHeld slots.old.slots watchers }
     requires passing { ArePassing slots.old.slots passes.old.keys.items }
     requires room { length slots.old.slots ≤ vec_capacity passes.old.keys }
     ensures slots { slots.new.slots
-        ≡ changed_at (kept_passing desc keep) watchers.entry slots.old.slots }
+        ≡ changed_at (kept_passing desc keep.now) watchers.entry slots.old.slots }
     ensures next { slots.new.vacant_key ≡ slots.old.vacant_key }
     ensures passing { ArePassing slots.new.slots passes.new.keys.items }
     ensures room { length slots.new.slots ≤ vec_capacity passes.new.keys }
 {
     for id in watchers {
-        stop_one(slots, passes, id, desc, keep);
+        stop_one(slots, passes, id, desc, *keep);
     }
 }

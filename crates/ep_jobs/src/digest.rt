@@ -70,8 +70,8 @@ impl Digest {
             }
             Answer::Time { value, interval } => {
                 self.note(5);
-                self.note(*value);
-                self.note(*interval);
+                self.note(value.0);
+                self.note(interval.0);
             }
             Answer::Parked => self.note(6),
             Answer::Still => self.note(7),

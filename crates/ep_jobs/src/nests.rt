@@ -3,7 +3,7 @@
 use crate::fault::Fault;
 use crate::kernels::Done;
 use crate::run::{CLIENT, Run};
-use ep_base::{Call, Fd, Mask};
+use ep_base::{Call, Fd, Mask, Timeout};
 use ep_plain::Kernel;
 use std::alloc::AllocError;
 
@@ -55,7 +55,7 @@ fn round<K: Kernel>(
     let wait = Call::EpollWait {
         epfd: outer,
         max: 8,
-        timeout: 0,
+        timeout: Timeout(0),
     };
     run.ask(kernel, CLIENT, wait);
     run.ask(kernel, CLIENT, Call::Read { fd: *leaf, n: 8 });

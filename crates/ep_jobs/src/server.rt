@@ -1,7 +1,7 @@
 //! A server: connections, workers that wait for them, and timers.
 
 use crate::run::{CLIENT, Run};
-use ep_base::{Answer, Call, CallerId, Event, Fd, Mask, Reports};
+use ep_base::{Answer, Call, CallerId, Event, Fd, Mask, Reports, Span, Timeout};
 use ep_plain::Kernel;
 use std::alloc::AllocError;
 
@@ -65,8 +65,8 @@ fn open_timer<K: Kernel>(run: &mut Run, kernel: &mut K, instance: Fd) {
     let call = Call::SetTime {
         fd,
         absolute: false,
-        value: 1 + u64::from(run.draw.below(500)),
-        interval: 200 + u64::from(run.draw.below(2_000)),
+        value: Span(1 + u64::from(run.draw.below(500))),
+        interval: Span(200 + u64::from(run.draw.below(2_000))),
     };
     run.ask(kernel, CLIENT, call);
 }
@@ -211,7 +211,7 @@ impl Server {
 
     /// The clock goes on.
     fn tick<K: Kernel>(&self, run: &mut Run, kernel: &mut K) {
-        let n = u64::from(run.draw.below(40));
+        let n = Span(u64::from(run.draw.below(40)));
         run.make(kernel, CLIENT, Event::Tick { n });
     }
 
@@ -220,7 +220,7 @@ impl Server {
         let call = Call::EpollWait {
             epfd: self.outer,
             max: 16,
-            timeout: 0,
+            timeout: Timeout(0),
         };
         run.ask(kernel, CLIENT, call);
     }
@@ -236,9 +236,9 @@ impl Server {
             run.make(kernel, worker, Event::Resume)
         } else {
             let timeout = if run.draw.one_in(2) {
-                -1
+                Timeout(-1)
             } else {
-                i64::from(run.draw.below(100))
+                Timeout(i64::from(run.draw.below(100)))
             };
             let call = Call::EpollWait {
                 epfd: *instance,

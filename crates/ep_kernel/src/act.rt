@@ -21,7 +21,7 @@ ghost use Rattle.ep_ready.specs.ReadyLists.{Same};
 use crate::control::epoll_ctl;
 use crate::notes::Notes;
 use crate::wait::{epoll_wait, resume};
-use ep_base::{Call, CallerId, Errno, Event, Pid};
+use ep_base::{Call, CallerId, Errno, Event, EventNumber, Pid};
 use ep_calls::{Control, Outcome, Parts, Wait};
 use ep_ready::ReadyLists;
 use std::alloc::AllocError;
@@ -30,7 +30,7 @@ use std::alloc::AllocError;
 #[derive(Clone, Copy)]
 pub struct Request {
     /// The number of the event.
-    pub step: u64,
+    pub step: EventNumber,
     /// Who makes it.
     pub caller: CallerId,
     /// Whether a second record of it is asked for.

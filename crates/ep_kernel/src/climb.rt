@@ -6,6 +6,7 @@ ghost use Rattle.ep_kernel.specs.Listed.{HavePlaces};
 ghost use Rattle.ep_kernel.specs.Push.{Gains, comes_in};
 
 use crate::push::push;
+use ep_base::EventNumber;
 use ep_calls::Parts;
 use ep_climb::{freshen, reach};
 use ep_ready::{ReadyLists, Walk};
@@ -20,7 +21,7 @@ pub fn climb(
     lists: &mut ReadyLists,
     hopes: &mut ReadyLists,
     reached: &mut Walk<Global>,
-    step: u64,
+    step: EventNumber,
 )
     requires step { 0 < step }
     requires places { HavePlaces parts.old.interest lists.old }

@@ -9,7 +9,7 @@ ghost use Rattle.ep_machine.specs.Marks.{marked_by};
 use crate::asked::Asked;
 use crate::notes::Notes;
 use crate::readiness::is_ready;
-use ep_base::DescId;
+use ep_base::{DescId, EventNumber};
 use ep_calls::Parts;
 use ep_climb::Readiness;
 
@@ -23,7 +23,7 @@ impl Readiness for Asked {
 
 /// Sets marks at the end of an event, as ep_choice does, by what the hopes tell. Each instance below those that are
 /// looked at is asked once. All that is reportable stays among the hopes.
-pub fn mark(parts: &mut Parts, notes: &mut Notes, attend: Option<DescId>, step: u64)
+pub fn mark(parts: &mut Parts, notes: &mut Notes, attend: Option<DescId>, step: EventNumber)
     requires step { 0 < step }
     requires hopes { HopesFor parts.old notes.old.asked.hopes }
     requires fits { Fits parts.old notes.old.reached notes.old.choice }

@@ -28,7 +28,7 @@ fn passes(interest: &Interest, id: EntryId) -> bool
     ensures { result ≡ passes_found (entry_under interest.now id) }
 {
     match interest.get(id) {
-        Some(entry) => entry.passes_in > 0 && may_stand(entry),
+        Some(entry) => entry.passes_in.0 > 0 && may_stand(entry),
         None => false,
     }
 }

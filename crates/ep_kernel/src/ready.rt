@@ -22,7 +22,7 @@ use crate::act::{Request, act};
 use crate::notes::Notes;
 use crate::settle::{know, rest, spread};
 use ep_alarms::{Alarms, find_called};
-use ep_base::{Answer, CallerId, Errno, Event, Limits, Record};
+use ep_base::{Answer, CallerId, Errno, Event, EventNumber, Limits, Moment, Record};
 use ep_calls::{Kernel, Parts, Spare};
 use ep_climb::{attend, left, resumed_at};
 use ep_law::laws::{ends_are_apart, reportables_are_spread};
@@ -142,7 +142,7 @@ impl ReadyKernel {
     {
         self.history.reserve(1)?;
         let has_room = self.alarms.make_room(&event);
-        let step = self.history.len() as u64 + 1;
+        let step = EventNumber(self.history.len() as u64 + 1);
         know_laws(&self.parts, &self.lists);
         let called = find_called(&self.parts, &event);
         let resumed = resumed_at(&self.parts, caller, &event);
@@ -163,13 +163,15 @@ impl ReadyKernel {
             .follow(&self.parts, &event, called, &outcome, has_room);
         let raising = outcome.raising;
         let (answer, spare, record) = outcome.into_record(caller, event, kept);
+        // A copy, since the prover takes what is passed on as moved.
+        let raised = raising;
         spread(
             &mut self.parts,
             &mut self.lists,
             &mut self.notes,
             &mut self.alarms,
             step,
-            raising,
+            raised,
         );
         self.lists.known();
         let attended = attend(left(&self.parts, caller, resumed), raising);
@@ -283,7 +285,7 @@ impl Kernel for ReadyKernel {
         self.parts.tables.limits()
     }
 
-    fn now(&self) -> u64 {
+    fn now(&self) -> Moment {
         self.parts.clock
     }
 
@@ -299,7 +301,7 @@ impl Kernel for ReadyKernel {
         self.parts.first_marked()
     }
 
-    fn next_moment(&self) -> Option<u64> {
+    fn next_moment(&self) -> Option<Moment> {
         know(&self.parts);
         self.parts.next_moment_with(self.alarms.earliest())
     }

@@ -20,7 +20,7 @@ use crate::mark::mark;
 use crate::notes::Notes;
 use crate::places::drop_dying;
 use ep_alarms::{Alarms, burial_leaves_alarms};
-use ep_base::DescId;
+use ep_base::{DescId, EventNumber};
 use ep_calls::{Parts, Raising};
 use ep_choice::note_dying;
 use ep_ready::ReadyLists;
@@ -44,7 +44,7 @@ pub fn spread(
     lists: &mut ReadyLists,
     notes: &mut Notes,
     alarms: &mut Alarms,
-    step: u64,
+    step: EventNumber,
     raising: Raising,
 )
     requires step { 0 < step }
@@ -86,7 +86,7 @@ pub fn spread(
 /// Sets marks, and forgets what was passed on in an event, and what was lost. All that is reportable stays among the
 /// hopes.
 #[inline(always)]
-pub fn rest(parts: &mut Parts, notes: &mut Notes, attend: Option<DescId>, step: u64)
+pub fn rest(parts: &mut Parts, notes: &mut Notes, attend: Option<DescId>, step: EventNumber)
     requires step { 0 < step }
     requires hopes { HopesFor parts.old notes.old.asked.hopes }
     requires fits { Fits parts.old notes.old.reached notes.old.choice }

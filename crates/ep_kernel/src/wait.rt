@@ -18,7 +18,7 @@ ghost use Rattle.ep_park.specs.Waiters.{is_caller};
 use crate::asked::Asked;
 use crate::choose::choose;
 use crate::take::take;
-use ep_base::{Answer, CallerId, Errno};
+use ep_base::{Answer, CallerId, Errno, EventNumber};
 use ep_calls::{Outcome, Parts, Raising, Wait, find_instance};
 use ep_ready::ReadyLists;
 use std::alloc::AllocError;
@@ -32,15 +32,15 @@ fn most(max: i32) -> usize
 }
 
 /// epoll_wait(2): at most `max` reports of what is reportable at an instance now, in the order of its ready list.
-/// Where nothing is, no report with a timeout of 0, and else the caller is parked until it is marked, `timeout`
-/// milliseconds at most, and without end where that is negative. Refused with EINVAL for a `max` below 1 or no
-/// instance, and with EBADF where `epfd` names nothing. A refusal and an `Err`, which is want of memory, leave the
-/// parts and the lists. An `Err` comes only if nothing refuses the call.
+/// If nothing is, no report with a timeout of 0, and else the caller is parked until it is marked: for the timeout at
+/// most, and without end if that is negative. Refused with EINVAL for a `max` below 1 or no instance, and with EBADF
+/// if `epfd` names nothing. A refusal and an `Err`, which is want of memory, leave the parts and the lists. An `Err`
+/// comes only if nothing refuses the call.
 pub fn epoll_wait(
     parts: &mut Parts,
     lists: &mut ReadyLists,
     asked: &mut Asked,
-    step: u64,
+    step: EventNumber,
     caller: CallerId,
     args: Wait,
 ) -> Result<Outcome, AllocError>
@@ -66,7 +66,9 @@ pub fn epoll_wait(
     ensures err { OnErr result (parts.new ≡ parts.old) }
     ensures err_lists { OnErr result (lists.new ≡ lists.old) }
 {
-    let instance = match find_instance(&parts.tables, args) {
+    // A copy, since the prover takes what is passed on as moved.
+    let wanted = args;
+    let instance = match find_instance(&parts.tables, wanted) {
         Ok(instance) => instance,
         Err(errno) => return Ok(Outcome::refused(parts.alloc, errno)),
     };
@@ -88,7 +90,7 @@ pub fn resume(
     parts: &mut Parts,
     lists: &mut ReadyLists,
     asked: &mut Asked,
-    step: u64,
+    step: EventNumber,
     caller: CallerId,
     kept: bool,
 ) -> Result<Outcome, AllocError>

@@ -90,7 +90,7 @@ impl Script for List {
         let answers = run(&mut kernel, events(alloc)?)?;
         assert_eq!(rt; lines_of(alloc, &answers)?.as_str(), ANSWERS);
         assert!(rt; is_run(alloc, &kernel, SCRIPT.lines().count()));
-        assert!(rt; kernel.now() == 5 && ends_marked(&kernel));
+        assert!(rt; kernel.now().at() == 5 && ends_marked(&kernel));
         Ok(())
     }
 }

@@ -62,7 +62,7 @@ fn seen<K: Kernel>(kernel: &K) -> (usize, u64, [(bool, bool); 3]) {
         waits(kernel, CallerId(1)),
         waits(kernel, CallerId(2)),
     ];
-    (kernel.history().len(), kernel.now(), waiting)
+    (kernel.history().len(), kernel.now().at(), waiting)
 }
 
 /// The answer to a line, which is asked again where memory is refused. `None` where a refusal changed the kernel, or

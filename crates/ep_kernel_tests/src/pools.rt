@@ -4,7 +4,7 @@ ghost use Rattle.std.specs.Prelude.{◌≡◌, [], IfOk};
 use crate::gates::{BothHere, Shut};
 use crate::sessions::{PROCESS, count_of};
 use ep_audit::audit;
-use ep_base::{Answer, Buffer, Call, CallerId, Fd, Limits, Mask, Record};
+use ep_base::{Answer, Buffer, Call, CallerId, Fd, Limits, Mask, Record, Span, Timeout};
 use ep_kernel::ReadyKernel;
 use ep_plain::{Kernel, PlainKernel};
 use ep_pool::{Gate, Job, PoolReport, Step, run_sessions};
@@ -76,7 +76,7 @@ fn wait() -> Step {
         pid: PROCESS,
         epfd: Fd(4),
         max: 1,
-        timeout: -1,
+        timeout: Timeout(-1),
     }
 }
 
@@ -191,7 +191,7 @@ fn one_wakes_the_other<K: Kernel + Drop + Send, L: Ledger + Send + Sync, R: Thre
 
 /// A job of one step.
 fn one_step<L: Ledger>(alloc: Global, session: Session<L>) -> Result<Job<L>, AllocError> {
-    let steps = vec![in alloc; Step::Tick { n: 1 }]?;
+    let steps = vec![in alloc; Step::Tick { n: Span(1) }]?;
     Ok(Job { session, steps })
 }
 

@@ -3,7 +3,9 @@ ghost use Rattle.std.specs.Prelude.{◌≡◌, []};
 
 use crate::kernels::{Script, on_both_kernels};
 use ep_audit::audit;
-use ep_base::{Answer, Buffer, Call, CallerId, Errno, Event, Fd, Limits, Mask, Pid, Record};
+use ep_base::{
+    Answer, Buffer, Call, CallerId, Errno, Event, Fd, Limits, Mask, Pid, Record, Span, Timeout,
+};
 use ep_plain::Kernel;
 use ep_shared::laws::same_parts;
 use ep_shared::{Book, FinishFault, History, Session, Shared};
@@ -35,7 +37,7 @@ fn parks<K: Kernel + Drop, L: Ledger>(rt: &impl Wait, shared: &Shared<K, L>, one
         Call::EpollWait {
             epfd: Fd(4),
             max: 1,
-            timeout: -1,
+            timeout: Timeout(-1),
         },
     ];
     for call in calls {
@@ -81,7 +83,7 @@ fn both_ask<K: Kernel + Drop, L: Ledger>(
     writes(rt, alloc, shared, two)?;
     let _ = shared.resume_wait(rt, one);
     let _ = shared.resume_wait(rt, one);
-    let _ = shared.tick(rt, two, 5);
+    let _ = shared.tick(rt, two, Span(5));
     Ok(parked && parked_are(rt, shared, &[]))
 }
 
@@ -277,7 +279,7 @@ fn limits_agree<K: Kernel + Drop, L: Ledger, R: Abort + AllocGlobal>(
 {
     let (mut book, mut sessions) = Book::<K, L>::open(rt.alloc(), blank, kernel, 2)?;
     if let Some(one) = sessions.first_mut() {
-        let _ = book.act(one, Event::Tick { n: 1 });
+        let _ = book.act(one, Event::Tick { n: Span(1) });
     }
     assert!(rt; is_closed(rt.alloc(), book, &Limits::default(), sessions));
     Ok(())

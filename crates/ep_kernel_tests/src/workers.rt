@@ -6,7 +6,7 @@ use crate::gates::{InRounds, Open, WORKERS};
 use crate::pools::{check, write};
 use crate::sessions::PROCESS;
 use ep_audit::audit;
-use ep_base::{Answer, Call, Errno, Fd, Limits, Mask, Record};
+use ep_base::{Answer, Call, Errno, Fd, Limits, Mask, Record, Timeout};
 use ep_kernel::ReadyKernel;
 use ep_plain::{Kernel, PlainKernel};
 use ep_pool::{Gate, Job, PoolReport, Step, run_sessions};
@@ -95,7 +95,7 @@ fn works<L: Ledger>(alloc: Global, session: Session<L>) -> Result<Job<L>, AllocE
             pid: PROCESS,
             epfd,
             max: 1,
-            timeout: -1,
+            timeout: Timeout(-1),
         })?;
         steps.push(Step::Call {
             pid: PROCESS,

@@ -5,6 +5,7 @@ use Rattle.ep_base.specs.declared.answer.Answer.{Answer}
 use Rattle.ep_base.specs.declared.answer.Answer.TheVariants.{Bytes, Time}
 use Rattle.ep_base.specs.declared.errno.Errno.{Errno}
 use Rattle.ep_base.specs.declared.errno.Errno.TheVariants.{Eagain, Einval}
+pub use Rattle.ep_base.specs.Time.{last_moment}
 use Rattle.ep_machine.specs.Bits.{IN, nothing, raises, when}
 use Rattle.ep_machine.specs.Effect.{Effect, to_bytes}
 
@@ -12,9 +13,6 @@ pub record Timer : Type 0 where
   pub first_moment : Option ℕ
   pub interval : ℕ
   pub taken : ℕ  -- expirations that were read
-
-abbrev pub last_moment : ℕ
-last_moment = 1000000000000
 
 abbrev pub new_timer : Timer
 new_timer = record { first_moment = None; interval = 0; taken = 0 }

@@ -5,11 +5,11 @@ ghost use Rattle.ep_machine.specs.Effect.{attempt};
 ghost use Rattle.ep_machine.specs.Objects.{advance, close_end, counter, gettime, instance, is_instance, is_pair, is_plain, is_timer, object_effect, object_present, object_refusals, pair, pipe, plain, read, read_refusals, settime, shutdown, timer, write, write_refusals};
 ghost use Rattle.ep_machine.specs.Pipe.{new_pipe};
 ghost use Rattle.ep_machine.specs.Sockets.{new_pair};
-ghost use Rattle.ep_machine.specs.Timer.{last_moment, new_timer, timer_set_refusals};
+ghost use Rattle.ep_machine.specs.Timer.{new_timer, timer_set_refusals};
 ghost use Rattle.ep_object.specs.Memory.{asked_of, object_waiting};
 ghost use Rattle.ep_object.specs.Next.{IsNextMoment};
 
-use ep_base::{Answer, Buffer, Bytes, Call, Errno, Mask};
+use ep_base::{Answer, Buffer, Bytes, Call, Errno, Mask, Moment, Span};
 use ep_counters::{EventFd, Timer};
 use ep_stream::{End, Pipe, Raised, SockPair};
 use std::alloc::{AllocError, Global};
@@ -36,9 +36,6 @@ enum Kind {
 
 /// An object, which its ends' open file descriptions share. A pipe and a socket pair have two ends,
 /// any other object has the first alone.
-///
-/// The moments that a caller hands in are those of the simulated clock: milliseconds since it began,
-/// at most 1,000,000,000,000.
 #[derive(Drop)]
 pub struct Object {
     kind: Kind,
@@ -127,8 +124,7 @@ impl Object {
 
     /// The bits that hold at this end at the moment `now`, as poll(2) would report them. None hold of
     /// a plain file, nor of an instance, which is judged by its registrations.
-    pub fn present(&self, end: End, now: u64) -> Mask
-        requires { now ≤ last_moment }
+    pub fn present(&self, end: End, now: Moment) -> Mask
         ensures { result.0 ≡ object_present self.now end now }
     {
         match &self.kind {
@@ -154,8 +150,7 @@ impl Object {
 
     /// The first moment after `now` at which the clock raises IN: where a timer's unread expirations
     /// go from none to some. `None` where there is none, and of any other object.
-    pub fn next(&self, now: u64) -> Option<u64>
-        requires { now ≤ last_moment }
+    pub fn next(&self, now: Moment) -> Option<u64>
         ensures { IsNextMoment self.now now result }
     {
         match &self.kind {
@@ -166,9 +161,7 @@ impl Object {
 
     /// What the clock raises as it goes on from `old` to `new`: IN where a timer's unread expirations
     /// go from none to some, else nothing.
-    pub fn advance(&self, old: u64, new: u64) -> Raised
-        requires old { old ≤ last_moment }
-        requires new { new ≤ last_moment }
+    pub fn advance(&self, old: Moment, new: Moment) -> Raised
         ensures { result ≡ raises (advance self.now old new) 0 }
     {
         match &self.kind {
@@ -199,13 +192,17 @@ impl Object {
     ///   own type says. A plain file gives no bytes and takes all.
     /// - shutdown(2) with SHUT_WR answers `Done`: ENOTSOCK of anything but a socket pair.
     /// - timerfd_settime(2) and timerfd_gettime(2) answer the setting that the timer had: EINVAL of
-    ///   anything but a timer, and for a `value` or `interval` above 1,000,000,000,000.
+    ///   anything but a timer, and for a `value` or `interval` above `LAST_MOMENT`.
     ///
     /// Any other call is no call on an object: it answers `Done`, and changes and raises nothing.
     /// An `AllocError` leaves the object, and comes only from a read of a pipe or a socket pair of more
     /// than 16 bytes where more than 16 wait.
-    pub fn apply(&mut self, end: End, now: u64, call: &Call) -> Result<(Answer, Raised), AllocError>
-        requires { now ≤ last_moment }
+    pub fn apply(
+        &mut self,
+        end: End,
+        now: Moment,
+        call: &Call,
+    ) -> Result<(Answer, Raised), AllocError>
         ensures ok { IfOk result (λ r. (r.0, self.new, r.1) ≡
             attempt (object_refusals self.old end now call.now) self.old (object_effect self.old end now call.now)) }
         ensures err { OnErr result (self.new ≡ self.old) }
@@ -227,8 +224,7 @@ impl Object {
     }
 
     /// read(2) of at most `n` bytes at this end.
-    fn read(&mut self, end: End, now: u64, n: u32) -> Result<(Answer, Raised), AllocError>
-        requires { now ≤ last_moment }
+    fn read(&mut self, end: End, now: Moment, n: u32) -> Result<(Answer, Raised), AllocError>
         ensures ok { IfOk result (λ r. (r.0, self.new, r.1) ≡
             attempt (read_refusals self.old end n now) self.old (read self.old end n now)) }
         ensures err { OnErr result (self.new ≡ self.old) }
@@ -270,8 +266,13 @@ impl Object {
     }
 
     /// timerfd_settime(2), with TFD_TIMER_ABSTIME where `absolute`.
-    fn settime(&mut self, now: u64, absolute: bool, value: u64, interval: u64) -> (Answer, Raised)
-        requires { now ≤ last_moment }
+    fn settime(
+        &mut self,
+        now: Moment,
+        absolute: bool,
+        value: Span,
+        interval: Span,
+    ) -> (Answer, Raised)
         ensures { (result.0, self.new, result.1) ≡
             attempt ((not (is_timer self.old), Errno.Einval) ∷ timer_set_refusals value interval) self.old (settime self.old absolute value interval now) }
     {
@@ -282,8 +283,7 @@ impl Object {
     }
 
     /// timerfd_gettime(2).
-    fn gettime(&self, now: u64) -> (Answer, Raised)
-        requires { now ≤ last_moment }
+    fn gettime(&self, now: Moment) -> (Answer, Raised)
         ensures { (result.0, self.now, result.1) ≡
             attempt ((not (is_timer self.now), Errno.Einval) ∷ []) self.now (gettime self.now now) }
     {

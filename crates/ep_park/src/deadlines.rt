@@ -2,7 +2,7 @@
 ghost use Rattle.std.specs.Prelude.{◌≡◌, IsSome, MatchOption, None, OnOk, Some, ℕ};
 ghost use Rattle.ep_park.specs.Deadlines.{HasNoMoment, HasNoneReached, HasRoom, IsEarliest, IsReachedAt, SameMoments, SetsMoment, moment_of};
 
-use ep_base::CallerId;
+use ep_base::{CallerId, Moment};
 use ep_due::DueMap;
 use std::alloc::{AllocError, Allocator};
 use std::marker::Model;
@@ -72,11 +72,11 @@ impl<A: Allocator> Deadlines<A> {
     }
 
     /// A caller whose moment is at or below `now`; `None` exactly where there is none.
-    pub fn first(&self, now: u64) -> Option<CallerId>
+    pub fn first(&self, now: Moment) -> Option<CallerId>
         ensures { MatchOption result (HasNoneReached self.now now)
             (λ c. IsReachedAt self.now now c.0) }
     {
-        let caller = self.moments.first(now)?;
+        let caller = self.moments.first(now.at())?;
         Some(CallerId(caller as u32))
     }
     /// The least moment of all; `None` exactly where no caller has one.

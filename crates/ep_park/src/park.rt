@@ -16,7 +16,7 @@ use crate::process::{Processes, join, quit};
 use crate::queue::Queue;
 use crate::tally::{Tallies, count, discount, recount};
 use crate::waiter::{Waiter, awaited};
-use ep_base::{CallerId, DescId, Pid};
+use ep_base::{CallerId, DescId, Moment, Pid};
 use indexmap::IndexMap;
 use std::alloc::{AllocError, Allocator, Global};
 use std::marker::Model;
@@ -116,10 +116,9 @@ impl<A: Allocator> Park<A> {
         self.set_mark(tally.first, true);
     }
 
-    /// Marks exactly the callers whose deadline, in the clock's unit, is at or below `now`; a mark that is there
-    /// stays. The cost grows with the callers that this marks, each time the logarithm of those that are parked, and
-    /// not with others.
-    pub fn mark_due(&mut self, now: u64)
+    /// Marks exactly the callers whose deadline is at or below `now`; a mark that is there stays. The cost grows with
+    /// the callers that this marks, each time the logarithm of those that are parked, and not with others.
+    pub fn mark_due(&mut self, now: Moment)
         ensures { self.new ≡ map (marked_if_due now) self.old }
     {
         while let Some(caller) = self.next_due(now) {
@@ -139,7 +138,7 @@ impl<A: Allocator> Park<A> {
     }
 
     /// A caller that isn't marked and whose deadline is at or below `now`.
-    fn next_due(&self, now: u64) -> Option<CallerId>
+    fn next_due(&self, now: Moment) -> Option<CallerId>
         ensures { MatchOption result (self.now ≡ map (marked_if_due now) self.now)
             (λ c. IsAwaitedBy self.now now c.0) }
     {

@@ -4,7 +4,7 @@ ghost use Rattle.std.specs.Prelude.{◌≡◌, ◌||◌, ℕ};
 ghost use Rattle.ep_machine.specs.Waits.{is_due as is_reached};
 ghost use Rattle.ep_park.specs.Deadlines.{awaited as deadline_of};
 
-use ep_base::{DescId, Pid};
+use ep_base::{DescId, Moment, Pid};
 
 /// A wait that is parked: what epoll_wait(2) was asked for, and whether its caller is marked to go on.
 #[derive(Clone, Copy, Debug, PartialEq, Eq)]
@@ -22,11 +22,11 @@ pub struct Waiter {
 }
 
 /// Whether a waiter's deadline is at or below `now`.
-pub fn is_due(waiter: Waiter, now: u64) -> bool
+pub fn is_due(waiter: Waiter, now: Moment) -> bool
     ensures { result ≡ is_reached now waiter.deadline }
 {
     match waiter.deadline {
-        Some(deadline) => deadline <= now,
+        Some(deadline) => deadline <= now.at(),
         None => false,
     }
 }

@@ -19,7 +19,7 @@ use std::alloc::AllocError;
 fn is_dated(dates: &Dates, entry: &Entry) -> bool
     ensures { result ≡ nat_lt 0 (event_at dates.now.since entry.now.number) }
 {
-    dates.since(entry.number) > 0
+    dates.since(entry.number).0 > 0
 }
 
 /// A registration with its key and what it shows. Of the instance that it watches only the dates are asked.
@@ -90,7 +90,7 @@ pub fn choose(
         (number_in max) chosen.items) }
 {
     let mut chosen = reportables(parts, dates, instance)?;
-    chosen.sort_by_key(|x| x.entry.reported_in)?;
+    chosen.sort_by_key(|x| x.entry.reported_in.0)?;
     chosen.truncate(most(max));
     Ok(chosen)
 }

@@ -14,7 +14,7 @@ ghost use Rattle.ep_plain.specs.Exact.{Follows, IsAlteredKey, IsExact};
 
 use crate::dating::Dating;
 use crate::settle::know;
-use ep_base::{Call, EntryId, Fd, Mask, Pid};
+use ep_base::{Call, EntryId, EntryNumber, Fd, Mask, Pid};
 use ep_calls::{Control, Named, Operation, Outcome, Parts, Plan};
 use ep_choice::note_deleted;
 use ep_dates::Dates;
@@ -32,7 +32,7 @@ fn make_next_room(parts: &Parts, dating: &mut Dating, named: Named, mask: Mask) 
     let Some(number) = parts.interest.added().checked_add(1) else {
         return false;
     };
-    dating.make_room(named, mask, parts.interest.next_key(), number)
+    dating.make_room(named, mask, parts.interest.next_key(), EntryNumber(number))
 }
 
 /// Makes room for what is kept of what a call adds, and answers whether there is; `true` if it adds nothing. `false` is
@@ -105,7 +105,7 @@ fn drop_deleted(interest: &Interest, deleted: Option<(EntryId, Entry)>, dates: &
     if interest.get(id).is_some() {
         return;
     }
-    if dates.since(entry.number) == 0 {
+    if dates.since(entry.number).0 == 0 {
         return;
     }
     dates.end(id, &entry);

@@ -14,7 +14,7 @@ ghost use Rattle.ep_plain.specs.Exact.{TellsReady};
 ghost use Rattle.ep_plain.specs.Since.{AreDated};
 
 use crate::dating::Dating;
-use ep_base::DescId;
+use ep_base::{DescId, EntryNumber, EventNumber};
 use ep_calls::Parts;
 use ep_dates::{Touched, date};
 
@@ -23,9 +23,9 @@ use ep_dates::{Touched, date};
 /// it reported. What is noted of the instances that turned is forgotten. It takes no memory.
 pub fn date_all(
     parts: &Parts,
-    step: u64,
+    step: EventNumber,
     called: Option<DescId>,
-    reported: &[u64],
+    reported: &[EntryNumber],
     dating: &mut Dating,
 )
     requires step { 0 < step }

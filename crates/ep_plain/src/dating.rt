@@ -2,7 +2,7 @@
 ghost use Rattle.std.specs.Prelude.{◌≡◌, IfOk, OnOk, true};
 ghost use Rattle.ep_plain.specs.Dating.{Grows, HasRoomFor, IsNew};
 
-use ep_base::{EntryId, Mask};
+use ep_base::{EntryId, EntryNumber, Mask};
 use ep_calls::Named;
 use ep_choice::Choice;
 use ep_dates::Dates;
@@ -49,7 +49,7 @@ impl Dating {
         named: Named,
         mask: Mask,
         id: EntryId,
-        number: u64,
+        number: EntryNumber,
     ) -> Result<(), AllocError>
         ensures grows { Grows self.old self.new }
         ensures altered { self.new.altered ≡ self.old.altered }
@@ -64,7 +64,7 @@ impl Dating {
     }
 
     /// The same, and whether there is room then. `false` is want of memory.
-    pub fn make_room(&mut self, named: Named, mask: Mask, id: EntryId, number: u64) -> bool
+    pub fn make_room(&mut self, named: Named, mask: Mask, id: EntryId, number: EntryNumber) -> bool
         ensures grows { Grows self.old self.new }
         ensures altered { self.new.altered ≡ self.old.altered }
         ensures room { result ≡ true → HasRoomFor self.new number named mask id.0 }

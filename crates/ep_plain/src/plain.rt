@@ -22,7 +22,7 @@ use crate::settle::{know, rest, spread};
 use crate::stamp::Stamp;
 use crate::these::{act_with, allows};
 use ep_alarms::{Alarms, find_called};
-use ep_base::{Answer, CallerId, Errno, Event, Limits, Record};
+use ep_base::{Answer, CallerId, EntryNumber, Errno, Event, EventNumber, Limits, Moment, Record};
 use ep_calls::{Kernel, Parts, Spare};
 use ep_climb::{attend, left, resumed_at};
 use ep_law::laws::{ends_are_apart, reportables_are_spread};
@@ -72,7 +72,7 @@ fn know_laws(parts: &Parts)
 }
 
 /// The registrations that the last record reports.
-fn last_picked(history: &[Record]) -> &[u64]
+fn last_picked(history: &[Record]) -> &[EntryNumber]
     ensures { (past : List Recorded) (last : Recorded) → history.now ≡ past ++ last ∷ []
         → result.now ≡ last.picked }
 {
@@ -108,7 +108,7 @@ impl PlainKernel {
         &mut self,
         caller: CallerId,
         event: Event,
-        picks: Option<&[u64]>,
+        picks: Option<&[EntryNumber]>,
         kept: bool,
     ) -> Result<(Answer, Option<Spare>), AllocError>
         requires there { HasStep self.old.limits (state_of self.old) caller event
@@ -133,7 +133,7 @@ impl PlainKernel {
         self.history.reserve(1)?;
         self.dating.dates.reserve(1)?;
         let has_room = self.alarms.make_room(&event);
-        let step = self.history.len() as u64 + 1;
+        let step = EventNumber(self.history.len() as u64 + 1);
         know_laws(&self.parts);
         let called = find_called(&self.parts, &event);
         let resumed = resumed_at(&self.parts, caller, &event);
@@ -155,12 +155,14 @@ impl PlainKernel {
         let raising = outcome.raising;
         let (answer, spare, record) = outcome.into_record(caller, event, kept);
         self.history.push_reserved(record);
+        // A copy, since the prover takes what is passed on as moved.
+        let raised = raising;
         spread(
             &mut self.parts,
             &mut self.dating,
             &mut self.alarms,
             step,
-            raising,
+            raised,
         );
         self.dating.dates.number();
         let reported = last_picked(&self.history);
@@ -171,7 +173,7 @@ impl PlainKernel {
     }
 
     /// Whether the machine has a step whose report is of these registrations, in this order. It takes no memory.
-    fn has_step(&mut self, caller: CallerId, event: &Event, picks: &[u64]) -> bool
+    fn has_step(&mut self, caller: CallerId, event: &Event, picks: &[EntryNumber]) -> bool
         ensures has { result ≡ is_some
             (step_of self.old.limits (state_of self.old) caller.0 event.now picks.now) }
         ensures stays { self.new ≡ self.old }
@@ -184,7 +186,12 @@ impl PlainKernel {
     /// ENOMEM is want of memory: nothing changes, and there is such a step. In both cases there may be more room for
     /// records. While there is room for records, ENOMEM comes only of an event that nothing refuses, but it may come of
     /// those that `step` spares. The time grows with how many are given.
-    pub fn step_with(&mut self, caller: CallerId, event: Event, picks: &[u64]) -> Option<Answer>
+    pub fn step_with(
+        &mut self,
+        caller: CallerId,
+        event: Event,
+        picks: &[EntryNumber],
+    ) -> Option<Answer>
         ensures limits { self.new.limits ≡ self.old.limits }
         ensures capacity { self.old.capacity ≤ self.new.capacity }
         ensures last { IfSome result
@@ -280,7 +287,7 @@ impl Kernel for PlainKernel {
         self.parts.tables.limits()
     }
 
-    fn now(&self) -> u64 {
+    fn now(&self) -> Moment {
         self.parts.clock
     }
 
@@ -296,7 +303,7 @@ impl Kernel for PlainKernel {
         self.parts.first_marked()
     }
 
-    fn next_moment(&self) -> Option<u64> {
+    fn next_moment(&self) -> Option<Moment> {
         know(&self.parts);
         self.parts.next_moment_with(self.alarms.earliest())
     }

@@ -21,7 +21,7 @@ ghost use Rattle.ep_table.specs.Value.{Sound as SoundTables};
 use crate::by_dates::ByDates;
 use crate::dating::Dating;
 use ep_alarms::{Alarms, burial_leaves_alarms};
-use ep_base::DescId;
+use ep_base::{DescId, EventNumber};
 use ep_calls::{Parts, Raising};
 use ep_choice::{mark, note_dying};
 use ep_climb::climb;
@@ -40,7 +40,7 @@ pub fn know(parts: &Parts)
 /// Takes the dead away, with the dates of their registrations and of those on them. The instances that lost the last
 /// of their reportable registrations in this event are `gone` then, and those that lost one that may have guarded them
 /// are noted as `lost`.
-fn bury(parts: &mut Parts, dating: &mut Dating, step: u64)
+fn bury(parts: &mut Parts, dating: &mut Dating, step: EventNumber)
     requires fits { Fits parts.old.interest dating.old }
     ensures burial { Burial step parts.old.tables parts.old.interest parts.new.tables
         parts.new.interest }
@@ -68,7 +68,7 @@ pub fn spread(
     parts: &mut Parts,
     dating: &mut Dating,
     alarms: &mut Alarms,
-    step: u64,
+    step: EventNumber,
     raising: Raising,
 )
     requires step { 0 < step }
@@ -90,7 +90,7 @@ pub fn spread(
 }
 
 /// Sets marks by the dates of the registrations, and forgets what was passed on in an event, and what was lost.
-pub fn rest(parts: &mut Parts, dating: &mut Dating, attend: Option<DescId>, step: u64)
+pub fn rest(parts: &mut Parts, dating: &mut Dating, attend: Option<DescId>, step: EventNumber)
     requires step { 0 < step }
     requires ready { TellsReady parts.old dating.old.dates }
     requires instances { HaveInstances parts.old }

@@ -9,13 +9,18 @@ ghost use Rattle.ep_plain.specs.Choose.{reportables_at};
 ghost use Rattle.ep_plain.specs.Exact.{TellsReady, TellsShown};
 
 use crate::choose::reportable;
-use ep_base::DescId;
+use ep_base::{DescId, EntryNumber};
 use ep_calls::{Parts, Reportable};
 use ep_dates::Dates;
 use std::alloc::AllocError;
 
 /// The registration of an instance with a number, if it is reportable, with what it shows.
-fn find_number(parts: &Parts, dates: &Dates, instance: DescId, number: u64) -> Option<Reportable>
+fn find_number(
+    parts: &Parts,
+    dates: &Dates,
+    instance: DescId,
+    number: EntryNumber,
+) -> Option<Reportable>
     requires shown { TellsShown parts.now dates.now }
     requires ready { TellsReady parts.now dates.now }
     requires kept { AreKept parts.now.interest dates.now }
@@ -27,12 +32,13 @@ fn find_number(parts: &Parts, dates: &Dates, instance: DescId, number: u64) -> O
 {
     parts.known();
     parts.interest.known();
-    if dates.since(number) == 0 {
+    if dates.since(number).0 == 0 {
         return None;
     }
     let id = dates.id(number);
     let entry = parts.interest.get(id)?;
-    if entry.number != number {
+    let found = entry.number;
+    if found.0 != number.0 {
         return None;
     }
     if entry.instance != instance {
@@ -47,7 +53,7 @@ pub fn take(
     parts: &Parts,
     dates: &Dates,
     instance: DescId,
-    picks: &[u64],
+    picks: &[EntryNumber],
 ) -> Result<Vec<Reportable>, AllocError>
     requires shown { TellsShown parts.now dates.now }
     requires ready { TellsReady parts.now dates.now }

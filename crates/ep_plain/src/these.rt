@@ -27,7 +27,7 @@ use crate::dating::Dating;
 use crate::stamp::Stamp;
 use crate::take::take;
 use crate::waiting::{Waiting, find_waiting};
-use ep_base::{CallerId, DescId, Event};
+use ep_base::{CallerId, DescId, EntryNumber, Event};
 use ep_calls::{Outcome, Parts, Wait};
 use ep_dates::is_pick;
 use ep_park::Waiter;
@@ -40,7 +40,7 @@ fn wait_these(
     args: Wait,
     instance: DescId,
     dating: &Dating,
-    picks: &[u64],
+    picks: &[EntryNumber],
 ) -> Result<Outcome, AllocError>
     requires free { list_any (is_caller stamp.caller.0) parts.old.parked ≡ false }
     requires waits { Waits parts.old.tables args instance }
@@ -70,7 +70,7 @@ fn resume_these(
     stamp: Stamp,
     waiter: Waiter,
     dating: &Dating,
-    picks: &[u64],
+    picks: &[EntryNumber],
 ) -> Result<Outcome, AllocError>
     requires parked { find (is_caller stamp.caller.0) parts.old.parked
         ≡ Some (parked stamp.caller.0 waiter) }
@@ -102,7 +102,7 @@ fn act_these(
     stamp: Stamp,
     event: &Event,
     dating: &mut Dating,
-    picks: &[u64],
+    picks: &[EntryNumber],
 ) -> Result<Outcome, AllocError>
     requires step { 0 < stamp.step }
     requires exact { IsExact stamp.step parts.old dating.old }
@@ -144,7 +144,7 @@ pub fn act_with(
     stamp: Stamp,
     event: &Event,
     dating: &mut Dating,
-    picks: Option<&[u64]>,
+    picks: Option<&[EntryNumber]>,
     kept: bool,
 ) -> Result<Outcome, AllocError>
     requires step { 0 < stamp.step }
@@ -181,7 +181,13 @@ pub fn act_with(
 
 /// Whether the machine may report these registrations in this order at an instance, at most `max` of them, by the
 /// dates. It takes no memory, and the time grows with how many are given. No flag is set before and afterwards.
-fn may_pick(parts: &Parts, dating: &mut Dating, instance: DescId, max: i32, picks: &[u64]) -> bool
+fn may_pick(
+    parts: &Parts,
+    dating: &mut Dating,
+    instance: DescId,
+    max: i32,
+    picks: &[EntryNumber],
+) -> bool
     requires lives { IsSome (number_under parts.now.tables instance) }
     requires positive { is_positive max ≡ true }
     requires fits { Fits parts.now.interest dating.old }
@@ -213,7 +219,7 @@ pub fn allows(
     dating: &mut Dating,
     caller: CallerId,
     event: &Event,
-    picks: &[u64],
+    picks: &[EntryNumber],
 ) -> bool
     requires fits { Fits parts.now.interest dating.old }
     requires order { (m : ℕ) × AreInTurn m parts.now.interest dating.old.dates }

@@ -19,10 +19,10 @@ use ep_calls::{Outcome, Parts, Raising, Wait, find_instance};
 use std::alloc::AllocError;
 
 /// epoll_wait(2): at most `max` reports of what is reportable at an instance now, the longest unreported first. If
-/// nothing is, no report with a timeout of 0, and else the caller is parked until it is marked, `timeout`
-/// milliseconds at most, and without end if that is negative. Refused with EINVAL for a `max` below 1 or no
-/// instance, and with EBADF if `epfd` names nothing. A refusal and an `Err`, which is want of memory, leave the
-/// parts. An `Err` comes only if nothing refuses the call.
+/// nothing is, no report with a timeout of 0, and else the caller is parked until it is marked: for the timeout at
+/// most, and without end if that is negative. Refused with EINVAL for a `max` below 1 or no instance, and with EBADF
+/// if `epfd` names nothing. A refusal and an `Err`, which is want of memory, leave the parts. An `Err` comes only if
+/// nothing refuses the call.
 pub fn epoll_wait(
     parts: &mut Parts,
     stamp: Stamp,
@@ -43,7 +43,9 @@ pub fn epoll_wait(
     ensures last { OnErr result (NothingRefusesCall parts.old args.pid.0 (wait_call args)) }
     ensures err { OnErr result (parts.new ≡ parts.old) }
 {
-    let instance = match find_instance(&parts.tables, args) {
+    // A copy, since the prover takes what is passed on as moved.
+    let asked = args;
+    let instance = match find_instance(&parts.tables, asked) {
         Ok(instance) => instance,
         Err(errno) => return Ok(Outcome::refused(parts.alloc, errno)),
     };

@@ -31,7 +31,9 @@ fn find_call(parts: &Parts, pid: Pid, call: &Call) -> Option<(Wait, DescId)>
         timeout,
         kept: false,
     };
-    match find_instance(&parts.tables, args) {
+    // A copy, since the prover takes what is passed on as moved.
+    let asked = args;
+    match find_instance(&parts.tables, asked) {
         Ok(instance) => Some((args, instance)),
         Err(_) => None,
     }

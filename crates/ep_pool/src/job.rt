@@ -4,7 +4,7 @@ ghost use Rattle.ep_pool.specs.Jobs.{HasRun};
 ghost use Rattle.ep_pool.specs.Steps.{StepAdds, StopAdds};
 ghost use Rattle.ep_shared.specs.Sessions.{caller_of, records_of};
 
-use ep_base::{Call, CallerId, Fd, Pid};
+use ep_base::{Call, CallerId, Fd, Pid, Span, Timeout};
 use ep_calls::Kernel;
 use ep_shared::{Session, Shared, WaitCall};
 use std::sync::Wait;
@@ -31,11 +31,11 @@ pub enum Step {
         pid: Pid,
         epfd: Fd,
         max: i32,
-        timeout: i64,
+        timeout: Timeout,
     },
     /// `Shared::tick`.
     Tick {
-        n: u64,
+        n: Span,
     },
 }
 

@@ -2,7 +2,7 @@
 ghost use Rattle.std.specs.Prelude.{[]};
 ghost use Rattle.ep_machine.specs.State.{opening};
 
-use ep_base::{Answer, CallerId, Errno, Event, Limits, Record};
+use ep_base::{Answer, CallerId, Errno, Event, Limits, Moment, Record};
 use ep_plain::Kernel;
 use std::alloc::AllocError;
 use std::io::{self, ErrorKind, Read, Write};
@@ -40,8 +40,8 @@ impl Kernel for NoMemory {
         &self.limits
     }
 
-    fn now(&self) -> u64 {
-        0
+    fn now(&self) -> Moment {
+        Moment::first()
     }
 
     fn is_parked(&self, _caller: CallerId) -> bool {
@@ -56,7 +56,7 @@ impl Kernel for NoMemory {
         None
     }
 
-    fn next_moment(&self) -> Option<u64> {
+    fn next_moment(&self) -> Option<Moment> {
         None
     }
 }

@@ -11,7 +11,7 @@ ghost use Rattle.ep_shared.specs.Sessions.{caller_of, records_of};
 ghost use Rattle.ep_shared.specs.Told.{Adds, ResumeAdds, WaitAdds, ends_parked, ends_wait, may_answer, wait_event};
 
 use crate::book::{Book, Count, FinishFault, History, Session};
-use ep_base::{Answer, Call, CallerId, Event, Fd, Limits, Pid};
+use ep_base::{Answer, Call, CallerId, Event, Fd, Limits, Pid, Span, Timeout};
 use ep_calls::Kernel;
 use std::alloc::{AllocError, Global};
 use std::sync::ledger::{Blank, Ledger};
@@ -27,7 +27,7 @@ pub struct WaitCall {
     /// The most reports that it takes; 0 and less are refused.
     pub max: i32,
     /// How long it waits, in milliseconds: 0 not at all, less than 0 for ever.
-    pub timeout: i64,
+    pub timeout: Timeout,
 }
 
 /// A kernel that sessions call from threads: one lock round one book. Every call of it takes the lock and may wait.
@@ -93,7 +93,7 @@ impl<K: Kernel + Drop, L: Ledger> Shared<K, L> {
     }
 
     /// The clock goes on by `n` milliseconds. ENOMEM adds no record.
-    pub fn tick(&self, rt: &impl Wait, session: &mut Session<L>, n: u64) -> Answer
+    pub fn tick(&self, rt: &impl Wait, session: &mut Session<L>, n: Span) -> Answer
         ensures adds { Adds (caller_of session.old) (Tick n) result (records_of session.old)
             (records_of session.new) }
         ensures caller { caller_of session.new ≡ caller_of session.old }

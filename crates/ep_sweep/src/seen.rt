@@ -1,6 +1,6 @@
 //! What a caller can see of a kernel.
 
-use ep_base::{CallerId, Limits};
+use ep_base::{CallerId, Limits, Moment};
 use ep_plain::Kernel;
 
 /// How many callers are looked at, from 0 on: all that the scripts name.
@@ -10,11 +10,11 @@ const CALLERS: u32 = 32;
 #[derive(Clone, Copy, PartialEq, Eq)]
 pub(crate) struct Seen {
     pub(crate) records: usize,
-    now: u64,
+    now: Moment,
     parked: u64,
     marked: u64,
     first_marked: Option<CallerId>,
-    next_moment: Option<u64>,
+    next_moment: Option<Moment>,
     limits: Limits,
 }
 

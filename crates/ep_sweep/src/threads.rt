@@ -4,7 +4,7 @@ ghost use Rattle.std.specs.Prelude.{◌≡◌, [], IfOk};
 use crate::asker::{Counts, TRIES};
 use crate::fault::Fault;
 use crate::sessions::{ask_all, history_of};
-use ep_base::{Answer, Buffer, Call, CallerId, Fd, Mask, Pid, Record};
+use ep_base::{Answer, Buffer, Call, CallerId, Fd, Mask, Pid, Record, Timeout};
 use ep_plain::Kernel;
 use ep_shared::{Session, Shared, WaitCall};
 use std::alloc::{AllocError, Global};
@@ -33,7 +33,7 @@ const WAIT: WaitCall = WaitCall {
     pid: Pid(1),
     epfd: Fd(4),
     max: 1,
-    timeout: -1,
+    timeout: Timeout(-1),
 };
 
 /// Whether an answer is one report of eventfd 3.

@@ -7,7 +7,6 @@ ghost use Rattle.ep_machine.specs.Lists.{is_among, numbered};
 ghost use Rattle.ep_machine.specs.Files.{object_of, place_of, side_of};
 ghost use Rattle.ep_object.specs.Memory.{asked_of};
 ghost use Rattle.ep_machine.specs.Objects.{close_end};
-ghost use Rattle.ep_machine.specs.Timer.{last_moment};
 ghost use Rattle.ep_table.specs.Closing.{Dies, IsAt, across, closed_in, closed_slot, other_key, other_slot, raised_slot};
 ghost use Rattle.ep_table.specs.Live.{live_ids};
 ghost use Rattle.ep_table.specs.Value.{InsertsOne, InsertsTwo, SoundThings, count_at, files_in, less_at, more_at, number_at, objects_after, thing_effect, thing_number, thing_waiting};
@@ -15,7 +14,7 @@ ghost use Rattle.ep_table.specs.Value.{InsertsOne, InsertsTwo, SoundThings, coun
 use crate::dying_keys::DyingKeys;
 use crate::live::Live;
 use crate::words::{Dead, Description, Dying, Shared};
-use ep_base::{Answer, Call, DescId, End, Raised};
+use ep_base::{Answer, Call, DescId, End, Moment, Raised};
 use ep_object::Object;
 use slab::Slab;
 use std::alloc::{AllocError, Allocator};
@@ -271,11 +270,10 @@ impl<A: Allocator> Store<A> {
     pub fn apply(
         &mut self,
         key: DescId,
-        now: u64,
+        now: Moment,
         call: &Call,
     ) -> Result<(Answer, Raised), AllocError>
         requires live { IsSome (number_at self.old.keys key) }
-        requires clock { now ≤ last_moment }
         ensures answer { IfOk result (λ r. r.0 ≡ (thing_effect self.old key now call.now).0) }
         ensures raised { IfOk result (λ r. r.1 ≡ (thing_effect self.old key now call.now).2) }
         ensures objects { OnOk result

@@ -10,7 +10,6 @@ ghost use Rattle.ep_machine.specs.Bits.{raises};
 ghost use Rattle.ep_machine.specs.Objects.{advance, object_present};
 ghost use Rattle.ep_machine.specs.FilesCalls.{close_of, dup2_of, dup_of, fork_of, one_of, pipe_of, socketpair_of, two_of};
 ghost use Rattle.ep_machine.specs.Tables.{close, create_refusals, dup, exec, exit, fork, is_in_range, one_refusals, second_free, two_refusals};
-ghost use Rattle.ep_machine.specs.Timer.{last_moment};
 ghost use Rattle.ep_table.specs.Closing.{IsAt, Takes, across};
 ghost use Rattle.ep_table.specs.Live.{live_ids};
 ghost use Rattle.ep_table.specs.Value.{CreatesOne, CreatesTwo, Does, Gains, Sound, content_of, effect_under, files_after, holds_of, less_at, more_at, named_at, natural, number_found, number_of, number_under, waiting_at};
@@ -27,7 +26,7 @@ use crate::processes::{
 use crate::store::Store;
 use crate::table::Table;
 use crate::words::{Dead, Descriptor};
-use ep_base::{Answer, Call, DescId, End, Errno, Fd, Limits, Mask, Pid, Raised};
+use ep_base::{Answer, Call, DescId, End, Errno, Fd, Limits, Mask, Moment, Pid, Raised};
 use ep_object::Object;
 use std::alloc::{AllocError, Allocator, Global};
 use std::marker::Model;
@@ -594,10 +593,9 @@ impl<A: Allocator> Tables<A> {
     }
 
     /// The bits that hold now at a live description, as poll(2) names them: what its object shows at
-    /// its end, and none of an epoll instance. `now` is the clock in milliseconds.
-    pub fn present(&self, desc: DescId, now: u64) -> Mask
+    /// its end, and none of an epoll instance.
+    pub fn present(&self, desc: DescId, now: Moment) -> Mask
         requires live { IsSome (number_under self.now desc) }
-        requires clock { now ≤ last_moment }
         ensures { let number = number_of self.now desc in result.0
             ≡ object_present (content_of self.now.files number)
             (side_of self.now.files number) now }
@@ -606,11 +604,9 @@ impl<A: Allocator> Tables<A> {
     }
 
     /// What the clock raises at the ends of a live description's object as it goes on from `old` to
-    /// `new`, in milliseconds: IN where it is a timer whose unread expirations go from none to some.
-    pub fn advance(&self, desc: DescId, old: u64, new: u64) -> Raised
+    /// `new`: IN where it is a timer whose unread expirations go from none to some.
+    pub fn advance(&self, desc: DescId, old: Moment, new: Moment) -> Raised
         requires live { IsSome (number_under self.now desc) }
-        requires old { old ≤ last_moment }
-        requires new { new ≤ last_moment }
         ensures { result ≡ raises
             (advance (content_of self.now.files (number_of self.now desc)) old new) 0 }
     {
@@ -619,26 +615,24 @@ impl<A: Allocator> Tables<A> {
 
     /// The first moment after `now` at which the clock raises IN at a live description, or `None`
     /// where there is none, and for any object but a timer.
-    pub fn next(&self, desc: DescId, now: u64) -> Option<u64>
+    pub fn next(&self, desc: DescId, now: Moment) -> Option<u64>
         requires live { IsSome (number_under self.now desc) }
-        requires clock { now ≤ last_moment }
         ensures { IsNextMoment (content_of self.now.files (number_of self.now desc)) now result }
     {
         self.object(desc).next(now)
     }
 
     /// A call on the object of a live description, at its end: what it is answered at the moment
-    /// `now`, in milliseconds, and what it raises at the ends of the object. An `AllocError` leaves
+    /// `now`, and what it raises at the ends of the object. An `AllocError` leaves
     /// the tables, and comes only where a read asks for more than 16 bytes and more than 16 wait.
     /// The time grows with the bytes that are moved.
     pub fn apply(
         &mut self,
         desc: DescId,
-        now: u64,
+        now: Moment,
         call: &Call,
     ) -> Result<(Answer, Raised), AllocError>
         requires live { IsSome (number_under self.old desc) }
-        requires clock { now ≤ last_moment }
         ensures answer { IfOk result (λ r. r.0 ≡ (effect_under self.old desc now call.now).0) }
         ensures raised { IfOk result (λ r. r.1 ≡ (effect_under self.old desc now call.now).2) }
         ensures files { OnOk result

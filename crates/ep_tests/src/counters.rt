@@ -1,6 +1,8 @@
 //! A counter and a timer: each call once. Their bounds are in the scripts of `ep_examples`.
+ghost use Rattle.std.specs.Prelude.{◌≡◌, ◌≤◌};
+ghost use Rattle.ep_base.specs.Time.{last_moment};
 
-use ep_base::{Answer, Buffer, Errno, Mask, Raised};
+use ep_base::{Answer, Buffer, Errno, Mask, Moment, Raised, Span};
 use ep_counters::{EventFd, Timer};
 use std::test::Fail;
 
@@ -10,6 +12,14 @@ fn at_first(bits: Mask) -> Raised {
         first: bits,
         second: Mask(0),
     }
+}
+
+/// The moment so many milliseconds after the clock began.
+pub(crate) fn at(n: u64) -> Moment
+    requires { n ≤ last_moment }
+    ensures { result ≡ n }
+{
+    Moment::new(n).unwrap()
 }
 
 /// Whether an answer is a number below 256, as 8 bytes, the lowest first.
@@ -58,18 +68,18 @@ fn is_ones(answer: &Answer) -> bool {
 #[test]
 fn a_timer_expires_and_is_read(rt: HostRuntime) {
     let mut timer = Timer::new(rt.alloc());
-    let (before, raised) = timer.settime(10, false, 5, 2);
+    let (before, raised) = timer.settime(at(10), false, Span(5), Span(2));
     let unset = Answer::Time {
-        value: 0,
-        interval: 0,
+        value: Span(0),
+        interval: Span(0),
     };
     assert!(rt; before == unset && raised == at_first(Mask(0)));
-    assert!(rt; timer.next(10) == Some(15) && timer.advance(10, 15) == Mask::IN);
+    assert!(rt; timer.next(at(10)) == Some(15) && timer.advance(at(10), at(15)) == Mask::IN);
     let left = Answer::Time {
-        value: 1,
-        interval: 2,
+        value: Span(1),
+        interval: Span(2),
     };
-    assert!(rt; timer.gettime(16) == left && timer.present(16) == Mask::IN);
-    let (read, raised) = timer.read(17, 8);
+    assert!(rt; timer.gettime(at(16)) == left && timer.present(at(16)) == Mask::IN);
+    let (read, raised) = timer.read(at(17), 8);
     assert!(rt; is_value(&read, 2) && raised == at_first(Mask(0)));
 }

@@ -1,9 +1,9 @@
 //! Objects of each kind: each call once. What each kind answers is in the scripts of `ep_examples`.
 
-use crate::counters::is_value;
+use crate::counters::{at, is_value};
 use crate::streams::{MANY, are_many};
 use ep_base::End::{First, Second};
-use ep_base::{Answer, Buffer, Call, Fd, Mask};
+use ep_base::{Answer, Buffer, Call, Fd, Mask, Span};
 use ep_object::Object;
 use std::alloc::{AllocError, Global};
 use std::process::Abort;
@@ -29,11 +29,13 @@ fn carries(
     present: Mask,
 ) -> Result<(), AllocError> {
     let mut object = made?;
-    let (written, _) = object.apply(Second, 0, &write(rt.alloc())?)?;
+    let (written, _) = object.apply(Second, at(0), &write(rt.alloc())?)?;
     assert!(rt; written == Answer::Num(20) && object.waiting(First) == 20);
-    let (given, _) = object.apply(First, 0, &read(64))?;
+    let (given, _) = object.apply(First, at(0), &read(64))?;
     assert!(rt; are_many(&given));
-    assert!(rt; object.close_end(Second).first == raised && object.present(First, 0) == present);
+    assert!(rt;
+        object.close_end(Second).first == raised && object.present(First, at(0)) == present
+    );
     Ok(())
 }
 
@@ -47,7 +49,7 @@ fn a_pipe_and_a_pair_carry_bytes(rt: HostRuntime) -> Result<(), Fail> {
 #[test]
 fn a_counter_is_read(rt: HostRuntime) -> Result<(), Fail> {
     let mut counter = Object::counter(rt.alloc(), 2, false);
-    let (given, raised) = counter.apply(First, 0, &read(8))?;
+    let (given, raised) = counter.apply(First, at(0), &read(8))?;
     assert!(rt; is_value(&given, 2) && raised.first == Mask::OUT);
     Ok(())
 }
@@ -58,11 +60,11 @@ fn a_timer_expires(rt: HostRuntime) -> Result<(), Fail> {
     let set = Call::SetTime {
         fd: Fd(3),
         absolute: false,
-        value: 5,
-        interval: 0,
+        value: Span(5),
+        interval: Span(0),
     };
-    timer.apply(First, 10, &set)?;
-    assert!(rt; timer.next(10) == Some(15) && timer.advance(10, 15).first == Mask::IN);
+    timer.apply(First, at(10), &set)?;
+    assert!(rt; timer.next(at(10)) == Some(15) && timer.advance(at(10), at(15)).first == Mask::IN);
     Ok(())
 }
 
@@ -70,7 +72,7 @@ fn a_timer_expires(rt: HostRuntime) -> Result<(), Fail> {
 fn plain_objects_and_instances_are_told_apart(rt: HostRuntime) -> Result<(), Fail> {
     let mut plain = Object::plain(rt.alloc());
     assert!(rt; plain.is_plain() && Object::instance().is_instance());
-    let (written, _) = plain.apply(First, 0, &write(rt.alloc())?)?;
+    let (written, _) = plain.apply(First, at(0), &write(rt.alloc())?)?;
     assert!(rt; written == Answer::Num(20));
     Ok(())
 }

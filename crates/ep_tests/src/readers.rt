@@ -4,7 +4,7 @@
 use crate::histories::{PRINTED, REFUSED};
 use crate::lines::{COMMANDS, NO_COMMANDS};
 use crate::reasons::FILL;
-use ep_base::{Buffer, Call, CallerId, Event, Fd, Pid};
+use ep_base::{Buffer, Call, CallerId, Event, Fd, Pid, Span};
 use ep_history::{RecordReader, print_record, read_record};
 use ep_text::{LineReader, explain, read_line};
 use std::process::Abort;
@@ -156,7 +156,7 @@ fn expect_tick(
     line: &str,
     wanted: Option<u64>,
 ) -> Result<(), Fail> {
-    let tick = wanted.map(|n| (CallerId(0), Event::Tick { n }));
+    let tick = wanted.map(|n| (CallerId(0), Event::Tick { n: Span(n) }));
     let alone = read_line(rt.alloc(), line.as_bytes())?;
     assert!(rt; alone == tick, "at {line}");
     let found = reader.read(rt.alloc(), line.as_bytes())?;

@@ -2,7 +2,7 @@
 ghost use Rattle.std.specs.Prelude.{◌≡◌, [], IfOk, IfSome, IsSome, filter, pos};
 ghost use Rattle.ep_interest.specs.Registrations.{is_of, number_under};
 
-use ep_base::{DescId, EntryId, Fd, Mask};
+use ep_base::{DescId, EntryId, EventNumber, Fd, Mask};
 use ep_interest::{Addition, Entry, Interest};
 use linked_list_allocator::LocalHeap;
 use std::alloc::{AllocError, Allocator, Global};
@@ -69,7 +69,7 @@ fn becomes_fresh_again(rt: &impl Abort, sets: &mut Interest) {
         sets.modify(id, ONE_SHOT, 71);
     }
     if let Some(id) = key(sets) {
-        sets.report(id, 6);
+        sets.report(id, EventNumber(6));
     }
     assert!(rt; seen(sets) == Some((71, false, false)));
     sets.freshen(DescId(9), Mask::IN);
@@ -88,7 +88,7 @@ fn a_registration_passes_on_and_goes(rt: HostRuntime) -> Result<(), Fail> {
 
 fn passes_on_and_goes(rt: &impl Abort, sets: &mut Interest, id: EntryId) {
     assert!(rt; sets.lets_by(id) && sets.get(id).is_some());
-    sets.raise(DescId(9), Mask::IN, 7);
+    sets.raise(DescId(9), Mask::IN, EventNumber(7));
     assert!(rt; sets.passing() == [id].as_slice());
     sets.settle();
     assert!(rt; sets.passing().is_empty());

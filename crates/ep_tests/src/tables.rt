@@ -3,7 +3,8 @@
 ghost use Rattle.std.specs.Prelude.{IsSome};
 ghost use Rattle.ep_table.specs.Value.{number_under};
 
-use ep_base::{Answer, Call, DescId, End, Fd, Limits, Mask, Pid};
+use crate::counters::at;
+use ep_base::{Answer, Call, DescId, End, Fd, Limits, Mask, Pid, Span};
 use ep_object::Object;
 use ep_table::Tables;
 use std::alloc::{AllocError, Global};
@@ -95,13 +96,15 @@ fn expires(rt: &impl Abort, tables: &mut Tables, desc: DescId) -> Result<(), All
     let set = Call::SetTime {
         fd: Fd(3),
         absolute: false,
-        value: 5,
-        interval: 0,
+        value: Span(5),
+        interval: Span(0),
     };
-    tables.apply(desc, 0, &set)?;
+    tables.apply(desc, at(0), &set)?;
     assert!(rt; tables.lookup(FIRST, Fd(3)) == Some(desc));
-    assert!(rt; tables.next(desc, 0) == Some(5) && tables.advance(desc, 0, 5).first == Mask::IN);
-    assert!(rt; tables.present(desc, 5) == Mask::IN && !tables.object(desc).is_plain());
+    assert!(rt;
+        tables.next(desc, at(0)) == Some(5) && tables.advance(desc, at(0), at(5)).first == Mask::IN
+    );
+    assert!(rt; tables.present(desc, at(5)) == Mask::IN && !tables.object(desc).is_plain());
     assert!(rt; tables.end(desc) == End::First && tables.other(desc).is_none());
     assert!(rt; tables.live().nth(1) == Some(desc));
     Ok(())

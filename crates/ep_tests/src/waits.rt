@@ -2,6 +2,7 @@
 //! function grows with all that it owns at each of its calls.
 ghost use Rattle.std.specs.Prelude.{◌≡◌, []};
 
+use crate::counters::at;
 use ep_base::{CallerId, DescId, Pid};
 use ep_park::{Park, Waiter};
 use linked_list_allocator::LocalHeap;
@@ -42,7 +43,7 @@ fn second_goes_on_after_the_first(rt: &impl Abort, waits: &mut Park) -> Result<(
     waits.unmark(first);
     assert!(rt; waits.leave(first) == Some(waiting(None)));
     assert!(rt; waits.first_deadline() == Some(5));
-    waits.mark_due(5);
+    waits.mark_due(at(5));
     assert!(rt; waits.is_marked(second) && waits.has_waiter(INSTANCE));
     assert!(rt; waits.waiter(second).is_some() && waits.any_of(Pid(1)));
     Ok(())

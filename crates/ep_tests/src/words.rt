@@ -1,6 +1,7 @@
 //! Copies with ample memory, and limits.
 use ep_base::{
-    Answer, Buffer, Bytes, Call, Errno, Event, Fd, Limits, Mask, Picked, Pid, Report, Reports,
+    Answer, Buffer, Bytes, Call, EntryNumber, Errno, Event, Fd, Limits, Mask, Picked, Pid, Report,
+    Reports, Span,
 };
 use smallvec::SmallVec;
 use std::test::Fail;
@@ -24,8 +25,8 @@ fn copies_of_events(rt: HostRuntime) -> Result<(), Fail> {
     };
     assert_eq!(rt; fd, Fd(4));
     assert!(rt; bytes == Buffer::new(b"abc".to_vec(alloc)?));
-    let tick = Event::Tick { n: 5 };
-    assert!(rt; matches!(tick.copy()?, Event::Tick { n: 5 }));
+    let tick = Event::Tick { n: Span(5) };
+    assert!(rt; matches!(tick.copy()?, Event::Tick { n: Span(5) }));
     assert!(rt; matches!(Event::Resume.copy()?, Event::Resume));
     Ok(())
 }
@@ -67,8 +68,14 @@ fn are_of_3(answer: &Answer) -> bool {
 
 #[test]
 fn copies_of_picked(rt: HostRuntime) -> Result<(), Fail> {
-    let picked = Picked::new(SmallVec::from_slice(rt.alloc(), [1, 2].as_slice())?);
-    assert_eq!(rt; picked.copy()?.as_slice(), [1, 2].as_slice());
+    let picked = Picked::new(SmallVec::from_slice(
+        rt.alloc(),
+        [EntryNumber(1), EntryNumber(2)].as_slice(),
+    )?);
+    assert_eq!(rt;
+        picked.copy()?.as_slice(),
+        [EntryNumber(1), EntryNumber(2)].as_slice()
+    );
     Ok(())
 }
 

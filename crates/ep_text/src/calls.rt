@@ -13,7 +13,7 @@ use crate::masks::{mask_or_empty, required_operation};
 use crate::op::CallOp;
 use crate::reason::Reason;
 use crate::source::Source;
-use ep_base::{Call, Fd};
+use ep_base::{Call, Fd, Span, Timeout};
 use std::alloc::{AllocError, Global};
 
 fn pipe_call(value: &Source<'_>) -> Result<Call, Reason>
@@ -88,7 +88,11 @@ fn wait_call(value: &Source<'_>) -> Result<Call, Reason>
     let epfd = Fd(required_i32(value, Key::Ep)?);
     let max = required_i32(value, Key::Max)?;
     let timeout = required_i64(value, Key::Timeout)?;
-    Ok(Call::EpollWait { epfd, max, timeout })
+    Ok(Call::EpollWait {
+        epfd,
+        max,
+        timeout: Timeout(timeout),
+    })
 }
 
 fn read_call(value: &Source<'_>) -> Result<Call, Reason>
@@ -136,8 +140,8 @@ fn settime_call(line: &Source<'_>) -> Result<Call, Reason>
     Ok(Call::SetTime {
         fd,
         absolute,
-        value,
-        interval,
+        value: Span(value),
+        interval: Span(interval),
     })
 }
 

@@ -87,7 +87,7 @@ pub fn push_answer(alloc: Global, text: &mut String, answer: &Answer) -> Result<
         Answer::Two(first, second) => push_two(text, first.0, second.0),
         Answer::Bytes(bytes) => push_bytes(alloc, text, bytes.as_slice()),
         Answer::Events(reports) => push_events(text, reports.as_slice()),
-        Answer::Time { value, interval } => push_time(text, *value, *interval),
+        Answer::Time { value, interval } => push_time(text, value.0, interval.0),
         Answer::Parked => text.push_str("{\"parked\":true}\n"),
         Answer::Still => text.push_str("{\"still\":true}\n"),
         Answer::Refused(errno) => push_errno(text, *errno),

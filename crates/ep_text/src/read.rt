@@ -14,7 +14,7 @@ use crate::op::{CallOp, Op};
 use crate::reason::{Name, Reason, unfit, unread};
 use crate::source::Source;
 use crate::value_kind::ValueKind;
-use ep_base::{CallerId, Event, Pid};
+use ep_base::{CallerId, Event, Pid, Span};
 use serde_json::Value;
 use std::alloc::{AllocError, Global};
 
@@ -42,7 +42,7 @@ fn tick_event(value: &Source<'_>) -> Result<Event, Reason>
     ensures { result ≡ tick_event (source_data value.now) }
 {
     let n = required_u64(value, Key::N)?;
-    Ok(Event::Tick { n })
+    Ok(Event::Tick { n: Span(n) })
 }
 
 fn event_of(alloc: Global, op: Op, value: &Source<'_>) -> Result<Result<Event, Reason>, AllocError>

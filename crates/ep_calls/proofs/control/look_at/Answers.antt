@@ -16,11 +16,11 @@ returns-in_default c =
     ap (λ (b : Bool). if b then Instance n.instance else Nowhere)
     (sym (none_looked (has_key n.instance c.args.fd n.desc) (entry_shows (readiness v c.args.now r) v c.args.now) r.entries (sym c.find.ensures.there ∙ ap (λ o. is_some o) c.in_default.is)))
 
-pub shown_at-requires-clause-target : goal.shown_at-requires-clause-target
-shown_at-requires-clause-target c =
+pub shown_at-requires : goal.shown_at-requires
+shown_at-requires c =
     let r = c.args.interest.now in
     let x = c.entry-entry.result.now in
-    (found_passes (IsLinked c.args.tables.now.keys) (λ y. y.number == x.number) x r.entries c.requires.linked c.entry-entry.ensures.entry).desc
+    record { target = (found_passes (IsLinked c.args.tables.now.keys) (λ y. y.number == x.number) x r.entries c.requires.linked c.entry-entry.ensures.entry).desc }
 
 pub returns-then-not-is_reportable : goal.returns-then-not-is_reportable
 returns-then-not-is_reportable c =

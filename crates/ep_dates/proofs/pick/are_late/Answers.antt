@@ -1,4 +1,4 @@
-use Rattle.std.proofs.Common.{◌≡◌, ◌≤◌, ◌∙◌, None, Some, ap, option_copied, subst, sym, ℕ}
+use Rattle.std.proofs.Common.{◌≡◌, ◌≤◌, ◌∙◌, None, Some, ap, leb, option_copied, subst, sym, ℕ}
 use Rattle.std.proofs.lemmas.Bool.{leb-true}
 use Rattle.ep_dates.proofs.PickLemmas.{first_late, first_there, is_none_some}
 use Rattle.ep_dates.specs.Order.{date_found, date_under}
@@ -23,4 +23,4 @@ returns-clause-late c t =
     let first : IsFirstLeft (keys_at d.rows c.args.instance.0) c.args.flags.now.reached c.in-Some.id.0 = c.in-Some.ensures.some in
     let some : entry_under r c.in-Some.id ≡ Some c.in-Some-get.entry.now = sym c.get.ensures ∙ ap option_copied c.in-Some-get.is in
     let date : date_under r d c.in-Some.id.0 ≡ c.since.result = ap (date_found d) some ∙ sym c.since.ensures in
-    first_late r c.known.ensures d c.requires.kept c.args.instance.0 c.args.flags.now.reached c.requires.order.0 c.requires.order.1 c.in-Some.id.0 c.args.latest first (subst (λ (n : ℕ). c.args.latest ≤ n) (sym date) (leb-true c.args.latest c.since.result t))
+    first_late r c.known.ensures d c.requires.kept c.args.instance.0 c.args.flags.now.reached c.requires.order.0 c.requires.order.1 c.in-Some.id.0 c.args.latest first (subst (λ (n : ℕ). c.args.latest ≤ n) (sym date) (leb-true c.args.latest c.since.result (sym (λ i. leb (c.latest.view_is i) (c.result.view_is i)) ∙ t)))

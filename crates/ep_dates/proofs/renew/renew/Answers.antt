@@ -5,6 +5,7 @@ use Rattle.ep_dates.proofs.RenewLemmas.{renews_one}
 use Rattle.ep_dates.specs.Dates.{event_at, id_at, is_dated}
 use Rattle.ep_dates.specs.Renew.{Renews}
 use Rattle.ep_interest.specs.Registrations.{IsSound, entry_under}
+use Rattle.ep_interest.specs.declared.entry.Entry.{Entry}
 use Rattle.ep_dates.proofs.renew.renew.Goals as goal
 
 pub returns : goal.returns
@@ -14,7 +15,7 @@ returns c =
     let d = c.args.dates.now in
     let id = c.id-id.result in
     let at : entry_under p.interest id ≡ Some x = subst (λ (q : Parts). entry_under q.interest id ≡ Some x) c.parts.view_is (sym c.get.ensures ∙ ap option_copied c.in-Some.is) in
-    let number = c.if-entry-number.false in
+    let number : x.number ≡ c.args.number = sym (ap (λ (e : Entry). e.number) c.entry.view_is) ∙ (c.if-entry-number.false ∙ c.number.view_is) in
     let some : nat_lt 0 c.since.result ≡ true = let not_none = c.if-since-eq0.false in grind (arith, nat_tests, not_none) in
     let dated : is_dated d x ≡ true = ap (λ (k : ℕ). nat_lt 0 (event_at d.since k)) number ∙ (ap (λ (k : ℕ). nat_lt 0 k) (sym c.since.ensures) ∙ some) in
     let key : id_at d.ids x.number ≡ id = ap (id_at d.ids) number ∙ sym c.id-id.ensures in

@@ -1,4 +1,4 @@
-use Rattle.std.proofs.Common.{ap, arith, ◌∙◌}
+use Rattle.std.proofs.Common.{ap, arith, sym, ◌∙◌}
 use Rattle.ep_interest.specs.Passes.{passes_on}
 use Rattle.ep_interest.proofs.PassesLemmas.{held_within, room_for}
 use Rattle.ep_interest.proofs.interest.raise_one.Goals as goal
@@ -9,5 +9,5 @@ follow-requires-clause-room g c off =
     let ids = c.args.passes.now.keys.items in
     let k = c.args.id.0 in
     let is = c.index_mut-entry.ensures.value in
-    let fits = room_for slots ids k c.requires.passing (held_within slots k c.index_mut-entry.result.now is) (c.requires.passing.each k ∙ (ap passes_on is ∙ off)) in
+    let fits = room_for slots ids k c.requires.passing (held_within slots k c.index_mut-entry.result.now is) (c.requires.passing.each k ∙ (ap passes_on is ∙ sym c.is_event.ensures ∙ off)) in
     omega (arith, fits, c.requires.room)

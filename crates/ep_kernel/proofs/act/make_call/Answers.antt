@@ -102,12 +102,10 @@ returns-in-EpollWait-clause-order c =
     let x = c.in-EpollWait in
     let p = c.args.parts.now in
     let max : SFits w32 x.max = search rules in
-    let timeout : SFits w64 x.timeout = search rules in
     IfOk-weaker c.epoll_wait.result _ _ (λ outcome told.
     let P : Call → Type 0 = λ call. ReportsInOrder c.args.lists.now c.args.request.step c.args.request.caller.0 (CallOf c.args.pid call) outcome p c.epoll_wait.new.parts c.epoll_wait.new.lists in
     subst P (sym x.is)
-    (subst (λ (z : ℤ). P (EpollWait x.epfd x.max z)) (to_z-of_z w64 x.timeout timeout)
-    (subst (λ (z : ℤ). P (EpollWait x.epfd z (to_z w64 (of_z w64 x.timeout)))) (to_z-of_z w32 x.max max) told))) c.epoll_wait.ensures.order
+    (subst (λ (z : ℤ). P (EpollWait x.epfd z x.timeout)) (to_z-of_z w32 x.max max) told)) c.epoll_wait.ensures.order
 
 pub returns-in-Read-clause-tables : goal.returns-in-Read-clause-tables
 returns-in-Read-clause-tables c =

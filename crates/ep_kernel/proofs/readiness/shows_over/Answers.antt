@@ -3,7 +3,7 @@ use Rattle.std.proofs.Common.{sym}
 use Rattle.ep_calls.specs.Stands.{IsLinked}
 use Rattle.ep_kernel.proofs.readiness.shows_over.Goals as goal
 
-pub shown_at-requires-clause-target : goal.shown_at-requires-clause-target
-shown_at-requires-clause-target c =
+pub shown_at-requires : goal.shown_at-requires
+shown_at-requires c =
     let k = c.parts.inside in
-    (holds_under (IsLinked k.tables.keys) k.interest c.args.id c.in-Some.entry.now c.parts.invariant.linked (sym c.in-Some.ensures)).desc
+    record { target = (holds_under (IsLinked k.tables.keys) k.interest c.args.id c.in-Some.entry.now c.parts.invariant.linked (sym c.in-Some.ensures)).desc }

@@ -20,7 +20,7 @@ pub returns-then-since-eq0-clause-entry : goal.returns-then-since-eq0-clause-ent
 returns-then-since-eq0-clause-entry c =
     let p = c.args.parts.now in
     let sound = subst (λ (q : Parts). IsSound q.interest) c.parts.view_is c.known-2.ensures in
-    undated_none p c.args.dates.now c.args.instance sound c.requires.shown c.requires.kept c.args.number (sym c.since.ensures ∙ c.if-since-eq0.true)
+    undated_none p c.args.dates.now c.args.instance sound c.requires.shown c.requires.kept c.args.number (sym c.since.ensures ∙ (sym c.since-2.view_is ∙ c.if-since-eq0.true))
 
 pub returns-in_err-entry-clause-entry : goal.returns-in_err-entry-clause-entry
 returns-in_err-entry-clause-entry c =
@@ -30,14 +30,14 @@ returns-in_err-entry-clause-entry c =
     let none : entry_under p.interest (id_at c.args.dates.now.ids k) ≡ None = ap (entry_under p.interest) (sym c.id-id.ensures) ∙ subst (λ (q : Parts). entry_under q.interest c.id-id.result ≡ None) c.parts.view_is (sym c.get.ensures ∙ ap option_copied c.in_err-entry.was) in
     ap (option_map (λ (x : Reportable). x.entry)) c.from_residual.ensures ∙ absent_none p c.args.dates.now c.args.instance sound c.requires.shown c.requires.kept k none
 
-pub returns-then-entry-number-clause-entry : goal.returns-then-entry-number-clause-entry
-returns-then-entry-number-clause-entry c =
+pub returns-then-found-number-clause-entry : goal.returns-then-found-number-clause-entry
+returns-then-found-number-clause-entry c =
     let p = c.args.parts.now in
     let k = c.args.number in
     let x = c.in_ok-entry.entry.now in
     let sound = subst (λ (q : Parts). IsSound q.interest) c.parts.view_is c.known-2.ensures in
     let at : entry_under p.interest (id_at c.args.dates.now.ids k) ≡ Some x = ap (entry_under p.interest) (sym c.id-id.ensures) ∙ subst (λ (q : Parts). entry_under q.interest c.id-id.result ≡ Some x) c.parts.view_is (sym c.in_ok-entry.ensures) in
-    other_none p c.args.dates.now c.args.instance sound c.requires.shown c.requires.kept k x at (λ number of. c.if-entry-number.true number)
+    other_none p c.args.dates.now c.args.instance sound c.requires.shown c.requires.kept k x at (λ number of. c.if-found-number.true (c.found.view_is ∙ (number ∙ sym c.number.view_is)))
 
 pub returns-then-ne-clause-entry : goal.returns-then-ne-clause-entry
 returns-then-ne-clause-entry c =
@@ -62,8 +62,8 @@ returns-clause-entry c =
     let sound = subst (λ (q : Parts). IsSound q.interest) c.parts.view_is c.known-2.ensures in
     let at : entry_under p.interest (id_at c.args.dates.now.ids k) ≡ Some x = ap (entry_under p.interest) (sym c.id-id.ensures) ∙ subst (λ (q : Parts). entry_under q.interest c.id-id.result ≡ Some x) c.parts.view_is (sym c.in_ok-entry.ensures) in
     let of : x.instance.0 ≡ c.args.instance.0 = grind (arith, nat_tests, c.ne.ensures, c.if-ne.false) in
-    let after : nat_lt 0 (event_at c.args.dates.now.since k) ≡ true = grind (arith, nat_tests, c.since.ensures, c.if-since-eq0.false) in
-    ap (λ (y : Entry). Some y) c.reportable.ensures.entry ∙ some_numbered p c.args.dates.now c.args.instance sound c.requires.shown c.requires.kept k x at c.if-entry-number.false of after
+    let after : nat_lt 0 (event_at c.args.dates.now.since k) ≡ true = grind (arith, nat_tests, c.since.ensures, c.since-2.view_is, c.if-since-eq0.false) in
+    ap (λ (y : Entry). Some y) c.reportable.ensures.entry ∙ some_numbered p c.args.dates.now c.args.instance sound c.requires.shown c.requires.kept k x at (sym c.found.view_is ∙ (c.if-found-number.false ∙ c.number.view_is)) of after
 
 pub returns-clause-keyed : goal.returns-clause-keyed
 returns-clause-keyed c =

@@ -1,6 +1,6 @@
 use Rattle.std.proofs.Common.{◌≡◌, ◌++◌, ◌+◌, ◌∙◌, [], ◌∷◌, Global, List, Vec, ap, drop, map, subst, sym}
 use Rattle.std.specs.List.{filter_map}
-use Rattle.std.proofs.lemmas.List.{map-append}
+use Rattle.std.proofs.lemmas.List.{get_or_default, map-append}
 use Rattle.std.proofs.lemmas.List.Elements.{All-append}
 use Rattle.ep_calls.specs.Wait.{AreKeyed, IsKeyed}
 use Rattle.ep_calls.specs.declared.wait.Reportable.{Reportable}
@@ -18,6 +18,7 @@ loop-pick-preserved c =
     let i = c.loop-pick.pick-index in
     let find = numbered (reportables_at p.tables p.clock p.interest c.args.instance) in
     let done = c.loop-pick.chosen.items in
+    let it = c.pick-item.is ∙ get_or_default ks i c.pick-item.result 0 c.loop-pick-test.true in
     let P = IsKeyed p.tables p.clock p.interest in
     let entries : List Reportable → List Entry = map (λ x. x.entry) in
     elim c.match-find_number.branch [
@@ -28,7 +29,7 @@ loop-pick-preserved c =
             told =
                 ap (λ (xs : List Reportable). entries xs ++ filter_map find (drop (i + 1) ks)) items
                 ∙ (ap (λ (xs : List Entry). xs ++ filter_map find (drop (i + 1) ks)) (map-append (λ (y : Reportable). y.entry) done (x ∷ []))
-                ∙ taken_more find (entries done) ks i c.loop-pick-test.true c.loop-pick.invariant.told x.entry w.in-Some.ensures.entry);
+                ∙ taken_more find (entries done) ks i c.loop-pick-test.true c.loop-pick.invariant.told x.entry (w.in-Some.ensures.entry ∙ ap find it));
             keyed = subst (λ (xs : List Reportable). AreKeyed p.tables p.clock p.interest xs) (sym items) (All-append P done (x ∷ []) c.loop-pick.invariant.keyed w.in-Some.ensures.keyed);
           }
       | in_default w ↦
@@ -36,7 +37,7 @@ loop-pick-preserved c =
           record {
             told =
                 ap (λ (xs : List Reportable). entries xs ++ filter_map find (drop (i + 1) ks)) same
-                ∙ taken_none find (entries done) ks i c.loop-pick-test.true c.loop-pick.invariant.told w.in_default.ensures.entry;
+                ∙ taken_none find (entries done) ks i c.loop-pick-test.true c.loop-pick.invariant.told (w.in_default.ensures.entry ∙ ap find it);
             keyed = subst (λ (xs : List Reportable). AreKeyed p.tables p.clock p.interest xs) (sym same) c.loop-pick.invariant.keyed;
           }
     ]

@@ -1,4 +1,4 @@
-use Rattle.std.proofs.Common.{rules, ◌≡◌, ◌∙◌, Bool, SFits, false, not, sym, true, w32, w64}
+use Rattle.std.proofs.Common.{rules, ◌≡◌, ◌∙◌, Bool, SFits, false, not, sym, true, w32}
 use Rattle.std.proofs.lemmas.Int.{to_z-of_z}
 use Rattle.ep_calls.specs.Acts.{is_no_memory as wants_memory}
 use Rattle.ep_pool.specs.Steps.{Makes}
@@ -15,8 +15,7 @@ returns-clause-made g c goes =
       | in-Wait w ↦
           (let x = w.in-Wait in
           let max_fits : SFits w32 x.max = search rules in
-          let time_fits : SFits w64 x.timeout = search rules in
-          let adds = rw (to_z-of_z w32 x.max max_fits, to_z-of_z w64 x.timeout time_fits) at w.wait-answer.ensures.adds in
+          let adds = rw (to_z-of_z w32 x.max max_fits) at w.wait-answer.ensures.adds in
           rw (w.session-is, w.answer-is, x.is) adds)
       | in-Tick w ↦ rw (w.session-is, w.answer-is, w.in-Tick.is) w.tick-answer.ensures.adds
     ] in

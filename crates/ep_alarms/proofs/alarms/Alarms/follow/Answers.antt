@@ -5,8 +5,8 @@ use Rattle.ep_table.specs.Value.{number_under}
 use Rattle.ep_alarms.proofs.ChangesLemmas.{call_creates, found_lives, found_set, is_none_of, other_call, other_event}
 use Rattle.ep_alarms.proofs.alarms.Alarms.follow.Goals as goal
 
-pub set-requires-clause-live : goal.set-requires-clause-live
-set-requires-clause-live c = subst (λ (r : Parts). IsSome (number_under r.tables c.in-Some.desc)) (sym c.parts.view_is) (found_lives c.args.event.now c.args.called c.args.outcome.now c.args.has_room c.args.parts.now c.args.self.now c.requires.before c.known.ensures.sound c.in-Some.desc c.in-Some.is)
+pub set-requires : goal.set-requires
+set-requires c = record { live = subst (λ (r : Parts). IsSome (number_under r.tables c.in-Some.desc)) (sym c.parts.view_is) (found_lives c.args.event.now c.args.called c.args.outcome.now c.args.has_room c.args.parts.now c.args.self.now c.requires.before c.known.ensures.sound c.in-Some.desc c.in-Some.is) }
 
 pub returns-in-Some : goal.returns-in-Some
 returns-in-Some c = found_set c.args.event.now c.args.called c.args.outcome.now c.args.has_room c.args.parts.now c.args.self.now c.requires.before c.known.ensures.sound c.in-Some.desc c.in-Some.is c.set.new.self

@@ -7,7 +7,7 @@ pub invariant_of-result : goal.invariant_of-result
 invariant_of-result c =
     let t = c.in_ok-new.ensures in
     let r = c.new-2.ensures in
-    let p : Parts = record { tables = c.in_ok-new.field-0; interest = c.new-2.result; graph = c.new-3.result; parked = c.new-4.result; clock = 0 } in
+    let p : Parts = record { tables = c.in_ok-new.field-0; interest = c.new-2.result; graph = c.new-3.result; parked = c.new-4.result; clock = c.first.result } in
     let opening : AreOpening c.args.limits p = record {
       limits = t.limits;
       files = t.files;
@@ -17,7 +17,7 @@ invariant_of-result c =
       interest = λ i. record { entries = r.entries i; keys = r.keys i; added = r.added i; next = r.next i };
       graph = c.new-3.ensures;
       parked = c.new-4.ensures;
-      clock = refl;
+      clock = c.first.ensures;
     } in
     coherent_opening c.args.limits p opening
 
@@ -34,5 +34,5 @@ returns c =
       interest = λ i. record { entries = r.entries i; keys = r.keys i; added = r.added i; next = r.next i };
       graph = c.new-3.ensures;
       parked = c.new-4.ensures;
-      clock = refl;
+      clock = c.first.ensures;
     }

@@ -1,4 +1,5 @@
-use Rattle.std.proofs.Common.{◌≡◌, ◌∙◌, ◌==◌, ◌⊎◌, false, true, SFits, List, ap, inl, inr, length, map, of_z, pos, refl, rules, subst, sym, to_z, w32, w64, ℕ}
+use Rattle.std.proofs.Common.{◌≡◌, ◌∙◌, ◌==◌, ◌⊎◌, false, true, SFits, List, ap, inl, inr, length, map, of_z, pos, refl, rules, subst, sym, to_z, w32, ℕ}
+use Rattle.std.proofs.lemmas.Bool.{false≢true}
 use Rattle.std.proofs.lemmas.Int.{to_z-of_z}
 use Rattle.std.proofs.lemmas.Result.{IfOk-weaker}
 use Rattle.ep_base.specs.declared.answer.Answer.TheVariants.{Parked}
@@ -21,8 +22,8 @@ invariant_of-self c =
     let p : Parts = record { tables = k.tables; interest = k.interest; graph = k.graph; parked = k.waiters; clock = k.clock } in
     stays_reported p c.report.new.interest c.args.step c.args.chosen.now c.report.result c.self.invariant c.report.ensures.ok c.report.ensures.err
 
-pub returns-then-args-eq0-clause-ok : goal.returns-then-args-eq0-clause-ok
-returns-then-args-eq0-clause-ok c =
+pub returns-then-at_once-clause-ok : goal.returns-then-at_once-clause-ok
+returns-then-at_once-clause-ok c =
     let k = c.self.inside in
     let p : Parts = record { tables = k.tables; interest = k.interest; graph = k.graph; parked = k.waiters; clock = k.clock } in
     let new : Parts = record p { interest = c.report.new.interest } in
@@ -30,10 +31,9 @@ returns-then-args-eq0-clause-ok c =
     let chosen = c.args.chosen.now in
     let of = subst (λ (q : Parts). Waits q.tables x c.args.instance) (sym c.self.view_is) c.requires.waits in
     let keyed = subst (λ (q : Parts). AreKeyed q.tables q.clock q.interest chosen) (sym c.self.view_is) c.requires.keyed in
-    let time_fits : SFits w64 x.timeout = search rules in
-    let why : ((length chosen == 0) ≡ false) ⊎ (x.timeout ≡ pos 0) = elim c.if-args-eq0.either [
+    let why : ((length chosen == 0) ≡ false) ⊎ (x.timeout ≡ pos 0) = elim c.if-at_once.either [
       | inl some ↦ inl (sym c.is_empty.ensures ∙ some)
-      | inr none ↦ inr (sym (to_z-of_z w64 x.timeout time_fits) ∙ ap (to_z w64) none.1)
+      | inr none ↦ inr (c.is_zero-at_once.ensures.0 none.1)
     ] in
     rw (← c.self.view_is) (IfOk-weaker c.report.result _ _ (λ (o : Outcome) made.
     wait_does (IsPick p.tables c.args.instance (number_in x.max) chosen) c.args.step c.args.caller.0 o p new made.1 refl refl refl x (λ s at sound quiet legal stands pick.
@@ -46,16 +46,15 @@ park-requires-clause-used c =
     let of = subst (λ (q : Parts). Waits q.tables c.args.args c.args.instance) (sym c.self.view_is) c.requires.waits in
     not_dying k.tables c.args.args.pid.0 c.args.args.epfd.0 c.args.instance c.known.ensures of.named of.lives
 
-pub invariant_of-self-else-args-eq0 : goal.invariant_of-self-else-args-eq0
-invariant_of-self-else-args-eq0 c =
+pub invariant_of-self-else-at_once : goal.invariant_of-self-else-at_once
+invariant_of-self-else-at_once c =
     let k = c.self.inside in
     let p : Parts = record { tables = k.tables; interest = k.interest; graph = k.graph; parked = k.waiters; clock = k.clock } in
     let x = c.args.args in
     let of = subst (λ (q : Parts). Waits q.tables x c.args.instance) (sym c.self.view_is) c.requires.waits in
     let max_fits : SFits w32 x.max = search rules in
-    let time_fits : SFits w64 x.timeout = search rules in
     let e = c.in_ok-park.ensures in
-    let more = parked_waiting k.waiters c.park.new.waiters c.args.caller.0 x c.args.instance k.clock (to_z w32 (of_z w32 x.max)) (to_z w64 (of_z w64 x.timeout)) c.deadline.result (to_z-of_z w32 x.max max_fits) (to_z-of_z w64 x.timeout time_fits) c.deadline.ensures e.parked in
+    let more = parked_waiting k.waiters c.park.new.waiters c.args.caller.0 x c.args.instance k.clock (to_z w32 (of_z w32 x.max)) x.timeout c.deadline.result (to_z-of_z w32 x.max max_fits) refl c.deadline.ensures e.parked in
     coherent_parked p c.park.new.tables c.park.new.waiters c.self.invariant e.files e.keys (placed_waiting k.tables k.waiters c.park.new.waiters c.args.caller.0 x c.args.instance k.clock of c.self.invariant.placed more) e.held
 
 pub returns-in_ok-park-clause-ok : goal.returns-in_ok-park-clause-ok
@@ -71,12 +70,11 @@ returns-in_ok-park-clause-ok c =
     let of = subst (λ (q : Parts). Waits q.tables x c.args.instance) (sym c.self.view_is) c.requires.waits in
     let keyed = subst (λ (q : Parts). AreKeyed q.tables q.clock q.interest chosen) (sym c.self.view_is) c.requires.keyed in
     let max_fits : SFits w32 x.max = search rules in
-    let time_fits : SFits w64 x.timeout = search rules in
-    let none : (length chosen == 0) ≡ true = sym c.is_empty.ensures ∙ c.if-args-eq0.false.0 in
-    let more = parked_waiting k.waiters new.parked caller x c.args.instance k.clock (to_z w32 (of_z w32 x.max)) (to_z w64 (of_z w64 x.timeout)) c.deadline.result (to_z-of_z w32 x.max max_fits) (to_z-of_z w64 x.timeout time_fits) c.deadline.ensures e.parked in
+    let none : (length chosen == 0) ≡ true = sym c.is_empty.ensures ∙ c.if-at_once.false.0 in
+    let more = parked_waiting k.waiters new.parked caller x c.args.instance k.clock (to_z w32 (of_z w32 x.max)) x.timeout c.deadline.result (to_z-of_z w32 x.max max_fits) refl c.deadline.ensures e.parked in
     rw (← c.self.view_is) (wait_does (IsPick p.tables c.args.instance (number_in x.max) chosen) c.args.step caller c.settled.result p new o.raising e.files e.keys e.limits x (λ s at sound quiet legal stands pick.
     goes_told (wait_refusals s x.pid.0 x.epfd.0 x.max) (λ ks. wait s caller x.pid.0 (named_by s.files x.pid.0 x.epfd.0) (number_in x.max) x.timeout ks) s c.settled.result.answer Parked c.settled.result.picked new o.answer o.picked
-    (goes_parked p.tables x c.args.instance of p.graph p.clock p.interest c.args.step chosen keyed caller s at legal stands pick new.tables new.parked none (λ z. c.if-args-eq0.false.1 (ap (of_z w64) z)) e.files e.keys more)))
+    (goes_parked p.tables x c.args.instance of p.graph p.clock p.interest c.args.step chosen keyed caller s at legal stands pick new.tables new.parked none (λ z. false≢true (sym c.if-at_once.false.1 ∙ c.is_zero-at_once.ensures.1 z)) e.files e.keys more)))
 
 pub returns-in_ok-park-clause-entries : goal.returns-in_ok-park-clause-entries
 returns-in_ok-park-clause-entries c =
@@ -84,4 +82,4 @@ returns-in_ok-park-clause-entries c =
     rw (← c.self.view_is) (sym (noted_none c.args.step xs) ∙ ap (λ (ks : List ℕ). map (with_report c.args.step ks) xs) (sym c.settled.ensures.picked))
 
 pub returns-in_ok-park-clause-picked : goal.returns-in_ok-park-clause-picked
-returns-in_ok-park-clause-picked c = c.settled.ensures.picked ∙ sym (no_numbers c.args.chosen.now (sym c.is_empty.ensures ∙ c.if-args-eq0.false.0))
+returns-in_ok-park-clause-picked c = c.settled.ensures.picked ∙ sym (no_numbers c.args.chosen.now (sym c.is_empty.ensures ∙ c.if-at_once.false.0))

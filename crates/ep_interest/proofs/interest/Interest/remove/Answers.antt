@@ -43,7 +43,7 @@ pub follow-requires-clause-room : goal.follow-requires-clause-room
 follow-requires-clause-room g c off =
     let k = c.self.inside in
     let was = c.remove-entry.ensures.value in
-    let fits = room_for k.slots.slots k.passes.keys.items c.args.id.0 c.self.invariant.passing (held_within k.slots.slots c.args.id.0 c.remove-entry.result was) (c.self.invariant.passing.each c.args.id.0 ∙ (ap passes_on was ∙ off)) in
+    let fits = room_for k.slots.slots k.passes.keys.items c.args.id.0 c.self.invariant.passing (held_within k.slots.slots c.args.id.0 c.remove-entry.result was) (c.self.invariant.passing.each c.args.id.0 ∙ (ap passes_on was ∙ sym c.is_event.ensures ∙ off)) in
     omega (arith, fits, c.self.invariant.room)
 
 guards_left : (g : Over) (c : goal.After-remove-2 g) → Emptied c.self.inside.slots.slots c.remove-entry.new.self.slots c.args.id.0 c.remove-entry.result
