@@ -1,6 +1,6 @@
 -- The clock's last moment.
 use Rattle.std.specs.Prelude.{ℕ}
 
--- in milliseconds since the clock began
+-- in microseconds since the clock began
 abbrev pub last_moment : ℕ
-last_moment = 1000000000000
+last_moment = 1000000000000000

@@ -50,9 +50,11 @@ pub enum Call {
     },
     /// epoll_ctl(2) on the registration of `fd` in the instance `epfd`: `op` is ADD 1, DEL 2 or MOD 3, and `tag` the
     /// data that its reports carry. DEL looks at neither mask nor tag. Answered by `Answer::Done`.
-    /// EBADF for `epfd`, EBADF for `fd`, EPERM for a file that can't be polled, EINVAL where `epfd` is no instance or
-    /// both are one description, EINVAL for another `op`, EINVAL for a mask with EXCLUSIVE, ENOENT or EEXIST, ELOOP
-    /// where instances would watch each other in a loop or in a chain of more than five, ENOSPC past `Limits::watches`.
+    /// EBADF for `epfd`, EBADF for `fd`, EPERM for a file that can't be polled, EINVAL if `epfd` is no instance or both
+    /// are one description, EINVAL for another `op`. With EXCLUSIVE, EINVAL for MOD, for an instance as target, and for
+    /// a bit beside IN, OUT, ERR, HUP, WAKEUP and ET. Then ENOENT or EEXIST, EINVAL for MOD of an exclusive
+    /// registration, ELOOP if instances would watch each other in a loop or in a chain of more than five, ENOSPC past
+    /// `Limits::watches`.
     EpollCtl {
         epfd: Fd,
         op: i32,

@@ -4,10 +4,10 @@ ghost use Rattle.ep_base.specs.Time.{last_moment};
 
 use std::marker::Model;
 
-/// The last moment of the simulated clock, in milliseconds since it began.
-pub const LAST_MOMENT: u64 = 1_000_000_000_000;
+/// The last moment of the simulated clock, in microseconds since it began.
+pub const LAST_MOMENT: u64 = 1_000_000_000_000_000;
 
-/// A moment of the simulated clock: so many milliseconds since it began, at most `LAST_MOMENT`.
+/// A moment of the simulated clock: so many microseconds since it began, at most `LAST_MOMENT`.
 #[derive(Clone, Copy, Debug, PartialEq, Eq)]
 pub struct Moment {
     at: u64,
@@ -34,7 +34,7 @@ impl Moment {
         Moment { at: 0 }
     }
 
-    /// The moment so many milliseconds after the clock began. `None` past the last one.
+    /// The moment so many microseconds after the clock began. `None` past the last one.
     pub fn new(at: u64) -> Option<Moment>
         ensures there { IsSome result ↔ (at ≤ last_moment) }
         ensures at { IfSome result (λ m. m ≡ at) }
@@ -56,7 +56,7 @@ impl Moment {
         Some(Moment { at: self.at + by.0 })
     }
 
-    /// How many milliseconds after the clock began it is, at most `LAST_MOMENT`.
+    /// How many microseconds after the clock began it is, at most `LAST_MOMENT`.
     pub fn at(self) -> u64
         ensures at { result ≡ self }
         ensures bound { result ≤ last_moment }
@@ -65,7 +65,7 @@ impl Moment {
     }
 }
 
-/// A span of time: so many milliseconds. A caller may ask for any that 64 bits hold.
+/// A span of time: so many microseconds. A caller may ask for any that 64 bits hold.
 #[derive(Clone, Copy, Debug, PartialEq, Eq)]
 pub struct Span(pub u64);
 
@@ -79,7 +79,7 @@ impl Model for Span {
     ghost inverse = { λ n. record { 0 = n } };
 }
 
-/// How long a wait lasts at most, in milliseconds: 0 not at all, and below 0 without end.
+/// How long a wait lasts at most, in microseconds: 0 not at all, and below 0 without end.
 #[derive(Clone, Copy, Debug, PartialEq, Eq)]
 pub struct Timeout(pub i64);
 

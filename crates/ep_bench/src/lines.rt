@@ -2,7 +2,7 @@
 
 use crate::fault::Fault;
 use ep_base::{CallerId, Event};
-use ep_text::read_line;
+use ep_text::{Version, read_line};
 use std::alloc::Global;
 use std::io::{self, Read};
 
@@ -13,7 +13,7 @@ fn add_line(
     number: u64,
     events: &mut Vec<(CallerId, Event)>,
 ) -> Result<(), Fault> {
-    let Some(event) = read_line(alloc, line.as_bytes())? else {
+    let Some(event) = read_line(alloc, Version::V1, line.as_bytes())? else {
         return Err(Fault::NoEvent(number));
     };
     match events.push(event) {

@@ -8,7 +8,7 @@ use Rattle.ep_machine.specs.Timer.{last_moment}
 use Rattle.ep_calls.specs.declared.raising.Raising.{Raising}
 use Rattle.ep_calls.specs.declared.raising.Raising.TheVariants.{Clock, Nowhere}
 
--- it goes on by so many milliseconds, or is refused to and stays
+-- it goes on by so much, or is refused to and stays
 abbrev pub Ticks : ℕ → ℕ → ℕ → Answer → Type 0
 Ticks now k then answer = MatchOption (first ((nat_lt last_moment (now + k), Einval) ∷ []))
     ((answer ≡ Done) × (then ≡ now + k)) (λ e. (answer ≡ Refused e) × (then ≡ now))

@@ -10,7 +10,7 @@ use Rattle.ep_machine.specs.Waits.{is_due, tick}
 abbrev pub first_marked : State → Option ℕ
 first_marked s = option_map (λ w. w.caller) (find (λ w. w.marked) s.waiters)
 
--- a tick of k milliseconds raises a bit
+-- a tick of k raises a bit
 abbrev pub tick_raises : State → ℕ → Bool
 tick_raises s k = list_any (λ x. nat_lt 0 x.1) (tick s k).2
 

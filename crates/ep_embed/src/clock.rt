@@ -4,7 +4,7 @@ ghost use Rattle.std.specs.Prelude.{◌≡◌, ◌+◌, true, false};
 use ep_base::{Answer, CallerId, Event, Span};
 use ep_plain::Kernel;
 
-/// Moves the clock by `n` milliseconds. False, and it stands still, where it would pass its last moment or
+/// Moves the clock by `n` microseconds. False, and it stands still, where it would pass its last moment or
 /// the history found no memory.
 pub fn advance<K: Kernel>(kernel: &mut K, caller: CallerId, n: Span) -> bool
     ensures moved { result ≡ true → (K.state kernel.new).now ≡ (K.state kernel.old).now + n }

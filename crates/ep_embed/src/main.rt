@@ -67,7 +67,7 @@ fn wait_at(epfd: i32, timeout: Timeout) -> Call {
 
 /// Waits for 100 milliseconds at most: whether that parks the reader.
 fn wait<K: Kernel>(kernel: &mut K) -> bool {
-    let wait = in_process(wait_at(5, Timeout(100)));
+    let wait = in_process(wait_at(5, Timeout(100_000)));
     matches!(kernel.step(READER, wait), Answer::Parked)
 }
 
@@ -97,10 +97,10 @@ fn act_out<K: Kernel>(rt: &HostRuntime, kernel: &mut K) -> io::Result<()> {
     let answers = open(rt.alloc(), kernel)?;
     print_opened(rt, &answers)?;
     println!(rt; "parked: {}", wait(kernel))?;
-    println!(rt; "moved: {}", advance(kernel, WRITER, Span(40)))?;
+    println!(rt; "moved: {}", advance(kernel, WRITER, Span(40_000)))?;
     write(rt.alloc(), kernel)?;
     println!(rt;
-        "at {} ms marked: {}",
+        "at {} us marked: {}",
         kernel.now().at(),
         kernel.is_marked(READER)
     )?;

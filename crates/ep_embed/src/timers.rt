@@ -17,7 +17,7 @@ fn open_timer<K: Kernel>(alloc: Global, kernel: &mut K) -> Result<Vec<Answer>, A
     let set = Call::SetTime {
         fd: Fd(6),
         absolute: false,
-        value: Span(30),
+        value: Span(30_000),
         interval: Span(0),
     };
     let watch = Call::EpollCtl {
@@ -40,7 +40,7 @@ fn open_timer<K: Kernel>(alloc: Global, kernel: &mut K) -> Result<Vec<Answer>, A
 /// Whether two waits park: one without end at the timer's instance, and one of 50 milliseconds at the other.
 fn wait_for_both<K: Kernel>(kernel: &mut K) -> bool {
     let first = kernel.step(READER, in_process(wait_at(7, Timeout(-1))));
-    let second = kernel.step(WRITER, in_process(wait_at(8, Timeout(50))));
+    let second = kernel.step(WRITER, in_process(wait_at(8, Timeout(50_000))));
     matches!((first, second), (Answer::Parked, Answer::Parked))
 }
 
@@ -54,5 +54,5 @@ pub(crate) fn let_end<K: Kernel>(rt: &HostRuntime, kernel: &mut K) -> io::Result
     )?;
     println!(rt; "nothing more to do: {}", drive(kernel, WRITER, 8))?;
     let parked = kernel.is_parked(READER) || kernel.is_parked(WRITER);
-    println!(rt; "at {} ms parked: {parked}", kernel.now().at())
+    println!(rt; "at {} us parked: {parked}", kernel.now().at())
 }

@@ -1,15 +1,26 @@
 //! Makes the events of a script as one list, in place of line by line.
 
+use crate::script::{is_bad, is_header};
 use ep_base::{Answer, CallerId, Event};
 use ep_plain::{Kernel, run};
-use ep_text::{push_answer, read_line};
+use ep_text::{Version, push_answer, read_header, read_line};
 use std::alloc::{AllocError, Global};
 
-/// What the lines of the script that are commands ask for.
-fn events_of(alloc: Global, script: &str) -> Result<Vec<(CallerId, Event)>, AllocError> {
+/// The version that the first line names, and version 1 if it names none.
+fn version_of(alloc: Global, script: &str) -> Result<Version, AllocError> {
+    let first = script.lines().next().unwrap_or("");
+    Ok(read_header(alloc, first.as_bytes())?.unwrap_or(Version::V1))
+}
+
+/// What the lines of the script that are commands ask for. The header is none.
+fn events_of(
+    alloc: Global,
+    version: Version,
+    script: &str,
+) -> Result<Vec<(CallerId, Event)>, AllocError> {
     let mut events = Vec::new(alloc);
     for line in script.lines() {
-        if let Some(event) = read_line(alloc, line.as_bytes())? {
+        if let Some(event) = read_line(alloc, version, line.as_bytes())? {
             events.push(event)?;
         }
     }
@@ -17,10 +28,10 @@ fn events_of(alloc: Global, script: &str) -> Result<Vec<(CallerId, Event)>, Allo
 }
 
 /// The lines of the answers.
-fn text_of(alloc: Global, answers: &[Answer]) -> Result<String, AllocError> {
+fn text_of(alloc: Global, version: Version, answers: &[Answer]) -> Result<String, AllocError> {
     let mut text = String::new(alloc);
     for answer in answers {
-        push_answer(alloc, &mut text, answer)?;
+        push_answer(alloc, version, &mut text, answer)?;
     }
     Ok(text)
 }
@@ -29,7 +40,7 @@ fn text_of(alloc: Global, answers: &[Answer]) -> Result<String, AllocError> {
 fn to_commands(alloc: Global, answers: &str) -> Result<String, AllocError> {
     let mut text = String::new(alloc);
     for line in answers.split_inclusive('\n') {
-        if !line.starts_with("{\"bad\":") {
+        if !is_bad(line) && !is_header(line) {
             text.push_str(line)?;
         }
     }
@@ -43,8 +54,9 @@ pub(crate) fn are_events_answered<K: Kernel>(
     script: &str,
     answers: &str,
 ) -> Result<bool, AllocError> {
-    let given = run(kernel, events_of(alloc, script)?)?;
-    let found = text_of(alloc, &given)?;
+    let version = version_of(alloc, script)?;
+    let given = run(kernel, events_of(alloc, version, script)?)?;
+    let found = text_of(alloc, version, &given)?;
     let wanted = to_commands(alloc, answers)?;
     Ok(found.as_str() == wanted.as_str())
 }

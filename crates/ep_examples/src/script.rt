@@ -21,22 +21,29 @@ pub(crate) fn run<K: Kernel>(
     (outcome, writer.into_inner())
 }
 
+/// Whether a line that is answered so is no command.
+pub(crate) fn is_bad(answer: &str) -> bool {
+    answer.starts_with("{\"bad\":")
+}
+
+/// Whether a line that is answered so is the header.
+pub(crate) fn is_header(answer: &str) -> bool {
+    answer.starts_with("{\"version\":")
+}
+
 /// What a run counts whose answers these are, where memory suffices: each line that is a command
 /// makes a record.
 fn summary_of(answers: &str) -> Summary {
-    let mut lines = 0u64;
-    let mut bad = 0u64;
+    let mut summary = Summary::default();
     for answer in answers.lines() {
-        lines = lines.saturating_add(1);
-        if answer.starts_with("{\"bad\":") {
-            bad = bad.saturating_add(1);
+        summary.lines = summary.lines.saturating_add(1);
+        if is_bad(answer) {
+            summary.bad = summary.bad.saturating_add(1);
+        } else if !is_header(answer) {
+            summary.records = summary.records.saturating_add(1);
         }
     }
-    Summary {
-        lines,
-        records: lines.saturating_sub(bad),
-        bad,
-    }
+    summary
 }
 
 /// Whether the audit finds the kernel's history to be a run under its limits.

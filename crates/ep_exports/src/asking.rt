@@ -8,7 +8,7 @@ use ep_calls::Kernel;
 use ep_handle::Handle;
 use std::alloc::Global;
 
-/// The simulated clock, in milliseconds: 0 and the moment, or -EBADF.
+/// The simulated clock, in microseconds: 0 and the moment, or -EBADF.
 #[unsafe(no_mangle)]
 pub extern "C" fn ep_now(alloc: Global, handle: &mut Handle, moment: &mut u64) -> i32
     ensures { AskedNow handle.old.state.kernel handle.new.state.kernel moment.old moment.new

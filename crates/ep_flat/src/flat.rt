@@ -44,17 +44,17 @@ pub struct FlatLimits {
 /// | 20 | a resumption | no `pid` |
 /// | 21 | a tick | value (how long), no `pid` |
 ///
-/// Fields that an event doesn't name are not looked at. Times are in milliseconds.
+/// Fields that an event doesn't name are not looked at. Times are in microseconds.
 #[repr(C)]
 #[derive(Clone, Copy, Debug)]
 pub struct FlatRequest {
     /// The process of a call.
     pub pid: u64,
-    /// The data of a registration, how long a tick is, or the first expiration of a timer, in milliseconds.
+    /// The data of a registration, how long a tick is, or the first expiration of a timer, in microseconds.
     pub value: u64,
-    /// Of a timer the milliseconds between two expirations, 0 for one alone.
+    /// Of a timer the microseconds between two expirations, 0 for one alone.
     pub interval: u64,
-    /// Of a wait the milliseconds at most, below 0 for a wait without end.
+    /// Of a wait the microseconds at most, below 0 for a wait without end.
     pub timeout: i64,
     /// The number of the event.
     pub event: u32,
@@ -84,11 +84,11 @@ pub struct FlatReply {
     pub first: i32,
     /// The other one.
     pub second: i32,
-    /// Of a timer the milliseconds until its next expiration, 0 if none comes.
+    /// Of a timer the microseconds until its next expiration, 0 if none comes.
     pub value: u64,
-    /// Of a timer the milliseconds between two expirations, 0 if there is one alone.
+    /// Of a timer the microseconds between two expirations, 0 if there is one alone.
     pub interval: u64,
-    /// The simulated clock after the event, in milliseconds.
+    /// The simulated clock after the event, in microseconds.
     pub now: u64,
 }
 

@@ -25,4 +25,6 @@ mod sessions;
 #[cfg(test)]
 mod verdicts;
 #[cfg(test)]
+mod versions;
+#[cfg(test)]
 mod workers;

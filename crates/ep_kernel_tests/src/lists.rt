@@ -3,7 +3,7 @@
 use crate::kernels::{Script, is_run, on_both_kernels};
 use ep_base::{Answer, CallerId, Event, Limits};
 use ep_plain::{Kernel, run};
-use ep_text::{push_answer, read_line};
+use ep_text::{Version, push_answer, read_line};
 use std::alloc::{AllocError, Global};
 use std::process::Abort;
 use std::sync::Wait;
@@ -51,7 +51,7 @@ const ANSWERS: &str = "{\"num\":3}
 fn events(alloc: Global) -> Result<Vec<(CallerId, Event)>, AllocError> {
     let mut events = Vec::new(alloc);
     for line in SCRIPT.lines() {
-        if let Some(command) = read_line(alloc, line.as_bytes())? {
+        if let Some(command) = read_line(alloc, Version::V1, line.as_bytes())? {
             events.push(command)?;
         }
     }
@@ -62,7 +62,7 @@ fn events(alloc: Global) -> Result<Vec<(CallerId, Event)>, AllocError> {
 fn lines_of(alloc: Global, answers: &[Answer]) -> Result<String, AllocError> {
     let mut text = String::new(alloc);
     for answer in answers {
-        push_answer(alloc, &mut text, answer)?;
+        push_answer(alloc, Version::V1, &mut text, answer)?;
     }
     Ok(text)
 }
@@ -90,7 +90,7 @@ impl Script for List {
         let answers = run(&mut kernel, events(alloc)?)?;
         assert_eq!(rt; lines_of(alloc, &answers)?.as_str(), ANSWERS);
         assert!(rt; is_run(alloc, &kernel, SCRIPT.lines().count()));
-        assert!(rt; kernel.now().at() == 5 && ends_marked(&kernel));
+        assert!(rt; kernel.now().at() == 5_000 && ends_marked(&kernel));
         Ok(())
     }
 }

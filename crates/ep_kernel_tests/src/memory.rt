@@ -5,7 +5,7 @@
 use crate::kernels::{Script, is_run, on_ready_kernel, on_scanning_kernel};
 use ep_base::{Answer, CallerId, Errno};
 use ep_plain::Kernel;
-use ep_text::{push_answer, read_line};
+use ep_text::{Version, push_answer, read_line};
 use std::alloc::{AllocError, Global};
 use std::process::Abort;
 use std::sync::Wait;
@@ -69,7 +69,7 @@ fn seen<K: Kernel>(kernel: &K) -> (usize, u64, [(bool, bool); 3]) {
 /// where memory is refused four times.
 fn ask<K: Kernel>(alloc: Global, kernel: &mut K, line: &str) -> Option<Answer> {
     for _ in 0..4 {
-        let Ok(Some((caller, event))) = read_line(alloc, line.as_bytes()) else {
+        let Ok(Some((caller, event))) = read_line(alloc, Version::V1, line.as_bytes()) else {
             continue;
         };
         let before = seen(kernel);
@@ -87,7 +87,7 @@ fn ask<K: Kernel>(alloc: Global, kernel: &mut K, line: &str) -> Option<Answer> {
 /// Whether the line of the answer is this one.
 fn is_line(alloc: Global, answer: &Answer, wanted: &str) -> Result<bool, AllocError> {
     let mut text = String::new(alloc);
-    push_answer(alloc, &mut text, answer)?;
+    push_answer(alloc, Version::V1, &mut text, answer)?;
     Ok(text.as_str() == wanted)
 }
 

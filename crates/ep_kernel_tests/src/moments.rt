@@ -2,7 +2,7 @@
 
 use crate::kernels::{Script, is_run, on_both_kernels};
 use ep_plain::Kernel;
-use ep_text::read_line;
+use ep_text::{Version, read_line};
 use std::alloc::AllocError;
 use std::process::Abort;
 use std::sync::Wait;
@@ -24,18 +24,18 @@ const SCRIPT: &str = "{\"op\":\"timerfd\",\"clock\":1}
 {\"op\":\"close\",\"fd\":3}
 ";
 
-/// The next moment after each line.
+/// The next moment after each line, in microseconds.
 const MOMENTS: [Option<u64>; 11] = [
     None,
     None,
-    Some(5),
-    Some(3),
-    Some(5),
-    Some(5),
+    Some(5_000),
+    Some(3_000),
+    Some(5_000),
+    Some(5_000),
     None,
-    Some(9),
+    Some(9_000),
     None,
-    Some(11),
+    Some(11_000),
     None,
 ];
 
@@ -49,7 +49,7 @@ impl Script for Moments {
         mut kernel: K,
     ) -> Result<(), AllocError> {
         for (place, (line, moment)) in SCRIPT.lines().zip(MOMENTS.iter()).enumerate() {
-            let command = read_line(rt.alloc(), line.as_bytes())?;
+            let command = read_line(rt.alloc(), Version::V1, line.as_bytes())?;
             assert!(rt; command.is_some(), "at line {place}");
             if let Some((caller, event)) = command {
                 let _answer = kernel.step(caller, event);

@@ -31,7 +31,7 @@ unread t now = expirations t now - t.taken
 abbrev pub timer_present : Timer → ℕ → ℕ
 timer_present t now = when (nat_lt 0 (unread t now)) IN
 
--- the ticks until the next expiration, 0 where none comes
+-- how long until the next expiration, 0 where none comes
 abbrev pub time_left : Option ℕ → ℕ → ℕ → ℕ → ℕ
 time_left None interval past now = 0
 time_left (Some moment) interval past now = if interval == 0 && nat_lt 0 past then 0 else moment + past * interval - now

@@ -18,6 +18,7 @@ const EXAMPLE: &str =
 
 prints {\"two\":[3,4]}: a pipe whose ends are the descriptors 3 and 4. A line that is no command is
 answered {\"bad\":N}, and the run goes on; if there was one, a last line on standard error counts them.
+Times are milliseconds, or microseconds if the first line is {\"version\":2}.
 The status is 0 at the end of the script, 1 where it was not run to its end or --strict asks for it,
 and 2 for bad words or limits.
 docs/script.md describes the lines and their answers, docs/calls.md what each call does.";

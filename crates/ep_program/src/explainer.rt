@@ -1,15 +1,29 @@
 //! A reader that says why a line of a script is no command.
 ghost use Rattle.std.specs.Io.Buffered.{reader_remaining};
-ghost use Rattle.std.specs.Prelude.{◌≡◌, IfOk};
+ghost use Rattle.std.specs.Prelude.{◌≡◌, ◌==◌, ◌&&◌, IfOk, None, if◌then◌else◌, is_some};
+ghost use Rattle.ep_text.specs.Event.{reason};
+ghost use Rattle.ep_text.specs.Version.{header};
 
 use crate::bad_lines::tell_bad_lines;
-use ep_text::explain;
-use std::alloc::Global;
+use ep_text::{Reason, explain, read_header};
+use std::alloc::{AllocError, Global};
 use std::io::{self, BufReader, Read, Write};
 
+/// Why a line of this number, counted from 1, is no command. `None` if it is one, and of the header.
+fn fault_of(alloc: Global, line: &[u8], number: u64) -> Result<Option<Reason>, AllocError>
+    ensures { IfOk result (λ r.
+        r ≡ (if (number == 1) && is_some (header line.now) then None else reason line.now)) }
+{
+    if number == 1 && read_header(alloc, line)?.is_some() {
+        return Ok(None);
+    }
+    explain(alloc, line)
+}
+
 /// A reader that hands on the bytes of the one inside, and says on `errors` why a line of them is
-/// no command when more is asked for, so behind the answer to the line. A write to `errors` that
-/// fails changes nothing. After want of memory for a line no further one is explained.
+/// no command when more is asked for, so behind the answer to the line. Of the header it says nothing.
+/// A write to `errors` that fails changes nothing. After want of memory for a line no further one is
+/// explained.
 #[derive(Drop)]
 pub(crate) struct Explainer<R, E> {
     alloc: Global,
@@ -66,7 +80,7 @@ impl<R: Read + Drop, E: Write> Explainer<R, E> {
         self.lines = self.lines.saturating_add(1);
         let line = self.line.as_slice();
         let text = line.strip_suffix(b"\n".as_slice()).unwrap_or(line);
-        let found = explain(self.alloc, text);
+        let found = fault_of(self.alloc, text, self.lines);
         self.line.clear();
         match found {
             Ok(None) => {}

@@ -26,7 +26,7 @@ edge_run again picked =
     ∷ reporting (wait_call 5 8) [] []
     ∷ []
 
--- a millisecond, and a wait that reports this
+-- a tick, and a wait that reports this
 abbrev after_tick : List Report → List ℕ → List Record
 after_tick reports picked = ticked 1 ∷ reporting (wait_call 4 8) reports picked ∷ []
 

@@ -111,7 +111,7 @@ of_event event answer picked = record { caller = record { 0 = 0 }; event = event
 abbrev pub by_process : ℕ → Call → Answer → List ℕ → Record
 by_process pid call answer picked = of_event (CallOf (record { 0 = pid }) call) answer picked
 
--- the clock goes on by so many milliseconds, or is refused to
+-- the clock goes on by so much, or is refused to
 abbrev pub ticked : ℕ → Record
 ticked k = of_event (Tick k) Done []
 

@@ -36,8 +36,8 @@ once_run of_last =
     ∷ ticked 1
     ∷ answered (gettime_call (pos 3)) (Time 0 0)
     ∷ answered (read_call (pos 3) 8) (Bytes (to_bytes 8 1))
-    ∷ refused (settime_call (pos 3) true 1000000000001 0) Einval
-    ∷ ticked 999999999997
+    ∷ refused (settime_call (pos 3) true 1000000000000001 0) Einval
+    ∷ ticked 999999999999997
     ∷ tick_refused 1 of_last
     ∷ ticked 0
     ∷ []
@@ -47,9 +47,9 @@ abbrev pub timer_refused_run : Errno → List Record
 timer_refused_run of_pipe =
     answered (timer_call 1) (Num 3)
     ∷ answered pipe_call (two 4 5)
-    ∷ refused (settime_call (pos 99) true 1000000000001 0) Ebadf
+    ∷ refused (settime_call (pos 99) true 1000000000000001 0) Ebadf
     ∷ refused (settime_call (pos 4) true 1 0) of_pipe
-    ∷ refused (settime_call (pos 3) false 1 1000000000001) Einval
+    ∷ refused (settime_call (pos 3) false 1 1000000000000001) Einval
     ∷ refused (gettime_call (pos 99)) Ebadf
     ∷ refused (gettime_call (pos 5)) Einval
     ∷ refused (read_call (pos 3) 7) Einval

@@ -1,12 +1,12 @@
 -- What stands in the history's writer, record by record.
-use Rattle.std.proofs.Common.{Bool, List, None, Option, Some, IfSome, Err, Result, [], ap, append-nil, append_assoc, arith, false, if◌then◌else◌, inl, inr, length, length-append, map, refl, sym, take, true, ℕ, ◌+◌, ◌++◌, ◌≡◌, ◌≤◌, ◌∙◌, ◌∷◌, ◌⊎◌}
+use Rattle.std.proofs.Common.{Bool, List, Option, IfSome, Err, Result, [], ap, append-nil, append_assoc, arith, false, if◌then◌else◌, inl, inr, length, refl, sym, take, true, ℕ, ◌+◌, ◌++◌, ◌≡◌, ◌≤◌, ◌∙◌, ◌∷◌, ◌⊎◌}
 use Rattle.std.specs.Io.KnownBytes.{Appends}
 use Rattle.std.proofs.Math.Seq.{take-append-add}
 use Rattle.std.proofs.lemmas.List.{length-map}
 use Rattle.ep_base.specs.declared.record.Record.{Record}
 use Rattle.ep_calls.specs.Acts.{is_no_memory}
 use Rattle.ep_history.specs.Records.{record_line}
-use Rattle.ep_text.specs.Event.{Command}
+use Rattle.ep_text.specs.declared.version.Version.{Version}
 use Rattle.ep_script.specs.declared.fault.RecordedFault.{RecordedFault}
 use Rattle.ep_script.specs.declared.fault.RecordedFault.TheVariants.{History, Memory, Script}
 use Rattle.ep_script.specs.declared.fault.ScriptFault.{ScriptFault}
@@ -14,7 +14,7 @@ use Rattle.ep_script.specs.declared.fault.ScriptFault.TheVariants as fault
 use Rattle.ep_script.specs.declared.summary.Summary.{Summary}
 use Rattle.ep_script.specs.Recorded.{EndsBy, Writes, WritesPart, history_text, line_at}
 use Rattle.ep_script.specs.Steps.{AnswerFault}
-use Rattle.ep_script.specs.Transcript.{Exchange, Grows, Outcome, recorded, told}
+use Rattle.ep_script.specs.Transcript.{Asked, Exchange, Grows, Outcome, answered, bad, head, recorded, told}
 use Rattle.ep_script.proofs.Faults.{read_fault}
 use Rattle.ep_script.proofs.RunLemmas.{Ran}
 use Rattle.ep_script.proofs.WriterLemmas.{appends_more, appends_nothing}
@@ -36,8 +36,9 @@ one_at_most true x = omega arith
 one_at_most false x = omega arith
 
 recorded_few : (o : Outcome) → length (recorded o) ≤ 1
-recorded_few None = omega arith
-recorded_few (Some x) = one_at_most (is_no_memory x.answer) x
+recorded_few bad = omega arith
+recorded_few (head v) = omega arith
+recorded_few (answered x) = one_at_most (is_no_memory x.answer) x
 
 grown_few : (h h' : List Record) (o : Outcome) (g : Grows h h' (o ∷ [])) → length g.0 ≤ 1
 grown_few h h' o g = omega (arith, length-map g.0 told, ap length g.2, ap length (append-nil (recorded o)), recorded_few o)
@@ -71,20 +72,20 @@ pub part_of_line : (w v v' : Option (List ℕ)) (h0 h h' : List Record) (o : Out
 part_of_line w v v' h0 h h' o place n p g e wrote = writes_part w v v' h0 h h' g.0 n p g.1 (rw (line_grown h h' o g place e) at wrote)
 
 -- the record of a line that was not answered whole stands in no line
-pub part_unanswered : (w v old new : Option (List ℕ)) (h0 h h' : List Record) (c : Option Command) (number : ℕ) (e : ScriptFault) → Writes w v h0 h → AnswerFault e c number old new h h'
+pub part_unanswered : (w v old new : Option (List ℕ)) (h0 h h' : List Record) (c : Asked) (d : Version) (number : ℕ) (e : ScriptFault) → Writes w v h0 h → AnswerFault e c d number old new h h'
     → WritesPart w v h0 h'
-part_unanswered w v old new h0 h h' c number fault.Memory p a = writes_part w v v h0 h h' a.1.0 0 p a.1.1 (appends_nothing v)
-part_unanswered w v old new h0 h h' c number fault.Write p a = writes_part w v v h0 h h' a.2.grows.0 0 p a.2.grows.1 (appends_nothing v)
-part_unanswered w v old new h0 h h' c number fault.Read p a = absurd a
-part_unanswered w v old new h0 h h' c number fault.Lines p a = absurd a
-part_unanswered w v old new h0 h h' c number (fault.Line x) p a = absurd a
+part_unanswered w v old new h0 h h' c d number fault.Memory p a = writes_part w v v h0 h h' a.1.0 0 p a.1.1 (appends_nothing v)
+part_unanswered w v old new h0 h h' c d number fault.Write p a = writes_part w v v h0 h h' a.3.grows.0 0 p a.3.grows.1 (appends_nothing v)
+part_unanswered w v old new h0 h h' c d number fault.Read p a = absurd a
+part_unanswered w v old new h0 h h' c d number fault.Lines p a = absurd a
+part_unanswered w v old new h0 h h' c d number (fault.Line x) p a = absurd a
 
 -- ---- faults
 
-pub history_fault : (k l w v : Option (List ℕ)) (h0 h : List Record) (s : Summary) (e : RecordedFault) → Ran k l w v h0 h s → (e ≡ History) ⊎ (e ≡ Memory)
+pub history_fault : (k l w v : Option (List ℕ)) (h0 h : List Record) (u : Version) (s : Summary) (e : RecordedFault) → Ran k l w v h0 h u s → (e ≡ History) ⊎ (e ≡ Memory)
     → IfSome k (λ i. EndsBy e i w v h0 h)
-history_fault k l w v h0 h s e p (inl f) = rw f (read_fault k l w v h0 h s p)
-history_fault k l w v h0 h s e p (inr f) = rw f (read_fault k l w v h0 h s p)
+history_fault k l w v h0 h u s e p (inl f) = rw f (read_fault k l w v h0 h u s p)
+history_fault k l w v h0 h u s e p (inr f) = rw f (read_fault k l w v h0 h u s p)
 
 pub never_script : (X : Type 0) {T : Type 0} (e : RecordedFault) (f : ScriptFault) → (e ≡ History) ⊎ (e ≡ Memory) → ◌≡◌ {A = Result T RecordedFault} (Err e) (Err (Script f)) → X
 never_script X e f (inl g) q = absurd (cc)

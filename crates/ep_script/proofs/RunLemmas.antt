@@ -4,32 +4,34 @@ use Rattle.std.specs.Io.KnownBytes.{Appends, prepend_known}
 use Rattle.ep_base.specs.declared.record.Record.{Record}
 use Rattle.ep_script.specs.declared.summary.LineKind.{LineKind}
 use Rattle.ep_script.specs.declared.summary.Summary.{Summary}
-use Rattle.ep_text.specs.Event.{event}
+use Rattle.ep_text.specs.declared.version.Version.{Version}
+use Rattle.ep_text.specs.declared.version.Version.TheVariants.{V1}
 use Rattle.ep_script.specs.Known.{Leads}
 use Rattle.ep_script.specs.Lines.{AllFit, joined, last_line, lines_of, longest_line}
 use Rattle.ep_script.specs.Outcome.{Tallies, Whole}
 use Rattle.ep_script.specs.Steps.{TakesLine, Tells}
 use Rattle.ep_script.specs.Tally.{counted}
-use Rattle.ep_script.specs.Transcript.{AreOf, Grows, Outcome, said, transcript}
+use Rattle.ep_script.specs.Transcript.{AreOf, Grows, Outcome, asked_in, asks, said, then_in, transcript, version_after}
 use Rattle.ep_script.proofs.Lines.{open_line, whole_line}
-use Rattle.ep_script.proofs.TallyLemmas.{are_more, fit_more, grows_more, tally_more, transcript_more}
+use Rattle.ep_script.proofs.TallyLemmas.{are_more, fit_more, grows_more, tally_more, transcript_more, version_more}
 use Rattle.ep_script.proofs.WriterLemmas.{appends_more, appends_nothing}
 
--- the first lines are answered, and the rest is left
-pub record Progress (input rest : List ℕ) (before written : Option (List ℕ)) (start history : List Record) (summary : Summary) : Type 0 where
+-- the first lines are answered, and the rest is left, whose first line is of this version
+pub record Progress (input rest : List ℕ) (before written : Option (List ℕ)) (start history : List Record) (version : Version) (summary : Summary) : Type 0 where
   pub lines : List (List ℕ)
   pub outcomes : List Outcome
   pub cut : lines_of input ≡ lines ++ lines_of rest
   pub of_lines : AreOf outcomes lines
-  pub text : Appends before written (transcript 1 outcomes)
+  pub text : Appends before written (transcript V1 1 outcomes)
+  pub version_is : version ≡ version_after V1 outcomes
   pub grows : Grows start history outcomes
   pub tally : Tallies summary outcomes
   pub fit : AllFit lines
   pub ended : (input ≡ joined lines ++ rest) ⊎ (rest ≡ [])
 
 -- where the bytes of the reader are known
-abbrev pub Ran : Option (List ℕ) → Option (List ℕ) → Option (List ℕ) → Option (List ℕ) → List Record → List Record → Summary → Type 0
-Ran k l w v start history summary = Leads k l (λ input rest. Progress input rest w v start history summary)
+abbrev pub Ran : Option (List ℕ) → Option (List ℕ) → Option (List ℕ) → Option (List ℕ) → List Record → List Record → Version → Summary → Type 0
+Ran k l w v start history version summary = Leads k l (λ input rest. Progress input rest w v start history version summary)
 
 -- ---- a line more
 
@@ -60,53 +62,55 @@ ended_more i r line q ls p t = elim t.cut [
   ]
 ]
 
-more : (i r q : List ℕ) (w v v' : Option (List ℕ)) (text : List ℕ) (h0 h h' : List Record) (s : Summary) (k : LineKind) (line : List ℕ) (n : ℕ) → Progress i r w v h0 h s
-    → TakesLine r line q → length line ≤ longest_line → Tells (event line) n k text h h' → Appends v v' text → n ≡ s.lines + 1 → Progress i q w v' h0 h' (counted s k)
-more i r q w v v' text h0 h h' s k line n p take short tells wrote e =
+more : (i r q : List ℕ) (w v v' : Option (List ℕ)) (text : List ℕ) (h0 h h' : List Record) (a b : Version) (s : Summary) (k : LineKind) (line : List ℕ) (n : ℕ) → Progress i r w v h0 h a s
+    → TakesLine r line q → length line ≤ longest_line → Tells (asks a n line) a b n k text h h' → Appends v v' text → n ≡ s.lines + 1 → Progress i q w v' h0 h' b (counted s k)
+more i r q w v v' text h0 h h' a b s k line n p take short tells wrote e =
     let o = tells.outcome in
     let number : 1 + length p.outcomes ≡ n = omega (arith, p.tally.lines) in
     record {
       lines = p.lines ++ line ∷ [];
       outcomes = p.outcomes ++ o ∷ [];
       cut = p.cut ∙ ap (λ ls. p.lines ++ ls) (takes_first r line q take) ∙ sym (append_assoc p.lines (line ∷ []) (lines_of q));
-      of_lines = are_more p.outcomes p.lines o line p.of_lines tells.of_line;
-      text = rw (transcript_more 1 p.outcomes o n number) (appends_more w v v' (transcript 1 p.outcomes) (said n o) p.text (rw tells.text_is at wrote));
+      of_lines = are_more p.outcomes p.lines o line n p.of_lines number (tells.of_line ∙ ap (λ x. asks x n line) p.version_is);
+      text = rw (transcript_more V1 1 p.outcomes o n number) (appends_more w v v' (transcript V1 1 p.outcomes) (said (version_after V1 p.outcomes) n o) p.text (rw (tells.text_is, p.version_is) at wrote));
+      version_is = tells.next_is ∙ ap (λ x. then_in a x) (sym tells.of_line) ∙ ap (λ x. then_in x (asked_in o)) p.version_is ∙ sym (version_more V1 p.outcomes o);
       grows = grows_more h0 h h' p.outcomes o p.grows tells.grows;
       tally = tally_more s k p.outcomes o p.tally tells.kind_is;
       fit = fit_more p.lines line p.fit short;
       ended = ended_more i r line q p.lines p.ended take;
     }
 
-pub ran_more : (k l m w v v' : Option (List ℕ)) (h0 h h' : List Record) (s : Summary) (kind : LineKind) (text line : List ℕ) (n : ℕ) → Ran k l w v h0 h s
-    → Leads l m (λ r q. TakesLine r line q) → length line ≤ longest_line → Tells (event line) n kind text h h' → Appends v v' text → n ≡ s.lines + 1
-    → Ran k m w v' h0 h' (counted s kind)
-ran_more None l m w v v' h0 h h' s kind text line n p take short tells wrote e = tt
-ran_more (Some i) None m w v v' h0 h h' s kind text line n p take short tells wrote e = absurd p
-ran_more (Some i) (Some r) None w v v' h0 h h' s kind text line n p take short tells wrote e = take
-ran_more (Some i) (Some r) (Some q) w v v' h0 h h' s kind text line n p take short tells wrote e =
-    more i r q w v v' text h0 h h' s kind line n p take short tells wrote e
+pub ran_more : (k l m w v v' : Option (List ℕ)) (h0 h h' : List Record) (a b : Version) (s : Summary) (kind : LineKind) (text line : List ℕ) (n : ℕ) → Ran k l w v h0 h a s
+    → Leads l m (λ r q. TakesLine r line q) → length line ≤ longest_line → Tells (asks a n line) a b n kind text h h' → Appends v v' text → n ≡ s.lines + 1
+    → Ran k m w v' h0 h' b (counted s kind)
+ran_more None l m w v v' h0 h h' a b s kind text line n p take short tells wrote e = tt
+ran_more (Some i) None m w v v' h0 h h' a b s kind text line n p take short tells wrote e = absurd p
+ran_more (Some i) (Some r) None w v v' h0 h h' a b s kind text line n p take short tells wrote e = take
+ran_more (Some i) (Some r) (Some q) w v v' h0 h h' a b s kind text line n p take short tells wrote e =
+    more i r q w v v' text h0 h h' a b s kind line n p take short tells wrote e
 
 -- ---- the begin and the end
 
-nothing_run : (i : List ℕ) (w : Option (List ℕ)) (h : List Record) → Progress i i w w h h (record { lines = 0; records = 0; bad = 0 })
+nothing_run : (i : List ℕ) (w : Option (List ℕ)) (h : List Record) → Progress i i w w h h V1 (record { lines = 0; records = 0; bad = 0 })
 nothing_run i w h = record {
   lines = [];
   outcomes = [];
   cut = refl;
   of_lines = refl;
   text = appends_nothing w;
+  version_is = refl;
   grows = ([], sym (append-nil h), refl);
   tally = record { lines = refl; records = refl; bad = refl };
   fit = tt;
   ended = inl refl;
 }
 
-pub ran_nothing : (k w : Option (List ℕ)) (us : List ℕ) (h : List Record) → us ≡ [] → Ran k (prepend_known us k) w w h h (record { lines = 0; records = 0; bad = 0 })
-ran_nothing None w us h e = tt
-ran_nothing (Some i) w us h e = let same : us ++ i ≡ i = ap (λ x. x ++ i) e in rw same (nothing_run i w h)
+pub ran_nothing : (k w : Option (List ℕ)) (us : List ℕ) (h : List Record) (a : Version) → us ≡ [] → a ≡ V1 → Ran k (prepend_known us k) w w h h a (record { lines = 0; records = 0; bad = 0 })
+ran_nothing None w us h a e f = tt
+ran_nothing (Some i) w us h a e f = let same : us ++ i ≡ i = ap (λ x. x ++ i) e in rw (same, f) (nothing_run i w h)
 
-whole : (i r : List ℕ) (w v : Option (List ℕ)) (h0 h : List Record) (s : Summary) → Progress i r w v h0 h s → r ≡ [] → Whole i w v h0 h s
-whole i r w v h0 h s p e =
+whole : (i r : List ℕ) (w v : Option (List ℕ)) (h0 h : List Record) (a : Version) (s : Summary) → Progress i r w v h0 h a s → r ≡ [] → Whole i w v h0 h s
+whole i r w v h0 h a s p e =
     let all : lines_of i ≡ p.lines = p.cut ∙ ap (λ x. p.lines ++ lines_of x) e ∙ append-nil p.lines in
     record {
       outcomes = p.outcomes;
@@ -117,9 +121,9 @@ whole i r w v h0 h s p e =
       fit = rw all p.fit;
     }
 
-pub ran_whole : (k l m w v : Option (List ℕ)) (h0 h : List Record) (s : Summary) → Ran k l w v h0 h s → Leads l m (λ xs ys. (xs ≡ []) × (ys ≡ []))
+pub ran_whole : (k l m w v : Option (List ℕ)) (h0 h : List Record) (a : Version) (s : Summary) → Ran k l w v h0 h a s → Leads l m (λ xs ys. (xs ≡ []) × (ys ≡ []))
     → IfSome k (λ i. Whole i w v h0 h s)
-ran_whole None l m w v h0 h s p e = tt
-ran_whole (Some i) None m w v h0 h s p e = absurd p
-ran_whole (Some i) (Some r) None w v h0 h s p e = absurd e
-ran_whole (Some i) (Some r) (Some q) w v h0 h s p e = whole i r w v h0 h s p e.0
+ran_whole None l m w v h0 h a s p e = tt
+ran_whole (Some i) None m w v h0 h a s p e = absurd p
+ran_whole (Some i) (Some r) None w v h0 h a s p e = absurd e
+ran_whole (Some i) (Some r) (Some q) w v h0 h a s p e = whole i r w v h0 h a s p e.0

@@ -1,5 +1,6 @@
 pub use Rattle.ep_text.specs.Event
 pub use Rattle.ep_text.specs.Line
+pub use Rattle.ep_text.specs.Version
 pub mod Lines
 pub mod Transcript
 pub mod Known

@@ -7,7 +7,8 @@ use Rattle.ep_script.specs.declared.fault.ScriptFault.{ScriptFault}
 use Rattle.ep_script.specs.declared.fault.ScriptFault.TheVariants as fault
 use Rattle.ep_script.specs.declared.summary.Summary.{Summary}
 use Rattle.ep_script.specs.Lines.{AllFit, joined, lines_of, longest_line, most_lines, most_read}
-use Rattle.ep_script.specs.Transcript.{AreOf, Grows, Outcome, bad_line_count, records, said, told, transcript}
+use Rattle.ep_text.specs.declared.version.Version.TheVariants.{V1}
+use Rattle.ep_script.specs.Transcript.{AreOf, Grows, Outcome, bad_line_count, records, said, told, transcript, version_after}
 
 pub record Tallies (summary : Summary) (outcomes : List Outcome) : Type 0 where
   pub lines : summary.lines ≡ length outcomes
@@ -22,7 +23,7 @@ Gains start history count = (gained : List Record) × (history ≡ start ++ gain
 pub record Whole (input : List ℕ) (before written : Option (List ℕ)) (start history : List Record) (summary : Summary) : Type 0 where
   pub outcomes : List Outcome
   pub of_lines : AreOf outcomes (lines_of input)
-  pub text : Appends before written (transcript 1 outcomes)
+  pub text : Appends before written (transcript V1 1 outcomes)
   pub grows : Grows start history outcomes
   pub tally : Tallies summary outcomes
   pub fit : AllFit (lines_of input)
@@ -41,7 +42,7 @@ pub record Stopped (input : List ℕ) (before written : Option (List ℕ)) (star
   pub outcomes : List Outcome
   pub cut : lines_of input ≡ lines ++ left
   pub of_lines : AreOf outcomes lines
-  pub text : Appends before written (transcript 1 outcomes)
+  pub text : Appends before written (transcript V1 1 outcomes)
   pub grows : GrowsBeyond start history outcomes most
   pub fit : AllFit lines
 
@@ -55,8 +56,8 @@ pub record Broken (input : List ℕ) (before written : Option (List ℕ)) (start
   pub of_lines : AreOf (outcomes ++ last ∷ []) lines
   pub part : List ℕ
   pub unwritten : List ℕ
-  pub said_is : said (length outcomes + 1) last ≡ part ++ unwritten
-  pub text : Appends before written (transcript 1 outcomes ++ part)
+  pub said_is : said (version_after V1 outcomes) (length outcomes + 1) last ≡ part ++ unwritten
+  pub text : Appends before written (transcript V1 1 outcomes ++ part)
   pub grows : Grows start history (outcomes ++ last ∷ [])
 
 -- Only after a want of memory has the history a record that nothing was written of.

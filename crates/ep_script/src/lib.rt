@@ -24,4 +24,4 @@ pub use crate::run::run_script;
 pub use crate::summary::Summary;
 pub use crate::watched::Watched;
 pub use crate::with_history::run_recorded;
-pub use ep_text::{parse_limits, print_answer, read_limits, read_line};
+pub use ep_text::{Version, parse_limits, print_answer, read_header, read_limits, read_line};

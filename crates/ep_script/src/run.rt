@@ -22,6 +22,9 @@ pub(crate) const MOST_LINES: u64 = 100_000;
 /// Runs a script on a kernel: answers each line before it asks for the next, with the line that
 /// tells the kernel's answer, or says that the line is no command.
 ///
+/// A first line that is a header is answered by itself, and names the version of the lines behind it.
+/// Without one that is version 1.
+///
 /// A line ends at byte 10, which the last may lack, and has at most 65,536 bytes; a script has at
 /// most 100,000 lines. Every error of the reader or the writer ends the run, and so does a write
 /// that takes no byte: nothing more is asked of the one that failed. An ENOMEM of the kernel is an

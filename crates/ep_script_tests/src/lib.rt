@@ -6,6 +6,8 @@
 #[cfg(test)]
 mod failures;
 #[cfg(test)]
+mod headers;
+#[cfg(test)]
 mod noted;
 #[cfg(test)]
 mod runs;

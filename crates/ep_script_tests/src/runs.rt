@@ -15,6 +15,15 @@ const SCRIPT: &[u8] =
 const ANSWERS: &[u8] =
     b"{\"err\":[12,\"ENOMEM\"]}\n{\"bad\":2}\n{\"err\":[12,\"ENOMEM\"]}\n{\"err\":[12,\"ENOMEM\"]}\n";
 
+/// A header, which is answered by itself.
+const HEADER: &[u8] = b"{\"version\":2}\n";
+
+/// A header, a line that is no command, a call, and a header that comes too late.
+const HEADED: &[u8] = b"{\"version\":2}\n\n{\"op\":\"pipe\"}\n{\"version\":2}";
+
+const HEADED_ANSWERS: &[u8] =
+    b"{\"version\":2}\n{\"bad\":2}\n{\"err\":[12,\"ENOMEM\"]}\n{\"bad\":4}\n";
+
 /// Where each line of `ANSWERS` ends.
 const ANSWER_ENDS: [usize; 5] = [0, 22, 32, 54, 76];
 
@@ -78,6 +87,16 @@ fn answers_each_line(rt: HostRuntime) {
     let ran = run(rt.alloc(), whole(b"\n"), wide(rt.alloc()));
     assert_eq!(rt; ran.outcome, summary(1, 1));
     assert_eq!(rt; ran.written.as_slice(), b"{\"bad\":1}\n".as_slice());
+}
+
+#[test]
+fn counts_a_header_among_the_lines(rt: HostRuntime) {
+    let ran = run(rt.alloc(), whole(HEADED), wide(rt.alloc()));
+    assert_eq!(rt; ran.outcome, summary(4, 2));
+    assert_eq!(rt; ran.written.as_slice(), HEADED_ANSWERS);
+    let ran = run(rt.alloc(), whole(b"{\"version\":2}"), wide(rt.alloc()));
+    assert_eq!(rt; ran.outcome, summary(1, 0));
+    assert_eq!(rt; ran.written.as_slice(), HEADER);
 }
 
 #[test]
@@ -151,6 +170,42 @@ fn ends_at_a_failed_write(rt: HostRuntime) {
     }
 }
 
+// The reader fails behind each byte of a header. Its line is written once it was read to its end.
+#[test]
+fn answers_a_header_that_was_read_whole(rt: HostRuntime) {
+    for count in 0..=HEADER.len() {
+        let reader = Pieces {
+            text: &HEADER[..count],
+            piece: 7,
+            fails: true,
+        };
+        let ran = run(rt.alloc(), reader, wide(rt.alloc()));
+        assert_eq!(rt; ran.outcome, Err(ScriptFault::Read), "after {count} bytes");
+        let wanted = if count == HEADER.len() { HEADER } else { b"" };
+        assert_eq!(rt; ran.written.as_slice(), wanted, "after {count} bytes");
+    }
+}
+
+// The writer fails in the line of a header.
+#[test]
+fn ends_at_a_failed_write_of_a_header(rt: HostRuntime) {
+    for room in 0..HEADER.len() {
+        let writer = Narrow {
+            taken: Vec::new(rt.alloc()),
+            piece: 5,
+            room,
+            failure: Failure::Write,
+        };
+        let ran = run(rt.alloc(), whole(HEADED), writer);
+        assert_eq!(rt; ran.outcome, Err(ScriptFault::Write), "after {room} bytes");
+        assert_eq!(rt;
+            ran.written.as_slice(),
+            &HEADER[..room],
+            "after {room} bytes"
+        );
+    }
+}
+
 // Each answer is passed on before the next line is asked for.
 #[test]
 fn ends_at_a_failed_flush(rt: HostRuntime) {
@@ -191,24 +246,30 @@ fn limits_the_bytes_of_a_line(rt: HostRuntime) -> Result<(), Fail> {
     Ok(())
 }
 
-/// What a run over 100,000 empty lines and then these bytes comes to. All of the lines are answered.
+/// What a run over these bytes, so many empty lines and then these bytes comes to, which are 100,000 lines or more.
+/// All of the first 100,000 are answered.
 fn expect_many(
     rt: &(impl AllocGlobal + Abort),
+    first: &[u8],
+    count: usize,
     last: &[u8],
     outcome: Result<Summary, ScriptFault>,
 ) -> Result<(), AllocError> {
-    let mut text = vec![in rt.alloc(); b'\n'; 100_000]?;
+    let mut text = Vec::from_slice(rt.alloc(), first)?;
+    text.extend_from_slice(&vec![in rt.alloc(); b'\n'; count]?)?;
     text.extend_from_slice(last)?;
     let ran = run(rt.alloc(), whole(text.as_slice()), wide(rt.alloc()));
     assert_eq!(rt; ran.outcome, outcome);
-    assert!(rt; ran.written.ends_with(b"{\"bad\":100000}\n"));
+    assert!(rt; ran.written.starts_with(first) && ran.written.ends_with(b"{\"bad\":100000}\n"));
     Ok(())
 }
 
 #[test]
 fn limits_the_number_of_lines(rt: HostRuntime) -> Result<(), Fail> {
-    expect_many(&rt, b"", summary(100_000, 100_000))?;
-    expect_many(&rt, b"x", Err(ScriptFault::Lines))?;
+    expect_many(&rt, b"", 100_000, b"", summary(100_000, 100_000))?;
+    expect_many(&rt, b"", 100_000, b"x", Err(ScriptFault::Lines))?;
+    expect_many(&rt, HEADER, 99_999, b"", summary(100_000, 99_999))?;
+    expect_many(&rt, HEADER, 99_999, b"x", Err(ScriptFault::Lines))?;
     Ok(())
 }
 

@@ -26,7 +26,7 @@ pub struct WaitCall {
     pub epfd: Fd,
     /// The most reports that it takes; 0 and less are refused.
     pub max: i32,
-    /// How long it waits, in milliseconds: 0 not at all, less than 0 for ever.
+    /// How long it waits.
     pub timeout: Timeout,
 }
 
@@ -92,7 +92,7 @@ impl<K: Kernel + Drop, L: Ledger> Shared<K, L> {
         self.act(rt, session, Event::Call { pid, call })
     }
 
-    /// The clock goes on by `n` milliseconds. ENOMEM adds no record.
+    /// The clock goes on by `n`. ENOMEM adds no record.
     pub fn tick(&self, rt: &impl Wait, session: &mut Session<L>, n: Span) -> Answer
         ensures adds { Adds (caller_of session.old) (Tick n) result (records_of session.old)
             (records_of session.new) }

@@ -5,7 +5,7 @@ use crate::seen::Seen;
 use crate::spared::is_spared;
 use ep_base::{Answer, CallerId, Event, Record};
 use ep_plain::Kernel;
-use ep_text::{push_answer, read_line};
+use ep_text::{Version, push_answer, read_header, read_line};
 use std::alloc::{AllocError, Global};
 
 /// How often something is asked. One request for memory is refused, so the second time suffices.
@@ -36,6 +36,8 @@ pub(crate) struct Counts {
 #[derive(Drop)]
 pub(crate) struct Asker {
     pub(crate) alloc: Global,
+    /// The version of the lines, which the first of them may name.
+    pub(crate) version: Version,
     way: Way,
     kept: Vec<Record>,
     place: usize,
@@ -47,6 +49,7 @@ impl Asker {
     pub(crate) fn new(alloc: Global, way: Way) -> Asker {
         Asker {
             alloc,
+            version: Version::V1,
             way,
             kept: Vec::new(alloc),
             place: 0,
@@ -125,7 +128,7 @@ impl Asker {
         wanted: &str,
     ) -> Result<(), Fault> {
         self.counts.steps = self.counts.steps.saturating_add(1);
-        if !is_line(self.alloc, answer, wanted)? {
+        if !is_line(self.alloc, self.version, answer, wanted)? {
             return Err(Fault::Answer(self.place));
         }
         let records = kernel.history().len();
@@ -139,7 +142,7 @@ impl Asker {
     }
 
     /// Asks a line until its answer is another one than ENOMEM: then it is the one that is wanted. A line that is no
-    /// command is not asked.
+    /// command is not asked, and nor is a header.
     pub(crate) fn ask<K: Kernel>(
         &mut self,
         kernel: &mut K,
@@ -148,7 +151,7 @@ impl Asker {
     ) -> Result<(), Fault> {
         self.place = self.place.saturating_add(1);
         for _ in 0..TRIES {
-            let Some((caller, event)) = read_line(self.alloc, line.as_bytes())? else {
+            let Some((caller, event)) = read_line(self.alloc, self.version, line.as_bytes())? else {
                 return Ok(());
             };
             if self.way == Way::Reserved {
@@ -166,13 +169,15 @@ impl Asker {
         Err(Fault::Again(self.place))
     }
 
-    /// Asks each line of a script.
+    /// Asks each line of a script, in the version that its first line names, or in version 1.
     pub(crate) fn ask_all<K: Kernel>(
         &mut self,
         kernel: &mut K,
         script: &str,
         answers: &str,
     ) -> Result<(), Fault> {
+        let first = script.lines().next().unwrap_or("");
+        self.version = read_header(self.alloc, first.as_bytes())?.unwrap_or(Version::V1);
         for (line, wanted) in script.lines().zip(answers.split_inclusive('\n')) {
             self.ask(kernel, line, wanted)?;
         }
@@ -180,9 +185,14 @@ impl Asker {
     }
 }
 
-/// Whether the line of the answer is this one.
-pub(crate) fn is_line(alloc: Global, answer: &Answer, wanted: &str) -> Result<bool, AllocError> {
+/// Whether the line of the answer is this one, in this version.
+pub(crate) fn is_line(
+    alloc: Global,
+    version: Version,
+    answer: &Answer,
+    wanted: &str,
+) -> Result<bool, AllocError> {
     let mut text = String::new(alloc);
-    push_answer(alloc, &mut text, answer)?;
+    push_answer(alloc, version, &mut text, answer)?;
     Ok(text.as_str() == wanted)
 }

@@ -6,31 +6,47 @@ use crate::files::Row;
 use ep_audit::{AuditFault, audit};
 use ep_base::{Limits, Record};
 use ep_plain::Kernel;
-use ep_text::read_line;
+use ep_text::{Version, read_line};
 use std::alloc::{AllocError, Global};
 
 /// Whether a record is that of a line and its answer.
-fn is_record(alloc: Global, record: &Record, line: &str, wanted: &str) -> Result<bool, AllocError> {
-    let Some((caller, event)) = read_line(alloc, line.as_bytes())? else {
+fn is_record(
+    alloc: Global,
+    version: Version,
+    record: &Record,
+    line: &str,
+    wanted: &str,
+) -> Result<bool, AllocError> {
+    let Some((caller, event)) = read_line(alloc, version, line.as_bytes())? else {
         return Ok(false);
     };
-    Ok(record.caller == caller && record.event == event && is_line(alloc, &record.answer, wanted)?)
+    Ok(
+        record.caller == caller
+            && record.event == event
+            && is_line(alloc, version, &record.answer, wanted)?,
+    )
+}
+
+/// Whether the line answers a command, and neither a line that is none nor a header.
+fn is_of_command(wanted: &str) -> bool {
+    !wanted.starts_with("{\"bad\":") && !wanted.starts_with("{\"version\":")
 }
 
 /// Whether the records are those of the lines that are commands, in order.
 fn are_records(
     alloc: Global,
+    version: Version,
     records: &[Record],
     script: &str,
     answers: &str,
 ) -> Result<bool, AllocError> {
     let mut place = 0usize;
     for (line, wanted) in script.lines().zip(answers.split_inclusive('\n')) {
-        if !wanted.starts_with("{\"bad\":") {
+        if is_of_command(wanted) {
             let Some(record) = records.get(place) else {
                 return Ok(false);
             };
-            if !is_record(alloc, record, line, wanted)? {
+            if !is_record(alloc, version, record, line, wanted)? {
                 return Ok(false);
             }
             place = place.saturating_add(1);
@@ -62,7 +78,8 @@ pub(crate) fn judge(alloc: Global, limits: &Limits, records: &[Record]) -> Resul
 fn look<K: Kernel>(asker: &Asker, kernel: &K, row: &Row) -> Result<(), Fault> {
     let records = kernel.history();
     let script = row.script.as_str();
-    if !are_records(asker.alloc, records, script, row.answers.as_str())? {
+    let answers = row.answers.as_str();
+    if !are_records(asker.alloc, asker.version, records, script, answers)? {
         return Err(Fault::History);
     }
     if let Some(kept) = asker.kept() {

@@ -7,7 +7,7 @@ use crate::script::judge;
 use ep_base::{Answer, CallerId, Event};
 use ep_plain::Kernel;
 use ep_shared::{FinishFault, History, Session, Shared};
-use ep_text::read_line;
+use ep_text::{Version, read_line};
 use std::alloc::{AllocError, Global};
 use std::marker::Brand;
 use std::sync::Wait;
@@ -81,7 +81,7 @@ fn ask_once<K: Kernel + Drop, L: Ledger>(
     sessions: &mut [Session<L>],
     line: &Line,
 ) -> Result<bool, Fault> {
-    let Some((caller, event)) = read_line(alloc, line.text.as_bytes())? else {
+    let Some((caller, event)) = read_line(alloc, Version::V1, line.text.as_bytes())? else {
         return Err(Fault::Answer(line.place));
     };
     let parked = shared.parked(rt)?;
@@ -91,7 +91,7 @@ fn ask_once<K: Kernel + Drop, L: Ledger>(
     };
     let answer = make(rt, shared, session, event);
     if !answer.is_no_memory() {
-        if !is_line(alloc, &answer, line.wanted)? {
+        if !is_line(alloc, Version::V1, &answer, line.wanted)? {
             return Err(Fault::Answer(line.place));
         }
         return Ok(true);

@@ -14,7 +14,7 @@ fn at_first(bits: Mask) -> Raised {
     }
 }
 
-/// The moment so many milliseconds after the clock began.
+/// The moment so many microseconds after the clock began.
 pub(crate) fn at(n: u64) -> Moment
     requires { n ≤ last_moment }
     ensures { result ≡ n }

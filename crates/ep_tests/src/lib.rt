@@ -33,6 +33,8 @@ mod streams;
 #[cfg(test)]
 mod tables;
 #[cfg(test)]
+mod versions;
+#[cfg(test)]
 mod waits;
 #[cfg(test)]
 mod words;

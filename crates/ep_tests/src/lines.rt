@@ -1,14 +1,14 @@
 //! Lines of scripts and lines of answers: tables of lines, which one function looks at in turn. What a line is read
-//! as is told by the line of a record that has it.
+//! as is told by the line of a record that has it. Headers, and what a version changes, are in `versions`.
 
 use ep_base::{Answer, Picked, Record};
 use ep_history::{print_record, read_record};
-use ep_text::{print_answer, read_line};
+use ep_text::{Version, print_answer, read_line};
 use std::alloc::Global;
 use std::process::Abort;
 use std::test::Fail;
 
-/// Lines of scripts, and the caller and the event of each, as a record has it.
+/// Lines of scripts of version 2, and the caller and the event of each, as a record has it.
 pub(crate) const COMMANDS: [(&str, u32, &str); 33] = [
     (
         "{\"op\":\"pipe\"}",
@@ -173,14 +173,15 @@ pub(crate) const COMMANDS: [(&str, u32, &str); 33] = [
     ),
 ];
 
-fn expect_command(
+pub(crate) fn expect_command(
     rt: &(impl AllocGlobal + Abort),
+    version: Version,
     line: &str,
     caller: u32,
     wanted: &str,
 ) -> Result<(), Fail> {
     let alloc = rt.alloc();
-    let Some((by, event)) = read_line(alloc, line.as_bytes())? else {
+    let Some((by, event)) = read_line(alloc, version, line.as_bytes())? else {
         return Err(Fail::from("no command"));
     };
     let entry = Record {
@@ -204,13 +205,13 @@ fn expect_command(
 #[test]
 fn reads_each_operation(rt: HostRuntime) -> Result<(), Fail> {
     for (line, caller, event) in COMMANDS {
-        expect_command(&rt, line, caller, event)?;
+        expect_command(&rt, Version::V2, line, caller, event)?;
     }
     Ok(())
 }
 
-/// Lines that are no command.
-pub(crate) const NO_COMMANDS: [&str; 62] = [
+/// Lines that are no command of either version.
+pub(crate) const NO_COMMANDS: [&str; 67] = [
     "",
     " ",
     "{\"op\":\"pi",
@@ -273,16 +274,24 @@ pub(crate) const NO_COMMANDS: [&str; 62] = [
     "{\"op\":\"dup\",\"fd\":0,\"x\":1}",
     "{\"op\":\"dup2\",\"fd\":0}",
     "{\"op\":\"fork\",\"fd\":0}",
+    // Headers, and what is none.
+    "{\"version\":1}",
+    "{\"version\":2}",
+    "{\"version\":3}",
+    "{\"version\":2,\"op\":\"pipe\"}",
+    "{\"op\":\"tick\",\"n\":1,\"version\":1}",
 ];
 
 #[test]
 fn refuses_what_is_no_command(rt: HostRuntime) -> Result<(), Fail> {
-    for line in NO_COMMANDS {
-        let found = read_line(rt.alloc(), line.as_bytes())?;
-        assert!(rt; found.is_none(), "at {line}");
+    for version in [Version::V1, Version::V2] {
+        for line in NO_COMMANDS {
+            let found = read_line(rt.alloc(), version, line.as_bytes())?;
+            assert!(rt; found.is_none(), "at {line}");
+        }
+        let no_text = read_line(rt.alloc(), version, b"{\"op\":\"pipe\",\"\xff\":1}")?;
+        assert!(rt; no_text.is_none());
     }
-    let no_text = read_line(rt.alloc(), b"{\"op\":\"pipe\",\"\xff\":1}")?;
-    assert!(rt; no_text.is_none());
     Ok(())
 }
 
@@ -301,11 +310,11 @@ fn nested(alloc: Global, depth: usize) -> Result<String, Fail> {
 #[test]
 fn refuses_a_deep_list(rt: HostRuntime) -> Result<(), Fail> {
     let line = nested(rt.alloc(), 128)?;
-    assert!(rt; read_line(rt.alloc(), line.as_bytes())?.is_none());
+    assert!(rt; read_line(rt.alloc(), Version::V2, line.as_bytes())?.is_none());
     Ok(())
 }
 
-/// Lines of answers.
+/// Lines of answers of version 2.
 const ANSWERS: [&str; 11] = [
     "{\"done\":true}",
     "{\"num\":5}",
@@ -329,7 +338,7 @@ fn expect_answer(rt: &(impl AllocGlobal + Abort), wanted: &str) -> Result<(), Fa
     let Some(entry) = read_record(alloc, line.as_bytes())? else {
         return Err(Fail::from("no record"));
     };
-    let found = print_answer(alloc, &entry.answer)?;
+    let found = print_answer(alloc, Version::V2, &entry.answer)?;
     let text = format!(in alloc; "{wanted}\n")?;
     assert_eq!(rt; std::str::from_utf8(found.as_slice()), Ok(text.as_str()));
     Ok(())

@@ -6,7 +6,7 @@ use crate::lines::{COMMANDS, NO_COMMANDS};
 use crate::reasons::FILL;
 use ep_base::{Buffer, Call, CallerId, Event, Fd, Pid, Span};
 use ep_history::{RecordReader, print_record, read_record};
-use ep_text::{LineReader, explain, read_line};
+use ep_text::{Line, LineReader, Version, explain, read_line};
 use std::process::Abort;
 use std::test::Fail;
 
@@ -65,14 +65,26 @@ fn reads_records_that_are_spelled_otherwise(rt: HostRuntime) -> Result<(), Fail>
     Ok(())
 }
 
+/// What a line is that is no header.
+fn line_of(command: Option<(CallerId, Event)>) -> Line {
+    match command {
+        Some((caller, event)) => Line::Command(caller, event),
+        None => Line::Bad,
+    }
+}
+
 fn expect_command(
     rt: &(impl AllocGlobal + Abort),
     reader: &mut LineReader,
     line: &str,
 ) -> Result<(), Fail> {
-    let wanted = read_line(rt.alloc(), line.as_bytes())?;
-    let found = reader.read(rt.alloc(), line.as_bytes())?;
-    assert!(rt; found == wanted, "at {line}");
+    for version in [Version::V1, Version::V2] {
+        let wanted = line_of(read_line(rt.alloc(), version, line.as_bytes())?);
+        for is_first in [false, true] {
+            let found = reader.read(rt.alloc(), version, line.as_bytes(), is_first)?;
+            assert!(rt; found == wanted, "at {line}");
+        }
+    }
     Ok(())
 }
 
@@ -90,16 +102,18 @@ fn refuses_what_is_no_command_between_commands(rt: HostRuntime) -> Result<(), Fa
     let mut reader = LineReader::new(rt.alloc());
     for line in NO_COMMANDS {
         expect_command(&rt, &mut reader, "{\"op\":\"pipe\"}")?;
-        assert!(rt;
-            reader.read(rt.alloc(), line.as_bytes())?.is_none(),
-            "at {line}"
-        );
+        for version in [Version::V1, Version::V2] {
+            assert!(rt;
+                reader.read(rt.alloc(), version, line.as_bytes(), false)? == Line::Bad,
+                "at {line}"
+            );
+        }
     }
     Ok(())
 }
 
 /// Lines at which a reader takes another way, and how far each lets the clock go on, if it is a command.
-const TURNS: [(&str, Option<u64>); 32] = [
+const TURNS: [(&str, Option<u32>); 32] = [
     // Eight members, and nine.
     (
         "{\"op\":\"tick\",\"n\":0,\"n\":1,\"n\":2,\"n\":3,\"n\":4,\"n\":5,\"n\":6}",
@@ -149,19 +163,35 @@ const TURNS: [(&str, Option<u64>); 32] = [
     ("{\"op\":\"tick\",\"n\":7", None),
 ];
 
-/// The reader and `read_line` both find a tick of this length, or both no command.
-fn expect_tick(
+/// `read_line` finds a tick of this length in this unit, or no command, and so does the reader, in a first line too.
+fn expect_tick_of(
     rt: &(impl AllocGlobal + Abort),
     reader: &mut LineReader,
+    version: Version,
     line: &str,
     wanted: Option<u64>,
 ) -> Result<(), Fail> {
     let tick = wanted.map(|n| (CallerId(0), Event::Tick { n: Span(n) }));
-    let alone = read_line(rt.alloc(), line.as_bytes())?;
+    let alone = read_line(rt.alloc(), version, line.as_bytes())?;
     assert!(rt; alone == tick, "at {line}");
-    let found = reader.read(rt.alloc(), line.as_bytes())?;
-    assert!(rt; found == tick, "at {line}");
+    let wanted = line_of(tick);
+    for is_first in [false, true] {
+        let found = reader.read(rt.alloc(), version, line.as_bytes(), is_first)?;
+        assert!(rt; found == wanted, "at {line}");
+    }
     Ok(())
+}
+
+/// Both find a tick of so many milliseconds in version 1, and of so many microseconds in version 2.
+fn expect_tick(
+    rt: &(impl AllocGlobal + Abort),
+    reader: &mut LineReader,
+    line: &str,
+    wanted: Option<u32>,
+) -> Result<(), Fail> {
+    expect_tick_of(rt, reader, Version::V2, line, wanted.map(u64::from))?;
+    let in_microseconds = wanted.map(|n| u64::from(n) * 1_000);
+    expect_tick_of(rt, reader, Version::V1, line, in_microseconds)
 }
 
 #[test]
@@ -196,7 +226,7 @@ fn nested(
 }
 
 /// What is nested 127 deep is read, the object of the line among it, and what is nested 128 deep is not.
-const NESTED: [(usize, Option<u64>); 3] = [(125, Some(7)), (126, Some(7)), (127, None)];
+const NESTED: [(usize, Option<u32>); 3] = [(125, Some(7)), (126, Some(7)), (127, None)];
 
 #[test]
 fn reads_nested_values(rt: HostRuntime) -> Result<(), Fail> {
@@ -329,10 +359,10 @@ fn expect_fill(
             },
         },
     ));
-    let alone = read_line(alloc, line.as_bytes())?;
+    let alone = read_line(alloc, Version::V1, line.as_bytes())?;
     assert!(rt; alone == write, "at {value}");
-    let found = reader.read(alloc, line.as_bytes())?;
-    assert!(rt; found == write, "at {value}");
+    let found = reader.read(alloc, Version::V1, line.as_bytes(), false)?;
+    assert!(rt; found == line_of(write), "at {value}");
     let reason = explain(alloc, line.as_bytes())?;
     assert!(rt; reason.is_none() == wanted.is_some(), "at {value}");
     let Some(reason) = reason else {

@@ -73,6 +73,32 @@ fn tells_what_is_wrong_with_op(rt: HostRuntime) -> Result<(), Fail> {
     Ok(())
 }
 
+// A version, where no `op` is there: a header, and what is none.
+#[test]
+fn tells_what_is_wrong_with_a_version(rt: HostRuntime) -> Result<(), Fail> {
+    let late = "a version can stand only in the first line";
+    let unknown = "key \"version\" must be 1 or 2, and stand alone";
+    for (line, wanted) in [
+        ("{\"version\":1}", late),
+        (" {\"version\":3,\"version\":2}\r", late),
+        ("{\"version\":3}", unknown),
+        ("{\"version\":\"2\"}", unknown),
+        ("{\"version\":2.0}", unknown),
+        ("{\"version\":2,\"by\":1}", unknown),
+        ("{\"Version\":2}", "key \"op\" is missing"),
+        (
+            "[{\"version\":2}]",
+            "no object, as {\"op\":\"pipe\"} is one",
+        ),
+        ("{\"version\":2,\"op\":1}", "key \"op\" must be a text"),
+        ("{\"version\":2,\"op\":\"pip\"}", "unknown op \"pip\""),
+        ("{\"version\":2,\"op\":\"pipe\"}", "unknown key \"version\""),
+    ] {
+        expect(&rt, line.as_bytes(), wanted)?;
+    }
+    Ok(())
+}
+
 // A key that the operation does not have, also where another is missing or has a wrong value; of
 // two the first in the order of their bytes.
 #[test]

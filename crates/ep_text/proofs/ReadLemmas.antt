@@ -4,15 +4,16 @@ use Rattle.std.specs.Result.{result_ok}
 use Rattle.std.specs.Str.{is_utf8}
 use Rattle.std.proofs.lemmas.Str.{IsUtf8-from_is_utf8, is_utf8-from_IsUtf8}
 use Rattle.serde_json.specs.Data.{Data, no_members}
+use Rattle.serde_json.specs.Find.{get}
 use Rattle.serde_json.specs.Read.{read as json}
 use Rattle.serde_json.specs.View.{items_view}
 use Rattle.serde_json.specs.declared.value.Value.{Value}
-use Rattle.ep_json.specs.Text.{text_data}
 use Rattle.ep_text.specs.Bytes.{repeated}
 use Rattle.ep_text.specs.declared.reason.Reason.{Reason}
 use Rattle.ep_text.specs.declared.key.Key.TheVariants as key
 use Rattle.ep_text.specs.declared.source.Member.{Member}
-use Rattle.ep_text.specs.Event.{Command, Operation, asked, command, event, operation_in, reading}
+use Rattle.ep_text.specs.Event.{Command, Operation, as_written, asked, command, operation_in, reading}
+use Rattle.ep_text.specs.Key.{key_name}
 use Rattle.ep_text.specs.Keys.{first_other, ◌>>=◌}
 use Rattle.ep_text.specs.Source.{flat_data, put_all}
 use Rattle.ep_text.specs.Reason.{unread}
@@ -37,19 +38,11 @@ guarded_some false o d r e h = cc
 pub read_json : (line : List ℕ) (d : Data) → IsUtf8 line → json line ≡ Some d → command d ≡ reading line
 read_json line d u h = guarded_some (is_utf8 line) (json line) d (unread line) (is_utf8-from_IsUtf8 line u) h
 
-pub command_read : (line : List ℕ) (d : Data) (c : Command) → IsUtf8 line → json line ≡ Some d → command d ≡ Ok c → event line ≡ Some c
+pub command_read : (line : List ℕ) (d : Data) (c : Command) → IsUtf8 line → json line ≡ Some d → command d ≡ Ok c → as_written line ≡ Some c
 command_read line d c u h e = ap result_ok (sym (read_json line d u h) ∙ e)
 
-pub flat_asked : (ms : List Member) (o : Operation) (c : Command) → operation_in (flat_data ms) ≡ Ok o → first_other (key.Op ∷ key.By ∷ o.keys) (put_all no_members ms) ≡ None → asked o (flat_data ms) ≡ Ok c
+pub flat_asked : (ms : List Member) (d : Data) (o : Operation) (c : Command) → get (key_name key.Op) (flat_data ms) ≡ Some d → operation_in d ≡ Ok o
+    → first_other (key.Op ∷ key.By ∷ o.keys) (put_all no_members ms) ≡ None → asked o (flat_data ms) ≡ Ok c
     → command (flat_data ms) ≡ Ok c
 unfolding command
-flat_asked ms o c named known e = rw (named, known) e
-
--- ---- a line by its value
-
-by_value : (b : Bool) (o : Option Data) (r : Reason) → ok_or (if b then o else None) r >>= command ≡ (if b then ok_or o r >>= command else Err r)
-by_value true o r = refl
-by_value false o r = refl
-
-pub event_of_data : (line : List ℕ) (read : Option Data) → read ≡ text_data line → result_ok (ok_or read (unread line) >>= command) ≡ event line
-event_of_data line read e = ap (λ o. result_ok (ok_or o (unread line) >>= command)) e ∙ ap result_ok (by_value (is_utf8 line) (json line) (unread line))
+flat_asked ms d o c there named known e = rw (there, named, known) e

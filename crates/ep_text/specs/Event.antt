@@ -1,9 +1,10 @@
 -- What a line of a script asks for: a table of its operations, each with its keys.
 use Rattle.std.specs.Prelude.{Err, List, None, Ok, Option, Result, Some, [], bytes_eq, codes, if◌then◌else◌, ok_or, ℕ, ◌∷◌}
+use Rattle.std.specs.Option.{option_map}
 use Rattle.std.specs.Result.{result_err, result_ok}
 use Rattle.std.specs.Str.{is_utf8}
 use Rattle.serde_json.specs.Data.{Data}
-use Rattle.serde_json.specs.Find.{as_object}
+use Rattle.serde_json.specs.Find.{as_object, get}
 use Rattle.serde_json.specs.Read.{read as json}
 use Rattle.ep_base.specs.declared.call.Call.{Call}
 use Rattle.ep_base.specs.declared.call.Event.{Event}
@@ -17,8 +18,13 @@ use Rattle.ep_text.specs.Calls.{close_call, ctl_call, dup2_call, dup_call, epoll
 use Rattle.ep_text.specs.Calls.{exec_call, exit_call, fork_call, gettime_call, pipe_call, plain_call}
 use Rattle.ep_text.specs.Calls.{read_call, settime_call, shutdown_call, socketpair_call, timerfd_call}
 use Rattle.ep_text.specs.Calls.{wait_call, write_call}
-use Rattle.ep_text.specs.Keys.{has_only, optional, required, text, unsigned32, unsigned64, ◌>>=◌}
+use Rattle.ep_text.specs.declared.line.Line.{Line}
+use Rattle.ep_text.specs.declared.line.Line.TheVariants.{Bad, Command as LineCommand, Header}
+use Rattle.ep_text.specs.declared.version.Version.{Version}
+use Rattle.ep_text.specs.Key.{key_name}
+use Rattle.ep_text.specs.Keys.{has_only, meant, optional, required, text, unsigned32, unsigned64, ◌>>=◌}
 use Rattle.ep_text.specs.Reason.{unread}
+use Rattle.ep_text.specs.Version.{event_in, without_op}
 
 -- its name, its keys beside `op` and `by`, and the event that it asks for
 pub record Operation : Type 0 where
@@ -137,25 +143,46 @@ asked operation d = do
   event ← operation.asks d
   Ok (record { 0 = caller }, event)
 
+-- of the value of `op`
 abbrev pub operation_in : Data → Result Operation Reason
 operation_in d = do
-  name ← required text key.Op d
+  name ← meant text key.Op d
   ok_or (named operations name) (UnknownOp name)
 
 unfoldable pub command : Data → Result Command Reason
 command d = do
   members ← ok_or (as_object d) NoObject
-  operation ← operation_in d
+  op ← ok_or (get (key_name key.Op) d) (without_op d)
+  operation ← operation_in op
   known ← has_only (key.Op ∷ key.By ∷ operation.keys) members
   asked operation d
 
 abbrev pub reading : List ℕ → Result Command Reason
 reading line = if is_utf8 line then ok_or (json line) (unread line) >>= command else Err (unread line)
 
--- who asks for what, if the line is a command
-abbrev pub event : List ℕ → Option Command
-event line = result_ok (reading line)
+-- who asks for what, with the numbers of the line, if it is a command
+abbrev pub as_written : List ℕ → Option Command
+as_written line = result_ok (reading line)
+
+abbrev pub command_in : Version → Command → Command
+command_in version c = (c.0, event_in version c.1)
+
+-- who asks for what in this version, if the line is a command
+abbrev pub event : Version → List ℕ → Option Command
+event version line = option_map (command_in version) (as_written line)
 
 -- why it is none, if it is none
 abbrev pub reason : List ℕ → Option Reason
 reason line = result_err (reading line)
+
+-- ---- what a line is that may be a header: the version that it names, and who asks for what
+
+abbrev pub header_of : Line → Option Version
+header_of (Header version) = Some version
+header_of (LineCommand caller event) = None
+header_of Bad = None
+
+abbrev pub command_of : Line → Option Command
+command_of (Header version) = None
+command_of (LineCommand caller event) = Some (caller, event)
+command_of Bad = None

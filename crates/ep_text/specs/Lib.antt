@@ -1,6 +1,7 @@
 pub mod Key
 pub mod Reason
 pub mod Values
+pub mod Version
 pub mod Source
 pub mod Flat
 pub mod Keys

@@ -6,6 +6,9 @@ use Rattle.ep_base.specs.declared.answer.Answer.{Answer}
 use Rattle.ep_base.specs.declared.answer.Answer.TheVariants.{Bytes, Done, Events, Num, Parked, Refused, Still, Time, Two}
 use Rattle.ep_base.specs.declared.answer.Report.{Report}
 use Rattle.ep_base.specs.Errno.{errno_name, errno_number}
+use Rattle.ep_text.specs.declared.version.Version.{Version}
+use Rattle.ep_text.specs.declared.version.Version.TheVariants.{V1, V2}
+use Rattle.ep_text.specs.Version.{shown_in}
 
 -- its bits, then its data
 abbrev pub report_text : Report → List ℕ
@@ -16,16 +19,21 @@ abbrev pub reports_text : Bool → List Report → List ℕ
 reports_text is_first [] = []
 reports_text is_first (r ∷ rs) = (if is_first then [] else codes ",") ++ (report_text r ++ reports_text false rs)
 
-unfoldable pub line_of : Answer → List ℕ
-line_of Done = codes "{\"done\":true}\n"
-line_of (Num n) = codes "{\"num\":" ++ decimal n ++ codes "}\n"
-line_of (Two first second) = codes "{\"two\":[" ++ signed_decimal first.0 ++ codes "," ++ signed_decimal second.0 ++ codes "]}\n"
-line_of (Bytes bytes) = codes "{\"bytes\":\"" ++ encode_lower bytes ++ codes "\"}\n"
-line_of (Events reports) = codes "{\"events\":[" ++ reports_text true reports ++ codes "]}\n"
-line_of (Time value interval) = codes "{\"time\":[" ++ decimal value ++ codes "," ++ decimal interval ++ codes "]}\n"
-line_of Parked = codes "{\"parked\":true}\n"
-line_of Still = codes "{\"still\":true}\n"
-line_of (Refused errno) = codes "{\"err\":[" ++ decimal (errno_number errno) ++ codes ",\"" ++ errno_name errno ++ codes "\"]}\n"
+unfoldable pub line_of : Version → Answer → List ℕ
+line_of version Done = codes "{\"done\":true}\n"
+line_of version (Num n) = codes "{\"num\":" ++ decimal n ++ codes "}\n"
+line_of version (Two first second) = codes "{\"two\":[" ++ signed_decimal first.0 ++ codes "," ++ signed_decimal second.0 ++ codes "]}\n"
+line_of version (Bytes bytes) = codes "{\"bytes\":\"" ++ encode_lower bytes ++ codes "\"}\n"
+line_of version (Events reports) = codes "{\"events\":[" ++ reports_text true reports ++ codes "]}\n"
+line_of version (Time value interval) = codes "{\"time\":[" ++ decimal (shown_in version value) ++ codes "," ++ decimal (shown_in version interval) ++ codes "]}\n"
+line_of version Parked = codes "{\"parked\":true}\n"
+line_of version Still = codes "{\"still\":true}\n"
+line_of version (Refused errno) = codes "{\"err\":[" ++ decimal (errno_number errno) ++ codes ",\"" ++ errno_name errno ++ codes "\"]}\n"
+
+-- of a header
+unfoldable pub header_line : Version → List ℕ
+header_line V1 = codes "{\"version\":1}\n"
+header_line V2 = codes "{\"version\":2}\n"
 
 -- of a line that is no command
 unfoldable pub bad_line : ℕ → List ℕ

@@ -1,18 +1,24 @@
 //! Reads many lines.
-ghost use Rattle.std.specs.Prelude.{◌≡◌, ◌∷◌, IfOk, IfSome, None, Ok, Some, true};
+ghost use Rattle.std.specs.Prelude.{◌≡◌, ◌∷◌, IfOk, IfSome, None, Ok, Some, if◌then◌else◌, option_map, true};
+ghost use Rattle.std.specs.Result.{result_ok};
 ghost use Rattle.serde_json.specs.Data.{no_members};
-ghost use Rattle.ep_text.specs.Event.{command, event};
+ghost use Rattle.serde_json.specs.View.{view};
+ghost use Rattle.ep_text.specs.Event.{as_written, command, command_in, command_of, event, header_of};
 ghost use Rattle.ep_text.specs.Key.{key_name};
 ghost use Rattle.ep_text.specs.Keys.{first_other, is_among};
 ghost use Rattle.ep_text.specs.Source.{flat_data, put_all};
+ghost use Rattle.ep_text.specs.Version.{header, header_data};
 
 use crate::flat::{Members, read_flat};
 use crate::key::Key;
+use crate::line::Line;
 use crate::read::{asked, command, operation_in};
 use crate::source::{Member, Source};
+use crate::version::{Version, event_in, header_in};
 use ep_base::{CallerId, Event};
 use ep_json::ValueReader;
 use memchr::memchr;
+use serde_json::Value;
 use std::alloc::{AllocError, Global};
 
 /// The longest line that is tried as a flat object. A longer one costs hardly more as a tree, and a vain try more.
@@ -66,7 +72,10 @@ fn flat_command(
     ensures { IfOk result (λ r. IfSome r (λ c. command (flat_data members.now) ≡ Ok c)) }
 {
     let line = Source::Flat(members);
-    let Ok(op) = operation_in(alloc, &line)? else {
+    let Some(named) = line.get(Key::Op) else {
+        return Ok(None);
+    };
+    let Ok(op) = operation_in(alloc, &named)? else {
         return Ok(None);
     };
     if !has_only(op.keys(), members) {
@@ -95,6 +104,37 @@ fn may_be_flat(line: &[u8]) -> bool {
         }
 }
 
+/// The version that a line of this value names, if it is the first one.
+fn header_at(is_first: bool, value: &Value) -> Option<Version>
+    ensures { result ≡ (if is_first then header_data (view value.now) else None) }
+{
+    if is_first {
+        return header_in(value);
+    }
+    None
+}
+
+/// What a line of this value is.
+fn line_in(
+    alloc: Global,
+    version: Version,
+    is_first: bool,
+    value: &Value,
+) -> Result<Line, AllocError>
+    ensures header { IfOk result (λ l.
+        header_of l ≡ (if is_first then header_data (view value.now) else None)) }
+    ensures command { IfOk result (λ l.
+        command_of l ≡ option_map (command_in version) (result_ok (command (view value.now)))) }
+{
+    if let Some(named) = header_at(is_first, value) {
+        return Ok(Line::Header(named));
+    }
+    match command(alloc, value)? {
+        Ok((caller, event)) => Ok(Line::Command(caller, event_in(version, event))),
+        Err(_) => Ok(Line::Bad),
+    }
+}
+
 impl LineReader {
     /// It has no room yet, and takes it as lines need it.
     pub fn new(alloc: Global) -> LineReader {
@@ -103,44 +143,40 @@ impl LineReader {
         }
     }
 
-    /// What `read_line` answers.
+    /// What a line of a script is: the command that `read_line` finds, or the header that `read_header` does, if it is
+    /// the first line. `AllocError` is want of memory.
     pub fn read(
         &mut self,
         alloc: Global,
+        version: Version,
         line: &[u8],
-    ) -> Result<Option<(CallerId, Event)>, AllocError>
-        ensures { IfOk result (λ r. r ≡ event line.now) }
+        is_first: bool,
+    ) -> Result<Line, AllocError>
+        ensures header { IfOk result (λ l.
+            header_of l ≡ (if is_first then header line.now else None)) }
+        ensures command { IfOk result (λ l. command_of l ≡ event version line.now) }
     {
-        if may_be_flat(line) {
-            if let Some(command) = self.read_flat(alloc, line)? {
-                return Ok(Some(command));
-            }
+        if let Some((caller, event)) = self.read_flat(alloc, line)? {
+            return Ok(Line::Command(caller, event_in(version, event)));
         }
-        self.read_any(alloc, line)
-    }
-
-    /// The command of any line, by a tree of its values.
-    fn read_any(
-        &mut self,
-        alloc: Global,
-        line: &[u8],
-    ) -> Result<Option<(CallerId, Event)>, AllocError>
-        ensures { IfOk result (λ r. r ≡ event line.now) }
-    {
         match self.values.read(alloc, line)? {
-            Some(value) => Ok(command(alloc, &value)?.ok()),
-            None => Ok(None),
+            Some(value) => line_in(alloc, version, is_first, &value),
+            None => Ok(Line::Bad),
         }
     }
 
-    /// The command of a line, where it is an object whose values need no memory. Most are.
+    /// The command of a line that may well be an object whose values need no memory, with the numbers of the line. Most
+    /// lines are. `None` doesn't say that it is no command.
     fn read_flat(
         &mut self,
         alloc: Global,
         line: &[u8],
     ) -> Result<Option<(CallerId, Event)>, AllocError>
-        ensures { IfOk result (λ r. IfSome r (λ c. event line.now ≡ Some c)) }
+        ensures { IfOk result (λ r. IfSome r (λ c. as_written line.now ≡ Some c)) }
     {
+        if !may_be_flat(line) {
+            return Ok(None);
+        }
         let Ok(text) = std::str::from_utf8(line) else {
             return Ok(None);
         };

@@ -3,8 +3,9 @@ ghost use Rattle.std.specs.Fmt.{signed_decimal};
 ghost use Rattle.std.specs.Prelude.{◌≡◌, ◌++◌, IfOk, OnOk, codes, decimal, string_bytes, true};
 ghost use Rattle.hex.specs.Hex.{encode_lower};
 ghost use Rattle.ep_base.specs.Errno.{errno_name, errno_number};
-ghost use Rattle.ep_text.specs.Line.{bad_line, line_of, reports_text};
+ghost use Rattle.ep_text.specs.Line.{bad_line, header_line, line_of, reports_text};
 
+use crate::version::{Version, shown_in};
 use ep_base::{Answer, Errno, Report};
 use std::alloc::{AllocError, Global};
 
@@ -75,11 +76,18 @@ fn push_errno(text: &mut String, errno: Errno) -> Result<(), AllocError>
     Ok(())
 }
 
-/// Puts the line of an answer, with the byte 10 that ends it, behind the text.
-/// After an `AllocError` the text may have a part of it.
+/// Puts the line of an answer, with the byte 10 that ends it, behind the text. In version 1 the
+/// times of a timer are milliseconds, rounded up; in version 2 they are microseconds. After an
+/// `AllocError` the text may have a part of the line.
 #[tactic(auto, unfolding(crate::specs::Line::line_of))]
-pub fn push_answer(alloc: Global, text: &mut String, answer: &Answer) -> Result<(), AllocError>
-    ensures { OnOk result (string_bytes text.new ≡ string_bytes text.old ++ line_of answer.now) }
+pub fn push_answer(
+    alloc: Global,
+    version: Version,
+    text: &mut String,
+    answer: &Answer,
+) -> Result<(), AllocError>
+    ensures { OnOk result
+        (string_bytes text.new ≡ string_bytes text.old ++ line_of version answer.now) }
 {
     match answer {
         Answer::Done => text.push_str("{\"done\":true}\n"),
@@ -87,7 +95,13 @@ pub fn push_answer(alloc: Global, text: &mut String, answer: &Answer) -> Result<
         Answer::Two(first, second) => push_two(text, first.0, second.0),
         Answer::Bytes(bytes) => push_bytes(alloc, text, bytes.as_slice()),
         Answer::Events(reports) => push_events(text, reports.as_slice()),
-        Answer::Time { value, interval } => push_time(text, value.0, interval.0),
+        Answer::Time { value, interval } => {
+            push_time(
+                text,
+                shown_in(version, *value),
+                shown_in(version, *interval),
+            )
+        }
         Answer::Parked => text.push_str("{\"parked\":true}\n"),
         Answer::Still => text.push_str("{\"still\":true}\n"),
         Answer::Refused(errno) => push_errno(text, *errno),
@@ -113,12 +127,24 @@ pub fn push_bad(text: &mut String, number: u64) -> Result<(), AllocError>
     Ok(())
 }
 
-/// The line that tells an answer, compact JSON with one key, and the byte 10 that ends it.
-/// `AllocError` is want of memory.
-pub fn print_answer(alloc: Global, answer: &Answer) -> Result<Vec<u8>, AllocError>
-    ensures { IfOk result (λ line. line.items ≡ line_of answer.now) }
+/// Puts the line that answers a header behind the text. After an `AllocError` the text may have a
+/// part of it.
+#[tactic(auto, unfolding(crate::specs::Line::header_line))]
+pub fn push_header(text: &mut String, version: Version) -> Result<(), AllocError>
+    ensures { OnOk result (string_bytes text.new ≡ string_bytes text.old ++ header_line version) }
+{
+    match version {
+        Version::V1 => text.push_str("{\"version\":1}\n"),
+        Version::V2 => text.push_str("{\"version\":2}\n"),
+    }
+}
+
+/// The line that tells an answer in a script of this version, compact JSON with one key, and the
+/// byte 10 that ends it. `AllocError` is want of memory.
+pub fn print_answer(alloc: Global, version: Version, answer: &Answer) -> Result<Vec<u8>, AllocError>
+    ensures { IfOk result (λ line. line.items ≡ line_of version answer.now) }
 {
     let mut text = String::new(alloc);
-    push_answer(alloc, &mut text, answer)?;
+    push_answer(alloc, version, &mut text, answer)?;
     Ok(text.into_bytes())
 }

@@ -4,7 +4,8 @@ ghost use Rattle.serde_json.specs.View.{view};
 ghost use Rattle.ep_text.specs.Event.{asked, by_process, command, event, operation_in, reading, reason, tick_event};
 ghost use Rattle.ep_text.specs.Keys.{ok_map};
 ghost use Rattle.ep_text.specs.Ops.{call_of, operation_of};
-ghost use Rattle.ep_text.specs.Source.{source_data};
+ghost use Rattle.ep_text.specs.Source.{found_data, source_data};
+ghost use Rattle.ep_text.specs.declared.version.Version.{Version};
 
 use crate::calls::call_of;
 use crate::fields::{required_u64, u32_or, u64_or};
@@ -12,8 +13,9 @@ use crate::key::Key;
 use crate::keys::first_other;
 use crate::op::{CallOp, Op};
 use crate::reason::{Name, Reason, unfit, unread};
-use crate::source::Source;
+use crate::source::{Found, Source};
 use crate::value_kind::ValueKind;
+use crate::version::{Version, event_in, without_op};
 use ep_base::{CallerId, Event, Pid, Span};
 use serde_json::Value;
 use std::alloc::{AllocError, Global};
@@ -72,17 +74,15 @@ pub(crate) fn asked(
     }
 }
 
+/// The operation that a value of `op` names.
 pub(crate) fn operation_in(
     alloc: Global,
-    line: &Source<'_>,
+    value: &Found<'_>,
 ) -> Result<Result<Op, Reason>, AllocError>
-    ensures { IfOk result (λ r. ok_map operation_of r ≡ operation_in (source_data line.now)) }
+    ensures { IfOk result (λ r. ok_map operation_of r ≡ operation_in (found_data value.now)) }
 {
-    let Some(value) = line.get(Key::Op) else {
-        return Ok(Err(Reason::Missing(Key::Op)));
-    };
     let Some(name) = value.as_str() else {
-        return Ok(Err(unfit(&value, Key::Op, ValueKind::Text)));
+        return Ok(Err(unfit(value, Key::Op, ValueKind::Text)));
     };
     match Op::named(name) {
         Some(op) => Ok(Ok(op)),
@@ -101,7 +101,10 @@ pub(crate) fn command(
         return Ok(Err(Reason::NoObject));
     };
     let line = Source::Tree(value);
-    let op = match operation_in(alloc, &line)? {
+    let Some(named) = line.get(Key::Op) else {
+        return Ok(Err(without_op(value)));
+    };
+    let op = match operation_in(alloc, &named)? {
         Ok(op) => op,
         Err(reason) => return Ok(Err(reason)),
     };
@@ -127,24 +130,34 @@ fn reading(alloc: Global, line: &[u8]) -> Result<Result<(CallerId, Event), Reaso
     command(alloc, &value)
 }
 
-/// What a line of a script asks for and who asks, or `None` exactly where the line is no command:
-/// one object, whose `op` is a call, `resume` or `tick`, with the keys of that operation and no other,
-/// each with a value of its kind and range. The line comes without the byte that ends it.
-/// `AllocError` is want of memory.
-pub fn read_line(alloc: Global, line: &[u8]) -> Result<Option<(CallerId, Event)>, AllocError>
-    ensures { IfOk result (λ r. r ≡ event line.now) }
+/// What a line of a script asks for and who asks, or `None` exactly if the line is no command: one
+/// object, whose `op` is a call, `resume` or `tick`. It has the keys of that operation and no other,
+/// each with a value of its kind and range. In version 1 the times of the line are milliseconds, and
+/// come a thousandfold; the longest that there is stands for any that is longer. In version 2 they
+/// are microseconds. The line comes without the byte that ends it. `AllocError` is want of memory.
+pub fn read_line(
+    alloc: Global,
+    version: Version,
+    line: &[u8],
+) -> Result<Option<(CallerId, Event)>, AllocError>
+    ensures { IfOk result (λ r. r ≡ event version line.now) }
 {
-    Ok(reading(alloc, line)?.ok())
+    match reading(alloc, line)? {
+        Ok((caller, event)) => Ok(Some((caller, event_in(version, event)))),
+        Err(_) => Ok(None),
+    }
 }
 
-/// Why a line is no command, or `None` exactly where `read_line` finds one. It is the first reason
-/// that holds, in this order: no byte at all, no JSON behind a byte order mark, no JSON, no object,
-/// `op` missing, no text or unknown; a key that the operation does not have; then the wrong value of
-/// `by`, of `pid`, and of each further key in the order of docs/script.md, or that the key is
-/// missing. `AllocError` is want of memory.
+/// Why a line is no command, or `None` exactly if `read_line` finds one; a script's version plays no
+/// part. It is the first reason that holds, in this order: no byte at all, no JSON behind a byte
+/// order mark, no JSON, no object. Then, if `op` is not there: a version, which only a first line can
+/// name, or a key `version` that names none; else that `op` is missing. Then `op` is no text or
+/// unknown, or a key is none of the operation. Then comes the wrong value of `by`, of `pid`, and of
+/// each further key in the order of docs/script.md, or that the key is missing. `AllocError` is want
+/// of memory.
 pub fn explain(alloc: Global, line: &[u8]) -> Result<Option<Reason>, AllocError>
     ensures first { IfOk result (λ r. r ≡ reason line.now) }
-    ensures exact { IfOk result (λ r. IsSome r ↔ IsNone (event line.now)) }
+    ensures exact { (version : Version) → IfOk result (λ r. IsSome r ↔ IsNone (event version line.now)) }
 {
     Ok(reading(alloc, line)?.err())
 }

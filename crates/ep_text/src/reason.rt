@@ -54,6 +54,10 @@ pub enum Reason {
     NoJson,
     /// It is JSON, but no object.
     NoObject,
+    /// It names a version, as only the first line of a script can.
+    LateHeader,
+    /// It has the key `version` and no `op`, but names no version that there is, or has a further key.
+    UnknownVersion,
     /// This key must be there and is missing.
     Missing(Key),
     /// The value of the key is of another kind than this.
@@ -102,6 +106,10 @@ impl Display for Reason {
             Reason::ByteOrderMark => write!(f, "it begins with a byte order mark"),
             Reason::NoJson => write!(f, "no JSON: a line is one object, as {EXAMPLE}"),
             Reason::NoObject => write!(f, "no object, as {EXAMPLE} is one"),
+            Reason::LateHeader => write!(f, "a version can stand only in the first line"),
+            Reason::UnknownVersion => {
+                write!(f, "key \"version\" must be 1 or 2, and stand alone")
+            }
             Reason::Missing(key) => write!(f, "key \"{}\" is missing", key.name()),
             Reason::WrongKind { key, kind } => {
                 write!(f, "key \"{}\" must be {}", key.name(), kind.words())
