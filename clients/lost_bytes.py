@@ -72,7 +72,7 @@ def run_here(loop, turns):
             kernel.write(writer, MESSAGE, by=PEER)
             if turn:
                 got += take_turns(kernel, loop, instance, reader)
-        kernel.tick(3_600_000)
+        kernel.tick(3_600)
         return len(got + take_turns(kernel, loop, instance, reader))
 
 

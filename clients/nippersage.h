@@ -4,10 +4,14 @@
  * -EAGAIN. What is no refusal is one of the NIPPERSAGE_.. numbers below, which are less than that
  * of any error. docs/calls.md says what each call answers and refuses; docs/clients.md what is
  * promised. Needs no library but C's, in POSIX.1-2008: compile as GNU C, or define _POSIX_C_SOURCE
- * as 200809L. */
+ * as 200809L.
+ *
+ * A time is a struct timespec. What is finer than the kernel's unit, a microsecond, is rounded up.
+ * One that is no time, as with 1,000,000,000 nanoseconds, is -EINVAL, and nothing is sent. */
 #ifndef NIPPERSAGE_H
 #define NIPPERSAGE_H
 
+#include <errno.h>
 #include <fcntl.h>
 #include <inttypes.h>
 #include <stddef.h>
@@ -17,6 +21,7 @@
 #include <sys/socket.h>
 #include <sys/types.h>
 #include <sys/wait.h>
+#include <time.h>
 #include <unistd.h>
 
 enum {
@@ -32,7 +37,7 @@ enum { NIPPERSAGE_ADD = 1, NIPPERSAGE_DEL = 2, NIPPERSAGE_MOD = 3 };
 
 /* The program runs no more. */
 #define NIPPERSAGE_ENDED (-100001)
-/* The kernel has answered 100,000 calls, and no kernel answers more. */
+/* The kernel has answered 99,999 calls, and no kernel answers more. */
 #define NIPPERSAGE_CALLS (-100002)
 /* The line of the call is longer than 65,536 bytes: a write of some 32,000 bytes or more. */
 #define NIPPERSAGE_LINE (-100003)
@@ -46,8 +51,11 @@ enum { NIPPERSAGE_ADD = 1, NIPPERSAGE_DEL = 2, NIPPERSAGE_MOD = 3 };
 #define NIPPERSAGE_ILLEGAL (-100007)
 /* There is no verdict on a history: a line is no record, or the file can't be read. */
 #define NIPPERSAGE_UNJUDGED (-100008)
+/* The program is older than this file: it doesn't take times in microseconds. */
+#define NIPPERSAGE_OLDER (-100009)
 
-#define NIPPERSAGE_MOST_CALLS 100000
+/* A run of the program has at most 100,000 lines, and the header is one. */
+#define NIPPERSAGE_MOST_CALLS 99999
 #define NIPPERSAGE_LONGEST_LINE 65536
 
 /* A kernel in a process of its own. `by` is the caller and `pid` the process of the next calls;
@@ -56,6 +64,7 @@ struct nippersage {
     uint32_t by;
     uint64_t pid;
     long calls;
+    int has_begun;
     int channel;
     FILE *answers;
     pid_t program;
@@ -177,6 +186,24 @@ static inline int nippersage_send(struct nippersage *kernel, const char *text, s
     return 0;
 }
 
+/* Sends a line, and reads the one that answers it. 0, or NIPPERSAGE_ENDED. */
+static inline int nippersage_exchange(struct nippersage *kernel, const char *line, size_t length) {
+    if (nippersage_send(kernel, line, length) < 0) return NIPPERSAGE_ENDED;
+    return getline(&kernel->answer, &kernel->room, kernel->answers) < 0 ? NIPPERSAGE_ENDED : 0;
+}
+
+/* Says once, before the first call, that times are in microseconds. That line is its own answer. */
+static inline int nippersage_begin(struct nippersage *kernel) {
+    const char *header = "{\"version\":2}\n";
+    int status;
+    if (kernel->has_begun) return 0;
+    status = nippersage_exchange(kernel, header, strlen(header));
+    if (status < 0) return status;
+    if (strcmp(kernel->answer, header) != 0) return NIPPERSAGE_OLDER;
+    kernel->has_begun = 1;
+    return 0;
+}
+
 /* Sends the line {"op":..,"by":.. and what `rest` holds}, and reads its answer. 0, or less than 0. */
 static inline int nippersage_ask(struct nippersage *kernel, const char *op, int of_process, const char *rest) {
     size_t most = strlen(rest) + 128;
@@ -188,13 +215,13 @@ static inline int nippersage_ask(struct nippersage *kernel, const char *op, int 
     length += snprintf(line + length, most - (size_t)length, "%s}\n", rest);
     if (length - 1 > NIPPERSAGE_LONGEST_LINE) status = NIPPERSAGE_LINE;
     else if (kernel->calls == NIPPERSAGE_MOST_CALLS) status = NIPPERSAGE_CALLS;
-    else {
+    else status = nippersage_begin(kernel);
+    if (status == 0) {
         kernel->calls++;
-        status = nippersage_send(kernel, line, (size_t)length);
+        status = nippersage_exchange(kernel, line, (size_t)length);
     }
     free(line);
     if (status < 0) return status;
-    if (getline(&kernel->answer, &kernel->room, kernel->answers) < 0) return NIPPERSAGE_ENDED;
     if (sscanf(kernel->answer, "{\"err\":[%d,", &number) == 1) return -number;
     if (strncmp(kernel->answer, "{\"bad\":", 7) == 0) return NIPPERSAGE_RANGE;
     return 0;
@@ -242,6 +269,31 @@ static inline int nippersage_reports(struct nippersage *kernel, struct nippersag
     return count;
 }
 
+/* ---- times ---- */
+
+/* In microseconds, rounded up, or -1 if it is none. What is above the largest number is that. */
+static inline int64_t nippersage_microseconds(const struct timespec *time) {
+    if (time->tv_sec < 0 || time->tv_nsec < 0 || time->tv_nsec >= 1000000000) return -1;
+    if (time->tv_sec > INT64_MAX / 1000000 - 1) return INT64_MAX;
+    return (int64_t)time->tv_sec * 1000000 + (time->tv_nsec + 999) / 1000;
+}
+
+/* So many microseconds. */
+static inline struct timespec nippersage_timespec(uint64_t time) {
+    struct timespec found = {.tv_sec = (time_t)(time / 1000000), .tv_nsec = (long)(time % 1000000) * 1000};
+    return found;
+}
+
+/* What a call with this name answers of a timer. `setting` may be NULL. */
+static inline int nippersage_setting(struct nippersage *kernel, const char *op, const char *rest, struct itimerspec *setting) {
+    uint64_t two[2];
+    int status = nippersage_two(kernel, op, rest, two);
+    if (status < 0 || !setting) return status;
+    setting->it_value = nippersage_timespec(two[0]);
+    setting->it_interval = nippersage_timespec(two[1]);
+    return status;
+}
+
 /* ---- the calls ---- */
 
 /* The read end and the write end of a new pipe. */
@@ -286,14 +338,28 @@ static inline int nippersage_ctl(struct nippersage *kernel, int ep, int op, int 
     return nippersage_ask(kernel, "ctl", 1, rest);
 }
 
-/* How many reports were stored, at most `max`, or NIPPERSAGE_PARKED. `timeout` is in milliseconds:
- * 0 never parks, less than 0 parks without a deadline. */
-static inline int nippersage_wait(struct nippersage *kernel, int ep, struct nippersage_report *reports, int max, int64_t timeout) {
+/* A wait of so many microseconds, or without a deadline if they are less than 0. */
+static inline int nippersage_wait_for(struct nippersage *kernel, int ep, struct nippersage_report *reports, int max, int64_t timeout) {
     char rest[96];
     int status;
     snprintf(rest, sizeof rest, ",\"ep\":%d,\"max\":%d,\"timeout\":%" PRId64, ep, max, timeout);
     status = nippersage_ask(kernel, "wait", 1, rest);
     return status < 0 ? status : nippersage_reports(kernel, reports, max);
+}
+
+/* How many reports were stored, at most `max`, or NIPPERSAGE_PARKED. `timeout` is in milliseconds,
+ * as that of epoll_wait(2): 0 never parks, less than 0 parks without a deadline. */
+static inline int nippersage_wait(struct nippersage *kernel, int ep, struct nippersage_report *reports, int max, int64_t timeout) {
+    if (timeout < 0) timeout = -1;
+    else if (timeout > INT64_MAX / 1000) timeout = INT64_MAX;
+    else timeout *= 1000;
+    return nippersage_wait_for(kernel, ep, reports, max, timeout);
+}
+
+/* The same with the timeout of epoll_pwait2(2): NULL parks without a deadline. */
+static inline int nippersage_pwait2(struct nippersage *kernel, int ep, struct nippersage_report *reports, int max, const struct timespec *timeout) {
+    int64_t most = timeout ? nippersage_microseconds(timeout) : -1;
+    return timeout && most < 0 ? -EINVAL : nippersage_wait_for(kernel, ep, reports, max, most);
 }
 
 /* What the parked wait of the caller reports, or NIPPERSAGE_PARKED if it is still parked.
@@ -359,19 +425,22 @@ static inline int nippersage_close(struct nippersage *kernel, int fd) {
     return nippersage_of_fd(kernel, "close", fd);
 }
 
-/* `before` gets the value and the interval that stood before. */
-static inline int nippersage_settime(struct nippersage *kernel, int fd, int absolute, uint64_t value, uint64_t interval, uint64_t before[2]) {
+/* Sets a timer. `before`, if it isn't NULL, gets the value and the interval that stood before. */
+static inline int nippersage_settime(struct nippersage *kernel, int fd, int absolute, const struct itimerspec *setting, struct itimerspec *before) {
+    int64_t value = nippersage_microseconds(&setting->it_value);
+    int64_t interval = nippersage_microseconds(&setting->it_interval);
     char rest[128];
-    snprintf(rest, sizeof rest, ",\"fd\":%d,\"abs\":%s,\"value\":%" PRIu64 ",\"interval\":%" PRIu64, fd,
+    if (value < 0 || interval < 0) return -EINVAL;
+    snprintf(rest, sizeof rest, ",\"fd\":%d,\"abs\":%s,\"value\":%" PRId64 ",\"interval\":%" PRId64, fd,
              absolute ? "true" : "false", value, interval);
-    return nippersage_two(kernel, "settime", rest, before);
+    return nippersage_setting(kernel, "settime", rest, before);
 }
 
 /* `now` gets the time until the next expiration, 0 if there is no next one, and the interval. */
-static inline int nippersage_gettime(struct nippersage *kernel, int fd, uint64_t now[2]) {
+static inline int nippersage_gettime(struct nippersage *kernel, int fd, struct itimerspec *now) {
     char rest[32];
     snprintf(rest, sizeof rest, ",\"fd\":%d", fd);
-    return nippersage_two(kernel, "gettime", rest, now);
+    return nippersage_setting(kernel, "gettime", rest, now);
 }
 
 /* Another descriptor of the same description. */
@@ -403,10 +472,12 @@ static inline int nippersage_exit(struct nippersage *kernel) {
     return nippersage_ask(kernel, "exit", 1, "");
 }
 
-/* The clock goes on by so many milliseconds. */
-static inline int nippersage_tick(struct nippersage *kernel, uint64_t n) {
+/* The clock goes on by this time. */
+static inline int nippersage_tick(struct nippersage *kernel, const struct timespec *time) {
+    int64_t more = nippersage_microseconds(time);
     char rest[32];
-    snprintf(rest, sizeof rest, ",\"n\":%" PRIu64, n);
+    if (more < 0) return -EINVAL;
+    snprintf(rest, sizeof rest, ",\"n\":%" PRId64, more);
     return nippersage_ask(kernel, "tick", 0, rest);
 }
 

@@ -10,22 +10,29 @@
         assert kernel.wait(instance) == [(IN, 3)]
 
 Every method takes `by`, the number of the caller, and those of a process's calls take `pid`, its
-number. `Kernel(history=PATH)` writes down what happens, and `audit(PATH)` has it checked.
-docs/calls.md says what each call answers and refuses; docs/clients.md what is promised.
+number. A time is a number of seconds or a timedelta; what is finer than the kernel's unit, a
+microsecond, is rounded up. `Kernel(history=PATH)` writes down what happens, and `audit(PATH)` has
+it checked. docs/calls.md says what each call answers and refuses; docs/clients.md what is promised.
 """
 
 import json
+import math
 import os
 import re
 import subprocess
+from datetime import timedelta
+from fractions import Fraction
 
 IN, PRI, OUT, ERR, HUP, RDHUP = 1, 2, 4, 8, 16, 8192
 EXCLUSIVE, WAKEUP, ONESHOT, ET = 1 << 28, 1 << 29, 1 << 30, 1 << 31
 
-#: The most lines of one run of the program, and so the most calls of one Kernel.
-MOST_CALLS = 100_000
+#: The most calls of one Kernel. A run of the program has at most 100,000 lines, and the header is one.
+MOST_CALLS = 99_999
 #: The most bytes of a line, without the byte that ends it.
 LONGEST_LINE = 65_536
+
+#: The first line of a run, which is its own answer: the times of the others are in microseconds.
+_HEADER = b'{"version":2}\n'
 
 _TOP = os.path.join(os.path.dirname(os.path.abspath(__file__)), os.pardir)
 #: The programs: `epsim` and `epaudit` beside this folder, or those that these variables name.
@@ -68,6 +75,29 @@ def _limits_words(limits):
     return [] if limits is None else ["--limits", ",".join(map(str, limits))]
 
 
+def _microseconds(time):
+    """So many, rounded up.
+
+    A float that is a whole number to one part in 2^51 is that number, since 0.000003 is not exactly
+    three of them, and 0.1 + 0.2 is another float than 0.3.
+    """
+    if isinstance(time, timedelta):
+        time = Fraction(time // timedelta(microseconds=1), 1_000_000)
+    if not 0 <= time < math.inf:
+        raise ValueError(f"a time is a number of seconds from 0 on, and not {time}")
+    count = Fraction(time) * 1_000_000
+    nearest = round(count)
+    return nearest if abs(count - nearest) <= count / 2**51 else math.ceil(count)
+
+
+def _timeout(timeout):
+    """In microseconds, or -1 if it has no end."""
+    if timeout is None or timeout == math.inf:
+        return -1
+    is_negative = timeout < (timedelta() if isinstance(timeout, timedelta) else 0)
+    return -1 if is_negative else _microseconds(timeout)
+
+
 class Kernel:
     """A kernel in its opening state, in a process of its own.
 
@@ -83,6 +113,7 @@ class Kernel:
         if history is not None:
             words += ["--history", os.path.abspath(history)]
         self.calls = 0
+        self._has_begun = False
         self._program = subprocess.Popen(words, stdin=subprocess.PIPE, stdout=subprocess.PIPE)
 
     def __enter__(self):
@@ -102,7 +133,9 @@ class Kernel:
         return status
 
     def ask(self, op, **keys):
-        """Sends a line with these keys but for those that are None, and gives its answer, a dict of one key."""
+        """Sends a line with these keys but for those that are None, and gives its answer, a dict of one key.
+
+        The times of both are in microseconds."""
         line = json.dumps({"op": op, **{k: v for k, v in keys.items() if v is not None}}).encode()
         if self._program.poll() is not None or self._program.stdin.closed:
             raise Ended(f"the program ended with status {self._program.returncode}")
@@ -110,16 +143,27 @@ class Kernel:
             raise ValueError(f"a line has at most {LONGEST_LINE} bytes, and this call takes {len(line)}")
         if self.calls == MOST_CALLS:
             raise Ended(f"a kernel answers {MOST_CALLS} calls; make another one")
+        self._begin()
         self.calls += 1
+        return json.loads(self._exchange(line + b"\n"))
+
+    def _begin(self):
+        """Says once, before the first call, in which unit times are."""
+        if not self._has_begun and self._exchange(_HEADER) != _HEADER:
+            raise Ended("the program is older than this client: it knows no scripts of version 2")
+        self._has_begun = True
+
+    def _exchange(self, line):
+        """Sends a line, and gives the one that answers it."""
         try:
-            self._program.stdin.write(line + b"\n")
+            self._program.stdin.write(line)
             self._program.stdin.flush()
         except BrokenPipeError:
             pass
         answer = self._program.stdout.readline()
         if not answer.endswith(b"\n"):
             raise Ended(f"the program ended with status {self._program.wait()}")
-        return json.loads(answer)
+        return answer
 
     def _call(self, op, **keys):
         answer = self.ask(op, **keys)
@@ -168,8 +212,9 @@ class Kernel:
     def wait(self, ep, max=8, timeout=0, *, by=0, pid=1):
         """A list of (bits, data), at most `max`, or None if the caller is parked.
 
-        `timeout` is in milliseconds: 0 never parks, less than 0 parks without a deadline."""
-        return self._reports(self._call("wait", ep=ep, max=max, timeout=timeout, by=by, pid=pid))
+        A `timeout` of 0 never parks, and one of less than 0 or None parks without a deadline."""
+        end = _timeout(timeout)
+        return self._reports(self._call("wait", ep=ep, max=max, timeout=end, by=by, pid=pid))
 
     def resume(self, *, by=0):
         """What the parked wait of the caller reports, or None if it is still parked."""
@@ -196,13 +241,17 @@ class Kernel:
         self._call("shutdown", fd=fd, by=by, pid=pid)
 
     def settime(self, fd, value, interval=0, absolute=False, *, by=0, pid=1):
-        """The value and the interval before."""
-        keys = {"value": value, "interval": interval, "abs": absolute}
-        return tuple(self._call("settime", fd=fd, by=by, pid=pid, **keys)["time"])
+        """Sets a timer, and gives the value and the interval before, in seconds."""
+        keys = {"value": _microseconds(value), "interval": _microseconds(interval), "abs": absolute}
+        return self._setting(self._call("settime", fd=fd, by=by, pid=pid, **keys))
 
     def gettime(self, fd, *, by=0, pid=1):
-        """The time until the next expiration, 0 if there is no next one, and the interval."""
-        return tuple(self._call("gettime", fd=fd, by=by, pid=pid)["time"])
+        """The time until the next expiration, 0 if there is no next one, and the interval, in seconds."""
+        return self._setting(self._call("gettime", fd=fd, by=by, pid=pid))
+
+    @staticmethod
+    def _setting(answer):
+        return tuple(count / 1_000_000 for count in answer["time"])
 
     def dup(self, fd, *, by=0, pid=1):
         """Another descriptor of the same description."""
@@ -228,6 +277,6 @@ class Kernel:
         """Ends the process."""
         self._call("exit", by=by, pid=pid)
 
-    def tick(self, n, *, by=0):
-        """The clock goes on by so many milliseconds."""
-        self._call("tick", n=n, by=by)
+    def tick(self, time, *, by=0):
+        """The clock goes on by this time."""
+        self._call("tick", n=_microseconds(time), by=by)

@@ -1,7 +1,7 @@
 /* What the C client hands on. The expected answers are those of examples/ and docs/calls.md. */
 #define _GNU_SOURCE
 #include "nippersage.h"
-#include <errno.h>
+#include <sys/stat.h>
 
 static int failures;
 
@@ -11,6 +11,8 @@ static void expect(int holds, const char *text, int line) {
     failures++;
 }
 #define EXPECT(test) expect((test), #test, __LINE__)
+
+static long long nanoseconds(struct timespec time) { return time.tv_sec * 1000000000LL + time.tv_nsec; }
 
 static void level_triggered(const char *path) {
     struct nippersage kernel;
@@ -34,26 +36,115 @@ static void level_triggered(const char *path) {
 static void parked_callers(const char *path) {
     struct nippersage kernel;
     struct nippersage_report reports[8];
-    uint64_t time[2] = {9, 9};
+    struct itimerspec set = {.it_value = {0, 5000}, .it_interval = {0, 2000}}, time = {.it_value = {9, 9}};
+    struct timespec four = {0, 4000}, five = {0, 5000};
     unsigned char count[8];
     EXPECT(nippersage_start(&kernel, path, NULL) == 0);
     EXPECT(nippersage_timerfd(&kernel, 1, 0) == 3 && nippersage_epoll(&kernel, 0) == 4);
     EXPECT(nippersage_ctl(&kernel, 4, NIPPERSAGE_ADD, 3, NIPPERSAGE_IN | NIPPERSAGE_ET, UINT64_MAX) == 0);
-    EXPECT(nippersage_settime(&kernel, 3, 0, 5, 2, time) == 0 && time[0] == 0 && time[1] == 0);
+    EXPECT(nippersage_settime(&kernel, 3, 0, &set, &time) == 0);
+    EXPECT(nanoseconds(time.it_value) == 0 && nanoseconds(time.it_interval) == 0);
     kernel.by = 1;
     EXPECT(nippersage_wait(&kernel, 4, reports, 8, -1) == NIPPERSAGE_PARKED);
     EXPECT(nippersage_close(&kernel, 3) == -EBUSY);
-    EXPECT(nippersage_tick(&kernel, 4) == 0);
+    EXPECT(nippersage_tick(&kernel, &four) == 0);
     EXPECT(nippersage_resume(&kernel, reports, 8) == NIPPERSAGE_PARKED);
     kernel.by = 0;
-    EXPECT(nippersage_gettime(&kernel, 3, time) == 0 && time[0] == 1 && time[1] == 2);
-    EXPECT(nippersage_tick(&kernel, 5) == 0);
+    EXPECT(nippersage_gettime(&kernel, 3, &time) == 0);
+    EXPECT(nanoseconds(time.it_value) == 1000 && nanoseconds(time.it_interval) == 2000);
+    EXPECT(nippersage_tick(&kernel, &five) == 0);
     kernel.by = 1;
     EXPECT(nippersage_resume(&kernel, reports, 8) == 1);
     EXPECT(reports[0].bits == NIPPERSAGE_IN && reports[0].data == UINT64_MAX);
     EXPECT(nippersage_resume(&kernel, reports, 8) == -EINVAL);
     EXPECT(nippersage_read(&kernel, 3, count, 8) == 8 && count[0] == 3 && count[1] == 0);
     EXPECT(nippersage_end(&kernel) == 0);
+}
+
+/* A timer of a microsecond, what is finer, and the last moment of the clock. */
+static void timers(const char *path) {
+    struct nippersage kernel;
+    struct itimerspec set = {.it_value = {0, 1}}, time;
+    struct timespec none = {0, 0}, least = {0, 1}, last = {1000000000, 0};
+    unsigned char count[8];
+    EXPECT(nippersage_start(&kernel, path, NULL) == 0 && nippersage_timerfd(&kernel, 1, 0) == 3);
+    EXPECT(nippersage_settime(&kernel, 3, 0, &set, NULL) == 0 && nippersage_tick(&kernel, &none) == 0);
+    EXPECT(nippersage_read(&kernel, 3, count, 8) == -EAGAIN);
+    EXPECT(nippersage_gettime(&kernel, 3, &time) == 0 && nanoseconds(time.it_value) == 1000);
+    EXPECT(nippersage_tick(&kernel, &least) == 0 && nippersage_read(&kernel, 3, count, 8) == 8 && count[0] == 1);
+    EXPECT(nippersage_tick(&kernel, &last) == -EINVAL);
+    set.it_value.tv_sec = 1000000000;
+    EXPECT(nippersage_settime(&kernel, 3, 0, &set, NULL) == -EINVAL);
+    set.it_value.tv_sec = 18446744073710; /* above 2^64 microseconds by less than half a second */
+    EXPECT(nippersage_settime(&kernel, 3, 0, &set, NULL) == -EINVAL);
+    EXPECT(nippersage_tick(&kernel, &set.it_value) == -EINVAL);
+    set.it_value = (struct timespec){1, 500};
+    set.it_interval = last;
+    EXPECT(nippersage_settime(&kernel, 3, 0, &set, NULL) == 0 && nippersage_gettime(&kernel, 3, &time) == 0);
+    EXPECT(time.it_value.tv_sec == 1 && time.it_value.tv_nsec == 1000);
+    EXPECT(time.it_interval.tv_sec == 1000000000 && time.it_interval.tv_nsec == 0);
+    EXPECT(nippersage_end(&kernel) == 0);
+}
+
+/* What is no time is refused as by the manual pages, and nothing is sent. */
+static void no_times(const char *path) {
+    static const struct timespec times[] = {{-1, 0}, {0, -1}, {0, 1000000000}};
+    struct nippersage kernel;
+    struct nippersage_report report;
+    EXPECT(nippersage_start(&kernel, path, NULL) == 0);
+    for (size_t i = 0; i < sizeof times / sizeof *times; i++) {
+        struct itimerspec value = {.it_value = times[i]}, interval = {.it_value = {1, 0}, .it_interval = times[i]};
+        EXPECT(nippersage_settime(&kernel, 3, 0, &value, NULL) == -EINVAL);
+        EXPECT(nippersage_settime(&kernel, 3, 0, &interval, NULL) == -EINVAL);
+        EXPECT(nippersage_tick(&kernel, &times[i]) == -EINVAL);
+        EXPECT(nippersage_pwait2(&kernel, 3, &report, 1, &times[i]) == -EINVAL);
+    }
+    EXPECT(kernel.calls == 0);
+    EXPECT(nippersage_end(&kernel) == 0);
+}
+
+/* A wait of `milliseconds`, or of `time` if these are 0, ends after `before` and a microsecond more, and not sooner. */
+static void wait_ends(const char *path, int64_t milliseconds, struct timespec time, struct timespec before) {
+    struct nippersage kernel;
+    struct nippersage_report report;
+    struct timespec step = {0, 1000};
+    int result;
+    EXPECT(nippersage_start(&kernel, path, NULL) == 0 && nippersage_epoll(&kernel, 0) == 3);
+    if (milliseconds != 0) result = nippersage_wait(&kernel, 3, &report, 1, milliseconds);
+    else result = nippersage_pwait2(&kernel, 3, &report, 1, &time);
+    EXPECT(result == NIPPERSAGE_PARKED && nippersage_tick(&kernel, &before) == 0);
+    EXPECT(nippersage_resume(&kernel, &report, 1) == NIPPERSAGE_PARKED && nippersage_tick(&kernel, &step) == 0);
+    EXPECT(nippersage_resume(&kernel, &report, 1) == 0);
+    EXPECT(nippersage_end(&kernel) == 0);
+}
+
+/* Those without a deadline, and those that are longer than the clock goes. */
+static void wait_never_ends(const char *path, int64_t milliseconds, const struct timespec *time) {
+    struct nippersage kernel;
+    struct nippersage_report report;
+    struct timespec last = {1000000000, 0};
+    int result;
+    EXPECT(nippersage_start(&kernel, path, NULL) == 0 && nippersage_epoll(&kernel, 0) == 3);
+    if (milliseconds != 0) result = nippersage_wait(&kernel, 3, &report, 1, milliseconds);
+    else result = nippersage_pwait2(&kernel, 3, &report, 1, time);
+    EXPECT(result == NIPPERSAGE_PARKED && nippersage_tick(&kernel, &last) == 0);
+    EXPECT(nippersage_resume(&kernel, &report, 1) == NIPPERSAGE_PARKED);
+    EXPECT(nippersage_end(&kernel) == 0);
+}
+
+static void timeouts(const char *path) {
+    struct timespec none = {0, 0}, beyond = {18446744073710, 0};
+    wait_ends(path, 5, none, (struct timespec){0, 4999000});
+    wait_ends(path, INT32_MAX, none, (struct timespec){2147483, 646999000});
+    wait_ends(path, 1000000000000, none, (struct timespec){999999999, 999999000});
+    wait_ends(path, 0, (struct timespec){0, 1}, none);
+    wait_ends(path, 0, (struct timespec){2200, 0}, (struct timespec){2199, 999999000});
+    wait_never_ends(path, -1, NULL);
+    wait_never_ends(path, INT64_MIN, NULL);
+    wait_never_ends(path, INT64_MAX, NULL);
+    wait_never_ends(path, 18446744073709552, NULL); /* above 2^64 microseconds by less than a millisecond */
+    wait_never_ends(path, 0, NULL);
+    wait_never_ends(path, 0, &beyond);
 }
 
 /* Two callers, each at an instance of its own with an exclusive registration of one counter: a write wakes one. */
@@ -123,18 +214,31 @@ static void other_objects(const char *path) {
 static void no_answer_of_the_kernel(const char *path) {
     static const char many[40000];
     struct nippersage kernel;
+    struct timespec none = {0, 0};
     EXPECT(nippersage_start(&kernel, path, NULL) == 0);
     EXPECT(nippersage_write(&kernel, 1, many, sizeof many) == NIPPERSAGE_LINE);
     EXPECT(nippersage_fill(&kernel, 1, 'a', 1048577) == NIPPERSAGE_RANGE);
-    while (kernel.calls < NIPPERSAGE_MOST_CALLS) {
-        if (nippersage_tick(&kernel, 0) != 0) break;
+    while (kernel.calls < 99999) {
+        if (nippersage_tick(&kernel, &none) != 0) break;
     }
-    EXPECT(kernel.calls == NIPPERSAGE_MOST_CALLS);
-    EXPECT(nippersage_tick(&kernel, 0) == NIPPERSAGE_CALLS);
+    EXPECT(kernel.calls == 99999);
+    EXPECT(nippersage_tick(&kernel, &none) == NIPPERSAGE_CALLS);
     EXPECT(nippersage_end(&kernel) == 0);
     EXPECT(nippersage_start(&kernel, path, "1,1,1,1,1,1") == 0);
-    EXPECT(nippersage_tick(&kernel, 0) == NIPPERSAGE_ENDED);
+    EXPECT(nippersage_tick(&kernel, &none) == NIPPERSAGE_ENDED);
     EXPECT(WEXITSTATUS(nippersage_end(&kernel)) == 2);
+}
+
+/* A program of before the header takes that for a line that is no command. This one is made in the folder at hand. */
+static void older(void) {
+    struct nippersage kernel;
+    int ends[2];
+    FILE *program = fopen("older", "w");
+    EXPECT(program && fputs("#!/bin/sh\nread line; echo '{\"bad\":1}'; cat >/dev/null\n", program) >= 0);
+    EXPECT(fclose(program) == 0 && chmod("older", 0700) == 0);
+    EXPECT(nippersage_start(&kernel, "./older", NULL) == 0);
+    EXPECT(nippersage_pipe(&kernel, 0, ends) == NIPPERSAGE_OLDER);
+    EXPECT(nippersage_end(&kernel) == 0);
 }
 
 /* The first of two kernels ends while the second one lives. */
@@ -181,7 +285,7 @@ static void histories(const char *path, const char *auditor) {
     EXPECT(nippersage_audit(auditor, small, "missing.history", &record) == NIPPERSAGE_UNJUDGED);
     EXPECT(nippersage_audit(auditor, "no limits", "kept.history", &record) == NIPPERSAGE_UNJUDGED);
     EXPECT(nippersage_start_recording(&kernel, path, NULL, "missing/kept.history") == 0);
-    EXPECT(nippersage_tick(&kernel, 0) == NIPPERSAGE_ENDED);
+    EXPECT(nippersage_epoll(&kernel, 0) == NIPPERSAGE_ENDED);
     EXPECT(WEXITSTATUS(nippersage_end(&kernel)) == 1);
 }
 
@@ -194,6 +298,10 @@ int main(int count, char **words) {
     two_kernels(words[1]);
     level_triggered(words[1]);
     parked_callers(words[1]);
+    timers(words[1]);
+    no_times(words[1]);
+    timeouts(words[1]);
+    older();
     exclusive(words[1]);
     processes(words[1]);
     other_objects(words[1]);

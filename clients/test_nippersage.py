@@ -5,10 +5,11 @@ import os
 import sys
 import tempfile
 import unittest
+from datetime import timedelta
 
 sys.dont_write_bytecode = True
 
-from nippersage import ET, EXCLUSIVE, HUP, IN, MOST_CALLS, ONESHOT, OUT, Ended, Illegal, Kernel, audit
+from nippersage import ET, EXCLUSIVE, HUP, IN, ONESHOT, OUT, Ended, Illegal, Kernel, audit
 
 #: 16 descriptors, 16 files, 2 processes, a registration, and the least room of pipes and sockets.
 SMALL = (16, 16, 2, 1, 4_096, 4_096)
@@ -36,16 +37,60 @@ class Client(unittest.TestCase):
         with Kernel() as kernel:
             timer, instance = kernel.timerfd(), kernel.epoll()
             kernel.add(instance, timer, IN | ET, data=9)
-            self.assertEqual(kernel.settime(timer, 5, interval=2), (0, 0))
+            self.assertEqual(kernel.settime(timer, 0.000005, interval=0.000002), (0, 0))
             self.assertIsNone(kernel.wait(instance, timeout=-1, by=1))
             self.expect_refusal(errno.EBUSY, kernel.close, timer, by=1)
             self.assertIsNone(kernel.resume(by=1))
-            kernel.tick(4)
-            self.assertEqual(kernel.gettime(timer), (1, 2))
-            kernel.tick(5)
+            kernel.tick(0.000004)
+            self.assertEqual(kernel.gettime(timer), (0.000001, 0.000002))
+            kernel.tick(timedelta(microseconds=5))
             self.assertEqual(kernel.resume(by=1), [(IN, 9)])
             self.assertEqual(kernel.read(timer, 8), bytes([3, 0, 0, 0, 0, 0, 0, 0]))
             self.expect_refusal(errno.EINVAL, kernel.resume, by=1)
+
+    def test_times_are_rounded_up(self):
+        with Kernel() as kernel:
+            timer = kernel.timerfd()
+            for time, found in (
+                (1e-9, 0.000001), (0.0000031, 0.000004), (0.000003, 0.000003), (0.1 + 0.2, 0.3), (1, 1),
+                (timedelta(days=1, microseconds=7), 86_400.000007), (1_000_000_000, 1_000_000_000),
+            ):
+                kernel.settime(timer, time, interval=time)
+                self.assertEqual(kernel.gettime(timer), (found, found))
+            kernel.settime(timer, 1e-9)
+            kernel.tick(0)
+            self.expect_refusal(errno.EAGAIN, kernel.read, timer, 8)
+            kernel.tick(0.000001)
+            self.assertEqual(kernel.read(timer, 8), bytes([1, 0, 0, 0, 0, 0, 0, 0]))
+            self.expect_refusal(errno.EINVAL, kernel.settime, timer, timedelta(seconds=10**9, microseconds=1))
+            self.expect_refusal(errno.EINVAL, kernel.tick, 1_000_000_000)
+
+    def test_what_is_no_time(self):
+        with Kernel() as kernel:
+            for time in (-0.000001, timedelta(microseconds=-1), float("nan"), float("inf"), 10**15):
+                with self.assertRaises(ValueError):
+                    kernel.tick(time)
+                with self.assertRaises(ValueError):
+                    kernel.settime(3, 1, interval=time)
+            with self.assertRaises(ValueError):
+                kernel.wait(3, timeout=float("nan"))
+
+    def test_timeouts(self):
+        microsecond = timedelta(microseconds=1)
+        with Kernel() as kernel:
+            instance = kernel.epoll()
+            self.assertEqual(kernel.wait(instance, timeout=timedelta(), by=1), [])
+            for seconds in (0, 2_200, 3_000_000):
+                self.assertIsNone(kernel.wait(instance, timeout=timedelta(seconds=seconds) + microsecond, by=1))
+                kernel.tick(seconds)
+                self.assertIsNone(kernel.resume(by=1))
+                kernel.tick(microsecond)
+                self.assertEqual(kernel.resume(by=1), [])
+            for by, timeout in enumerate((None, -1, -1e-9, timedelta(microseconds=-1), float("inf"), 9 * 10**12)):
+                self.assertIsNone(kernel.wait(instance, timeout=timeout, by=by))
+            kernel.tick(900_000_000, by=9)
+            for by in range(6):
+                self.assertIsNone(kernel.resume(by=by))
 
     def test_registrations_and_descriptors(self):
         with Kernel() as kernel:
@@ -109,10 +154,24 @@ class Client(unittest.TestCase):
             self.assertEqual(kernel.dup(0), 3)
 
     def test_the_last_call(self):
+        """The program reads 100,000 lines, and the header is one of them. The test in C makes all the calls."""
         with Kernel() as kernel:
-            kernel.calls = MOST_CALLS
+            self.assertEqual(kernel.dup(0), 3)
+            self.assertEqual(kernel.calls, 1)
+            kernel.calls = 99_998
+            self.assertEqual(kernel.dup(0), 4)
             with self.assertRaises(Ended):
                 kernel.dup(0)
+
+    def test_a_program_of_before_the_header(self):
+        with tempfile.TemporaryDirectory() as room:
+            path = os.path.join(room, "epsim")
+            with open(path, "w") as program:
+                program.write("#!/bin/sh\nread line; echo '{\"bad\":1}'; cat >/dev/null\n")
+            os.chmod(path, 0o755)
+            with Kernel(program=path) as kernel:
+                with self.assertRaisesRegex(Ended, "older"):
+                    kernel.pipe()
 
     def test_a_program_that_ended(self):
         with Kernel(limits=(1, 1, 1, 1, 1, 1)) as kernel:

@@ -1,5 +1,6 @@
 /* The functions of the crate ep_exports, as C declares them. Their contracts are in its src/; nothing checks that these
-   declarations fit them but the tests. This header is for nippersage.c alone. */
+   declarations fit them but the tests. Moments and times are numbers of microseconds. This header is for nippersage.c
+   alone. */
 #ifndef NIPPERSAGE_EXPORTS_H
 #define NIPPERSAGE_EXPORTS_H
 

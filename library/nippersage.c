@@ -100,16 +100,19 @@ static uint32_t cloexec(int set) { return set ? EP_CLOEXEC : 0; }
 
 /* ---- times ---- */
 
-/* In milliseconds, rounded up, or -1 where it is none. What is above the largest number is that. */
-static int64_t milliseconds(const struct timespec *time) {
+/* In microseconds, rounded up, or -1 where it is none. What is above the largest number is that. */
+static int64_t microseconds(const struct timespec *time) {
     if (time->tv_sec < 0 || time->tv_nsec < 0 || time->tv_nsec >= 1000000000) return -1;
-    if (time->tv_sec > INT64_MAX / 1000 - 1) return INT64_MAX;
-    return (int64_t)time->tv_sec * 1000 + (time->tv_nsec + 999999) / 1000000;
+    if (time->tv_sec > INT64_MAX / 1000000 - 1) return INT64_MAX;
+    return (int64_t)time->tv_sec * 1000000 + (time->tv_nsec + 999) / 1000;
 }
 
-static struct timespec timespec_of(uint64_t moment) {
-    struct timespec time = {.tv_sec = (time_t)(moment / 1000), .tv_nsec = (long)(moment % 1000) * 1000000};
-    return time;
+/* The timeout of epoll_wait(2) in microseconds: it is in milliseconds, and has no end below 0. */
+static int64_t of_milliseconds(int timeout) { return timeout < 0 ? -1 : (int64_t)timeout * 1000; }
+
+/* So many microseconds. */
+static struct timespec timespec_of(uint64_t time) {
+    return (struct timespec){.tv_sec = (time_t)(time / 1000000), .tv_nsec = (long)(time % 1000000) * 1000};
 }
 
 static void put_setting(const struct ep_reply *reply, struct itimerspec *setting) {
@@ -220,8 +223,8 @@ int nippersage_timerfd_settime(struct nippersage_task task, int fd, int flags, c
     struct exchange x = {.request = {.event = EP_SETTIME, .fd = fd, .flags = bits}};
     int64_t first, interval, result;
     if (!value) return -EFAULT;
-    first = milliseconds(&value->it_value);
-    interval = milliseconds(&value->it_interval);
+    first = microseconds(&value->it_value);
+    interval = microseconds(&value->it_interval);
     if (flags & ~TFD_TIMER_ABSTIME || first < 0 || interval < 0) return -EINVAL;
     x.request.value = (uint64_t)first;
     x.request.interval = (uint64_t)interval;
@@ -379,7 +382,7 @@ static void put_events(const struct nippersage_kernel *kernel, int64_t count, st
     }
 }
 
-/* Begins a wait, under the lock. */
+/* Begins a wait, under the lock. Its timeout is in microseconds, and has no end below 0. */
 static int start(struct nippersage_task task, int epfd, struct epoll_event *events, int maxevents, int64_t timeout) {
     struct nippersage_kernel *kernel = task.kernel;
     int most = maxevents < kernel->most_reports ? maxevents : kernel->most_reports;
@@ -411,14 +414,27 @@ static int resume(struct nippersage_task task, struct epoll_event *events, int m
     return (int)result;
 }
 
-int nippersage_wait_start(struct nippersage_task task, int epfd, struct epoll_event *events, int maxevents,
-                          int timeout) {
+/* Begins a wait, whose timeout is in microseconds. */
+static int start_by_hand(struct nippersage_task task, int epfd, struct epoll_event *events, int maxevents,
+                         int64_t timeout) {
     int result;
     if (!task.kernel) return -EINVAL;
     enter(task.kernel);
     result = start(task, epfd, events, maxevents, timeout);
     leave(task.kernel);
     return result;
+}
+
+int nippersage_wait_start(struct nippersage_task task, int epfd, struct epoll_event *events, int maxevents,
+                          int timeout) {
+    return start_by_hand(task, epfd, events, maxevents, of_milliseconds(timeout));
+}
+
+int nippersage_pwait2_start(struct nippersage_task task, int epfd, struct epoll_event *events, int maxevents,
+                            const struct timespec *timeout) {
+    int64_t most = timeout ? microseconds(timeout) : -1;
+    if (timeout && most < 0) return -EINVAL;
+    return start_by_hand(task, epfd, events, maxevents, most);
 }
 
 int nippersage_resume(struct nippersage_task task, struct epoll_event *events, int maxevents) {
@@ -500,12 +516,12 @@ static int wait_for(struct nippersage_task task, int epfd, struct epoll_event *e
 
 int nippersage_epoll_wait(struct nippersage_task task, int epfd, struct epoll_event *events, int maxevents,
                           int timeout) {
-    return wait_for(task, epfd, events, maxevents, timeout);
+    return wait_for(task, epfd, events, maxevents, of_milliseconds(timeout));
 }
 
 int nippersage_epoll_pwait2(struct nippersage_task task, int epfd, struct epoll_event *events, int maxevents,
                             const struct timespec *timeout) {
-    int64_t most = timeout ? milliseconds(timeout) : -1;
+    int64_t most = timeout ? microseconds(timeout) : -1;
     if (timeout && most < 0) return -EINVAL;
     return wait_for(task, epfd, events, maxevents, most);
 }
@@ -525,27 +541,35 @@ int nippersage_tasks(struct nippersage_kernel *kernel, int more) {
 
 /* ---- the clock and questions ---- */
 
-int nippersage_tick(struct nippersage_task task, uint64_t milliseconds) {
-    return (int)ASK(task, .event = EP_TICK, .value = milliseconds);
+int nippersage_tick(struct nippersage_task task, const struct timespec *time) {
+    int64_t more;
+    if (!time) return -EFAULT;
+    more = microseconds(time);
+    if (more < 0) return -EINVAL;
+    return (int)ASK(task, .event = EP_TICK, .value = (uint64_t)more);
 }
 
-int nippersage_now(struct nippersage_kernel *kernel, uint64_t *moment) {
+int nippersage_now(struct nippersage_kernel *kernel, struct timespec *moment) {
+    uint64_t now = 0;
     int result;
     if (!kernel) return -EINVAL;
     if (!moment) return -EFAULT;
     enter(kernel);
-    result = ep_now(&kernel->handle, moment);
+    result = ep_now(&kernel->handle, &now);
     leave(kernel);
+    if (result == 0) *moment = timespec_of(now);
     return result;
 }
 
-int nippersage_next_moment(struct nippersage_kernel *kernel, uint64_t *moment) {
+int nippersage_next_moment(struct nippersage_kernel *kernel, struct timespec *moment) {
+    uint64_t next = 0;
     int result;
     if (!kernel) return -EINVAL;
     if (!moment) return -EFAULT;
     enter(kernel);
-    result = ep_next_moment(&kernel->handle, moment);
+    result = ep_next_moment(&kernel->handle, &next);
     leave(kernel);
+    if (result == 1) *moment = timespec_of(next);
     return result;
 }
 

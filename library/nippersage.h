@@ -21,8 +21,10 @@
  * polled. nippersage_fork makes further ones. Threads may use one kernel at a time as they like; each needs a
  * caller of its own.
  *
- * TIME stands still until a call moves it. A wait by nippersage_epoll_wait moves it by itself: see there. Times
- * that are finer than a millisecond, which is the kernel's unit, are rounded up.
+ * TIME stands still until a call moves it. A wait by nippersage_epoll_wait moves it by itself: see there. The
+ * kernel's unit is the microsecond: a time that is finer is rounded up, and one that a function gives is a whole number
+ * of them. The clock goes up to 1,000,000,000 seconds. A struct timespec is a time if its seconds are 0 or more and
+ * its nanoseconds are 0 to 999,999,999; else it is -EINVAL, as the manual pages have it.
  *
  * WHAT IS PROVED. The answers are made by a kernel whose every answer a machine-checked proof shows to be one that
  * an abstract machine allows, and the functions that this library calls of it are proved, too. This header and the
@@ -57,8 +59,8 @@ struct nippersage_limits {
     uint32_t sock_bytes;  /* in one direction of a socket pair, 1 to 1,048,576; 65,536 */
 };
 
-/* The version of the library, and how it was made: "0.1.0, proved in logic .." where the kernel behind it was proved,
- * "0.1.0, unproved" where nobody looked whether it can be. */
+/* The version of the library, and how it was made: "0.2.0, proved in logic .." where the kernel behind it was proved,
+ * "0.2.0, unproved" where nobody looked whether it can be. */
 const char *nippersage_version(void);
 
 struct nippersage_kernel;
@@ -111,17 +113,17 @@ int nippersage_epoll_create1(struct nippersage_task task, int flags);
  * EPOLLWAKEUP and EPOLLET; else it is -EINVAL. So is a MOD of a registration that was added with it. */
 int nippersage_epoll_ctl(struct nippersage_task task, int epfd, int op, int fd, const struct epoll_event *event);
 
-/* epoll_wait(2), by itself: where nothing is reportable and timeout, in milliseconds, isn't 0, the call parks its
- * caller and comes back when its wait has ended. Meanwhile other threads may use the kernel. As soon as each thread
- * that is inside a call of this kernel is in such a wait, and none of them is about to end, the clock goes on by
- * itself to the next moment at which something happens. So a wait for an hour comes back at once if no other thread
- * does anything. -EDEADLK where there is no such moment: then every such wait answers it. Its caller is still
- * parked, as after -ENOMEM, and ends its wait by nippersage_resume. A thread that is between two calls counts only
- * by nippersage_tasks. maxevents above `watches` is taken as that. */
+/* epoll_wait(2), by itself. The timeout is in milliseconds; a wait with one below 0 has no end. Where nothing is
+ * reportable and the timeout isn't 0, the call parks its caller and comes back when its wait has ended. Meanwhile other
+ * threads may use the kernel. As soon as each thread that is inside a call of this kernel is in such a wait, and none
+ * of them is about to end, the clock goes on by itself to the next moment at which something happens. So a wait for an
+ * hour comes back at once if no other thread does anything. -EDEADLK where there is no such moment: then every such
+ * wait answers it. Its caller is still parked, as after -ENOMEM, and ends its wait by nippersage_resume. A thread that
+ * is between two calls counts only by nippersage_tasks. maxevents above `watches` is taken as that. */
 int nippersage_epoll_wait(struct nippersage_task task, int epfd, struct epoll_event *events, int maxevents,
                           int timeout);
 
-/* epoll_pwait2(2) without a mask of signals: as nippersage_epoll_wait, NULL for a wait without end. */
+/* epoll_pwait2(2) without a mask of signals: as nippersage_epoll_wait, with NULL for a wait without end. */
 int nippersage_epoll_pwait2(struct nippersage_task task, int epfd, struct epoll_event *events, int maxevents,
                             const struct timespec *timeout);
 
@@ -135,18 +137,23 @@ int nippersage_tasks(struct nippersage_kernel *kernel, int more);
 int nippersage_wait_start(struct nippersage_task task, int epfd, struct epoll_event *events, int maxevents,
                           int timeout);
 
+/* The same with the timeout of nippersage_epoll_pwait2. It may be finer than a millisecond, and longer than the 24 days
+ * that an int of milliseconds holds. */
+int nippersage_pwait2_start(struct nippersage_task task, int epfd, struct epoll_event *events, int maxevents,
+                            const struct timespec *timeout);
+
 /* Whether a parked caller's wait has ended: its reports, 0 where its time has passed, or NIPPERSAGE_PARKED.
  * -EINVAL where the caller isn't parked, -EMSGSIZE where maxevents is less than that of its wait. */
 int nippersage_resume(struct nippersage_task task, struct epoll_event *events, int maxevents);
 
-/* Moves the clock on by so many milliseconds. -EINVAL past 1,000,000,000,000. */
-int nippersage_tick(struct nippersage_task task, uint64_t milliseconds);
+/* Moves the clock on by this time. -EINVAL for one that is none, and past 1,000,000,000 seconds. */
+int nippersage_tick(struct nippersage_task task, const struct timespec *time);
 
-/* The simulated clock, in milliseconds since it began. */
-int nippersage_now(struct nippersage_kernel *kernel, uint64_t *moment);
+/* The simulated clock: the time since it began. */
+int nippersage_now(struct nippersage_kernel *kernel, struct timespec *moment);
 
-/* 1 and the first moment to which a tick has an effect, or 0 where no tick has one. */
-int nippersage_next_moment(struct nippersage_kernel *kernel, uint64_t *moment);
+/* 1 and the first moment of the clock to which a tick has an effect, or 0 where no tick has one; then *moment stays. */
+int nippersage_next_moment(struct nippersage_kernel *kernel, struct timespec *moment);
 
 /* 1 and of the marked callers the one that was parked first, or 0 where nobody is marked. */
 int nippersage_first_marked(struct nippersage_kernel *kernel, uint32_t *caller);

@@ -5,6 +5,7 @@
 #include "../nippersage.h"
 #include <errno.h>
 #include <fcntl.h>
+#include <limits.h>
 #include <stdio.h>
 #include <stdlib.h>
 #include <string.h>
@@ -21,4 +22,7 @@
             exit(1);                                                                                        \
         }                                                                                                   \
     } while (0)
+
+/* A time in nanoseconds. */
+static inline long long nanoseconds(struct timespec time) { return time.tv_sec * 1000000000LL + time.tv_nsec; }
 #endif

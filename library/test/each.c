@@ -90,32 +90,114 @@ static void counters(void) {
 }
 
 static void timers(void) {
-    struct itimerspec set = {.it_value = {1, 1}, .it_interval = {0, 2000000}}, before, now;
-    uint64_t moment = 7;
+    struct itimerspec set = {.it_value = {1, 1}, .it_interval = {0, 2001}}, before, now;
+    struct timespec moment = {7, 7};
     int fd = nippersage_timerfd_create(one, CLOCK_MONOTONIC, TFD_CLOEXEC | TFD_NONBLOCK);
     IS(fd, 3);
     IS(nippersage_timerfd_create(one, 9, 0), -EINVAL);
     IS(nippersage_timerfd_create(one, CLOCK_MONOTONIC, 1), -EINVAL);
     IS(nippersage_timerfd_settime(one, fd, 0, &set, &before), 0);
-    IS(before.it_value.tv_sec + before.it_value.tv_nsec + before.it_interval.tv_sec + before.it_interval.tv_nsec, 0);
+    IS(nanoseconds(before.it_value), 0);
+    IS(nanoseconds(before.it_interval), 0);
     IS(nippersage_timerfd_gettime(one, fd, &now), 0);
     IS(now.it_value.tv_sec, 1);
-    IS(now.it_value.tv_nsec, 1000000); /* one nanosecond, rounded up */
-    IS(now.it_interval.tv_nsec, 2000000);
+    IS(now.it_value.tv_nsec, 1000); /* one nanosecond, rounded up */
+    IS(nanoseconds(now.it_interval), 3000);
     IS(nippersage_next_moment(kernel, &moment), 1);
-    IS(moment, 1001);
-    set.it_value = (struct timespec){0, 5000000};
-    IS(nippersage_timerfd_settime(one, fd, TFD_TIMER_ABSTIME, &set, NULL), 0);
+    IS(moment.tv_sec, 1);
+    IS(moment.tv_nsec, 1000);
+    set.it_value = (struct timespec){0, 5000};
+    IS(nippersage_timerfd_settime(one, fd, TFD_TIMER_ABSTIME, &set, &before), 0);
+    IS(nanoseconds(before.it_value), 1000001000);
+    IS(nanoseconds(before.it_interval), 3000);
     IS(nippersage_next_moment(kernel, &moment), 1);
-    IS(moment, 5);
-    set.it_value.tv_nsec = 1000000000;
-    IS(nippersage_timerfd_settime(one, fd, 0, &set, NULL), -EINVAL);
+    IS(nanoseconds(moment), 5000);
     IS(nippersage_timerfd_settime(one, fd, 2, &set, NULL), -EINVAL);
     IS(nippersage_timerfd_settime(one, fd, 0, NULL, NULL), -EFAULT);
     IS(nippersage_timerfd_gettime(one, fd, NULL), -EFAULT);
     IS(nippersage_timerfd_gettime(one, 0, &now), -EINVAL);
     IS(nippersage_close(one, fd), 0);
     IS(nippersage_next_moment(kernel, &moment), 0);
+    IS(nanoseconds(moment), 5000); /* as it was */
+    IS(nippersage_next_moment(kernel, NULL), -EFAULT);
+    IS(nippersage_next_moment(NULL, &moment), -EINVAL);
+}
+
+/* What is no time, and what is more than the clock goes. Of these the third and the fourth are just below 2^63
+ * microseconds and just that, and the fifth is above 2^64 of them by less than half a second. */
+static const struct timespec no_times[] = {{-1, 0}, {-1, 999999999}, {0, -1}, {0, 1000000000}, {INT64_MIN, 0}};
+static const struct timespec too_long[] = {{1000000000, 1},
+                                           {1000000001, 0},
+                                           {9223372036853, 999999999},
+                                           {9223372036854, 775807001},
+                                           {18446744073710, 0},
+                                           {INT64_MAX, 999999999}};
+#define COUNT(list) (sizeof(list) / sizeof *(list))
+
+static struct nippersage_task other_kernel(void) {
+    struct nippersage_task task = {NULL, 1, 1};
+    IS(nippersage_open(NULL, &task.kernel), 0);
+    return task;
+}
+
+/* A time that no timer and no tick takes. */
+static void refused(struct nippersage_task task, int fd, struct timespec time) {
+    struct itimerspec value = {.it_value = time}, interval = {.it_value = {1, 0}, .it_interval = time};
+    IS(nippersage_timerfd_settime(task, fd, 0, &value, NULL), -EINVAL);
+    IS(nippersage_timerfd_settime(task, fd, 0, &interval, NULL), -EINVAL);
+    IS(nippersage_tick(task, &time), -EINVAL);
+}
+
+/* Times at the ends of their ranges, on a kernel of their own. */
+static void bounds(void) {
+    struct nippersage_task task = other_kernel();
+    struct timespec moment, last = {1000000000, 0}, least = {0, 1};
+    struct itimerspec set = {.it_value = {999999999, 999999001}, .it_interval = last}, now;
+    int fd = nippersage_timerfd_create(task, CLOCK_MONOTONIC, 0);
+    size_t records = 0;
+    for (size_t i = 0; i < COUNT(no_times); i++) refused(task, fd, no_times[i]);
+    IS(nippersage_records(task.kernel, &records), 0);
+    IS(records, 1); /* what is no time is no event */
+    for (size_t i = 0; i < COUNT(too_long); i++) refused(task, fd, too_long[i]);
+    IS(nippersage_next_moment(task.kernel, &moment), 0);
+    IS(nippersage_timerfd_settime(task, fd, 0, &set, NULL), 0);
+    IS(nippersage_timerfd_gettime(task, fd, &now), 0);
+    IS(nanoseconds(now.it_value), nanoseconds(last)); /* rounded up */
+    IS(nanoseconds(now.it_interval), nanoseconds(last));
+    IS(nippersage_tick(task, &last), 0);
+    IS(nippersage_now(task.kernel, &moment), 0);
+    IS(moment.tv_sec, 1000000000);
+    IS(moment.tv_nsec, 0);
+    IS(nippersage_tick(task, &least), -EINVAL);
+    nippersage_free(task.kernel);
+}
+
+/* A timer of one microsecond, and ticks. */
+static void microseconds(void) {
+    struct itimerspec set = {.it_value = {0, 1000}}, now;
+    struct timespec before, moment, tick = {0, 0};
+    uint64_t count = 0;
+    int fd = nippersage_timerfd_create(one, CLOCK_MONOTONIC, 0);
+    IS(nippersage_now(kernel, &before), 0);
+    IS(nippersage_timerfd_settime(one, fd, 0, &set, NULL), 0);
+    IS(nippersage_tick(one, &tick), 0);
+    IS(nippersage_read(one, fd, &count, 8), -EAGAIN);
+    IS(nippersage_timerfd_gettime(one, fd, &now), 0);
+    IS(nanoseconds(now.it_value), 1000);
+    tick.tv_nsec = 1000;
+    IS(nippersage_tick(one, &tick), 0);
+    IS(nippersage_read(one, fd, &count, 8), 8);
+    IS(count, 1);
+    tick.tv_nsec = 1;
+    IS(nippersage_tick(one, &tick), 0);
+    tick.tv_nsec = 1001;
+    IS(nippersage_tick(one, &tick), 0);
+    IS(nippersage_now(kernel, &moment), 0);
+    IS(nanoseconds(moment) - nanoseconds(before), 4000); /* 1, and 1 and 2 by rounding up */
+    IS(nippersage_tick(one, NULL), -EFAULT);
+    IS(nippersage_now(NULL, &moment), -EINVAL);
+    IS(nippersage_now(kernel, NULL), -EFAULT);
+    IS(nippersage_close(one, fd), 0);
 }
 
 static void numbers(void) {
@@ -149,8 +231,8 @@ static void processes(void) {
 /* A wait by hand, from its start to its end. */
 static void by_hand(void) {
     struct epoll_event event = {.events = EPOLLIN, .data.u64 = 7}, found[2];
+    struct timespec before, moment, twenty = {0, 20000000};
     uint32_t caller = 9;
-    uint64_t moment;
     int ends[2], ep = nippersage_epoll_create1(one, EPOLL_CLOEXEC);
     IS(ep, 3);
     IS(nippersage_epoll_create1(one, 1), -EINVAL);
@@ -182,18 +264,91 @@ static void by_hand(void) {
     IS(found[0].data.u64, 7);
     IS(nippersage_is_parked(kernel, 1), 0);
     IS(nippersage_epoll_ctl(one, ep, EPOLL_CTL_DEL, ends[0], NULL), 0);
+    IS(nippersage_now(kernel, &before), 0);
     IS(nippersage_wait_start(one, ep, found, 2, 20), NIPPERSAGE_PARKED);
     IS(nippersage_next_moment(kernel, &moment), 1);
-    IS(moment, 20);
-    IS(nippersage_tick(two, 20), 0);
+    IS(nanoseconds(moment) - nanoseconds(before), 20000000);
+    IS(nippersage_tick(two, &twenty), 0);
     IS(nippersage_now(kernel, &moment), 0);
-    IS(moment, 20);
+    IS(nanoseconds(moment) - nanoseconds(before), 20000000);
     IS(nippersage_resume(one, found, 2), 0);
-    IS(nippersage_tick(two, 1000000000000), -EINVAL);
-    IS(nippersage_now(kernel, NULL), -EFAULT);
     IS(nippersage_close(one, ep), 0);
     IS(nippersage_close(one, ends[0]), 0);
     IS(nippersage_close(one, ends[1]), 0);
+}
+
+/* Begins a wait by hand on a kernel of its own, and answers when it ends, in nanoseconds: -1 for never. It asks for
+ * `milliseconds`, and if these are 0, for `time`. */
+static long long end_of(int milliseconds, const struct timespec *time) {
+    struct nippersage_task task = other_kernel();
+    struct epoll_event found;
+    struct timespec moment;
+    int has_end, ep = nippersage_epoll_create1(task, 0);
+    if (milliseconds != 0) {
+        IS(nippersage_wait_start(task, ep, &found, 1, milliseconds), NIPPERSAGE_PARKED);
+    } else {
+        IS(nippersage_pwait2_start(task, ep, &found, 1, time), NIPPERSAGE_PARKED);
+    }
+    has_end = nippersage_next_moment(task.kernel, &moment);
+    nippersage_free(task.kernel);
+    return has_end ? nanoseconds(moment) : -1;
+}
+
+/* When waits by hand end. */
+static void ends(void) {
+    struct timespec least = {0, 1}, half = {0, 1500}, last = {1000000000, 0};
+    struct timespec minutes = {2200, 0}; /* 36: 2^31 microseconds are less */
+    struct timespec days = {3000000, 1000}; /* 34: 2^31 milliseconds are less */
+    IS(end_of(1, NULL), 1000000);
+    IS(end_of(INT_MAX, NULL), 2147483647000000);
+    IS(end_of(-1, NULL), -1);
+    IS(end_of(INT_MIN, NULL), -1);
+    IS(end_of(0, NULL), -1);
+    IS(end_of(0, &least), 1000);
+    IS(end_of(0, &half), 2000);
+    IS(end_of(0, &minutes), 2200000000000);
+    IS(end_of(0, &days), 3000000000001000);
+    IS(end_of(0, &last), 1000000000000000000);
+}
+
+/* A wait by hand of two microseconds, and what no wait takes. */
+static void timeouts(void) {
+    struct timespec none = {0, 0}, half = {0, 1500}, step = {0, 1000};
+    struct nippersage_task nobody = {NULL, 1, 1};
+    struct epoll_event found;
+    int ep = nippersage_epoll_create1(one, 0);
+    IS(nippersage_pwait2_start(one, ep, &found, 1, &none), 0);
+    IS(nippersage_pwait2_start(nobody, ep, &found, 1, NULL), -EINVAL);
+    IS(nippersage_pwait2_start(one, ep, &found, 0, NULL), -EINVAL);
+    IS(nippersage_pwait2_start(one, ep, NULL, 1, NULL), -EFAULT);
+    for (size_t i = 0; i < COUNT(no_times); i++) {
+        IS(nippersage_pwait2_start(one, ep, &found, 1, &no_times[i]), -EINVAL);
+        IS(nippersage_epoll_pwait2(one, ep, &found, 1, &no_times[i]), -EINVAL);
+    }
+    IS(nippersage_pwait2_start(one, ep, &found, 1, &half), NIPPERSAGE_PARKED);
+    IS(nippersage_tick(two, &step), 0);
+    IS(nippersage_resume(one, &found, 1), NIPPERSAGE_PARKED);
+    IS(nippersage_tick(two, &step), 0);
+    IS(nippersage_resume(one, &found, 1), 0);
+    IS(nippersage_close(one, ep), 0);
+}
+
+/* A wait that is longer than the clock goes hasn't ended at its last moment. */
+static void long_wait(struct timespec time) {
+    struct nippersage_task task = other_kernel(), clock = task;
+    struct timespec last = {1000000000, 0};
+    struct epoll_event found;
+    int ep = nippersage_epoll_create1(task, 0);
+    clock.caller = 2;
+    IS(nippersage_pwait2_start(task, ep, &found, 1, &time), NIPPERSAGE_PARKED);
+    IS(nippersage_tick(clock, &last), 0);
+    IS(nippersage_is_marked(task.kernel, 1), 0);
+    IS(nippersage_resume(task, &found, 1), NIPPERSAGE_PARKED);
+    nippersage_free(task.kernel);
+}
+
+static void long_waits(void) {
+    for (size_t i = 0; i < COUNT(too_long); i++) long_wait(too_long[i]);
 }
 
 /* Two callers, each at an instance of its own with an exclusive registration of one counter: a write wakes one. */
@@ -230,8 +385,8 @@ static void exclusive(void) {
 static void by_itself(void) {
     struct epoll_event event = {.events = EPOLLIN, .data.u64 = 9}, found;
     struct itimerspec hour = {.it_value = {3600, 0}};
-    struct timespec most = {0, 1};
-    uint64_t before, moment;
+    struct timespec most = {0, 1}, before, moment;
+    uint64_t count = 0;
     int ep = nippersage_epoll_create1(one, 0), fd = nippersage_timerfd_create(one, CLOCK_REALTIME, 0);
     IS(nippersage_now(kernel, &before), 0);
     IS(nippersage_epoll_ctl(one, ep, EPOLL_CTL_ADD, fd, &event), 0);
@@ -240,20 +395,18 @@ static void by_itself(void) {
     IS(found.events, EPOLLIN);
     IS(found.data.u64, 9);
     IS(nippersage_now(kernel, &moment), 0);
-    IS(moment, before + 3600000);
-    IS(nippersage_read(one, fd, &moment, 8), 8);
-    IS(moment, 1);
+    IS(nanoseconds(moment) - nanoseconds(before), 3600000000000);
+    IS(nippersage_read(one, fd, &count, 8), 8);
+    IS(count, 1);
     IS(nippersage_epoll_wait(one, ep, &found, 1, 0), 0);
     IS(nippersage_epoll_wait(one, ep, &found, 1, 250), 0);
     IS(nippersage_epoll_pwait2(one, ep, &found, 1, &most), 0);
     IS(nippersage_now(kernel, &moment), 0);
-    IS(moment, before + 3600251);
-    most.tv_nsec = -1;
-    IS(nippersage_epoll_pwait2(one, ep, &found, 1, &most), -EINVAL);
+    IS(nanoseconds(moment) - nanoseconds(before), 3600250001000);
     IS(nippersage_epoll_pwait2(one, ep, &found, 1, NULL), -EDEADLK);
     IS(nippersage_is_parked(kernel, 1), 1);
     IS(nippersage_timerfd_settime(two, fd, 0, &hour, NULL), 0);
-    IS(nippersage_tick(two, 3600000), 0);
+    IS(nippersage_tick(two, &hour.it_value), 0);
     IS(nippersage_resume(one, &found, 1), 1);
     IS(nippersage_epoll_wait(one, fd, &found, 1, 0), -EINVAL);
     IS(nippersage_tasks(kernel, 2), 0);
@@ -313,9 +466,14 @@ int main(int argc, char **argv) {
     vectors();
     counters();
     timers();
+    bounds();
+    microseconds();
     numbers();
     processes();
     by_hand();
+    ends();
+    timeouts();
+    long_waits();
     exclusive();
     by_itself();
     many();

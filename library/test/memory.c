@@ -33,7 +33,7 @@ static void calls(struct nippersage_kernel *kernel) {
     char bytes[64] = "0123456789012345678901234567890123456789";
     struct iovec vectors[2] = {{bytes, 20}, {bytes + 20, 20}};
     int ends[2], sink;
-    uint64_t moment;
+    struct timespec moment;
     AGAIN(nippersage_pipe2(one, ends, 0), 0);
     AGAIN(nippersage_epoll_create1(one, 0), 5);
     AGAIN(nippersage_epoll_ctl(one, 5, EPOLL_CTL_ADD, 3, &event), 0);
@@ -46,7 +46,7 @@ static void calls(struct nippersage_kernel *kernel) {
     AGAIN(nippersage_timerfd_settime(one, 6, 0, &second, NULL), 0);
     AGAIN(nippersage_wait_start(one, 5, found, 8, -1), NIPPERSAGE_PARKED);
     AGAIN(nippersage_next_moment(kernel, &moment), 1);
-    AGAIN(nippersage_tick(two, 1000), 0);
+    AGAIN(nippersage_tick(two, &second.it_value), 0);
     AGAIN(nippersage_resume(one, found, 8), 1);
     AGAIN(nippersage_fork(one), 2);
     AGAIN(nippersage_dup(one, 3), 7);

@@ -57,7 +57,7 @@ static void open_pair(struct pair *pair, uint32_t number) {
 int main(int argc, char **argv) {
     static struct pair pairs[PAIRS];
     pthread_t threads[2 * PAIRS];
-    uint64_t moment;
+    struct timespec moment;
     IS(nippersage_open(NULL, &kernel), 0);
     for (uint32_t i = 0; i < PAIRS; i++) open_pair(&pairs[i], i);
     IS(nippersage_tasks(kernel, 2 * PAIRS), 0);
@@ -68,7 +68,7 @@ int main(int argc, char **argv) {
     for (int i = 0; i < 2 * PAIRS; i++) IS(pthread_join(threads[i], NULL), 0);
     for (int i = 0; i < PAIRS; i++) IS(pairs[i].sum, NUMBERS * (NUMBERS + 1) / 2);
     IS(nippersage_now(kernel, &moment), 0);
-    IS(moment > 0, 1);
+    IS(nanoseconds(moment) > 0, 1);
     IS(nippersage_check(kernel), 0);
     if (argc > 1) {
         int fd = open(argv[1], O_CREAT | O_TRUNC | O_WRONLY, 0600);

@@ -8,7 +8,7 @@ use clap::{Arg, ArgAction, Command, Error};
 use std::alloc::{AllocError, Global};
 
 /// The version of the program, and the logic that it was proved in, as the second half of what `rt version` prints.
-const VERSION: &str = "0.1.0\nproved in logic dac8208d650f15bf";
+const VERSION: &str = "0.2.0\nproved in logic dac8208d650f15bf";
 
 /// What is said below the options.
 const EXAMPLE: &str =

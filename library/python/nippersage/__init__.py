@@ -14,8 +14,8 @@ A kernel runs in this process, by the library libnippersage. If there is none it
 process of its own. Both answer alike; what needs the library says so.
 
 A call says who makes it by `by` and `pid`; a `Task` has both. Refusals are OSError with Linux's numbers. Times are
-in seconds, and rounded up to the kernel's unit, a millisecond. docs/calls.md says what each call answers and
-refuses.
+seconds or timedeltas, and rounded up to the kernel's unit, a microsecond. docs/calls.md says what each call answers
+and refuses.
 """
 
 from ._kernel import Kernel, Part, Task
@@ -25,7 +25,7 @@ from ._numbers import (
 )
 from ._program import AUDITOR, LONGEST_LINE, MOST_CALLS, PROGRAM, audit
 
-__version__ = "0.1.0"
+__version__ = "0.2.0"
 
 __all__ = [
     "IN", "PRI", "OUT", "ERR", "HUP", "RDHUP", "EXCLUSIVE", "WAKEUP", "ONESHOT", "ET",

@@ -2,17 +2,19 @@
 
 from __future__ import annotations
 
+from datetime import timedelta
 from types import TracebackType
 from typing import Any, List, Optional, Sequence, Tuple, Type, Union
 
 from . import _library
 from ._library import Library
-from ._numbers import Report, long, number, seconds, units, unsigned, within
+from ._numbers import Report, Time, long, number, seconds, units, unsigned, within
 from ._program import Program
 
 _ADD, _DEL, _MOD = 1, 2, 3
 #: The most bytes that `fill` writes at once.
 _MOST_FILLED = 1_048_576
+_NO_TIME = timedelta()
 
 
 class Task:
@@ -20,7 +22,7 @@ class Task:
 
     A method may be told another caller or process for one call. A refusal is an OSError with Linux's number, and
     changes nothing but the history. Each file behaves as with O_NONBLOCK. A number out of its range is a ValueError,
-    and makes no call.
+    and makes no call. A time is a number of seconds or a timedelta, and what is finer than a microsecond is rounded up.
     """
 
     def __init__(self, backend: Union[Library, Program], by: int, pid: int) -> None:
@@ -93,13 +95,13 @@ class Task:
         self._backend.ctl(who, number("ep", ep), act, number("fd", fd), mask, data)
 
     def wait(
-        self, ep: int, max: int = 8, timeout: Optional[float] = 0,
+        self, ep: int, max: int = 8, timeout: Optional[Time] = 0,
         *, by: Optional[int] = None, pid: Optional[int] = None,
     ) -> Optional[List[Report]]:
         """A wait by hand: at most `max` reports, each a tuple (bits, data), or None if the caller is parked.
 
-        `timeout` is in seconds: 0 never parks, less than 0 or None parks without an end. A caller that is parked
-        makes no call but `resume`.
+        A `timeout` of 0 never parks, and one of less than 0 or None parks without an end. A caller that is parked makes
+        no call but `resume`.
         """
         who = self._who(by, pid)
         return self._backend.wait(who, number("ep", ep), number("max", max), _timeout(timeout))
@@ -109,7 +111,7 @@ class Task:
         return self._backend.resume(self._who(by, None))
 
     def epoll_wait(
-        self, ep: int, max: int = 8, timeout: Optional[float] = None,
+        self, ep: int, max: int = 8, timeout: Optional[Time] = None,
         *, by: Optional[int] = None, pid: Optional[int] = None,
     ) -> List[Report]:
         """A wait by itself, which comes back when it has ended: at most `max` reports.
@@ -140,15 +142,15 @@ class Task:
         self._backend.shutdown(self._who(by, pid), number("fd", fd))
 
     def settime(
-        self, fd: int, value: float, interval: float = 0, absolute: bool = False,
+        self, fd: int, value: Time, interval: Time = 0, absolute: bool = False,
         *, by: Optional[int] = None, pid: Optional[int] = None,
     ) -> Tuple[float, float]:
-        """Sets a timer to `value` seconds from now, or to that moment, and gives the value and interval before."""
+        """Sets a timer to `value` from now, or to that moment, and gives the value and interval before in seconds."""
         who, first, further = self._who(by, pid), units("value", value), units("interval", interval)
         return _setting(self._backend.settime(who, number("fd", fd), first, further, bool(absolute)))
 
     def gettime(self, fd: int, *, by: Optional[int] = None, pid: Optional[int] = None) -> Tuple[float, float]:
-        """The time until the next expiration, 0 if there is no next one, and the interval."""
+        """The time until the next expiration, 0 if there is no next one, and the interval, in seconds."""
         return _setting(self._backend.gettime(self._who(by, pid), number("fd", fd)))
 
     def dup(self, fd: int, *, by: Optional[int] = None, pid: Optional[int] = None) -> int:
@@ -175,9 +177,9 @@ class Task:
         """Ends the process."""
         self._backend.exit(self._who(by, pid))
 
-    def tick(self, time: float, *, by: Optional[int] = None) -> None:
-        """The clock goes on by so many seconds."""
-        self._backend.tick(self._who(by, None), long("time", units("time", time)))
+    def tick(self, time: Time, *, by: Optional[int] = None) -> None:
+        """The clock goes on by this time. EINVAL past 1,000,000,000 seconds."""
+        self._backend.tick(self._who(by, None), units("time", time))
 
 
 class Kernel(Task):
@@ -214,7 +216,7 @@ class Kernel(Task):
         return seconds(self._backend.now())
 
     def next_moment(self) -> Optional[float]:
-        """The first moment of the clock to which a tick has an effect, or None.
+        """The first moment of the clock to which a tick has an effect, in seconds, or None.
 
         It needs the library, and so do the methods that follow.
         """
@@ -279,13 +281,14 @@ class Part:
             backend.tasks(-1)
 
 
-def _timeout(timeout: Optional[float]) -> int:
+def _timeout(timeout: Optional[Time]) -> int:
     """A timeout in units, or -1 for none."""
     if timeout == 0:
         return 0
-    if timeout is None or timeout < 0 or timeout == float("inf"):
+    if timeout is None or timeout == float("inf"):
         return -1
-    return within("timeout", units("timeout", timeout), 0, (1 << 63) - 1)
+    is_negative = timeout < _NO_TIME if isinstance(timeout, timedelta) else timeout < 0
+    return -1 if is_negative else units("timeout", timeout)
 
 
 def _setting(times: Tuple[int, int]) -> Tuple[float, float]:

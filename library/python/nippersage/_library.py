@@ -11,7 +11,7 @@ from ctypes import (
 )
 from typing import Any, Dict, List, Optional, Sequence, Tuple
 
-from ._numbers import UNITS, Ended, Limits, Report, number, refusal
+from ._numbers import UNITS, Ended, Limits, Report, refusal
 
 _HERE = os.path.dirname(os.path.abspath(__file__))
 
@@ -37,10 +37,10 @@ def _find() -> Optional[str]:
         if os.path.isfile(path):
             return path
     try:
-        ctypes.CDLL("libnippersage.so.1")
+        ctypes.CDLL("libnippersage.so.2")
     except OSError:
         return None
-    return "libnippersage.so.1"
+    return "libnippersage.so.2"
 
 
 #: The library's path, or None: then a kernel is a program.
@@ -79,12 +79,12 @@ _TAKEN: Dict[str, Tuple[Any, ...]] = {
     "epoll_create1": (Who, c_int),
     "epoll_ctl": (Who, c_int, c_int, c_int, c_char_p),
     "epoll_pwait2": (Who, c_int, c_void_p, c_int, POINTER(_Timespec)),
-    "wait_start": (Who, c_int, c_void_p, c_int, c_int),
+    "pwait2_start": (Who, c_int, c_void_p, c_int, POINTER(_Timespec)),
     "resume": (Who, c_void_p, c_int),
     "tasks": (c_void_p, c_int),
-    "tick": (Who, c_uint64),
-    "now": (c_void_p, POINTER(c_uint64)),
-    "next_moment": (c_void_p, POINTER(c_uint64)),
+    "tick": (Who, POINTER(_Timespec)),
+    "now": (c_void_p, POINTER(_Timespec)),
+    "next_moment": (c_void_p, POINTER(_Timespec)),
     "first_marked": (c_void_p, POINTER(c_uint32)),
     "is_parked": (c_void_p, c_uint32),
     "is_marked": (c_void_p, c_uint32),
@@ -131,7 +131,7 @@ def _load(path: str) -> _Functions:
 
 
 def library_version() -> Optional[str]:
-    """The version of the library, and whether it was proved: `0.1.0, proved in logic ..` or `0.1.0, unproved`. None if
+    """The version of the library, and whether it was proved: `0.2.0, proved in logic ..` or `0.2.0, unproved`. None if
     there is no library; a program tells its version by `--version`."""
     return _load(LIBRARY).version().decode() if LIBRARY else None
 
@@ -227,13 +227,12 @@ class Library:
     def wait(self, who: Who, ep: int, max: int, timeout: int) -> Optional[List[Report]]:
         most = self._most_of(who, max)
         events = _room(_EVENT.size * most)
-        return self._reports(self._f.wait_start(who, ep, events, most, number("timeout", timeout)), events)
+        return self._reports(self._f.pwait2_start(who, ep, events, most, _end(timeout)), events)
 
     def epoll_wait(self, who: Who, ep: int, max: int, timeout: int) -> List[Report]:
         most = self._most_of(who, max)
         events = _room(_EVENT.size * most)
-        end = None if timeout < 0 else byref(_timespec(timeout))
-        return self._reports(self._f.epoll_pwait2(who, ep, events, most, end), events) or []
+        return self._reports(self._f.epoll_pwait2(who, ep, events, most, _end(timeout)), events) or []
 
     def resume(self, who: Who) -> Optional[List[Report]]:
         most = self._rooms.get(who.caller, 1)
@@ -298,16 +297,16 @@ class Library:
         self._done(self._f.exit(who))
 
     def tick(self, who: Who, n: int) -> None:
-        self._done(self._f.tick(who, n))
+        self._done(self._f.tick(who, byref(_timespec(n))))
 
     def now(self) -> int:
-        moment = c_uint64()
+        moment = _Timespec()
         self._done(self._f.now(self._pointer(), byref(moment)))
-        return moment.value
+        return _units(moment)
 
     def next_moment(self) -> Optional[int]:
-        moment = c_uint64()
-        return moment.value if self._done(self._f.next_moment(self._pointer(), byref(moment))) else None
+        moment = _Timespec()
+        return _units(moment) if self._done(self._f.next_moment(self._pointer(), byref(moment))) else None
 
     def first_marked(self) -> Optional[int]:
         caller = c_uint32()
@@ -345,6 +344,11 @@ def _limits(limits: Limits) -> _Limits:
     if not all(0 <= limit < 1 << 32 for limit in limits):
         raise refusal(_EINVAL)
     return _Limits(*limits)
+
+
+def _end(timeout: int) -> Any:
+    """A timeout of so many units, or none if it is less than 0."""
+    return None if timeout < 0 else byref(_timespec(timeout))
 
 
 def _timespec(count: int) -> _Timespec:

@@ -2,9 +2,10 @@
 
 from __future__ import annotations
 
-import math
+from datetime import timedelta
+from fractions import Fraction
 from operator import index
-from typing import NamedTuple, Tuple
+from typing import NamedTuple, Tuple, Union
 
 IN, PRI, OUT, ERR, HUP, RDHUP = 1, 2, 4, 8, 16, 8192
 EXCLUSIVE, WAKEUP, ONESHOT, ET = 1 << 28, 1 << 29, 1 << 30, 1 << 31
@@ -12,8 +13,14 @@ EXCLUSIVE, WAKEUP, ONESHOT, ET = 1 << 28, 1 << 29, 1 << 30, 1 << 31
 #: One report of a wait: the bits that are shown, and the data of the registration.
 Report = Tuple[int, int]
 
-#: The kernel's units of time in a second.
-UNITS = 1000
+#: A time: seconds, or a timedelta.
+Time = Union[float, timedelta]
+
+#: The kernel's units of time in a second, and one of them: the microsecond.
+UNITS = 1_000_000
+_UNIT = timedelta(microseconds=1)
+#: The most seconds of a time. A number of 64 bits holds so many units, and the clock doesn't go so far.
+_LONGEST = (1 << 63) // UNITS
 
 #: The names of the error numbers of Linux that a call may answer.
 NAMES = {
@@ -75,20 +82,24 @@ def long(name: str, value: int) -> int:
     return within(name, value, 0, (1 << 64) - 1)
 
 
-def units(name: str, seconds: float) -> int:
+def units(name: str, time: Time) -> int:
     """So many of the kernel's units, rounded up.
 
-    A float that is as near to a whole number of units as a float can be is that number: 0.003 is 3 units.
+    An int or a timedelta is a whole number of them. A float hardly ever is: 0.000003 is not exactly three, and
+    0.1 + 0.2 is another float than 0.3. So a float is taken for a whole number that it is as near to as the sum of
+    three floats may be, to one part in 2^51. In 26 days that is a nanosecond. Any other float is rounded up.
     """
-    if not 0 <= seconds < 1e16:
-        raise ValueError(f"{name} is a time of 0 seconds or more, and not {seconds}")
-    count = seconds * UNITS
-    nearest = round(count)
-    if abs(count - nearest) <= count * 2.0**-51:
+    exact = Fraction(time // _UNIT, UNITS) if isinstance(time, timedelta) else time
+    if not 0 <= exact <= _LONGEST:
+        raise ValueError(f"{name} is a time of 0 to {_LONGEST} seconds, and not {time}")
+    whole, parts = exact.as_integer_ratio()
+    count = whole * UNITS
+    nearest = (2 * count + parts) // (2 * parts)
+    if abs(count - nearest * parts) << 51 <= count:
         return nearest
-    return math.ceil(count)
+    return -(-count // parts)
 
 
 def seconds(count: int) -> float:
-    """So many units in seconds."""
+    """So many units in seconds: the float that is nearest. No two moments of the clock have the same one."""
     return count / UNITS

@@ -11,8 +11,10 @@ from typing import Any, Dict, List, Optional, Sequence, Tuple
 
 from ._numbers import Ended, Illegal, Report
 
-#: The most lines of one run of the program, and so the most calls of one kernel that is a program.
-MOST_CALLS = 100_000
+#: The first line of a run, which is its own answer: the times of the others are in microseconds.
+_HEADER = b'{"version":2}\n'
+#: The most calls of one kernel that is a program. A run has at most 100,000 lines, and the header is one of them.
+MOST_CALLS = 99_999
 #: The most bytes of a line, without the byte that ends it.
 LONGEST_LINE = 65_536
 
@@ -76,6 +78,7 @@ class Program:
         if history is not None:
             words += ["--history", os.path.abspath(history)]
         self.calls = 0
+        self._has_begun = False
         self._now = 0
         try:
             self._program = subprocess.Popen(words, stdin=subprocess.PIPE, stdout=subprocess.PIPE)
@@ -106,16 +109,29 @@ class Program:
             raise ValueError(f"a line has at most {LONGEST_LINE} bytes, and this call takes {len(line)}")
         if self.calls == MOST_CALLS:
             raise Ended(f"a kernel answers {MOST_CALLS} calls; make another one")
+        if not self._has_begun:
+            self._begin()
         self.calls += 1
+        return json.loads(self._exchange(line + b"\n"))
+
+    def _begin(self) -> None:
+        """Says in which unit times are. A program that doesn't know it is older than this package."""
+        if self._exchange(_HEADER) != _HEADER:
+            raise Ended("the program knows no scripts of version 2, whose times are microseconds")
+        self._has_begun = True
+
+    def _exchange(self, line: bytes) -> bytes:
+        """Sends a line, and gives the one that answers it."""
+        assert self._program.stdin and self._program.stdout
         try:
-            self._program.stdin.write(line + b"\n")
+            self._program.stdin.write(line)
             self._program.stdin.flush()
         except BrokenPipeError:
             pass
         answer = self._program.stdout.readline()
         if not answer.endswith(b"\n"):
             raise Ended(f"the program ended with status {self._program.wait()}")
-        return json.loads(answer)
+        return answer
 
     def _call(self, op: str, who: Who, **keys: Any) -> Dict[str, Any]:
         answer = self.ask(op, {**keys, **who})

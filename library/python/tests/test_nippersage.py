@@ -15,6 +15,7 @@ import sys
 import tempfile
 import threading
 import unittest
+from datetime import timedelta
 
 sys.dont_write_bytecode = True
 #: The folder that has the package.
@@ -25,6 +26,7 @@ from nippersage import (
     AUDITOR, ET, EXCLUSIVE, HUP, IN, LIBRARY, MOST_CALLS, ONESHOT, OUT, PROGRAM, Ended, Illegal, Kernel, Limits,
     __version__, audit, library_version,
 )
+from nippersage._numbers import seconds, units
 
 
 def runs(program):
@@ -97,21 +99,69 @@ class Calls:
         with self.make() as kernel:
             timer, instance = kernel.timerfd(), kernel.epoll()
             kernel.add(instance, timer, IN | ET, data=9)
-            self.assertEqual(kernel.settime(timer, 0.005, interval=0.0011), (0, 0))
+            self.assertEqual(kernel.settime(timer, 0.000005, interval=0.0000011), (0, 0))
             self.assertIsNone(kernel.wait(instance, timeout=-1, by=1))
-            kernel.tick(0.0031)
-            self.assertEqual(kernel.gettime(timer), (0.001, 0.002))
-            kernel.tick(0.005)
-            self.assertEqual(kernel.now(), 0.009)
+            kernel.tick(0.0000031)
+            self.assertEqual(kernel.gettime(timer), (0.000001, 0.000002))
+            kernel.tick(0.000005)
+            self.assertEqual(kernel.now(), 0.000009)
             self.assertEqual(kernel.resume(by=1), [(IN, 9)])
             self.assertEqual(kernel.read(timer, 8), bytes([3, 0, 0, 0, 0, 0, 0, 0]))
-            self.assertEqual(kernel.settime(timer, 1, absolute=True), (0.002, 0.002))
-            self.assertEqual(kernel.gettime(timer), (0.991, 0))
+            self.assertEqual(kernel.settime(timer, 1, absolute=True), (0.000002, 0.000002))
+            self.assertEqual(kernel.gettime(timer), (0.999991, 0))
             self.expect_refusal(errno.EINVAL, kernel.settime, 0, 1)
-            self.expect_refusal(errno.EINVAL, kernel.settime, timer, 1_000_000_001)
             self.expect_refusal(errno.EBADF, kernel.gettime, 99)
             self.expect_refusal(errno.EINVAL, kernel.timerfd, clock=7)
-            self.expect_refusal(errno.EINVAL, kernel.tick, 1_000_000_000)
+
+    def test_a_timer_of_a_microsecond(self):
+        for time in (0.000001, 1e-9, timedelta(microseconds=1)):
+            with self.make() as kernel:
+                timer = kernel.timerfd()
+                kernel.settime(timer, time)
+                kernel.tick(0)
+                self.expect_refusal(errno.EAGAIN, kernel.read, timer, 8)
+                self.assertEqual(kernel.gettime(timer), (0.000001, 0))
+                kernel.tick(timedelta(microseconds=1))
+                self.assertEqual(kernel.read(timer, 8), bytes([1, 0, 0, 0, 0, 0, 0, 0]))
+                self.assertEqual(kernel.now(), 0.000001)
+
+    def test_the_last_moment(self):
+        last = 1_000_000_000
+        with self.make() as kernel:
+            timer = kernel.timerfd()
+            for time in (last + 1, timedelta(seconds=last, microseconds=1), 9_223_372_036_854):
+                self.expect_refusal(errno.EINVAL, kernel.settime, timer, time)
+                self.expect_refusal(errno.EINVAL, kernel.settime, timer, 1, interval=time)
+                self.expect_refusal(errno.EINVAL, kernel.tick, time)
+            kernel.settime(timer, last, interval=timedelta(seconds=last))
+            self.assertEqual(kernel.gettime(timer), (last, last))
+            kernel.tick(timedelta(seconds=last - 1, microseconds=999_999))
+            self.assertEqual(kernel.now(), 999_999_999.999999)
+            kernel.tick(0.000001)
+            self.assertEqual(kernel.now(), last)
+            self.expect_refusal(errno.EINVAL, kernel.tick, 1e-9)
+
+    def test_waits_of_any_length(self):
+        """Those of 36 minutes are longer than 2^31 microseconds, and those of 34 days longer than 2^31 milliseconds."""
+        microsecond = timedelta(microseconds=1)
+        for seconds_ in (0, 2_200, 3_000_000, 999_999_999):
+            time = timedelta(seconds=seconds_)
+            with self.make() as kernel:
+                instance = kernel.epoll()
+                self.assertIsNone(kernel.wait(instance, timeout=time + microsecond, by=1))
+                kernel.tick(time)
+                self.assertIsNone(kernel.resume(by=1))
+                kernel.tick(microsecond)
+                self.assertEqual(kernel.resume(by=1), [])
+
+    def test_waits_without_an_end(self):
+        longest = 9_223_372_036_854
+        for time in (None, -1, -1e-9, float("inf"), timedelta(microseconds=-1), longest, timedelta(seconds=longest)):
+            with self.make() as kernel:
+                instance = kernel.epoll()
+                self.assertIsNone(kernel.wait(instance, timeout=time, by=1))
+                kernel.tick(1_000_000_000)
+                self.assertIsNone(kernel.resume(by=1))
 
     def test_parked_callers(self):
         with self.make() as kernel:
@@ -120,12 +170,13 @@ class Calls:
             self.expect_refusal(errno.EEXIST, kernel.add, instance, counter, IN)
             self.expect_refusal(errno.EINVAL, kernel.resume, by=1)
             self.assertEqual(kernel.wait(instance, by=1), [])
-            self.assertIsNone(kernel.wait(instance, timeout=0.0101, by=1))
+            self.assertEqual(kernel.wait(instance, timeout=timedelta(), by=1), [])
+            self.assertIsNone(kernel.wait(instance, timeout=0.0000101, by=1))
             self.expect_refusal(errno.EBUSY, kernel.close, counter, by=1)
             self.expect_refusal(errno.EBUSY, kernel.wait, instance, max=1, by=1)
-            kernel.tick(0.01)
+            kernel.tick(0.00001)
             self.assertIsNone(kernel.resume(by=1))
-            kernel.tick(0.001)
+            kernel.tick(0.000001)
             self.assertEqual(kernel.resume(by=1), [])
             self.expect_refusal(errno.EINVAL, kernel.wait, instance, max=0)
             self.expect_refusal(errno.EINVAL, kernel.wait, counter)
@@ -193,9 +244,13 @@ class Calls:
                 (kernel.add, (3, 4, IN, 1 << 64)),
                 (kernel.read, (0, -1)),
                 (kernel.fill, (0, 256, 1)),
-                (kernel.tick, (-0.001,)),
+                (kernel.tick, (-0.000001,)),
+                (kernel.tick, (timedelta(microseconds=-1),)),
+                (kernel.tick, (9_223_372_036_855,)),
                 (kernel.settime, (3, float("nan"))),
+                (kernel.settime, (3, 1, float("inf"))),
                 (kernel.wait, (3, 8, float("nan"))),
+                (kernel.wait, (3, 8, timedelta.max)),
                 (kernel.task, (-1,)),
             ):
                 with self.assertRaises(ValueError):
@@ -230,12 +285,12 @@ class OverLibrary(Calls, Refusals):
         with Kernel() as kernel:
             timer, instance = kernel.timerfd(), kernel.epoll()
             kernel.add(instance, timer, IN, data=5)
-            self.assertEqual(kernel.epoll_wait(instance, timeout=0.0001), [])
-            self.assertEqual(kernel.now(), 0.001)
+            self.assertEqual(kernel.epoll_wait(instance, timeout=1e-9), [])
+            self.assertEqual(kernel.now(), 0.000001)
             kernel.settime(timer, 3_600)
-            self.assertEqual(kernel.next_moment(), 3_600.001)
+            self.assertEqual(kernel.next_moment(), 3_600.000001)
             self.assertEqual(kernel.epoll_wait(instance), [(IN, 5)])
-            self.assertEqual(kernel.now(), 3_600.001)
+            self.assertEqual(kernel.now(), 3_600.000001)
             kernel.close(timer)
             self.assertIsNone(kernel.next_moment())
             self.expect_refusal(errno.EDEADLK, kernel.epoll_wait, instance)
@@ -253,13 +308,6 @@ class OverLibrary(Calls, Refusals):
             kernel.write(counter, bytes([1, 0, 0, 0, 0, 0, 0, 0]))
             self.assertTrue(kernel.is_marked(4))
             self.assertEqual(kernel.first_marked(), 4)
-
-    def test_a_timeout_that_the_library_has_no_number_for(self):
-        with Kernel() as kernel:
-            instance = kernel.epoll()
-            with self.assertRaises(ValueError):
-                kernel.wait(instance, timeout=2_147_484)
-            self.assertFalse(kernel.is_parked(0))
 
     def test_threads(self):
         """Two threads wake each other, and a third one sleeps until they are done."""
@@ -351,8 +399,12 @@ class OverProgram(Calls, Refusals):
         return Kernel(program=PROGRAM, **keys)
 
     def test_the_last_call(self):
+        """The program reads 100,000 lines, and the header is one of them."""
+        self.assertEqual(MOST_CALLS, 99_999)
         with self.make() as kernel:
-            kernel._backend.calls = MOST_CALLS
+            self.assertEqual(kernel.dup(0), 3)
+            kernel._backend.calls = MOST_CALLS - 1
+            self.assertEqual(kernel.dup(0), 4)
             with self.assertRaises(Ended):
                 kernel.dup(0)
 
@@ -379,6 +431,49 @@ class OverProgram(Calls, Refusals):
         words = "import nippersage as n; k = n.Kernel(); print(n.LIBRARY, k.pipe(), k.end())"
         told = run_anew(words, NIPPERSAGE_LIB="", NIPPERSAGE_EPSIM=PROGRAM)
         self.assertEqual(told.stdout, b"None (3, 4) 0\n")
+
+
+class Times(unittest.TestCase):
+    """How many microseconds a time is."""
+
+    def test_whole_numbers(self):
+        for time, count in (
+            (0, 0), (0.000001, 1), (0.000003, 3), (0.003, 3_000), (0.1, 100_000), (1, 1_000_000), (2.5, 2_500_000),
+            (999_999_999.999999, 999_999_999_999_999), (timedelta(days=1, microseconds=7), 86_400_000_007),
+        ):
+            self.assertEqual(units("time", time), count)
+
+    def test_what_is_finer_is_rounded_up(self):
+        for time, count in (
+            (1e-300, 1), (1e-9, 1), (0.0000010001, 2), (0.0000019999, 2), (0.0000020001, 3), (1.0000001, 1_000_001),
+        ):
+            self.assertEqual(units("time", time), count)
+
+    def test_sums_of_floats(self):
+        """None of these sums is the float that its sum in decimals is."""
+        for time, other, count in (
+            (0.1 + 0.2, 0.3, 300_000), (0.000002 + 0.000003, 0.000005, 5), (0.1 + 0.7, 0.8, 800_000),
+        ):
+            self.assertNotEqual(time, other)
+            self.assertEqual(units("time", time), count)
+
+    def test_there_and_back(self):
+        for count in (0, 1, 3, 7, 999_999, 1_000_001, 123_456_789_012_345, 999_999_999_999_999, 10**15):
+            self.assertEqual(units("time", seconds(count)), count)
+
+
+class Older(unittest.TestCase):
+    """A program of before the header."""
+
+    def test_it_is_told(self):
+        with tempfile.TemporaryDirectory() as room:
+            path = os.path.join(room, "epsim")
+            with open(path, "w") as program:
+                program.write("#!/bin/sh\nread line; echo '{\"bad\":1}'; cat >/dev/null\n")
+            os.chmod(path, 0o755)
+            with Kernel(program=path) as kernel:
+                with self.assertRaisesRegex(Ended, "version 2"):
+                    kernel.pipe()
 
 
 class Missing(unittest.TestCase):

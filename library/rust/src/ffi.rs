@@ -21,7 +21,7 @@ pub struct Task {
 }
 
 #[repr(C)]
-#[derive(Clone, Copy)]
+#[derive(Clone, Copy, Debug, PartialEq, Eq)]
 pub struct Timespec {
     pub seconds: i64,
     pub nanoseconds: i64,
@@ -82,20 +82,20 @@ extern "C" {
         most: c_int,
         timeout: *const Timespec,
     ) -> c_int;
-    pub fn nippersage_wait_start(
+    pub fn nippersage_pwait2_start(
         task: Task,
         epfd: c_int,
         events: *mut EpollEvent,
         most: c_int,
-        timeout: c_int,
+        timeout: *const Timespec,
     ) -> c_int;
     pub fn nippersage_resume(task: Task, events: *mut EpollEvent, most: c_int) -> c_int;
     pub fn nippersage_tasks(kernel: *mut Kernel, more: c_int) -> c_int;
 
-    pub fn nippersage_tick(task: Task, milliseconds: u64) -> c_int;
+    pub fn nippersage_tick(task: Task, time: *const Timespec) -> c_int;
     pub fn nippersage_version() -> *const c_char;
-    pub fn nippersage_now(kernel: *mut Kernel, moment: *mut u64) -> c_int;
-    pub fn nippersage_next_moment(kernel: *mut Kernel, moment: *mut u64) -> c_int;
+    pub fn nippersage_now(kernel: *mut Kernel, moment: *mut Timespec) -> c_int;
+    pub fn nippersage_next_moment(kernel: *mut Kernel, moment: *mut Timespec) -> c_int;
     pub fn nippersage_first_marked(kernel: *mut Kernel, caller: *mut u32) -> c_int;
     pub fn nippersage_is_parked(kernel: *mut Kernel, caller: u32) -> c_int;
     pub fn nippersage_is_marked(kernel: *mut Kernel, caller: u32) -> c_int;

@@ -83,20 +83,20 @@ impl Kernel {
         Task::new(self, caller, Pid::FIRST)
     }
 
-    /// The simulated clock: the time since the kernel began.
+    /// The simulated clock: the time since the kernel began, a whole number of microseconds.
     pub fn now(&self) -> Duration {
-        let mut moment = 0;
-        // SAFETY: the kernel lives, and the pointer is to a live number. So it can't be refused.
+        let mut moment = time::timespec(Duration::ZERO);
+        // SAFETY: the kernel lives, and the pointer is to a live value. So it can't be refused.
         unsafe { ffi::nippersage_now(self.raw(), &mut moment) };
-        time::of_units(moment)
+        time::duration(moment)
     }
 
     /// The first moment of the clock to which a tick has an effect, if there is one.
     pub fn next_moment(&self) -> Option<Duration> {
-        let mut moment = 0;
+        let mut moment = time::timespec(Duration::ZERO);
         // SAFETY: as in `now`.
         let found = unsafe { ffi::nippersage_next_moment(self.raw(), &mut moment) };
-        (found == 1).then(|| time::of_units(moment))
+        (found == 1).then(|| time::duration(moment))
     }
 
     /// Of the callers that are marked, the one that was parked first.

@@ -40,6 +40,9 @@
 //! # Ok::<(), nippersage::Errno>(())
 //! ```
 //!
+//! The kernel's unit is the microsecond. Each time that it takes is rounded up to one, and each that
+//! it gives is a whole number of them. Its clock goes up to 1,000,000,000 seconds.
+//!
 //! **What is proved.** Behind the answers is a kernel of which a prover has shown that a reference
 //! model allows every answer. That this crate and the C library below it ask for what their
 //! functions' names say is tested and not proved.
@@ -64,8 +67,8 @@ pub use owned::Owned;
 pub use task::{Clock, Fd, Flags, Pid, Task};
 pub use time::Setting;
 
-/// The version of the library, and whether it was proved: `0.1.0, proved in logic ..` or
-/// `0.1.0, unproved`.
+/// The version of the library, and whether it was proved: `0.2.0, proved in logic ..` or
+/// `0.2.0, unproved`.
 pub fn version() -> &'static str {
     // The library answers a text of its own, which lives as long as it does, and ends with a 0.
     let text = unsafe { std::ffi::CStr::from_ptr(ffi::nippersage_version()) };

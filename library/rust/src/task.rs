@@ -185,7 +185,7 @@ impl Task<'_> {
     }
 
     /// timerfd_settime(2): sets a timer and gives its setting before. A value of zero disarms it.
-    /// Times are rounded up to the kernel's unit, a millisecond.
+    /// Times are rounded up to the kernel's unit, a microsecond.
     ///
     /// EBADF, EINVAL if it is no timer or a time is above 1,000,000,000 seconds.
     pub fn timerfd_settime(self, fd: impl Into<Fd>, setting: Setting) -> Result<Setting, Errno> {
@@ -327,8 +327,9 @@ impl Task<'_> {
 /// Instances of epoll.
 ///
 /// A wait takes a timeout: `None` has no end, and zero never parks. Others are rounded up to the
-/// kernel's unit, a millisecond. Reports go to the beginning of `events`, whose length is the most
-/// that there can be; what comes back is how many there are. EINVAL if there is no room.
+/// kernel's unit, a microsecond. One that is longer than the clock goes has no end, either. Reports
+/// go to the beginning of `events`, whose length is the most that there can be; what comes back is
+/// how many there are. EINVAL if there is no room.
 impl Task<'_> {
     /// epoll_create1(2): a new instance.
     pub fn epoll_create1(self, flags: Flags) -> Result<Fd, Errno> {
@@ -386,32 +387,29 @@ impl Task<'_> {
         timeout: Option<Duration>,
     ) -> Result<usize, Errno> {
         let timeout = timeout.map(time::timespec);
-        let timeout = timeout
-            .as_ref()
-            .map_or(ptr::null(), |time| time as *const _);
         let (room, most) = (events.as_mut_ptr().cast(), length(events.len()));
+        let end = pointer(&timeout);
         // SAFETY: there is room for so many reports, and the timeout lives or is none.
         let result =
-            unsafe { ffi::nippersage_epoll_pwait2(self.raw(), epfd.into().0, room, most, timeout) };
+            unsafe { ffi::nippersage_epoll_pwait2(self.raw(), epfd.into().0, room, most, end) };
         count(result as isize)
     }
 
     /// Starts a wait by hand: `Pending` says that the caller is parked. No thread sleeps and no
     /// clock goes. Until its wait has ended every other call of this caller answers EBUSY.
     ///
-    /// EBADF, EINVAL; EINVAL also for a timeout of 2,147,483,648 milliseconds and more.
+    /// EBADF, EINVAL.
     pub fn wait_start(
         self,
         epfd: impl Into<Fd>,
         events: &mut [Event],
         timeout: Option<Duration>,
     ) -> Result<Poll<usize>, Errno> {
-        let timeout = time::timeout(timeout)?;
+        let timeout = timeout.map(time::timespec);
         let (room, most) = (events.as_mut_ptr().cast(), length(events.len()));
-        // SAFETY: there is room for so many reports.
-        polled(unsafe {
-            ffi::nippersage_wait_start(self.raw(), epfd.into().0, room, most, timeout)
-        })
+        let end = pointer(&timeout);
+        // SAFETY: as in `epoll_wait`.
+        polled(unsafe { ffi::nippersage_pwait2_start(self.raw(), epfd.into().0, room, most, end) })
     }
 
     /// Asks whether the wait of the caller has ended: how many reports it has, 0 if its time has
@@ -424,11 +422,12 @@ impl Task<'_> {
         polled(unsafe { ffi::nippersage_resume(self.raw(), room, most) })
     }
 
-    /// Moves the clock on by this time, rounded up to the kernel's unit. EINVAL past 1,000,000,000
+    /// Moves the clock on by this time, rounded up to a microsecond. EINVAL past 1,000,000,000
     /// seconds.
     pub fn tick(self, time: Duration) -> Result<(), Errno> {
-        // SAFETY: numbers only.
-        done(unsafe { ffi::nippersage_tick(self.raw(), time::units(time)) })
+        let time = time::timespec(time);
+        // SAFETY: the pointer is to a live value.
+        done(unsafe { ffi::nippersage_tick(self.raw(), &time) })
     }
 }
 
@@ -450,6 +449,13 @@ fn polled(result: c_int) -> Result<Poll<usize>, Errno> {
         return Ok(Poll::Pending);
     }
     count(result as isize).map(Poll::Ready)
+}
+
+/// What C takes for a timeout: NULL for none.
+fn pointer(timeout: &Option<ffi::Timespec>) -> *const ffi::Timespec {
+    timeout
+        .as_ref()
+        .map_or(ptr::null(), |timeout| timeout as *const _)
 }
 
 /// As many as C's number can tell.

@@ -1,12 +1,7 @@
-//! Moments and durations, and the units in which the library takes them.
+//! Moments and durations, as the library takes and gives them.
 
 use crate::ffi::{Itimerspec, Timespec};
-use crate::Errno;
-use std::os::raw::c_int;
 use std::time::Duration;
-
-/// The kernel's unit of time.
-const UNIT: Duration = Duration::from_millis(1);
 
 /// A timer's setting, as timerfd_settime(2) has it.
 #[derive(Clone, Copy, Debug, PartialEq, Eq, Default)]
@@ -35,7 +30,8 @@ impl Setting {
     }
 }
 
-/// The library rounds what is finer than its unit up.
+/// The library rounds it up to its unit. More seconds than a number holds are the most that it
+/// holds, which is more than the clock goes.
 pub(crate) fn timespec(time: Duration) -> Timespec {
     Timespec {
         seconds: i64::try_from(time.as_secs()).unwrap_or(i64::MAX),
@@ -43,7 +39,8 @@ pub(crate) fn timespec(time: Duration) -> Timespec {
     }
 }
 
-fn duration(time: Timespec) -> Duration {
+/// What the library gives is a time: its numbers aren't negative.
+pub(crate) fn duration(time: Timespec) -> Duration {
     Duration::new(time.seconds as u64, time.nanoseconds as u32)
 }
 
@@ -61,46 +58,27 @@ pub(crate) fn setting(times: Itimerspec) -> Setting {
     }
 }
 
-/// So many units, rounded up. More than a number holds is the largest, which each call refuses.
-pub(crate) fn units(time: Duration) -> u64 {
-    let units = time.as_nanos().div_ceil(UNIT.as_nanos());
-    u64::try_from(units).unwrap_or(u64::MAX)
-}
-
-/// The moment or time of so many units.
-pub(crate) fn of_units(units: u64) -> Duration {
-    Duration::from_millis(units)
-}
-
-/// The timeout of a wait by hand, or EINVAL for one of 25 days and more, which its number can't
-/// tell.
-pub(crate) fn timeout(time: Option<Duration>) -> Result<c_int, Errno> {
-    match time {
-        None => Ok(-1),
-        Some(time) => c_int::try_from(units(time)).map_err(|_| Errno::EINVAL),
-    }
-}
-
 #[cfg(test)]
 mod tests {
     use super::*;
 
     #[test]
-    fn times_are_rounded_up() {
-        assert_eq!(units(Duration::ZERO), 0);
-        assert_eq!(units(Duration::from_nanos(1)), 1);
-        assert_eq!(units(Duration::from_micros(2_001)), 3);
-        assert_eq!(units(Duration::from_millis(5)), 5);
-        assert_eq!(units(Duration::MAX), u64::MAX);
+    fn a_time_keeps_its_nanoseconds() {
+        let time = Duration::new(3, 7);
+        let expected = Timespec {
+            seconds: 3,
+            nanoseconds: 7,
+        };
+        assert_eq!(timespec(time), expected);
+        assert_eq!(duration(expected), time);
     }
 
     #[test]
-    fn a_timeout_that_has_no_number_is_refused() {
-        assert_eq!(timeout(None), Ok(-1));
-        assert_eq!(timeout(Some(Duration::from_micros(1))), Ok(1));
-        assert_eq!(
-            timeout(Some(Duration::from_millis(2_147_483_648))),
-            Err(Errno::EINVAL)
-        );
+    fn the_longest_time_stays_the_longest() {
+        let expected = Timespec {
+            seconds: i64::MAX,
+            nanoseconds: 999_999_999,
+        };
+        assert_eq!(timespec(Duration::MAX), expected);
     }
 }

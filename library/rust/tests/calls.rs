@@ -11,11 +11,22 @@ const fn ms(count: u64) -> Duration {
     Duration::from_millis(count)
 }
 
+/// So many microseconds.
+const fn us(count: u64) -> Duration {
+    Duration::from_micros(count)
+}
+
+/// The last moment of the clock.
+const LAST: Duration = Duration::from_secs(1_000_000_000);
+
 #[test]
 fn version() {
     let (number, made) = nippersage::version().split_once(", ").unwrap();
     assert_eq!(number, env!("CARGO_PKG_VERSION"));
-    assert!(made == "unproved" || made.starts_with("proved in logic "), "{made}");
+    assert!(
+        made == "unproved" || made.starts_with("proved in logic "),
+        "{made}"
+    );
 }
 
 #[test]
@@ -108,38 +119,95 @@ fn timers() {
         .unwrap();
     let set = Setting {
         value: Duration::new(1, 1),
-        interval: ms(2),
+        interval: Duration::from_nanos(1_001),
     };
     assert_eq!(task.timerfd_settime(timer, set), Ok(Setting::default()));
     assert_eq!(
         task.timerfd_gettime(timer),
         Ok(Setting {
-            value: ms(1_001),
-            interval: ms(2)
+            value: us(1_000_001),
+            interval: us(2)
         })
     );
-    assert_eq!(kernel.next_moment(), Some(ms(1_001)));
-    task.tick(ms(1_002)).unwrap();
+    assert_eq!(kernel.next_moment(), Some(us(1_000_001)));
+    task.tick(us(1_000_002)).unwrap();
     assert_eq!(
         task.timerfd_gettime(timer),
         Ok(Setting {
-            value: ms(1),
-            interval: ms(2)
+            value: us(1),
+            interval: us(2)
         })
     );
     let mut count = [0; 8];
-    task.tick(ms(1)).unwrap();
+    task.tick(us(1)).unwrap();
     assert_eq!(task.read(timer, &mut count), Ok(8));
     assert_eq!(u64::from_ne_bytes(count), 2);
-    task.timerfd_settime_at(timer, Setting::once(ms(1_010)))
+    task.timerfd_settime_at(timer, Setting::once(us(1_000_010)))
         .unwrap();
-    assert_eq!(kernel.next_moment(), Some(ms(1_010)));
+    assert_eq!(kernel.next_moment(), Some(us(1_000_010)));
     assert_eq!(task.timerfd_settime(0, set), Err(Errno::EINVAL));
     assert_eq!(
         task.timerfd_settime(timer, Setting::every(Duration::MAX)),
         Err(Errno::EINVAL)
     );
     assert_eq!(task.timerfd_gettime(99), Err(Errno::EBADF));
+}
+
+#[test]
+fn a_timer_of_a_microsecond() {
+    let kernel = Kernel::new().unwrap();
+    let task = kernel.task(0);
+    let timer = task.timerfd_create(Clock::Monotonic, Flags::NONE).unwrap();
+    let mut count = [0; 8];
+    task.timerfd_settime(timer, Setting::once(us(1))).unwrap();
+    task.tick(Duration::ZERO).unwrap();
+    assert_eq!(task.read(timer, &mut count), Err(Errno::EAGAIN));
+    assert_eq!(task.timerfd_gettime(timer), Ok(Setting::once(us(1))));
+    task.tick(us(1)).unwrap();
+    assert_eq!(task.read(timer, &mut count), Ok(8));
+    assert_eq!(u64::from_ne_bytes(count), 1);
+}
+
+#[test]
+fn times_are_rounded_up() {
+    let kernel = Kernel::new().unwrap();
+    let task = kernel.task(0);
+    let mut wanted = 0;
+    for (nanoseconds, microseconds) in [
+        (0, 0),
+        (1, 1),
+        (999, 1),
+        (1_000, 1),
+        (1_001, 2),
+        (5_000_000, 5_000),
+    ] {
+        task.tick(Duration::from_nanos(nanoseconds)).unwrap();
+        wanted += microseconds;
+        assert_eq!(kernel.now(), us(wanted));
+    }
+}
+
+#[test]
+fn the_last_moment() {
+    let kernel = Kernel::new().unwrap();
+    let task = kernel.task(0);
+    let timer = task.timerfd_create(Clock::Monotonic, Flags::NONE).unwrap();
+    let nanosecond = Duration::from_nanos(1);
+    // 2^64 microseconds and less than half a second more
+    let beyond = Duration::from_secs(18_446_744_073_710);
+    for time in [LAST + nanosecond, beyond, Duration::MAX] {
+        assert_eq!(
+            task.timerfd_settime(timer, Setting::once(time)),
+            Err(Errno::EINVAL)
+        );
+        assert_eq!(task.tick(time), Err(Errno::EINVAL));
+    }
+    task.timerfd_settime(timer, Setting::every(LAST - nanosecond))
+        .unwrap();
+    assert_eq!(task.timerfd_gettime(timer), Ok(Setting::every(LAST)));
+    task.tick(LAST).unwrap();
+    assert_eq!(kernel.now(), LAST);
+    assert_eq!(task.tick(nanosecond), Err(Errno::EINVAL));
 }
 
 #[test]
@@ -221,7 +289,7 @@ fn waits_by_hand() {
         Ok(Poll::Pending)
     );
     assert_eq!(kernel.next_moment(), Some(ms(20)));
-    test.tick(Duration::from_micros(19_001)).unwrap();
+    test.tick(Duration::from_nanos(19_999_001)).unwrap();
     assert_eq!(kernel.now(), ms(20));
     assert_eq!(thread.resume(&mut events), Ok(Poll::Ready(0)));
     test.epoll_del(instance, reader).unwrap();
@@ -231,12 +299,60 @@ fn waits_by_hand() {
         Err(Errno::EPERM)
     );
     assert_eq!(test.epoll_create1(Flags::NONBLOCK), Err(Errno::EINVAL));
-    assert_eq!(test.tick(Duration::MAX), Err(Errno::EINVAL));
-    let long = Duration::from_secs(3_000_000);
+}
+
+/// Starts a wait by hand on a kernel of its own, and tells when it ends.
+fn end_of(timeout: Duration) -> Option<Duration> {
+    let kernel = Kernel::new().unwrap();
+    let (test, thread) = (kernel.task(0), kernel.task(1));
+    let instance = test.epoll_create1(Flags::NONE).unwrap();
+    let mut events = [Event::default()];
     assert_eq!(
-        thread.wait_start(instance, &mut events, Some(long)),
-        Err(Errno::EINVAL)
+        thread.wait_start(instance, &mut events, Some(timeout)),
+        Ok(Poll::Pending)
     );
+    let end = kernel.next_moment()?;
+    test.tick(end - us(1)).unwrap();
+    assert_eq!(thread.resume(&mut events), Ok(Poll::Pending));
+    test.tick(us(1)).unwrap();
+    assert_eq!(thread.resume(&mut events), Ok(Poll::Ready(0)));
+    Some(end)
+}
+
+#[test]
+fn waits_by_hand_of_any_length() {
+    for time in [
+        us(1),
+        us(1_500),
+        Duration::from_secs(2_200), // 2^31 microseconds are less
+        Duration::from_secs(3_000_000) + us(1), // 2^31 milliseconds are less
+        LAST,
+    ] {
+        assert_eq!(end_of(time), Some(time));
+    }
+    assert_eq!(end_of(Duration::from_nanos(1)), Some(us(1)));
+    assert_eq!(end_of(Duration::from_nanos(1_001)), Some(us(2)));
+}
+
+/// A wait that is longer than the clock goes hasn't ended at its last moment.
+#[test]
+fn waits_beyond_the_last_moment() {
+    for time in [
+        LAST + us(1),
+        Duration::from_secs(18_446_744_073_710),
+        Duration::MAX,
+    ] {
+        let kernel = Kernel::new().unwrap();
+        let (test, thread) = (kernel.task(0), kernel.task(1));
+        let instance = test.epoll_create1(Flags::NONE).unwrap();
+        let mut events = [Event::default()];
+        assert_eq!(
+            thread.wait_start(instance, &mut events, Some(time)),
+            Ok(Poll::Pending)
+        );
+        test.tick(LAST).unwrap();
+        assert_eq!(thread.resume(&mut events), Ok(Poll::Pending));
+    }
 }
 
 /// Two callers, each at an instance with an exclusive registration of one counter: a write wakes one.
@@ -258,10 +374,7 @@ fn exclusive_registrations() {
         assert_eq!(test.epoll_add(second, fd, mask, 2), Err(wanted));
     }
     for mask in [mask, Events::IN] {
-        assert_eq!(
-            test.epoll_mod(second, counter, mask, 2),
-            Err(Errno::EINVAL)
-        );
+        assert_eq!(test.epoll_mod(second, counter, mask, 2), Err(Errno::EINVAL));
     }
     let mut events = [Event::default(); 2];
     assert_eq!(one.wait_start(first, &mut events, None), Ok(Poll::Pending));
@@ -287,12 +400,12 @@ fn waits_by_themselves() {
         task.epoll_wait(instance, &mut events, Some(Duration::from_nanos(1))),
         Ok(0)
     );
-    assert_eq!(kernel.now(), ms(1));
+    assert_eq!(kernel.now(), us(1));
     task.timerfd_settime(timer, Setting::once(ms(3_600_000)))
         .unwrap();
     assert_eq!(task.epoll_wait(instance, &mut events, None), Ok(1));
     assert_eq!(events[0], Event::new(Events::IN, u64::MAX));
-    assert_eq!(kernel.now(), ms(3_600_001));
+    assert_eq!(kernel.now(), us(3_600_000_001));
     task.close(timer).unwrap();
     assert_eq!(
         task.epoll_wait(instance, &mut events, None),
