@@ -41,7 +41,7 @@ static uint64_t first_of_all(void) {
 
 bool next_alarm(uint64_t *moment) {
     *moment = atomic_load(&first_end);
-    return *moment != NEVER;
+    return *moment <= LAST_MOMENT;
 }
 
 /* ---- sending ---- */
@@ -100,16 +100,16 @@ static struct itimerspec setting_of(const struct alarm *alarm) {
     return (struct itimerspec){.it_interval = timespec_of(alarm->interval), .it_value = timespec_of(left)};
 }
 
-/* The moment of a first expiration: `value` milliseconds from now, or by the alarm's own clock. */
+/* The moment of a first expiration: `value` UNITs from now, or by the alarm's own clock. */
 static uint64_t end_of(const struct alarm *alarm, int64_t value, bool is_absolute) {
-    int64_t began = is_absolute && is_of_day(alarm->clock) ? (int64_t)EPOCH_SECONDS * 1000 : 0;
+    int64_t began = is_absolute && is_of_day(alarm->clock) ? EPOCH : 0;
     if (!is_absolute) return moment_now() + (uint64_t)value;
     return value > began ? (uint64_t)(value - began) : 0;
 }
 
 /* 0, or minus an error number. Whoever has an alarm may sleep in the real kernel until it comes. */
 static int set(struct alarm *alarm, bool is_absolute, const struct itimerspec *given, struct itimerspec *before) {
-    int64_t value = milliseconds(&given->it_value), interval = milliseconds(&given->it_interval);
+    int64_t value = units_of(&given->it_value), interval = units_of(&given->it_interval);
     int status = 0;
     if (value < 0 || interval < 0) return -EINVAL;
     if (value > 0) watch_threads();

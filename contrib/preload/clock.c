@@ -10,40 +10,51 @@ FORWARD(clock_gettime)
 FORWARD(clock_nanosleep)
 
 uint64_t moment_now(void) {
-    uint64_t moment = START;
+    struct timespec now = timespec_of(START);
     QUIET;
-    nippersage_now(the_kernel(), &moment);
-    return moment;
+    nippersage_now(the_kernel(), &now);
+    return (uint64_t)units_of(&now);
 }
 
-int64_t milliseconds(const struct timespec *time) {
+int64_t units_of(const struct timespec *time) {
     if (time->tv_sec < 0 || time->tv_nsec < 0 || time->tv_nsec >= 1000000000) return -1;
-    if (time->tv_sec > INT64_MAX / 1000 - 1) return INT64_MAX;
-    return (int64_t)time->tv_sec * 1000 + (time->tv_nsec + 999999) / 1000000;
+    if (time->tv_sec > INT64_MAX / SECOND - 1) return INT64_MAX;
+    return (int64_t)time->tv_sec * SECOND + (time->tv_nsec + UNIT - 1) / UNIT;
 }
 
-struct timespec timespec_of(uint64_t count) {
-    return (struct timespec){.tv_sec = (time_t)(count / 1000), .tv_nsec = (long)(count % 1000) * 1000000};
+struct timespec timespec_of(uint64_t units) {
+    return (struct timespec){.tv_sec = (time_t)(units / SECOND), .tv_nsec = (long)(units % SECOND) * UNIT};
 }
 
 /* A sleep of no time takes a millisecond: a program that yields until its clock has gone on comes to an end. */
-int sleep_for(int64_t count, const char *call) {
+int sleep_for(int64_t units, const char *call) {
     struct epoll_event none;
     struct wait wait = {.instance = sleeping_instance(), .events = &none, .most = 1, .call = call};
-    wait.timeout = count == 0 ? 1 : count;
+    wait.timeout = units == 0 ? MILLISECOND : units;
     return wait_at(&wait);
 }
 
 /* One thread moves the clock at a time, or two would go too far. */
 void bring_clock_to(uint64_t moment) {
     static pthread_mutex_t lock = PTHREAD_MUTEX_INITIALIZER;
+    struct timespec more;
     uint64_t now;
     QUIET;
     pthread_mutex_lock(&lock);
     now = moment_now();
-    if (now < moment) nippersage_tick(self(), moment - now);
+    more = timespec_of(now < moment ? moment - now : 0);
+    if (now < moment) nippersage_tick(self(), &more);
     pthread_mutex_unlock(&lock);
     send_alarms();
+}
+
+/* A program that polls, or asks for the time, again and again goes on once its clock has gone on. It goes on by a
+   millisecond: with a UNIT the program would poll a thousand times as often. What happens within the millisecond is
+   seen when it happens. */
+void let_clock_go_on(void) {
+    uint64_t end = moment_now() + MILLISECOND, next;
+    QUIET;
+    bring_clock_to(next_moment(&next) && next < end ? next : end);
 }
 
 /* ---- clocks ---- */
@@ -60,8 +71,8 @@ bool is_of_day(clockid_t clock) {
            clock == CLOCK_REALTIME_ALARM;
 }
 
-/* The clock for a program that asks. One that asks again and again waits for it to go on: it goes on by a millisecond
-   at the thousandth time without another call in between, and at the ten thousandth time at one moment. */
+/* The clock for a program that asks. One that asks again and again waits for it to go on: it goes on at the thousandth
+   time without another call in between, and at the ten thousandth time at one moment. */
 static uint64_t moment_asked(void) {
     static _Thread_local unsigned long last_calls;
     static _Thread_local uint64_t last_moment;
@@ -71,7 +82,8 @@ static uint64_t moment_asked(void) {
     at_a_moment = moment == last_moment ? at_a_moment + 1 : 0;
     if (in_a_row == 1000 || at_a_moment == 10000) {
         in_a_row = at_a_moment = 0;
-        bring_clock_to(++moment);
+        let_clock_go_on();
+        moment = moment_now();
     }
     last_calls = calls();
     last_moment = moment;
@@ -105,26 +117,26 @@ time_t time(time_t *told) {
 /* ---- sleeping ---- */
 
 /* Sleeps so long: 0, or EINTR, and then how much is left. */
-static int sleep_or_break(int64_t count, struct timespec *left) {
-    uint64_t end = moment_now() + (uint64_t)count, now;
-    if (sleep_for(count, "clock_nanosleep") == 0) return 0;
+static int sleep_or_break(int64_t units, struct timespec *left) {
+    uint64_t end = moment_now() + (uint64_t)units, now;
+    if (sleep_for(units, "clock_nanosleep") == 0) return 0;
     now = moment_now();
     if (left) *left = timespec_of(end > now ? end - now : 0);
     return EINTR;
 }
 
 int clock_nanosleep(clockid_t clock, int flags, const struct timespec *time, struct timespec *left) {
-    int64_t count = milliseconds(time), now = (int64_t)moment_now();
+    int64_t units = units_of(time), now = (int64_t)moment_now();
     int error, saved = errno;
     if (!is_clock(clock)) return next_clock_nanosleep()(clock, flags, time, left);
-    if (count < 0) return EINVAL;
+    if (units < 0) return EINVAL;
     QUIET;
     if (flags & TIMER_ABSTIME) {
-        if (is_of_day(clock)) now += (int64_t)EPOCH_SECONDS * 1000;
-        count = count > now ? count - now : 0;
+        if (is_of_day(clock)) now += EPOCH;
+        units = units > now ? units - now : 0;
         left = NULL;
     }
-    error = sleep_or_break(count, left);
+    error = sleep_or_break(units, left);
     ANSWER(-error, "clock_nanosleep(%s, %s, %s)", clock_text(TEXT, clock),
            flags & TIMER_ABSTIME ? "TIMER_ABSTIME" : "0", time_text(TEXT, time));
     errno = saved;
@@ -151,15 +163,15 @@ unsigned int sleep(unsigned int count) {
 /* ---- timers ---- */
 
 /* A moment of CLOCK_REALTIME by the kernel's clock, which is at 0 when that is EPOCH_SECONDS. What was before it is
-   its first millisecond, for 0 would disarm. */
+   its first UNIT, for 0 would disarm. */
 static void from_day(struct timespec *time) {
     if (time->tv_sec == 0 && time->tv_nsec == 0) return;
     if (time->tv_sec < EPOCH_SECONDS) {
-        *time = (struct timespec){0, 1000000};
+        *time = (struct timespec){0, UNIT};
     } else {
         time->tv_sec -= EPOCH_SECONDS;
     }
-    if (time->tv_sec == 0 && time->tv_nsec == 0) time->tv_nsec = 1000000;
+    if (time->tv_sec == 0 && time->tv_nsec == 0) time->tv_nsec = UNIT;
 }
 
 int timerfd_settime(int fd, int flags, const struct itimerspec *value, struct itimerspec *before) {

@@ -63,13 +63,14 @@ int refuse(int error, const char *format, ...) {
    descriptor, as its allocator: the memory is memory.c's. */
 static void start(void) {
     struct nippersage_task first = {NULL, 1, 1};
+    struct timespec began = timespec_of(START);
     int status;
     is_starting = true;
     bound_real_descriptors();
     status = make_table();
     if (status == 0) status = nippersage_open(&settings()->limits, &first.kernel);
     sleeping = status < 0 ? status : nippersage_epoll_create1(first, 0);
-    if (sleeping >= 0 && (status = nippersage_tick(first, START)) < 0) sleeping = status;
+    if (sleeping >= 0 && (status = nippersage_tick(first, &began)) < 0) sleeping = status;
     if (sleeping < 0) {
         say("no kernel can be made: %s", strerrordesc_np(-sleeping));
         next__exit()(STATUS_ENDLESS);

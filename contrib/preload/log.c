@@ -1,5 +1,7 @@
 /* The log: a line for each call on the simulated kernel, in the form of strace -f -ttt. A line has the simulated
-   clock in seconds, the call, and its answer; before them the thread's number, if it isn't the first thread. */
+   clock in seconds, to a microsecond, the call, and its answer; before them the thread's number, if it isn't the first
+   thread. The times of a call are as the program gave them: in milliseconds for epoll_wait and poll, else with their
+   units beside them. */
 #include "preload.h"
 
 #include <stdarg.h>
@@ -48,7 +50,7 @@ long logged_answer(long result, const char *format, ...) {
     char line[2048], call[1024];
     QUIET;
     uint32_t caller = self().caller;
-    double now = (double)moment_now() / 1000;
+    double now = (double)moment_now() / SECOND;
     const char *answer = answer_text(TEXT, result);
     va_list arguments;
     int size;
@@ -56,9 +58,9 @@ long logged_answer(long result, const char *format, ...) {
     vsnprintf(call, sizeof call, format, arguments);
     va_end(arguments);
     if (caller == 1) {
-        size = snprintf(line, sizeof line, "%.3f %s = %s\n", now, call, answer);
+        size = snprintf(line, sizeof line, "%.6f %s = %s\n", now, call, answer);
     } else {
-        size = snprintf(line, sizeof line, "[pid %u] %.3f %s = %s\n", caller, now, call, answer);
+        size = snprintf(line, sizeof line, "[pid %u] %.6f %s = %s\n", caller, now, call, answer);
     }
     write_line(line, (size_t)size);
     return plain_answer(result);
@@ -151,7 +153,20 @@ const char *clock_text(struct text *room, clockid_t clock) {
 }
 
 const char *time_text(struct text *room, const struct timespec *time) {
-    add(room, "{tv_sec=%lld, tv_nsec=%ld}", (long long)time->tv_sec, time->tv_nsec);
+    if (time) {
+        add(room, "{tv_sec=%lld, tv_nsec=%ld}", (long long)time->tv_sec, time->tv_nsec);
+    } else {
+        add(room, "NULL");
+    }
+    return room->of;
+}
+
+const char *short_time_text(struct text *room, const struct timeval *time) {
+    if (time) {
+        add(room, "{tv_sec=%lld, tv_usec=%ld}", (long long)time->tv_sec, (long)time->tv_usec);
+    } else {
+        add(room, "NULL");
+    }
     return room->of;
 }
 

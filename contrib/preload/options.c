@@ -47,8 +47,8 @@ static int tell_number(const struct options *options, int option) {
     }
 }
 
-static struct timeval timeval_of(int64_t count) {
-    struct timespec time = timespec_of((uint64_t)count);
+static struct timeval timeval_of(int64_t units) {
+    struct timespec time = timespec_of((uint64_t)units);
     return (struct timeval){time.tv_sec, time.tv_nsec / 1000};
 }
 
@@ -107,11 +107,11 @@ static int room_for(int asked, int least) {
     return 2 * most > least ? 2 * most : least;
 }
 
-/* Milliseconds; below 0 no time is there at all, which is kept as the shortest one. */
+/* Below 0 no time is there at all, which is kept as the shortest one. */
 static int set_time(int64_t *kept, const struct timeval *time) {
     struct timespec given = {time->tv_sec, time->tv_usec * 1000};
     if (time->tv_usec < 0 || time->tv_usec >= 1000000) return -EDOM;
-    *kept = time->tv_sec < 0 ? 1 : milliseconds(&given);
+    *kept = time->tv_sec < 0 ? 1 : units_of(&given);
     return 0;
 }
 

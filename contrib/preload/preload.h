@@ -16,12 +16,17 @@
 #include <stddef.h>
 #include <stdint.h>
 #include <string.h>
+#include <sys/time.h>
 #include <sys/types.h>
 #include <time.h>
 #include <unistd.h>
 
 /* The functions that stand in for the C library's are seen from outside; these aren't. */
 #pragma GCC visibility push(hidden)
+
+/* Times are counted in UNITs: the simulated ones, and the real ones with which they are compared. A UNIT is the unit of
+   the kernel's clock, a microsecond: it has so many nanoseconds. The others have so many UNITs. */
+enum { UNIT = 1000, MILLISECOND = 1000000 / UNIT, SECOND = 1000000000 / UNIT };
 
 /* With what status the shim ends a program: for a setting, for threads that wait for ever, for too many records. */
 enum { STATUS_SETTING = 2, STATUS_ENDLESS = 70, STATUS_FULL = 71 };
@@ -32,7 +37,7 @@ struct settings {
     int first;                       /* NIPPERSAGE_REAL_DESCRIPTORS: so many numbers are real */
     size_t records;                  /* NIPPERSAGE_RECORDS: the history may have fewer; SIZE_MAX where it isn't set */
     uint64_t busy_waits;             /* NIPPERSAGE_BUSY_WAITS: so many take a millisecond; 0 is none */
-    uint64_t patience;               /* NIPPERSAGE_PATIENCE, in milliseconds */
+    uint64_t patience;               /* NIPPERSAGE_PATIENCE, in milliseconds of real time */
     struct nippersage_limits limits; /* NIPPERSAGE_LIMITS */
 };
 extern _Atomic(const struct settings *) read_settings;
@@ -134,7 +139,7 @@ struct wait {
     const void *place;          /* the description of the instance, or NULL where it is the shim's own */
     struct epoll_event *events; /* room for `most` */
     int most;
-    int64_t timeout; /* in milliseconds, without end below 0 */
+    int64_t timeout; /* in UNITs, without end below 0 */
     const char *call;
     bool restarts;      /* a handler of SA_RESTART doesn't end it */
     bool awaits_signal; /* nothing but a signal is to end it */
@@ -173,6 +178,7 @@ const char *bytes_text(struct text *room, const void *bytes, ssize_t count);
 const char *event_text(struct text *room, const struct epoll_event *event);
 const char *clock_text(struct text *room, clockid_t clock);
 const char *time_text(struct text *room, const struct timespec *time);
+const char *short_time_text(struct text *room, const struct timeval *time);
 const char *setting_text(struct text *room, const struct itimerspec *setting);
 const char *flags_text(struct text *room, const char *prefix, int flags);
 const char *reports_text(struct text *room, const struct epoll_event *events, int count);
@@ -191,7 +197,7 @@ struct waiting {
 struct options {
     uint32_t switches; /* bit n is option n */
     int send_room, receive_room, priority;
-    int64_t send_time, receive_time; /* in milliseconds; 0 is no end */
+    int64_t send_time, receive_time; /* in UNITs; 0 is no end */
     struct {
         int on, seconds;
     } linger;
@@ -259,17 +265,22 @@ void end_block(struct block *block);
 
 /* ---- clock.c ---- */
 
-/* The simulated clock, in milliseconds. */
+/* The simulated clock, in UNITs. */
 uint64_t moment_now(void);
-/* In milliseconds, rounded up; -1 where it is no time. */
-int64_t milliseconds(const struct timespec *time);
-struct timespec timespec_of(uint64_t milliseconds);
-/* Lets so much simulated time pass: 0, or -EINTR. */
-int sleep_for(int64_t milliseconds, const char *call);
+/* In UNITs, rounded up; -1 where it is no time. One that is too long for the type is as long as the type has it. */
+int64_t units_of(const struct timespec *time);
+struct timespec timespec_of(uint64_t units);
+/* Lets so many UNITs of simulated time pass: 0, or -EINTR. */
+int sleep_for(int64_t units, const char *call);
 /* Moves the clock to a moment, if it isn't there yet, and sends the signals of alarms whose time has come. */
 void bring_clock_to(uint64_t moment);
-/* The simulated clock at the start, in milliseconds, and CLOCK_REALTIME when it was at 0, in seconds. */
-enum { START = 1000000, EPOCH_SECONDS = 1000000000 - START / 1000 };
+/* Moves the clock on by a millisecond, but not past the next moment at which something happens. */
+void let_clock_go_on(void);
+/* The simulated clock at the start, and what CLOCK_REALTIME was when it was at 0, in seconds and in UNITs. */
+enum { START = 1000 * SECOND, EPOCH_SECONDS = 1000000000 - START / SECOND };
+#define EPOCH ((int64_t)EPOCH_SECONDS * SECOND)
+/* The kernel's clock goes no further. That is 31 years. */
+#define LAST_MOMENT (UINT64_C(1000000000) * SECOND)
 /* Whether a clock is one of those that the simulated clock stands for; whether it tells the time of day. */
 bool is_clock(clockid_t clock);
 bool is_of_day(clockid_t clock);
@@ -278,7 +289,7 @@ bool is_of_day(clockid_t clock);
 
 /* Sends the signals of alarms that are due. */
 void send_alarms(void);
-/* The first moment at which one is due. Whether there is one. */
+/* The first moment at which one is due. Whether there is one, and the clock can be there. */
 bool next_alarm(uint64_t *moment);
 
 /* ---- harm.c: what would change the machine by a made-up value ---- */

@@ -6,7 +6,6 @@
    thread's own is parked. A wait that it breaks has to leave the kernel, which knows no signals: see leave. */
 #include "preload.h"
 
-#include <limits.h>
 #include <linux/futex.h>
 #include <pthread.h>
 #include <stdio.h>
@@ -65,12 +64,12 @@ static void answer(struct sleeper *s, int result) {
 
 /* ---- parking, and asking ---- */
 
-/* Begins a wait in the kernel, or goes on with it. One of more than INT_MAX milliseconds has several parts. */
+/* Begins a wait in the kernel, or begins it again for as long as it has left. */
 static int park(struct sleeper *s) {
     uint64_t now = moment_now();
-    int64_t left = s->end == NEVER ? -1 : s->end > now ? (int64_t)(s->end - now) : 0;
-    return nippersage_wait_start(task_of(s), s->wait->instance, s->wait->events, s->wait->most,
-                                 left > INT_MAX ? INT_MAX : (int)left);
+    struct timespec left = timespec_of(s->end > now ? s->end - now : 0);
+    return nippersage_pwait2_start(task_of(s), s->wait->instance, s->wait->events, s->wait->most,
+                                   s->end == NEVER ? NULL : &left);
 }
 
 static const char bell_mark; /* its address is the data of a bell's registration */
@@ -90,8 +89,6 @@ static void ask(struct sleeper *s) {
         int kept = without_bell(s->wait->events, result);
         s->is_rung = kept == 0;
         result = kept > 0 ? kept : NIPPERSAGE_PARKED;
-    } else if (result == 0 && moment_now() < s->end) {
-        result = park(s);
     }
     if (result != NIPPERSAGE_PARKED) answer(s, result);
 }
@@ -262,7 +259,7 @@ static bool may_be_signalled(void) {
 /* Sleeps until there is news, or moves the clock if nothing but it brings news. */
 static void await_news(struct sleeper *me, bool *has_waited) {
     static const struct timespec moment = {0, 200000};
-    struct timespec patience = timespec_of(settings()->patience);
+    struct timespec patience = timespec_of(settings()->patience * MILLISECOND);
     enum stillness still = how_still(me);
     if (still == GOES_ON) {
         sleep_once(me, NULL, true);
@@ -334,7 +331,8 @@ void leave_waits_below(uintptr_t address) {
 
 /* ---- a program that is never idle ---- */
 
-/* So many waits in a row that find something, at one moment, take a millisecond. Under the lock. */
+/* So many waits in a row that find something, at one moment, take a millisecond, as let_clock_go_on has it. Under the
+   lock. */
 static void count_busy(int found) {
     static uint64_t last;
     static uint64_t times;
@@ -345,7 +343,7 @@ static void count_busy(int found) {
     last = now;
     if (times < most) return;
     times = 0;
-    bring_clock_to(now + 1);
+    let_clock_go_on();
 }
 
 /* ---- waits ---- */

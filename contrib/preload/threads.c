@@ -25,16 +25,18 @@ static atomic_bool is_watching;
 
 /* A wait with a time, as pthread_cond_timedwait. It sleeps in the real kernel, and ends once the simulated clock is
    at its end. The watcher moves the clock to it, and wakes it. Where other threads go on for as long as it is to last
-   and MORE milliseconds, it ends, too, and the clock is brought to its end: CPython's threads take turns so. */
+   and MORE, it ends, too, and the clock is brought to its end: CPython's threads take turns so. */
 struct timed {
     int64_t end;             /* by the simulated clock, or below 0 where it is no time */
-    int64_t left;            /* milliseconds of real time before it ends in any case */
+    int64_t left;            /* UNITs of real time before it ends in any case */
     pthread_cond_t *changed; /* what it waits for, if that has to be woken */
     clockid_t clock;         /* the real clock that the C library waits by */
     struct timespec until;   /* the end of its sleep by that clock */
     struct timed *next;
 };
-enum { MORE = 20, A_SECOND = 1000, SLEEP_ON = -1 };
+enum { MORE = 20 * MILLISECOND, SLEEP_ON = -1 };
+/* So many turns of the watcher, each of a millisecond of real time. */
+enum { A_SECOND = 1000 };
 
 static pthread_mutex_t timed_lock = PTHREAD_MUTEX_INITIALIZER;
 static struct timed *all_timed;
@@ -90,8 +92,10 @@ static void say_endless(int turns) {
 }
 
 bool next_moment(uint64_t *moment) {
+    struct timespec next;
     uint64_t alarm;
-    bool has_one = nippersage_next_moment(the_kernel(), moment) == 1;
+    bool has_one = nippersage_next_moment(the_kernel(), &next) == 1;
+    if (has_one) *moment = (uint64_t)units_of(&next);
     if (!next_alarm(&alarm) || (has_one && *moment <= alarm)) return has_one;
     *moment = alarm;
     return true;
@@ -104,7 +108,8 @@ static bool find_moment(uint64_t *moment) {
     pthread_mutex_lock(&timed_lock);
     for (const struct timed *timed = all_timed; timed; timed = timed->next) {
         uint64_t end = (uint64_t)timed->end;
-        if (!has_one || end < *moment) *moment = end;
+        if (end > LAST_MOMENT || (has_one && end >= *moment)) continue;
+        *moment = end;
         has_one = true;
     }
     pthread_mutex_unlock(&timed_lock);
@@ -241,9 +246,9 @@ int pthread_create(pthread_t *made, const pthread_attr_t *attributes, void *(*ru
 /* Which clock a time is by the time itself says: one begins at START, the other at EPOCH_SECONDS more. */
 static bool is_a_day(const struct timespec *time) { return time->tv_sec >= EPOCH_SECONDS / 2; }
 
-/* So much real time from now ends the wait's next sleep. */
-static void sleep_at_most(struct timed *timed, int64_t count) {
-    struct timespec more = timespec_of((uint64_t)count);
+/* So many UNITs of real time from now end the wait's next sleep. */
+static void sleep_at_most(struct timed *timed, int64_t units) {
+    struct timespec more = timespec_of((uint64_t)units);
     next_clock_gettime()(timed->clock, &timed->until);
     timed->until.tv_sec += more.tv_sec + (timed->until.tv_nsec + more.tv_nsec) / 1000000000;
     timed->until.tv_nsec = (timed->until.tv_nsec + more.tv_nsec) % 1000000000;
@@ -252,16 +257,16 @@ static void sleep_at_most(struct timed *timed, int64_t count) {
 /* A wait on a condition variable sleeps until it is woken, another one for a millisecond at a time. One that nobody can
    end, for want of other threads, doesn't sleep. */
 static void begin_timed(struct timed *timed, const struct timespec *time, pthread_cond_t *changed) {
-    int64_t now = (int64_t)moment_now(), end = milliseconds(time);
+    int64_t now = (int64_t)moment_now(), end = units_of(time);
     QUIET;
     *timed = (struct timed){.end = end, .changed = changed, .until = *time};
     timed->clock = is_a_day(time) ? CLOCK_REALTIME : CLOCK_MONOTONIC;
     if (end < 0) return;
-    if (is_a_day(time)) end -= (int64_t)EPOCH_SECONDS * 1000;
+    if (is_a_day(time)) end -= EPOCH;
     if (end < 0) end = 0;
     timed->end = end;
     timed->left = end <= now || !atomic_load(&is_watching) ? 0 : end - now + MORE;
-    sleep_at_most(timed, changed || timed->left == 0 ? timed->left : 1);
+    sleep_at_most(timed, changed || timed->left == 0 ? timed->left : MILLISECOND);
     self();
     pthread_mutex_lock(&timed_lock);
     timed->next = all_timed;
@@ -274,9 +279,9 @@ static int error_of_timed(struct timed *timed, int error) {
     if (timed->end < 0 || (error != ETIMEDOUT && !(error == 0 && timed->changed))) return error;
     if ((int64_t)moment_now() >= timed->end) return ETIMEDOUT;
     if (error == 0) return 0;
-    timed->left = timed->changed ? 0 : timed->left - 1;
+    timed->left = timed->changed ? 0 : timed->left - MILLISECOND;
     if (timed->left > 0) {
-        sleep_at_most(timed, 1);
+        sleep_at_most(timed, MILLISECOND);
         return SLEEP_ON;
     }
     bring_clock_to((uint64_t)timed->end);
@@ -343,10 +348,10 @@ TIMED_BY_ERRNO(sem_timedwait, int, (sem_t *restrict semaphore, const struct time
 TIMED_BY_ERRNO(sem_clockwait, int, (sem_t *restrict semaphore, clockid_t clock, const struct timespec *restrict time),
                (semaphore, clock, &timed.until))
 
-/* One that is to last so long ends at this moment of CLOCK_MONOTONIC. */
-static struct timespec end_of(int64_t count) {
-    static const int64_t most = INT64_C(400000000000); /* 12 years */
-    return timespec_of(moment_now() + (uint64_t)(count < most ? count : most));
+/* One that is to last so many UNITs ends at this moment of CLOCK_MONOTONIC. */
+static struct timespec end_of(int64_t units) {
+    static const int64_t most = INT64_C(400000000) * SECOND; /* 12 years */
+    return timespec_of(moment_now() + (uint64_t)(units < most ? units : most));
 }
 
 /* Until a moment waits FUTEX_WAIT_BITSET, as Rust's standard library does, and for so long FUTEX_WAIT, as that of C++
@@ -360,9 +365,9 @@ long call_futex(const long given[6]) {
     struct timespec end;
     struct timed timed;
     int error = 0;
-    if (!time || !(is_until || (is_for && milliseconds(time) >= 0)))
+    if (!time || !(is_until || (is_for && units_of(time) >= 0)))
         return next_syscall()(SYS_futex, given[0], given[1], given[2], given[3], given[4], given[5]);
-    end = is_until ? *time : end_of(milliseconds(time));
+    end = is_until ? *time : end_of(units_of(time));
     begin_timed(&timed, &end, NULL);
     do {
         bool has_slept = error == SLEEP_ON;
@@ -381,8 +386,8 @@ int sigtimedwait(const sigset_t *restrict set, siginfo_t *restrict info, const s
     struct timespec slice = {0, 0}, end;
     struct timed timed;
     int signal, error = 0;
-    if (!time || milliseconds(time) < 0) return next_sigtimedwait()(set, info, time);
-    end = end_of(milliseconds(time));
+    if (!time || units_of(time) < 0) return next_sigtimedwait()(set, info, time);
+    end = end_of(units_of(time));
     begin_timed(&timed, &end, NULL);
     do {
         if (timed.left > 0) slice.tv_nsec = 1000000;

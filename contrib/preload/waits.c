@@ -3,18 +3,44 @@
 #include "preload.h"
 
 #include <poll.h>
+#include <stdio.h>
 #include <stdlib.h>
 #include <sys/select.h>
-#include <sys/time.h>
 
 FORWARD(poll)
 FORWARD(ppoll)
 FORWARD(select)
 FORWARD(pselect)
 
-/* A program that polls goes on until its clock has gone on. So a poll that finds nothing takes a millisecond. */
-static void take_a_while(int found, int64_t timeout) {
-    if (found == 0 && timeout == 0) bring_clock_to(moment_now() + 1);
+/* How long a call waits at most, and how the log has it. */
+struct timeout {
+    int64_t units; /* without end below 0, or where it is no time */
+    struct text said;
+};
+
+static struct timeout in_milliseconds(int given) {
+    struct timeout timeout = {.units = given < 0 ? -1 : (int64_t)given * MILLISECOND};
+    if (is_logged) snprintf(timeout.said.of, sizeof timeout.said.of, "%d", given);
+    return timeout;
+}
+
+static struct timeout in_time(const struct timespec *given) {
+    struct timeout timeout = {.units = given ? units_of(given) : -1};
+    if (is_logged) time_text(&timeout.said, given);
+    return timeout;
+}
+
+/* As select(2) has it. */
+static struct timeout in_short_time(const struct timeval *given) {
+    struct timespec same = {given ? given->tv_sec : 0, given ? given->tv_usec * 1000 : 0};
+    struct timeout timeout = {.units = given ? units_of(&same) : -1};
+    if (is_logged) short_time_text(&timeout.said, given);
+    return timeout;
+}
+
+/* A poll that finds nothing takes a while: a program that polls may do so until its clock has gone on. */
+static void take_a_while(int found, int64_t units) {
+    if (found == 0 && units == 0) let_clock_go_on();
 }
 
 /* A mask of signals for the time of a wait, if there is one. */
@@ -60,12 +86,12 @@ int epoll_ctl(int epfd, int op, int fd, struct epoll_event *event) {
                        event_text(TEXT, op == EPOLL_CTL_DEL ? NULL : event));
 }
 
-static int wait_in(int epfd, struct epoll_event *events, int most, int64_t timeout, const sigset_t *mask,
+static int wait_in(int epfd, struct epoll_event *events, int most, struct timeout timeout, const sigset_t *mask,
                    const char *call) {
     QUIET;
     struct description *description = hold(epfd);
     struct wait wait = {.instance = epfd - FIRST, .place = description, .events = events, .most = most,
-                        .timeout = timeout, .call = call};
+                        .timeout = timeout.units, .call = call};
     struct masking masking = begin_masking(mask);
     int count = -EBADF;
     if (description) {
@@ -73,23 +99,24 @@ static int wait_in(int epfd, struct epoll_event *events, int most, int64_t timeo
         let_go(description);
     }
     end_masking(masking);
-    take_a_while(count, timeout);
-    return (int)ANSWER(count, "%s(%d, %s, %d, %lld)", call, epfd, reports_text(TEXT, events, count), most,
-                       (long long)timeout);
+    take_a_while(count, timeout.units);
+    return (int)ANSWER(count, "%s(%d, %s, %d, %s)", call, epfd, reports_text(TEXT, events, count), most,
+                       timeout.said.of);
 }
 
 int epoll_wait(int epfd, struct epoll_event *events, int most, int timeout) {
-    return wait_in(epfd, events, most, timeout, NULL, "epoll_wait");
+    return wait_in(epfd, events, most, in_milliseconds(timeout), NULL, "epoll_wait");
 }
 
 int epoll_pwait(int epfd, struct epoll_event *events, int most, int timeout, const sigset_t *mask) {
-    return wait_in(epfd, events, most, timeout, mask, "epoll_pwait");
+    return wait_in(epfd, events, most, in_milliseconds(timeout), mask, "epoll_pwait");
 }
 
-int epoll_pwait2(int epfd, struct epoll_event *events, int most, const struct timespec *timeout, const sigset_t *mask) {
-    int64_t least = timeout ? milliseconds(timeout) : -1;
-    if (timeout && least < 0) return (int)ANSWER(-EINVAL, "epoll_pwait2(%d)", epfd);
-    return wait_in(epfd, events, most, least, mask, "epoll_pwait2");
+/* As on Linux, what is no time is told before what is no instance. */
+int epoll_pwait2(int epfd, struct epoll_event *events, int most, const struct timespec *time, const sigset_t *mask) {
+    struct timeout timeout = in_time(time);
+    if (time && timeout.units < 0) return (int)ANSWER(-EINVAL, "epoll_pwait2(%d, %s)", epfd, timeout.said.of);
+    return wait_in(epfd, events, most, timeout, mask, "epoll_pwait2");
 }
 
 /* ---- calls that block ---- */
@@ -189,25 +216,25 @@ struct source {
     struct epoll_event *events;
 };
 
-static int wait_once(struct sought *sought, const struct source *from, int64_t timeout, const char *call) {
+static int wait_once(struct sought *sought, const struct source *from, int64_t units, const char *call) {
     struct wait wait = {.instance = from->instance, .events = from->events, .most = NUMBERS,
-                        .timeout = sought->has_closed ? 0 : timeout, .call = call};
+                        .timeout = sought->has_closed ? 0 : units, .call = call};
     int count = wait_at(&wait);
     for (int i = 0; i < count; i++) sought->shown[from->events[i].data.u64] = from->events[i].events;
     sought->has_found = count > 0;
-    if (!sought->has_closed) take_a_while(count, timeout);
+    if (!sought->has_closed) take_a_while(count, units);
     return count;
 }
 
 /* Waits until one of them shows something, or the time has passed. 0, or minus an error number. */
-static int seek(struct sought *sought, int64_t timeout, const char *call) {
+static int seek(struct sought *sought, int64_t units, const char *call) {
     struct source from = {-ENOMEM, sought->lacks_memory ? NULL : malloc((size_t)NUMBERS * sizeof *from.events)};
     int status;
     if (from.events) from.instance = make_own_instance();
     status = from.instance;
     if (from.instance >= 0) {
         status = register_all(sought, from.instance);
-        if (status == 0) status = wait_once(sought, &from, timeout, call);
+        if (status == 0) status = wait_once(sought, &from, units, call);
         end_own(from.instance);
     }
     free(from.events);
@@ -215,8 +242,8 @@ static int seek(struct sought *sought, int64_t timeout, const char *call) {
 }
 
 /* The answer to a wait on real descriptors only: while it passed, time went on here, too. */
-static int real_answer(int found, int64_t timeout) {
-    if (found == 0 && timeout > 0) bring_clock_to(moment_now() + (uint64_t)timeout);
+static int real_answer(int found, int64_t units) {
+    if (found == 0 && units > 0) bring_clock_to(moment_now() + (uint64_t)units);
     return found;
 }
 
@@ -235,37 +262,38 @@ static int put_shown(const struct sought *sought, struct pollfd *files, nfds_t c
     return found;
 }
 
-static int poll_simulated(struct sought *sought, struct pollfd *files, nfds_t count, int64_t timeout,
-                          const sigset_t *mask) {
+static int poll_simulated(struct sought *sought, struct pollfd *files, nfds_t count, struct timeout timeout,
+                          const sigset_t *mask, const char *call) {
     QUIET;
     struct masking masking = begin_masking(mask);
-    int status = sought->has_simulated ? seek(sought, timeout, "poll") : sleep_for(timeout, "poll");
-    if (status == 0 && mask && timeout == 0 && !finds_any(sought) && let_pending_run()) status = -EINTR;
+    int status = sought->has_simulated ? seek(sought, timeout.units, call) : sleep_for(timeout.units, call);
+    if (status == 0 && mask && timeout.units == 0 && !finds_any(sought) && let_pending_run()) status = -EINTR;
     end_masking(masking);
     if (status == 0) status = put_shown(sought, files, count);
-    return (int)ANSWER(status, "poll(..., %lu, %lld)", count, (long long)timeout);
+    return (int)ANSWER(status, "%s(..., %lu, %s)", call, count, timeout.said.of);
 }
 
 static void want_all(struct sought *sought, struct pollfd *files, nfds_t count) {
     for (nfds_t i = 0; i < count; i++) want(sought, files[i].fd, (uint16_t)files[i].events);
 }
 
-int poll(struct pollfd *files, nfds_t count, int timeout) {
+int poll(struct pollfd *files, nfds_t count, int given) {
     SOUGHT sought = {.highest = -1};
+    struct timeout timeout = in_milliseconds(given);
     want_all(&sought, files, count);
     if (sought.has_real && sought.has_simulated) return mixes("poll");
-    if (sought.has_real) return real_answer(next_poll()(files, count, timeout), timeout);
-    return poll_simulated(&sought, files, count, timeout, NULL);
+    if (sought.has_real) return real_answer(next_poll()(files, count, given), timeout.units);
+    return poll_simulated(&sought, files, count, timeout, NULL, "poll");
 }
 
 int ppoll(struct pollfd *files, nfds_t count, const struct timespec *time, const sigset_t *mask) {
     SOUGHT sought = {.highest = -1};
-    int64_t timeout = time ? milliseconds(time) : -1;
+    struct timeout timeout = in_time(time);
     want_all(&sought, files, count);
     if (sought.has_real && sought.has_simulated) return mixes("ppoll");
-    if (sought.has_real) return real_answer(next_ppoll()(files, count, time, mask), timeout);
-    if (time && timeout < 0) return (int)ANSWER(-EINVAL, "ppoll(..., %lu)", count);
-    return poll_simulated(&sought, files, count, timeout, mask);
+    if (sought.has_real) return real_answer(next_ppoll()(files, count, time, mask), timeout.units);
+    if (time && timeout.units < 0) return (int)ANSWER(-EINVAL, "ppoll(..., %lu, %s)", count, timeout.said.of);
+    return poll_simulated(&sought, files, count, timeout, mask, "ppoll");
 }
 
 int __poll_chk(struct pollfd *files, nfds_t count, int timeout, size_t room);
@@ -302,34 +330,34 @@ static int put_sets(const struct sought *sought, int most, const struct sets *se
     return found;
 }
 
-static int select_simulated(struct sought *sought, int most, const struct sets *sets, int64_t timeout,
-                            const sigset_t *mask) {
+static int select_simulated(struct sought *sought, int most, const struct sets *sets, struct timeout timeout,
+                            const sigset_t *mask, const char *call) {
     QUIET;
     struct masking masking = begin_masking(mask);
-    int status = sought->has_simulated ? seek(sought, timeout, "select") : sleep_for(timeout, "select");
-    if (status == 0 && mask && timeout == 0 && !finds_any(sought) && let_pending_run()) status = -EINTR;
+    int status = sought->has_simulated ? seek(sought, timeout.units, call) : sleep_for(timeout.units, call);
+    if (status == 0 && mask && timeout.units == 0 && !finds_any(sought) && let_pending_run()) status = -EINTR;
     end_masking(masking);
     if (status == 0 && sought->has_closed) status = -EBADF;
     if (status == 0) status = put_sets(sought, most, sets);
-    return (int)ANSWER(status, "select(%d, ..., %lld)", most, (long long)timeout);
+    return (int)ANSWER(status, "%s(%d, ..., %s)", call, most, timeout.said.of);
 }
 
 /* As Linux does, tells in *time how much of it is left. */
 int select(int most, fd_set *reads, fd_set *writes, fd_set *excepts, struct timeval *time) {
     struct sets sets = {{reads, writes, excepts}};
     SOUGHT sought = {.highest = -1};
-    struct timespec given = {time ? time->tv_sec : 0, time ? time->tv_usec * 1000 : 0};
-    int64_t timeout = time ? milliseconds(&given) : -1;
-    uint64_t end = moment_now() + (uint64_t)(timeout < 0 ? 0 : timeout), now;
+    struct timeout timeout = in_short_time(time);
+    uint64_t end = moment_now() + (uint64_t)(timeout.units < 0 ? 0 : timeout.units), now;
+    struct timespec left;
     int found;
     want_sets(&sought, most, &sets);
     if (sought.has_real && sought.has_simulated) return mixes("select");
-    if (sought.has_real) return real_answer(next_select()(most, reads, writes, excepts, time), timeout);
-    if (time && timeout < 0) return (int)ANSWER(-EINVAL, "select(%d)", most);
-    found = select_simulated(&sought, most, &sets, timeout, NULL);
+    if (sought.has_real) return real_answer(next_select()(most, reads, writes, excepts, time), timeout.units);
+    if (time && timeout.units < 0) return (int)ANSWER(-EINVAL, "select(%d, ..., %s)", most, timeout.said.of);
+    found = select_simulated(&sought, most, &sets, timeout, NULL, "select");
     now = moment_now();
-    given = timespec_of(now < end ? end - now : 0);
-    if (time) *time = (struct timeval){given.tv_sec, given.tv_nsec / 1000};
+    left = timespec_of(now < end ? end - now : 0);
+    if (time) *time = (struct timeval){left.tv_sec, left.tv_nsec / 1000};
     return found;
 }
 
@@ -337,10 +365,10 @@ int pselect(int most, fd_set *reads, fd_set *writes, fd_set *excepts, const stru
             const sigset_t *mask) {
     struct sets sets = {{reads, writes, excepts}};
     SOUGHT sought = {.highest = -1};
-    int64_t timeout = time ? milliseconds(time) : -1;
+    struct timeout timeout = in_time(time);
     want_sets(&sought, most, &sets);
     if (sought.has_real && sought.has_simulated) return mixes("pselect");
-    if (sought.has_real) return real_answer(next_pselect()(most, reads, writes, excepts, time, mask), timeout);
-    if (time && timeout < 0) return (int)ANSWER(-EINVAL, "pselect(%d)", most);
-    return select_simulated(&sought, most, &sets, timeout, mask);
+    if (sought.has_real) return real_answer(next_pselect()(most, reads, writes, excepts, time, mask), timeout.units);
+    if (time && timeout.units < 0) return (int)ANSWER(-EINVAL, "pselect(%d, ..., %s)", most, timeout.said.of);
+    return select_simulated(&sought, most, &sets, timeout, mask, "pselect");
 }

@@ -53,6 +53,7 @@ class Picture:
         self.has_processes = len({it.pid for it in self.lives}) > 1
         callers = {it.caller for it in story.records[first : last + 1]} | {it.caller for it in self.waits}
         labels = [f"caller {it}" for it in callers] + [self.label(it) for it in self.lives]
+        self.unit = words.unit_of(self.times())
         self.left = ceil(MARGIN + max(map(len, labels)) * WORD + 18)
         self.width, self.drawing, self.used = width, Drawing(), set()
         self.bands = self.lay_out()
@@ -66,6 +67,12 @@ class Picture:
         used = {id(it) for it in found}
         lives = [it for it in self.story.lives if id(it) in used or self.is_named(it)]
         return sorted(lives, key=lambda it: (it.pid, it.fd))
+
+    def times(self):
+        """All times that are drawn: those of the clock, and those of calls and answers."""
+        drawn = range(self.first, self.last + 1)
+        moments = [self.story.scenes[at].now for at in [max(self.first - 1, 0), *drawn]]
+        return moments + [it for at in drawn for it in words.times_of(self.story.records[at])]
 
     def is_named(self, life):
         """Whether a record drawn opens or closes it: what fork copies and exit closes is left out until it is used."""
@@ -83,7 +90,7 @@ class Picture:
     def texts(self, at):
         """The texts of a record: the row of each, how far it reaches to the right."""
         record, scene = self.story.records[at], self.story.scenes[at]
-        found = [(f"caller {record.caller}", len(words.word(record)) * WORD)]
+        found = [(f"caller {record.caller}", len(self.word(record)) * WORD)]
         if record.tick is not None:
             found.append(("clock", len(self.moment(at)) * SMALL))
         if scene.link and scene.link.act != DEL:
@@ -91,8 +98,11 @@ class Picture:
             found.append(((target.pid, target.fd), len(self.mask(scene.link)) * SMALL + 8))
         return found
 
+    def word(self, record):
+        return words.word(record, self.unit)
+
     def moment(self, at):
-        return f"{self.story.scenes[at].now} ms"
+        return words.moment(self.story.scenes[at].now, self.unit)
 
     def mask(self, link):
         return words.clipped(words.mask(link.mask))
@@ -179,7 +189,7 @@ class Picture:
         self.drawing.text(MARGIN, y + 4, "clock", "muted")
         self.drawing.line(self.left, y, band.right, y, "line")
         before = self.story.scenes[band.first - 1].now if band.first else 0
-        self.drawing.text(self.left, y - 6, f"{before} ms", "small muted")
+        self.drawing.text(self.left, y - 6, words.moment(before, self.unit), "small muted")
         for at, x in band.xs.items():
             self.drawing.text(x, y - CLOCK + 5, str(at + 1), "small muted", "middle")
 
@@ -276,7 +286,7 @@ class Picture:
         is_waiting = record.answer[0] in ("still", "parked")
         self.sign("parks, or stays parked" if is_waiting else "refused" if kind == "error" else "event")
         self.drawing.circle(x, y, 4, "hollow ink" if is_waiting else kind, title)
-        self.drawing.text(x - 4, y - 11, words.word(record), "error" if kind == "error" else "", title=title)
+        self.drawing.text(x - 4, y - 11, self.word(record), "error" if kind == "error" else "", title=title)
 
     def draw_link(self, band, link, x, title):
         above, below = band.ys[link.instance.pid, link.instance.fd], band.ys[link.target.pid, link.target.fd]

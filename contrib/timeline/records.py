@@ -6,7 +6,7 @@ import re
 from collections import namedtuple
 
 #: `line` counts from 1. `pid` and `call` are those of a call; `tick` is by how much a tick goes on; a resumption has
-#: neither. `answer` is the key of the answer with its value, and `text` the line itself.
+#: neither. `answer` is the key of the answer with its value, and `text` the line itself. Times are microseconds.
 Record = namedtuple("Record", "line caller pid call tick answer picked text")
 
 ERRORS = {
@@ -173,5 +173,5 @@ def ticked(line, raw):
 
 
 def moments(lines):
-    """The clock behind each of these lines, in milliseconds. It reads the ticks and no more. Raises BadLine."""
+    """The clock behind each of these lines, in microseconds. It reads the ticks and no more. Raises BadLine."""
     return itertools.accumulate(ticked(line, raw) for line, raw in enumerate(lines, 1))

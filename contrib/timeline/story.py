@@ -81,7 +81,7 @@ class Link:
 
 @dataclass
 class Scene:
-    """What one record touches, and the clock behind it."""
+    """What one record touches, and the clock behind it, in microseconds."""
 
     now: int
     touched: list = field(default_factory=list)

@@ -1,6 +1,30 @@
 """The short words for a record. Needs Python 3.8."""
 
+from collections import namedtuple
+
 from story import ADD, DEL, MOD
+
+#: A unit of time, and how many microseconds it has.
+Unit = namedtuple("Unit", "name size")
+MICROSECOND, MILLISECOND = Unit("us", 1), Unit("ms", 1000)
+
+
+def unit_of(times):
+    """The unit for all of these times, which are microseconds: the greater one if each is a whole number of it."""
+    return MICROSECOND if any(it % MILLISECOND.size for it in times) else MILLISECOND
+
+
+def moment(time, unit):
+    return f"{time // unit.size} {unit.name}"
+
+
+def times_of(record):
+    """The times that the word for a record has."""
+    if record.tick is not None:
+        return [record.tick]
+    asked_for = [record.call.get(key, 0) for key in ("timeout", "value", "interval")] if record.call else []
+    key, value = record.answer
+    return [it for it in asked_for if it > 0] + (value if key == "time" else [])
 
 BITS = {1: "IN", 2: "PRI", 4: "OUT", 8: "ERR", 16: "HUP", 8192: "RDHUP", 1 << 28: "EXCLUSIVE", 1 << 29: "WAKEUP",
         1 << 30: "ONESHOT", 1 << 31: "ET"}
@@ -37,7 +61,7 @@ def reports(found):
     return " ".join(f"[{mask(bits)} {data}]" for bits, data in found)
 
 
-def answer(record):
+def answer(record, unit):
     """What is behind the colon; nothing for an answer that says no more than that the call was made."""
     key, value = record.answer
     if key == "err":
@@ -46,8 +70,10 @@ def answer(record):
         return some_bytes(value)
     if key == "events":
         return reports(value)
-    if key in ("two", "time"):
+    if key == "two":
         return f"{value[0]}, {value[1]}"
+    if key == "time":
+        return f"{value[0] // unit.size}, {value[1] // unit.size}"
     return {"num": str(value), "still": "still"}.get(key, "")
 
 
@@ -56,25 +82,26 @@ def control(call):
     return f"{name} {call['fd']} {between} {call['ep']}"
 
 
-def asked(call):
+def asked(call, unit):
     """What a call asks for."""
     if call["op"] == "ctl":
         return control(call)
     if call["op"] == "wait":
-        return f"wait {call['ep']}" + (f", {call['timeout']} ms" if call["timeout"] > 0 else "")
+        return f"wait {call['ep']}" + (f", {moment(call['timeout'], unit)}" if call["timeout"] > 0 else "")
     if call["op"] == "settime":
-        return f"settime {call['fd']} {'at' if call['abs'] else 'in'} {call['value']}, {call['interval']}"
+        value, interval = call["value"] // unit.size, call["interval"] // unit.size
+        return f"settime {call['fd']} {'at' if call['abs'] else 'in'} {value}, {interval}"
     numbers = [str(call[key]) for key in ("fd", "to") if key in call]
     return " ".join([call["op"], *numbers])
 
 
-def word(record):
-    """A record in a few characters, as `write 4: 3`."""
+def word(record, unit):
+    """A record in a few characters, as `write 4: 3`, with times in this unit."""
     if record.tick is not None:
-        before = f"tick {record.tick}"
+        before = f"tick {record.tick // unit.size}"
     elif record.call is None:
         before = "resume"
     else:
-        before = f"p{record.pid} " * (record.pid != 1) + asked(record.call)
-    behind = answer(record)
+        before = f"p{record.pid} " * (record.pid != 1) + asked(record.call, unit)
+    behind = answer(record, unit)
     return clipped(f"{before}: {behind}" if behind else before)

@@ -133,6 +133,44 @@ static void timer(int clock) {
     close(instance);
 }
 
+/* How many nanoseconds an epoll_pwait2 of so many takes, if it finds nothing. */
+static long took(int instance, long count) {
+    struct timespec before, after, time = {0, count};
+    struct epoll_event event;
+    long found;
+    clock_gettime(CLOCK_MONOTONIC, &before);
+    found = outcome(epoll_pwait2(instance, &event, 1, &time, NULL));
+    clock_gettime(CLOCK_MONOTONIC, &after);
+    return found != 0 ? found : (after.tv_sec - before.tv_sec) * 1000000000 + after.tv_nsec - before.tv_nsec;
+}
+
+/* Times below a millisecond, and what is no time: that is said before what is no instance. */
+static void short_times(void) {
+    static const struct timespec none[] = {{0, 1000000000}, {0, -1}, {-1, 0}};
+    int instance = epoll_create1(0), fd = timerfd_create(CLOCK_MONOTONIC, TFD_NONBLOCK);
+    struct itimerspec value = {.it_value = {0, 1000}};
+    struct epoll_event event;
+    uint64_t expired = 0;
+    trace("add: %ld", control(instance, EPOLL_CTL_ADD, fd, EPOLLIN));
+    trace("1,500 ns: %d", took(instance, 1500) >= 1500);
+    trace("1 ns: %d", took(instance, 1) >= 1);
+    for (int i = 0; i < 3; i++) {
+        trace("no time: %ld", outcome(epoll_pwait2(instance, &event, 1, &none[i], NULL)));
+        trace("nor an instance: %ld", outcome(epoll_pwait2(-1, &event, 1, &none[i], NULL)));
+        value.it_interval = none[i];
+        trace("no interval: %ld", outcome(timerfd_settime(fd, 0, &value, NULL)));
+    }
+    value.it_interval = (struct timespec){0, 0};
+    for (value.it_value.tv_nsec = 1000; value.it_value.tv_nsec > 0; value.it_value.tv_nsec /= 10) {
+        trace("settime: %ld", outcome(timerfd_settime(fd, 0, &value, NULL)));
+        wait_once(instance, -1);
+        trace("read: %ld", outcome(read(fd, &expired, sizeof expired)));
+        trace("expired: %llu", (unsigned long long)expired);
+    }
+    close(fd);
+    close(instance);
+}
+
 int main(void) {
     chain();
     edges();
@@ -140,6 +178,7 @@ int main(void) {
     exclusive();
     timer(CLOCK_MONOTONIC);
     timer(CLOCK_REALTIME);
+    short_times();
     trace("close: %ld", outcome(close(-1)));
     return 0;
 }

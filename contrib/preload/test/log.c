@@ -1,9 +1,12 @@
 /* A few calls, one of each form that the log has. log.out is the log, in the form of strace -ttt. */
+#include <poll.h>
 #include <stdint.h>
 #include <sys/epoll.h>
 #include <sys/eventfd.h>
+#include <sys/select.h>
 #include <sys/socket.h>
 #include <sys/timerfd.h>
+#include <time.h>
 #include <unistd.h>
 
 int main(void) {
@@ -21,5 +24,12 @@ int main(void) {
     wrong += read(sides[0], &expired, sizeof expired) != -1;
     wrong += close(timer);
     wrong += close(timer) != -1;
+    wrong += epoll_pwait2(instance, found, 8, &(struct timespec){0, 1500}, NULL);
+    wrong += epoll_pwait2(instance, found, 8, &(struct timespec){0, 1000000000}, NULL) != -1;
+    wrong += poll(NULL, 0, 20);
+    wrong += ppoll(NULL, 0, &(struct timespec){0, 1}, NULL);
+    wrong += select(0, NULL, NULL, NULL, &(struct timeval){0, 7});
+    wrong += pselect(0, NULL, NULL, NULL, &(struct timespec){0, 1000}, NULL);
+    wrong += clock_nanosleep(CLOCK_MONOTONIC, 0, &(struct timespec){0, 1}, NULL);
     return wrong;
 }

@@ -1,7 +1,8 @@
-/* A wait that only a real signal from outside can end: one comes to `signalled`, and none to `alone`. Simulated only:
-   check sends it. */
+/* A wait that only a real signal from outside can end. Simulated only: check sends it, or none. With the word `pause`
+   one ends a pause before. With `alarm` there is an alarm, past the last moment of the clock, which never comes. */
 #include "trace.h"
 
+#include <limits.h>
 #include <signal.h>
 #include <string.h>
 #include <sys/epoll.h>
@@ -17,11 +18,12 @@ static void note(int signal) {
 int main(int count, char **words) {
     struct sigaction action = {.sa_handler = note};
     struct epoll_event event;
-    (void)words;
+    const char *way = count > 1 ? words[1] : "";
     sigaction(SIGUSR1, &action, NULL);
     printf("ready\n");
     fflush(stdout);
-    if (count > 1) pause();
+    if (strcmp(way, "pause") == 0) pause();
+    if (strcmp(way, "alarm") == 0) alarm(UINT_MAX);
     long result = outcome(epoll_wait(epoll_create1(0), &event, 1, -1));
     printf("%ld, %d came\n", result, (int)came);
     return 0;
