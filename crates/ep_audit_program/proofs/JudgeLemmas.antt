@@ -1,5 +1,5 @@
 -- A judge that is told one record more.
-use Rattle.std.proofs.Common.{◌≡◌, ◌∙◌, ◌+◌, ◌++◌, ◌<◌, ◌≤◌, ◌∷◌, [], ℕ, Bool, List, None, Option, Some, ap, arith, false, is_some, length, length-append, refl, sym, take, true}
+use Rattle.std.proofs.Common.{◌≡◌, ◌∙◌, ◌+◌, ◌++◌, ◌<◌, ◌∷◌, [], ℕ, Bool, List, None, Option, Some, ap, arith, false, is_some, length, length-append, refl, sym, take, true}
 use Rattle.std.specs.List.{slice_get}
 use Rattle.std.proofs.Math.Seq.{get_or-append_seam, take-append-add, take-append_seam}
 use Rattle.std.proofs.lemmas.List.{get_or_append_left, take-append-le}
@@ -7,7 +7,6 @@ use Rattle.std.proofs.lemmas.Option.{get_or_from_slice_get, slice_get_read, slic
 use Rattle.ep_base.specs.Limits.{Limits}
 use Rattle.ep_base.specs.declared.record.Record.{Record}
 use Rattle.ep_machine.specs.Run.{is_run}
-use Rattle.ep_audit.specs.Audit.{IsFirstIllegal}
 use Rattle.ep_audit.specs.Auditor.{HasAllowed, Judges}
 use Rattle.ep_audit_program.specs.declared.judge.Illegal.{Illegal as IllegalRecord}
 use Rattle.ep_audit.specs.declared.auditor.Auditor.{Auditor}
@@ -85,33 +84,9 @@ pub had_allowed : (limits : Limits) (records : List Record) (lines : List (List 
 had_allowed limits records lines judge None e p = p
 had_allowed limits records lines judge (Some found) e p = absurd (not_both (sym e))
 
-pub has_none : (limits : Limits) (records : List Record) (lines : List (List ℕ)) (judge : Judge) (o : Option IllegalRecord)
-    → is_some o ≡ false
-    → HasAllowed limits records judge.auditor
-    → Found limits records lines judge o
-has_none limits records lines judge None e p = p
-has_none limits records lines judge (Some found) e p = absurd (not_both (sym e))
-
-allowed_when : (limits : Limits) (records : List Record) (auditor : Auditor) (b : Bool) → b ≡ true → Judges limits records auditor b → HasAllowed limits records auditor
-allowed_when limits records auditor true e p = p
-allowed_when limits records auditor false e p = absurd (not_both e)
-
 none_when : (limits : Limits) (records : List Record) (auditor : Auditor) (b : Bool) → b ≡ false → Judges limits records auditor b → is_run limits records ≡ false
 none_when limits records auditor true e p = absurd (not_both (sym e))
 none_when limits records auditor false e p = p
-
--- the auditor allowed it
-pub told_allowed : (limits : Limits) (records : List Record) (lines : List (List ℕ)) (old new : Judge) (r : Record) (line : List ℕ) (b : Bool)
-    → is_some old.illegal ≡ false
-    → new.illegal ≡ old.illegal
-    → ((limits : Limits) (records : List Record) → HasAllowed limits records old.auditor → Judges limits (records ++ r ∷ []) new.auditor b)
-    → b ≡ true
-    → WasTold limits records lines old
-    → WasTold limits (records ++ r ∷ []) (lines ++ line ∷ []) new
-told_allowed limits records lines old new r line b none same judges good told =
-    let had : HasAllowed limits records old.auditor = had_allowed limits records lines old old.illegal none told in
-    let now : HasAllowed limits (records ++ r ∷ []) new.auditor = allowed_when limits (records ++ r ∷ []) new.auditor b good (judges limits records had) in
-    has_none limits (records ++ r ∷ []) (lines ++ line ∷ []) new new.illegal (ap is_some same ∙ none) now
 
 -- it did not
 pub told_illegal : (limits : Limits) (records : List Record) (lines : List (List ℕ)) (old : Judge) (auditor : Auditor) (found : IllegalRecord) (r : Record) (line : List ℕ) (b : Bool)

@@ -1,7 +1,6 @@
 -- The choice among the exclusive registrations on a description.
-use Rattle.std.proofs.Common.{◌≡◌, ◌≢◌, ◌∙◌, ◌==◌, ◌&&◌, ℕ, All, Bool, true, false, IsSome, List, [], ◌∷◌, Option, Some, ap, arith, cond, filter, find, inl, inr, map, refl, subst, sym}
+use Rattle.std.proofs.Common.{◌≡◌, ◌∙◌, ◌==◌, ◌&&◌, ℕ, All, Bool, true, false, IsSome, List, [], ◌∷◌, Option, Some, ap, cond, filter, find, inl, inr, map, refl, subst, sym}
 use Rattle.std.specs.Option.{option_map}
-use Rattle.std.proofs.lemmas.Bool.Decides.{nat_tests}
 use Rattle.std.proofs.lemmas.List.Elements.{All-cons, All-filter, All-head, All-nil, All-tail}
 use Rattle.ep_base.specs.declared.ids.DescId.{DescId}
 use Rattle.ep_base.specs.declared.ids.EntryId.{EntryId}
@@ -112,12 +111,6 @@ module _ (v : Seen) (now : ℕ) (r : Registrations) (ws : List Waiter) (n : ℕ)
 
   pub choose_kept : (p : EntryId × Entry) (left : List (EntryId × Entry)) → Chooses v now r ws n desc (p ∷ left) → IsKept v r p
   choose_kept p left h = All-head (IsKept v r) p left h.each
-
--- tests of the event in which something was passed on
-pub not_passed : (a b : ℕ) (c : Bool) → a ≢ b → (a == b && c) ≡ false
-not_passed a b c h = ap (λ (t : Bool). t && c) (apart a b h) where
-  apart : (a b : ℕ) → a ≢ b → (a == b) ≡ false
-  apart a b h = grind (arith, nat_tests, h)
 
 pub passed : (a b : ℕ) (f c : Bool) → a ≡ b → f ≡ c → (a == b && c) ≡ f
 passed a b f c e h = ap (λ (t : Bool). t && c) (same_test a b e) ∙ sym h

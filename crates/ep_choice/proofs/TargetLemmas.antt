@@ -1,14 +1,14 @@
 -- The targets of the exclusive registrations that pass something on.
-use Rattle.std.proofs.Common.{◌≡◌, ◌∙◌, ◌+◌, ◌<◌, ◌==◌, ◌||◌, ℕ, Bool, true, List, [], None, Option, Some, ap, cond, get_or, inl, inr, length, refl, subst, sym, take}
-use Rattle.std.proofs.lemmas.Bool.{cases_Bool, false≢true}
+use Rattle.std.proofs.Common.{◌≡◌, ◌∙◌, ◌+◌, ◌<◌, ◌==◌, ◌||◌, ℕ, Bool, true, List, None, Option, Some, ap, cond, get_or, inl, inr, length, refl, subst, sym, take}
+use Rattle.std.proofs.lemmas.Bool.{cases_Bool}
 use Rattle.std.proofs.lemmas.List.{take_more}
 use Rattle.std.proofs.lemmas.List.Recursion.{or_push}
 use Rattle.ep_base.specs.declared.ids.DescId.{DescId}
 use Rattle.ep_base.specs.declared.ids.EntryId.{EntryId}
-use Rattle.ep_choice.specs.Narrow.{AreTargets, HasTargets, HaveTargets, exclusive_target, with_target}
+use Rattle.ep_choice.specs.Narrow.{AreTargets, exclusive_target, with_target}
 use Rattle.ep_climb.proofs.WalkLemmas.{reaches_one}
 use Rattle.ep_interest.specs.Exclusive.{is_exclusive}
-use Rattle.ep_interest.specs.Passes.{has_id, passes_on}
+use Rattle.ep_interest.specs.Passes.{has_id}
 use Rattle.ep_interest.specs.Registrations.{Registrations, entry_under}
 use Rattle.ep_interest.specs.declared.entry.Entry.{Entry}
 use Rattle.ep_law.proofs.NarrowLemmas.{either_or}
@@ -24,21 +24,11 @@ target_from (Some x) d e = elim (cases_Bool (is_exclusive x)) [
   | inr f ↦ absurd (let s : None ≡ Some d = sym (ap (λ (b : Bool). cond b (Some x.desc) None) f) ∙ e in cc)
 ]
 
-pub target_room : (r : Registrations) (w : Walk) (id : EntryId) (d : DescId) → HasTargets r w → exclusive_target (entry_under r id) ≡ Some d → d.0 < w.room
-target_room r w id d roomy e = let x = target_from (entry_under r id) d e in subst (λ (k : DescId). k.0 < w.room) x.3 (roomy id x.0 x.1 x.2)
-
 -- once these registrations were asked
 pub record Gone (r : Registrations) (ids : List EntryId) (old new : Walk) : Type 0 where
   pub room : new.room ≡ old.room
   pub sound : AreTargets r new.reached
   pub complete : (k : ℕ) (x : Entry) → has_id ids k ≡ true → entry_under r (record { 0 = k }) ≡ Some x → is_exclusive x ≡ true → is_among new.reached x.desc.0 ≡ true
-
-pub gone_none : (r : Registrations) (w : Walk) → w.reached ≡ [] → Gone r [] w w
-gone_none r w none = record {
-  room = refl;
-  sound = λ k t. absurd (false≢true (sym (ap (λ (ks : List ℕ). is_among ks k) none) ∙ t));
-  complete = λ k x t. absurd (false≢true t);
-}
 
 pub gone_next : (r : Registrations) (ids : List EntryId) (i : ℕ) (z : EntryId) (old mid new : Walk) → i < length ids → Gone r (take i ids) old mid
     → new ≡ with_target (exclusive_target (entry_under r (get_or ids i z))) mid → Gone r (take (i + 1) ids) old new
@@ -76,6 +66,3 @@ gone_next r ids i z old mid new lt h is = by (exclusive_target (entry_under r id
               one.each x.desc.0 ∙ (or_right (is_among mid.reached x.desc.0) (x.desc.0 == d.0) (same_test x.desc.0 d.0 (ap (λ (e : DescId). e.0) same_target)))
         ];
       }
-
-pub gone_all : (r : Registrations) (ids : List EntryId) (old new : Walk) → ((id : EntryId) → has_id ids id.0 ≡ passes_on (entry_under r id)) → Gone r ids old new → HaveTargets r new.reached
-gone_all r ids old new each h id x under exclusive passes = h.complete id.0 x (each id ∙ (ap passes_on under ∙ passes)) under exclusive

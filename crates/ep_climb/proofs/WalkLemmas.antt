@@ -1,7 +1,7 @@
 -- A walk that reaches instances, one after another.
 use Rattle.std.proofs.Common.{◌≡◌, ◌<◌, ◌+◌, ◌++◌, ◌||◌, ◌==◌, ◌⊎◌, ◌↔◌, ◌∙◌, ℕ, suc, Bool, true, false, List, [], ◌∷◌, None, Option, Some, ap, append-nil, append_assoc, arith, cond, get_or, inl, inr, length, nat_lt, refl, rules, subst, sym, take}
 use Rattle.std.proofs.Math.Bool.{or-false, or_assoc}
-use Rattle.std.proofs.lemmas.Bool.{cases_Bool, cases_eq, false≢true}
+use Rattle.std.proofs.lemmas.Bool.{cases_Bool, cases_eq}
 use Rattle.std.proofs.lemmas.List.{map_more, take_more}
 use Rattle.std.proofs.lemmas.List.Recursion.{or_at, or_push}
 use Rattle.std.specs.List.{All}
@@ -170,25 +170,12 @@ passed_of n (Some x) d p = elim (cases_Bool (x.passes_in == n)) [
   | inr g ↦ absurd (let s : None ≡ Some d = sym (ap (λ (b : Bool). cond b (Some x.instance) None) g) ∙ p in cc)
 ]
 
-pub passed_room : (n : ℕ) (r : Registrations) (w : Walk) (id : EntryId) (d : DescId) → AreRoomy r w → passed_by n (entry_under r id) ≡ Some d → d.0 < w.room
-passed_room n r w id d roomy p = let x = passed_of n (entry_under r id) d p in subst (λ (e : DescId). e.0 < w.room) x.3 (roomy id x.0 x.1)
-
 -- the walk over these of the registrations that pass something on
 pub record Walked (n : ℕ) (r : Registrations) (es : List (ℕ × ℕ)) (done : List EntryId) (old new : Walk) : Type 0 where
   pub room : new.room ≡ old.room
   pub closed : IsClosed es new.reached
   pub sound : (i : ℕ) → is_among new.reached i ≡ true → (k : ℕ) × (d : DescId) × PassesTo n r k d × IsFrom es i d.0
   pub found : (i k : ℕ) (d : DescId) → has_id done k ≡ true → PassesTo n r k d → IsFrom es i d.0 → is_among new.reached i ≡ true
-
-pub walked_none : (n : ℕ) (r : Registrations) (es : List (ℕ × ℕ)) (w : Walk) → w.reached ≡ [] → Walked n r es [] w w
-walked_none n r es w none = record {
-  room = refl;
-  closed = λ i j t up. absurd (never j t);
-  sound = λ i t. absurd (never i t);
-  found = λ i k d t p f. absurd (false≢true t);
-} where
-  never : (j : ℕ) → is_among w.reached j ≡ true → ⊥
-  never j t = false≢true (sym (ap (λ (ks : List ℕ). is_among ks j) none) ∙ t)
 
 pub walked_next : (n : ℕ) (r : Registrations) (es : List (ℕ × ℕ)) (ids : List EntryId) (i : ℕ) (z : EntryId) (old mid new : Walk) → i < length ids → Walked n r es (take i ids) old mid
     → AscendsFrom es (passed_by n (entry_under r (get_or ids i z))) mid new → Walked n r es (take (i + 1) ids) old new

@@ -1,5 +1,5 @@
 -- One registration is asked.
-use Rattle.std.proofs.Common.{◌≡◌, ◌≢◌, ◌<◌, ◌≤◌, ◌==◌, ◌||◌, ◌&&◌, ◌∙◌, ◌⊎◌, ℕ, Bool, true, false, cond, filter, length, List, [], ◌∷◌, ◌++◌, None, Option, Some, ap, append-nil, arith, inl, inr, is_some, nat_lt, not, refl, rules, subst, sym}
+use Rattle.std.proofs.Common.{◌≡◌, ◌≢◌, ◌<◌, ◌≤◌, ◌==◌, ◌||◌, ◌&&◌, ◌∙◌, ◌⊎◌, ℕ, Bool, true, false, cond, length, List, [], ◌∷◌, ◌++◌, None, Option, Some, ap, append-nil, arith, inl, inr, is_some, nat_lt, not, refl, subst, sym}
 use Rattle.std.proofs.lemmas.Bool.{cases_Bool, cases_eq, false≢true}
 use Rattle.ep_base.specs.declared.ids.EntryId.{EntryId}
 use Rattle.ep_dates.proofs.KeptLemmas.{AreOne, Changes, apart_one, begun_changes, ended_changes, event_else, event_here, kept_changed, same_one}
@@ -18,7 +18,6 @@ use Rattle.ep_machine.specs.Lists.{is_among}
 use Rattle.ep_base.specs.declared.object.End.{End}
 use Rattle.ep_calls.proofs.EntryLemmas.{one_under, within as number_within}
 use Rattle.ep_calls.specs.Parts.{Parts}
-use Rattle.ep_calls.specs.Readiness.{entry_shows, shown_over}
 use Rattle.ep_calls.specs.Stands.{number_at}
 use mathlib.Core.Bool.{beq}
 use Rattle.ep_interest.specs.Registrations.{IsSound}
@@ -26,7 +25,6 @@ use Rattle.ep_machine.specs.Bits.{ET, asked, has_bit, when}
 use Rattle.ep_machine.specs.Files.{object_of, side_of}
 use Rattle.ep_machine.specs.Objects.{Object, counter, instance, pair, pipe, plain, timer}
 use Rattle.ep_machine.specs.Readiness.{present_of}
-use Rattle.ep_table.specs.Value.{Seen}
 use Rattle.ep_view.proofs.ClimbLemmas.{zero_asked}
 use Rattle.ep_ready.specs.Walk.{Walk, with_reached}
 use Rattle.ep_rings.specs.PlacedRows.{PlacedRows, first_in, keys_at, with_key, with_row}
@@ -210,11 +208,6 @@ module _ (p : Parts) (sound : IsSound p.interest) (way : Bool) (n : ℕ) (id : E
     asked_idle idle =
         turns_none way n r (shows_over p) (shows_rises p) (λ k. k == id.0) d kept
         (λ j y there h. inr (inl (ap (shows_by (shows_over p) d) (is_it j y there h) ∙ idle)))
-
--- What the code asks is what a registration shows by the rows.
-pub shows_told : (tables : Seen) (now : ℕ) (ready : Bool) (x : Entry) (below answer : Bool) (bits : ℕ) → below ≡ ready → bits ≡ shown_over below tables now x → answer ≡ (nat_lt 0 bits && (not (has_bit x.mask.0 ET) || x.fresh)) → entry_shows (λ e. ready) tables now x ≡ answer
-shows_told tables now ready x below answer bits same shown is =
-    sym (is ∙ ap (λ (b : ℕ). nat_lt 0 b && (not (has_bit x.mask.0 ET) || x.fresh)) (shown ∙ ap (λ (f : Bool). shown_over f tables now x) same))
 
 pub same_truth : (a b : Bool) → beq a b ≡ true → a ≡ b
 same_truth true true h = refl

@@ -73,9 +73,6 @@ withdraw_moments heap heap' places places' at last p h h' s l within is same =
     let inside : p < length places' = omega (arith, within, l, h.same, h'.same, s.same) in
     cut_moments last heap' places' p h' inside (swapped_spot heap heap' places places' at last p h h' s l within is) ∙ ap (λ v. set v p None) same
 
-pub withdraw_loose : (heap heap' : List Item) (at last : ℕ) → IsOrdered (last + 1) heap → SwapsItems heap heap' at last → at < last → LooseAt last heap' at
-withdraw_loose heap heap' at last o s less = loose_by (last + 1) last heap heap' at o (omega arith) (omega arith) (λ k l ne. ap (λ (t : Item). t.moment) (s.rest k ne (λ e. omega arith)))
-
 -- the order of the first items stays where one more comes that has no moment
 pub ordered_more : (live : ℕ) (heap heap' : List Item) → IsOrdered live heap → ((k : ℕ) → k < live → item_at heap' k ≡ item_at heap k) → key heap' live ≡ None → IsOrdered (live + 1) heap'
 ordered_more live heap heap' o same none = record {
@@ -233,12 +230,6 @@ grow_made_by live heap heap' places places' p h full own eh ep =
     subst (λ (xs : List Item). Extends (moments live heap places) (moments (live + 1) xs places') p) (sym eh)
     (subst (λ (ys : List ℕ). Extends (moments live heap places) (moments (live + 1) (heap ++ record { moment = None; place = p } ∷ []) ys) p) (sym ep)
     (grow_made live heap places h full (record { moment = None; place = p }) own refl))
-
-pub grow_heap_by : (live : ℕ) (heap heap' : List Item) (places places' : List ℕ) (p : ℕ) → IsHeap live heap places → length heap ≤ live → p ≡ length heap → heap' ≡ heap ++ record { moment = None; place = p } ∷ [] → places' ≡ places ++ p ∷ [] → IsHeap (live + 1) heap' places'
-grow_heap_by live heap heap' places places' p h full own eh ep =
-    subst (λ (xs : List Item). IsHeap (live + 1) xs places') (sym eh)
-    (subst (λ (ys : List ℕ). IsHeap (live + 1) (heap ++ record { moment = None; place = p } ∷ []) ys) (sym ep)
-    (grow_heap live heap places h full (record { moment = None; place = p }) own refl))
 
 pub put_moments : (live : ℕ) (heap : List Item) (places : List ℕ) (p at : ℕ) (m : Option ℕ) → ArePaired heap places → live ≤ length heap → p < length places → index_of places p < live → at ≡ index_of places p → moments live (set heap at (record { moment = m; place = p })) places ≡ set (moments live heap places) p (Some m)
 put_moments live heap places p at m h within known inner is =

@@ -1,6 +1,6 @@
 -- Runs of one byte.
 use Rattle.std.proofs.Common.{List, ap, ap₂, arith, bytes_eq, false, length, replicate, slice_index, suc, sym, true, zero, ℕ, ◌&&◌, ◌≡◌, ◌<◌, ◌≤◌}
-use Rattle.std.proofs.lemmas.Bool.{and_parts, le-leb, leb-true, lt-leb}
+use Rattle.std.proofs.lemmas.Bool.{and_parts, le-leb, lt-leb}
 use Rattle.std.proofs.lemmas.List.{get_or-replicate, length-replicate}
 use Rattle.std.proofs.lemmas.Slice.Eq.{bytes_eq-Decides}
 use Rattle.hex.specs.Hex.{IsBytes}
@@ -8,9 +8,6 @@ use Rattle.ep_history.specs.Bytes.{is_run}
 
 pub run_is_filled : (bytes : List ℕ) → is_run bytes ≡ true → replicate (length bytes) (slice_index bytes 0) ≡ bytes
 run_is_filled bytes e = sym ((bytes_eq-Decides bytes _).0 (and_parts _ _ e).1)
-
-pub run_is_long : (bytes : List ℕ) → is_run bytes ≡ true → 16 ≤ length bytes
-run_is_long bytes e = leb-true 16 (length bytes) (and_parts _ _ e).0
 
 pub few_are_no_run : (bytes : List ℕ) → length bytes < 16 → is_run bytes ≡ false
 few_are_no_run bytes short = ap (λ b. b && bytes_eq bytes (replicate (length bytes) (slice_index bytes 0))) (lt-leb 16 (length bytes) short)

@@ -1,7 +1,7 @@
 -- How many registrations are exclusive.
 use Rattle.std.proofs.Common.{◌≡◌, ◌≢◌, ◌≤◌, ◌<◌, ◌+◌, ◌∙◌, ℕ, zero, suc, Bool, cond, List, [], ◌∷◌, Option, None, Some, ap, arith, count_by, filter, get_or, inl, inr, length, map, refl, set, sym}
 use Rattle.std.proofs.lemmas.List.{get_or-set_other, get_or-set_same}
-use Rattle.std.proofs.lemmas.List.Sums.{count_by-le-length, length-filter, sum_by-cons, sum_by-set}
+use Rattle.std.proofs.lemmas.List.Sums.{length-filter, sum_by-cons, sum_by-set}
 use Rattle.std.specs.List.{cons_option, filter_map, range_with_len}
 use Rattle.std.specs.Option.{option_map}
 use Rattle.ep_machine.specs.Bits.{EXCLUSIVE, has_bit}
@@ -128,11 +128,3 @@ few_found f a (suc n) = by (f a) (few_found f (a + 1) n) where
   by : (o : Option Entry) → length (filter_map f (range_with_len (a + 1) n)) ≤ n → length (cons_option o (filter_map f (range_with_len (a + 1) n))) ≤ suc n
   by None le = omega (arith, le)
   by (Some x) le = omega (arith, le)
-
--- no more than were ever added
-pub few_guards : (slots : List (Option Entry)) (n : ℕ) → NumberedBy slots n → count_by is_exclusive_slot slots ≤ n
-few_guards slots n num =
-    let a = count_held slots n num in
-    let b = count_by-le-length is_exclusive (in_order slots n) in
-    let c = few_found (found_by slots) 1 n in
-    omega (arith, a, b, c)

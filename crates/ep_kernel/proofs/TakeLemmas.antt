@@ -84,11 +84,6 @@ taken_more stays xs j lt =
 pub taken_none : (stays : ℕ → Bool) (xs : List ℕ) → taken stays 0 xs ≡ xs
 taken_none stays xs = append-nil xs
 
-pub one_left : (stays : ℕ → Bool) (xs : List ℕ) (j : ℕ) → j < length xs → 0 < length (taken stays j xs)
-one_left stays xs j lt =
-    let r = split_at xs j lt in
-    subst (λ (ys : List ℕ). 0 < length (ys ++ filter stays (take j xs))) (sym r.1) (omega arith)
-
 pub takes_none : (stays : ℕ → Bool) (l : Lists) (i : ℕ) → SetsList l l i (taken stays 0 (list_at l i))
 takes_none stays l i = record { here = sym (taken_none stays (list_at l i)); others = λ j other. refl; places = λ id. refl }
 

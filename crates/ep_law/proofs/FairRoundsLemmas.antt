@@ -162,10 +162,6 @@ module _ (k m : ℕ) (told ks more : List ℕ) (s : State) (now : m < s.n) (left
     past = h.past;
   }
 
--- What a pick tells.
-equal_lengths : (a b : ℕ) → (a == b) ≡ true → a ≡ b
-equal_lengths a b h = from_test a b h
-
 le_from : (a b : ℕ) → nat_le a b ≡ true → a ≤ b
 le_from a b h = grind (arith, nat_tests, h)
 

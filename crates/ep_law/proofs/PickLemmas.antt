@@ -1,5 +1,5 @@
 -- The longest unreported may be picked.
-use Rattle.std.proofs.Common.{◌≡◌, ℕ, zero, suc, ◌<◌, ◌≤◌, ◌==◌, ◌&&◌, ◌||◌, Bool, true, false, List, [], ◌∷◌, length, Option, None, Some, get_or, take, refl, ap, sym, ◌∙◌, arith, map, inl, inr, cond, filter, nat_le, nat_lt, nat_eq, min, All}
+use Rattle.std.proofs.Common.{◌≡◌, ℕ, zero, suc, ◌<◌, ◌≤◌, ◌==◌, ◌&&◌, ◌||◌, Bool, true, false, List, [], ◌∷◌, length, Some, get_or, take, refl, ap, sym, ◌∙◌, arith, map, inl, inr, cond, filter, nat_le, nat_lt, nat_eq, min, All}
 use Rattle.std.specs.List.{IsDistinct, AllByRecursion, list_all, Contains, cons_option}
 use Rattle.std.specs.Cmp.{nat_eq_equiv}
 use Rattle.std.specs.List.Sorted.{IsPermutation, IsNonDecreasingBy}
@@ -9,12 +9,11 @@ use Rattle.std.proofs.lemmas.List.Sorted.{IsPermutation-map, All-permutation, le
 use Rattle.std.proofs.lemmas.Map.Keys.{IsDistinct-IsPermutation}
 use Rattle.std.proofs.lemmas.Bool.{cases_Bool}
 use Rattle.std.proofs.lemmas.Bool.Decides.{nat_tests}
-use Rattle.ep_base.specs.declared.answer.Answer.TheVariants.{Events}
 use Rattle.ep_machine.specs.Lists.{are_distinct, is_among}
 use Rattle.ep_machine.specs.Readiness.{is_reportable, reportables}
-use Rattle.ep_machine.specs.Report.{find_watch, is_fair_to, is_pick, report, report_of, reported, watches_at}
+use Rattle.ep_machine.specs.Report.{find_watch, is_fair_to, is_pick, watches_at}
 use Rattle.ep_law.specs.Sound.{Sound}
-use Rattle.ep_machine.specs.State.{Change, State, Watch}
+use Rattle.ep_machine.specs.State.{State, Watch}
 
 abbrev pub numbers : List Watch → List ℕ
 numbers xs = map (λ x. x.number) xs
@@ -131,9 +130,6 @@ module _ (ws : List Watch) (p : Watch → Bool) (found : List Watch) (distinct :
   distinct_found most =
       ap are_distinct (sym (take-map (λ (w : Watch). w.number) most found)) ∙ distinct_test _ (distinct_take most (numbers found) (IsDistinct-IsPermutation nat_eq flips (numbers (filter p ws)) (numbers found) (IsPermutation-map (λ (w : Watch). w.number) _ found moved) (distinct_filter p ws distinct)))
 
-pub picked_watches : (s : State) (e most : ℕ) (found : List Watch) → Sound s → IsPermutation (reportables s e) found → watches_at s.watches (numbers (take most found)) ≡ take most found
-picked_watches s e most found sound moved = found_at s.watches (λ x. x.instance == e && is_reportable s x) found sound.numbers moved most
-
 length_numbers : (ws : List Watch) → length (numbers ws) ≡ length ws
 length_numbers [] = refl
 length_numbers (w ∷ ws) = ap suc (length_numbers ws)
@@ -151,10 +147,3 @@ pick_sorted s e most found sound moved sorted =
     fair_one found most (get_or ready k d) sorted (All-filter p (λ w. w.rep ≤ w.from) s.watches sound.fair k d lt)
     (Contains-permutation ready found (get_or ready k d) moved (k, lt, same_at ready k (get_or ready k d) d lt))) in
     ap (λ (xs : List Watch). are_distinct ks && length xs == length ks && length ks == min most (length ready) && list_all (is_fair_to xs ks) ready) told ∙ rw (dist, all, long, fair)
-
-pub report_sorted : (s : State) (e most : ℕ) (found : List Watch) → Sound s → IsPermutation (reportables s e) found → IsNonDecreasingBy (λ x. x.rep) found
-    → report s e most (numbers (take most found)) ≡ Some (Events (map (report_of s) (take most found)), record s { watches = map (reported s (numbers (take most found))) s.watches }, [])
-report_sorted s e most found sound moved sorted =
-    let ks = numbers (take most found) in
-    let out : List Watch → Option Change = λ xs. Some (Events (map (report_of s) xs), record s { watches = map (reported s ks) s.watches }, []) in
-    ap (λ (b : Bool). cond b (out (watches_at s.watches ks)) None) (pick_sorted s e most found sound moved sorted) ∙ ap out (picked_watches s e most found sound moved)

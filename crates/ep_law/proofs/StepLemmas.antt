@@ -71,30 +71,6 @@ pub step_changed : (limits : Limits) (s : State) (caller : ℕ) (event : Event) 
 step_changed limits s caller event picked c allowed e =
     ap (λ (o : Option Errno). refused_or o (next_event s) picked (change limits (next_event s) caller event picked)) allowed ∙ ap (settled (next_event s)) e
 
--- no refusal looks at the number of events
-pub refusals_begun : (limits : Limits) (s : State) (caller : ℕ) (event : Event) → refusals limits (next_event s) caller event ≡ refusals limits s caller event
-refusals_begun limits s caller (CallOf p (PipeCall cloexec)) = refl
-refusals_begun limits s caller (CallOf p (EventFd init semaphore cloexec)) = refl
-refusals_begun limits s caller (CallOf p (TimerFd clock cloexec)) = refl
-refusals_begun limits s caller (CallOf p (SocketPair cloexec)) = refl
-refusals_begun limits s caller (CallOf p (Plain cloexec)) = refl
-refusals_begun limits s caller (CallOf p (EpollCreate cloexec)) = refl
-refusals_begun limits s caller (CallOf p (EpollCtl epfd op fd mask tag)) = refl
-refusals_begun limits s caller (CallOf p (EpollWait epfd most timeout)) = refl
-refusals_begun limits s caller (CallOf p (Read fd n)) = refl
-refusals_begun limits s caller (CallOf p (Write fd bytes)) = refl
-refusals_begun limits s caller (CallOf p (Shutdown fd)) = refl
-refusals_begun limits s caller (CallOf p (SetTime fd absolute value interval)) = refl
-refusals_begun limits s caller (CallOf p (GetTime fd)) = refl
-refusals_begun limits s caller (CallOf p (Dup fd)) = refl
-refusals_begun limits s caller (CallOf p (Dup2 fd to)) = refl
-refusals_begun limits s caller (CallOf p (Close fd)) = refl
-refusals_begun limits s caller (CallOf p Fork) = refl
-refusals_begun limits s caller (CallOf p Exec) = refl
-refusals_begun limits s caller (CallOf p Exit) = refl
-refusals_begun limits s caller Resume = refl
-refusals_begun limits s caller (Tick k) = refl
-
 -- What each step keeps holds in each state of a run.
 module _ (P : State → Type 0) (limits : Limits) (keeps : (s t : State) (caller : ℕ) (event : Event) (picked : List ℕ) (a : Answer) → P s → step limits s caller event picked ≡ Some (a, t) → P t) where
   Holds : Option State → Type 0

@@ -43,14 +43,6 @@ pub placed_along : (way : Way) (ls : List Link) (room a b : ℕ) → HasPlaces (
 placed_along Down ls room a b h c = place_of (edges ls) room h (a, b) c
 placed_along Up ls room a b h c = let p = place_of (edges ls) room h (b, a) (way_down ls a b c) in (p.1, p.0)
 
--- nothing rose, so each link that was covered is
-pub deepens_same : (es : List (ℕ × ℕ)) (depths : List ℕ) → Deepens es depths depths
-deepens_same es depths = record {
-  more = λ x. omega arith;
-  covers = λ x y link why. elim why [ inl was ↦ was | inr rose ↦ absurd (omega (arith, rose)) ];
-  length = refl;
-}
-
 -- On the way: each link is covered as it has to be, but those to the instance from what is left.
 pub record IsDeepening (es : List (ℕ × ℕ)) (first now : List ℕ) (instance reached : ℕ) (left : List ℕ) : Type 0 where
   pub least : reached ≤ depth_at now instance

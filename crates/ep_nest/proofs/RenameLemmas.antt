@@ -1,7 +1,6 @@
 -- For a caller who knows the instances by other numbers than their keys.
 use Rattle.ep_machine.specs.Watches.{is_legal}
 use Rattle.ep_nest.proofs.ElementLemmas.{Contains-from_map, Contains-map}
-use Rattle.ep_nest.proofs.ChainLemmas.{short_part}
 use Rattle.ep_nest.proofs.LegalityLemmas.{is_legal_from_short, short_from_is_legal}
 use Rattle.ep_nest.specs.Chains.{LeadsBy}
 use Rattle.std.proofs.Common.{Contains, List, ap, false, inl, inr, map, refl, subst, suc, sym, true, zero, ℕ, ◌∙◌, ◌≡◌}
@@ -44,7 +43,3 @@ module _ (f : ℕ → ℕ) (es : List (ℕ × ℕ)) (apart : (d e : ℕ × ℕ) 
       | inr too ↦ too ∙ sym illegal
     ]
   ]
-
--- the same links in another order
-pub is_legal_same : (es fs : List (ℕ × ℕ)) → ((e : ℕ × ℕ) → Contains es e → Contains fs e) → is_legal fs ≡ true → is_legal es ≡ true
-is_legal_same es fs h legal = is_legal_from_short es (short_part es fs (λ a b c. h (a, b) c) (short_from_is_legal fs legal))

@@ -1,5 +1,5 @@
 -- What rings and the places of registrations mean for the lists that contracts see.
-use Rattle.std.proofs.Common.{◌≡◌, ◌≢◌, ℕ, zero, suc, ◌+◌, ◌<◌, ◌≤◌, Bool, true, false, not, eqb, List, [], ◌∷◌, ◌++◌, length, get_or, set, filter, Option, Some, None, IsSome, is_some, refl, sym, ap, ◌∙◌, subst, inl, inr, arith, map, if◌then◌else◌}
+use Rattle.std.proofs.Common.{◌≡◌, ◌≢◌, ℕ, ◌+◌, ◌<◌, Bool, true, false, not, eqb, List, [], ◌∷◌, ◌++◌, length, get_or, set, filter, Option, Some, None, IsSome, is_some, refl, sym, ap, ◌∙◌, inl, inr, arith, map, if◌then◌else◌}
 use Rattle.std.proofs.lemmas.Bool.{cases_eq, cases_lt, cases_Bool}
 use Rattle.std.proofs.lemmas.List.{get_or_past, get_or_read, get_or-set_same, get_or-set_other, map-set, length-map, map-append, length-set}
 use Rattle.std.specs.Map.Iter.{TakesFirst}
@@ -206,21 +206,6 @@ module _ (v : Rings) (ps : List (Option PlaceId)) where
       let turn : map key (rotation_of (list_at v i)) ≡ rotation_of (entries_at (value_of v ps) i) = turned_map key (list_at v i) ∙ ap rotation_of (sym (list_read i)) in
       let lists : map (map key) (set v.lists i (rotation_of (list_at v i))) ≡ set (map (map key) v.lists) i (rotation_of (entries_at (value_of v ps) i)) = map-set (map key) v.lists i _ ∙ ap (λ zs. set (map (map key) v.lists) i zs) turn in
       λ z. record { places = map (instance_of v.places) ps; lists = lists z }
-
--- no place is changed by a push or a removal
-pushed_by_places : (v : Rings) (k : ℕ) (o : Option Place) → (push_by_place v k o).places ≡ v.places
-pushed_by_places v k None = refl
-pushed_by_places v k (Some s) = elim (cases_Bool (is_among (list_at v s.owner) k)) [ inl t ↦ rw t refl | inr n ↦ rw n refl ]
-
-pub pushed_places : (v : Rings) (k : ℕ) → (push_place v k).places ≡ v.places
-pushed_places v k = pushed_by_places v k (place_at v k)
-
-removed_by_places : (v : Rings) (k : ℕ) (o : Option Place) → (removal_by_place v k o).places ≡ v.places
-removed_by_places v k None = refl
-removed_by_places v k (Some s) = refl
-
-pub removed_places : (v : Rings) (k : ℕ) → (removal_place v k).places ≡ v.places
-removed_places v k = removed_by_places v k (place_at v k)
 
 -- the same places and lists
 module _ (v v' : Rings) (ps ps' : List (Option PlaceId)) (a : SameLists v v') (b : (z : ℕ) → id_at_key ps' z ≡ id_at_key ps z) where

@@ -1,5 +1,5 @@
 -- What a node that stands on no ring, or a new head, changes.
-use Rattle.std.proofs.Common.{◌≡◌, ◌≢◌, ℕ, zero, suc, ◌+◌, ◌<◌, ◌≤◌, Bool, true, false, List, [], ◌∷◌, ◌++◌, length, get_or, set, Option, Some, None, IsSome, refl, sym, ap, ◌∙◌, subst, inl, inr, arith, count_by, map, Contains}
+use Rattle.std.proofs.Common.{◌≡◌, ◌≢◌, ℕ, suc, ◌+◌, ◌<◌, ◌≤◌, Bool, true, false, List, [], ◌∷◌, ◌++◌, length, get_or, set, Option, Some, None, IsSome, refl, sym, ap, ◌∙◌, subst, inl, inr, arith, count_by, Contains}
 use Rattle.std.proofs.lemmas.Bool.{cases_eq, cases_lt}
 use Rattle.std.proofs.lemmas.List.{get_or_past, get_or_append_left, get_or_push, length_push, map-set}
 use Rattle.ep_rings.specs.declared.node.Role.{Role}
@@ -8,7 +8,7 @@ use Rattle.ep_rings.specs.declared.node.Ring.{Ring}
 use Rattle.ep_rings.specs.declared.node.Role.TheVariants.{Head, Member}
 use Rattle.ep_rings.specs.Growth.{GainsRole, KeepsLists}
 use Rattle.ep_rings.specs.Nodes.{next_in, next_of, prev_in, prev_of, role_at, role_in, roles_of}
-use Rattle.ep_rings.specs.Represents.{Represents, RepresentsLists, is_on, listed_on, lists_of, place_in, ring_at, row}
+use Rattle.ep_rings.specs.Represents.{Represents, RepresentsLists, is_on, listed_on, place_in, ring_at, row}
 use Rattle.ep_rings.specs.Ring.{IsRing}
 use Rattle.ep_rings.proofs.RingLemmas.{ring_kept}
 use Rattle.ep_rings.proofs.RowLemmas.{ring_of, ring_of_listed}
@@ -219,12 +219,6 @@ module _ (s0 s1 : List (Option Node)) (rings : List Ring) (xss : List (List ℕ)
             | inr ne ↦ ap place_in (role_others s0 s1 k (Some n) here others z ne)
           ];
         }
-
-pub grown_none : (s : List (Option Node)) (rings : List Ring) → RepresentsLists s rings (lists_of s rings) → KeepsLists s rings s rings
-grown_none s rings h = record { sound = h; rows = λ i. refl; places = λ k. refl }
-
-pub grown_on : (s0 s1 s2 : List (Option Node)) (t0 t1 t2 : List Ring) → KeepsLists s0 t0 s1 t1 → KeepsLists s1 t1 s2 t2 → KeepsLists s0 t0 s2 t2
-grown_on s0 s1 s2 t0 t1 t2 a b = record { sound = b.sound; rows = λ i. b.rows i ∙ a.rows i; places = λ k. b.places k ∙ a.places k }
 
 -- a place that stood on no list was taken away
 module _ (s0 : List (Option Node)) (rings : List Ring) (xss : List (List ℕ)) (s : RepresentsLists s0 rings xss) (k : ℕ) where

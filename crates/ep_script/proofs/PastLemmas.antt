@@ -115,17 +115,8 @@ read_more k l m line records x done p takes fits is =
     leads_on k l m (λ i r. Reads i r records done) (λ r q. TakesLine r line q) (λ i q. Reads i q (records ++ x ∷ []) (done + 1)) p takes
     (λ i r q h t. more i r q line records x done h t fits is)
 
-all_read : (i r : List ℕ) (records : List Record) (done : ℕ) → Reads i r records done → r ≡ [] → AreLinesOf records (lines_of i)
-all_read i r records done p e = rw (whole i r records done p e) p.of_lines
-
 all_fit : (i r : List ℕ) (records : List Record) (done : ℕ) → Reads i r records done → r ≡ [] → All FitsRecord (lines_of i)
 all_fit i r records done p e = rw (whole i r records done p e) p.fit
-
-pub read_whole : (k l m : Option (List ℕ)) (records : List Record) (done : ℕ) → HasRead k l records done → Leads l m (λ xs ys. (xs ≡ []) × (ys ≡ []))
-    → IfSome k (λ i. AreLinesOf records (lines_of i))
-read_whole k l m records done p end =
-    leads_by k l m (λ i r. Reads i r records done) (λ xs ys. (xs ≡ []) × (ys ≡ [])) (λ i. AreLinesOf records (lines_of i)) p end
-    (λ i r q h e. all_read i r records done h e.0)
 
 pub read_fit : (k l m : Option (List ℕ)) (records : List Record) (done : ℕ) → HasRead k l records done → Leads l m (λ xs ys. (xs ≡ []) × (ys ≡ []))
     → IfSome k (λ i. All FitsRecord (lines_of i))

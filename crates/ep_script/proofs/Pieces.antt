@@ -1,5 +1,5 @@
 -- A line that is read piece by piece, where the reader's bytes are known.
-use Rattle.std.proofs.Common.{List, None, Option, Some, IfSome, [], ap, append-nil, append_assoc, arith, drop, inl, inr, length, length-append, length-take, sym, ℕ, ◌-◌, ◌++◌, ◌≡◌, ◌≢◌, ◌≤◌, ◌∙◌, ◌∷◌}
+use Rattle.std.proofs.Common.{List, None, Option, Some, IfSome, [], ap, append-nil, append_assoc, arith, drop, inl, inr, length, length-append, length-take, sym, ℕ, ◌-◌, ◌++◌, ◌≡◌, ◌≤◌, ◌∙◌, ◌∷◌}
 use Rattle.std.specs.Io.KnownBytes.{prepend_known}
 use Rattle.ep_script.specs.declared.chunk.Input.{Input}
 use Rattle.ep_script.specs.Known.{Leads}
@@ -31,33 +31,6 @@ goes_on (Some xs) None m line u line' v p q e n = absurd p
 goes_on (Some xs) (Some ys) None line u line' v p q e n = q
 goes_on (Some xs) (Some ys) (Some zs) line u line' v p q e n =
     p ∙ ap (λ y. line ++ y) q ∙ sym (append_assoc line u zs) ∙ ap (λ y. y ++ zs) (sym e) ∙ ap (λ y. line' ++ (y ++ zs)) (sym n)
-
--- the end of the input, behind a line that lacks its last byte
-pub ends_open : (k l m : Option (List ℕ)) (line : List ℕ) → Leads k l (λ xs ys. xs ≡ line ++ ys) → Leads l m (λ xs ys. (xs ≡ []) × (ys ≡ [])) → IsPlain line → line ≢ []
-    → Leads k m (λ xs ys. TakesLine xs line ys)
-ends_open None l m line p q plain some = tt
-ends_open (Some xs) None m line p q plain some = absurd p
-ends_open (Some xs) (Some ys) None line p q plain some = q
-ends_open (Some xs) (Some ys) (Some zs) line p q plain some = record {
-  plain = plain;
-  cut = inr (p ∙ ap (λ y. line ++ y) q.0 ∙ append-nil line, q.1, some);
-}
-
--- the end of the input, and no line
-pub ends_empty : (k l m : Option (List ℕ)) (line : List ℕ) → Leads k l (λ xs ys. xs ≡ line ++ ys) → Leads l m (λ xs ys. (xs ≡ []) × (ys ≡ [])) → line ≡ []
-    → Leads k m (λ xs ys. (xs ≡ []) × (ys ≡ []))
-ends_empty None l m line p q e = tt
-ends_empty (Some xs) None m line p q e = absurd p
-ends_empty (Some xs) (Some ys) None line p q e = q
-ends_empty (Some xs) (Some ys) (Some zs) line p q e = (p ∙ ap (λ y. line ++ y) q.0 ∙ ap (λ l. l ++ []) e, q.1)
-
--- a read that failed
-pub breaks : (k l m : Option (List ℕ)) (line : List ℕ) → Leads k l (λ xs ys. xs ≡ line ++ ys) → Leads l m (λ xs ys. xs ≡ ys) → IsPlain line
-    → Leads k m (λ xs ys. Behind IsPlain xs ys)
-breaks None l m line p q plain = tt
-breaks (Some xs) None m line p q plain = absurd p
-breaks (Some xs) (Some ys) None line p q plain = q
-breaks (Some xs) (Some ys) (Some zs) line p q plain = (line, plain, p ∙ ap (λ y. line ++ y) q)
 
 pub unread_few : (i : Input) → length (unread i) ≤ most_read
 unread_few i = omega (arith, length-take (i.end - i.start) (drop i.start i.chunk.items), i.within, i.is_full_size)

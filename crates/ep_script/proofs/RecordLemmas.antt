@@ -11,9 +11,9 @@ use Rattle.ep_script.specs.declared.summary.LineKind.{LineKind}
 use Rattle.ep_script.specs.declared.summary.LineKind.TheVariants as kind
 use Rattle.ep_text.specs.declared.version.Version.{Version}
 use Rattle.ep_text.specs.Event.{event as command}
-use Rattle.ep_text.specs.Line.{bad_line, header_line, line_of}
+use Rattle.ep_text.specs.Line.{header_line, line_of}
 use Rattle.ep_script.specs.Steps.{MayGain, Tells}
-use Rattle.ep_script.specs.Transcript.{Exchange, Grows, answered, asks, bad, head, header_at, header_or, names, then_in, told}
+use Rattle.ep_script.specs.Transcript.{Exchange, Grows, answered, asks, head, header_at, header_or, names, then_in, told}
 
 -- by one step
 by_step : (b : Bool) (limits : Limits) (x : Exchange) (s t : State) (past now : List Record) → MatchBool b (Stays s t past now) (Adds limits x.caller x.event x.answer s t past now)
@@ -39,9 +39,6 @@ pub may_gain_unanswered : {A E : Type 0} (r : Result A E) (limits : Limits) (cal
 may_gain_unanswered (Ok x) limits caller event answer s t past now a = tt
 may_gain_unanswered (Err e) limits caller event answer s t past now a = may_gain_by_step limits caller event answer s t past now a
 
-pub gains_nothing : (h k : List Record) → k ≡ h → MayGain h k
-gains_nothing h k e = ([], e ∙ sym (append-nil h), omega arith)
-
 -- ---- what a line asks for
 
 asks_for_version : (v w : Version) (n : ℕ) (line : List ℕ) → Some w ≡ header_at n line → asks v n line ≡ names w
@@ -55,17 +52,6 @@ asks_no_version v n line e = ap (λ o. header_or o (command v line)) (sym e)
 pub tells_head : (v w : Version) (n : ℕ) (line text : List ℕ) (h : List Record) → Some w ≡ header_at n line → text ≡ header_line w → Tells (asks v n line) v w n kind.Head text h h
 tells_head v w n line text h e t = let asked = asks_for_version v w n line e in record {
   outcome = head w;
-  of_line = sym asked;
-  next_is = ap (λ a. then_in v a) (sym asked);
-  text_is = t;
-  grows = ([], sym (append-nil h), refl);
-  kind_is = refl;
-}
-
-pub tells_bad : (v : Version) (n : ℕ) (line text : List ℕ) (h : List Record) → None ≡ header_at n line → None ≡ command v line → text ≡ bad_line n
-    → Tells (asks v n line) v v n kind.Bad text h h
-tells_bad v n line text h e f t = let asked = asks_no_version v n line e ∙ ap (λ o. header_or None o) (sym f) in record {
-  outcome = bad;
   of_line = sym asked;
   next_is = ap (λ a. then_in v a) (sym asked);
   text_is = t;

@@ -1,5 +1,5 @@
 -- What a call on the tables does.
-use Rattle.std.proofs.Common.{Bool, IsSome, List, None, Option, Some, [], ap, arith, false, get_or, is_none, nat_le, negsuc, pos, refl, subst, suc, sym, true, unwrap_or, zero, ℕ, ℤ, ◌++◌, ◌<◌, ◌∙◌, ◌∷◌, ◌≡◌, ◌≢◌, ◌≤◌}
+use Rattle.std.proofs.Common.{Bool, IsSome, List, None, Option, Some, [], ap, arith, false, get_or, is_none, nat_le, pos, refl, subst, suc, sym, true, unwrap_or, zero, ℕ, ℤ, ◌++◌, ◌<◌, ◌∙◌, ◌∷◌, ◌≡◌, ◌≢◌, ◌≤◌}
 use Rattle.std.specs.Prelude.{MatchOption}
 use Rattle.ep_base.specs.declared.answer.Answer.{Answer}
 use Rattle.ep_base.specs.declared.answer.Answer.TheVariants.{Num, Refused, Two}
@@ -15,7 +15,7 @@ use Rattle.ep_machine.specs.Files.{named_by, numbers_of, under}
 use Rattle.ep_machine.specs.FilesCalls.{FilesCall, dup_of, one_of, two_of}
 use Rattle.ep_machine.specs.Objects.{Object}
 use Rattle.ep_machine.specs.Tables.{answer_one, answer_two, dup, one_free, second_free, slot}
-use Rattle.ep_table.specs.Value.{AddsKey, CreatesOne, CreatesTwo, Does, Refuses, Seen, Succeeds, count_at, holds_of, natural, number_at, number_of, number_under}
+use Rattle.ep_table.specs.Value.{AddsKey, CreatesOne, CreatesTwo, Does, Refuses, Seen, Succeeds, count_at, holds_of, number_at, number_of, number_under}
 use Rattle.ep_table.proofs.LowestFreeLemmas.{low_enter}
 
 -- a refusal leaves the tables
@@ -96,12 +96,3 @@ some_is (Some x) h = refl
 -- what a key that was found stands for
 pub found_is : (v : Seen) (p : ℕ) (fd : ℤ) (key : DescId) → number_under v key ≡ under v.files p fd → IsSome (number_under v key) → Some (number_of v key) ≡ under v.files p fd
 found_is v p fd key e h = sym (some_is (number_under v key) h) ∙ e
-
-pub natural_is : (fd : ℤ) (i : ℕ) → natural fd ≡ Some i → fd ≡ pos i
-natural_is (pos j) i h = let e : j ≡ i = cc in ap (λ (k : ℕ). pos k) e
-natural_is (negsuc j) i h = absurd cc
-
--- a number below 0 names nothing
-pub none_named : (v : Seen) (p : ℕ) (fd : ℤ) → natural fd ≡ None → IsSome (under v.files p fd) → ⊥
-none_named v p (pos j) h k = cc
-none_named v p (negsuc j) h k = false≢true k

@@ -73,9 +73,3 @@ module _ {A : Type 0} (k : Inside A) (v : Seen) (inv : IsTables k) (same : value
 length_map : {A B : Type 0} (f : A → B) (xs : List A) → length (map f xs) ≡ length xs
 length_map f [] = refl
 length_map f (x ∷ xs) = ap suc (length_map f xs)
-
-pub length_seen : {A : Type 0} (k : Inside A) (v : Seen) → value_of k ≡ v → length k.processes.items ≡ length v.files.tables
-length_seen k v same = sym (length_map (table_in k.store.keys) (lists k.processes.items) ∙ length_map items_of k.processes.items) ∙ ap (λ (w : Seen). length w.files.tables) same
-
-pub living_is : {A : Type 0} (k : Inside A) (v : Seen) → IsTables k → value_of k ≡ v → k.living ≡ length (numbered 0 v.files.tables)
-living_is k v inv same = inv.living ∙ ap (λ (w : Seen). length (numbered 0 w.files.tables)) same

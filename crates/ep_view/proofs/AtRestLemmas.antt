@@ -16,7 +16,7 @@ use Rattle.ep_base.specs.declared.object.End.{End}
 use Rattle.ep_base.specs.declared.record.Record.{Record}
 use Rattle.ep_machine.specs.Run.{run}
 use Rattle.ep_machine.specs.Settle.{settle}
-use Rattle.ep_law.proofs.StepLemmas.{run_keeps, step_changed, resumes, change_counted}
+use Rattle.ep_law.proofs.StepLemmas.{run_keeps, resumes, change_counted}
 use Rattle.ep_machine.specs.Bits.{ONESHOT, has_bit}
 use Rattle.ep_machine.specs.Effect.{first}
 use Rattle.ep_machine.specs.Files.{Files, Place, is_live, named_by, names_nothing, object_at, object_number, object_of, object_under, place_of, side_under, table_of}
@@ -24,7 +24,7 @@ use Rattle.ep_machine.specs.FilesCalls.{FilesCall, close_of, dup2_of, dup_of, ep
 use Rattle.ep_machine.specs.Lists.{is_among}
 use Rattle.ep_machine.specs.Objects.{Object, counter, instance, is_instance, is_plain, object_effect, pair, pipe, plain, timer}
 use Rattle.ep_machine.specs.Pipe.{new_pipe}
-use Rattle.ep_view.specs.AtRest.{Changed, HasSeen, Settles, IsSteady, AtRest, can_be_watched, kind_of}
+use Rattle.ep_view.specs.AtRest.{Changed, HasSeen, IsSteady, AtRest, can_be_watched, kind_of}
 use Rattle.ep_machine.specs.Readiness.{is_ready}
 use Rattle.ep_machine.specs.Refusal.{call_refusals, ctl_refusals, refusals, wait_refusals}
 use Rattle.ep_machine.specs.Report.{is_pick, plainly, report, report_of, reported, watches_at}
@@ -408,12 +408,6 @@ quiet_step limits s t caller event picked a well h e =
 -- each state of a run
 pub quiet_run : (limits : Limits) (past : List Record) (s : State) → run limits opening past ≡ Some s → AtRest s
 quiet_run limits past s e = (run_keeps (λ t. WellMade t × AtRest t) limits (λ u t caller event picked a h is. (well_made_step limits u t caller event picked a h.0 is, quiet_step limits u t caller event picked a h.0 h.1 is)) opening s past (well_made_opening, quiet_opening) e).1
-
--- a step that isn't refused, as far as registrations are kept
-pub step_quiet : (limits : Limits) (s : State) (caller : ℕ) (event : Event) (picked : List ℕ) (c : Change) → WellMade s → AtRest s → first (refusals limits (next_event s) caller event) ≡ None → change limits (next_event s) caller event picked ≡ Some c
-    → (t : State) × (step limits s caller event picked ≡ Some (c.0, t)) × Settles s.waiters c.1 c.2 t
-step_quiet limits s caller event picked c well h allowed e =
-    (settle (next_event s) c.1 c.2, step_changed limits s caller event picked c allowed e, settle_changed (next_event s) c.1 c.2 (change_counted limits s caller event picked c e) (quiet_change limits (next_event s) caller event picked c (quiet_begun s h) allowed e) (regular_settle limits s caller event picked c well allowed e))
 
 -- What a change leaves of the files: what lives and what can be watched stays.
 

@@ -40,9 +40,6 @@ use Rattle.ep_view.proofs.MarkingLemmas.{AreSeen, IsSeen, climbed_rests, due_mem
 use Rattle.ep_view.proofs.RaisedLemmas.{raised_in_same}
 use Rattle.ep_law.proofs.InstanceLemmas.{AreMade}
 
-pub lt_test : (a b : ℕ) → a < b → nat_lt a b ≡ true
-lt_test a b h = grind (arith, nat_tests)
-
 kept_came : (earlier : List ℕ) (s : State) (xs : List Watch) → kernel_watches s (map (came earlier s) xs) ≡ kernel_watches s xs
 kept_came earlier s [] = refl
 kept_came earlier s (x ∷ xs) =
