@@ -326,6 +326,19 @@ impl<A: Allocator> Interest<A> {
         counted
     }
 
+    /// Whether an instance has an exclusive registration. Those of the instance are visited in order of registration, up
+    /// to the first exclusive one.
+    pub fn has_exclusive(&self, instance: DescId) -> bool
+        ensures { result ≡ list_any exclusive (filter (is_of instance) self.now.entries) }
+    {
+        for (_, registration) in self.entries(instance) {
+            if is_exclusive(registration) {
+                return true;
+            }
+        }
+        false
+    }
+
     /// How many registrations there are, which is kept and not counted.
     pub fn count(&self) -> usize
         ensures { result ≡ length self.now.entries }
