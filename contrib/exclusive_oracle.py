@@ -60,7 +60,7 @@ NAMES = {
 }
 EPERM, ENOENT, ESRCH, EBADF, EAGAIN, EBUSY, EEXIST, EINVAL, EPIPE, ELOOP = NAMES
 #: How many failed scripts are told, and how long a run may take.
-TOLD, SECONDS = 3, 60
+TOLD, SECONDS = 3, 600
 
 
 class Wrong(Exception):

@@ -346,7 +346,7 @@ class OverLibrary(Calls, Refusals):
             for thread in threads:
                 thread.start()
             for thread in threads:
-                thread.join(30)
+                thread.join(600)
             self.assertEqual(failures, [])
             self.assertEqual(kernel.read(ends[0], 8), one)
             self.assertEqual(kernel.now(), 60)
