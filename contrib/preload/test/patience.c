@@ -1,4 +1,4 @@
-/* A wait that only a real signal from outside can end. Simulated only: check sends it, or none. With the word `pause`
+/* A wait that only a real signal from outside can end. Simulated only: check sends some, or none. With the word `pause`
    one ends a pause before. With `alarm` there is an alarm, past the last moment of the clock, which never comes. */
 #include "trace.h"
 

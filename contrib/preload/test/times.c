@@ -253,6 +253,32 @@ static void years(void) {
     printf("real: %lld.%09ld\n", (long long)day.tv_sec, day.tv_nsec);
 }
 
+/* The same of waits that are no calls of epoll. */
+static void more_years(int fd) {
+    const long three_years = 100000000000000000;
+    pthread_mutex_t lock = PTHREAD_MUTEX_INITIALIZER;
+    pthread_cond_t changed = PTHREAD_COND_INITIALIZER;
+    struct timespec end = in(CLOCK_REALTIME, three_years);
+    struct pollfd file = {.fd = fd, .events = POLLIN};
+    sigset_t none;
+    uint32_t word = 0;
+    sem_t semaphore;
+    pthread_mutex_lock(&lock);
+    TELL("condition of 3 years", pthread_cond_timedwait(&changed, &lock, &end));
+    pthread_mutex_unlock(&lock);
+    sem_init(&semaphore, 0, 0);
+    end = in(CLOCK_MONOTONIC, three_years);
+    TELL("semaphore of 3 years", sem_clockwait(&semaphore, CLOCK_MONOTONIC, &end));
+    TELL("futex of 3 years", syscall(SYS_futex, &word, FUTEX_WAIT_PRIVATE, 0, OF(100000000, 1), NULL, 0));
+    sigemptyset(&none);
+    TELL("signal of 34 days", sigtimedwait(&none, NULL, OF(3000000, 1)));
+    TELL("poll of 24 days", poll(&file, 1, INT_MAX));
+    TELL("ppoll of 34 days", ppoll(&file, 1, OF(3000000, 1), NULL));
+    TELL("select of 34 days", select(0, NULL, NULL, NULL, OF_SHORT(3000000, 1)));
+    alarm(3000000);
+    TELL("pause of 34 days", pause());
+}
+
 int main(void) {
     int ends[2];
     instance = epoll_create1(0);
@@ -270,5 +296,6 @@ int main(void) {
     alarms();
     locks();
     years();
+    more_years(ends[0]);
     return 0;
 }
