@@ -1,15 +1,13 @@
 //! What every kernel promises.
-ghost use Rattle.std.specs.Prelude.{◌≡◌, ◌+◌, ◌<◌, ◌≤◌, ℕ, List, None, OnOk, Some, false, length, true};
+ghost use Rattle.std.specs.Prelude.{◌≡◌, ◌+◌, ◌<◌, ◌≤◌, ℕ, List, None, OnOk, Some, false, length, true, vec_capacity, vec_len};
 ghost use Rattle.std.specs.Option.{option_map};
+ghost use Rattle.ep_base.specs.Call.{EventHasNoBytes};
 ghost use Rattle.ep_base.specs.Limits.{Limits as Numbers};
 ghost use Rattle.ep_base.specs.declared.record.Record.{Record as Entry};
-ghost use Rattle.ep_machine.specs.Effect.{first};
-ghost use Rattle.ep_machine.specs.Refusal.{refusals};
 ghost use Rattle.ep_machine.specs.Run.{run};
 ghost use Rattle.ep_machine.specs.Waits.{is_marked, is_parked};
 ghost use Rattle.ep_machine.specs.State.{State, opening};
-ghost use Rattle.ep_machine.specs.Step.{next_event};
-ghost use Rattle.ep_calls.specs.Acts.{Acts, is_no_memory};
+ghost use Rattle.ep_calls.specs.Acts.{Acts, ComesLast, is_no_memory};
 ghost use Rattle.ep_calls.specs.Driver.{TellsNext, first_marked};
 ghost use Rattle.ep_calls.specs.KeptRecords.{KeepsRecord};
 ghost use Rattle.ep_calls.specs.Spared.{IsSpared};
@@ -48,18 +46,23 @@ pub trait Kernel {
         ensures capacity { capacity self.old ≤ capacity self.new }
         ensures spared { IsSpared (state self.old).files event
             → length (past self.old) < capacity self.old → is_no_memory result ≡ false }
-        ensures last { is_no_memory result ≡ true → length (past self.old) < capacity self.old
-            → first (refusals (bounds self.old) (next_event (state self.old)) caller.0 event)
-            ≡ None }
+        ensures last { length (past self.old) < capacity self.old
+            → ComesLast (bounds self.old) caller event result (state self.old) }
         ensures acts { Acts (bounds self.old) caller event result (state self.old) (state self.new)
             (past self.old) (past self.new) };
 
     /// A step whose record is put at the end of a list of the caller's too. ENOMEM is want of memory, for the history
     /// or for that list: then the list too is as before, but that it may have more room. It may come of any event,
     /// also while the history has room: that list and a copy of the event want memory of their own.
+    ///
+    /// ENOMEM comes last here, too: if both lists have room for the record, and the event writes no bytes, so that its
+    /// copy takes no memory, no refusal of the machine holds.
     fn step_kept(&mut self, caller: CallerId, event: Event, kept: &mut Vec<Record>) -> Answer
         ensures limits { bounds self.new ≡ bounds self.old }
         ensures capacity { capacity self.old ≤ capacity self.new }
+        ensures last { EventHasNoBytes event → vec_len kept.old < vec_capacity kept.old
+            → length (past self.old) < capacity self.old
+            → ComesLast (bounds self.old) caller event result (state self.old) }
         ensures acts { Acts (bounds self.old) caller event result (state self.old) (state self.new)
             (past self.old) (past self.new) }
         ensures kept { KeepsRecord result (past self.old) (past self.new) kept.old.items
