@@ -198,7 +198,8 @@ int nippersage_records(struct nippersage_kernel *kernel, size_t *count);
  * write(2), and what stood before it has been written. Nothing else runs on the kernel meanwhile. */
 int nippersage_history(struct nippersage_kernel *kernel, int fd);
 
-/* Makes every event of the history again and compares: 0, or -ENOMEM; -EBADMSG can't come, as the proof has it. */
+/* Makes every event of the history again and compares: 0, or -ENOMEM. -EBADMSG would say that the reference model
+ * doesn't allow the history. It can't come of a library that is proved (nippersage_version). */
 int nippersage_check(struct nippersage_kernel *kernel);
 
 #ifdef __cplusplus

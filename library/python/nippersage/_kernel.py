@@ -254,7 +254,7 @@ class Kernel(Task):
     def check(self) -> None:
         """Makes each event of the history again, and compares.
 
-        OSError with EBADMSG would say that the model doesn't allow it, which the proof of the kernel rules out.
+        OSError with EBADMSG would say that the model doesn't allow it. It can't come of a library that is proved.
         """
         self._backend.check()
 

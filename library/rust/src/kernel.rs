@@ -138,7 +138,7 @@ impl Kernel {
     }
 
     /// Makes each event of the history again, and compares. ENOMEM. EBADMSG would say that the
-    /// reference model doesn't allow the history, which the proof of the kernel rules out.
+    /// reference model doesn't allow the history. It can't come of a library that is proved (`version`).
     pub fn check(&self) -> Result<(), Errno> {
         // SAFETY: the kernel lives.
         checked(unsafe { ffi::nippersage_check(self.raw()) }).map(drop)
