@@ -46,12 +46,12 @@ struct Plan {
     limits: Limits,
 }
 
-/// Why the history can't be written.
+/// Why the script isn't read, or the history can't be written.
 #[derive(Drop)]
 enum Refusal {
-    /// Its file is this stream of the run.
+    /// What is written would go into this stream of the run, too.
     Shared(Stream),
-    /// The file can't be looked at, or made.
+    /// The file can't be opened, looked at or made.
     Error(io::Error),
 }
 
@@ -95,12 +95,20 @@ fn refuse_limits<E: Write>(settings: &Settings<'_>, errors: &mut E) -> u8
     BAD_LIMITS
 }
 
-/// Tells why the script can't be opened. A write that fails changes nothing.
-fn refuse_script<E: Write>(settings: &Settings<'_>, error: &io::Error, errors: &mut E) -> u8
+/// Tells why the script can't be opened, or isn't to be answered. A write that fails changes nothing.
+fn refuse_script<E: Write>(settings: &Settings<'_>, refusal: &Refusal, errors: &mut E) -> u8
     ensures { result ≡ 1 }
 {
     let path = settings.script.unwrap_or("");
-    let _ = write!(errors, "epsim: cannot read the script {path:?}: {error}\n");
+    let _ = match refusal {
+        Refusal::Shared(stream) => write!(
+            errors,
+            "epsim: cannot write the answers to standard output: it is {stream}\n"
+        ),
+        Refusal::Error(error) => {
+            write!(errors, "epsim: cannot read the script {path:?}: {error}\n")
+        }
+    };
     FAILED
 }
 
@@ -285,12 +293,31 @@ fn run_told<R: Read + Drop, W: Write, E: Write, H: Write + Drop>(
     }
 }
 
-/// The file of the script, if one is named. The error says why it can't be opened.
-fn script_file<F: Files>(settings: &Settings<'_>, files: &F) -> io::Result<Option<F::Script>> {
-    match settings.script {
-        None | Some("-") => Ok(None),
-        Some(path) => Ok(Some(files.open(path)?)),
+/// Whether a run would read its own answers: a script that takes no end. `false` if it can't be told
+/// which files the streams are.
+fn are_answers_read<F: Files>(files: &F, script: Option<&F::Script>) -> bool {
+    let Ok(streams) = files.streams(script) else {
+        return false;
+    };
+    let source = if script.is_some() {
+        streams.script
+    } else {
+        streams.input
+    };
+    streams.are_answers_read(source)
+}
+
+/// The file of the script, if one is named. The error says why it can't be opened, or that the
+/// answers would go into what is read.
+fn script_file<F: Files>(settings: &Settings<'_>, files: &F) -> Result<Option<F::Script>, Refusal> {
+    let (script, source) = match settings.script {
+        None | Some("-") => (None, Stream::Input),
+        Some(path) => (Some(files.open(path)?), Stream::Script),
+    };
+    if are_answers_read(files, script.as_ref()) {
+        return Err(Refusal::Shared(source));
     }
+    Ok(script)
 }
 
 /// The writer of the history, if one is asked for. No file is made or emptied that is a stream of
@@ -328,7 +355,7 @@ fn run_settings<R: Read + Drop, W: Write, E: Write, F: Files>(
     };
     let script = match script_file(settings, &files) {
         Ok(script) => script,
-        Err(error) => return refuse_script(settings, &error, errors),
+        Err(refusal) => return refuse_script(settings, &refusal, errors),
     };
     let history = match history_file(settings, files, script.as_ref()) {
         Ok(history) => history,
@@ -354,7 +381,8 @@ fn run_settings<R: Read + Drop, W: Write, E: Write, F: Files>(
 /// - 2 for a bad command line or limits that are none.
 ///
 /// The words are looked at first, then the limits. Then the script is opened by `files`, if one is
-/// named that isn't `-`, else it is `reader`. Then `files` makes the file of `--history`, unless it
+/// named that isn't `-`, else it is `reader`. If that is a file into which the answers would go, by
+/// what `files` tells of it, the run ends. Then `files` makes the file of `--history`, unless it
 /// is a stream of the run by what `files` tells of it: that ends the run. The script is read last,
 /// by a kernel with ready lists, or with `--plain` by one that scans: their answers differ at most
 /// in which of several reportable registrations a wait reports first. `--explain` changes what

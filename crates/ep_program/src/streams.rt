@@ -1,5 +1,6 @@
 //! What a run reads and writes besides its history, and whether the history would go there, too.
-ghost use Rattle.ep_program.specs.Streams.{IsFirst};
+ghost use Rattle.std.specs.Prelude.{◌↔◌, IsTrue};
+ghost use Rattle.ep_program.specs.Streams.{AreAnswersRead, IsFirst};
 
 use std::fmt::{self, Display, Formatter};
 
@@ -36,9 +37,23 @@ pub struct Streams {
     pub output: Option<FileId>,
     /// Standard error.
     pub errors: Option<FileId>,
+    /// Whether standard output keeps what it is given, so that it can be read there again: a file of
+    /// a disk does, and a terminal, a pipe or a socket doesn't.
+    pub keeps_answers: bool,
 }
 
 impl Streams {
+    /// Whether what a run answers would be read by it, if it reads this file: it is standard output,
+    /// and keeps what it is given.
+    pub fn are_answers_read(&self, source: Option<FileId>) -> bool
+        ensures { IsTrue result ↔ AreAnswersRead source self.now }
+    {
+        match source {
+            Some(file) => self.keeps_answers && self.output == Some(file),
+            None => false,
+        }
+    }
+
     /// The first stream, in the order of `Stream`, that is this file, or `None` if none is.
     pub fn find(&self, file: FileId) -> Option<Stream>
         ensures { IsFirst file self.now result }

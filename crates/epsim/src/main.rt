@@ -41,6 +41,14 @@ fn id_of(found: &Metadata) -> Option<FileId> {
     })
 }
 
+/// Which file a stream is, unless it is closed.
+fn id_of_stream(found: Option<&Metadata>) -> Option<FileId> {
+    match found {
+        Some(found) => id_of(found),
+        None => None,
+    }
+}
+
 /// The files on the disk.
 #[derive(Drop)]
 struct Disk<'a> {
@@ -48,10 +56,10 @@ struct Disk<'a> {
 }
 
 impl Disk<'_> {
-    /// Which file a standard stream is, by its name. One that is closed has no name.
-    fn stream(&self, number: BorrowedFd<'_>, path: &str) -> io::Result<Option<FileId>> {
+    /// What there is to know of a standard stream's file, by its name. One that is closed has no name.
+    fn stream(&self, number: BorrowedFd<'_>, path: &str) -> io::Result<Option<Metadata>> {
         match fs::metadata(self.rt, path) {
-            Ok(found) => Ok(id_of(&found)),
+            Ok(found) => Ok(Some(found)),
             Err(_) if number.try_clone_to_owned().is_err() => Ok(None),
             Err(_) => Err(io::Error::other(
                 "without /proc it isn't known which files the standard streams are",
@@ -78,11 +86,15 @@ impl Files for Disk<'_> {
             Some(file) => id_of(&file.metadata()?),
             None => None,
         };
+        let input = self.stream(self.rt.stdin().as_fd(), "/proc/self/fd/0")?;
+        let output = self.stream(self.rt.stdout().as_fd(), "/proc/self/fd/1")?;
+        let errors = self.stream(self.rt.stderr().as_fd(), "/proc/self/fd/2")?;
         Ok(Streams {
             script,
-            input: self.stream(self.rt.stdin().as_fd(), "/proc/self/fd/0")?,
-            output: self.stream(self.rt.stdout().as_fd(), "/proc/self/fd/1")?,
-            errors: self.stream(self.rt.stderr().as_fd(), "/proc/self/fd/2")?,
+            input: id_of_stream(input.as_ref()),
+            output: id_of_stream(output.as_ref()),
+            errors: id_of_stream(errors.as_ref()),
+            keeps_answers: output.is_some_and(|it| it.is_file()),
         })
     }
 

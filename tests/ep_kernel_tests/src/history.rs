@@ -160,7 +160,7 @@ fn writes_a_record_a_line(rt: HostRuntime) -> Result<(), Fail> {
         script: Some(FILE),
         input: Some(OTHER),
         output: Some(OTHER),
-        errors: None,
+        ..Streams::default()
     };
     let file = expect_file(&rt, others, &[], (0, ANSWERS, COUNT))?;
     assert_eq!(rt; file.as_slice(), HISTORY);
@@ -197,6 +197,7 @@ fn writes_no_history_into_a_stream(rt: HostRuntime) -> Result<(), Fail> {
             input,
             output,
             errors,
+            keeps_answers: false,
         };
         let error = format!(in rt.alloc();
             "epsim: cannot write the history to \"h.jsonl\": it is {name}\n"
@@ -204,6 +205,56 @@ fn writes_no_history_into_a_stream(rt: HostRuntime) -> Result<(), Fail> {
         let file = expect_file(&rt, streams, &[word], (1, NOTHING, error.as_bytes()))?;
         assert_eq!(rt; file.as_slice(), b"x".as_slice());
     }
+    Ok(())
+}
+
+/// By a word, the files, and which of them is standard output and would be read.
+const READ_AGAIN: [(&str, Ids, &str); 3] = [
+    ("s", (Some(OTHER), None, Some(OTHER), None), "the script"),
+    (
+        "s",
+        (Some(OTHER), Some(FILE), Some(OTHER), None),
+        "the script",
+    ),
+    (
+        "-",
+        (None, Some(OTHER), Some(OTHER), None),
+        "standard input",
+    ),
+];
+
+#[test]
+fn reads_no_answers(rt: HostRuntime) -> Result<(), Fail> {
+    for (word, ids, name) in READ_AGAIN {
+        let (script, input, output, errors) = ids;
+        let streams = Streams {
+            script,
+            input,
+            output,
+            errors,
+            keeps_answers: true,
+        };
+        let error = format!(in rt.alloc();
+            "epsim: cannot write the answers to standard output: it is {name}\n"
+        )?;
+        let file = expect_file(&rt, streams, &[word], (1, NOTHING, error.as_bytes()))?;
+        assert_eq!(rt; file.as_slice(), b"x".as_slice());
+    }
+    Ok(())
+}
+
+/// Standard input isn't read if a script is named, so it may have the answers.
+#[test]
+fn answers_into_what_it_does_not_read(rt: HostRuntime) -> Result<(), Fail> {
+    let streams = Streams {
+        script: None,
+        input: Some(OTHER),
+        output: Some(OTHER),
+        errors: None,
+        keeps_answers: true,
+    };
+    let file = expect_file(&rt, streams, &["s"], (0, ANSWERS, COUNT))?;
+    assert_eq!(rt; file.as_slice(), HISTORY);
     Ok(())
 }
 
