@@ -16,8 +16,8 @@ COUNT             how many scripts are run, some 100 in a second
 --print           prints script N and runs nothing
 
 It needs Python 3.8. Of the first three scripts that fail it prints the line with the wrong answer, and what is wrong
-with it. The last line is `COUNT scripts, .. lines, .. failed`. The status is 0 if none failed, 1 if one did, 2 if the
-words are bad or something can't be run or written.
+with it. The last two lines are how many lines were asked, and `N passed, N failed` over the scripts. The status is 0 if
+none failed, 1 if one did, 2 if the words are bad or something can't be run or written.
 
 The rules are those of the reference model, told once more in Python. So a fault of a kernel stays unseen only if it was
 made here, too. What a wait reports is free within its rules, so each answer is judged, and none is foretold. Who is
@@ -828,7 +828,7 @@ def run_all(words):
                 print(f"script {number}: {fault}", flush=True)
             if words.keep:
                 keep(words, number, lines)
-    print(f"{words.count} scripts, {count} lines, {failed} failed")
+    print(f"{count} lines", f"{words.count - failed} passed, {failed} failed", sep="\n")
     return failed
 
 

@@ -51,6 +51,6 @@ fn main(rt: HostRuntime) -> io::Result<ExitCode> {
     if compare(&rt)? {
         return Ok(ExitCode::SUCCESS);
     }
-    eprintln!(rt; "ep_examples: this folder has no examples: run it in crates/ep_examples/data")?;
+    eprintln!(rt; "ep_examples: this folder has no examples: run it in tests/ep_examples/data")?;
     Ok(ExitCode::from(NO_EXAMPLES))
 }
