@@ -30,8 +30,13 @@ use ep_order::{marked_are_looked_at, untouched_stay_reportable};
 use std::alloc::{AllocError, Global};
 use std::marker::Model;
 
-/// A kernel that keeps no ready list: a wait looks at each registration of its instance. Of timers a tick looks only at
-/// those whose moment has come.
+/// The kernel that scans: a wait, or a resumption that reports, goes over all registrations of its instance and takes
+/// the longest unreported of those that are reportable. It has no list whose order tells what is next. It does keep
+/// since which event each registration is reportable, and for each instance the row of those that are. By these it
+/// tells whether an instance is ready, and whether a report may be of given registrations. The end of an event looks
+/// only at what the event touched, and a tick only at the timers whose moment has come.
+/// It is there beside the kernel with ready lists since `step_with` takes any fair report, by which an audit makes the
+/// steps of any history again. A ready list has one order, and so one report.
 /// Contracts see its limits, its history, and how many records fit.
 #[derive(Drop)]
 pub struct PlainKernel {
