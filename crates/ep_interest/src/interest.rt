@@ -326,8 +326,8 @@ impl<A: Allocator> Interest<A> {
         counted
     }
 
-    /// Whether an instance has an exclusive registration. Those of the instance are visited in order of registration, up
-    /// to the first exclusive one.
+    /// Whether an instance has an exclusive registration. Those of the instance are visited in order of registration,
+    /// up to the first exclusive one.
     pub fn has_exclusive(&self, instance: DescId) -> bool
         ensures { result ≡ list_any exclusive (filter (is_of instance) self.now.entries) }
     {
