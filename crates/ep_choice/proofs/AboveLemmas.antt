@@ -38,11 +38,6 @@ module _ (v : Seen) (tables : SoundTables v) (r : Registrations) (sound : IsSoun
   abbrev watches : List KernelWatch
   watches = watches_of v r
 
-  -- what is reached from an instance that lives has a description
-  pub from_lives : (inner k : ℕ) → Lives v inner → IsFrom es k inner → Lives v k
-  from_lives inner k lives (inl e) = subst (Lives v) (sym e) lives
-  from_lives inner k lives (inr up) = (ends_live v tables r sound linked graph nested (k, up.1.0) up.1.1).0
-
   module _ (legal : is_legal (edges graph) ≡ true) (inner : ℕ) (lives : Lives v inner) (holds : has_instance v.files (number v inner) ≡ true) where
     above_law : (k : ℕ) → (above_now v.files watches (number v inner) (number v k) ≡ true) ↔ IsAbove (open_links v.files watches) (number v k) (number v inner)
     above_law k = above_is_above v.files watches (number v inner) (number v k) (short v tables r sound linked graph nested legal) holds

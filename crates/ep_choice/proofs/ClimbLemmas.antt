@@ -1,5 +1,5 @@
 -- What is reached from the instance of a registration.
-use Rattle.std.proofs.Common.{◌≡◌, ◌∙◌, ◌⊎◌, true, false, IsSome, Some, ap, inl, inr, refl, sym}
+use Rattle.std.proofs.Common.{◌≡◌, ◌∙◌, true, false, Some, ap, refl, sym}
 use Rattle.std.specs.List.{list_any}
 use Rattle.ep_base.specs.declared.ids.EntryId.{EntryId}
 use Rattle.ep_calls.proofs.EntryLemmas.{holds_under}
@@ -7,16 +7,15 @@ use Rattle.ep_calls.specs.Climb.{is_nested_key}
 use Rattle.ep_calls.specs.Parts.{AreCoherent, Parts}
 use Rattle.ep_calls.specs.Readiness.{readiness}
 use Rattle.ep_calls.specs.Stands.{IsLinked, watch_at}
-use Rattle.ep_choice.proofs.AboveLemmas.{finds_walk, from_lives}
+use Rattle.ep_choice.proofs.AboveLemmas.{finds_walk}
 use Rattle.ep_choice.specs.Choose.{HaveInstances, awaited_key, finds_key, finds_under}
-use Rattle.ep_climb.specs.Reach.{AreLive, Ascends, IsFrom, open_edges}
+use Rattle.ep_climb.specs.Reach.{Ascends, open_edges}
 use Rattle.ep_interest.specs.Registrations.{IsSound, entry_under}
 use Rattle.ep_interest.specs.declared.entry.Entry.{Entry}
-use Rattle.ep_machine.specs.Lists.{is_among}
 use Rattle.ep_machine.specs.Watches.{is_legal}
 use Rattle.ep_nest.specs.Links.{edges}
 use Rattle.ep_ready.specs.Walk.{Walk}
-use Rattle.ep_table.specs.Value.{Sound, number_under}
+use Rattle.ep_table.specs.Value.{Sound}
 
 module _ (p : Parts) (coherent : AreCoherent p) (tables : Sound p.tables) (sound : IsSound p.interest) (legal : is_legal (edges p.graph) ≡ true) (instances : HaveInstances p)
     (id : EntryId) (x : Entry) (under : entry_under p.interest id ≡ Some x) (old new : Walk) (a : Ascends (open_edges p.interest p.graph) x.instance.0 old new) where
@@ -25,12 +24,6 @@ module _ (p : Parts) (coherent : AreCoherent p) (tables : Sound p.tables) (sound
 
   holds : is_nested_key p.tables x.instance ≡ true
   holds = holds_under (λ y. is_nested_key p.tables y.instance ≡ true) p.interest id x instances under
-
-  pub climb_live : AreLive p.tables old.reached → AreLive p.tables new.reached
-  climb_live lived i t = by ((a.exact i.0).0 t) where
-    by : (is_among old.reached i.0 ≡ true) ⊎ IsFrom (open_edges p.interest p.graph) i.0 x.instance.0 → IsSome (number_under p.tables i)
-    by (inl before) = lived i before
-    by (inr from) = from_lives p.tables tables p.interest sound coherent.linked p.graph coherent.nested x.instance.0 i.0 link.instance from
 
   pub climb_exact : list_any (awaited_key p.tables p.clock p.interest p.parked) old.reached ≡ false
       → list_any (awaited_key p.tables p.clock p.interest p.parked) new.reached ≡ finds_key p.tables p.clock p.interest p.parked id.0

@@ -1,5 +1,5 @@
 -- Which instances are guarded.
-use Rattle.std.proofs.Common.{◌≡◌, ◌∙◌, ◌+◌, ◌<◌, ◌≤◌, ◌||◌, ◌⊎◌, ◌↔◌, ℕ, suc, Bool, true, false, Contains, List, [], ◌∷◌, ap, cond, filter, get_or, inl, inr, length, map, nat_lt, refl, subst, sym, take, arith}
+use Rattle.std.proofs.Common.{◌≡◌, ◌∙◌, ◌+◌, ◌<◌, ◌||◌, ◌⊎◌, ◌↔◌, ℕ, suc, Bool, true, false, Contains, List, [], ◌∷◌, ap, cond, filter, get_or, inl, inr, length, map, nat_lt, refl, subst, sym, take, arith}
 use Rattle.std.specs.List.{list_any}
 use Rattle.std.proofs.lemmas.Bool.{cases_Bool, false≢true}
 use Rattle.std.proofs.lemmas.Bool.Decides.{nat_tests}
@@ -16,8 +16,8 @@ use Rattle.ep_choice.specs.Choose.{AreOfInstances}
 use Rattle.ep_choice.specs.Guarded.{guarded_key, has_exclusive}
 use Rattle.ep_climb.proofs.ReachLemmas.{back, forth, short_both}
 use Rattle.ep_climb.specs.Reach.{IsFrom}
-use Rattle.ep_interest.specs.Exclusive.{exclusive_of, is_exclusive}
-use Rattle.ep_interest.specs.Registrations.{Registrations, id_of, is_of, with_ids}
+use Rattle.ep_interest.specs.Exclusive.{is_exclusive}
+use Rattle.ep_interest.specs.Registrations.{Registrations, is_of}
 use Rattle.ep_interest.specs.declared.entry.Entry.{Entry}
 use Rattle.ep_law.proofs.GraphLemmas.{member_of_map}
 use Rattle.ep_law.proofs.ListLemmas.{all_member, among, among_member, any_member, filtered_member, filtered_passes, member_filter, member_map}
@@ -38,21 +38,6 @@ use Rattle.ep_table.specs.Value.{Seen, Sound as SoundTables}
 use Rattle.ep_view.specs.KernelView.{KernelWatch}
 use Rattle.ep_view.specs.Marking.{guarded_now, is_guard}
 
--- How many exclusive registrations an instance has.
-counted : (r : Registrations) (xs : List Entry) → length (exclusive_of (with_ids r xs)) ≡ length (filter is_exclusive xs)
-counted r [] = refl
-counted r (x ∷ xs) =
-    let rest = counted r xs in
-    let ps = exclusive_of (with_ids r xs) in
-    let ys = filter is_exclusive xs in
-    elim (is_exclusive x) as (λ b. length (cond b ((id_of r x.number, x) ∷ ps) ps) ≡ length (cond b (x ∷ ys) ys)) [
-      | true ↦ ap suc rest
-      | false ↦ rest
-    ]
-
-pub has_some : (r : Registrations) (d : DescId) (n : ℕ) → n ≡ length (exclusive_of (with_ids r (filter (is_of d) r.entries))) → nat_lt 0 n ≡ has_exclusive r d
-has_some r d n is = ap (nat_lt 0) (is ∙ counted r (filter (is_of d) r.entries))
-
 -- Asking one after another.
 module _ (p : DescId → Bool) (ds : List DescId) (i : ℕ) (z : DescId) (lt : i < length ds) where
   pub found_one : p (get_or ds i z) ≡ true → list_any p ds ≡ true
@@ -61,17 +46,9 @@ module _ (p : DescId → Bool) (ds : List DescId) (i : ℕ) (z : DescId) (lt : i
   pub none_more : list_any p (take i ds) ≡ false → p (get_or ds i z) ≡ false → list_any p (take (i + 1) ds) ≡ false
   none_more h n = ap (list_any p) (take_more ds i z lt) ∙ (or_push (list_any p) p refl (λ x xs. refl) (take i ds) (get_or ds i z) ∙ (λ j. h j || n j))
 
--- Tests of counts.
+-- A list that has something.
 pub is_positive : (n : ℕ) → 0 < n → nat_lt 0 n ≡ true
 is_positive n h = grind (arith, nat_tests, h)
-
-pub is_none : (n : ℕ) → n ≤ 0 → nat_lt 0 n ≡ false
-is_none n h = grind (arith, nat_tests, h)
-
--- Lists that have something.
-some_long : {X : Type 0} (xs : List X) → nat_lt 0 (length xs) ≡ true → (x : X) × Member x xs
-some_long [] h = absurd (false≢true h)
-some_long (x ∷ xs) h = (x, inl refl)
 
 long_some : {X : Type 0} (xs : List X) (x : X) → Member x xs → nat_lt 0 (length xs) ≡ true
 long_some [] x m = absurd m
@@ -159,13 +136,11 @@ module _ (v : Seen) (tables : SoundTables v) (r : Registrations) (linked : AreLi
   -- an instance with an exclusive registration
   exclusive_in : (d : DescId) → has_exclusive r d ≡ true → (x : Entry) × Member x r.entries × (is_exclusive x ≡ true) × (x.instance.0 ≡ d.0)
   exclusive_in d h =
-      let x = some_long (filter is_exclusive (filter (is_of d) r.entries)) h in
-      let m = filtered_member is_exclusive (filter (is_of d) r.entries) x.0 x.1 in
-      (x.0, filtered_member (is_of d) r.entries x.0 m, filtered_passes is_exclusive (filter (is_of d) r.entries) x.0 x.1, from_test x.0.instance.0 d.0 (filtered_passes (is_of d) r.entries x.0 m))
+      let x = any_member is_exclusive (filter (is_of d) r.entries) h in
+      (x.0, filtered_member (is_of d) r.entries x.0 x.1, x.2, from_test x.0.instance.0 d.0 (filtered_passes (is_of d) r.entries x.0 x.1))
 
   in_exclusive : (d : DescId) (x : Entry) → Member x r.entries → is_exclusive x ≡ true → x.instance.0 ≡ d.0 → has_exclusive r d ≡ true
-  in_exclusive d x m e at =
-      long_some (filter is_exclusive (filter (is_of d) r.entries)) x (member_filter is_exclusive x (filter (is_of d) r.entries) (member_filter (is_of d) x r.entries m (same_test x.instance.0 d.0 at)) e)
+  in_exclusive d x m e at = any_has is_exclusive (filter (is_of d) r.entries) x (member_filter (is_of d) x r.entries m (same_test x.instance.0 d.0 at)) e
 
   pub own_guard : (d : DescId) → has_exclusive r d ≡ true → guarded_key v r d.0 ≡ true
   own_guard d h = let x = exclusive_in d h in has_guarded d.0 (x.0, x.1, x.2, inl (sym x.3))

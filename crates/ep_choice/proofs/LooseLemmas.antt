@@ -1,22 +1,25 @@
 -- What is above by all links, and marks there.
 use Rattle.std.proofs.Common.{◌≡◌, ◌∙◌, ◌+◌, ◌<◌, ◌&&◌, ◌||◌, ◌==◌, ◌⊎◌, Bool, List, [], ◌∷◌, Some, ap, false, filter, get_or, if◌then◌else◌, inl, inr, length, not, refl, slice_get, subst, sym, take, true, ℕ}
-use Rattle.std.proofs.lemmas.Bool.{false≢true}
+use Rattle.std.proofs.lemmas.Bool.{cases_Bool, false≢true}
 use Rattle.std.proofs.lemmas.List.{take_more}
 use Rattle.std.proofs.lemmas.List.Recursion.{or_push}
 use Rattle.ep_calls.specs.Parts.{Parts}
 use Rattle.ep_choice.proofs.WalkLemmas.{at_place}
+use Rattle.ep_choice.specs.Choose.{awaited_key}
 use Rattle.ep_choice.specs.Guarded.{guarded_key}
 use Rattle.ep_choice.specs.Lost.{AreAbove, is_loose, marked_loose}
-use Rattle.ep_climb.proofs.MarkLemmas.{ready_in, turn_next, with_parked}
-use Rattle.ep_climb.specs.Mark.{marked_where}
+use Rattle.ep_climb.proofs.MarkLemmas.{ready_in, turn_next, unwaited, with_parked}
 use Rattle.ep_climb.specs.Reach.{Ascends, IsFrom}
+use Rattle.ep_law.proofs.ListLemmas.{first_of_and, second_of_and}
 use Rattle.ep_law.proofs.NarrowLemmas.{either_or}
 use Rattle.ep_law.proofs.TestLemmas.{from_test, or_left, or_right, same_nat}
 use Rattle.ep_machine.specs.Lists.{is_among}
+use Rattle.ep_machine.specs.State.{Waiter}
+use Rattle.ep_machine.specs.Waits.{is_marked_at, waits_at}
 use Rattle.ep_nest.specs.Links.{admitted_by}
 use Rattle.ep_nest.specs.declared.link.Link.{Link}
 use Rattle.ep_park.specs.Turns.{marked_in_turn}
-use Rattle.ep_park.specs.Waiters.{longest_marked}
+use Rattle.ep_park.specs.Waiters.{first_marked, longest_marked}
 use Rattle.ep_ready.specs.Walk.{Walk}
 
 pub admitted_all : (ls : List Link) → admitted_by (λ k. true) ls ≡ ls
@@ -51,18 +54,33 @@ and_false : (a : Bool) → (a && false) ≡ false
 and_false true = refl
 and_false false = refl
 
-and_true : (a : Bool) → (a && true) ≡ a
-and_true true = refl
-and_true false = refl
-
 pub guarded_still : (p : Parts) (e : ℕ) → guarded_key p.tables p.interest e ≡ true → p ≡ with_parked p (marked_loose p e p.parked)
 guarded_still p e h = ap (λ (b : Bool). with_parked p (if b then longest_marked e p.parked else p.parked)) (sym (ap (λ (b : Bool). ready_in p e && not b) h ∙ and_false (ready_in p e)))
 
-pub unguarded_marked : (p mid new : Parts) (e : ℕ) → mid ≡ p → new ≡ with_parked mid (marked_where (ready_in mid) e mid.parked) → guarded_key p.tables p.interest e ≡ false → new ≡ with_parked p (marked_loose p e p.parked)
-unguarded_marked p mid new e same is h =
-    is
-    ∙ (ap (λ (q : Parts). with_parked q (marked_where (ready_in q) e q.parked)) same
-    ∙ ap (λ (b : Bool). with_parked p (if b then longest_marked e p.parked else p.parked)) (sym (ap (λ (b : Bool). ready_in p e && not b) h ∙ and_true (ready_in p e))))
+-- where no marked one is missing
+unmarked : (r g m : Bool) (us ws : List Waiter) → (r && true && not m) ≡ false → (if r && g then (if m then ws else us) else ws) ≡ ws
+unmarked true true true us ws h = refl
+unmarked true true false us ws h = absurd (false≢true (sym h))
+unmarked true false m us ws h = refl
+unmarked false g m us ws h = refl
+
+abbrev awaited_in : Parts → ℕ → Bool
+awaited_in p e = awaited_key p.tables p.clock p.interest p.parked e
+
+pub unawaited_still : (p : Parts) (e : ℕ) → awaited_in p e ≡ false → p ≡ with_parked p (marked_loose p e p.parked)
+unawaited_still p e h = ap (with_parked p) (sym (elim (cases_Bool (waits_at p.parked e)) [
+  | inl waits ↦ unmarked (ready_in p e) (not (guarded_key p.tables p.interest e)) (is_marked_at p.parked e) (first_marked e p.parked) p.parked (ap (λ (b : Bool). ready_in p e && b && not (is_marked_at p.parked e)) (sym waits) ∙ h)
+  | inr none ↦ unwaited (is_loose p) p.parked e none
+]))
+
+pub awaited_waits : (p : Parts) (e : ℕ) → awaited_in p e ≡ true → waits_at p.parked e ≡ true
+awaited_waits p e h = second_of_and (ready_in p e) (waits_at p.parked e) (first_of_and (ready_in p e && waits_at p.parked e) _ h)
+
+pub awaited_marked : (p mid : Parts) (e : ℕ) → mid ≡ p → awaited_in p e ≡ true → guarded_key p.tables p.interest e ≡ false → with_parked mid (longest_marked e mid.parked) ≡ with_parked p (marked_loose p e p.parked)
+awaited_marked p mid e same awaited free =
+    let ready : ready_in p e ≡ true = first_of_and (ready_in p e) (waits_at p.parked e) (first_of_and (ready_in p e && waits_at p.parked e) _ awaited) in
+    ap (λ (q : Parts). with_parked q (longest_marked e q.parked)) same
+    ∙ (λ i. with_parked p (if sym ready i && not (sym free i) then longest_marked e p.parked else p.parked))
 
 -- once the first i of these had their turn
 pub record HadLoose (old : Parts) (ks : List ℕ) (i : ℕ) (new : Parts) : Type 0 where

@@ -1,5 +1,6 @@
 -- Which instances are guarded, by their keys.
-use Rattle.std.specs.Prelude.{Bool, filter, length, nat_lt, ℕ}
+use Rattle.std.specs.List.{list_any}
+use Rattle.std.specs.Prelude.{Bool, filter, ℕ}
 use Rattle.ep_base.specs.declared.ids.DescId.{DescId}
 use Rattle.ep_calls.specs.Readiness.{watches_of}
 use Rattle.ep_calls.specs.Stands.{number_at}
@@ -10,7 +11,7 @@ use Rattle.ep_view.specs.Marking.{guarded_now}
 
 -- an instance has an exclusive registration
 abbrev pub has_exclusive : Registrations → DescId → Bool
-has_exclusive r instance = nat_lt 0 (length (filter is_exclusive (filter (is_of instance) r.entries)))
+has_exclusive r instance = list_any is_exclusive (filter (is_of instance) r.entries)
 
 -- it has one, or an instance beneath it has
 abbrev pub guarded_key : Seen → Registrations → ℕ → Bool

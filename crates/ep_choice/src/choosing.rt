@@ -2,7 +2,7 @@
 ghost use Rattle.std.specs.Prelude.{◌≡◌, ◌<◌, [], IsSome, false, take};
 ghost use Rattle.std.specs.List.{list_any};
 ghost use Rattle.ep_choice.specs.Choose.{AreCandidates, AreKeys, HasKeys, HaveInstances, awaited_key, chosen_number, finds_key, with_candidate};
-ghost use Rattle.ep_climb.specs.Reach.{AreLive, AreRoomy, IsClosed, IsGrown, open_edges};
+ghost use Rattle.ep_climb.specs.Reach.{AreRoomy, IsClosed, IsGrown, open_edges};
 ghost use Rattle.ep_interest.specs.Registrations.{number_under as number_of_entry};
 ghost use Rattle.ep_table.specs.Value.{number_under};
 
@@ -13,9 +13,9 @@ use ep_interest::{Entry, Interest};
 use ep_ready::Walk;
 use std::alloc::Global;
 
-/// Whether an instance is ready and somebody waits there, and nobody who does is marked.
-fn is_awaited<R: Readiness>(parts: &Parts, ready: &mut R, instance: DescId) -> bool
-    requires live { IsSome (number_under parts.now.tables instance) }
+/// Whether an instance is ready and somebody waits there, and nobody who does is marked. Whether it is ready is asked
+/// last.
+pub(crate) fn is_awaited<R: Readiness>(parts: &Parts, ready: &mut R, instance: DescId) -> bool
     requires knows { R.knows ready.old parts.now.tables parts.now.clock parts.now.interest }
     ensures exact { result
         ≡ awaited_key parts.now.tables parts.now.clock parts.now.interest parts.now.parked
@@ -38,7 +38,6 @@ fn is_any_awaited<R: Readiness>(
     reached: &Walk<Global>,
     asked: usize,
 ) -> bool
-    requires live { AreLive parts.now.tables reached.now.reached }
     requires asked { list_any
         (awaited_key parts.now.tables parts.now.clock parts.now.interest parts.now.parked)
         (take asked reached.now.reached)
@@ -89,7 +88,6 @@ fn climb_from(parts: &mut Parts, reached: &mut Walk<Global>, id: EntryId)
     requires instances { HaveInstances parts.old }
     requires room { AreRoomy parts.old.interest reached.old }
     requires closed { IsClosed (open_edges parts.old.interest parts.old.graph) reached.old.reached }
-    requires live { AreLive parts.old.tables reached.old.reached }
     requires vain { list_any
         (awaited_key parts.old.tables parts.old.clock parts.old.interest parts.old.parked)
         reached.old.reached
@@ -98,7 +96,6 @@ fn climb_from(parts: &mut Parts, reached: &mut Walk<Global>, id: EntryId)
     ensures room { reached.new.room ≡ reached.old.room }
     ensures grown { IsGrown reached.old.reached reached.new.reached }
     ensures closed { IsClosed (open_edges parts.old.interest parts.old.graph) reached.new.reached }
-    ensures live { AreLive parts.old.tables reached.new.reached }
     ensures exact { list_any
         (awaited_key parts.old.tables parts.old.clock parts.old.interest parts.old.parked)
         reached.new.reached

@@ -15,7 +15,7 @@ fn is_any_exclusive(interest: &Interest, instances: &[DescId]) -> bool
     ensures { result ≡ list_any (λ (d : Key). has_exclusive interest.now d) instances.now }
 {
     for instance in instances {
-        if interest.exclusive_count(*instance) > 0 {
+        if interest.has_exclusive(*instance) {
             return true;
         }
     }
@@ -23,7 +23,8 @@ fn is_any_exclusive(interest: &Interest, instances: &[DescId]) -> bool
 }
 
 /// Whether there is an exclusive registration in an instance or in one beneath it, to which a chain of links leads
-/// down, armed or not. It looks at the links from it and from those, and at the registrations of all of these; at none
+/// down, armed or not. It looks at the registrations of the instance up to the first exclusive one; if it has none, at
+/// the links from it and from those beneath, and at the registrations of these up to the first exclusive one. At nothing
 /// if no registration is exclusive. It takes no memory.
 pub fn is_guarded(parts: &mut Parts, instance: DescId) -> bool
     requires live { IsSome (number_under parts.old.tables instance) }
@@ -37,7 +38,7 @@ pub fn is_guarded(parts: &mut Parts, instance: DescId) -> bool
     if parts.interest.guards() == 0 {
         return false;
     }
-    if parts.interest.exclusive_count(instance) > 0 {
+    if parts.interest.has_exclusive(instance) {
         return true;
     }
     is_any_exclusive(&parts.interest, parts.graph.beneath(instance))

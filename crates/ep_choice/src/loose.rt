@@ -7,10 +7,11 @@ ghost use Rattle.ep_climb.specs.Reach.{Ascends, AreHome, AreRoomy, IsClosed};
 ghost use Rattle.ep_nest.specs.Links.{edges};
 ghost use Rattle.ep_park.specs.Turns.{marked_in_turn};
 
+use crate::choosing::is_awaited;
 use crate::guarded::is_guarded;
 use ep_base::{DescId, EntryId};
 use ep_calls::Parts;
-use ep_climb::{Readiness, mark_at, reach_each};
+use ep_climb::{Readiness, reach_each};
 use ep_nest::Graph;
 use ep_ready::Walk;
 use std::alloc::Global;
@@ -47,6 +48,7 @@ fn reach_loose(parts: &mut Parts, reached: &mut Walk<Global>, lost: &Walk<Global
 }
 
 /// Marks the caller that waits longest at an instance, if that is ready and not guarded, and none is marked there.
+/// Whether it is guarded is asked last: that goes through all that is beneath.
 fn mark_unguarded<R: Readiness>(parts: &mut Parts, ready: &mut R, instance: DescId)
     requires instances { HaveInstances parts.old }
     requires knows { R.knows ready.old parts.old.tables parts.old.clock parts.old.interest }
@@ -55,18 +57,19 @@ fn mark_unguarded<R: Readiness>(parts: &mut Parts, ready: &mut R, instance: Desc
     ensures knows { R.knows ready.new parts.old.tables parts.old.clock parts.old.interest }
 {
     parts.known();
-    if !parts.waiters.has_waiter(instance) {
+    if !is_awaited(parts, ready, instance) {
         return;
     }
     if is_guarded(parts, instance) {
         return;
     }
-    mark_at(parts, ready, instance);
+    parts.waiters.mark_longest(instance);
 }
 
 /// The same at each instance that lost a registration in an event that may have guarded it, or what is above it, and at
-/// those above, by all links. What was lost is forgotten. It takes no memory. `reached` is a walk that nothing is asked
-/// of any more.
+/// those above, by all links. What was lost is forgotten. It takes no memory. Its time grows with what is above, and
+/// with what is beneath those of them that are ready and at which somebody waits and nobody is marked. `reached` is a
+/// walk that nothing is asked of any more.
 #[cold]
 #[inline(never)]
 pub fn mark_loose<R: Readiness>(

@@ -1,4 +1,4 @@
-use Rattle.std.proofs.Common.{ℕ, ◌∙◌, IsSome, ap, arith, subst, sym, List, refl}
+use Rattle.std.proofs.Common.{◌∙◌, IsSome, ap, arith, subst, sym, refl}
 use Rattle.std.specs.Option.{option_map}
 use Rattle.ep_calls.specs.Parts.{Parts}
 use Rattle.ep_choice.proofs.GatherLemmas.{chosen_of, key_number}
@@ -8,9 +8,7 @@ use Rattle.ep_calls.specs.Stands.{AreLinked}
 use Rattle.ep_interest.specs.Registrations.{IsSound, Registrations, entry_found, entry_under, number_under as entry_number}
 use Rattle.ep_interest.specs.declared.entry.Entry.{Entry}
 use Rattle.std.specs.List.{list_any}
-use Rattle.std.proofs.lemmas.Bool.{false≢true}
-use Rattle.ep_climb.specs.Reach.{AreLive, IsClosed, open_edges}
-use Rattle.ep_machine.specs.Lists.{is_among}
+use Rattle.ep_climb.specs.Reach.{IsClosed, open_edges}
 use Rattle.ep_choice.proofs.choosing.choose.Goals as goal
 
 pub climb_from-requires-clause-there : goal.climb_from-requires-clause-there
@@ -27,7 +25,6 @@ loop-index-init g c =
       parts = refl;
       vain = refl;
       closed = closed_none (open_edges p.interest p.graph) c.forget-2.new.self c.forget-2.ensures.reached;
-      live = λ i t. absurd (false≢true (sym (ap (λ (ks : List ℕ). is_among ks i.0) c.forget-2.ensures.reached) ∙ t));
       none = ap (list_any (awaited_key p.tables p.clock p.interest p.parked)) c.forget-2.ensures.reached;
       room = c.forget-2.ensures.room;
       knows = c.requires.knows;
@@ -36,10 +33,6 @@ loop-index-init g c =
 pub climb_from-requires-clause-closed : goal.climb_from-requires-clause-closed
 climb_from-requires-clause-closed g c =
     subst (λ (q : Parts). IsClosed (open_edges q.interest q.graph) c.loop-index.reached.reached) (sym c.loop-index.invariant.parts) c.loop-index.invariant.closed
-
-pub climb_from-requires-clause-live : goal.climb_from-requires-clause-live
-climb_from-requires-clause-live g c =
-    subst (λ (q : Parts). AreLive q.tables c.loop-index.reached.reached) (sym c.loop-index.invariant.parts) c.loop-index.invariant.live
 
 pub climb_from-requires-clause-vain : goal.climb_from-requires-clause-vain
 climb_from-requires-clause-vain g c =
@@ -63,7 +56,6 @@ loop-index-preserved g c =
     record {
       parts = same;
       closed = subst (λ (q : Parts). IsClosed (open_edges q.interest q.graph) c.climb_from.new.reached.reached) c.loop-index.invariant.parts c.climb_from.ensures.closed;
-      live = subst (λ (q : Parts). AreLive q.tables c.climb_from.new.reached.reached) c.loop-index.invariant.parts c.climb_from.ensures.live;
       none = ap (λ (q : Parts). list_any (awaited_key q.tables q.clock q.interest q.parked) c.climb_from.new.reached.reached) (sym c.loop-index.invariant.parts) ∙ found;
       vain =
           vain_on (finds_key p.tables p.clock p.interest p.parked) ks c.loop-index.index c.at.result (omega (arith, c.loop-index-test.true, c.count-index-end.ensures)) c.at.ensures c.loop-index.invariant.vain

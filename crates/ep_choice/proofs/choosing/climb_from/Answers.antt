@@ -1,11 +1,11 @@
 use Rattle.std.proofs.Common.{◌≡◌, ◌∙◌, ap, subst, sym, false}
 use Rattle.std.specs.List.{list_any}
 use Rattle.ep_calls.specs.Parts.{Parts}
-use Rattle.ep_choice.proofs.ClimbLemmas.{climb_exact, climb_live}
+use Rattle.ep_choice.proofs.ClimbLemmas.{climb_exact}
 use Rattle.ep_choice.specs.Choose.{HaveInstances, awaited_key, finds_key}
 use Rattle.ep_climb.proofs.ReachLemmas.{all_home}
 use Rattle.ep_climb.proofs.WalkLemmas.{ascends_closed}
-use Rattle.ep_climb.specs.Reach.{AreLive, AreRoomy, IsClosed, open_edges}
+use Rattle.ep_climb.specs.Reach.{AreRoomy, IsClosed, open_edges}
 use Rattle.ep_interest.specs.Registrations.{entry_found}
 use Rattle.ep_table.specs.Value.{Sound}
 use Rattle.ep_choice.proofs.choosing.climb_from.Goals as goal
@@ -32,17 +32,6 @@ returns-clause-closed c =
     let closed = subst (λ (q : Parts). IsClosed (open_edges q.interest q.graph) c.args.reached.now.reached) (sym c.parts.view_is) c.requires.closed in
     subst (λ (q : Parts). IsClosed (open_edges q.interest q.graph) c.ascend.new.reached.reached) c.parts.view_is
     (ascends_closed (open_edges k.interest k.graph) c.entry.result.now.instance.0 c.args.reached.now c.ascend.new.reached closed c.ascend.ensures.exact)
-
-pub returns-clause-live : goal.returns-clause-live
-returns-clause-live c =
-    let k = c.parts.inside in
-    let p : Parts = record { tables = k.tables; interest = k.interest; graph = k.graph; parked = k.waiters; clock = k.clock } in
-    let tables = subst (λ (q : Parts). Sound q.tables) (sym c.parts.view_is) c.known.ensures.sound in
-    let instances = subst HaveInstances (sym c.parts.view_is) c.requires.instances in
-    let under = ap (entry_found k.interest.entries) c.entry.ensures.number ∙ c.entry.ensures.entry in
-    let lived = subst (λ (q : Parts). AreLive q.tables c.args.reached.now.reached) (sym c.parts.view_is) c.requires.live in
-    subst (λ (q : Parts). AreLive q.tables c.ascend.new.reached.reached) c.parts.view_is
-    (climb_live p c.parts.invariant tables c.known-2.ensures c.known-3.ensures.legal instances c.args.id c.entry.result.now under c.args.reached.now c.ascend.new.reached c.ascend.ensures.exact lived)
 
 pub returns-clause-exact : goal.returns-clause-exact
 returns-clause-exact c =

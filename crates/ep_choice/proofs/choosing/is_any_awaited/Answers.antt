@@ -1,12 +1,7 @@
 use Rattle.std.proofs.Common.{◌∙◌, arith, sym}
 use Rattle.ep_choice.specs.Choose.{awaited_key}
-use Rattle.ep_choice.proofs.WalkLemmas.{among_place, vain_end, vain_found, vain_on}
+use Rattle.ep_choice.proofs.WalkLemmas.{vain_end, vain_found, vain_on}
 use Rattle.ep_choice.proofs.choosing.is_any_awaited.Goals as goal
-
-pub is_awaited-requires-clause-live : goal.is_awaited-requires-clause-live
-is_awaited-requires-clause-live g c =
-    let ks = c.args.reached.now.reached in
-    c.requires.live (record { 0 = c.at.result }) (among_place ks c.loop-index.index c.at.result (omega (arith, c.loop-index-test.true, c.count-index-end.ensures)) c.at.ensures)
 
 pub loop-index-preserved : goal.loop-index-preserved
 loop-index-preserved g c =

@@ -1,34 +1,32 @@
-use Rattle.std.proofs.Common.{◌≡◌, ◌∙◌, IsSome, ap, false, subst, sym}
+use Rattle.std.proofs.Common.{◌∙◌, ap, sym}
 use Rattle.ep_calls.specs.Parts.{Parts}
-use Rattle.ep_choice.proofs.LooseLemmas.{guarded_still, unguarded_marked}
-use Rattle.ep_choice.specs.Lost.{is_loose}
-use Rattle.ep_climb.proofs.MarkLemmas.{lives_where, unwaited, with_parked}
-use Rattle.ep_machine.specs.Waits.{waits_at}
-use Rattle.ep_table.specs.Value.{number_under}
+use Rattle.ep_choice.proofs.LooseLemmas.{awaited_marked, awaited_waits, guarded_still, unawaited_still}
+use Rattle.ep_climb.proofs.MarkLemmas.{coherent_longest, lives_where}
+use Rattle.ep_park.specs.Waiters.{longest_marked}
 use Rattle.ep_choice.proofs.loose.mark_unguarded.Goals as goal
 
-pub returns-then-not-has_waiter-clause-marks : goal.returns-then-not-has_waiter-clause-marks
-returns-then-not-has_waiter-clause-marks g c =
-    let p = c.args.parts.now in
-    let e = c.args.instance.0 in
-    let none = subst (λ (q : Parts). waits_at q.parked e ≡ false) c.parts.view_is (sym c.has_waiter.ensures ∙ c.if-not-has_waiter.true) in
-    ap (with_parked p) (sym (unwaited (is_loose p) p.parked e none))
+pub returns-then-not-is_awaited-clause-marks : goal.returns-then-not-is_awaited-clause-marks
+returns-then-not-is_awaited-clause-marks g c =
+    unawaited_still c.args.parts.now c.args.instance.0 (sym c.is_awaited.ensures.exact ∙ c.if-not-is_awaited.true)
 
-pub is_guarded-requires : goal.is_guarded-requires
-is_guarded-requires g c =
-    let k = c.parts.inside in
-    record {
-      live =
-          subst (λ (q : Parts). IsSome (number_under q.tables c.args.instance)) c.parts.view_is
-          (lives_where k.tables k.waiters c.args.instance.0 c.parts.invariant.placed (sym c.has_waiter.ensures ∙ c.if-not-has_waiter.false));
-      instances = c.requires.instances;
-    }
+pub is_guarded-requires-clause-live : goal.is_guarded-requires-clause-live
+is_guarded-requires-clause-live g c =
+    let p = c.args.parts.now in
+    lives_where p.tables p.parked c.args.instance.0 c.known.ensures.coherent.placed (awaited_waits p c.args.instance.0 (sym c.is_awaited.ensures.exact ∙ c.if-not-is_awaited.false))
 
 pub returns-then-is_guarded-clause-marks : goal.returns-then-is_guarded-clause-marks
 returns-then-is_guarded-clause-marks g c =
     let p = c.args.parts.now in
     c.is_guarded.ensures.parts ∙ guarded_still p c.args.instance.0 (sym c.is_guarded.ensures.exact ∙ c.if-is_guarded.true)
 
+pub invariant_of-parts : goal.invariant_of-parts
+invariant_of-parts g c =
+    let k = c.parts.inside in
+    coherent_longest (record { tables = k.tables; interest = k.interest; graph = k.graph; parked = k.waiters; clock = k.clock }) c.args.instance.0 c.mark_longest.new.self c.mark_longest.ensures c.parts.invariant
+
 pub returns-clause-marks : goal.returns-clause-marks
 returns-clause-marks g c =
-    unguarded_marked c.args.parts.now c.is_guarded.new.parts c.mark_at.new.parts c.args.instance.0 c.is_guarded.ensures.parts c.mark_at.ensures.marks (sym c.is_guarded.ensures.exact ∙ c.if-is_guarded.false)
+    let e = c.args.instance.0 in
+    let waiters = c.mark_longest.ensures ∙ ap (λ (q : Parts). longest_marked e q.parked) c.parts.view_is in
+    (λ i. record (c.parts.view_is i) { parked = waiters i })
+    ∙ awaited_marked c.args.parts.now c.is_guarded.new.parts e c.is_guarded.ensures.parts (sym c.is_awaited.ensures.exact ∙ c.if-not-is_awaited.false) (sym c.is_guarded.ensures.exact ∙ c.if-is_guarded.false)
