@@ -2,6 +2,7 @@ pub mod AboveLemmas
 pub mod ChoiceLemmas
 pub mod KeepLemmas
 pub mod NarrowLemmas
+pub mod AnswersLemmas
 pub mod TargetLemmas
 pub mod WalkLemmas
 pub mod GatherLemmas

@@ -88,12 +88,12 @@ module _ (old new : Registrations) (entries : map settled new.entries ≡ map se
 
 -- what fits the registrations fits them still
 pub fits_settled : (p q : Parts) (w u : Walk) (c d : Choice) → map settled q.interest.entries ≡ map settled p.interest.entries → q.interest.keys ≡ p.interest.keys → q.tables ≡ p.tables
-    → u.room ≡ w.room → d.candidates.room ≡ c.candidates.room → d.targets.room ≡ c.targets.room → d.lost.room ≡ c.lost.room → HaveRoom d.lost.reached w → Fits p w c → Fits q u d
+    → u.room ≡ w.room → d.candidates.keys.room ≡ c.candidates.keys.room → d.targets.room ≡ c.targets.room → d.lost.room ≡ c.lost.room → HaveRoom d.lost.reached w → Fits p w c → Fits q u d
 fits_settled p q w u c d entries keys tables room candidates targets lost left h = record {
   instances = subst (λ (v : Seen). AreOfInstances v q.interest) (sym tables) (instances_settled p.interest q.interest entries keys p.tables h.instances);
   reached = λ id x under. subst (λ (n : ℕ). x.instance.0 < n) (sym room) (roomy_settled p.interest q.interest entries keys w h.reached id x under);
   choice = record {
-    candidates = λ id x under e. subst (λ (n : ℕ). id.0 < n) (sym candidates) (keys_settled p.interest q.interest entries keys c.candidates h.choice.candidates id x under e);
+    candidates = λ id x under e. subst (λ (n : ℕ). id.0 < n) (sym candidates) (keys_settled p.interest q.interest entries keys c.candidates.keys h.choice.candidates id x under e);
     targets = λ id x under e. subst (λ (n : ℕ). x.desc.0 < n) (sym targets) (targets_settled p.interest q.interest entries keys c.targets h.choice.targets id x under e);
     lost = λ id x under. subst (λ (n : ℕ). x.instance.0 < n) (sym lost) (roomy_settled p.interest q.interest entries keys c.lost h.choice.lost id x under);
   };

@@ -78,7 +78,7 @@ module _ (v : Seen) (now : ℕ) (r new : Registrations) (f : Entry → Bool) (is
   unfolding guarded_now
   guarded_idle e = ap (λ (xs : List Entry). any_within guards 5 (map (watch_at v.keys) xs) e) is ∙ any_idle v.keys f guards (λ q x. refl) 5 r.entries e
 
-  finds_idle : (ws : List Waiter) (x y : Entry) → y.instance ≡ x.instance → finds_entry v now new ws y ≡ finds_entry v now r ws x
+  pub finds_idle : (ws : List Waiter) (x y : Entry) → y.instance ≡ x.instance → finds_entry v now new ws y ≡ finds_entry v now r ws x
   finds_idle ws x y same = each (waiters_at v.keys ws) where
     each : (us : List Waiter) → list_any (λ w. (number_at v.keys y.instance == w.instance || above_now v.files (watches_of v new) (number_at v.keys y.instance) w.instance) && is_awaited_by (readiness v now new) (waiters_at v.keys ws) w.instance) us
         ≡ list_any (λ w. (number_at v.keys x.instance == w.instance || above_now v.files (watches_of v r) (number_at v.keys x.instance) w.instance) && is_awaited_by (readiness v now r) (waiters_at v.keys ws) w.instance) us

@@ -163,7 +163,7 @@ module _ (n : ℕ) (v w : Seen) (r q : Registrations) (burial : Burial n v r w q
 is_exclusive_of : (x y : Entry) → x.mask.0 ≡ y.mask.0 → is_exclusive y ≡ true → is_exclusive x ≡ true
 is_exclusive_of x y same t = subst (λ (m : ℕ). has_bit m EXCLUSIVE ≡ true) (sym same) t
 
-pub suits_left : (old new : Registrations) (c e : Choice) → WereIn old new → e.candidates.room ≡ c.candidates.room → e.targets.room ≡ c.targets.room → e.lost.room ≡ c.lost.room → Suits old c → Suits new e
+pub suits_left : (old new : Registrations) (c e : Choice) → WereIn old new → e.candidates.keys.room ≡ c.candidates.keys.room → e.targets.room ≡ c.targets.room → e.lost.room ≡ c.lost.room → Suits old c → Suits new e
 suits_left old new c e were candidates targets lost h = record {
   candidates = λ id x at t. let w = were id x at in subst (λ (k : ℕ). id.0 < k) (sym candidates) (h.candidates id w.was w.there (is_exclusive_of w.was x w.mask t));
   targets = λ id x at t. let w = were id x at in let lt = h.targets id w.was w.there (is_exclusive_of w.was x w.mask t) in let same = w.desc in omega (arith, lt, same, targets);

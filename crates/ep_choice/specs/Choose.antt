@@ -1,5 +1,5 @@
 -- Which of the exclusive registrations on a description an event wakes.
-use Rattle.std.specs.List.{find}
+use Rattle.std.specs.List.{find, list_any}
 use Rattle.std.specs.Option.{option_map}
 use Rattle.std.specs.Prelude.{All, Bool, IsSome, List, None, Option, Some, false, filter, if◌then◌else◌, map, not, true, ℕ, ◌&&◌, ◌<◌, ◌==◌, ◌≡◌}
 use Rattle.ep_base.specs.declared.ids.DescId.{DescId}
@@ -9,6 +9,7 @@ use Rattle.ep_calls.specs.Parking.{ready_key}
 use Rattle.ep_calls.specs.Parts.{Parts}
 use Rattle.ep_calls.specs.Readiness.{readiness, watches_of}
 use Rattle.ep_calls.specs.Stands.{waiters_at, watch_at}
+use Rattle.ep_climb.specs.Reach.{IsClosed, open_edges}
 use Rattle.ep_interest.specs.Exclusive.{exclusive_of, is_exclusive}
 use Rattle.ep_interest.specs.Registrations.{Registrations, entry_under, is_on, number_under as entry_number, with_ids}
 use Rattle.ep_interest.specs.declared.entry.Entry.{Entry}
@@ -22,6 +23,11 @@ use Rattle.ep_view.specs.Marking.{choice_at, finds_now}
 -- the instance under a key is ready, has a waiter and has none marked
 abbrev pub awaited_key : Seen → ℕ → Registrations → List Waiter → ℕ → Bool
 awaited_key v now r ws key = ready_key v now r key && waits_at ws key && not (is_marked_at ws key)
+
+-- these have with each instance those above it to which IN goes on from there, and none of them is
+pub record IsVain (p : Parts) (ks : List ℕ) : Type 0 where
+  pub closed : IsClosed (open_edges p.interest p.graph) ks
+  pub none : list_any (awaited_key p.tables p.clock p.interest p.parked) ks ≡ false
 
 -- its instance is, or one above it to which IN goes on from there
 abbrev pub finds_entry : Seen → ℕ → Registrations → List Waiter → Entry → Bool

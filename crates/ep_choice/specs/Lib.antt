@@ -1,3 +1,4 @@
+pub mod Answers
 pub mod Choose
 pub mod Guarded
 pub mod Lost

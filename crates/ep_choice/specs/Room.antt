@@ -13,7 +13,7 @@ use Rattle.ep_ready.specs.Walk.{Walk}
 
 -- there is room for the key and the target of each exclusive registration, and for the instance of any
 pub record Suits (r : Registrations) (c : Choice) : Type 0 where
-  pub candidates : HasKeys r c.candidates
+  pub candidates : HasKeys r c.candidates.keys
   pub targets : HasTargets r c.targets
   pub lost : AreRoomy r c.lost
 
@@ -23,7 +23,7 @@ HaveRoom ks w = (i : ℕ) → is_among ks i ≡ true → i < w.room
 
 -- no less room, and nothing is lost that was not
 pub record Widens (old new : Choice) : Type 0 where
-  pub candidates : old.candidates.room ≤ new.candidates.room
+  pub candidates : old.candidates.keys.room ≤ new.candidates.keys.room
   pub targets : old.targets.room ≤ new.targets.room
   pub lost : old.lost.room ≤ new.lost.room
   pub kept : new.lost.reached ≡ old.lost.reached
@@ -32,4 +32,4 @@ pub record Widens (old new : Choice) : Type 0 where
 pub record HasRoomFor (c : Choice) (named : Named) (mask : Mask) (key : ℕ) : Type 0 where
   pub lost : named.instance.0 < c.lost.room
   pub targets : has_bit mask.0 EXCLUSIVE ≡ true → named.desc.0 < c.targets.room
-  pub candidates : has_bit mask.0 EXCLUSIVE ≡ true → key < c.candidates.room
+  pub candidates : has_bit mask.0 EXCLUSIVE ≡ true → key < c.candidates.keys.room

@@ -2,6 +2,7 @@
 ghost use Rattle.std.specs.Prelude.{◌≡◌, [], OnOk};
 ghost use Rattle.ep_choice.specs.Room.{HasRoomFor, Widens};
 
+use crate::candidates::Candidates;
 use bitflags::Flags;
 use ep_base::{EntryId, Mask};
 use ep_calls::Named;
@@ -12,8 +13,8 @@ use std::alloc::{AllocError, Global};
 /// Between two events it has room for each registration, and nothing is lost.
 #[derive(Drop)]
 pub struct Choice {
-    /// The exclusive registrations on a target that pass something on, by their keys.
-    pub candidates: Walk<Global>,
+    /// The exclusive registrations on a target that pass something on, and what their instances answered.
+    pub candidates: Candidates,
     /// The targets of the exclusive registrations that pass something on.
     pub targets: Walk<Global>,
     /// The instances that lost a registration in the event that was exclusive or on an instance.
@@ -26,14 +27,14 @@ impl Choice {
         ensures { result.lost.reached ≡ [] }
     {
         Choice {
-            candidates: Walk::new(alloc),
+            candidates: Candidates::new(alloc),
             targets: Walk::new(alloc),
             lost: Walk::new(alloc),
         }
     }
 
     /// Makes room for a registration of these two under a key, in constant time if there is room. Only an exclusive one
-    /// has its key and its target here. An `Err` is want of memory. There is no less room than before.
+    /// has its key and its target here, and a place for what its instance answers. An `Err` is want of memory. There is no less room than before.
     #[inline(always)]
     pub fn make_room(&mut self, named: Named, mask: Mask, id: EntryId) -> Result<(), AllocError>
         ensures widens { Widens self.old self.new }
@@ -44,6 +45,6 @@ impl Choice {
             return Ok(());
         }
         self.targets.make_room(named.desc.0)?;
-        self.candidates.make_room(id.0)
+        self.candidates.make_room(named.instance, id)
     }
 }

@@ -1,11 +1,13 @@
 //! The first of the exclusive registrations on a target that finds somebody.
 ghost use Rattle.std.specs.Prelude.{◌≡◌, ◌<◌, [], IsSome, false, take};
 ghost use Rattle.std.specs.List.{list_any};
-ghost use Rattle.ep_choice.specs.Choose.{AreCandidates, AreKeys, HasKeys, HaveInstances, awaited_key, chosen_number, finds_key, with_candidate};
+ghost use Rattle.ep_choice.specs.Answers.{AreAnswers};
+ghost use Rattle.ep_choice.specs.Choose.{AreCandidates, AreKeys, HasKeys, HaveInstances, IsVain, awaited_key, chosen_number, finds_key, with_candidate};
 ghost use Rattle.ep_climb.specs.Reach.{AreRoomy, IsClosed, IsGrown, open_edges};
 ghost use Rattle.ep_interest.specs.Registrations.{number_under as number_of_entry};
 ghost use Rattle.ep_table.specs.Value.{number_under};
 
+use crate::candidates::Candidates;
 use ep_base::{DescId, EntryId, EntryNumber, EventNumber};
 use ep_calls::Parts;
 use ep_climb::{Readiness, ascend};
@@ -87,11 +89,7 @@ fn climb_from(parts: &mut Parts, reached: &mut Walk<Global>, id: EntryId)
     requires there { IsSome (number_of_entry parts.old.interest id) }
     requires instances { HaveInstances parts.old }
     requires room { AreRoomy parts.old.interest reached.old }
-    requires closed { IsClosed (open_edges parts.old.interest parts.old.graph) reached.old.reached }
-    requires vain { list_any
-        (awaited_key parts.old.tables parts.old.clock parts.old.interest parts.old.parked)
-        reached.old.reached
-        ≡ false }
+    requires vain { IsVain parts.old reached.old.reached }
     ensures parts { parts.new ≡ parts.old }
     ensures room { reached.new.room ≡ reached.old.room }
     ensures grown { IsGrown reached.old.reached reached.new.reached }
@@ -108,26 +106,102 @@ fn climb_from(parts: &mut Parts, reached: &mut Walk<Global>, id: EntryId)
     ascend(&parts.interest, &mut parts.graph, reached, instance);
 }
 
+/// Asks from the instance of a registration upwards whether somebody is found. What was reached before was asked in
+/// vain, and so was what is reached then: all is forgotten if somebody is found.
+fn ask<R: Readiness>(
+    parts: &mut Parts,
+    ready: &mut R,
+    reached: &mut Walk<Global>,
+    id: EntryId,
+) -> bool
+    requires there { IsSome (number_of_entry parts.old.interest id) }
+    requires instances { HaveInstances parts.old }
+    requires room { AreRoomy parts.old.interest reached.old }
+    requires vain { IsVain parts.old reached.old.reached }
+    requires knows { R.knows ready.old parts.old.tables parts.old.clock parts.old.interest }
+    ensures parts { parts.new ≡ parts.old }
+    ensures room { reached.new.room ≡ reached.old.room }
+    ensures vain { IsVain parts.old reached.new.reached }
+    ensures knows { R.knows ready.new parts.old.tables parts.old.clock parts.old.interest }
+    ensures exact { result
+        ≡ finds_key parts.old.tables parts.old.clock parts.old.interest parts.old.parked id.0 }
+{
+    let asked = reached.count();
+    climb_from(parts, reached, id);
+    if !is_any_awaited(parts, ready, reached, asked) {
+        return false;
+    }
+    reached.forget();
+    true
+}
+
+/// Whether a registration finds somebody. Its instance is asked if it did not answer yet in this event, and what it
+/// answers is noted.
+fn finds<R: Readiness>(
+    parts: &mut Parts,
+    ready: &mut R,
+    reached: &mut Walk<Global>,
+    candidates: &mut Candidates,
+    id: EntryId,
+) -> bool
+    requires there { IsSome (number_of_entry parts.old.interest id) }
+    requires instances { HaveInstances parts.old }
+    requires room { AreRoomy parts.old.interest reached.old }
+    requires vain { IsVain parts.old reached.old.reached }
+    requires answers { AreAnswers parts.old.tables parts.old.clock parts.old.interest
+        parts.old.parked candidates.old }
+    requires knows { R.knows ready.old parts.old.tables parts.old.clock parts.old.interest }
+    ensures parts { parts.new ≡ parts.old }
+    ensures room { reached.new.room ≡ reached.old.room }
+    ensures keys { candidates.new.keys ≡ candidates.old.keys }
+    ensures vain { IsVain parts.old reached.new.reached }
+    ensures answers { AreAnswers parts.old.tables parts.old.clock parts.old.interest
+        parts.old.parked candidates.new }
+    ensures knows { R.knows ready.new parts.old.tables parts.old.clock parts.old.interest }
+    ensures exact { result
+        ≡ finds_key parts.old.tables parts.old.clock parts.old.interest parts.old.parked id.0 }
+{
+    parts.known();
+    parts.interest.known();
+    let instance = parts.interest.entry(id).instance;
+    if candidates.found.has(instance.0) {
+        return true;
+    }
+    if candidates.vain.has(instance.0) {
+        return false;
+    }
+    let finds = ask(parts, ready, reached, id);
+    candidates.note(instance, finds);
+    finds
+}
+
 /// The number of the first exclusive registration on a description that passes something of this event on and finds
 /// somebody: an instance, its own or one above that to which IN goes on from there, that is ready and has waiters, none
-/// of them marked. It takes no memory. Its time grows with the registrations on the description, and with the instances
-/// of those that pass something on and what is above them; each is asked once.
+/// of them marked. It takes no memory. Its time grows with the registrations on the description, and with what is above
+/// the instances of those that pass something on. An instance that answered for another target of the event isn't asked
+/// again. What was reached before was asked in vain, and so was what is reached then.
 pub fn choose<R: Readiness>(
     parts: &mut Parts,
     ready: &mut R,
     reached: &mut Walk<Global>,
-    candidates: &mut Walk<Global>,
+    candidates: &mut Candidates,
     target: DescId,
     step: EventNumber,
 ) -> Option<EntryNumber>
     requires live { IsSome (number_under parts.old.tables target) }
     requires instances { HaveInstances parts.old }
     requires room { AreRoomy parts.old.interest reached.old }
-    requires keys { HasKeys parts.old.interest candidates.old }
+    requires vain { IsVain parts.old reached.old.reached }
+    requires keys { HasKeys parts.old.interest candidates.old.keys }
+    requires answers { AreAnswers parts.old.tables parts.old.clock parts.old.interest
+        parts.old.parked candidates.old }
     requires knows { R.knows ready.old parts.old.tables parts.old.clock parts.old.interest }
     ensures parts { parts.new ≡ parts.old }
     ensures room { reached.new.room ≡ reached.old.room }
-    ensures keys { candidates.new.room ≡ candidates.old.room }
+    ensures vain { IsVain parts.old reached.new.reached }
+    ensures keys { candidates.new.keys.room ≡ candidates.old.keys.room }
+    ensures answers { AreAnswers parts.old.tables parts.old.clock parts.old.interest
+        parts.old.parked candidates.new }
     ensures knows { R.knows ready.new parts.old.tables parts.old.clock parts.old.interest }
     ensures exact { result
         ≡ chosen_number parts.old.tables parts.old.clock parts.old.interest parts.old.parked step
@@ -135,14 +209,11 @@ pub fn choose<R: Readiness>(
 {
     parts.known();
     parts.interest.known();
-    candidates.forget();
-    reached.forget();
-    gather(&parts.interest, candidates, target, step);
-    for index in 0..candidates.count() {
-        let id = EntryId(candidates.at(index));
-        let asked = reached.count();
-        climb_from(parts, reached, id);
-        if is_any_awaited(parts, ready, reached, asked) {
+    candidates.keys.forget();
+    gather(&parts.interest, &mut candidates.keys, target, step);
+    for index in 0..candidates.keys.count() {
+        let id = EntryId(candidates.keys.at(index));
+        if finds(parts, ready, reached, candidates, id) {
             let number = parts.interest.entry(id).number;
             return Some(number);
         }

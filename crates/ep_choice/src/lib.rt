@@ -4,6 +4,7 @@
 //! these is marked like any other again.
 #![tactic(auto)]
 
+mod candidates;
 mod choice;
 mod choosing;
 mod guarded;
@@ -12,6 +13,7 @@ mod losing;
 mod marking;
 mod narrowing;
 
+pub use crate::candidates::Candidates;
 pub use crate::choice::Choice;
 pub use crate::choosing::choose;
 pub use crate::losing::{note_deleted, note_dying};

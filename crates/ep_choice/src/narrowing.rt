@@ -1,7 +1,8 @@
 //! Of the exclusive registrations on each target only the chosen one goes on passing something on.
-ghost use Rattle.std.specs.Prelude.{◌≡◌, ◌<◌, [], map};
+ghost use Rattle.std.specs.Prelude.{◌≡◌, ◌<◌, [], length, map};
 ghost use Rattle.ep_calls.specs.Readiness.{readiness, watches_of};
 ghost use Rattle.ep_calls.specs.Stands.{waiters_at};
+ghost use Rattle.ep_choice.specs.Answers.{KnowsNone};
 ghost use Rattle.ep_choice.specs.Choose.{HasKeys, HaveInstances};
 ghost use Rattle.ep_choice.specs.Narrow.{AreTargets, HasTargets, HaveTargets, Lasts, exclusive_target as target_of, with_target};
 ghost use Rattle.ep_climb.specs.Reach.{AreRoomy};
@@ -9,6 +10,7 @@ ghost use Rattle.ep_interest.specs.Exclusive.{kept_passing};
 ghost use Rattle.ep_interest.specs.Registrations.{entry_under, settled};
 ghost use Rattle.ep_view.specs.Marking.{narrowed_now};
 
+use crate::candidates::Candidates;
 use crate::choosing::choose;
 use bitflags::Flags;
 use ep_base::{DescId, EntryId, EntryNumber, EventNumber, Mask};
@@ -63,22 +65,37 @@ fn keep(parts: &mut Parts, target: DescId, chosen: Option<EntryNumber>)
     parts.interest.keep_passing(target, chosen);
 }
 
+/// Begins to ask, if there is a target to ask for: nothing was reached, and no instance answered.
+fn begin(reached: &mut Walk<Global>, candidates: &mut Candidates, targets: &Walk<Global>)
+    ensures idle { targets.now.reached ≡ [] → reached.new ≡ reached.old }
+    ensures none { 0 < length targets.now.reached → reached.new.reached ≡ [] }
+    ensures room { reached.new.room ≡ reached.old.room }
+    ensures keys { candidates.new.keys ≡ candidates.old.keys }
+    ensures unknown { KnowsNone candidates.new }
+{
+    candidates.forget_answers();
+    if targets.count() > 0 {
+        reached.forget();
+    }
+}
+
 /// Of the exclusive registrations on each target that pass something on in an event only the chosen one goes on
 /// passing it on, so that what the event reaches from then on is what it wakes. Whoever is due is marked before. It
-/// takes no memory, since the walks have room. Its time grows with the registrations that pass something on, and with
-/// what each choice looks at. `targets` is left with the targets.
+/// takes no memory, since the walks have room. Its time grows with the registrations on the targets, and with what is
+/// above the instances of those that pass something on; each of these instances is asked once, for however many
+/// targets. `targets` is left with the targets.
 pub fn narrow<R: Readiness>(
     parts: &mut Parts,
     ready: &mut R,
     reached: &mut Walk<Global>,
-    candidates: &mut Walk<Global>,
+    candidates: &mut Candidates,
     targets: &mut Walk<Global>,
     step: EventNumber,
 )
     requires step { 0 < step }
     requires instances { HaveInstances parts.old }
     requires room { AreRoomy parts.old.interest reached.old }
-    requires keys { HasKeys parts.old.interest candidates.old }
+    requires keys { HasKeys parts.old.interest candidates.old.keys }
     requires targets { HasTargets parts.old.interest targets.old }
     requires knows { R.knows ready.old parts.old.tables parts.old.clock parts.old.interest }
     requires lasts { Lasts R.knows }
@@ -93,7 +110,7 @@ pub fn narrow<R: Readiness>(
     ensures next { parts.new.interest.next ≡ parts.old.interest.next }
     ensures others { parts.new ≡ record parts.old { interest = parts.new.interest } }
     ensures room { reached.new.room ≡ reached.old.room }
-    ensures candidates { candidates.new.room ≡ candidates.old.room }
+    ensures candidates { candidates.new.keys.room ≡ candidates.old.keys.room }
     ensures targets { targets.new.room ≡ targets.old.room }
     ensures idle { targets.new.reached ≡ []
         → (reached.new ≡ reached.old) × (parts.new ≡ parts.old) }
@@ -103,6 +120,7 @@ pub fn narrow<R: Readiness>(
     parts.interest.known();
     targets.forget();
     reach_targets(&parts.interest, targets);
+    begin(reached, candidates, targets);
     for index in 0..targets.count() {
         let target = DescId(targets.at(index));
         let chosen = choose(parts, ready, reached, candidates, target, step);

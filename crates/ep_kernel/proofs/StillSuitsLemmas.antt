@@ -76,7 +76,7 @@ record Remained (old : Registrations) (id : EntryId) (x : Entry) : Type 0 where
 record IsRoomy (c : Choice) (id : EntryId) (x : Entry) : Type 0 where
   lost : x.instance.0 < c.lost.room
   targets : is_exclusive x ≡ true → x.desc.0 < c.targets.room
-  candidates : is_exclusive x ≡ true → id.0 < c.candidates.room
+  candidates : is_exclusive x ≡ true → id.0 < c.candidates.keys.room
 
 suits_by : (old new : Registrations) (c : Choice) → Suits old c → ((id : EntryId) (x : Entry) → entry_under new id ≡ Some x → Remained old id x ⊎ IsRoomy c id x) → Suits new c
 suits_by old new c suits from = record {

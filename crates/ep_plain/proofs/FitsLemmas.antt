@@ -29,7 +29,7 @@ pub record IsRoomy (e : Dating) (id : EntryId) (x : Entry) : Type 0 where
   pub flags : id.0 < e.flags.room
   pub lost : x.instance.0 < e.choice.lost.room
   pub targets : is_exclusive x ≡ true → x.desc.0 < e.choice.targets.room
-  pub candidates : is_exclusive x ≡ true → id.0 < e.choice.candidates.room
+  pub candidates : is_exclusive x ≡ true → id.0 < e.choice.candidates.keys.room
 
 -- as much room as before
 pub record SameRoom (d e : Dating) : Type 0 where
@@ -38,7 +38,7 @@ pub record SameRoom (d e : Dating) : Type 0 where
   pub flags : e.flags ≡ d.flags
   pub lost : e.choice.lost.room ≡ d.choice.lost.room
   pub targets : e.choice.targets.room ≡ d.choice.targets.room
-  pub candidates : e.choice.candidates.room ≡ d.choice.candidates.room
+  pub candidates : e.choice.candidates.keys.room ≡ d.choice.candidates.keys.room
 
 -- each registration was there, or there is room for it
 pub fits_from : (old new : Registrations) (d e : Dating) → Fits old d → AreKept new e.dates → SameRoom d e → HaveRoom e.choice.lost.reached e.reached

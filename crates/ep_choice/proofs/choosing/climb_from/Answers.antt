@@ -24,12 +24,12 @@ ascend-requires-clause-home c =
     (subst (λ (q : Parts). AreRoomy q.interest c.args.reached.now) (sym c.parts.view_is) c.requires.room)
 
 pub ascend-requires-clause-closed : goal.ascend-requires-clause-closed
-ascend-requires-clause-closed c = subst (λ (q : Parts). IsClosed (open_edges q.interest q.graph) c.args.reached.now.reached) (sym c.parts.view_is) c.requires.closed
+ascend-requires-clause-closed c = subst (λ (q : Parts). IsClosed (open_edges q.interest q.graph) c.args.reached.now.reached) (sym c.parts.view_is) c.requires.vain.closed
 
 pub returns-clause-closed : goal.returns-clause-closed
 returns-clause-closed c =
     let k = c.parts.inside in
-    let closed = subst (λ (q : Parts). IsClosed (open_edges q.interest q.graph) c.args.reached.now.reached) (sym c.parts.view_is) c.requires.closed in
+    let closed = subst (λ (q : Parts). IsClosed (open_edges q.interest q.graph) c.args.reached.now.reached) (sym c.parts.view_is) c.requires.vain.closed in
     subst (λ (q : Parts). IsClosed (open_edges q.interest q.graph) c.ascend.new.reached.reached) c.parts.view_is
     (ascends_closed (open_edges k.interest k.graph) c.entry.result.now.instance.0 c.args.reached.now c.ascend.new.reached closed c.ascend.ensures.exact)
 
@@ -40,6 +40,6 @@ returns-clause-exact c =
     let tables = subst (λ (q : Parts). Sound q.tables) (sym c.parts.view_is) c.known.ensures.sound in
     let instances = subst HaveInstances (sym c.parts.view_is) c.requires.instances in
     let under = ap (entry_found k.interest.entries) c.entry.ensures.number ∙ c.entry.ensures.entry in
-    let vain = subst (λ (q : Parts). list_any (awaited_key q.tables q.clock q.interest q.parked) c.args.reached.now.reached ≡ false) (sym c.parts.view_is) c.requires.vain in
+    let vain = subst (λ (q : Parts). list_any (awaited_key q.tables q.clock q.interest q.parked) c.args.reached.now.reached ≡ false) (sym c.parts.view_is) c.requires.vain.none in
     subst (λ (q : Parts). list_any (awaited_key q.tables q.clock q.interest q.parked) c.ascend.new.reached.reached ≡ finds_key q.tables q.clock q.interest q.parked c.args.id.0) c.parts.view_is
     (climb_exact p c.parts.invariant tables c.known-2.ensures c.known-3.ensures.legal instances c.args.id c.entry.result.now under c.args.reached.now c.ascend.new.reached c.ascend.ensures.exact vain)

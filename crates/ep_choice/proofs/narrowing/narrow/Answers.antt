@@ -4,11 +4,14 @@ use Rattle.std.proofs.lemmas.List.{take_more}
 use Rattle.ep_calls.proofs.EntryLemmas.{holds_under, key_of}
 use Rattle.ep_calls.specs.Parts.{Parts}
 use Rattle.ep_calls.specs.Stands.{AreLinked, IsLinked}
+use Rattle.ep_choice.proofs.AnswersLemmas.{answers_kept, none_answered, vain_kept, vain_none}
 use Rattle.ep_choice.proofs.NarrowLemmas.{Narrows, narrows_begins, narrows_end, narrows_instances, narrows_keys, narrows_on, narrows_roomy, narrows_settled}
 use Rattle.ep_choice.proofs.WalkLemmas.{among_place, at_place}
+use Rattle.ep_choice.specs.Answers.{AreAnswers}
 use Rattle.ep_choice.specs.Narrow.{AreTargets, HaveTargets}
-use Rattle.ep_choice.specs.Choose.{chosen_number}
+use Rattle.ep_choice.specs.Choose.{IsVain, chosen_number}
 use Rattle.ep_interest.specs.Registrations.{IsSound}
+use Rattle.ep_ready.specs.Walk.{Walk}
 use Rattle.ep_table.specs.Value.{number_under}
 use Rattle.ep_choice.proofs.narrowing.narrow.Goals as goal
 
@@ -24,9 +27,11 @@ loop-index-init g c =
     let linked = subst (λ (q : Parts). AreLinked q.tables q.interest) c.parts.view_is c.parts.invariant.linked in
     record {
       narrows = narrows_begins p c.args.step c.known.ensures.sound (is_positive c.args.step c.requires.step) linked;
-      room = refl;
-      keys = refl;
-      idle = λ none. (refl, refl);
+      room = c.begin.ensures.room;
+      keys = ap (λ (w : Walk). w.room) c.begin.ensures.keys;
+      vain = λ some. vain_none p c.begin.new.reached (c.begin.ensures.none some);
+      answers = none_answered p.tables p.clock p.interest p.parked c.begin.new.candidates c.begin.ensures.unknown;
+      idle = λ none. (c.begin.ensures.idle none, refl);
       knows = c.requires.knows;
     }
 
@@ -57,12 +62,15 @@ choose-chosen-requires-clause-room g c =
     let roomy = narrows_roomy p c.args.step c.known.ensures.sound (is_positive c.args.step c.requires.step) linked (take c.loop-index.index ks) c.loop-index.parts c.args.reached.now c.loop-index.invariant.narrows c.requires.room in
     λ id x under. subst (λ (m : ℕ). x.instance.0 < m) (sym c.loop-index.invariant.room) (roomy id x under)
 
+pub choose-chosen-requires-clause-vain : goal.choose-chosen-requires-clause-vain
+choose-chosen-requires-clause-vain g c = c.loop-index.invariant.vain (omega (arith, c.loop-index-test.true, c.count-index-end.ensures))
+
 pub choose-chosen-requires-clause-keys : goal.choose-chosen-requires-clause-keys
 choose-chosen-requires-clause-keys g c =
     let p = c.args.parts.now in
     let ks = c.reach_targets.new.targets.reached in
     let linked = subst (λ (q : Parts). AreLinked q.tables q.interest) c.parts.view_is c.parts.invariant.linked in
-    let has = narrows_keys p c.args.step c.known.ensures.sound (is_positive c.args.step c.requires.step) linked (take c.loop-index.index ks) c.loop-index.parts c.args.candidates.now c.loop-index.invariant.narrows c.requires.keys in
+    let has = narrows_keys p c.args.step c.known.ensures.sound (is_positive c.args.step c.requires.step) linked (take c.loop-index.index ks) c.loop-index.parts c.args.candidates.now.keys c.loop-index.invariant.narrows c.requires.keys in
     λ id x under exclusive. subst (λ (m : ℕ). id.0 < m) (sym c.loop-index.invariant.keys) (has id x under exclusive)
 
 pub loop-index-preserved : goal.loop-index-preserved
@@ -90,6 +98,13 @@ loop-index-preserved g c =
           c.keep.ensures.entries c.keep.ensures.keys c.keep.ensures.added c.keep.ensures.next c.keep.ensures.others);
       room = c.choose-chosen.ensures.room ∙ c.loop-index.invariant.room;
       keys = c.choose-chosen.ensures.keys ∙ c.loop-index.invariant.keys;
+      vain = λ lt.
+          vain_kept mid new (record { 0 = k }) c.choose-chosen.result c.choose-chosen.new.reached.reached c.keep.ensures.entries c.keep.ensures.keys c.keep.ensures.others
+          (subst (λ (q : Parts). IsVain q c.choose-chosen.new.reached.reached) (sym c.choose-chosen.ensures.parts) c.choose-chosen.ensures.vain);
+      answers =
+          subst (λ (q : Parts). AreAnswers q.tables q.clock new.interest q.parked c.choose-chosen.new.candidates) (sym c.keep.ensures.others)
+          (answers_kept mid.tables mid.clock mid.interest new.interest mid.parked (record { 0 = k }) c.choose-chosen.result c.keep.ensures.entries c.choose-chosen.new.candidates
+          (subst (λ (q : Parts). AreAnswers q.tables q.clock q.interest q.parked c.choose-chosen.new.candidates) (sym c.choose-chosen.ensures.parts) c.choose-chosen.ensures.answers));
       idle = λ none. absurd (not_below_none i (subst (λ (m : ℕ). i < m) (ap length none) lt));
       knows =
           subst (λ (q : Parts). g.R.Readiness.knows c.choose-chosen.new.ready q.tables q.clock new.interest) (sym c.keep.ensures.others)
