@@ -1,17 +1,15 @@
 //! The kernel with ready lists.
-ghost use Rattle.std.specs.Prelude.{◌≡◌, ◌<◌, ◌≤◌, [], All, IfOk, IsOk, None, OnErr, false, length, true, ℕ};
-ghost use Rattle.ep_calls.specs.Acts.{Acts, Adds, is_no_memory};
+ghost use Rattle.std.specs.Prelude.{◌≡◌, ◌<◌, ◌≤◌, [], All, IfOk, IsOk, None, OnErr, false, length, true, vec_capacity, vec_len, ℕ};
+ghost use Rattle.ep_base.specs.Call.{EventHasNoBytes};
+ghost use Rattle.ep_calls.specs.Acts.{Acts, Adds, ComesLast, IsUnrefused, is_no_memory};
 ghost use Rattle.ep_calls.specs.KeptRecords.{Gains, HasRecord, KeepsRecord};
 ghost use Rattle.ep_calls.specs.Parts.{AreCoherent};
 ghost use Rattle.ep_calls.specs.Spared.{IsSpared};
 ghost use Rattle.ep_interest.specs.Registrations.{IsSound};
 ghost use Rattle.ep_kernel.specs.ReadyBook.{ActsOnLists, MayBeListed, TurnsLists, listed, state_of};
 ghost use Rattle.ep_law.specs.Laws.{EndsAreApart, ReportablesAreSpread, is_reportable_in};
-ghost use Rattle.ep_machine.specs.Effect.{first};
 ghost use Rattle.ep_machine.specs.Files.{object_of};
 ghost use Rattle.ep_machine.specs.Lists.{are_distinct, is_among};
-ghost use Rattle.ep_machine.specs.Refusal.{refusals};
-ghost use Rattle.ep_machine.specs.Step.{next_event};
 ghost use Rattle.ep_order.specs.Event.{ListsGoOn};
 ghost use Rattle.ep_order.specs.Mark.{MarkedAreLookedAt};
 ghost use Rattle.ep_ready.specs.ReadyLists.{IsSound as AreSoundLists};
@@ -134,8 +132,7 @@ impl ReadyKernel {
         ensures spared { IsSpared (state_of self.old).files event
             → length self.old.book.past < self.old.book.capacity → IsOk result }
         ensures last { length self.old.book.past < self.old.book.capacity → OnErr result
-            (first (refusals self.old.book.limits (next_event (state_of self.old)) caller.0 event)
-            ≡ None) }
+            (IsUnrefused self.old.book.limits caller event (state_of self.old)) }
         ensures err { OnErr result
             (self.new.book ≡ record self.old.book { capacity = self.new.book.capacity }) }
         ensures err_lists { OnErr result (self.new.lists ≡ self.old.lists) }
@@ -181,7 +178,8 @@ impl ReadyKernel {
     }
 
     /// One event whose record is put at the end of a list of the caller's too.
-    /// An `AllocError` has changed nothing, but that there may be more room for records in either.
+    /// An `AllocError` has changed nothing, but that there may be more room for records in either. If both had room and
+    /// the copy of the event takes no memory, it comes only if nothing refuses the event.
     fn try_step_kept(
         &mut self,
         caller: CallerId,
@@ -197,6 +195,10 @@ impl ReadyKernel {
         ensures real { IfOk result (λ answer. is_no_memory answer ≡ false) }
         ensures kept { IfOk result
             (λ answer. Gains self.old.book.past self.new.book.past kept.old.items kept.new.items) }
+        ensures last { OnErr result (EventHasNoBytes event
+            → vec_len kept.old < vec_capacity kept.old
+            → length self.old.book.past < self.old.book.capacity
+            → IsUnrefused self.old.book.limits caller event (state_of self.old)) }
         ensures err { OnErr result
             (self.new.book ≡ record self.old.book { capacity = self.new.book.capacity }) }
         ensures err_lists { OnErr result (self.new.lists ≡ self.old.lists) }
@@ -242,10 +244,8 @@ impl Kernel for ReadyKernel {
         ensures capacity { self.old.book.capacity ≤ self.new.book.capacity }
         ensures spared { IsSpared (state_of self.old).files event
             → length self.old.book.past < self.old.book.capacity → is_no_memory result ≡ false }
-        ensures last { is_no_memory result ≡ true
-            → length self.old.book.past < self.old.book.capacity
-            → first (refusals self.old.book.limits (next_event (state_of self.old)) caller.0 event)
-            ≡ None }
+        ensures last { length self.old.book.past < self.old.book.capacity
+            → ComesLast self.old.book.limits caller event result (state_of self.old) }
         ensures acts { Acts self.old.book.limits caller event result (state_of self.old)
             (state_of self.new) self.old.book.past self.new.book.past }
         ensures lists { ActsOnLists caller event result self.old self.new }
@@ -261,6 +261,9 @@ impl Kernel for ReadyKernel {
     fn step_kept(&mut self, caller: CallerId, event: Event, kept: &mut Vec<Record>) -> Answer
         ensures limits { self.new.book.limits ≡ self.old.book.limits }
         ensures capacity { self.old.book.capacity ≤ self.new.book.capacity }
+        ensures last { EventHasNoBytes event → vec_len kept.old < vec_capacity kept.old
+            → length self.old.book.past < self.old.book.capacity
+            → ComesLast self.old.book.limits caller event result (state_of self.old) }
         ensures acts { Acts self.old.book.limits caller event result (state_of self.old)
             (state_of self.new) self.old.book.past self.new.book.past }
         ensures kept { KeepsRecord result self.old.book.past self.new.book.past kept.old.items

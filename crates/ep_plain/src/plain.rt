@@ -1,13 +1,12 @@
 //! The kernel that scans.
-ghost use Rattle.std.specs.Prelude.{◌≡◌, ◌<◌, ◌≤◌, ◌++◌, ◌∷◌, [], List, IfOk, IfSome, IsOk, None, OnErr, false, is_some, length, option_copied, true};
+ghost use Rattle.std.specs.Prelude.{◌≡◌, ◌<◌, ◌≤◌, ◌++◌, ◌∷◌, [], List, IfOk, IfSome, IsOk, None, OnErr, false, is_some, length, option_copied, true, vec_capacity, vec_len};
+ghost use Rattle.ep_base.specs.Call.{EventHasNoBytes};
 ghost use Rattle.ep_base.specs.declared.record.Record.{Record as Recorded};
-ghost use Rattle.ep_calls.specs.Acts.{Adds, is_no_memory};
+ghost use Rattle.ep_calls.specs.Acts.{Adds, ComesLast, IsUnrefused, is_no_memory};
 ghost use Rattle.ep_calls.specs.Book.{state_of};
 ghost use Rattle.ep_calls.specs.KeptRecords.{Gains, HasRecord};
 ghost use Rattle.ep_calls.specs.Spared.{IsSpared};
-ghost use Rattle.ep_machine.specs.Effect.{first};
-ghost use Rattle.ep_machine.specs.Refusal.{refusals};
-ghost use Rattle.ep_machine.specs.Step.{next_event, step as step_of};
+ghost use Rattle.ep_machine.specs.Step.{step as step_of};
 ghost use Rattle.ep_calls.specs.Parts.{AreCoherent};
 ghost use Rattle.ep_interest.specs.Registrations.{IsSound};
 ghost use Rattle.ep_law.specs.Laws.{EndsAreApart, ReportablesAreSpread};
@@ -131,8 +130,7 @@ impl PlainKernel {
             → IsSpared (state_of self.old).files event
             → length self.old.past < self.old.capacity → IsOk result }
         ensures last { OnErr result (length self.old.past < self.old.capacity
-            → first (refusals self.old.limits (next_event (state_of self.old)) caller.0 event)
-            ≡ None) }
+            → IsUnrefused self.old.limits caller event (state_of self.old)) }
         ensures err { OnErr result (self.new ≡ record self.old { capacity = self.new.capacity }) }
     {
         self.history.reserve(1)?;
@@ -199,10 +197,8 @@ impl PlainKernel {
     ) -> Option<Answer>
         ensures limits { self.new.limits ≡ self.old.limits }
         ensures capacity { self.old.capacity ≤ self.new.capacity }
-        ensures last { IfSome result
-            (λ answer. is_no_memory answer ≡ true → length self.old.past < self.old.capacity
-            → first (refusals self.old.limits (next_event (state_of self.old)) caller.0 event)
-            ≡ None) }
+        ensures last { IfSome result (λ answer. length self.old.past < self.old.capacity
+            → ComesLast self.old.limits caller event answer (state_of self.old)) }
         ensures steps { StepsWith self.old.limits caller event picks.now result (state_of self.old)
             (state_of self.new) self.old.past self.new.past }
     {
@@ -216,7 +212,8 @@ impl PlainKernel {
     }
 
     /// One event whose record is put at the end of a list of the caller's too.
-    /// An `AllocError` has changed nothing, but that there may be more room for records in either.
+    /// An `AllocError` has changed nothing, but that there may be more room for records in either. If both had room and
+    /// the copy of the event takes no memory, it comes only if nothing refuses the event.
     fn try_step_kept(
         &mut self,
         caller: CallerId,
@@ -231,6 +228,9 @@ impl PlainKernel {
         ensures real { IfOk result (λ answer. is_no_memory answer ≡ false) }
         ensures kept { IfOk result
             (λ answer. Gains self.old.past self.new.past kept.old.items kept.new.items) }
+        ensures last { OnErr result (EventHasNoBytes event
+            → vec_len kept.old < vec_capacity kept.old → length self.old.past < self.old.capacity
+            → IsUnrefused self.old.limits caller event (state_of self.old)) }
         ensures err { OnErr result (self.new ≡ record self.old { capacity = self.new.capacity }) }
         ensures err_kept { OnErr result (kept.new.items ≡ kept.old.items) }
     {
