@@ -1,10 +1,11 @@
 //! A kernel whose callers have a session each, and the sessions.
-ghost use Rattle.std.specs.Prelude.{◌≡◌, ℕ, ◌+◌, ◌<◌, ◌≤◌, [], All, IfOk, Some, filter, length, map, slice_index_or, true, vec_len};
+ghost use Rattle.std.specs.Prelude.{◌≡◌, ℕ, ◌+◌, ◌<◌, ◌≤◌, [], All, IfOk, Some, filter, length, map, slice_index_or, true, vec_capacity, vec_len};
 ghost use Rattle.std.specs.List.{range_with_len};
+ghost use Rattle.ep_base.specs.Call.{EventHasNoBytes};
 ghost use Rattle.ep_machine.specs.Run.{run};
 ghost use Rattle.ep_machine.specs.State.{opening};
 ghost use Rattle.ep_machine.specs.Waits.{is_marked, is_parked};
-ghost use Rattle.ep_calls.specs.Acts.{Acts};
+ghost use Rattle.ep_calls.specs.Acts.{Acts, ComesLast};
 ghost use Rattle.ep_calls.specs.KeptRecords.{KeepsRecord};
 ghost use Rattle.ep_shared.specs.Parts.{IsBetween};
 ghost use Rattle.ep_shared.specs.Told.{Adds, may_answer, must_wait};
@@ -163,7 +164,8 @@ impl<K: Kernel + Drop, L: Ledger> Book<K, L> {
     }
 
     /// One event by the session's caller, whose record is put at the end of the session's too.
-    /// ENOMEM is want of memory, for the kernel or for the session's list: then neither changes.
+    /// ENOMEM is want of memory, for the kernel or for the session's list: then neither changes. If both have room for
+    /// the record and the copy of the event takes no memory, no refusal of the machine holds then.
     #[tactic(auto, using(crate::proofs::MayLemmas::acts_may))]
     pub fn act(&mut self, session: &mut Session<L>, event: Event) -> Answer
         ensures limits { K.bounds self.new.kernel ≡ K.bounds self.old.kernel }
@@ -177,6 +179,11 @@ impl<K: Kernel + Drop, L: Ledger> Book<K, L> {
             session.new.records.items }
         ensures caller { session.new.name.number ≡ session.old.name.number }
         ensures may { may_answer event result ≡ true }
+        ensures last { EventHasNoBytes event
+            → vec_len session.old.records < vec_capacity session.old.records
+            → length (K.past self.old.kernel) < K.capacity self.old.kernel
+            → ComesLast (K.bounds self.old.kernel) (record { 0 = session.old.name.number })
+            event result (K.state self.old.kernel) }
     {
         let Book {
             alloc: _,
