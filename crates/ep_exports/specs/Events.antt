@@ -1,8 +1,9 @@
 -- One event on the kernel behind a handle. `None` is an empty handle.
-use Rattle.std.specs.Prelude.{◌≡◌, ◌≤◌, ◌⊎◌, IsSomeAnd, List, None, Option, Some, false, length, map, true, ℕ, ℤ}
+use Rattle.std.specs.Prelude.{[], ◌<◌, ◌≡◌, ◌≤◌, ◌⊎◌, IsSomeAnd, List, None, Option, Some, false, length, map, true, ℕ, ℤ}
 use Rattle.ep_base.specs.declared.answer.Answer.{Answer}
 use Rattle.ep_base.specs.declared.call.Event.{Event}
-use Rattle.ep_calls.specs.Acts.{Acts}
+use Rattle.ep_calls.specs.Acts.{Acts, ComesLast, is_no_memory}
+use Rattle.ep_calls.specs.Spared.{IsSpared}
 use Rattle.ep_flat.specs.Flat.{Asks, AsksNothing, bytes_of, flat_report, lacks_room, overlaid, reply_of, reports_of}
 use Rattle.ep_flat.specs.declared.flat.FlatReply.{FlatReply}
 use Rattle.ep_flat.specs.declared.flat.FlatReport.{FlatReport}
@@ -39,6 +40,8 @@ pub record Answered (old new : ReadyBook) (request : FlatRequest) (given : List 
   pub asked : Asks request given event
   pub limits : new.book.limits ≡ old.book.limits
   pub capacity : old.book.capacity ≤ new.book.capacity
+  pub spared : IsSpared (state_of old).files event → length old.book.past < old.book.capacity → is_no_memory answer ≡ false
+  pub last : length old.book.past < old.book.capacity → ComesLast old.book.limits (record { 0 = request.caller }) event answer (state_of old)
   pub acts : Acts old.book.limits (record { 0 = request.caller }) event answer (state_of old) (state_of new) old.book.past new.book.past
   pub lists : ActsOnLists (record { 0 = request.caller }) event answer old new
   pub laid : IsLaidOut answer (state_of new).now before after
@@ -52,4 +55,4 @@ Called (Some old) request given new before after result =
     ⊎ ((result ≡ no_room) × (lacks_room request (length before.bytes) (length before.reports) ≡ true) × (new ≡ Some old)
     × (after ≡ before))
     ⊎ ((result ≡ no_such_event) × AsksNothing request × (new ≡ Some old) × (after ≡ before))
-    ⊎ ((result ≡ no_memory) × (new ≡ Some old) × (after ≡ before))
+    ⊎ ((result ≡ no_memory) × (request.event ≡ 10) × (given ≡ [] → ⊥) × (new ≡ Some old) × (after ≡ before))

@@ -15,7 +15,8 @@ use std::alloc::Global;
 ///
 /// With nothing changed: -EBADF, -EMSGSIZE if `bytes` is shorter than what a read asks for or `reports` than the
 /// most reports of a wait, -ENOSYS if the number of the event is none, -ENOMEM if there is no memory for the
-/// bytes of a write.
+/// bytes of a write that has some. Of any other event want of memory is the answer ENOMEM. That comes last: if there
+/// is room for the record (`ep_reserve`), no refusal of the machine holds, and some events aren't answered so at all.
 ///
 /// A resumption has at most as many reports as its wait asked for, and what doesn't fit is cut: `ep_recorded` has all
 /// of them.

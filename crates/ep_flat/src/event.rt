@@ -1,5 +1,5 @@
 //! The event that a request asks for.
-ghost use Rattle.std.specs.Prelude.{◌≡◌, ◌<◌, ◌≤◌, ◌⊎◌, IfOk, MatchOption};
+ghost use Rattle.std.specs.Prelude.{◌≡◌, ◌<◌, ◌≤◌, ◌⊎◌, [], IfOk, IsOk, MatchOption, OnErr};
 ghost use Rattle.ep_flat.specs.Flat.{Asks, AsksCall, AsksNothing, lacks_room};
 
 use crate::flat::FlatRequest;
@@ -15,7 +15,8 @@ const ABSOLUTE: u32 = 4;
 
 /// The bytes once more, as a write has them.
 fn buffer_of(alloc: Global, bytes: &[u8]) -> Result<Buffer, AllocError>
-    ensures { IfOk result (λ buffer. buffer ≡ bytes.now) }
+    ensures ok { IfOk result (λ buffer. buffer ≡ bytes.now) }
+    ensures no_bytes { bytes.now ≡ [] → IsOk result }
 {
     let mut values = Vec::new(alloc);
     values.extend_from_slice(bytes)?;
@@ -24,9 +25,11 @@ fn buffer_of(alloc: Global, bytes: &[u8]) -> Result<Buffer, AllocError>
 
 /// The call that is asked for, or `None` exactly if the number is that of no call.
 fn call_of(alloc: Global, request: &FlatRequest, bytes: &[u8]) -> Result<Option<Call>, AllocError>
-    ensures { IfOk result
+    ensures ok { IfOk result
         (λ asked. MatchOption asked ((request.now.event < 1) ⊎ (20 ≤ request.now.event))
         (λ call. AsksCall request.now bytes.now call)) }
+    ensures write { OnErr result (request.now.event ≡ 10) }
+    ensures no_bytes { bytes.now ≡ [] → IsOk result }
 {
     let cloexec = request.flags & CLOEXEC != 0;
     let fd = Fd(request.fd);
@@ -86,14 +89,16 @@ fn call_of(alloc: Global, request: &FlatRequest, bytes: &[u8]) -> Result<Option<
 }
 
 /// The event that is asked for, a write with these bytes, or `None` exactly if the number is that of no event.
-/// `AllocError` is want of memory for the bytes.
+/// `AllocError` is want of memory for the bytes: it comes only of a write that has some.
 pub fn event_of(
     alloc: Global,
     request: &FlatRequest,
     bytes: &[u8],
 ) -> Result<Option<Event>, AllocError>
-    ensures { IfOk result (λ asked. MatchOption asked (AsksNothing request.now)
+    ensures ok { IfOk result (λ asked. MatchOption asked (AsksNothing request.now)
         (λ event. Asks request.now bytes.now event)) }
+    ensures write { OnErr result (request.now.event ≡ 10) }
+    ensures no_bytes { bytes.now ≡ [] → IsOk result }
 {
     Ok(match request.event {
         20 => Some(Event::Resume),
