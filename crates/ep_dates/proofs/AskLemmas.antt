@@ -140,7 +140,6 @@ module _ (way : Bool) (n : ℕ) (r : Registrations) (shows : Bool → Entry → 
       kept = kept_changed r one d kept id x is event new c;
       rows = c.rows;
       since = ap (λ (s : List ℕ). length s) c.since ∙ long;
-      places = c.places;
       later = λ k lt. event_else r one d kept id x is event new c k (λ e. let le = within id x is in omega (arith, le, lt, e));
       stays = λ j y there h. elim (cases_eq j.0 id.0) [
         | inl e ↦ ap (is_dated new) (y_is j y there e) ∙ now
@@ -165,7 +164,7 @@ module _ (way : Bool) (n : ℕ) (r : Registrations) (shows : Bool → Entry → 
         | inr ne ↦ absurd (false≢true (sym before ∙ (ap (λ (k : ℕ). nat_lt 0 k) (sym (same_else j y there ne)) ∙ after)))
       ];
       rises = everywhere;
-      flips = λ j t. let f = told.flips j t in (ap (is_ready d) f.0 ∙ f.1, ap (is_ready new) f.0 ∙ f.2, subst (λ (k : ℕ). k < d.turned.room) (sym f.0) (kept.places id x is).room.turn);
+      flips = λ j t. let f = told.flips j t in (ap (is_ready d) f.0 ∙ f.1, ap (is_ready new) f.0 ∙ f.2, subst (λ (k : ℕ). k < d.turned.room) (sym f.0) (kept.places id x is).turn);
       noted = λ j before after. elim (cases_eq j i) [
         | inl e ↦ ap (is_among told.more) e ∙ told.has (ap (is_ready d) (sym e) ∙ before) (ap (is_ready new) (sym e) ∙ after)
         | inr ne ↦ absurd (not_both (is_ready d j) way (sym (others j ne) ∙ after) before)
@@ -242,7 +241,7 @@ module _ (p : Parts) (sound : IsSound p.interest) (n : ℕ) (up : nat_lt 0 n ≡
   begun_rows was j = elim (cases_eq j own) [
     | inl e ↦
         let here : keys_at d.rows own ≡ left p.interest d kept id x at own = sym (filter_gone (keys_at d.rows own) id.0 (kept.listed id x at ∙ was)) in
-        inr (ap (λ (i : ℕ). keys_at (begun n id x d).rows i) e ∙ (row_here d.rows own (keys_at d.rows own ++ id.0 ∷ []) (kept.places id x at).room.row ∙ (ap (λ (l : List ℕ). l ++ id.0 ∷ []) here ∙ ap (λ (i : ℕ). left p.interest d kept id x at i ++ id.0 ∷ []) (sym e))), refl)
+        inr (ap (λ (i : ℕ). keys_at (begun n id x d).rows i) e ∙ (row_here d.rows own (keys_at d.rows own ++ id.0 ∷ []) (kept.places id x at).row ∙ (ap (λ (l : List ℕ). l ++ id.0 ∷ []) here ∙ ap (λ (i : ℕ). left p.interest d kept id x at i ++ id.0 ∷ []) (sym e))), refl)
     | inr ne ↦ inl (row_else d.rows own j (keys_at d.rows own ++ id.0 ∷ []) ne ∙ elsewhere p.interest d kept id x at j ne)
   ]
 
@@ -250,7 +249,7 @@ module _ (p : Parts) (sound : IsSound p.interest) (n : ℕ) (up : nat_lt 0 n ≡
   asked_begun turned was shown =
       turns_one true n p.interest (shows_over p) (shows_rises p) (one_under p.interest sound) (number_within p.interest sound) d kept turned id x at was shown n (begun n id x d)
       (begun_changes p.interest d kept id x at n up) up (λ t. refl) refl
-      (λ h. some_first (keys_at (with_key d.rows own id.0) own) id.0 (ap (λ (l : List ℕ). is_among l id.0) (row_here d.rows own (keys_at d.rows own ++ id.0 ∷ []) (kept.places id x at).room.row) ∙ end_here (keys_at d.rows own) id.0))
+      (λ h. some_first (keys_at (with_key d.rows own id.0) own) id.0 (ap (λ (l : List ℕ). is_among l id.0) (row_here d.rows own (keys_at d.rows own ++ id.0 ∷ []) (kept.places id x at).row) ∙ end_here (keys_at d.rows own) id.0))
       (λ j ne. row_ready d.rows own (keys_at d.rows own ++ id.0 ∷ []) j ne)
       (λ o. order_changed n p.interest (one_under p.interest sound) d kept o id x at n (begun n id x d) (begun_changes p.interest d kept id x at n up) (begun_rows was))
 

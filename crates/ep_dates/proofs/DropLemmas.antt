@@ -56,7 +56,6 @@ module _ (r : Registrations) where
     rows = refl;
     since = refl;
     ids = refl;
-    places = refl;
     room = refl;
     later = λ k lt. refl;
     stays = λ id x at h. refl;
@@ -73,7 +72,6 @@ module _ (r : Registrations) where
     rows = t.rows;
     since = t.since;
     ids = t.ids;
-    places = t.places;
     room = t.room;
     later = t.later;
     stays = λ id x at h. t.stays id x at (sym (same id x at) ∙ h);
@@ -90,7 +88,6 @@ module _ (r : Registrations) where
     rows = t.rows ∙ s.rows;
     since = t.since ∙ s.since;
     ids = t.ids ∙ s.ids;
-    places = t.places ∙ s.places;
     room = t.room ∙ s.room;
     later = λ k lt. t.later k lt ∙ s.later k lt;
     stays = λ id x at h. let both = neither (f id.0) (g id.0) h in t.stays id x at both.1 ∙ s.stays id x at both.0;
@@ -137,7 +134,6 @@ module _ (r : Registrations) where
       rows = changes.rows;
       since = length-set d.since x.number 0;
       ids = refl;
-      places = changes.places;
       room = changes.room;
       later = λ k lt. event_else r (one_under r sound) d kept id x at 0 new changes k (λ e. let le = number_within r sound id x at in omega (arith, le, lt, e));
       stays = λ j y there h. event_else r (one_under r sound) d kept id x at 0 new changes y.number (apart_one r (one_under r sound) d kept id x at 0 new changes j y there (λ e. false≢true (sym h ∙ same_test j.0 id.0 e)));

@@ -20,7 +20,6 @@ AreOne r = (a b : EntryId) (x y : Entry) → entry_under r a ≡ Some x → entr
 -- the registration under a key has this event, and its key stands in its instance's row exactly if that isn't 0
 pub record Changes (d : Dates) (id : EntryId) (x : Entry) (event : ℕ) (new : Dates) : Type 0 where
   pub since : new.since ≡ set d.since x.number event
-  pub places : new.places ≡ d.places
   pub ids_long : length new.ids ≡ length d.ids
   pub id_here : nat_lt 0 event ≡ true → id_at new.ids x.number ≡ id
   pub id_else : (k : ℕ) → k ≢ x.number → id_at new.ids k ≡ id_at d.ids k
@@ -57,12 +56,10 @@ module _ (r : Registrations) (one : AreOne r) (d : Dates) (kept : AreKept r d) (
   kept_changed = record {
     places = λ j y at. let p = kept.places j y at in record {
       since = subst (λ (n : ℕ). y.number < n) (sym (ap (λ (s : List ℕ). length s) c.since ∙ length-set d.since x.number event)) p.since;
-      room = record {
-        ids = subst (λ (n : ℕ). y.number < n) (sym c.ids_long) p.room.ids;
-        row = subst (λ (n : ℕ). y.instance.0 < n) (sym c.rows) p.room.row;
-        key = subst (λ (n : ℕ). j.0 < n) (sym c.keys) p.room.key;
-        turn = subst (λ (n : ℕ). y.instance.0 < n) (sym c.room) p.room.turn;
-      };
+      ids = subst (λ (n : ℕ). y.number < n) (sym c.ids_long) p.ids;
+      row = subst (λ (n : ℕ). y.instance.0 < n) (sym c.rows) p.row;
+      key = subst (λ (n : ℕ). j.0 < n) (sym c.keys) p.key;
+      turn = subst (λ (n : ℕ). y.instance.0 < n) (sym c.room) p.turn;
     };
     listed = λ j y at. elim (cases_eq j.0 id.0) [
       | inl e ↦
@@ -107,15 +104,14 @@ module _ (r : Registrations) (d : Dates) (kept : AreKept r d) (id : EntryId) (x 
   pub begun_changes : (n : ℕ) → nat_lt 0 n ≡ true → Changes d id x n (begun n id x d)
   begun_changes n up = record {
     since = refl;
-    places = refl;
     ids_long = length-set d.ids x.number id;
-    id_here = λ h. get_or-set_same d.ids x.number id _ spot.room.ids;
+    id_here = λ h. get_or-set_same d.ids x.number id _ spot.ids;
     id_else = λ k apart. get_or-set_other d.ids x.number k id _ apart;
     rows = length-set d.rows.rows i (keys_at d.rows i ++ id.0 ∷ []);
     keys = refl;
     room = noted_room (is_ready d i) _ i d.turned;
-    here = ap (λ (l : List ℕ). is_among l id.0) (row_here d.rows i (keys_at d.rows i ++ id.0 ∷ []) spot.room.row) ∙ (end_here (keys_at d.rows i) id.0 ∙ sym up);
-    other = row_other d.rows i id.0 (keys_at d.rows i ++ id.0 ∷ []) spot.room.row (λ m apart. end_other (keys_at d.rows i) id.0 m apart);
+    here = ap (λ (l : List ℕ). is_among l id.0) (row_here d.rows i (keys_at d.rows i ++ id.0 ∷ []) spot.row) ∙ (end_here (keys_at d.rows i) id.0 ∙ sym up);
+    other = row_other d.rows i id.0 (keys_at d.rows i ++ id.0 ∷ []) spot.row (λ m apart. end_other (keys_at d.rows i) id.0 m apart);
     home = row_home d.rows i id.0 (keys_at d.rows i ++ id.0 ∷ []) only_home;
   }
 
@@ -125,15 +121,14 @@ module _ (r : Registrations) (d : Dates) (kept : AreKept r d) (id : EntryId) (x 
   pub ended_changes : Changes d id x 0 (ended id x d)
   ended_changes = record {
     since = refl;
-    places = refl;
     ids_long = refl;
     id_here = λ h. absurd (false≢true h);
     id_else = λ k apart. refl;
     rows = length-set d.rows.rows i less;
     keys = refl;
     room = noted_room (is_ready d i) _ i d.turned;
-    here = ap (λ (l : List ℕ). is_among l id.0) (row_here d.rows i less spot.room.row) ∙ among_gone (keys_at d.rows i) id.0;
-    other = row_other d.rows i id.0 less spot.room.row (λ m apart. among_left (keys_at d.rows i) id.0 m apart);
+    here = ap (λ (l : List ℕ). is_among l id.0) (row_here d.rows i less spot.row) ∙ among_gone (keys_at d.rows i) id.0;
+    other = row_other d.rows i id.0 less spot.row (λ m apart. among_left (keys_at d.rows i) id.0 m apart);
     home = row_home d.rows i id.0 less only_home;
   }
 
@@ -149,10 +144,10 @@ module _ (r : Registrations) (d : Dates) (kept : AreKept r d) (id : EntryId) (x 
   middle = without_key d.rows at id.0
 
   there : at < length middle.rows
-  there = subst (λ (n : ℕ). at < n) (sym (length-set d.rows.rows at others)) (kept.places id x is).room.row
+  there = subst (λ (n : ℕ). at < n) (sym (length-set d.rows.rows at others)) (kept.places id x is).row
 
   pub turned_row : keys_at middle at ≡ others
-  turned_row = row_here d.rows at others (kept.places id x is).room.row
+  turned_row = row_here d.rows at others (kept.places id x is).row
 
   only_there : (j : ℕ) → is_among (keys_at middle j) id.0 ≡ true → j ≡ at
   only_there = row_home d.rows at id.0 others (only_home r d kept id x is)
@@ -163,7 +158,6 @@ module _ (r : Registrations) (d : Dates) (kept : AreKept r d) (id : EntryId) (x 
   pub renewed_changes : (n : ℕ) → nat_lt 0 n ≡ true → id_at d.ids x.number ≡ id → Changes d id x n (renewed n id x d)
   renewed_changes n up key = record {
     since = refl;
-    places = refl;
     ids_long = refl;
     id_here = λ h. key;
     id_else = λ k apart. refl;
@@ -173,6 +167,6 @@ module _ (r : Registrations) (d : Dates) (kept : AreKept r d) (id : EntryId) (x 
     here = ap (λ (l : List ℕ). is_among l id.0) last_row ∙ (end_here (keys_at middle at) id.0 ∙ sym up);
     other = λ j m apart.
         row_other middle at id.0 (keys_at middle at ++ id.0 ∷ []) there (λ k ne. end_other (keys_at middle at) id.0 k ne) j m apart
-        ∙ row_other d.rows at id.0 others (kept.places id x is).room.row (λ k ne. among_left (keys_at d.rows at) id.0 k ne) j m apart;
+        ∙ row_other d.rows at id.0 others (kept.places id x is).row (λ k ne. among_left (keys_at d.rows at) id.0 k ne) j m apart;
     home = row_home middle at id.0 (keys_at middle at ++ id.0 ∷ []) only_there;
   }

@@ -18,12 +18,10 @@ kept_moves d old new kept moves = record {
     | inl was ↦
         let p = kept.places id was.was was.there in record {
           since = subst (λ (n : ℕ). n < length d.since) was.number p.since;
-          room = record {
-            ids = subst (λ (n : ℕ). n < length d.ids) was.number p.room.ids;
-            row = subst (λ (n : ℕ). n < length d.rows.rows) was.instance p.room.row;
-            key = p.room.key;
-            turn = subst (λ (n : ℕ). n < d.turned.room) was.instance p.room.turn;
-          };
+          ids = subst (λ (n : ℕ). n < length d.ids) was.number p.ids;
+          row = subst (λ (n : ℕ). n < length d.rows.rows) was.instance p.row;
+          key = p.key;
+          turn = subst (λ (n : ℕ). n < d.turned.room) was.instance p.turn;
         }
   ];
   listed = λ id x at. elim (moves.each id x at) [
@@ -45,11 +43,11 @@ kept_moves d old new kept moves = record {
 -- another walk notes what turns
 pub kept_handed : (r : Registrations) (d : Dates) (w : Walk) → AreKept r d → AreRoomy r w → AreKept r (record d { turned = w })
 kept_handed r d w kept roomy = record {
-  places = λ id x at. let p = kept.places id x at in record { since = p.since; room = record { ids = p.room.ids; row = p.room.row; key = p.room.key; turn = roomy id x at } };
+  places = λ id x at. let p = kept.places id x at in record { since = p.since; ids = p.ids; row = p.row; key = p.key; turn = roomy id x at };
   listed = kept.listed;
   only = kept.only;
   ids = kept.ids;
 }
 
 pub kept_roomy : (r : Registrations) (d : Dates) → AreKept r d → AreRoomy r d.turned
-kept_roomy r d kept id x at = (kept.places id x at).room.turn
+kept_roomy r d kept id x at = (kept.places id x at).turn

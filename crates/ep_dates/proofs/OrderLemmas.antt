@@ -111,6 +111,6 @@ module _ (r : Registrations) (d : Dates) (kept : AreKept r d) (id : EntryId) (x 
 
   pub ended_rows : (j : ℕ) → keys_at (ended id x d).rows j ≡ left j
   ended_rows j = elim (cases_eq j x.instance.0) [
-    | inl e ↦ ap (λ (i : ℕ). keys_at (ended id x d).rows i) e ∙ (row_here d.rows x.instance.0 (left x.instance.0) (kept.places id x is).room.row ∙ ap left (sym e))
+    | inl e ↦ ap (λ (i : ℕ). keys_at (ended id x d).rows i) e ∙ (row_here d.rows x.instance.0 (left x.instance.0) (kept.places id x is).row ∙ ap left (sym e))
     | inr ne ↦ row_else d.rows x.instance.0 j (left x.instance.0) ne ∙ elsewhere j ne
   ]

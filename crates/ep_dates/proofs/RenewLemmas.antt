@@ -30,7 +30,6 @@ module _ (n : ℕ) (r : Registrations) where
     turned = refl;
     rows = refl;
     since = refl;
-    places = refl;
     later = λ k lt. refl;
     order = λ o. o;
     ready = λ i. refl;
@@ -47,7 +46,6 @@ module _ (n : ℕ) (r : Registrations) where
     turned = refl;
     rows = refl;
     since = refl;
-    places = refl;
     later = λ j lt. refl;
     order = λ o. o;
     ready = λ i. refl;
@@ -92,7 +90,6 @@ module _ (n : ℕ) (r : Registrations) where
       turned = refl;
       rows = changes.rows;
       since = length-set d.since x.number n;
-      places = changes.places;
       later = λ j lt. event_else r (one_under r sound) d kept id x at n new changes j (λ e. let le = number_within r sound id x at in omega (arith, le, lt, e));
       order = λ o. order_changed n r (one_under r sound) d kept o id x at n new changes new_rows;
       ready = λ j. elim (cases_eq j i) [
@@ -128,7 +125,6 @@ module _ (n : ℕ) (r : Registrations) where
     turned = t.turned ∙ s.turned;
     rows = t.rows ∙ s.rows;
     since = t.since ∙ s.since;
-    places = t.places ∙ s.places;
     later = λ k lt. t.later k lt ∙ s.later k lt;
     order = λ o. t.order (s.order o);
     ready = λ i. t.ready i ∙ s.ready i;

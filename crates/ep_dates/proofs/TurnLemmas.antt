@@ -66,7 +66,6 @@ module _ (way : Bool) (n : ℕ) (r : Registrations) (shows : Bool → Entry → 
     kept = kept;
     rows = refl;
     since = refl;
-    places = refl;
     later = λ k lt. refl;
     stays = λ id x at h. h;
     turns = λ id x at was is. absurd (not_both (is_dated d x) way is was);
@@ -86,7 +85,6 @@ module _ (way : Bool) (n : ℕ) (r : Registrations) (shows : Bool → Entry → 
     kept = t.kept;
     rows = t.rows;
     since = t.since;
-    places = t.places;
     later = t.later;
     stays = t.stays;
     turns = t.turns;
@@ -123,7 +121,6 @@ module _ (way : Bool) (n : ℕ) (r : Registrations) (shows : Bool → Entry → 
       kept = t.kept;
       rows = t.rows ∙ s.rows;
       since = t.since ∙ s.since;
-      places = t.places ∙ s.places;
       later = λ k lt. t.later k lt ∙ s.later k lt;
       stays = λ id x at h. t.stays id x at (s.stays id x at h);
       turns = λ id x at was is. elim (either_way (is_dated b x) way) [
@@ -178,7 +175,6 @@ turns_asking way n r shows f g a b t settled = record {
   kept = t.kept;
   rows = t.rows;
   since = t.since;
-  places = t.places;
   later = t.later;
   stays = t.stays;
   turns = t.turns;

@@ -127,7 +127,7 @@ pub kept_forgot : (r : Registrations) (d : Dates) → AreKept r d → AreKept r 
 kept_forgot r d kept = record {
   places = λ id x at.
       let h = kept.places id x at in
-      record { since = h.since; room = record { ids = h.room.ids; row = h.room.row; key = h.room.key; turn = h.room.turn } };
+      record { since = h.since; ids = h.ids; row = h.row; key = h.key; turn = h.turn };
   listed = kept.listed;
   only = kept.only;
   ids = kept.ids;

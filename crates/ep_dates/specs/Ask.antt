@@ -38,7 +38,6 @@ pub record Turns (way : Bool) (n : ℕ) (r : Registrations) (shows : Bool → En
   pub kept : AreKept r new
   pub rows : length new.rows.rows ≡ length old.rows.rows
   pub since : length new.since ≡ length old.since
-  pub places : new.places ≡ old.places
   pub later : (k : ℕ) → r.added < k → event_at new.since k ≡ event_at old.since k
   pub stays : (id : EntryId) (x : Entry) → entry_under r id ≡ Some x → is_dated old x ≡ way → is_dated new x ≡ way
   pub turns : (id : EntryId) (x : Entry) → entry_under r id ≡ Some x → is_dated old x ≡ not way → is_dated new x ≡ way → shows_by shows new x ≡ way

@@ -1,5 +1,5 @@
 -- What contracts see of the dates: since which event each registration is reportable, and which are, by instance.
-use Rattle.std.specs.Prelude.{◌<◌, ◌≡◌, ◌≤◌, Bool, List, [], ◌∷◌, if◌then◌else◌, is_some, length, nat_lt, slice_index_or, slice_set, ℕ}
+use Rattle.std.specs.Prelude.{◌<◌, ◌≡◌, ◌≤◌, Bool, List, [], if◌then◌else◌, is_some, length, nat_lt, slice_index_or, slice_set, ℕ}
 use Rattle.ep_base.specs.declared.ids.EntryId.{EntryId}
 use Rattle.ep_interest.specs.declared.entry.Entry.{Entry}
 use Rattle.ep_ready.specs.Walk.{Walk, with_reached}
@@ -9,7 +9,6 @@ pub record Dates : Type 0 where
   pub since : List ℕ  -- by the number of each registration the event since which it is reportable, 0 where it is not
   pub ids : List EntryId  -- and the key that it had when it last came to be so
   pub rows : PlacedRows  -- for each instance the keys of its registrations that are reportable
-  pub places : ℕ  -- for how many numbers there is room
   pub turned : Walk  -- the instances that came to have such a key, or lost the last, since this was forgotten
 
 -- what is kept at a number
@@ -49,17 +48,17 @@ abbrev pub renewed : ℕ → EntryId → Entry → Dates → Dates
 renewed n id x d =
     record d { since = slice_set d.since x.number n; rows = with_key (without_key d.rows x.instance.0 id.0) x.instance.0 id.0 }
 
--- of no registrations, with a place for the number 0, which none has, and for that of the first
+-- of no registrations
 pub record AreNew (d : Dates) : Type 0 where
-  pub since : d.since ≡ 0 ∷ 0 ∷ []
+  pub since : d.since ≡ []
   pub ids : d.ids ≡ []
   pub rows : d.rows ≡ no_rows
   pub turned : d.turned.reached ≡ []
 
 -- room for more: each date, each key, each row and what is noted is the same
 pub record Widens (old new : Dates) : Type 0 where
-  pub since : new.since ≡ old.since
-  pub places : new.places ≡ old.places
+  pub since : (k : ℕ) → event_at new.since k ≡ event_at old.since k
+  pub since_more : length old.since ≤ length new.since
   pub ids : (k : ℕ) → id_at new.ids k ≡ id_at old.ids k
   pub ids_more : length old.ids ≤ length new.ids
   pub rows : KeepsRows old.rows new.rows
@@ -70,14 +69,14 @@ pub record Widens (old new : Dates) : Type 0 where
 abbrev pub forgot : Dates → Dates
 forgot d = record d { turned = record d.turned { reached = [] } }
 
--- there is room for the key of a registration of an instance
+-- there is room for the date and the key of a registration with a number, of an instance
 pub record HasRoom (d : Dates) (n i k : ℕ) : Type 0 where
+  pub since : n < length d.since
   pub ids : n < length d.ids
   pub row : i < length d.rows.rows
   pub key : k < d.rows.keys
   pub turn : i < d.turned.room
 
--- there is a place for a registration under a key
-pub record HasPlace (d : Dates) (id : EntryId) (x : Entry) : Type 0 where
-  pub since : x.number < length d.since
-  pub room : HasRoom d x.number x.instance.0 id.0
+-- so there is for a registration under a key
+abbrev pub HasPlace : Dates → EntryId → Entry → Type 0
+HasPlace d id x = HasRoom d x.number x.instance.0 id.0

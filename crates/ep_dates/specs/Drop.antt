@@ -17,7 +17,6 @@ pub record Drops (r : Registrations) (gone : ℕ → Bool) (old new : Dates) : T
   pub rows : length new.rows.rows ≡ length old.rows.rows
   pub since : length new.since ≡ length old.since
   pub ids : new.ids ≡ old.ids
-  pub places : new.places ≡ old.places
   pub room : new.turned.room ≡ old.turned.room
   pub later : (k : ℕ) → r.added < k → event_at new.since k ≡ event_at old.since k
   pub stays : (id : EntryId) (x : Entry) → entry_under r id ≡ Some x → gone id.0 ≡ false → event_at new.since x.number ≡ event_at old.since x.number

@@ -14,7 +14,6 @@ pub record Renews (n : ℕ) (r : Registrations) (numbers : List ℕ) (old new : 
   pub turned : new.turned ≡ old.turned
   pub rows : length new.rows.rows ≡ length old.rows.rows
   pub since : length new.since ≡ length old.since
-  pub places : new.places ≡ old.places
   pub later : (k : ℕ) → r.added < k → event_at new.since k ≡ event_at old.since k
   pub order : AreInTurn n r old → AreInTurn n r new
   pub ready : (i : ℕ) → is_ready new i ≡ is_ready old i

@@ -24,7 +24,6 @@ pub struct Dates {
 }
 
 impl Model for Dates {
-    ghost use Rattle.std.specs.Prelude.{vec_capacity};
     ghost use Rattle.ep_dates.specs.Dates.{Dates as Dated};
 
     ghost Value = { Dated };
@@ -33,7 +32,6 @@ impl Model for Dates {
       since = d.since.items;
       ids = d.ids.items;
       rows = d.rows;
-      places = vec_capacity d.since;
       turned = d.turned;
     } };
 }

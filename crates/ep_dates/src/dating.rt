@@ -50,7 +50,6 @@ pub fn date(parts: &Parts, event: EventNumber, touched: &Touched<'_>, dates: &mu
     ensures later { (k : ℕ) → parts.now.interest.added < k
         → event_at dates.new.since k ≡ event_at dates.old.since k }
     ensures length { length dates.new.since ≡ length dates.old.since }
-    ensures places { dates.new.places ≡ dates.old.places }
     ensures kept { AreKept parts.now.interest dates.new }
     ensures order { AreInTurn event parts.now.interest dates.old
         → AreInTurn event parts.now.interest dates.new }

@@ -1,6 +1,6 @@
 //! Room for the dates of registrations. Only this takes memory.
-ghost use Rattle.std.specs.Prelude.{◌≡◌, ◌<◌, ◌≤◌, ◌+◌, ◌++◌, ◌∷◌, [], IfOk, IsOk, OnOk, length};
-ghost use Rattle.ep_dates.specs.Dates.{AreNew, HasRoom, Widens};
+ghost use Rattle.std.specs.Prelude.{◌≡◌, ◌≤◌, ℕ, OnOk, length};
+ghost use Rattle.ep_dates.specs.Dates.{AreNew, HasRoom, Widens, event_at, id_at};
 
 use crate::dates::Dates;
 use ep_base::{DescId, EntryId, EntryNumber, EventNumber};
@@ -8,40 +8,41 @@ use ep_ready::Walk;
 use ep_rings::PlacedRows;
 use std::alloc::{AllocError, Global};
 
+/// Makes dates of at least so many numbers. Those that are new are 0. An `Err` is want of memory.
+fn lengthen_dates(since: &mut Vec<EventNumber>, numbers: usize) -> Result<(), AllocError>
+    ensures same { (k : ℕ) → event_at since.new.items k ≡ event_at since.old.items k }
+    ensures more { length since.old.items ≤ length since.new.items }
+    ensures long { OnOk result (numbers ≤ length since.new.items) }
+{
+    if since.len() < numbers {
+        since.resize(numbers, EventNumber(0))?;
+    }
+    Ok(())
+}
+
+/// Makes keys of at least so many numbers. Those that are new are 0. An `Err` is want of memory.
+fn lengthen_keys(ids: &mut Vec<EntryId>, numbers: usize) -> Result<(), AllocError>
+    ensures same { (k : ℕ) → id_at ids.new.items k ≡ id_at ids.old.items k }
+    ensures more { length ids.old.items ≤ length ids.new.items }
+    ensures long { OnOk result (numbers ≤ length ids.new.items) }
+{
+    if ids.len() < numbers {
+        ids.resize(numbers, EntryId(0))?;
+    }
+    Ok(())
+}
+
 impl Dates {
-    /// Of no registrations, with a place for the number 0, which none has, and for that of the first. An `Err` is want
-    /// of memory.
-    pub fn new(alloc: Global) -> Result<Dates, AllocError>
-        ensures { IfOk result (λ dates. AreNew dates) }
+    /// Of no registrations.
+    pub fn new(alloc: Global) -> Dates
+        ensures { AreNew result }
     {
-        let mut since = Vec::new(alloc);
-        since.push(EventNumber(0))?;
-        since.push(EventNumber(0))?;
-        Ok(Dates {
-            since,
+        Dates {
+            since: Vec::new(alloc),
             ids: Vec::new(alloc),
             rows: PlacedRows::new(alloc),
             turned: Walk::new(alloc),
-        })
-    }
-
-    /// Makes room for so many numbers more. An `Err` is want of memory. No date changes, and there is no less room than
-    /// before. Each event takes a number.
-    pub fn reserve(&mut self, additional: usize) -> Result<(), AllocError>
-        ensures same { self.new ≡ record self.old { places = self.new.places } }
-        ensures more { self.old.places ≤ self.new.places }
-        ensures room { OnOk result (length self.new.since + additional ≤ self.new.places) }
-        ensures spared { length self.old.since + additional ≤ self.old.places → IsOk result }
-    {
-        self.since.reserve(additional)
-    }
-
-    /// Gives the next number a place, for which there is room. It has no date.
-    pub fn number(&mut self)
-        requires { length self.old.since < self.old.places }
-        ensures { self.new ≡ record self.old { since = self.old.since ++ 0 ∷ [] } }
-    {
-        self.since.push_reserved(EventNumber(0));
+        }
     }
 
     /// Makes room for a registration of an instance, under a key and with a number. An `Err` is want of memory. No date
@@ -56,9 +57,8 @@ impl Dates {
         ensures room { OnOk result (HasRoom self.new number instance.0 id.0) }
     {
         let numbers = (number.0 as usize).checked_add(1).ok_or(AllocError)?;
-        if self.ids.len() < numbers {
-            self.ids.resize(numbers, EntryId(0))?;
-        }
+        lengthen_dates(&mut self.since, numbers)?;
+        lengthen_keys(&mut self.ids, numbers)?;
         let owners = instance.0.checked_add(1).ok_or(AllocError)?;
         let keys = id.0.checked_add(1).ok_or(AllocError)?;
         self.rows.reserve(owners, keys)?;

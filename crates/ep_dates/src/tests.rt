@@ -7,9 +7,7 @@ use std::test::Fail;
 
 #[test]
 fn room_is_made(rt: HostRuntime) -> Result<(), Fail> {
-    let mut dates = Dates::new(rt.alloc())?;
-    dates.reserve(3)?;
-    dates.number();
+    let mut dates = Dates::new(rt.alloc());
     dates.make_room(DescId(2), EntryId(5), EntryNumber(1))?;
     has_no_date(&rt, &dates);
     Ok(())

@@ -31,7 +31,7 @@ use Rattle.ep_machine.specs.State.{State}
 use Rattle.ep_machine.specs.Step.{next_event}
 use Rattle.ep_plain.proofs.NamedLemmas.{is_named}
 use Rattle.ep_plain.proofs.ReportedLemmas.{was_then}
-use Rattle.ep_plain.proofs.SinceLemmas.{begun_dated, event_more}
+use Rattle.ep_plain.proofs.SinceLemmas.{begun_dated}
 use Rattle.ep_plain.specs.Dating.{touched_in}
 use Rattle.ep_plain.specs.Exact.{Follows}
 use Rattle.ep_plain.specs.Since.{IsDated}
@@ -40,18 +40,12 @@ use Rattle.ep_plain.specs.declared.dating.Dating.{Dating}
 use Rattle.ep_table.specs.Value.{Seen, Sound as SoundTables, number_under as desc_number}
 use Rattle.ep_view.specs.KernelView.{reached_now}
 
--- with a place for one number more, which has no date
-abbrev pub longer : Dating → Dating
-longer d = record d { dates = record d.dates { since = d.dates.since ++ 0 ∷ [] } }
-
 -- What is left has the dates that it had.
 module _ (n : ℕ) (event : Event) (outcome : Outcome) (old mid left : Parts) (d e f : Dating) (follows : Follows n event outcome.picked old d mid e) (spread : SpreadsTo n outcome.raising mid e left f) where
-  pub date_left : (id : EntryId) (x : Entry) → entry_under left.interest id ≡ Some x → event_at (longer f).dates.since x.number ≡ event_at d.dates.since x.number
+  pub date_left : (id : EntryId) (x : Entry) → entry_under left.interest id ≡ Some x → event_at f.dates.since x.number ≡ event_at d.dates.since x.number
   date_left id x up =
       let w = was_then n outcome.raising mid left spread.spreads id x up in
-      event_more f.dates.since x.number
-      ∙ (spread.loses.stays id x up
-      ∙ (ap (event_at e.dates.since) (sym w.number) ∙ (follows.loses.stays id w.was w.under ∙ ap (event_at d.dates.since) w.number)))
+      spread.loses.stays id x up ∙ (ap (event_at e.dates.since) (sym w.number) ∙ (follows.loses.stays id w.was w.under ∙ ap (event_at d.dates.since) w.number))
 
   tables_left : left.tables ≡ spread.spreads.buried.tables
   tables_left = ap (λ (p : Parts). p.tables) spread.spreads.others
@@ -83,14 +77,14 @@ module _ (n : ℕ) (event : Event) (outcome : Outcome) (old mid left : Parts) (d
       spread.reached x.desc ∙ (λ i. lives i && here i)
 
 module _ (law : ReportablesAreSpread) (past : List Record) (old mid left : Parts) (keeps : Keeps past old) (caller : CallerId) (event : Event) (outcome : Outcome) (n : ℕ) (at : n ≡ length past + 1)
-    (does : DoesAt (next_event keeps.state) caller.0 event outcome old mid) (keys : KeepsKeys old.tables mid.tables) (sound : SoundTables old.tables) (d e f g : Dating) (dated : IsDated keeps.state d.dates.since)
-    (follows : Follows n event outcome.picked old d mid e) (spread : SpreadsTo n outcome.raising mid e left f) (more : g ≡ longer f) (called : Option DescId) where
+    (does : DoesAt (next_event keeps.state) caller.0 event outcome old mid) (keys : KeepsKeys old.tables mid.tables) (sound : SoundTables old.tables) (d e f : Dating) (dated : IsDated keeps.state d.dates.since)
+    (follows : Follows n event outcome.picked old d mid e) (spread : SpreadsTo n outcome.raising mid e left f) (called : Option DescId) where
   abbrev b : State
   b = next_event keeps.state
 
   -- it has a date, or may have come to be reportable
-  abbrev Came : Dating → EntryId → Entry → Type 0
-  Came h id x = (is_dated h.dates x ≡ true) ⊎ (may_come left.interest (touched_in h called outcome.picked) id.0 ≡ true)
+  abbrev Came : EntryId → Entry → Type 0
+  Came id x = (is_dated f.dates x ≡ true) ⊎ (may_come left.interest (touched_in f called outcome.picked) id.0 ≡ true)
 
   -- one that was reportable had a date
   had_date : (k : ℕ) → WasReportable b k → nat_lt 0 (event_at d.dates.since k) ≡ true
@@ -109,8 +103,8 @@ module _ (law : ReportablesAreSpread) (past : List Record) (old mid left : Parts
       (is_named old.tables mid.tables keys sound leaves.tables old.tables.limits b caller.0 b keeps.stands.files keeps.stands.files event is.allowed is.left w.was link
       (w.instance ∙ is.instance) (w.fd ∙ is.fd) (w.target ∙ is.target) is.altered)
 
-  came : (id : EntryId) (x : Entry) → entry_under left.interest id ≡ Some x → entry_shows (readiness left.tables left.clock left.interest) left.tables left.clock x ≡ true → Came (longer f) id x
-  came id x up shown =
+  pub begins : (id : EntryId) (x : Entry) → entry_under left.interest id ≡ Some x → entry_shows (readiness left.tables left.clock left.interest) left.tables left.clock x ≡ true → Came id x
+  begins id x up shown =
       let by_key = is_it f.altered id.0 in
       let passes = passes_on (entry_under left.interest id) in
       let above = watches_any left.interest f.reached.reached id.0 in
@@ -124,7 +118,3 @@ module _ (law : ReportablesAreSpread) (past : List Record) (old mid left : Parts
           ]
         ])
       ]
-
-  pub begins : (id : EntryId) (x : Entry) → entry_under left.interest id ≡ Some x → entry_shows (readiness left.tables left.clock left.interest) left.tables left.clock x ≡ true
-      → (is_dated g.dates x ≡ true) ⊎ (may_come left.interest (touched_in g called outcome.picked) id.0 ≡ true)
-  begins id x up shown = subst (λ (h : Dating). Came h id x) (sym more) (came id x up shown)

@@ -33,7 +33,7 @@ use Rattle.ep_choice.specs.Lost.{NotesLost, deleted_by, deleted_home, with_home}
 use Rattle.ep_choice.specs.Room.{HaveRoom}
 use Rattle.ep_climb.proofs.SetLemmas.{apart_nat, clears_deleted, renewed, sets_added, sets_modified, some_of}
 use Rattle.ep_dates.proofs.DropLemmas.{drops_none, drops_one}
-use Rattle.ep_dates.specs.Dates.{Dates, HasPlace, ended, event_at, is_dated}
+use Rattle.ep_dates.specs.Dates.{Dates, ended, event_at, is_dated}
 use Rattle.ep_dates.specs.Drop.{Drops}
 use Rattle.ep_dates.specs.Kept.{AreKept}
 use Rattle.ep_dates.specs.Moves.{IsAdded, Moves}
@@ -317,17 +317,13 @@ module _ (n : ℕ) (event_pid : Pid) (args : Control) (old new : Parts) (d e : D
       let y = next_entry old.interest named args in
       let key : EntryId = record { 0 = old.interest.next } in
       let undated : event_at e.dates.since y.number ≡ 0 = same_event d.dates e.dates grows.dates y.number ∙ exact.later y.number (omega arith) in
-      let spot : HasPlace e.dates key y = record {
-        since = let lt = exact.places in let long = ap (λ (s : List ℕ). length s) grows.dates.since in omega (arith, lt, long);
-        room = room.dates;
-      } in
       let free : (i : ℕ) → is_among (keys_at e.dates.rows i) key.0 ≡ false = λ i. elim (cases_Bool (is_among (keys_at e.dates.rows i) key.0)) [
         | inl t ↦ let found = fits.kept.only i key.0 t in absurd (none_some found.0 (sym (ap (entry_found old.interest.entries) is) ∙ found.1))
         | inr f ↦ f
       ] in
       let P : EntryId → Entry → Type 0 = λ j z. IsAdded e.dates j z × (old.interest.added < z.number) × IsRoomy e j z in
       let here : P key y = (
-        record { place = spot; undated = ap (λ (k : ℕ). nat_lt 0 k) undated; absent = free },
+        record { place = room.dates; undated = ap (λ (k : ℕ). nat_lt 0 k) undated; absent = free },
         omega arith,
         record { reached = room.reached; gone = room.gone; flags = room.flags; lost = room.choice.lost; targets = room.choice.targets; candidates = room.choice.candidates },
       ) in

@@ -87,8 +87,6 @@ none_told n (x ∷ xs) = ap (λ (ys : List Entry). x ∷ ys) (none_told n xs)
 pub loses_aside : (old new : Registrations) (many : ℕ) (d : Dates) → Loses old (record new { added = many }) d d → Loses old new d d
 loses_aside old new many d l = record {
   kept = record { places = l.kept.places; listed = l.kept.listed; only = l.kept.only; ids = l.kept.ids };
-  since = refl;
-  places = refl;
   stays = l.stays;
   later = λ k lt. refl;
   noted = λ i h. inl h;

@@ -48,7 +48,7 @@ use Rattle.ep_order.proofs.OriginLemmas.{Origin, origins}
 use Rattle.ep_order.proofs.StepLemmas.{stood}
 use Rattle.ep_order.specs.Ending.{UntouchedStayReportable, is_called}
 use Rattle.ep_order.specs.Event.{IsAltered, end_of}
-use Rattle.ep_plain.proofs.ComeLemmas.{date_left, keys_left, linked_left, longer}
+use Rattle.ep_plain.proofs.ComeLemmas.{date_left, keys_left, linked_left}
 use Rattle.ep_plain.proofs.NamedLemmas.{had_key, is_found, is_named}
 use Rattle.ep_plain.proofs.ReportedLemmas.{was_then}
 use Rattle.ep_plain.specs.Dating.{touched_in}
@@ -90,8 +90,8 @@ to_state o a b u v h k = ap (λ (q : Option (Answer × State)). unwrap_or (optio
 
 -- One event.
 module _ (law : UntouchedStayReportable) (past : List Record) (old mid left : Parts) (keeps : Keeps past old) (caller : CallerId) (event : Event) (outcome : Outcome) (n : ℕ) (at : n ≡ length past + 1)
-    (does : DoesAt (next_event keeps.state) caller.0 event outcome old mid) (keys : KeepsKeys old.tables mid.tables) (coherent : AreCoherent old) (sound : SoundTables old.tables) (d e f g : Dating) (dated : IsDated keeps.state d.dates.since) (ready : TellsReady old d.dates)
-    (follows : Follows n event outcome.picked old d mid e) (spread : SpreadsTo n outcome.raising mid e left f) (more : g ≡ longer f) (called : Option DescId) (is_call : IsCalled old.tables event called) where
+    (does : DoesAt (next_event keeps.state) caller.0 event outcome old mid) (keys : KeepsKeys old.tables mid.tables) (coherent : AreCoherent old) (sound : SoundTables old.tables) (d e f : Dating) (dated : IsDated keeps.state d.dates.since) (ready : TellsReady old d.dates)
+    (follows : Follows n event outcome.picked old d mid e) (spread : SpreadsTo n outcome.raising mid e left f) (called : Option DescId) (is_call : IsCalled old.tables event called) where
   abbrev s : State
   s = keeps.state
 
@@ -130,10 +130,10 @@ module _ (law : UntouchedStayReportable) (past : List Record) (old mid left : Pa
   goes = step_marked past old mid noted_parts spread.spreads.buried forgotten new keeps caller event outcome n at does so ∙ ap (λ (u : State). Some (outcome.answer, u)) (state_is after new keeps_after)
 
   -- A registration that is left, with a date, and not touched.
-  module _ (id : EntryId) (x : Entry) (up : entry_under left.interest id ≡ Some x) (untouched : may_go left.interest (touched_in (longer f) called outcome.picked) id.0 ≡ false) (on : is_dated (longer f).dates x ≡ true) where
+  module _ (id : EntryId) (x : Entry) (up : entry_under left.interest id ≡ Some x) (untouched : may_go left.interest (touched_in f called outcome.picked) id.0 ≡ false) (on : is_dated f.dates x ≡ true) where
     -- whether what it watches is ready by the rows
     abbrev below : Bool
-    below = is_ready (longer f).dates x.desc.0
+    below = is_ready f.dates x.desc.0
 
     abbrev later : ℕ → Bool
     later k = below
@@ -299,7 +299,7 @@ module _ (law : UntouchedStayReportable) (past : List Record) (old mid left : Pa
       stays = by_cases (first (refusals limits b caller.0 event)) refl does.goes
 
     -- it shows something by the rows
-    shows_left : shows_by (shows_over left) (longer f).dates x ≡ true
+    shows_left : shows_by (shows_over left) f.dates x ≡ true
     shows_left =
         let k = watch_at left.tables.keys (settled x) in
         let stands = keeps_after.stands in
@@ -307,7 +307,5 @@ module _ (law : UntouchedStayReportable) (past : List Record) (old mid left : Pa
         let y = member_of_map (kernel_watch t) t.watches k here in
         (λ i. shows later (sym stands.files i) (sym stands.now i) (sym y.2 i)) ∙ stays y.0 y.1 y.2
 
-  pub ends_left : (id : EntryId) (x : Entry) → entry_under left.interest id ≡ Some x → may_go left.interest (touched_in g called outcome.picked) id.0 ≡ false → is_dated g.dates x ≡ true → shows_by (shows_over left) g.dates x ≡ true
-  ends_left id x up =
-      subst (λ (h : Dating). may_go left.interest (touched_in h called outcome.picked) id.0 ≡ false → is_dated h.dates x ≡ true → shows_by (shows_over left) h.dates x ≡ true) (sym more)
-      (λ untouched on. shows_left id x up untouched on)
+  pub ends_left : (id : EntryId) (x : Entry) → entry_under left.interest id ≡ Some x → may_go left.interest (touched_in f called outcome.picked) id.0 ≡ false → is_dated f.dates x ≡ true → shows_by (shows_over left) f.dates x ≡ true
+  ends_left id x up untouched on = shows_left id x up untouched on

@@ -11,7 +11,6 @@ pub mod GoLemmas
 pub mod LeavesLemmas
 pub mod LosesLemmas
 pub mod NamedLemmas
-pub mod NumberLemmas
 pub mod ReportedLemmas
 pub mod RoomLemmas
 pub mod SinceLemmas

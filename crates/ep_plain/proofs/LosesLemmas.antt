@@ -49,8 +49,6 @@ pub loses_moves : (old new : Registrations) (gone : ℕ → Bool) (d e : Dates) 
     → Loses old new d e
 loses_moves old new gone d e drops moves more from = record {
   kept = kept_moves e old new drops.kept moves;
-  since = drops.since;
-  places = drops.places;
   stays = λ id x at. elim (from id x at) [
     | inl was ↦ subst (λ (k : ℕ). event_at e.since k ≡ event_at d.since k) was.2 (drops.stays id was.0 was.1 was.3)
     | inr above ↦ drops.later x.number above
@@ -66,8 +64,6 @@ pub loses_both : (r s t : Registrations) (d e f : Dates) → ((id : EntryId) (x 
     → Loses r s d e → Loses s t e f → Loses r t d f
 loses_both r s t d e f from more first second = record {
   kept = second.kept;
-  since = second.since ∙ first.since;
-  places = second.places ∙ first.places;
   stays = λ id x at.
       let was = from id x at in
       second.stays id x at ∙ subst (λ (k : ℕ). event_at e.since k ≡ event_at d.since k) was.2 (first.stays id was.0 was.1);

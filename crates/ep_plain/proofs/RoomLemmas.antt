@@ -15,7 +15,7 @@ use Rattle.ep_rings.specs.PlacedRows.{first_in}
 
 module _ (d e : Dates) (w : Widens d e) where
   pub same_event : (k : ℕ) → event_at e.since k ≡ event_at d.since k
-  same_event k = ap (λ (s : List ℕ). event_at s k) w.since
+  same_event k = w.since k
 
   same_ready : (i : ℕ) → is_ready e i ≡ is_ready d i
   same_ready i = ap (λ (ks : List ℕ). is_some (first_in ks)) (w.rows.rows i)
@@ -31,13 +31,11 @@ module _ (d e : Dates) (w : Widens d e) where
     pub kept_grown : AreKept r d → AreKept r e
     kept_grown kept = record {
       places = λ id x at. let p = kept.places id x at in record {
-        since = subst (λ (s : List ℕ). x.number < length s) (sym w.since) p.since;
-        room = record {
-          ids = let lt = p.room.ids in let le = w.ids_more in omega (arith, lt, le);
-          row = let lt = p.room.row in let le = w.rows.owners in omega (arith, lt, le);
-          key = let lt = p.room.key in let le = w.rows.keys in omega (arith, lt, le);
-          turn = let lt = p.room.turn in let le = w.room in omega (arith, lt, le);
-        };
+        since = let lt = p.since in let le = w.since_more in omega (arith, lt, le);
+        ids = let lt = p.ids in let le = w.ids_more in omega (arith, lt, le);
+        row = let lt = p.row in let le = w.rows.owners in omega (arith, lt, le);
+        key = let lt = p.key in let le = w.rows.keys in omega (arith, lt, le);
+        turn = let lt = p.turn in let le = w.room in omega (arith, lt, le);
       };
       listed = λ id x at. ap (λ (ks : List ℕ). is_among ks id.0) (w.rows.rows x.instance.0) ∙ (kept.listed id x at ∙ ap (λ (k : ℕ). nat_lt 0 k) (sym (same_event x.number)));
       only = λ i k t. kept.only i k (ap (λ (ks : List ℕ). is_among ks k) (sym (w.rows.rows i)) ∙ t);
@@ -54,8 +52,6 @@ module _ (d e : Dates) (w : Widens d e) where
   pub loses_grown : (old new : Registrations) (f : Dates) → Loses old new e f → Loses old new d f
   loses_grown old new f l = record {
     kept = l.kept;
-    since = l.since ∙ ap (λ (s : List ℕ). length s) w.since;
-    places = l.places ∙ w.places;
     stays = λ id x at. l.stays id x at ∙ same_event x.number;
     later = λ k lt. l.later k lt ∙ same_event k;
     noted = λ i h. l.noted i (same_ready i ∙ h);
@@ -83,8 +79,8 @@ turn_grown n r d e g order = order_widened d.dates e.dates g.dates r n order
 pub grows_none : (d e : Dating) → e ≡ record d { altered = e.altered } → Grows d e
 grows_none d e is = subst (Grows d) (sym is) (record {
   dates = record {
-    since = refl;
-    places = refl;
+    since = λ k. refl;
+    since_more = omega arith;
     ids = λ k. refl;
     ids_more = omega arith;
     rows = record { rows = λ i. refl; owners = omega arith; keys = omega arith };

@@ -41,25 +41,24 @@ same_bools false false f g = refl
 apart_test : (a b : ℕ) → (a ≡ b → ⊥) → (a == b) ≡ false
 apart_test a b h = elim (cases_Bool (a == b)) [ inl t ↦ absurd (h (from_test a b t)) | inr f ↦ f ]
 
--- one place more holds nothing
-pub event_more : (since : List ℕ) (k : ℕ) → event_at (since ++ 0 ∷ []) k ≡ event_at since k
-event_more [] zero = refl
-event_more [] (suc k) = refl
-event_more (x ∷ xs) zero = refl
-event_more (x ∷ xs) (suc k) = event_more xs k
-
 -- nothing is kept at first
-pub opening_dated : (since : List ℕ) → since ≡ 0 ∷ 0 ∷ [] → IsDated opening since
+pub opening_dated : (since : List ℕ) → since ≡ [] → IsDated opening since
 opening_dated since is = subst (λ (xs : List ℕ). IsDated opening xs) (sym is) (record {
-  places = omega arith;
   later = none;
   shown = All-nil _;
   from = All-nil _;
 }) where
-  none : (k : ℕ) → 0 < k → event_at (0 ∷ 0 ∷ []) k ≡ 0
+  none : (k : ℕ) → 0 < k → event_at [] k ≡ 0
   none zero lt = refl
-  none (suc zero) lt = refl
-  none (suc (suc k)) lt = refl
+  none (suc k) lt = refl
+
+-- and so where each number keeps its date
+pub same_dated : (s : State) (since more : List ℕ) → ((k : ℕ) → event_at more k ≡ event_at since k) → IsDated s since → IsDated s more
+same_dated s since more same h = record {
+  later = λ k lt. same k ∙ h.later k lt;
+  shown = λ i d lt. ap (nat_lt 0) (same (get_or s.watches i d).number) ∙ h.shown i d lt;
+  from = λ i d lt r. same (get_or s.watches i d).number ∙ h.from i d lt r;
+}
 
 -- what is kept of a reportable one is no 0
 pub up_where : (n : ℕ) (b : Bool) (rep e : ℕ) → 0 < n → nat_lt 0 (date_of n b rep e) ≡ b
@@ -99,7 +98,6 @@ begun_reportable s x = reportable_kept (next_event s) x ∙ sym (reportable_kept
 -- and so at the beginning of the next event
 pub begun_dated : (s : State) (since : List ℕ) → IsDated s since → IsDated (next_event s) since
 begun_dated s since h = record {
-  places = h.places;
   later = h.later;
   shown = λ i d lt. h.shown i d lt ∙ sym (begun_reportable s (get_or s.watches i d));
   from = λ i d lt r. h.from i d lt (sym (begun_reportable s (get_or s.watches i d)) ∙ r);
@@ -175,10 +173,10 @@ module _ (s : State) (since : List ℕ) (sound : Sound s) (dated : IsDated s sin
 
   -- what is kept at the end of the event
   pub next_dated : {ws : List Waiter} (limits : Limits) (t : State) (caller : ℕ) (event : Event) (ks : List ℕ) (a : Answer) (v : Seen) (r : Registrations) (now k : ℕ) (new : List ℕ) → StepKeepsTurns → StepAddsOne → step limits s caller event ks ≡ Some (a, t)
-      → Stands v r ws now t → k ≡ n → AreDated (entry_shows (readiness v now r) v now) k r (since ++ 0 ∷ []) new → IsDated t new
+      → Stands v r ws now t → k ≡ n → AreDated (entry_shows (readiness v now r) v now) k r since new → IsDated t new
   next_dated limits t caller event ks a v r now k new turns adds goes stands at dates =
       let P : KernelWatch → Type 0 = λ w. event_at new w.number ≡ date_of n (shows (readiness v now r) v.files now w) w.reported_in (event_at since w.number) in
-      let each : All (λ x. P (watch_at v.keys x)) r.entries = λ i d lt. dates.each i d lt ∙ (λ j. date_of (at j) (entry_shows (readiness v now r) v now (get_or r.entries i d)) (get_or r.entries i d).reported_in (event_more since (get_or r.entries i d).number j)) in
+      let each : All (λ x. P (watch_at v.keys x)) r.entries = λ i d lt. dates.each i d lt ∙ (λ j. date_of (at j) (entry_shows (readiness v now r) v now (get_or r.entries i d)) (get_or r.entries i d).reported_in (event_at since (get_or r.entries i d).number)) in
       let kept : All P (kernel_watches t t.watches) = subst (λ (xs : List KernelWatch). All P xs) (sym stands.watches) (All-map P (watch_at v.keys) r.entries each) in
       let same_ready : machine_readiness t ≡ readiness v now r = λ i. ready_now (stands.files i) (stands.now i) (stands.watches i) in
       let one : (y : Watch) → Member y t.watches → event_at new y.number ≡ date_of n (is_reportable t y) y.rep (event_at since y.number) = λ y m.
@@ -186,8 +184,7 @@ module _ (s : State) (since : List ℕ) (sound : Sound s) (dated : IsDated s sin
       all_member P (kernel_watches t t.watches) (kernel_watch t y) kept (member_map (kernel_watch t) y t.watches m) ∙ ap (λ (c : Bool). date_of n c y.rep (event_at since y.number)) (sym up) in
       let added = adds limits s t caller event ks a goes in
       record {
-        places = omega (arith, added.1, dates.length, length-append since (0 ∷ []), dated.places);
-        later = λ j lt. dates.later j (omega (arith, lt, stands.added)) ∙ (event_more since j ∙ dated.later j (omega (arith, lt, added.0)));
+        later = λ j lt. dates.later j (omega (arith, lt, stands.added)) ∙ dated.later j (omega (arith, lt, added.0));
         shown = All-from_recursion _ t.watches (all_by (λ y. nat_lt 0 (event_at new y.number) ≡ is_reportable t y) t.watches (λ y m. ap (λ (e : ℕ). nat_lt 0 e) (one y m) ∙ up_where n (is_reportable t y) y.rep (event_at since y.number) (omega arith)));
         from = All-from_recursion _ t.watches (all_by (λ y. is_reportable t y ≡ true → event_at new y.number ≡ y.from) t.watches (λ y m q.
             one y m ∙ (ap (λ (c : Bool). date_of n c y.rep (event_at since y.number)) q ∙ from_is limits t caller event ks a turns goes y m q)));

@@ -44,9 +44,8 @@ use Rattle.ep_order.proofs.StepLemmas.{step_adds_one, step_keeps_turns}
 use Rattle.ep_plain.proofs.AllowLemmas.{all_below, dated_shown}
 use Rattle.ep_plain.proofs.ComeLemmas.{date_left}
 use Rattle.ep_plain.proofs.LosesLemmas.{Stay, loses_none, stay_mapped}
-use Rattle.ep_plain.proofs.NumberLemmas.{kept_numbered, order_numbered}
 use Rattle.ep_plain.proofs.RoomLemmas.{fits_grown, turn_grown}
-use Rattle.ep_plain.proofs.SinceLemmas.{all_by, event_more, next_dated, opening_dated}
+use Rattle.ep_plain.proofs.SinceLemmas.{all_by, next_dated, opening_dated, same_dated}
 use Rattle.ep_plain.specs.Dating.{Fits, Grows, IsNew}
 use Rattle.ep_plain.specs.Exact.{Follows, IsExact, TellsReady}
 use Rattle.ep_plain.specs.Since.{AreDated, IsDated, entry_date}
@@ -141,7 +140,6 @@ module _ (past : List Record) (p : Parts) (d : Dating) (standing : Standing past
     past = reported_before;
     order = (length past, standing.order);
     fits = standing.fits;
-    places = omega (arith, standing.dated.places, standing.keeps.stands.added);
     later = λ k lt. standing.dated.later k (omega (arith, lt, standing.keeps.stands.added));
     unlost = standing.unlost;
   }
@@ -150,60 +148,20 @@ module _ (past : List Record) (p : Parts) (d : Dating) (standing : Standing past
 pub standing_grown : (past : List Record) (p : Parts) (d e : Dating) → Grows d e → Standing past p d → Standing past p e
 standing_grown past p d e grows h = record {
   keeps = h.keeps;
-  dated = subst (IsDated h.keeps.state) (sym grows.dates.since) h.dated;
+  dated = same_dated h.keeps.state d.dates.since e.dates.since grows.dates.since h.dated;
   ready = λ i lives. ap (λ (ks : List ℕ). is_some (first_in ks)) (grows.dates.rows.rows i.0) ∙ h.ready i lives;
   order = turn_grown (length past) p.interest d e grows h.order;
   fits = fits_grown p.interest d e grows h.fits;
   unlost = grows.choice.kept ∙ h.unlost;
 }
 
--- room for more numbers, too
-kept_reserved : (r : Registrations) (d e : Dates) → e ≡ record d { places = e.places } → AreKept r d → AreKept r e
-kept_reserved r d e same h = subst (AreKept r) (sym same) (record {
-  places = λ id x at. let p = h.places id x at in record { since = p.since; room = record { ids = p.room.ids; row = p.room.row; key = p.room.key; turn = p.room.turn } };
-  listed = h.listed;
-  only = h.only;
-  ids = h.ids;
-})
-
-order_reserved : (n : ℕ) (r : Registrations) (d e : Dates) → e ≡ record d { places = e.places } → AreInTurn n r d → AreInTurn n r e
-order_reserved n r d e same h = subst (AreInTurn n r) (sym same) (record { rise = λ i. subst Rise (rows_same (keys_at d.rows i)) (h.rise i); past = λ i k t. subst (λ (m : ℕ). m ≤ n) (found_same (entry_under r (number_key k))) (h.past i k t) }) where
-  found_same : (o : Option Entry) → date_found d o ≡ date_found (record d { places = e.places }) o
-  found_same None = refl
-  found_same (Some x) = refl
-
-  rows_same : (ks : List ℕ) → map (date_under r d) ks ≡ map (date_under r (record d { places = e.places })) ks
-  rows_same [] = refl
-  rows_same (k ∷ ks) = λ i. found_same (entry_under r (number_key k)) i ∷ rows_same ks i
-
-pub standing_reserved : (past : List Record) (p : Parts) (d : Dating) (e : Dates) → e ≡ record d.dates { places = e.places } → Standing past p d → Standing past p (record d { dates = e })
-standing_reserved past p d e same h = record {
-  keeps = h.keeps;
-  dated = subst (IsDated h.keeps.state) (sym (ap (λ (q : Dates). q.since) same)) h.dated;
-  ready = λ i lives. ap (λ (q : Dates). is_ready q i.0) same ∙ h.ready i lives;
-  order = order_reserved (length past) p.interest d.dates e same h.order;
-  fits = record {
-    kept = kept_reserved p.interest d.dates e same h.fits.kept;
-    reached = h.fits.reached;
-    gone = h.fits.gone;
-    flags = h.fits.flags;
-    unflagged = h.fits.unflagged;
-    choice = h.fits.choice;
-    lost = h.fits.lost;
-  };
-  unlost = h.unlost;
-}
-
-module _ (past : List Record) (old mid left : Parts) (d e f g h : Dating) (standing : Standing past old d) (caller : CallerId) (event : Event) (outcome : Outcome) (n : ℕ) (at : n ≡ length past + 1)
+module _ (past : List Record) (old mid left : Parts) (d e f h : Dating) (standing : Standing past old d) (caller : CallerId) (event : Event) (outcome : Outcome) (n : ℕ) (at : n ≡ length past + 1)
     (does : DoesAt (next_event standing.keeps.state) caller.0 event outcome old mid) (follows : Follows n event outcome.picked old d mid e) (to : SpreadsTo n outcome.raising mid e left f) where
   abbrev spreads : Spreads n outcome.raising mid left
   spreads = to.spreads
 
   abbrev after : List Record
   after = past ++ record_of caller event outcome ∷ []
-
-  abbrev longer : List ℕ
-  longer = d.dates.since ++ 0 ∷ []
 
   abbrev noted_parts : Parts
   noted_parts = record mid { interest = spreads.noted }
@@ -215,43 +173,25 @@ module _ (past : List Record) (old mid left : Parts) (d e f g h : Dating) (stand
   added_left : left.interest.added ≡ mid.interest.added
   added_left = spreads.rises.added ∙ (spreads.leaves.burial.buries.added ∙ stirs_added outcome.raising mid.tables mid.clock n mid.interest spreads.noted spreads.leaves.stirs)
 
-  -- Once there is a place for one number more.
-  module _ (number : g ≡ record f { dates = record f.dates { since = f.dates.since ++ 0 ∷ [] } }) where
-    pub fits_numbered : Fits left.interest g
-    fits_numbered = subst (Fits left.interest) (sym number) (record {
-      kept = kept_numbered left.interest f.dates to.fits.kept;
-      reached = to.fits.reached;
-      gone = to.fits.gone;
-      flags = to.fits.flags;
-      unflagged = to.fits.unflagged;
-      choice = to.fits.choice;
-      lost = to.fits.lost;
-    })
+  -- the dates don't sink along a row
+  pub order_left : AreInTurn n left.interest f.dates
+  order_left =
+      let before : AreInTurn n old.interest d.dates = record { rise = standing.order.rise; past = λ i k t. let le = standing.order.past i k t in omega (arith, le, at) } in
+      let after_spread = to.loses.order n (follows.loses.order n before) in
+      record { rise = after_spread.rise; past = after_spread.past }
 
-    -- the dates don't sink along a row
-    pub order_left : AreInTurn n left.interest g.dates
-    order_left =
-        let before : AreInTurn n old.interest d.dates = record { rise = standing.order.rise; past = λ i k t. let le = standing.order.past i k t in omega (arith, le, at) } in
-        let after_spread = to.loses.order n (follows.loses.order n before) in
-        subst (λ (q : Dating). AreInTurn n left.interest q.dates) (sym number) (order_numbered left.interest f.dates n (record { rise = after_spread.rise; past = after_spread.past }))
-
-    -- what the dates come to by those before the event
-    pub dates_from : (shows : Entry → Bool) → AreDated shows n left.interest g.dates.since h.dates.since → AreDated shows n left.interest longer h.dates.since
-    dates_from shows dates =
-        let P : Entry → Type 0 = λ x. event_at h.dates.since x.number ≡ entry_date shows n longer x in
-        let since : g.dates.since ≡ f.dates.since ++ 0 ∷ [] = ap (λ (q : Dating). q.dates.since) number in
-        let each : (x : Entry) → Member x left.interest.entries → P x = λ x m.
-        let key = key_of left.interest spreads.sound x m in
-        let earlier : event_at g.dates.since x.number ≡ event_at longer x.number = ap (λ (ks : List ℕ). event_at ks x.number) since ∙ (date_left n event outcome old mid left d e f follows to key.0 x key.1 ∙ sym (event_more d.dates.since x.number)) in
-        all_member (λ y. event_at h.dates.since y.number ≡ entry_date shows n g.dates.since y) left.interest.entries x dates.each m ∙ ap (date_of n (shows x) x.reported_in) earlier in
-        record {
-          each = All-from_recursion P left.interest.entries (all_by P left.interest.entries each);
-          later = λ k lt.
-              dates.later k lt
-              ∙ (ap (λ (ks : List ℕ). event_at ks k) since
-              ∙ (event_more f.dates.since k ∙ (to.loses.later k lt ∙ (follows.loses.later k (omega (arith, lt, added_left)) ∙ sym (event_more d.dates.since k)))));
-          length = dates.length ∙ (ap (λ (ks : List ℕ). length ks) since ∙ (length-append f.dates.since (0 ∷ []) ∙ (ap (λ (k : ℕ). k + 1) (to.loses.since ∙ follows.loses.since) ∙ sym (length-append d.dates.since (0 ∷ [])))));
-        }
+  -- what the dates come to by those before the event
+  pub dates_from : (shows : Entry → Bool) → AreDated shows n left.interest f.dates.since h.dates.since → AreDated shows n left.interest d.dates.since h.dates.since
+  dates_from shows dates =
+      let P : Entry → Type 0 = λ x. event_at h.dates.since x.number ≡ entry_date shows n d.dates.since x in
+      let each : (x : Entry) → Member x left.interest.entries → P x = λ x m.
+      let key = key_of left.interest spreads.sound x m in
+      let earlier = date_left n event outcome old mid left d e f follows to key.0 x key.1 in
+      all_member (λ y. event_at h.dates.since y.number ≡ entry_date shows n f.dates.since y) left.interest.entries x dates.each m ∙ ap (date_of n (shows x) x.reported_in) earlier in
+      record {
+        each = All-from_recursion P left.interest.entries (all_by P left.interest.entries each);
+        later = λ k lt. dates.later k lt ∙ (to.loses.later k lt ∙ follows.loses.later k (omega (arith, lt, added_left)));
+      }
 
   -- Once what was passed on is forgotten.
   module _ (keys : KeepsKeys old.tables mid.tables) (coherent : AreCoherent old) (new : Parts) (rests : RestsBy (gets_mark_key n left (attend_of past old mid left standing.keeps caller event outcome n at does keys coherent spreads)) left new) where
@@ -275,26 +215,26 @@ module _ (past : List Record) (old mid left : Parts) (d e f g h : Dating) (stand
     stay = stay_mapped settled (λ x. refl) (λ x. refl) left.interest new.interest rests.entries rests.keys rests.added
 
     -- dates stay what they are
-    dates_rest : (since : List ℕ) → AreDated (entry_shows (readiness left.tables left.clock left.interest) left.tables left.clock) n left.interest longer since
-        → AreDated (entry_shows (readiness new.tables new.clock new.interest) new.tables new.clock) n new.interest longer since
+    dates_rest : (since : List ℕ) → AreDated (entry_shows (readiness left.tables left.clock left.interest) left.tables left.clock) n left.interest d.dates.since since
+        → AreDated (entry_shows (readiness new.tables new.clock new.interest) new.tables new.clock) n new.interest d.dates.since since
     dates_rest since h =
         let q = new.interest in
         let v = left.tables in
         let before : Entry → Bool = entry_shows (readiness v left.clock left.interest) v left.clock in
         let then : Entry → Bool = entry_shows (readiness v left.clock q) v left.clock in
-        let P : Entry → Type 0 = λ x. event_at since x.number ≡ entry_date then n longer x in
-        let each : All (λ x. P (settled x)) left.interest.entries = λ i e lt. h.each i e lt ∙ ap (λ (b : Bool). date_of n b (get_or left.interest.entries i e).reported_in (event_at longer (get_or left.interest.entries i e).number)) (sym (shows_settled v left.clock left.interest q rests.entries (get_or left.interest.entries i e))) in
+        let P : Entry → Type 0 = λ x. event_at since x.number ≡ entry_date then n d.dates.since x in
+        let each : All (λ x. P (settled x)) left.interest.entries = λ i e lt. h.each i e lt ∙ ap (λ (b : Bool). date_of n b (get_or left.interest.entries i e).reported_in (event_at d.dates.since (get_or left.interest.entries i e).number)) (sym (shows_settled v left.clock left.interest q rests.entries (get_or left.interest.entries i e))) in
         let all : All P q.entries = subst (λ (xs : List Entry). All P xs) (sym rests.entries) (All-map P settled left.interest.entries each) in
-        let over : AreDated then n q longer since = record { each = all; later = λ k lt. h.later k (omega (arith, lt, rests.added)); length = h.length } in
-        subst (λ (w : Seen). AreDated (entry_shows (readiness w new.clock new.interest) w new.clock) n new.interest longer since) (sym tables)
-        (subst (λ (m : ℕ). AreDated (entry_shows (readiness v m q) v m) n q longer since) (sym clock) over)
+        let over : AreDated then n q d.dates.since since = record { each = all; later = λ k lt. h.later k (omega (arith, lt, rests.added)) } in
+        subst (λ (w : Seen). AreDated (entry_shows (readiness w new.clock new.interest) w new.clock) n new.interest d.dates.since since) (sym tables)
+        (subst (λ (m : ℕ). AreDated (entry_shows (readiness v m q) v m) n q d.dates.since since) (sym clock) over)
 
     ready_rest : TellsReady left h.dates → TellsReady new h.dates
     ready_rest ready =
         let here : TellsReady (record left { interest = new.interest }) h.dates = λ i lives. ready i lives ∙ ap (λ (at : ℕ → Bool). at (number_at left.tables.keys i)) (sym (readiness_settled left.tables left.clock left.interest new.interest rests.entries)) in
         subst (λ (q : Parts). TellsReady q h.dates) (sym rests.others) here
 
-    pub standing_next : AreDated (entry_shows (readiness left.tables left.clock left.interest) left.tables left.clock) n left.interest longer h.dates.since
+    pub standing_next : AreDated (entry_shows (readiness left.tables left.clock left.interest) left.tables left.clock) n left.interest d.dates.since h.dates.since
         → TellsReady left h.dates → Fits left.interest h → AreInTurn n left.interest h.dates
         → (k : Dating) → k.dates ≡ h.dates → Fits new.interest k → k.choice.lost.reached ≡ [] → Standing after new k
     standing_next dates ready fits order k same fits_now unlost = record {

@@ -1,5 +1,5 @@
 -- The dates of registrations, and the walks that the end of an event goes along.
-use Rattle.std.specs.Prelude.{◌≡◌, ◌<◌, ◌≤◌, List, [], ◌∷◌, Option, ℕ}
+use Rattle.std.specs.Prelude.{◌≡◌, ◌<◌, ◌≤◌, List, [], Option, ℕ}
 use Rattle.ep_rings.specs.PlacedRows.{no_rows}
 use Rattle.ep_base.specs.declared.ids.DescId.{DescId}
 use Rattle.ep_base.specs.declared.mask.Mask.{Mask}
@@ -42,7 +42,7 @@ pub record HasRoomFor (d : Dating) (number : ℕ) (named : Named) (mask : Mask) 
 
 -- without a registration
 pub record IsNew (d : Dating) : Type 0 where
-  pub since : d.dates.since ≡ 0 ∷ 0 ∷ []
+  pub since : d.dates.since ≡ []
   pub rows : d.dates.rows ≡ no_rows
   pub flags : d.flags.reached ≡ []
   pub lost : d.choice.lost.reached ≡ []

@@ -1,5 +1,5 @@
 -- What is known of the dates between events, and what an event does to them before what it raised spreads.
-use Rattle.std.specs.Prelude.{[], ◌<◌, ◌≡◌, ◌==◌, ◌+◌, All, IsSome, List, Option, Some, length, nat_lt, ℕ}
+use Rattle.std.specs.Prelude.{[], ◌<◌, ◌≡◌, ◌==◌, All, IsSome, List, Option, Some, nat_lt, ℕ}
 use Rattle.ep_base.specs.declared.call.Call.TheVariants.{EpollCtl}
 use Rattle.ep_base.specs.declared.call.Event.{Event}
 use Rattle.ep_base.specs.declared.call.Event.TheVariants.{Call as CallOf}
@@ -38,7 +38,6 @@ pub record IsExact (n : ℕ) (p : Parts) (d : Dating) : Type 0 where
   pub past : All (λ (x : Entry). x.reported_in < n) p.interest.entries
   pub order : (m : ℕ) × AreInTurn m p.interest d.dates
   pub fits : Fits p.interest d
-  pub places : p.interest.added + 1 < length d.dates.since
   pub later : (k : ℕ) → p.interest.added < k → event_at d.dates.since k ≡ 0
   pub unlost : d.choice.lost.reached ≡ []
 

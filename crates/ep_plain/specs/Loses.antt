@@ -1,5 +1,5 @@
 -- Registrations change, and those that go lose their dates.
-use Rattle.std.specs.Prelude.{◌<◌, ◌≡◌, ◌⊎◌, Some, length, true, ℕ}
+use Rattle.std.specs.Prelude.{◌<◌, ◌≡◌, ◌⊎◌, Some, true, ℕ}
 use Rattle.ep_base.specs.declared.ids.EntryId.{EntryId}
 use Rattle.ep_dates.specs.Dates.{Dates, event_at, is_ready}
 use Rattle.ep_dates.specs.Kept.{AreKept}
@@ -12,8 +12,6 @@ use Rattle.ep_machine.specs.Lists.{is_among}
 -- instance that is ready no more is noted
 pub record Loses (old new : Registrations) (d e : Dates) : Type 0 where
   pub kept : AreKept new e
-  pub since : length e.since ≡ length d.since
-  pub places : e.places ≡ d.places
   pub stays : (id : EntryId) (x : Entry) → entry_under new id ≡ Some x → event_at e.since x.number ≡ event_at d.since x.number
   pub later : (k : ℕ) → new.added < k → event_at e.since k ≡ event_at d.since k
   pub noted : (i : ℕ) → is_ready d i ≡ true → (is_ready e i ≡ true) ⊎ (is_among e.turned.reached i ≡ true)

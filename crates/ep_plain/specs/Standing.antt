@@ -1,5 +1,5 @@
 -- What contracts see of the kernel, and what holds of it.
-use Rattle.std.specs.Prelude.{[], List, length, min, vec_capacity, ℕ, ◌+◌, ◌-◌, ◌≡◌}
+use Rattle.std.specs.Prelude.{[], List, length, vec_capacity, ◌≡◌}
 use Rattle.ep_alarms.specs.Alarms.{AreSet}
 use Rattle.ep_base.specs.declared.record.Record.{Record}
 use Rattle.ep_calls.specs.Book.{Book}
@@ -12,12 +12,8 @@ use Rattle.ep_plain.specs.Since.{IsDated}
 use Rattle.ep_plain.specs.declared.dating.Dating.{Dating}
 use Rattle.ep_plain.specs.declared.plain.PlainKernel.TheInside.{Inside}
 
--- for how many records beside these there is room, among the records and among the dates
-abbrev pub room_in : Inside → ℕ
-room_in k = min (vec_capacity k.history - length k.history.items) (k.dating.dates.places - length k.dating.dates.since)
-
 abbrev pub book_of : Inside → Book
-book_of k = record { limits = k.parts.tables.limits; past = k.history.items; capacity = length k.history.items + room_in k }
+book_of k = record { limits = k.parts.tables.limits; past = k.history.items; capacity = vec_capacity k.history }
 
 -- the history leads to a state for which the parts stand and whose dates are kept: they tell which instances are ready,
 -- don't sink along a row, and fit the registrations

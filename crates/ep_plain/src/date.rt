@@ -50,7 +50,6 @@ pub fn date_all(
     ensures fits { Fits parts.now.interest dating.new }
     ensures order { AreInTurn step parts.now.interest dating.old.dates
         → AreInTurn step parts.now.interest dating.new.dates }
-    ensures places { dating.new.dates.places ≡ dating.old.dates.places }
     ensures reached { dating.new.reached ≡ dating.old.reached }
     ensures choice { dating.new.choice ≡ dating.old.choice }
 {

@@ -1,5 +1,5 @@
 //! The dates of registrations, with what an event touches of them.
-ghost use Rattle.std.specs.Prelude.{◌≡◌, IfOk, OnOk, true};
+ghost use Rattle.std.specs.Prelude.{◌≡◌, OnOk, true};
 ghost use Rattle.ep_plain.specs.Dating.{Grows, HasRoomFor, IsNew};
 
 use ep_base::{EntryId, EntryNumber, Mask};
@@ -27,19 +27,18 @@ pub struct Dating {
 }
 
 impl Dating {
-    /// Of no registrations. An `Err` is want of memory.
-    pub fn new(alloc: Global) -> Result<Dating, AllocError>
-        ensures { IfOk result IsNew }
+    /// Of no registrations.
+    pub fn new(alloc: Global) -> Dating
+        ensures { IsNew result }
     {
-        let dates = Dates::new(alloc)?;
-        Ok(Dating {
-            dates,
+        Dating {
+            dates: Dates::new(alloc),
             altered: None,
             reached: Walk::new(alloc),
             gone: Walk::new(alloc),
             flags: Walk::new(alloc),
             choice: Choice::new(alloc),
-        })
+        }
     }
 
     /// Makes room for a registration of these two with a mask, under a key and with a number. An `Err` is want of

@@ -94,11 +94,10 @@ impl PlainKernel {
             (λ kernel. kernel ≡ record { limits = limits; past = []; capacity = 0 }) }
     {
         let parts = Parts::new(alloc, limits)?;
-        let dating = Dating::new(alloc)?;
         Ok(PlainKernel {
             parts,
             history: Vec::new(alloc),
-            dating,
+            dating: Dating::new(alloc),
             alarms: Alarms::new(alloc),
         })
     }
@@ -106,7 +105,7 @@ impl PlainKernel {
     /// One event whose report is of these registrations, in this order, and of the longest unreported where none are
     /// given: then `kept` asks for what a second record of it is made of.
     /// An `AllocError` has changed nothing, but that there may be more room for records. If there was room for the
-    /// record, it comes only if nothing refuses the event: without room for the key of a registration or the moment of
+    /// record, it comes only if nothing refuses the event: without room for the date of a registration or the moment of
     /// a timer the event goes on until it would add one.
     fn try_step(
         &mut self,
@@ -134,7 +133,6 @@ impl PlainKernel {
         ensures err { OnErr result (self.new ≡ record self.old { capacity = self.new.capacity }) }
     {
         self.history.reserve(1)?;
-        self.dating.dates.reserve(1)?;
         let has_room = self.alarms.make_room(&event);
         let step = EventNumber(self.history.len() as u64 + 1);
         know_laws(&self.parts);
@@ -167,7 +165,6 @@ impl PlainKernel {
             step,
             raised,
         );
-        self.dating.dates.number();
         let reported = last_picked(&self.history);
         date_all(&self.parts, step, called, reported, &mut self.dating);
         let attended = attend(left(&self.parts, caller, resumed), raising);
@@ -280,8 +277,7 @@ impl Kernel for PlainKernel {
     }
 
     fn reserve(&mut self, additional: usize) -> Result<(), AllocError> {
-        self.history.reserve(additional)?;
-        self.dating.dates.reserve(additional)
+        self.history.reserve(additional)
     }
 
     fn history(&self) -> &[Record] {

@@ -30,5 +30,4 @@ returns-clause-dates c =
     (record {
       each = all_under _ p.interest sound c.date.ensures.dates;
       later = c.date.ensures.later;
-      length = c.date.ensures.length;
     })

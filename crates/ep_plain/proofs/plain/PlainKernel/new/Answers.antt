@@ -8,6 +8,6 @@ use Rattle.ep_plain.proofs.plain.PlainKernel.new.Goals as goal
 pub invariant_of-result : goal.invariant_of-result
 invariant_of-result c =
     let p = c.in_ok-parts.parts in
-    let d = c.in_ok-dating.dating in
-    let standing = subst (λ (rs : List Record). Standing rs p d) (sym c.new-3.ensures.items) (standing_opening c.args.limits p d c.in_ok-parts.ensures c.in_ok-dating.ensures) in
+    let d = c.new-3.result in
+    let standing = subst (λ (rs : List Record). Standing rs p d) (sym c.new-2.ensures.items) (standing_opening c.args.limits p d c.in_ok-parts.ensures c.new-3.ensures) in
     record { standing = standing; set = set_opening c.args.limits p c.new-4.result c.in_ok-parts.ensures c.new-4.ensures }

@@ -37,7 +37,7 @@ use Rattle.ep_nest.proofs.AdjacentLemmas.{on_err}
 use Rattle.ep_plain.proofs.ComeLemmas.{begins as begins_left}
 use Rattle.ep_plain.proofs.GoLemmas.{ends_left}
 use Rattle.ep_plain.proofs.ReportedLemmas.{reported_left}
-use Rattle.ep_plain.proofs.StandingLemmas.{adds_by, dates_from, does_with, exact_now, fits_numbered, kept_of, may_report, order_left, reports, standing_grown, standing_next, standing_reserved}
+use Rattle.ep_plain.proofs.StandingLemmas.{adds_by, dates_from, does_with, exact_now, kept_of, may_report, order_left, reports, standing_grown, standing_next}
 use Rattle.ep_plain.specs.Dating.{touched_in}
 use Rattle.ep_plain.specs.Exact.{IsExact}
 use Rattle.ep_plain.specs.Standing.{Standing, book_of}
@@ -48,35 +48,22 @@ use Rattle.ep_plain.specs.declared.plain.PlainKernel.TheInside.{Inside}
 use Rattle.ep_ready.specs.Walk.{Walk}
 use Rattle.ep_plain.proofs.plain.PlainKernel.try_step.Goals as goal
 
-pub invariant_of-self-in_err-reserve-2 : goal.invariant_of-self-in_err-reserve-2
-invariant_of-self-in_err-reserve-2 c =
-    let k = c.self.inside in
-    record {
-      standing = subst (λ (rs : List Record). Standing rs k.parts (record k.dating { dates = c.reserve-2.new.self })) (sym c.reserve.ensures.items)
-          (standing_reserved k.history.items k.parts k.dating c.reserve-2.new.self c.reserve-2.ensures.same c.self.invariant.standing);
-      set = c.self.invariant.set;
-    }
-
 pub act_with-requires : goal.act_with-requires
 act_with-requires c =
     let k = c.self.inside in
-    let d : Dating = record k.dating { dates = c.reserve-2.new.self } in
     let n : c.len.result + 1 ≡ length k.history.items + 1 = omega (arith, c.len.ensures, c.reserve.ensures.len) in
     record {
       step = omega arith;
-      exact = subst (λ (m : ℕ). IsExact m k.parts d) (sym n)
-          (exact_now k.history.items k.parts d (standing_reserved k.history.items k.parts k.dating c.reserve-2.new.self c.reserve-2.ensures.same c.self.invariant.standing));
+      exact = subst (λ (m : ℕ). IsExact m k.parts k.dating) (sym n) (exact_now k.history.items k.parts k.dating c.self.invariant.standing);
     }
 
 pub invariant_of-self-in_err-outcome : goal.invariant_of-self-in_err-outcome
 invariant_of-self-in_err-outcome c =
     let k = c.self.inside in
-    let d : Dating = record k.dating { dates = c.reserve-2.new.self } in
     let e = c.act_with.new.dating in
     let a = c.make_room-has_room.new.self in
     let same = c.in_err-outcome.ensures.err in
-    let begun = standing_reserved k.history.items k.parts k.dating c.reserve-2.new.self c.reserve-2.ensures.same c.self.invariant.standing in
-    let standing = standing_grown k.history.items k.parts d e c.in_err-outcome.ensures.grows begun in
+    let standing = standing_grown k.history.items k.parts k.dating e c.in_err-outcome.ensures.grows c.self.invariant.standing in
     record {
       standing = subst (λ (rs : List Record). Standing rs c.act_with.new.parts e) (sym c.reserve.ensures.items) (subst (λ (p : Parts). Standing k.history.items p e) (sym same) standing);
       set = subst (λ (p : Parts). AreSet p.tables p.clock a) (sym same) (set_same k.parts.tables k.parts.clock k.alarms a c.make_room-has_room.ensures.kept c.self.invariant.set);
@@ -123,13 +110,10 @@ module _ (c : goal.After-date_all-arg-2-1) where
   old = c.self.inside.parts
 
   abbrev d : Dating
-  d = record c.self.inside.dating { dates = c.reserve-2.new.self }
-
-  abbrev g : Dating
-  g = record c.spread.new.dating { dates = c.number.new.self }
+  d = c.self.inside.dating
 
   begun : Standing past old d
-  begun = standing_reserved past old c.self.inside.dating c.reserve-2.new.self c.reserve-2.ensures.same c.self.invariant.standing
+  begun = c.self.invariant.standing
 
   number : c.len.result + 1 ≡ length past + 1
   number = omega (arith, c.len.ensures, c.reserve.ensures.len)
@@ -145,14 +129,6 @@ module _ (c : goal.After-date_all-arg-2-1) where
   history_now : c.deref.result.now ≡ past ++ record_of c.args.caller c.args.event c.in_ok-outcome.outcome ∷ []
   history_now = c.deref.ensures.value ∙ c.push_reserved.ensures.items ∙ (λ i. c.reserve.ensures.items i ++ c.into_record-answer.ensures.record i ∷ [])
 
-  more : g ≡ record c.spread.new.dating { dates = record c.spread.new.dating.dates { since = c.spread.new.dating.dates.since ++ 0 ∷ [] } }
-  more = ap (λ q. record c.spread.new.dating { dates = q }) c.number.ensures
-
-pub date_all-requires-clause-fits : goal.date_all-requires-clause-fits
-date_all-requires-clause-fits c =
-    fits_numbered (past c) (old c) c.act_with.new.parts c.spread.new.parts (d c) c.act_with.new.dating c.spread.new.dating (g c) (g c) (begun c) c.args.caller c.args.event c.in_ok-outcome.outcome (c.len.result + 1) (number c) (does c) c.in_ok-outcome.ensures.follows
-    c.spread.ensures.spreads (more c)
-
 pub date_all-requires-clause-homes : goal.date_all-requires-clause-homes
 date_all-requires-clause-homes c =
     let left = c.spread.new.parts in
@@ -165,16 +141,16 @@ date_all-requires-clause-begins c =
     let reported : c.last_picked-reported.result.now ≡ c.in_ok-outcome.outcome.picked = c.last_picked-reported.ensures (past c) (record_of c.args.caller c.args.event c.in_ok-outcome.outcome) (history_now c) in
     let law =
     begins_left c.know_laws.ensures.spread (past c) (old c) c.act_with.new.parts c.spread.new.parts (begun c).keeps c.args.caller c.args.event c.in_ok-outcome.outcome (c.len.result + 1) (number c) (does c) c.in_ok-outcome.ensures.ok.keys c.know_laws.ensures.tables (d c)
-    c.act_with.new.dating c.spread.new.dating (g c) (begun c).dated c.in_ok-outcome.ensures.follows c.spread.ensures.spreads (more c) c.find_called-called.result in
-    subst (λ (ks : List ℕ). Begins c.spread.new.parts (g c) c.find_called-called.result ks) (sym reported) law
+    c.act_with.new.dating c.spread.new.dating (begun c).dated c.in_ok-outcome.ensures.follows c.spread.ensures.spreads c.find_called-called.result in
+    subst (λ (ks : List ℕ). Begins c.spread.new.parts c.spread.new.dating c.find_called-called.result ks) (sym reported) law
 
 pub date_all-requires-clause-ends : goal.date_all-requires-clause-ends
 date_all-requires-clause-ends c =
     let reported : c.last_picked-reported.result.now ≡ c.in_ok-outcome.outcome.picked = c.last_picked-reported.ensures (past c) (record_of c.args.caller c.args.event c.in_ok-outcome.outcome) (history_now c) in
     let law =
     ends_left c.know_laws.ensures.stay (past c) (old c) c.act_with.new.parts c.spread.new.parts (begun c).keeps c.args.caller c.args.event c.in_ok-outcome.outcome (c.len.result + 1) (number c) (does c) c.in_ok-outcome.ensures.ok.keys c.know_laws.ensures.coherent c.know_laws.ensures.tables (d c)
-    c.act_with.new.dating c.spread.new.dating (g c) (begun c).dated (begun c).ready c.in_ok-outcome.ensures.follows c.spread.ensures.spreads (more c) c.find_called-called.result c.find_called-called.ensures.called in
-    subst (λ (ks : List ℕ). Ends c.spread.new.parts (g c) c.find_called-called.result ks) (sym reported) law
+    c.act_with.new.dating c.spread.new.dating (begun c).dated (begun c).ready c.in_ok-outcome.ensures.follows c.spread.ensures.spreads c.find_called-called.result c.find_called-called.ensures.called in
+    subst (λ (ks : List ℕ). Ends c.spread.new.parts c.spread.new.dating c.find_called-called.result ks) (sym reported) law
 
 pub date_all-requires-clause-reported : goal.date_all-requires-clause-reported
 date_all-requires-clause-reported c id x at =
@@ -211,7 +187,6 @@ module _ (c : goal.After-rest-arg-2-1) where
   -- what was lost over the event
   lost_now : NotesLost k.parts c.spread.new.parts [] c.spread.new.dating.choice.lost.reached
   lost_now =
-      let d : Dating = record k.dating { dates = c.reserve-2.new.self } in
       let first : NotesLost k.parts c.act_with.new.parts [] c.act_with.new.dating.choice.lost.reached =
       subst (λ (ks : List ℕ). NotesLost k.parts c.act_with.new.parts ks c.act_with.new.dating.choice.lost.reached) c.self.invariant.standing.unlost c.in_ok-outcome.ensures.follows.lost in
       notes_event k.history.items k.parts c.act_with.new.parts c.spread.new.parts keeps c.args.caller c.args.event outcome (c.len.result + 1) n_is done c.in_ok-outcome.ensures.ok.keys c.know_laws.ensures.coherent
@@ -246,13 +221,10 @@ module _ (c : goal.After-rest) where
   first_parts = c.self.inside.parts
 
   abbrev first_dating : Dating
-  first_dating = record c.self.inside.dating { dates = c.reserve-2.new.self }
-
-  abbrev asked : Dating
-  asked = record c.spread.new.dating { dates = c.number.new.self }
+  first_dating = c.self.inside.dating
 
   standing : Standing before first_parts first_dating
-  standing = standing_reserved before first_parts c.self.inside.dating c.reserve-2.new.self c.reserve-2.ensures.same c.self.invariant.standing
+  standing = c.self.invariant.standing
 
   number_then : c.len.result + 1 ≡ length before + 1
   number_then = omega (arith, c.len.ensures, c.reserve.ensures.len)
@@ -267,9 +239,6 @@ module _ (c : goal.After-rest) where
   does_then =
       does_with before first_parts standing.keeps (c.len.result + 1) number_then (MayReport first_parts c.args.caller.0 c.args.event (option_copied c.args.picks)) c.args.caller.0 c.args.event c.in_ok-outcome.outcome c.act_with.new.parts
       c.in_ok-outcome.ensures.ok may
-
-  place : asked ≡ record c.spread.new.dating { dates = record c.spread.new.dating.dates { since = c.spread.new.dating.dates.since ++ 0 ∷ [] } }
-  place = ap (λ q. record c.spread.new.dating { dates = q }) c.number.ensures
 
   -- what is attended
   rests : RestsBy
@@ -291,13 +260,13 @@ pub invariant_of-self-2 : goal.invariant_of-self-2
 invariant_of-self-2 c =
     let q = c.spread.new.parts in
     let shows = entry_shows (readiness q.tables q.clock q.interest) q.tables q.clock in
-    let from = dates_from (before c) (first_parts c) c.act_with.new.parts q (first_dating c) c.act_with.new.dating c.spread.new.dating (asked c) c.date_all.new.dating (standing c) c.args.caller c.args.event c.in_ok-outcome.outcome (c.len.result + 1) (number_then c) (does_then c)
-    c.in_ok-outcome.ensures.follows c.spread.ensures.spreads (place c) shows c.date_all.ensures.dates in
+    let from = dates_from (before c) (first_parts c) c.act_with.new.parts q (first_dating c) c.act_with.new.dating c.spread.new.dating c.date_all.new.dating (standing c) c.args.caller c.args.event c.in_ok-outcome.outcome (c.len.result + 1) (number_then c) (does_then c)
+    c.in_ok-outcome.ensures.follows c.spread.ensures.spreads shows c.date_all.ensures.dates in
     let order = c.date_all.ensures.order
-    (order_left (before c) (first_parts c) c.act_with.new.parts q (first_dating c) c.act_with.new.dating c.spread.new.dating (asked c) c.date_all.new.dating (standing c) c.args.caller c.args.event c.in_ok-outcome.outcome (c.len.result + 1) (number_then c) (does_then c)
-    c.in_ok-outcome.ensures.follows c.spread.ensures.spreads (place c)) in
+    (order_left (before c) (first_parts c) c.act_with.new.parts q (first_dating c) c.act_with.new.dating c.spread.new.dating c.date_all.new.dating (standing c) c.args.caller c.args.event c.in_ok-outcome.outcome (c.len.result + 1) (number_then c) (does_then c)
+    c.in_ok-outcome.ensures.follows c.spread.ensures.spreads) in
     let next =
-    standing_next (before c) (first_parts c) c.act_with.new.parts q (first_dating c) c.act_with.new.dating c.spread.new.dating (asked c) c.date_all.new.dating (standing c) c.args.caller c.args.event c.in_ok-outcome.outcome (c.len.result + 1) (number_then c) (does_then c)
+    standing_next (before c) (first_parts c) c.act_with.new.parts q (first_dating c) c.act_with.new.dating c.spread.new.dating c.date_all.new.dating (standing c) c.args.caller c.args.event c.in_ok-outcome.outcome (c.len.result + 1) (number_then c) (does_then c)
     c.in_ok-outcome.ensures.follows c.spread.ensures.spreads c.in_ok-outcome.ensures.ok.keys c.know_laws.ensures.coherent c.rest.new.parts (rests c) from c.date_all.ensures.ready c.date_all.ensures.fits order
     c.rest.new.dating c.rest.ensures.dates c.rest.ensures.fits c.rest.ensures.unlost in
     record {
@@ -313,7 +282,7 @@ returns-clause-ok c =
     let new : Book = record { limits = c.rest.new.parts.tables.limits; past = c.push_reserved.new.self.items; capacity = vec_capacity c.push_reserved.new.self } in
     let told = reports (before c) (first_parts c) (standing c).keeps c.args.caller c.args.event (c.len.result + 1) (number_then c) given outcome.picked (may c) c.in_ok-outcome.ensures.picked in
     let adds =
-    adds_by (before c) (first_parts c) c.act_with.new.parts c.spread.new.parts (first_dating c) c.act_with.new.dating c.spread.new.dating (asked c) c.date_all.new.dating (standing c) c.args.caller c.args.event outcome (c.len.result + 1) (number_then c) (does_then c)
+    adds_by (before c) (first_parts c) c.act_with.new.parts c.spread.new.parts (first_dating c) c.act_with.new.dating c.spread.new.dating c.date_all.new.dating (standing c) c.args.caller c.args.event outcome (c.len.result + 1) (number_then c) (does_then c)
     c.in_ok-outcome.ensures.follows c.spread.ensures.spreads c.in_ok-outcome.ensures.ok.keys c.know_laws.ensures.coherent c.rest.new.parts (rests c) given told in
     let was = c.args.self.now in
     subst (λ (a : Answer). AddsBy was.limits c.args.caller c.args.event given a (state_of was) (state_of new) was.past new.past) (sym c.into_record-answer.ensures.answer)
