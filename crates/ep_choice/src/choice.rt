@@ -34,7 +34,8 @@ impl Choice {
     }
 
     /// Makes room for a registration of these two under a key, in constant time if there is room. Only an exclusive one
-    /// has its key and its target here, and a place for what its instance answers. An `Err` is want of memory. There is no less room than before.
+    /// has its key and its target here, and a place for what its instance answers. An `Err` is want of memory. There is
+    /// no less room than before.
     #[inline(always)]
     pub fn make_room(&mut self, named: Named, mask: Mask, id: EntryId) -> Result<(), AllocError>
         ensures widens { Widens self.old self.new }

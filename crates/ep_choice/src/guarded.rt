@@ -24,8 +24,8 @@ fn is_any_exclusive(interest: &Interest, instances: &[DescId]) -> bool
 
 /// Whether there is an exclusive registration in an instance or in one beneath it, to which a chain of links leads
 /// down, armed or not. It looks at the registrations of the instance up to the first exclusive one; if it has none, at
-/// the links from it and from those beneath, and at the registrations of these up to the first exclusive one. At nothing
-/// if no registration is exclusive. It takes no memory.
+/// the links from it and from those beneath, and at the registrations of these up to the first exclusive one. It looks
+/// at nothing if no registration is exclusive. It takes no memory.
 pub fn is_guarded(parts: &mut Parts, instance: DescId) -> bool
     requires live { IsSome (number_under parts.old.tables instance) }
     requires instances { HaveInstances parts.old }
