@@ -261,7 +261,6 @@ static void more_years(int fd) {
     struct timespec end = in(CLOCK_REALTIME, three_years);
     struct pollfd file = {.fd = fd, .events = POLLIN};
     sigset_t none;
-    uint32_t word = 0;
     sem_t semaphore;
     pthread_mutex_lock(&lock);
     TELL("condition of 3 years", pthread_cond_timedwait(&changed, &lock, &end));
@@ -269,7 +268,6 @@ static void more_years(int fd) {
     sem_init(&semaphore, 0, 0);
     end = in(CLOCK_MONOTONIC, three_years);
     TELL("semaphore of 3 years", sem_clockwait(&semaphore, CLOCK_MONOTONIC, &end));
-    TELL("futex of 3 years", syscall(SYS_futex, &word, FUTEX_WAIT_PRIVATE, 0, OF(100000000, 1), NULL, 0));
     sigemptyset(&none);
     TELL("signal of 34 days", sigtimedwait(&none, NULL, OF(3000000, 1)));
     TELL("poll of 24 days", poll(&file, 1, INT_MAX));
