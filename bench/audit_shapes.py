@@ -195,7 +195,8 @@ def workers():
 
 
 def many_outers():
-    for outers, waiters in ((320, 0), (80, 80)):
+    # The more outer instances, the more of both is their ADD, which an audit reads and makes.
+    for outers, waiters, most in ((320, 0, 1.25), (1_280, 0, 1.3), (80, 80, 1.25)):
         script = Script()
         inner = script.instance()
         counters = [script.counter() for _ in range(40)]
@@ -213,7 +214,7 @@ def many_outers():
             script.wait(above[turn % outers])
             script.read(counters[turn])
         name = f"{outers} instances over an inner one of 40"
-        yield Shape(name + (f", {waiters} waiters" if waiters else ""), script.lines)
+        yield Shape(name + (f", {waiters} waiters" if waiters else ""), script.lines, most)
 
 
 def long_reports():
@@ -342,6 +343,17 @@ def sharing():
         yield Shape(f"400 workers of one counter, {mask}", script.lines, 2)
 
 
+def fills():
+    """Writes of one byte, many times, and their reads."""
+    for size in (16, 100, 1_000, 4_096):
+        script = Script()
+        far = script.opens('{"op":"pipe"}', 2)
+        for _ in range(500):
+            script.lines.append('{"op":"write","fd":%d,"fill":[97,%d]}' % (far + 1, size))
+            script.read(far, size)
+        yield Shape(f"500 times fill of {size} bytes and its read", script.lines)
+
+
 def shapes():
     yield from servers("IN|ET", True, "edge-triggered, drained")
     yield from servers("IN", True, "level-triggered, drained")
@@ -358,5 +370,6 @@ def shapes():
         comings_and_goings,
         together,
         sharing,
+        fills,
     ):
         yield from maker()

@@ -14,6 +14,12 @@ DEEPEST = 127
 #: The instances that watch one target each.
 OWNERS = 3_000
 PIPES = 4_000
+#: How often a script writes a long text, and the byte of a `fill`.
+WRITES, FILLED = 30, 0x61
+#: Timers in one instance, and instances above it.
+TIMERS, ABOVE = 160, 160
+#: A moment that no tick comes to.
+FAR_AHEAD = 900_000_000_000
 
 
 @dataclass
@@ -124,12 +130,20 @@ class Script:
     def counter(self, start=0):
         return self.opens('{"op":"eventfd","init":%d}' % start)
 
+    def timer(self, value, interval=0):
+        timer = self.opens('{"op":"timerfd","clock":1}')
+        self.setup.append('{"op":"settime","fd":%d,"value":%d,"interval":%d}' % (timer, value, interval))
+        return timer
+
     def add(self, instance, target, mask="IN"):
         self.setup.append(ctl("add", instance, target, mask))
 
-    def rounds(self, name, count):
+    def park(self, caller, instance):
+        self.setup.append(wait(instance, 1, -1, caller))
+
+    def rounds(self, name, count, options=()):
         """The rounds alone: what comes before them is taken off."""
-        words = ["rounds", "--limits", LIMITS, str(len(self.setup))]
+        words = ["rounds", *options, "--limits", LIMITS, str(len(self.setup))]
         calls = len(self.setup) + count * len(self.round)
         text = "".join(f"{it}\n" for it in self.setup + self.round)
         prints = f"{calls} calls, 0 refused"
@@ -140,6 +154,21 @@ class Script:
 
 def ctl(act, instance, target, mask="IN"):
     return '{"op":"ctl","ep":%d,"act":"%s","fd":%d,"mask":"%s","data":%d}' % (instance, act, target, mask, target)
+
+
+def wait(instance, most, timeout=0, by=0):
+    return '{"op":"wait","by":%d,"ep":%d,"max":%d,"timeout":%d}' % (by, instance, most, timeout)
+
+
+def write_one(counter):
+    return '{"op":"write","fd":%d,"hex":"0100000000000000"}' % counter
+
+
+def read_eight(counter):
+    return '{"op":"read","fd":%d,"n":8}' % counter
+
+
+TICK = '{"op":"tick","n":1}'
 
 
 def reports():
@@ -194,6 +223,106 @@ def pipes():
     yield script.rounds(f"{PIPES} times pipe and ADD", 1)
 
 
+def exclusive_rounds():
+    """What is written wakes the caller that waits by the only exclusive registration. It reads, and waits again."""
+    script = Script()
+    instance, counter = script.instance(), script.counter()
+    script.add(instance, counter, "IN|EXCLUSIVE")
+    script.park(1, instance)
+    script.round = [write_one(counter), '{"op":"resume","by":1}', read_eight(counter), wait(instance, 1, -1, 1)]
+    yield script.rounds("round of an exclusive registration", 100)
+
+
+def links_beside_exclusive():
+    """DEL and ADD of a link between instances. Callers wait at n instances above it, n more are beneath and idle, and
+    one registration elsewhere is exclusive."""
+    for count in (15, 60, 240):
+        script = Script()
+        middle = script.instance()
+        beneath = [script.instance() for _ in range(count)]
+        for inner in beneath:
+            script.add(middle, inner)
+        for caller in range(1, count + 1):
+            outer = script.instance()
+            script.add(outer, middle)
+            script.park(caller, outer)
+        script.add(script.instance(), script.counter(), "IN|EXCLUSIVE")
+        script.round = [ctl("del", middle, beneath[0]), ctl("add", middle, beneath[0])]
+        yield script.rounds(f"DEL and ADD of a link amid {count} and {count}, one exclusive elsewhere", 10)
+
+
+def ticks():
+    """Timers of one instance below many that expire in one tick, timers that expire in each tick, and ticks beside
+    timers that don't expire."""
+    for kind, mask in (("plain", "IN"), ("exclusive", "IN|EXCLUSIVE")):
+        script = Script()
+        instance = script.instance()
+        for _ in range(TIMERS):
+            script.add(instance, script.timer(1, 1), mask)
+        for _ in range(ABOVE):
+            script.add(script.instance(), instance)
+        script.round = [TICK]
+        yield script.rounds(f"tick of {TIMERS} {kind} timers below {ABOVE}", 10)
+    for count in (1, 100):
+        script = Script()
+        instance = script.instance()
+        timers = [script.timer(1, 1) for _ in range(count)]
+        for timer in timers:
+            script.add(instance, timer)
+        script.round = [TICK, *map(read_eight, timers)]
+        yield script.rounds(f"tick of {count} periodic timers and their reads", 1_000 // count)
+    script = Script()
+    for _ in range(1_000):
+        script.timer(FAR_AHEAD)
+    script.round = [TICK]
+    yield script.rounds("tick beside 1000 far timers", 100)
+
+
+def scanned():
+    """A pipe's round on the kernel that scans."""
+    script = Script()
+    near = script.opens('{"op":"pipe"}', 2)
+    instance = script.instance()
+    script.add(instance, near)
+    write = '{"op":"write","fd":%d,"hex":"616263"}' % (near + 1)
+    script.round = [write, wait(instance, 8), '{"op":"read","fd":%d,"n":3}' % near]
+    yield script.rounds("round of a pipe on --plain", 100, ["--plain"])
+
+
+def fills():
+    """The audit of writes of one byte, many times, and of their reads."""
+    for size in (100, 4_096):
+        written = record('{"fd":4,"fill":[%d,%d],"op":"write"}' % (FILLED, size), '{"num":%d}' % size)
+        read = record('{"fd":3,"n":%d,"op":"read"}' % size, '{"bytes":"%s"}' % (b"%c" % FILLED * size).hex())
+        lines = [record('{"cloexec":false,"op":"pipe"}', '{"two":[3,4]}'), *[written, read] * RECORDS]
+        text = "".join(f"{it}\n" for it in lines)
+        yield Shape(f"audit of fill, {size} bytes", "epaudit", [], given=text, prints=f"ok {len(lines)} records")
+
+
+def long_writes():
+    """Long writes of a script by their digits, and their reads."""
+    for size in (400, 8_000):
+        digits = "00" + "ab" * (size - 1)
+        lines = ['{"op":"write","fd":4,"hex":"%s"}' % digits, '{"op":"read","fd":3,"n":%d}' % size]
+        text = "".join(f"{it}\n" for it in ['{"op":"pipe"}', *lines * WRITES])
+        yield Shape(f"write of {size} bytes by digits", "epsim", [], given=text, prints='{"bytes":"%s"}' % digits)
+
+
 def shapes():
-    makers = (broken_lines, nearly_printed, no_record, deep_lines, reports, lone_registrations, stale_hopes, pipes)
+    makers = (
+        broken_lines,
+        nearly_printed,
+        no_record,
+        deep_lines,
+        reports,
+        lone_registrations,
+        stale_hopes,
+        pipes,
+        exclusive_rounds,
+        links_beside_exclusive,
+        ticks,
+        scanned,
+        fills,
+        long_writes,
+    )
     return [it for maker in makers for it in maker()]
