@@ -28,8 +28,30 @@ fn may_be_printed(digits: &[u8]) -> bool {
     }
 }
 
-/// The bytes of these digits. If the printer doesn't write such digits, none is decoded.
+/// Whether the printer writes these digits, more than a block, and they are those of one byte over and over.
+fn are_of_one_byte(digits: &[u8]) -> bool {
+    digits.len() > BLOCK
+        && digits[2..] == digits[..digits.len() - 2]
+        && match digits.first_chunk::<BLOCK>() {
+            Some(block) => is_printed(block),
+            None => false,
+        }
+}
+
+/// The bytes of such digits, of which the first two tell all.
+fn run_of(alloc: Global, digits: &[u8]) -> Option<Vec<u8>> {
+    let first = digits.first_chunk::<2>()?;
+    let mut byte = [0];
+    hex::decode_to_slice(first.as_slice(), &mut byte).ok()?;
+    vec![in alloc; byte[0]; digits.len() / 2].ok()
+}
+
+/// The bytes of these digits. If the printer doesn't write such digits, none is decoded. What a long `fill` wrote is
+/// read as one byte over and over, which is decoded once.
 pub(crate) fn decoded(alloc: Global, digits: &[u8]) -> Option<Vec<u8>> {
+    if are_of_one_byte(digits) {
+        return run_of(alloc, digits);
+    }
     if !may_be_printed(digits) {
         return None;
     }
