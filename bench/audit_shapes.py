@@ -195,8 +195,8 @@ def workers():
 
 
 def many_outers():
-    # The more outer instances, the more of both is their ADD, which an audit reads and makes.
-    for outers, waiters, most in ((320, 0, 1.25), (1_280, 0, 1.3), (80, 80, 1.25)):
+    # At each write and each read all outer registrations come and go together, which an audit pays more for than a run.
+    for outers, rounds, waiters, most in ((320, 40, 0, 1.25), (1_280, 200, 0, 1.5), (80, 40, 80, 1.25)):
         script = Script()
         inner = script.instance()
         counters = [script.counter() for _ in range(40)]
@@ -205,14 +205,15 @@ def many_outers():
         above = [script.instance() for _ in range(outers)]
         for outer in above:
             script.ctl("add", outer, inner)
-        for turn in range(40):
+        for turn in range(rounds):
+            fd = counters[turn % len(counters)]
             for by in range(waiters):
                 script.wait(above[by], 1, -1, by + 1)
-            script.write(counters[turn])
+            script.write(fd)
             for by in range(waiters):
                 script.resume(by + 1)
             script.wait(above[turn % outers])
-            script.read(counters[turn])
+            script.read(fd)
         name = f"{outers} instances over an inner one of 40"
         yield Shape(name + (f", {waiters} waiters" if waiters else ""), script.lines, most)
 
@@ -345,13 +346,14 @@ def sharing():
 
 def fills():
     """Writes of one byte, many times, and their reads."""
-    for size in (16, 100, 1_000, 4_096):
+    # The longer they are, the more of both is printing the bytes, and an audit copies and compares the line, too.
+    for size, most in ((16, 1.25), (100, 1.25), (1_000, 1.25), (4_096, 1.5)):
         script = Script()
         far = script.opens('{"op":"pipe"}', 2)
         for _ in range(500):
             script.lines.append('{"op":"write","fd":%d,"fill":[97,%d]}' % (far + 1, size))
             script.read(far, size)
-        yield Shape(f"500 times fill of {size} bytes and its read", script.lines)
+        yield Shape(f"500 times fill of {size} bytes and its read", script.lines, most)
 
 
 def shapes():
