@@ -22,7 +22,7 @@ returns-then-is_guarded-clause-marks g c =
 pub invariant_of-parts : goal.invariant_of-parts
 invariant_of-parts g c =
     let k = c.parts.inside in
-    coherent_longest (record { tables = k.tables; interest = k.interest; graph = k.graph; parked = k.waiters; clock = k.clock }) _ c.mark_longest.new.self c.mark_longest.ensures c.parts.invariant
+    coherent_longest (record { tables = k.tables; interest = k.interest; graph = k.graph; parked = k.waiters; clock = k.clock }) c.args.instance.0 c.mark_longest.new.self c.mark_longest.ensures c.parts.invariant
 
 pub returns-clause-marks : goal.returns-clause-marks
 returns-clause-marks g c =
