@@ -10,8 +10,6 @@ mod go;
 mod pick;
 mod renew;
 mod room;
-#[cfg(test)]
-mod tests;
 mod touched;
 
 pub use crate::dates::Dates;

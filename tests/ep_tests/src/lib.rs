@@ -5,6 +5,8 @@
 #[cfg(test)]
 mod counters;
 #[cfg(test)]
+mod dates;
+#[cfg(test)]
 mod due;
 #[cfg(test)]
 mod graphs;
