@@ -13,6 +13,8 @@ FORWARD(openat)
 FORWARD(opendir)
 FORWARD(scandir)
 FORWARD(scandir64)
+FORWARD(scandirat)
+FORWARD(scandirat64)
 FORWARD(fopen)
 FORWARD(readlink)
 FORWARD(readlinkat)
@@ -135,6 +137,17 @@ int scandir(const char *restrict path, struct dirent ***restrict found, int (*se
 int scandir64(const char *restrict path, struct dirent64 ***restrict found, int (*select)(const struct dirent64 *),
               int (*compare)(const struct dirent64 **, const struct dirent64 **)) {
     return may_reach("scandir", path) ? next_scandir64()(path, found, select, compare) : -1;
+}
+
+int scandirat(int folder, const char *restrict path, struct dirent ***restrict found,
+              int (*select)(const struct dirent *), int (*compare)(const struct dirent **, const struct dirent **)) {
+    return may_reach("scandirat", path) ? next_scandirat()(folder, path, found, select, compare) : -1;
+}
+
+int scandirat64(int folder, const char *restrict path, struct dirent64 ***restrict found,
+                int (*select)(const struct dirent64 *),
+                int (*compare)(const struct dirent64 **, const struct dirent64 **)) {
+    return may_reach("scandirat", path) ? next_scandirat64()(folder, path, found, select, compare) : -1;
 }
 
 ssize_t readlink(const char *restrict path, char *restrict to, size_t size) {
