@@ -154,6 +154,31 @@ int posix_spawnp(pid_t *restrict made, const char *restrict path, const posix_sp
     return posix_spawn(made, path, actions, attributes, words, environment);
 }
 
+/* An action on a simulated number is taken, as on Linux, and has no effect: posix_spawn says why. The C library would
+   answer EBADF, for the real limit is below that number. */
+static bool is_simulated_action(int fd) { return is_simulated(fd) && fd < getdtablesize(); }
+
+#define SPAWN_ACTION(name, parameters, is_one, arguments)        \
+    int name parameters;                                         \
+    FORWARD(name)                                                \
+    int name parameters {                                        \
+        return is_one ? 0 : next_##name() arguments;             \
+    }
+
+SPAWN_ACTION(posix_spawn_file_actions_addclose, (posix_spawn_file_actions_t *actions, int fd), is_simulated_action(fd),
+             (actions, fd))
+SPAWN_ACTION(posix_spawn_file_actions_adddup2, (posix_spawn_file_actions_t *actions, int fd, int to),
+             is_simulated_action(fd) || is_simulated_action(to), (actions, fd, to))
+SPAWN_ACTION(posix_spawn_file_actions_addopen,
+             (posix_spawn_file_actions_t *restrict actions, int fd, const char *restrict path, int flags, mode_t mode),
+             is_simulated_action(fd), (actions, fd, path, flags, mode))
+SPAWN_ACTION(posix_spawn_file_actions_addfchdir_np, (posix_spawn_file_actions_t *actions, int fd),
+             is_simulated_action(fd), (actions, fd))
+SPAWN_ACTION(posix_spawn_file_actions_addclosefrom_np, (posix_spawn_file_actions_t *actions, int fd),
+             is_simulated_action(fd), (actions, fd))
+SPAWN_ACTION(posix_spawn_file_actions_addtcsetpgrp_np, (posix_spawn_file_actions_t *actions, int fd),
+             is_simulated_action(fd), (actions, fd))
+
 int system(const char *command) { return command ? refuse_program(command) : 0; }
 
 FILE *popen(const char *command, const char *mode) {
