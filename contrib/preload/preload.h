@@ -308,6 +308,9 @@ bool is_thread_asleep(long thread);
 void watch_threads(void);
 /* Takes the thread that calls among those that take part. */
 void join_threads(void);
+/* A wait of the C library with a time by CLOCK_REALTIME, which answers an error number: calls `wait` until it answers
+   something else than ETIMEDOUT, or the simulated clock is at `day`. */
+int wait_until(const struct timespec *day, int (*wait)(void *given, const struct timespec *until), void *given);
 /* futex(2) with these six arguments, whose times are by the simulated clock. */
 long call_futex(const long given[6]);
 

@@ -348,6 +348,17 @@ TIMED_BY_ERRNO(sem_timedwait, int, (sem_t *restrict semaphore, const struct time
 TIMED_BY_ERRNO(sem_clockwait, int, (sem_t *restrict semaphore, clockid_t clock, const struct timespec *restrict time),
                (semaphore, clock, &timed.until))
 
+int wait_until(const struct timespec *day, int (*wait)(void *given, const struct timespec *until), void *given) {
+    struct timed timed;
+    int error;
+    begin_timed(&timed, day, NULL);
+    do {
+        error = error_of_timed(&timed, wait(given, &timed.until));
+    } while (error == SLEEP_ON);
+    end_timed(&timed);
+    return error;
+}
+
 /* One that is to last so many UNITs ends at this moment of CLOCK_MONOTONIC. */
 static struct timespec end_of(int64_t units) {
     static const int64_t most = INT64_C(400000000) * SECOND; /* 12 years */
