@@ -13,8 +13,6 @@
 
 FORWARD(kill)
 FORWARD(killpg)
-FORWARD(utimensat)
-FORWARD(syscall)
 
 /* ---- the machine's clocks ---- */
 
@@ -101,8 +99,14 @@ static bool may_have(const char *call, const struct timespec times[2]) {
     return true;
 }
 
+/* Without a path, the times of the file that `folder` names. */
+static int set_real_times(int folder, const char *path, const struct timespec times[2], int flags) {
+    return (int)plain_answer(real_call(SYS_utimensat, folder, (long)path, (long)times, flags, 0, 0));
+}
+
 static int set_times(const char *call, int folder, const char *path, const struct timespec times[2], int flags) {
-    return may_have(call, times) ? next_utimensat()(folder, path, times, flags) : -1;
+    if (!may_have(call, times)) return -1;
+    return path ? set_real_times(folder, path, times, flags) : (int)plain_answer(-EINVAL);
 }
 
 /* The same with microseconds. */
@@ -122,10 +126,9 @@ int utimensat(int folder, const char *path, const struct timespec times[2], int 
     return set_times("utimensat", folder, path, times, flags);
 }
 
-/* The C library's utimensat wants a path, its futimens has none. */
 static int set_times_of(const char *call, int fd, const struct timespec times[2]) {
     if (is_simulated(fd)) return refuse(EBADF, "%s(%d) is not simulated", call, fd);
-    return may_have(call, times) ? (int)next_syscall()(SYS_utimensat, fd, NULL, times, 0) : -1;
+    return may_have(call, times) ? set_real_times(fd, NULL, times, 0) : -1;
 }
 
 int futimens(int fd, const struct timespec times[2]) { return set_times_of("futimens", fd, times); }

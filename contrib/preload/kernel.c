@@ -75,6 +75,7 @@ static void start(void) {
         say("no kernel can be made: %s", strerrordesc_np(-sleeping));
         next__exit()(STATUS_ENDLESS);
     }
+    shut_doors();
     kernel = first.kernel;
     is_starting = false;
 }

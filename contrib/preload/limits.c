@@ -27,6 +27,11 @@ static struct rlimit begun; /* the real one at the beginning */
 
 static rlim_t smaller(rlim_t a, rlim_t b) { return a < b ? a : b; }
 
+/* 0, or -1 and errno. */
+static int set_real_limit(const struct rlimit *limit) {
+    return (int)plain_answer(real_call(SYS_setrlimit, RLIMIT_NOFILE, (long)limit, 0, 0, 0, 0));
+}
+
 /* ---- at the beginning ---- */
 
 static void read_limit(void) {
@@ -77,7 +82,7 @@ void bound_real_descriptors(void) {
                         "the hard limit on open files (ulimit -Hn) is lower");
     if (limit.rlim_cur > (rlim_t)FIRST || is_set) {
         limit.rlim_cur = (rlim_t)FIRST;
-        if (next_setrlimit()(RLIMIT_NOFILE, &limit) != 0)
+        if (set_real_limit(&limit) != 0)
             say("the real descriptors can't be bounded: %s", strerrordesc_np(errno));
     }
     refuse_high();
@@ -103,7 +108,7 @@ static int keep(const struct rlimit *limit) {
     if (next_getrlimit()(RLIMIT_NOFILE, &real) != 0) return errno;
     real.rlim_max = limit->rlim_max <= kept.rlim_max ? smaller(limit->rlim_max, real.rlim_max) : limit->rlim_max;
     real.rlim_cur = smaller(limit->rlim_cur, smaller((rlim_t)FIRST, real.rlim_max));
-    if (next_setrlimit()(RLIMIT_NOFILE, &real) != 0) return errno;
+    if (set_real_limit(&real) != 0) return errno;
     kept = *limit;
     return 0;
 }

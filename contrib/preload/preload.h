@@ -125,6 +125,9 @@ bool let_pending_run(void);
 /* Blocks other signals for the rest of a quiet call, and tells which were; the same back. */
 uint64_t swap_mask(const sigset_t *set);
 void put_mask_back(uint64_t before);
+/* Makes this the handler of SIGSYS, whatever the program asks for; it hands the program's own on to arrive. */
+void handle_door_signal(void (*handler)(int signal, siginfo_t *info, void *context));
+void arrive(int signal, siginfo_t *info, void *context);
 /* Whether the program has a handler of a signal that others may send. */
 bool has_handlers(void);
 /* Writes the history if a signal that is about to be sent ends the program. */
@@ -299,6 +302,18 @@ bool is_harmless_request(int fd, unsigned long request, const void *argument);
 bool is_harmless_command(int command, long argument);
 /* If the call of this number has a double in harm.c, calls that. */
 bool call_harmless(long number, const long given[6], long *result);
+
+/* ---- refused.c ---- */
+
+/* If the call of this number has a double, or is refused, calls or refuses it. */
+bool call_by_number(long number, const long given[6], long *result);
+
+/* ---- doors.c: what is called past the C library ---- */
+
+/* Sets a filter of the real kernel that stops what is refused by name. */
+void shut_doors(void);
+/* A call of the real kernel that no filter of the shim's stops: its answer, or minus an error number. */
+long real_call(long number, long first, long second, long third, long fourth, long fifth, long sixth);
 
 /* ---- threads.c ---- */
 

@@ -229,6 +229,7 @@ static bool call_double(long number, const long given[6], long *result) {
     case SYS_fcntl: *result = fcntl((int)given[0], (int)given[1], given[2]); return true;
     case SYS_ioctl: *result = ioctl((int)given[0], (unsigned long)given[1], given[2]); return true;
     case SYS_futex: *result = call_futex(given); return true;
+    case SYS_unshare: *result = unshare((int)given[0]); return true;
     case SYS_getrlimit:
     case SYS_setrlimit:
     case SYS_prlimit64: *result = call_limit(number, given); return true;
@@ -268,14 +269,23 @@ static bool has_no_double(long number) {
     }
 }
 
+bool call_by_number(long number, const long given[6], long *result) {
+    if (number == SYS_io_uring_setup) {
+        *result = refuse(ENOSYS, "io_uring is not simulated");
+    } else if (has_no_double(number)) {
+        *result = refuse(ENOSYS, "syscall(%ld): this call by its number is not simulated", number);
+    } else {
+        return call_double(number, given, result);
+    }
+    return true;
+}
+
 long syscall(long number, ...) {
     va_list arguments;
     long given[6], result;
     va_start(arguments, number);
     for (int i = 0; i < 6; i++) given[i] = va_arg(arguments, long);
     va_end(arguments);
-    if (number == SYS_io_uring_setup) return refuse(ENOSYS, "io_uring is not simulated");
-    if (has_no_double(number)) return refuse(ENOSYS, "syscall(%ld): this call by its number is not simulated", number);
-    if (call_double(number, given, &result)) return result;
+    if (call_by_number(number, given, &result)) return result;
     return next_syscall()(number, given[0], given[1], given[2], given[3], given[4], given[5]);
 }

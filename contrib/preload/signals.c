@@ -17,8 +17,9 @@ FORWARD(syscall)
 
 /* Signals as the real kernel keeps them: bit n - 1 for signal n. The C library's set is larger. */
 #define BIT(signal) (UINT64_C(1) << ((signal) - 1))
-/* All but the two that the C library keeps for itself. */
-#define ALL (~(BIT(32) | BIT(33)))
+/* What is never blocked: the two that the C library keeps for itself, and that of doors.c. */
+#define NEVER_BLOCKED (BIT(32) | BIT(33) | BIT(SIGSYS))
+#define ALL (~NEVER_BLOCKED)
 #define FAULTS (BIT(SIGSEGV) | BIT(SIGBUS) | BIT(SIGFPE) | BIT(SIGILL) | BIT(SIGTRAP) | BIT(SIGSYS))
 enum { MOST_SIGNALS = 64 };
 
@@ -28,11 +29,12 @@ _Thread_local struct thread_state this_thread;
 static pthread_mutex_t lock = PTHREAD_MUTEX_INITIALIZER;
 static struct sigaction actions[MOST_SIGNALS + 1];
 static _Atomic uint64_t handled; /* the signals that have a handler */
+static void (*door_handler)(int, siginfo_t *, void *); /* of SIGSYS, or NULL */
 
 static uint64_t bits_of(const sigset_t *set) {
     uint64_t bits;
     memcpy(&bits, set, sizeof bits);
-    return bits & ~(BIT(32) | BIT(33));
+    return bits & ~NEVER_BLOCKED;
 }
 
 static uint64_t set_mask(uint64_t mask) {
@@ -125,10 +127,20 @@ static struct sigaction take_action(int signal) {
     if (is_function(&action) && (action.sa_flags & (int)SA_RESETHAND)) {
         actions[signal].sa_handler = SIG_DFL;
         atomic_fetch_and(&handled, ~BIT(signal));
-        next_sigaction()(signal, &none, NULL);
+        if (signal != SIGSYS) next_sigaction()(signal, &none, NULL);
     }
     pthread_mutex_unlock(&lock);
     return action;
+}
+
+/* The program has no handler any more, or never had one of SIGSYS. */
+static void end_by(int signal) {
+    struct sigaction none = {.sa_handler = SIG_DFL};
+    if (signal == SIGSYS) {
+        keep_history();
+        next_sigaction()(signal, &none, NULL);
+    }
+    raise(signal);
 }
 
 /* Runs with all signals blocked, as each action asks for. The handler runs with the mask that the program asked for. */
@@ -137,7 +149,7 @@ static void run_handler(int signal, siginfo_t *info, ucontext_t *interrupted) {
     uint64_t mask = bits_of(&interrupted->uc_sigmask) | bits_of(&action.sa_mask);
     struct sleeper *in = this_thread.innermost;
     if (!is_function(&action)) {
-        if (action.sa_handler == SIG_DFL) raise(signal);
+        if (action.sa_handler == SIG_DFL) end_by(signal);
         return;
     }
     if (!(action.sa_flags & SA_NODEFER)) mask |= BIT(signal);
@@ -153,7 +165,7 @@ static void run_handler(int signal, siginfo_t *info, ucontext_t *interrupted) {
 }
 
 /* Faults can't wait: what follows them is wrong. */
-static void arrive(int signal, siginfo_t *info, void *context) {
+void arrive(int signal, siginfo_t *info, void *context) {
     bool is_fault = (FAULTS & BIT(signal)) && info->si_code > 0;
     int saved = errno;
     if (this_thread.quiet > 0 && !is_fault) {
@@ -167,8 +179,15 @@ static void arrive(int signal, siginfo_t *info, void *context) {
 
 /* ---- what the program asks for ---- */
 
-static struct sigaction real_action(const struct sigaction *asked) {
+static struct sigaction door_action(void) {
+    struct sigaction action = {.sa_sigaction = door_handler, .sa_flags = SA_SIGINFO | SA_ONSTACK | SA_RESTART};
+    sigfillset(&action.sa_mask);
+    return action;
+}
+
+static struct sigaction real_action(int signal, const struct sigaction *asked) {
     struct sigaction real = *asked;
+    if (signal == SIGSYS && door_handler) return door_action();
     if (!is_function(asked)) return real;
     real.sa_sigaction = arrive;
     real.sa_flags = (asked->sa_flags & ~(SA_NODEFER | (int)SA_RESETHAND)) | SA_SIGINFO;
@@ -193,15 +212,22 @@ int sigaction(int signal, const struct sigaction *given, struct sigaction *befor
     next_syscall(); /* is found now, and not in a handler */
     if (given) {
         asked = *given;
-        real = real_action(given);
+        real = real_action(signal, given);
     }
     pthread_mutex_lock(&lock);
     status = next_sigaction()(signal, given ? &real : NULL, &was);
-    if (status == 0 && was.sa_sigaction == arrive) was = actions[signal];
+    if (status == 0 && (was.sa_sigaction == arrive || (signal == SIGSYS && door_handler))) was = actions[signal];
     if (status == 0 && given) keep_action(signal, &asked);
     pthread_mutex_unlock(&lock);
     if (status == 0 && before) *before = was;
     return status;
+}
+
+void handle_door_signal(void (*handler)(int signal, siginfo_t *info, void *context)) {
+    struct sigaction door, was;
+    door_handler = handler;
+    door = door_action();
+    if (next_sigaction()(SIGSYS, &door, &was) == 0 && was.sa_handler == SIG_IGN) keep_action(SIGSYS, &was);
 }
 
 /* The handler before, or SIG_ERR. */

@@ -1,56 +1,20 @@
 /* What may not reach the real kernel: clocks that are set, files that get a made-up time, signals to everybody.
-   Simulated only; harm.out is what both streams have to say. A filter of the real kernel answers EXDEV to each of these
-   calls, so that none has an effect, whoever runs this and whatever the shim does. Without the filter nothing is
-   tried. */
+   Simulated only; harm.out is what both streams have to say. Without the filter of keep.h nothing is tried. */
+#include "keep.h"
 #include "trace.h"
 
 #include <fcntl.h>
-#include <linux/audit.h>
-#include <linux/filter.h>
 #include <linux/rtc.h>
-#include <linux/seccomp.h>
 #include <linux/sockios.h>
 #include <signal.h>
-#include <stddef.h>
 #include <stdlib.h>
 #include <sys/ioctl.h>
-#include <sys/prctl.h>
 #include <sys/stat.h>
 #include <sys/syscall.h>
 #include <sys/time.h>
 #include <sys/timex.h>
 #include <unistd.h>
 #include <utime.h>
-
-#define FIELD(name) (unsigned int)offsetof(struct seccomp_data, name)
-#define LOAD(name) BPF_STMT(BPF_LD | BPF_W | BPF_ABS, FIELD(name))
-#define REFUSED BPF_STMT(BPF_RET | BPF_K, SECCOMP_RET_ERRNO | EXDEV)
-#define ALLOWED BPF_STMT(BPF_RET | BPF_K, SECCOMP_RET_ALLOW)
-#define REFUSE(call) BPF_JUMP(BPF_JMP | BPF_JEQ | BPF_K, SYS_##call, 0, 1), REFUSED
-
-static int keep_from_harm(void) {
-    struct sock_filter filter[] = {
-        LOAD(nr),
-        REFUSE(clock_settime),
-        REFUSE(settimeofday),
-        REFUSE(adjtimex),
-        REFUSE(clock_adjtime),
-        /* kill and ioctl by what is asked of them */
-        BPF_JUMP(BPF_JMP | BPF_JEQ | BPF_K, SYS_kill, 0, 4),
-        LOAD(args[0]),
-        BPF_JUMP(BPF_JMP | BPF_JEQ | BPF_K, (unsigned int)-1, 1, 0),
-        BPF_JUMP(BPF_JMP | BPF_JEQ | BPF_K, 1, 0, 6),
-        REFUSED,
-        BPF_JUMP(BPF_JMP | BPF_JEQ | BPF_K, SYS_ioctl, 0, 4),
-        LOAD(args[1]),
-        BPF_JUMP(BPF_JMP | BPF_JEQ | BPF_K, (unsigned int)RTC_SET_TIME, 1, 0),
-        BPF_JUMP(BPF_JMP | BPF_JEQ | BPF_K, (unsigned int)RTC_ALM_SET, 0, 1),
-        REFUSED,
-        ALLOWED,
-    };
-    struct sock_fprog program = {sizeof filter / sizeof *filter, filter};
-    return prctl(PR_SET_NO_NEW_PRIVS, 1, 0, 0, 0) == 0 && prctl(PR_SET_SECCOMP, SECCOMP_MODE_FILTER, &program) == 0;
-}
 
 static void tell(const char *call, long result) {
     printf("%s: %ld\n", call, outcome(result));

@@ -1,0 +1,445 @@
+/* Other doors to the real kernel. What the shim refuses by name can be called past it: by an instruction of the
+ * program's own, or by a function that the program found through a handle of the C library. A filter of the real kernel
+ * (seccomp) stops what comes so. It judges by the number, the arguments and the address from which the call is made:
+ * - real_call, which is the shim itself, may call anything.
+ * - Calls of the program and its libraries are stopped. The real kernel sends SIGSYS, and the handler here answers as
+ *   the shim's function of that name does, with its line. But the C library has all signals blocked while it makes a
+ *   process, so that SIGSYS would end the program: there clone and clone3 are ENOSYS, without a line. After that answer
+ *   of clone3 it makes its threads by clone, which may make them.
+ * - Everybody else is a program that a process of this one were to run, for a filter stays over fork and exec. Its
+ *   libraries lie at other addresses, so it is left alone. Where the real kernel doesn't choose addresses at random,
+ *   that process has to ask for another layout before (personality(2), ADDR_COMPAT_LAYOUT); and a program that has
+ *   calls of its own at the same addresses as this one is stopped.
+ * - The machine's clocks are closed to all of them.
+ *
+ * A handler that is blocked can't answer, so no mask of the program's has SIGSYS in the real kernel. The program is told
+ * of its masks as it set them. */
+#include "preload.h"
+
+#include <elf.h>
+#include <link.h>
+#include <linux/audit.h>
+#include <linux/filter.h>
+#include <linux/rtc.h>
+#include <linux/seccomp.h>
+#include <linux/sockios.h>
+#include <sched.h>
+#include <stdlib.h>
+#include <sys/prctl.h>
+#include <sys/resource.h>
+#include <sys/socket.h>
+#include <sys/syscall.h>
+#include <ucontext.h>
+#if __has_include(<valgrind/valgrind.h>)
+#include <valgrind/valgrind.h>
+#else
+#define RUNNING_ON_VALGRIND 0
+#endif
+
+FORWARD(pthread_sigmask)
+
+/* ---- the shim's own calls ---- */
+
+/* behind_call is the address that the real kernel sees. */
+extern const char behind_call[];
+__asm__(".text\n"
+        ".hidden real_call, behind_call\n"
+        ".globl real_call, behind_call\n"
+        ".type real_call, @function\n"
+        "real_call:\n"
+        "    mov %rdi, %rax\n"
+        "    mov %rsi, %rdi\n"
+        "    mov %rdx, %rsi\n"
+        "    mov %rcx, %rdx\n"
+        "    mov %r8, %r10\n"
+        "    mov %r9, %r8\n"
+        "    mov 8(%rsp), %r9\n"
+        "    syscall\n"
+        "behind_call:\n"
+        "    ret\n"
+        ".size real_call, . - real_call\n");
+
+/* ---- making a filter ---- */
+
+/* What SIGSYS tells of this filter, and of no filter of the program's; and what it tells of all of them. */
+enum { MARK = 0x4e53, BY_FILTER = 1 };
+
+/* Where it goes on: at a place, or after so many instructions more. */
+enum place { KILL, IOCTL, FCNTL, CLONE, UNSHARE, PAIR, TIMER, LIMIT, LIMIT_OF, NEW_LIMIT, FOREIGN, FOREIGN_IOCTL, DOOR,
+             PROCESS, CLOCK, CALLER, INSIDE, ALLOW, ABSENT, PLACES };
+#define SKIP(count) (PLACES + (count))
+#define NEXT SKIP(0)
+
+enum { MOST_CODE = 255 };
+struct filter {
+    struct sock_filter code[MOST_CODE];
+    int then[MOST_CODE], otherwise[MOST_CODE]; /* of jumps */
+    int count, at[PLACES];
+};
+
+static void put(struct filter *filter, int code, uint32_t value, int then, int otherwise) {
+    if (filter->count == MOST_CODE) abort();
+    filter->code[filter->count] = (struct sock_filter){.code = (uint16_t)code, .k = value};
+    filter->then[filter->count] = then;
+    filter->otherwise[filter->count++] = otherwise;
+}
+
+static void load(struct filter *filter, size_t offset) {
+    put(filter, BPF_LD | BPF_W | BPF_ABS, (uint32_t)offset, NEXT, NEXT);
+}
+
+#define LOAD(name) load(filter, offsetof(struct seccomp_data, name))
+
+/* The lower half of an argument, which is all that the real kernel looks at if it takes an int. */
+static void load_argument(struct filter *filter, size_t number) {
+    load(filter, offsetof(struct seccomp_data, args) + sizeof(uint64_t) * number);
+}
+
+static void if_equal(struct filter *filter, uint32_t value, int then, int otherwise) {
+    put(filter, BPF_JMP | BPF_JEQ | BPF_K, value, then, otherwise);
+}
+
+static void if_least(struct filter *filter, uint32_t value, int then, int otherwise) {
+    put(filter, BPF_JMP | BPF_JGE | BPF_K, value, then, otherwise);
+}
+
+static void if_above(struct filter *filter, uint32_t value, int then, int otherwise) {
+    put(filter, BPF_JMP | BPF_JGT | BPF_K, value, then, otherwise);
+}
+
+static void if_has(struct filter *filter, uint32_t bits, int then, int otherwise) {
+    put(filter, BPF_JMP | BPF_JSET | BPF_K, bits, then, otherwise);
+}
+
+static void end_with(struct filter *filter, uint32_t value) { put(filter, BPF_RET | BPF_K, value, NEXT, NEXT); }
+
+static void begin_place(struct filter *filter, enum place place) { filter->at[place] = filter->count; }
+
+static uint8_t distance(const struct filter *filter, int from, int to) {
+    int count = to >= NEXT ? to - NEXT : filter->at[to] - from - 1;
+    if (count < 0 || count > UINT8_MAX) abort();
+    return (uint8_t)count;
+}
+
+/* All jumps lead forward. */
+static void join_places(struct filter *filter) {
+    for (int i = 0; i < filter->count; i++) {
+        if (BPF_CLASS(filter->code[i].code) != BPF_JMP) continue;
+        filter->code[i].jt = distance(filter, i, filter->then[i]);
+        filter->code[i].jf = distance(filter, i, filter->otherwise[i]);
+    }
+}
+
+/* ---- which calls ---- */
+
+static const struct {
+    int number;
+    enum place place;
+} judged[] = {
+    {SYS_ioctl, IOCTL},
+    {SYS_fcntl, FCNTL},
+    {SYS_kill, KILL},
+    {SYS_clone, CLONE},
+    {SYS_clone3, PROCESS},
+    {SYS_clock_settime, CLOCK},
+    {SYS_settimeofday, CLOCK},
+    {SYS_adjtimex, CLOCK},
+    {SYS_clock_adjtime, CLOCK},
+    {SYS_prlimit64, LIMIT_OF},
+    {SYS_setrlimit, LIMIT},
+    {SYS_socketpair, PAIR},
+    {SYS_unshare, UNSHARE},
+    {SYS_timer_create, TIMER},
+    {SYS_utime, DOOR},
+    {SYS_utimes, DOOR},
+    {SYS_futimesat, DOOR},
+    {SYS_utimensat, DOOR},
+    {SYS_pipe, DOOR},
+    {SYS_pipe2, DOOR},
+    {SYS_eventfd, DOOR},
+    {SYS_eventfd2, DOOR},
+    {SYS_timerfd_create, DOOR},
+    {SYS_epoll_create, DOOR},
+    {SYS_epoll_create1, DOOR},
+    {SYS_epoll_ctl, DOOR},
+    {SYS_epoll_wait, DOOR},
+    {SYS_epoll_pwait, DOOR},
+    {SYS_epoll_pwait2, DOOR},
+    {SYS_io_uring_setup, DOOR},
+    {SYS_fork, DOOR},
+    {SYS_vfork, DOOR},
+    {SYS_execve, DOOR},
+    {SYS_execveat, DOOR},
+};
+
+/* Programs of 32 bits have another table. These set a clock: stime, settimeofday, adjtimex, clock_settime,
+   clock_adjtime, and the last two with long times. Such a call from this program is none that the shim knows. */
+static const uint32_t foreign_clocks[] = {25, 79, 124, 264, 343, 404, 405};
+enum { FOREIGN_IOCTL_NUMBER = 54 };
+
+static void put_numbers(struct filter *filter) {
+    LOAD(arch);
+    if_equal(filter, AUDIT_ARCH_X86_64, NEXT, FOREIGN);
+    LOAD(nr);
+    if_least(filter, __X32_SYSCALL_BIT, ABSENT, NEXT);
+    for (size_t i = 0; i < sizeof judged / sizeof *judged; i++)
+        if_equal(filter, (uint32_t)judged[i].number, judged[i].place, NEXT);
+    end_with(filter, SECCOMP_RET_ALLOW);
+    begin_place(filter, FOREIGN);
+    LOAD(nr);
+    for (size_t i = 0; i < sizeof foreign_clocks / sizeof *foreign_clocks; i++)
+        if_equal(filter, foreign_clocks[i], CLOCK, NEXT);
+    if_equal(filter, FOREIGN_IOCTL_NUMBER, FOREIGN_IOCTL, DOOR);
+}
+
+static void put_clock_requests(struct filter *filter, enum place place, int otherwise) {
+    begin_place(filter, place);
+    load_argument(filter, 1);
+    if_equal(filter, (uint32_t)RTC_SET_TIME, CLOCK, NEXT);
+    if_equal(filter, (uint32_t)RTC_EPOCH_SET, CLOCK, NEXT);
+    if_equal(filter, (uint32_t)RTC_ALM_SET, CLOCK, NEXT);
+    if_equal(filter, (uint32_t)RTC_WKALM_SET, CLOCK, otherwise);
+}
+
+/* Those of which only some are stopped, by what is asked. Behind a pointer looks the handler. */
+static void put_requests(struct filter *filter) {
+    put_clock_requests(filter, FOREIGN_IOCTL, DOOR);
+    put_clock_requests(filter, IOCTL, NEXT);
+    if_equal(filter, FIOSETOWN, DOOR, NEXT);
+    if_equal(filter, SIOCSPGRP, DOOR, ALLOW);
+    begin_place(filter, FCNTL);
+    load_argument(filter, 1);
+    if_equal(filter, F_SETOWN, NEXT, ALLOW);
+    load_argument(filter, 2);
+    if_equal(filter, (uint32_t)-1, DOOR, ALLOW);
+    begin_place(filter, KILL);
+    load_argument(filter, 1);
+    if_equal(filter, 0, ALLOW, NEXT);
+    load_argument(filter, 0);
+    if_equal(filter, (uint32_t)-1, DOOR, NEXT);
+    if_equal(filter, 1, getpid() == 1 ? ALLOW : DOOR, ALLOW);
+    begin_place(filter, CLONE); /* what shares memory and descriptors is as a thread: sanitizers look for leaks so */
+    load_argument(filter, 0);
+    if_has(filter, CLONE_THREAD, ALLOW, NEXT);
+    if_has(filter, CLONE_VM, NEXT, PROCESS);
+    if_has(filter, CLONE_FILES, ALLOW, PROCESS);
+    begin_place(filter, UNSHARE);
+    load_argument(filter, 0);
+    if_has(filter, CLONE_FILES, DOOR, ALLOW);
+    begin_place(filter, PAIR);
+    load_argument(filter, 0);
+    if_equal(filter, AF_UNIX, DOOR, ALLOW);
+    begin_place(filter, TIMER); /* those that measure processors are real */
+    load_argument(filter, 0);
+    if_equal(filter, CLOCK_PROCESS_CPUTIME_ID, ALLOW, NEXT);
+    if_equal(filter, CLOCK_THREAD_CPUTIME_ID, ALLOW, NEXT);
+    if_has(filter, UINT32_C(1) << 31, ALLOW, DOOR);
+}
+
+/* The limit on descriptors keeps the real ones below the simulated ones: limits.c. To ask for it sets none. */
+static void put_limits(struct filter *filter) {
+    begin_place(filter, LIMIT);
+    load_argument(filter, 0);
+    if_equal(filter, RLIMIT_NOFILE, DOOR, ALLOW);
+    begin_place(filter, LIMIT_OF);
+    load_argument(filter, 1);
+    if_equal(filter, RLIMIT_NOFILE, NEXT, ALLOW);
+    load_argument(filter, 0);
+    if_equal(filter, 0, NEW_LIMIT, NEXT);
+    if_equal(filter, (uint32_t)getpid(), NEXT, ALLOW);
+    begin_place(filter, NEW_LIMIT);
+    load_argument(filter, 2);
+    if_equal(filter, 0, NEXT, DOOR);
+    load(filter, offsetof(struct seccomp_data, args) + sizeof(uint64_t) * 2 + sizeof(uint32_t));
+    if_equal(filter, 0, ALLOW, DOOR);
+}
+
+/* ---- whose calls ---- */
+
+struct range {
+    uint64_t first, last;
+};
+
+static uint32_t upper(uint64_t value) { return (uint32_t)(value >> 32); }
+
+static void load_caller(struct filter *filter, bool is_upper) {
+    load(filter, offsetof(struct seccomp_data, instruction_pointer) + (is_upper ? sizeof(uint32_t) : 0));
+}
+
+/* A range is a number of whole blocks of 4 GB, or lies within one. */
+static void put_range(struct filter *filter, struct range range) {
+    bool is_whole = (uint32_t)range.first == 0 && (uint32_t)range.last == UINT32_MAX;
+    load_caller(filter, true);
+    if (!is_whole) {
+        if_equal(filter, upper(range.first), NEXT, SKIP(3));
+        load_caller(filter, false);
+    }
+    if_least(filter, is_whole ? upper(range.first) : (uint32_t)range.first, NEXT, SKIP(1));
+    if_above(filter, is_whole ? upper(range.last) : (uint32_t)range.last, NEXT, INSIDE);
+}
+
+/* Where libraries lie: high up, or from a third of the addresses on, where the real kernel doesn't choose. Under
+   valgrind, whose own instructions make all calls, in neither. */
+static struct range where_libraries_lie(void) {
+    static const struct range high = {0x700000000000, 0x7fffffffffff}, low = {0x2aaa00000000, 0x5554ffffffff};
+    uint64_t here = (uint64_t)(uintptr_t)behind_call;
+    if (here >= high.first) return high;
+    return here >= low.first && here <= low.last ? low : (struct range){0, 0};
+}
+
+/* The instructions of the program itself, which dl_iterate_phdr tells first. */
+static int find_program(struct dl_phdr_info *info, size_t size, void *found) {
+    struct range *range = found;
+    (void)size;
+    for (int i = 0; i < info->dlpi_phnum; i++) {
+        const ElfW(Phdr) *part = &info->dlpi_phdr[i];
+        uint64_t first = info->dlpi_addr + part->p_vaddr, last = first + part->p_memsz;
+        if (part->p_type != PT_LOAD || !(part->p_flags & PF_X)) continue;
+        if (range->last == 0 || first < range->first) range->first = first;
+        if (last > range->last) range->last = last;
+    }
+    return 1;
+}
+
+static void put_program(struct filter *filter) {
+    struct range range = {0, 0};
+    dl_iterate_phdr(find_program, &range);
+    if (range.last == 0 || RUNNING_ON_VALGRIND) return;
+    if (upper(range.first) != upper(range.last)) {
+        put_range(filter, (struct range){range.first, range.first | UINT32_MAX});
+        range.first = range.last & ~(uint64_t)UINT32_MAX;
+    }
+    put_range(filter, range);
+}
+
+/* What is answered to a call of the program, and to one of others, is kept while the caller is looked at. */
+static void put_verdict(struct filter *filter, enum place place, uint32_t inside, uint32_t outside) {
+    begin_place(filter, place);
+    put(filter, BPF_LD | BPF_IMM, inside, NEXT, NEXT);
+    put(filter, BPF_ST, 0, NEXT, NEXT);
+    put(filter, BPF_LD | BPF_IMM, outside, NEXT, NEXT);
+    put(filter, BPF_ST, 1, NEXT, NEXT);
+    if_equal(filter, outside, CALLER, CALLER);
+}
+
+static void put_verdicts(struct filter *filter) {
+    uint64_t own = (uint64_t)(uintptr_t)behind_call;
+    struct range libraries = where_libraries_lie();
+    put_verdict(filter, DOOR, SECCOMP_RET_TRAP | MARK, SECCOMP_RET_ALLOW);
+    put_verdict(filter, PROCESS, SECCOMP_RET_ERRNO | ENOSYS, SECCOMP_RET_ALLOW);
+    put_verdict(filter, CLOCK, SECCOMP_RET_TRAP | MARK, SECCOMP_RET_ERRNO | EPERM);
+    begin_place(filter, CALLER);
+    load_caller(filter, true);
+    if_equal(filter, upper(own), NEXT, SKIP(2));
+    load_caller(filter, false);
+    if_equal(filter, (uint32_t)own, ALLOW, NEXT);
+    if (libraries.last > 0) put_range(filter, libraries);
+    put_program(filter);
+    put(filter, BPF_LD | BPF_MEM, 1, NEXT, NEXT);
+    put(filter, BPF_RET | BPF_A, 0, NEXT, NEXT);
+    begin_place(filter, INSIDE);
+    put(filter, BPF_LD | BPF_MEM, 0, NEXT, NEXT);
+    put(filter, BPF_RET | BPF_A, 0, NEXT, NEXT);
+    begin_place(filter, ALLOW);
+    end_with(filter, SECCOMP_RET_ALLOW);
+    begin_place(filter, ABSENT);
+    end_with(filter, SECCOMP_RET_ERRNO | ENOSYS);
+}
+
+/* For all threads, if there are more than one; without what slows down programs on older kernels, if it can be left
+   out. Whether it is set. */
+static bool set_filter(struct sock_fprog *program) {
+    static const long flags[] = {SECCOMP_FILTER_FLAG_TSYNC | SECCOMP_FILTER_FLAG_SPEC_ALLOW,
+                                 SECCOMP_FILTER_FLAG_SPEC_ALLOW, 0};
+    if (prctl(PR_SET_NO_NEW_PRIVS, 1, 0, 0, 0) != 0) return false;
+    for (size_t i = 0; i < sizeof flags / sizeof *flags && !RUNNING_ON_VALGRIND; i++)
+        if (real_call(SYS_seccomp, SECCOMP_SET_MODE_FILTER, flags[i], (long)program, 0, 0, 0) == 0) return true;
+    return prctl(PR_SET_SECCOMP, SECCOMP_MODE_FILTER, program) == 0;
+}
+
+/* ---- the answers ---- */
+
+/* What the shim's functions answer, and errno. */
+static long answer_call(unsigned int table, long number, const long given[6]) {
+    long result;
+    if (table != AUDIT_ARCH_X86_64)
+        return refuse(ENOSYS, "int $0x80 with %ld: calls of 32-bit programs are not simulated", number);
+    if (number == SYS_ioctl && !is_harmless_request((int)given[0], (unsigned long)given[1], (const void *)given[2]))
+        return -1;
+    if (number == SYS_ioctl)
+        return plain_answer(real_call(number, given[0], given[1], given[2], given[3], given[4], given[5]));
+    if (call_by_number(number, given, &result)) return result;
+    return refuse(ENOSYS, "syscall(%ld): this call by its number is not simulated", number);
+}
+
+static _Thread_local bool has_blocked, has_pending; /* SIGSYS, as the program knows it */
+
+/* A SIGSYS of the program's own. */
+static void pass_on(int signal, siginfo_t *info, void *context) {
+    if (has_blocked && info->si_code <= 0) {
+        has_pending = true;
+    } else {
+        arrive(signal, info, context);
+    }
+}
+
+static void answer_at_door(int signal, siginfo_t *info, void *context) {
+    greg_t *registers = ((ucontext_t *)context)->uc_mcontext.gregs;
+    long given[6] = {registers[REG_RDI], registers[REG_RSI], registers[REG_RDX],
+                     registers[REG_R10], registers[REG_R8],  registers[REG_R9]};
+    int saved = errno;
+    long result;
+    if (info->si_code != BY_FILTER || info->si_errno != MARK) {
+        pass_on(signal, info, context);
+        return;
+    }
+    result = answer_call(info->si_arch, info->si_syscall, given);
+    registers[REG_RAX] = result == -1 ? -errno : result;
+    errno = saved;
+}
+
+void shut_doors(void) {
+    struct filter *filter = calloc(1, sizeof *filter);
+    struct sock_fprog program;
+    if (!filter) return;
+    put_numbers(filter);
+    put_requests(filter);
+    put_limits(filter);
+    put_verdicts(filter);
+    join_places(filter);
+    program = (struct sock_fprog){(unsigned short)filter->count, filter->code};
+    handle_door_signal(answer_at_door);
+    if (!set_filter(&program))
+        say("no filter can be set (%s): what is called past the C library reaches the real kernel",
+            strerrordesc_np(errno));
+    free(filter);
+}
+
+/* ---- masks that SIGSYS is never in ---- */
+
+static void note_blocked(int how, const sigset_t *given) {
+    bool has = sigismember(given, SIGSYS) == 1;
+    if (how == SIG_SETMASK || has) has_blocked = has && how != SIG_UNBLOCK;
+    if (has_blocked || !has_pending) return;
+    has_pending = false;
+    raise(SIGSYS);
+}
+
+int pthread_sigmask(int how, const sigset_t *given, sigset_t *before) {
+    bool was_blocked = has_blocked;
+    sigset_t asked, real;
+    int error;
+    if (given) real = asked = *given;
+    if (given && how != SIG_UNBLOCK) sigdelset(&real, SIGSYS);
+    error = next_pthread_sigmask()(how, given ? &real : NULL, before);
+    if (error == 0 && before && was_blocked) sigaddset(before, SIGSYS);
+    if (error == 0 && given) note_blocked(how, &asked);
+    return error;
+}
+
+int sigprocmask(int how, const sigset_t *given, sigset_t *before) {
+    int error = pthread_sigmask(how, given, before);
+    if (error == 0) return 0;
+    errno = error;
+    return -1;
+}
