@@ -12,8 +12,8 @@
  *   calls of its own at the same addresses as this one is stopped.
  * - The machine's clocks are closed to all of them.
  *
- * A handler that is blocked can't answer, so no mask of the program's has SIGSYS in the real kernel. The program is told
- * of its masks as it set them. */
+ * A handler that is blocked can't answer, so no mask of the program's has SIGSYS in the real kernel. The program is
+ * told of its masks as it set them. */
 #include "preload.h"
 
 #include <elf.h>

@@ -5,8 +5,10 @@
 #include <pthread.h>
 #include <stdio.h>
 #include <stdlib.h>
+#include <sys/xattr.h>
 
 FORWARD(_exit)
+FORWARD(write)
 
 #define MOST_RECORDS 1000000000000
 
@@ -112,4 +114,17 @@ const struct settings *make_settings(void) {
     static pthread_once_t once = PTHREAD_ONCE_INIT;
     pthread_once(&once, read_all);
     return &values;
+}
+
+/* ---- for run ---- */
+
+/* NIPPERSAGE_LOOK names a program: this one only tells whether that one has file capabilities. */
+__attribute__((constructor(101))) static void look(void) {
+    static const char answer[] = "capabilities\n";
+    const char *path = variable("NIPPERSAGE_LOOK");
+    ssize_t told = 0;
+    if (!path) return;
+    if (getxattr(path, "security.capability", NULL, 0) > 0)
+        told = next_write()(STDOUT_FILENO, answer, sizeof answer - 1);
+    next__exit()(told < 0 ? STATUS_SETTING : 0);
 }
