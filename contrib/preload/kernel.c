@@ -124,7 +124,7 @@ int sleeping_instance(void) {
 }
 
 void keep_history(void) {
-    const char *path = variable("NIPPERSAGE_HISTORY");
+    const char *path = settings()->history;
     int fd, status;
     if (!path || !kernel) return;
     fd = open(path, O_WRONLY | O_CREAT | O_TRUNC | O_CLOEXEC, 0666);
@@ -140,7 +140,7 @@ static void write_history_once(void) {
 
 __attribute__((constructor)) static void begin(void) {
     QUIET;
-    const char *path = variable("NIPPERSAGE_LOG");
+    const char *path = settings()->log;
     is_logged = path && (unlink(path) == 0 || errno == ENOENT);
     if (path && !is_logged) say("the log can't be made anew at %s: %s", path, strerror(errno));
     at_quick_exit(write_history_once);

@@ -27,7 +27,7 @@ __attribute__((format(printf, 2, 3))) static void add(struct text *room, const c
 
 /* The file is opened for each line: a descriptor that stayed open could be closed by the program. */
 static void write_line(const char *line, size_t size) {
-    int fd = open(variable("NIPPERSAGE_LOG"), O_WRONLY | O_CREAT | O_APPEND | O_CLOEXEC, 0666);
+    int fd = open(settings()->log, O_WRONLY | O_CREAT | O_APPEND | O_CLOEXEC, 0666);
     if (fd < 0 || write(fd, line, size) != (ssize_t)size) {
         is_logged = false;
         say("the log can't be written: %s", strerror(errno));

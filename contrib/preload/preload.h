@@ -39,6 +39,7 @@ struct settings {
     uint64_t busy_waits;             /* NIPPERSAGE_BUSY_WAITS: so many take a millisecond; 0 is none */
     uint64_t patience;               /* NIPPERSAGE_PATIENCE, in milliseconds of real time */
     struct nippersage_limits limits; /* NIPPERSAGE_LIMITS */
+    const char *history, *log;       /* NIPPERSAGE_HISTORY and NIPPERSAGE_LOG, whole paths; NULL if they aren't set */
 };
 extern _Atomic(const struct settings *) read_settings;
 const struct settings *make_settings(void);

@@ -10,7 +10,9 @@
 #include <sys/ioctl.h>
 #include <sys/socket.h>
 #include <sys/syscall.h>
+#include <sys/sysinfo.h>
 #include <sys/time.h>
+#include <sys/times.h>
 #include <sys/uio.h>
 
 /* ---- calls on descriptors ---- */
@@ -205,6 +207,8 @@ static bool call_clock(long number, const long given[6], long *result) {
         *result = plain_answer(*result);
         return true;
     case SYS_time: *result = (long)time((time_t *)given[0]); return true;
+    case SYS_times: *result = (long)times((struct tms *)given[0]); return true;
+    case SYS_sysinfo: *result = sysinfo((struct sysinfo *)given[0]); return true;
     case SYS_alarm: *result = (long)alarm((unsigned int)given[0]); return true;
     case SYS_setitimer:
         *result = setitimer((__itimer_which_t)given[0], (const struct itimerval *)given[1], (struct itimerval *)until);

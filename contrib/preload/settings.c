@@ -2,6 +2,7 @@
    that the program may have replaced: a getenv or an allocator of its own. A bad value ends the program with a line. */
 #include "preload.h"
 
+#include <limits.h>
 #include <pthread.h>
 #include <stdio.h>
 #include <stdlib.h>
@@ -101,8 +102,27 @@ static void read_limits(void) {
     }
 }
 
+/* ---- files ---- */
+
+/* The path that a variable has, from the folder in which the program begins, for it may go to another one; or NULL. */
+static const char *begin_path(const char *name, char room[PATH_MAX]) {
+    const char *value = variable(name);
+    size_t size = 0;
+    if (!value) return NULL;
+    if (value[0] != '/' && getcwd(room, PATH_MAX - 1)) {
+        size = strlen(room);
+        room[size++] = '/';
+    }
+    if (size + strlen(value) >= PATH_MAX) end_for_setting(name, value, "its path is too long");
+    strcpy(room + size, value);
+    return room;
+}
+
 static void read_all(void) {
+    static char history[PATH_MAX], log[PATH_MAX];
     read_limits();
+    values.history = begin_path("NIPPERSAGE_HISTORY", history);
+    values.log = begin_path("NIPPERSAGE_LOG", log);
     values.first = (int)whole_number("NIPPERSAGE_REAL_DESCRIPTORS", 16, 1000000, (uint64_t)values.first);
     values.busy_waits = whole_number("NIPPERSAGE_BUSY_WAITS", 0, MOST_RECORDS, values.busy_waits);
     values.patience = whole_number("NIPPERSAGE_PATIENCE", 0, MOST_RECORDS, values.patience);
