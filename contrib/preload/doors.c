@@ -363,13 +363,13 @@ static bool set_filter(struct sock_fprog *program) {
 static long answer_call(unsigned int table, long number, const long given[6]) {
     long result;
     if (table != AUDIT_ARCH_X86_64)
-        return refuse(ENOSYS, "int $0x80 with %ld: calls of 32-bit programs are not simulated", number);
+        return refuse_number(number, "int $0x80 with %ld: calls of 32-bit programs are not simulated", number);
     if (number == SYS_ioctl && !is_harmless_request((int)given[0], (unsigned long)given[1], (const void *)given[2]))
         return -1;
     if (number == SYS_ioctl)
         return plain_answer(real_call(number, given[0], given[1], given[2], given[3], given[4], given[5]));
     if (call_by_number(number, given, &result)) return result;
-    return refuse(ENOSYS, "syscall(%ld): this call by its number is not simulated", number);
+    return refuse_number(number, "syscall(%ld): this call by its number is not simulated", number);
 }
 
 static _Thread_local bool has_blocked, has_pending; /* SIGSYS, as the program knows it */
@@ -387,13 +387,16 @@ static void answer_at_door(int signal, siginfo_t *info, void *context) {
     greg_t *registers = ((ucontext_t *)context)->uc_mcontext.gregs;
     long given[6] = {registers[REG_RDI], registers[REG_RSI], registers[REG_RDX],
                      registers[REG_R10], registers[REG_R8],  registers[REG_R9]};
+    uintptr_t place = place_at_door;
     int saved = errno;
     long result;
     if (info->si_code != BY_FILTER || info->si_errno != MARK) {
         pass_on(signal, info, context);
         return;
     }
+    place_at_door = (uintptr_t)registers[REG_RIP];
     result = answer_call(info->si_arch, info->si_syscall, given);
+    place_at_door = place;
     registers[REG_RAX] = result == -1 ? -errno : result;
     errno = saved;
 }

@@ -50,15 +50,6 @@ void say(const char *format, ...) {
     errno = saved;
 }
 
-int refuse(int error, const char *format, ...) {
-    va_list arguments;
-    va_start(arguments, format);
-    say_all(format, arguments);
-    va_end(arguments);
-    errno = error;
-    return -1;
-}
-
 /* Makes the kernel. Nothing here calls what the program may have replaced by a function that reads a clock or uses a
    descriptor, as its allocator: the memory is memory.c's. */
 static void start(void) {
@@ -135,7 +126,9 @@ void keep_history(void) {
 
 static void write_history_once(void) {
     static atomic_flag is_written = ATOMIC_FLAG_INIT;
-    if (!atomic_flag_test_and_set(&is_written)) keep_history();
+    if (atomic_flag_test_and_set(&is_written)) return;
+    tell_what_came_again();
+    keep_history();
 }
 
 __attribute__((constructor)) static void begin(void) {

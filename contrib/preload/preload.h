@@ -85,12 +85,22 @@ void *next_of(const char *name);
     }
 /* One line on standard error. */
 void say(const char *format, ...) __attribute__((format(printf, 1, 2)));
-/* The same, and -1 with this errno. */
-int refuse(int error, const char *format, ...) __attribute__((format(printf, 2, 3)));
 /* Writes the history as it is. */
 void keep_history(void);
 /* The instance in which nothing is ever registered: who waits there sleeps. */
 int sleeping_instance(void);
+
+/* ---- lines.c: what is refused ---- */
+
+/* -1 with this errno, and one line on standard error, unless the same call was refused at the same place before. Its
+   format says which call it is, and the name at its beginning. */
+int refuse(int error, const char *format, ...) __attribute__((format(printf, 2, 3)));
+/* The same with ENOSYS for a call of the real kernel by its number, which says which one it is. */
+int refuse_number(long number, const char *format, ...) __attribute__((format(printf, 2, 3)));
+/* From where a call came that doors.c answers, meanwhile; else 0. */
+extern _Thread_local uintptr_t place_at_door;
+/* How often more each of them came, at the end. */
+void tell_what_came_again(void);
 
 /* ---- signals.c: handlers of signals, and when they run ---- */
 

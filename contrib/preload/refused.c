@@ -277,7 +277,7 @@ bool call_by_number(long number, const long given[6], long *result) {
     if (number == SYS_io_uring_setup) {
         *result = refuse(ENOSYS, "io_uring is not simulated");
     } else if (has_no_double(number)) {
-        *result = refuse(ENOSYS, "syscall(%ld): this call by its number is not simulated", number);
+        *result = refuse_number(number, "syscall(%ld): this call by its number is not simulated", number);
     } else {
         return call_double(number, given, result);
     }

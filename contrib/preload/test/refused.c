@@ -71,12 +71,29 @@ static void processes(void) {
     tell("by number", syscall(SYS_epoll_create1, 0));
 }
 
+__attribute__((noinline)) static long by_number(long number) { return syscall(number, 0, 0); }
+
+/* A line comes once for each call and place, whatever its arguments, and a count at the end. */
+static void again(void) {
+    int result = 0;
+    for (int i = 0; i < 1000; i++) result = fork();
+    tell("a thousand at one place", result);
+    tell("and at another one", fork());
+    for (int i = 0; i < 3; i++) result = pread(517 + i % 2, &result, 1, 0);
+    tell("of different numbers", result);
+    by_number(SYS_epoll_create1);
+    by_number(SYS_pipe2);
+    result = (int)by_number(SYS_epoll_create1);
+    tell("of different calls", result);
+}
+
 int main(void) {
     struct epoll_event event;
     descriptors();
     sockets();
     timers();
     processes();
+    again();
     tell("no end", epoll_wait(epoll_create1(0), &event, 1, -1));
     return 0;
 }
