@@ -1,6 +1,6 @@
 /* Other doors to the real kernel. What the shim refuses by name can be called past it: by an instruction of the
- * program's own, or by a function that the program found through a handle of the C library. A filter of the real kernel
- * (seccomp) stops what comes so. It judges by the number, the arguments and the address from which the call is made:
+ * program's own, or by a library that RTLD_DEEPBIND binds to the C library. A filter of the real kernel (seccomp) stops
+ * what comes so. It judges by the number, the arguments and the address from which the call is made:
  * - real_call, which is the shim itself, may call anything.
  * - Calls of the program and its libraries are stopped. The real kernel sends SIGSYS, and the handler here answers as
  *   the shim's function of that name does, with its line. But the C library has all signals blocked while it makes a

@@ -23,7 +23,7 @@ static int sleeping;
 void *next_of(const char *name) {
     /* The C library keeps an older pthread_cond_timedwait, too, which dlsym may find. */
     void *found = strncmp(name, "pthread_cond", 12) == 0 ? dlvsym(RTLD_NEXT, name, "GLIBC_2.3.2") : NULL;
-    if (!found) found = dlsym(RTLD_NEXT, name);
+    if (!found) found = real_dlsym()(RTLD_NEXT, name);
     if (!found) {
         fprintf(stderr, "nippersage: the C library has no %s\n", name);
         abort();

@@ -326,6 +326,11 @@ void shut_doors(void);
 /* A call of the real kernel that no filter of the shim's stops: its answer, or minus an error number. */
 long real_call(long number, long first, long second, long third, long fourth, long fifth, long sixth);
 
+/* ---- handles.c ---- */
+
+/* The C library's dlsym. */
+void *(*real_dlsym(void))(void *handle, const char *name);
+
 /* ---- threads.c ---- */
 
 /* Whether a thread sleeps in the real kernel; one that has ended does. */

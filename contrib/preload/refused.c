@@ -100,53 +100,60 @@ int unshare(int flags) {
     return refuse(EINVAL, "unshare(CLONE_FILES) is not simulated: the simulated descriptors can't be copied");
 }
 
-static int refuse_program(const char *path) {
-    return refuse(ENOSYS, "%s can't be run: another program can't share a simulated kernel", path);
+static int refuse_program(const char *call, const char *path) {
+    return refuse(ENOSYS, "%s(%s) is not simulated: another program can't share a simulated kernel", call, path);
 }
 
 int execve(const char *path, char *const words[], char *const environment[]) {
     (void)words, (void)environment;
-    return refuse_program(path);
+    return refuse_program("execve", path);
 }
 
-int execv(const char *path, char *const words[]) { return execve(path, words, NULL); }
+int execv(const char *path, char *const words[]) {
+    (void)words;
+    return refuse_program("execv", path);
+}
 
-int execvp(const char *path, char *const words[]) { return execve(path, words, NULL); }
+int execvp(const char *path, char *const words[]) {
+    (void)words;
+    return refuse_program("execvp", path);
+}
 
 int execvpe(const char *path, char *const words[], char *const environment[]) {
-    return execve(path, words, environment);
+    (void)words, (void)environment;
+    return refuse_program("execvpe", path);
 }
 
 int execl(const char *path, const char *word, ...) {
     (void)word;
-    return refuse_program(path);
+    return refuse_program("execl", path);
 }
 
 int execlp(const char *path, const char *word, ...) {
     (void)word;
-    return refuse_program(path);
+    return refuse_program("execlp", path);
 }
 
 int execle(const char *path, const char *word, ...) {
     (void)word;
-    return refuse_program(path);
+    return refuse_program("execle", path);
 }
 
 int fexecve(int fd, char *const words[], char *const environment[]) {
     (void)fd, (void)environment;
-    return refuse_program(words[0]);
+    return refuse_program("fexecve", words[0]);
 }
 
 int execveat(int folder, const char *path, char *const words[], char *const environment[], int flags) {
     (void)folder, (void)words, (void)environment, (void)flags;
-    return refuse_program(path);
+    return refuse_program("execveat", path);
 }
 
 int posix_spawn(pid_t *restrict made, const char *restrict path, const posix_spawn_file_actions_t *restrict actions,
                 const posix_spawnattr_t *restrict attributes, char *const words[restrict],
                 char *const environment[restrict]) {
     (void)made, (void)actions, (void)attributes, (void)words, (void)environment;
-    refuse_program(path);
+    refuse_program("posix_spawn", path);
     return ENOSYS;
 }
 
@@ -181,11 +188,11 @@ SPAWN_ACTION(posix_spawn_file_actions_addclosefrom_np, (posix_spawn_file_actions
 SPAWN_ACTION(posix_spawn_file_actions_addtcsetpgrp_np, (posix_spawn_file_actions_t *actions, int fd),
              is_simulated_action(fd), (actions, fd))
 
-int system(const char *command) { return command ? refuse_program(command) : 0; }
+int system(const char *command) { return command ? refuse_program("system", command) : 0; }
 
 FILE *popen(const char *command, const char *mode) {
     (void)mode;
-    refuse_program(command);
+    refuse_program("popen", command);
     return NULL;
 }
 

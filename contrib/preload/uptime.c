@@ -1,5 +1,5 @@
-/* How long the machine has been up, and the time of day, as older functions tell them: by the simulated clock. What they
-   tell of processors and of memory is real. */
+/* How long the machine has been up, and the time of day, as older functions tell them: by the simulated clock. What
+   they tell of processors and of memory is real. */
 #include "preload.h"
 
 #include <sys/sysinfo.h>

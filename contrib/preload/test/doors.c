@@ -109,7 +109,7 @@ static void what_passes(void) {
     close(file);
 }
 
-/* ---- by a handle of the C library, and by a library that binds to it ---- */
+/* ---- by a handle of the C library, which finds the shim's, and by a library that binds to the C library ---- */
 
 /* What a call answers, or minus the error number. */
 #define BY(find, type, name, arguments) outcome((long)((type)find(#name)) arguments)
