@@ -278,13 +278,14 @@ static void put_range(struct filter *filter, struct range range) {
     if_above(filter, is_whole ? upper(range.last) : (uint32_t)range.last, NEXT, INSIDE);
 }
 
-/* Where libraries lie: high up, or from a third of the addresses on, where the real kernel doesn't choose. Under
-   valgrind, whose own instructions make all calls, in neither. */
+/* Where libraries lie: around this one, for the real kernel maps them one beside the other, with a sixteenth of all
+   addresses or more to the program and to its stack, whatever its layout. Under valgrind, whose own instructions make
+   all calls, they lie low, and this is no place. */
 static struct range where_libraries_lie(void) {
-    static const struct range high = {0x700000000000, 0x7fffffffffff}, low = {0x2aaa00000000, 0x5554ffffffff};
-    uint64_t here = (uint64_t)(uintptr_t)behind_call;
-    if (here >= high.first) return high;
-    return here >= low.first && here <= low.last ? low : (struct range){0, 0};
+    static const uint64_t around = 0x100000000000, top = 0x7fffffffffff;
+    uint64_t block = (uint64_t)(uintptr_t)behind_call & ~(uint64_t)UINT32_MAX;
+    if (block < around) return (struct range){0, 0};
+    return (struct range){block - around, block + around < top ? block + around + UINT32_MAX : top};
 }
 
 /* The instructions of the program itself, which dl_iterate_phdr tells first. */
