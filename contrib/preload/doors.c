@@ -6,10 +6,9 @@
  *   the shim's function of that name does, with its line. But the C library has all signals blocked while it makes a
  *   process, so that SIGSYS would end the program: there clone and clone3 are ENOSYS, without a line. After that answer
  *   of clone3 it makes its threads by clone, which may make them.
- * - Everybody else is a program that a process of this one were to run, for a filter stays over fork and exec. Its
- *   libraries lie at other addresses, so it is left alone. Where the real kernel doesn't choose addresses at random,
- *   that process has to ask for another layout before (personality(2), ADDR_COMPAT_LAYOUT); and a program that has
- *   calls of its own at the same addresses as this one is stopped.
+ * - Everybody else is left alone. A filter stays over fork and exec, so this is for a program that a process of this
+ *   one were to run: if it asks for another layout before (personality(2), ADDR_COMPAT_LAYOUT), its libraries lie
+ *   outside of what is judged here. But one that has calls of its own at the addresses of this program is stopped.
  * - The machine's clocks are closed to all of them.
  *
  * A handler that is blocked can't answer, so no mask of the program's has SIGSYS in the real kernel. The program is
