@@ -193,8 +193,8 @@ static void *call_in_thread(void *nothing) {
 static void needs(void) {
     struct addrinfo *found = NULL;
     pthread_t thread;
-    tell("thread", pthread_create(&thread, NULL, call_in_thread, NULL));
-    pthread_join(thread, NULL);
+    pthread_create(&thread, NULL, call_in_thread, NULL);
+    tell("thread", pthread_join(thread, NULL));
     tell("getaddrinfo", getaddrinfo("127.0.0.1", "80", NULL, &found));
     if (found) freeaddrinfo(found);
     syslog(LOG_DEBUG, "a test of nippersage");
