@@ -91,11 +91,16 @@ struct message {
     char *bytes;
     size_t count;
     unsigned int *priority;
+    unsigned long breaks; /* the thread's when it began */
     ssize_t got;
 };
 
+/* A handler may have run between two sleeps of the wait, which would have broken it on Linux. */
+static bool is_broken(const struct message *message) { return this_thread.breaks != message->breaks; }
+
 static int receive(void *given, const struct timespec *until) {
     struct message *message = given;
+    if (is_broken(message)) return EINTR;
     message->got =
         next_mq_timedreceive()(message->queue, message->bytes, message->count, message->priority, until);
     return message->got < 0 ? errno : 0;
@@ -103,6 +108,7 @@ static int receive(void *given, const struct timespec *until) {
 
 static int post(void *given, const struct timespec *until) {
     struct message *message = given;
+    if (is_broken(message)) return EINTR;
     message->got = next_mq_timedsend()(message->queue, message->bytes, message->count, *message->priority, until);
     return message->got < 0 ? errno : 0;
 }
@@ -118,7 +124,7 @@ static ssize_t answer_to(const struct message *message, int error) {
 
 ssize_t mq_timedreceive(mqd_t queue, char *restrict bytes, size_t count, unsigned int *restrict priority,
                         const struct timespec *restrict time) {
-    struct message message = {queue, bytes, count, priority, -1};
+    struct message message = {queue, bytes, count, priority, this_thread.breaks, -1};
     struct timespec day;
     if (!has_time(time)) return next_mq_timedreceive()(queue, bytes, count, priority, time);
     day = day_of(CLOCK_REALTIME, time);
@@ -126,7 +132,7 @@ ssize_t mq_timedreceive(mqd_t queue, char *restrict bytes, size_t count, unsigne
 }
 
 int mq_timedsend(mqd_t queue, const char *bytes, size_t count, unsigned int priority, const struct timespec *time) {
-    struct message message = {queue, (char *)(uintptr_t)bytes, count, &priority, -1};
+    struct message message = {queue, (char *)(uintptr_t)bytes, count, &priority, this_thread.breaks, -1};
     struct timespec day;
     if (!has_time(time)) return next_mq_timedsend()(queue, bytes, count, priority, time);
     day = day_of(CLOCK_REALTIME, time);

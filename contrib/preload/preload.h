@@ -116,6 +116,7 @@ struct thread_state {
     uint64_t mask;             /* of the real kernel's signals */
     struct sleeper *innermost; /* the wait in which a handler would run now, or NULL */
     unsigned long handlers;    /* so many have been run */
+    unsigned long breaks;      /* so many of these without SA_RESTART */
     int depth;                 /* in so many waits of this thread handlers may run, or do */
     uint32_t callers[MOST_DEPTH];
 };

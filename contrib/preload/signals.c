@@ -154,6 +154,7 @@ static void run_handler(int signal, siginfo_t *info, ucontext_t *interrupted) {
     }
     if (!(action.sa_flags & SA_NODEFER)) mask |= BIT(signal);
     this_thread.handlers++;
+    if (!(action.sa_flags & SA_RESTART)) this_thread.breaks++;
     if (in) begin_handler_in(in, action.sa_flags & SA_RESTART);
     set_mask(mask);
     if (action.sa_flags & SA_SIGINFO) {

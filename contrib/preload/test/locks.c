@@ -4,8 +4,10 @@
 
 #include <fcntl.h>
 #include <mqueue.h>
+#include <signal.h>
 #include <stdlib.h>
 #include <sys/stat.h>
+#include <sys/time.h>
 #include <threads.h>
 #include <unistd.h>
 
@@ -112,6 +114,20 @@ static void *receive_later(void *queue) {
     return (void *)(long)mq_receive(*(mqd_t *)queue, bytes, sizeof bytes, NULL);
 }
 
+static void on_alarm(int signal) { (void)signal; }
+
+/* A handler ends the wait of a queue, unless it is to go on after it. */
+static void broken(mqd_t queue, int flags) {
+    struct sigaction action = {.sa_handler = on_alarm, .sa_flags = flags};
+    struct itimerval soon = {{0, 0}, {0, 100000}};
+    struct timespec time = after(CLOCK_REALTIME, 200);
+    char bytes[16];
+    sigaction(SIGALRM, &action, NULL);
+    setitimer(ITIMER_REAL, &soon, NULL);
+    begin();
+    tell("with an alarm", outcome(mq_timedreceive(queue, bytes, sizeof bytes, NULL, &time)));
+}
+
 static void queues(void) {
     struct mq_attr like = {.mq_maxmsg = 1, .mq_msgsize = 16};
     char name[64], bytes[16];
@@ -127,6 +143,8 @@ static void queues(void) {
     time = after(CLOCK_REALTIME, 100);
     tell("timedreceive", outcome(mq_timedreceive(queue, bytes, sizeof bytes, &priority, &time)));
     tell("in the past", outcome(mq_timedreceive(queue, bytes, sizeof bytes, &priority, &time)));
+    broken(queue, 0);
+    broken(queue, SA_RESTART);
     pthread_create(&thread, NULL, send_later, &queue);
     begin();
     time = after(CLOCK_REALTIME, 100000);
