@@ -1,7 +1,7 @@
-/* dlsym. A function that a program finds by a handle of the C library, as ctypes.CDLL("libc.so.6") of Python does, is
-   the shim's, if the shim stands in for it. So it does what it does by name.
+/* dlsym and dlopen. A function that a program finds by a handle of the C library, as ctypes.CDLL("libc.so.6") of Python
+   does, is the shim's, if the shim stands in for it. So it does what it does by name.
 
-   RTLD_NEXT and RTLD_DEFAULT depend on who asks, and so the C library's dlsym looks at the address that it returns to:
+   RTLD_NEXT, RTLD_DEFAULT and dlopen depend on who asks, and so the C library looks at the address that it returns to:
    for these the shim jumps there, and is not to be seen. */
 #include "preload.h"
 
@@ -11,32 +11,55 @@
 
 typedef void *(*finder)(void *handle, const char *name);
 
-/* What dlsym is in the C library. It has always had this version on x86-64. */
-finder real_dlsym(void) {
-    static _Atomic(finder) found;
-    if (!found) found = (finder)dlvsym(RTLD_NEXT, "dlsym", "GLIBC_2.2.5");
+/* A function of the C library that looks at who calls it. It has always had this version on x86-64. */
+static void *find_old(const char *name) {
+    void *found = dlvsym(RTLD_NEXT, name, "GLIBC_2.2.5");
     if (!found) abort();
     return found;
 }
 
+finder real_dlsym(void) {
+    static _Atomic(finder) found;
+    if (!found) found = (finder)find_old("dlsym");
+    return found;
+}
+
+/* Where dlopen goes on, after a word of a library that is bound past the shim. */
+void *begin_dlopen(const char *path, int flags);
+void *begin_dlopen(const char *path, int flags) {
+    static void *_Atomic found;
+    if (!found) found = find_old("dlopen");
+    if (flags & RTLD_DEEPBIND)
+        refuse(errno, "dlopen(%s) with RTLD_DEEPBIND: its calls are the C library's, and not simulated", path);
+    return found;
+}
+
+/* A jump to what `found` answers, with the arguments that there were. */
+#define JUMP_BY(found)           \
+    "    push %rdi\n"            \
+    "    push %rsi\n"            \
+    "    sub $8, %rsp\n"         \
+    "    call " found "\n"       \
+    "    add $8, %rsp\n"         \
+    "    pop %rsi\n"             \
+    "    pop %rdi\n"             \
+    "    jmp *%rax\n"
+
 void *find_by_handle(void *handle, const char *name);
 __asm__(".text\n"
-        ".hidden find_by_handle, real_dlsym\n"
-        ".globl dlsym\n"
+        ".hidden find_by_handle, real_dlsym, begin_dlopen\n"
+        ".globl dlsym, dlopen\n"
         ".type dlsym, @function\n"
+        ".type dlopen, @function\n"
         "dlsym:\n"
         "    lea 1(%rdi), %rax\n" /* 0 for RTLD_NEXT, 1 for RTLD_DEFAULT */
         "    cmp $1, %rax\n"
         "    ja find_by_handle\n"
-        "    push %rdi\n"
-        "    push %rsi\n"
-        "    sub $8, %rsp\n"
-        "    call real_dlsym\n"
-        "    add $8, %rsp\n"
-        "    pop %rsi\n"
-        "    pop %rdi\n"
-        "    jmp *%rax\n"
-        ".size dlsym, . - dlsym\n");
+        JUMP_BY("real_dlsym")
+        ".size dlsym, . - dlsym\n"
+        "dlopen:\n"
+        JUMP_BY("begin_dlopen")
+        ".size dlopen, . - dlopen\n");
 
 /* Where the object lies that has an address, or NULL. */
 static const void *object_of(const void *address, Dl_info *info) {
