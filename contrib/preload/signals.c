@@ -183,6 +183,8 @@ void arrive(int signal, siginfo_t *info, void *context) {
 static struct sigaction door_action(void) {
     struct sigaction action = {.sa_sigaction = door_handler, .sa_flags = SA_SIGINFO | SA_ONSTACK | SA_RESTART};
     sigfillset(&action.sa_mask);
+    sigdelset(&action.sa_mask, SIGSEGV); /* it looks at what stands behind pointers */
+    sigdelset(&action.sa_mask, SIGBUS);
     return action;
 }
 
