@@ -319,7 +319,7 @@ static void put_verdict(struct filter *filter, enum place place, uint32_t inside
     put(filter, BPF_ST, 0, NEXT, NEXT);
     put(filter, BPF_LD | BPF_IMM, outside, NEXT, NEXT);
     put(filter, BPF_ST, 1, NEXT, NEXT);
-    if_equal(filter, outside, CALLER, CALLER);
+    if_equal(filter, outside, CALLER, CALLER); /* in any case */
 }
 
 static void put_verdicts(struct filter *filter) {
