@@ -64,8 +64,8 @@ __asm__(".text\n"
 enum { MARK = 0x4e53, BY_FILTER = 1 };
 
 /* Where it goes on: at a place, or after so many instructions more. */
-enum place { KILL, IOCTL, FCNTL, CLONE, UNSHARE, PAIR, TIMER, LIMIT, LIMIT_OF, NEW_LIMIT, FOREIGN, FOREIGN_IOCTL, DOOR,
-             PROCESS, CLOCK, CALLER, INSIDE, ALLOW, ABSENT, PLACES };
+enum target { KILL, IOCTL, FCNTL, CLONE, UNSHARE, PAIR, TIMER, LIMIT, LIMIT_OF, NEW_LIMIT, FOREIGN, FOREIGN_IOCTL, DOOR,
+              PROCESS, CLOCK, CALLER, INSIDE, ALLOW, ABSENT, PLACES };
 #define SKIP(count) (PLACES + (count))
 #define NEXT SKIP(0)
 
@@ -112,7 +112,7 @@ static void if_has(struct filter *filter, uint32_t bits, int then, int otherwise
 
 static void end_with(struct filter *filter, uint32_t value) { put(filter, BPF_RET | BPF_K, value, NEXT, NEXT); }
 
-static void begin_place(struct filter *filter, enum place place) { filter->at[place] = filter->count; }
+static void begin_place(struct filter *filter, enum target place) { filter->at[place] = filter->count; }
 
 static uint8_t distance(const struct filter *filter, int from, int to) {
     int count = to >= NEXT ? to - NEXT : filter->at[to] - from - 1;
@@ -133,7 +133,7 @@ static void join_places(struct filter *filter) {
 
 static const struct {
     int number;
-    enum place place;
+    enum target place;
 } judged[] = {
     {SYS_ioctl, IOCTL},
     {SYS_fcntl, FCNTL},
@@ -191,7 +191,7 @@ static void put_numbers(struct filter *filter) {
     if_equal(filter, FOREIGN_IOCTL_NUMBER, FOREIGN_IOCTL, DOOR);
 }
 
-static void put_clock_requests(struct filter *filter, enum place place, int otherwise) {
+static void put_clock_requests(struct filter *filter, enum target place, int otherwise) {
     begin_place(filter, place);
     load_argument(filter, 1);
     if_equal(filter, (uint32_t)RTC_SET_TIME, CLOCK, NEXT);
@@ -313,7 +313,7 @@ static void put_program(struct filter *filter) {
 }
 
 /* What is answered to a call of the program, and to one of others, is kept while the caller is looked at. */
-static void put_verdict(struct filter *filter, enum place place, uint32_t inside, uint32_t outside) {
+static void put_verdict(struct filter *filter, enum target place, uint32_t inside, uint32_t outside) {
     begin_place(filter, place);
     put(filter, BPF_LD | BPF_IMM, inside, NEXT, NEXT);
     put(filter, BPF_ST, 0, NEXT, NEXT);
