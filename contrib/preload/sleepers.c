@@ -24,7 +24,6 @@ struct sleeper {
     uint32_t caller;
     int result;           /* NIPPERSAGE_PARKED until its answer is there */
     int handlers;         /* so many handlers run in it */
-    bool is_broken;       /* a handler ran after which it is to end */
     bool is_rung;         /* it left the kernel because a bell rang: see leave */
     bool is_asleep;       /* it is counted among those that sleep */
     long thread;          /* the real kernel's number */
@@ -169,6 +168,7 @@ static void leave(struct sleeper *me) {
             if (result != NIPPERSAGE_PARKED) answer(s, result);
         }
     if (me->is_rung) {
+        me->is_rung = false; /* it stays in the list while its handler runs, and isn't parked again */
         answer(me, -EINTR);
     } else if (me->result == NIPPERSAGE_PARKED) {
         give_up_caller(me);
@@ -179,10 +179,19 @@ static void leave(struct sleeper *me) {
 
 void disturb(struct sleeper *s) { atomic_fetch_add(&s->word, 1); }
 
+/* A wait that the handler breaks ends before the handler runs, as on Linux: what the handler makes ready is no answer to
+   it. What was ready before is one. */
 void begin_handler_in(struct sleeper *s, bool restarts) {
+    int depth = this_thread.depth;
+    QUIET;
     pthread_mutex_lock(&lock);
-    if (s->handlers++ == 0 && !(restarts && s->wait->restarts)) s->is_broken = true;
     count_asleep(s, false);
+    if (s->handlers++ == 0 && !(restarts && s->wait->restarts)) {
+        deliver_all();
+        this_thread.depth = s->depth;
+        if (s->result == NIPPERSAGE_PARKED) leave(s);
+        this_thread.depth = depth;
+    }
     pthread_mutex_unlock(&lock);
 }
 
@@ -282,9 +291,7 @@ static void sleep_until_answered(struct sleeper *me) {
         deliver_all();
         count_asleep(me, false);
         if (me->result != NIPPERSAGE_PARKED) return;
-        if (me->is_broken) {
-            leave(me);
-        } else if (this_thread.is_held_back) {
+        if (this_thread.is_held_back) {
             sleep_once(me, NULL, false);
         } else {
             count_asleep(me, true);
