@@ -5,6 +5,7 @@
 #include "preload.h"
 
 #include <dirent.h>
+#include <limits.h>
 #include <linux/futex.h>
 #include <pthread.h>
 #include <semaphore.h>
@@ -116,11 +117,23 @@ static bool find_moment(uint64_t *moment) {
     return has_one;
 }
 
-/* Wakes those whose end has come. Others that wait for the same wake, too, as they may at any time. */
+/* A sleep of the C library at any word of a condition variable looks again whether it is over, and sleeps on if not. */
+static void stir(const pthread_cond_t *changed) {
+    const uint32_t *words = (const uint32_t *)(const void *)changed;
+    for (size_t i = 0; i < sizeof *changed / sizeof *words; i++) {
+        next_syscall()(SYS_futex, &words[i], FUTEX_WAKE | FUTEX_PRIVATE_FLAG, INT_MAX, NULL, NULL, 0);
+        next_syscall()(SYS_futex, &words[i], FUTEX_WAKE, INT_MAX, NULL, NULL, 0);
+    }
+}
+
+/* Ends those whose end has come, and no other wait for the same: the end of its sleep has passed now. */
 static void wake_timed(uint64_t moment) {
     pthread_mutex_lock(&timed_lock);
-    for (const struct timed *timed = all_timed; timed; timed = timed->next)
-        if (timed->changed && (uint64_t)timed->end <= moment) pthread_cond_broadcast(timed->changed);
+    for (struct timed *timed = all_timed; timed; timed = timed->next)
+        if (timed->changed && (uint64_t)timed->end <= moment) {
+            timed->until = (struct timespec){0, 0};
+            stir(timed->changed);
+        }
     pthread_mutex_unlock(&timed_lock);
 }
 
