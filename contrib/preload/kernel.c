@@ -122,7 +122,10 @@ int sleeping_instance(void) {
     return sleeping;
 }
 
-void keep_history(void) {
+/* Held while the history is written, so that a program that ends twice leaves a whole one. */
+static pthread_mutex_t writing = PTHREAD_MUTEX_INITIALIZER;
+
+static void write_history(void) {
     const char *path = variable("NIPPERSAGE_HISTORY");
     int fd, status;
     if (!path || !kernel) return;
@@ -132,9 +135,20 @@ void keep_history(void) {
     if (status < 0) say("the history can't be written to %s: %s", path, strerror(-status));
 }
 
-static void write_history_once(void) {
-    static atomic_flag is_written = ATOMIC_FLAG_INIT;
-    if (!atomic_flag_test_and_set(&is_written)) keep_history();
+void keep_history(void) {
+    QUIET;
+    pthread_mutex_lock(&writing);
+    write_history();
+    pthread_mutex_unlock(&writing);
+}
+
+void write_history_once(void) {
+    static bool is_written;
+    QUIET;
+    pthread_mutex_lock(&writing);
+    if (!is_written) write_history();
+    is_written = true;
+    pthread_mutex_unlock(&writing);
 }
 
 __attribute__((constructor)) static void begin(void) {
@@ -145,6 +159,7 @@ __attribute__((constructor)) static void begin(void) {
     at_quick_exit(write_history_once);
     this_thread.is_counted = true;
     self();
+    keep_signals();
 }
 
 __attribute__((destructor)) static void end(void) { write_history_once(); }

@@ -31,6 +31,28 @@ enum { UNIT = 1000, MILLISECOND = 1000000 / UNIT, SECOND = 1000000000 / UNIT };
 /* With what status the shim ends a program: for a setting, for threads that wait for ever, for too many records. */
 enum { STATUS_SETTING = 2, STATUS_ENDLESS = 70, STATUS_FULL = 71 };
 
+/* ---- pointers.c: what a program's pointers lead to ---- */
+
+/* Whether each page of these bytes can be touched, from the first byte to the last: see can_read and can_write. */
+bool touch_to_read(const void *first, const void *last);
+bool touch_to_write(void *first, void *last);
+/* Whether a call may read so many bytes, or write them. If not, its answer is EFAULT. */
+static inline bool can_read(const void *from, size_t size) {
+    uintptr_t last = (uintptr_t)from + size - 1;
+    return size == 0 || (last >= (uintptr_t)from && touch_to_read(from, (const void *)last));
+}
+static inline bool can_write(void *to, size_t size) {
+    uintptr_t last = (uintptr_t)to + size - 1;
+    return size == 0 || (last >= (uintptr_t)to && touch_to_write(to, (void *)last));
+}
+/* The same for one object, and for one that may be NULL. */
+#define READABLE(pointer) can_read(pointer, sizeof *(pointer))
+#define WRITABLE(pointer) can_write(pointer, sizeof *(pointer))
+#define READABLE_OR_NULL(pointer) (!(pointer) || READABLE(pointer))
+#define WRITABLE_OR_NULL(pointer) (!(pointer) || WRITABLE(pointer))
+/* Whether a fault is one of a touch; the touch goes on, then, and answers that it failed. */
+bool end_bad_touch(void *context);
+
 /* ---- settings.c: what the environment says ---- */
 
 struct settings {
@@ -86,8 +108,9 @@ void *next_of(const char *name);
 void say(const char *format, ...) __attribute__((format(printf, 1, 2)));
 /* The same, and -1 with this errno. */
 int refuse(int error, const char *format, ...) __attribute__((format(printf, 2, 3)));
-/* Writes the history as it is. */
+/* Writes the history as it is; the same, if it isn't written for the program's end yet. */
 void keep_history(void);
+void write_history_once(void);
 /* The instance in which nothing is ever registered: who waits there sleeps. */
 int sleeping_instance(void);
 
@@ -127,6 +150,10 @@ uint64_t swap_mask(const sigset_t *set);
 void put_mask_back(uint64_t before);
 /* Whether the program has a handler of a signal that others may send. */
 bool has_handlers(void);
+/* Begins to hear of faults, and of signals from outside that end a program, which leave the history. */
+void keep_signals(void);
+/* Ends the program by such a signal, if one was held back, for a sleep in which no handler may run. */
+void end_if_killed(void);
 /* Writes the history if a signal that is about to be sent ends the program. */
 void keep_history_before(int signal);
 /* Sends a signal that this thread has earned, as SIGPIPE. */

@@ -17,9 +17,11 @@ FORWARD(syscall)
 
 /* Signals as the real kernel keeps them: bit n - 1 for signal n. The C library's set is larger. */
 #define BIT(signal) (UINT64_C(1) << ((signal) - 1))
-/* All but the two that the C library keeps for itself. */
-#define ALL (~(BIT(32) | BIT(33)))
 #define FAULTS (BIT(SIGSEGV) | BIT(SIGBUS) | BIT(SIGFPE) | BIT(SIGILL) | BIT(SIGTRAP) | BIT(SIGSYS))
+/* All but the two that the C library keeps for itself, and faults, which can't wait. */
+#define ALL (~(BIT(32) | BIT(33) | FAULTS))
+/* Those of a touch of a bad pointer: pointers.c. */
+#define BAD_TOUCHES (BIT(SIGSEGV) | BIT(SIGBUS))
 enum { MOST_SIGNALS = 64 };
 
 _Thread_local struct thread_state this_thread;
@@ -28,6 +30,7 @@ _Thread_local struct thread_state this_thread;
 static pthread_mutex_t lock = PTHREAD_MUTEX_INITIALIZER;
 static struct sigaction actions[MOST_SIGNALS + 1];
 static _Atomic uint64_t handled; /* the signals that have a handler */
+static uint64_t kept;            /* those that this file hears of without one, too */
 
 static uint64_t bits_of(const sigset_t *set) {
     uint64_t bits;
@@ -117,27 +120,58 @@ static bool is_function(const struct sigaction *action) {
     return action->sa_handler != SIG_DFL && action->sa_handler != SIG_IGN;
 }
 
+static void arrive(int signal, siginfo_t *info, void *context);
+
+/* What the real kernel is to do. */
+static struct sigaction real_action(int signal, const struct sigaction *asked) {
+    struct sigaction real = *asked;
+    bool is_kept = asked->sa_handler == SIG_DFL && (kept & BIT(signal));
+    if (!is_function(asked) && !is_kept) return real;
+    real.sa_sigaction = arrive;
+    real.sa_flags = (asked->sa_flags & ~(SA_NODEFER | (int)SA_RESETHAND)) | SA_SIGINFO | (is_kept ? SA_ONSTACK : 0);
+    sigfillset(&real.sa_mask);
+    return real;
+}
+
 /* What the program asked for of a signal. That of SA_RESETHAND is forgotten. */
 static struct sigaction take_action(int signal) {
-    struct sigaction action, none = {.sa_handler = SIG_DFL};
+    struct sigaction action, none = {.sa_handler = SIG_DFL}, real = real_action(signal, &none);
     pthread_mutex_lock(&lock);
     action = actions[signal];
     if (is_function(&action) && (action.sa_flags & (int)SA_RESETHAND)) {
         actions[signal].sa_handler = SIG_DFL;
         atomic_fetch_and(&handled, ~BIT(signal));
-        next_sigaction()(signal, &none, NULL);
+        next_sigaction()(signal, &real, NULL);
     }
     pthread_mutex_unlock(&lock);
     return action;
 }
 
+/* Lets a signal that has no handler end the program. A fault comes again once it is left to the real kernel. */
+static void end_by(int signal, bool is_fault) {
+    struct sigaction none = {.sa_handler = SIG_DFL};
+    uint64_t one = BIT(signal);
+    if (!is_fault) write_history_once();
+    next_sigaction()(signal, &none, NULL);
+    if (is_fault) return;
+    next_syscall()(SYS_tgkill, getpid(), next_syscall()(SYS_gettid), signal);
+    next_syscall()(SYS_rt_sigprocmask, SIG_UNBLOCK, &one, NULL, sizeof one);
+}
+
+void end_if_killed(void) {
+    for (int i = this_thread.first_held; i < this_thread.held_count; i++) {
+        int signal = this_thread.held[i].si_signo;
+        if ((kept & BIT(signal)) && take_action(signal).sa_handler == SIG_DFL) end_by(signal, false);
+    }
+}
+
 /* Runs with all signals blocked, as each action asks for. The handler runs with the mask that the program asked for. */
-static void run_handler(int signal, siginfo_t *info, ucontext_t *interrupted) {
+static void run_handler(int signal, siginfo_t *info, ucontext_t *interrupted, bool is_fault) {
     struct sigaction action = take_action(signal);
-    uint64_t mask = bits_of(&interrupted->uc_sigmask) | bits_of(&action.sa_mask);
+    uint64_t mask = bits_of(&interrupted->uc_sigmask) | (bits_of(&action.sa_mask) & ~BAD_TOUCHES);
     struct sleeper *in = this_thread.innermost;
     if (!is_function(&action)) {
-        if (action.sa_handler == SIG_DFL) raise(signal);
+        if (action.sa_handler == SIG_DFL) end_by(signal, is_fault);
         return;
     }
     if (!(action.sa_flags & SA_NODEFER)) mask |= BIT(signal);
@@ -156,25 +190,17 @@ static void run_handler(int signal, siginfo_t *info, ucontext_t *interrupted) {
 static void arrive(int signal, siginfo_t *info, void *context) {
     bool is_fault = (FAULTS & BIT(signal)) && info->si_code > 0;
     int saved = errno;
+    if (is_fault && end_bad_touch(context)) return;
     if (this_thread.quiet > 0 && !is_fault) {
         hold_back(signal, info, context);
     } else {
         if (this_thread.innermost) disturb(this_thread.innermost);
-        run_handler(signal, info, context);
+        run_handler(signal, info, context, is_fault);
     }
     errno = saved;
 }
 
 /* ---- what the program asks for ---- */
-
-static struct sigaction real_action(const struct sigaction *asked) {
-    struct sigaction real = *asked;
-    if (!is_function(asked)) return real;
-    real.sa_sigaction = arrive;
-    real.sa_flags = (asked->sa_flags & ~(SA_NODEFER | (int)SA_RESETHAND)) | SA_SIGINFO;
-    sigfillset(&real.sa_mask);
-    return real;
-}
 
 static void keep_action(int signal, const struct sigaction *action) {
     actions[signal] = *action;
@@ -191,9 +217,10 @@ int sigaction(int signal, const struct sigaction *given, struct sigaction *befor
     QUIET;
     if (signal < 1 || signal > MOST_SIGNALS) return next_sigaction()(signal, given, before);
     next_syscall(); /* is found now, and not in a handler */
+    if (!READABLE_OR_NULL(given) || !WRITABLE_OR_NULL(before)) return (int)plain_answer(-EFAULT);
     if (given) {
         asked = *given;
-        real = real_action(given);
+        real = real_action(signal, given);
     }
     pthread_mutex_lock(&lock);
     status = next_sigaction()(signal, given ? &real : NULL, &was);
@@ -266,6 +293,25 @@ int siginterrupt(int signal, int breaks) {
 
 /* ---- for the rest of the shim ---- */
 
+/* Those that something else than this file hears of already are left to it, as a sanitizer's. */
+static void keep_signal(int signal) {
+    struct sigaction none = {.sa_handler = SIG_DFL}, now, real;
+    if (next_sigaction()(signal, NULL, &now) != 0 || now.sa_handler != SIG_DFL) return;
+    kept |= BIT(signal);
+    real = real_action(signal, &none);
+    next_sigaction()(signal, &real, NULL);
+}
+
+void keep_signals(void) {
+    next_syscall();
+    keep_signal(SIGSEGV);
+    keep_signal(SIGBUS);
+    if (!variable("NIPPERSAGE_HISTORY")) return;
+    keep_signal(SIGHUP);
+    keep_signal(SIGINT);
+    keep_signal(SIGTERM);
+}
+
 uint64_t swap_mask(const sigset_t *set) {
     uint64_t before = set_mask(ALL);
     if (this_thread.is_held_back) before = this_thread.mask;
@@ -321,6 +367,7 @@ int sigsuspend(const sigset_t *set) {
     uint64_t before;
     int result;
     QUIET;
+    if (!can_read(set, sizeof before)) return (int)ANSWER(-EFAULT, "sigsuspend(%p)", (const void *)set);
     before = swap_mask(set);
     result = await_handler("sigsuspend");
     put_mask_back(before);

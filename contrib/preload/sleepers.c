@@ -219,6 +219,8 @@ static bool sleep_once(struct sleeper *s, const struct timespec *most, bool slee
         this_thread.quiet = 0;
         atomic_signal_fence(memory_order_seq_cst);
         let_handlers_run();
+    } else {
+        end_if_killed();
     }
     if (sleeps)
         is_over = next_syscall()(SYS_futex, &s->word, FUTEX_WAIT | FUTEX_PRIVATE_FLAG, seen, most, NULL, 0) != 0 &&

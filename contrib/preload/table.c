@@ -233,6 +233,7 @@ int pipe2(int ends[2], int flags) {
     static const int accesses[2] = {O_RDONLY, O_WRONLY};
     int numbers[2], status;
     QUIET;
+    if (!can_write(ends, 2 * sizeof *ends)) return (int)ANSWER(-EFAULT, "pipe2(%p)", (void *)ends);
     pthread_mutex_lock(&lock);
     status = put_pair(nippersage_pipe2(self(), numbers, flags), numbers, PIPE, accesses, flags, ends);
     pthread_mutex_unlock(&lock);
@@ -249,6 +250,7 @@ int socketpair(int domain, int type, int protocol, int ends[2]) {
     QUIET;
     if ((type & ~flags) != SOCK_STREAM)
         return refuse(ESOCKTNOSUPPORT, "socketpair: only SOCK_STREAM is simulated, not type %d", type & ~flags);
+    if (!can_write(ends, 2 * sizeof *ends)) return (int)ANSWER(-EFAULT, "socketpair(%p)", (void *)ends);
     pthread_mutex_lock(&lock);
     status = put_pair(nippersage_socketpair(self(), domain, type, protocol, numbers), numbers, SOCKET, accesses, flags,
                       ends);
@@ -417,6 +419,7 @@ int fcntl64(int fd, int command, ...) {
 static int tell_unread(const struct description *description, int *count) {
     const struct description *at = description;
     if (at->kind != PIPE && at->kind != SOCKET) return -ENOTTY;
+    if (!WRITABLE(count)) return -EFAULT;
     if (at->access == O_WRONLY) at = at->peer;
     *count = at ? (int)at->waiting.count : 0;
     return 0;
@@ -424,7 +427,10 @@ static int tell_unread(const struct description *description, int *count) {
 
 static int request_of(struct entry *entry, unsigned long request, void *argument) {
     switch (request) {
-    case FIONBIO: entry->description->is_nonblocking = *(const int *)argument != 0; return 0;
+    case FIONBIO:
+        if (!READABLE((const int *)argument)) return -EFAULT;
+        entry->description->is_nonblocking = *(const int *)argument != 0;
+        return 0;
     case FIOCLEX: entry->closes_on_exec = true; return 0;
     case FIONCLEX: entry->closes_on_exec = false; return 0;
     case FIONREAD: return tell_unread(entry->description, argument);
@@ -457,6 +463,10 @@ int fstat(int fd, struct stat *status) {
     if (!is_simulated(fd)) return next_fstat()(fd, status);
     description = hold(fd);
     if (!description) return (int)ANSWER(-EBADF, "fstat(%d)", fd);
+    if (!WRITABLE(status)) {
+        let_go(description);
+        return (int)ANSWER(-EFAULT, "fstat(%d, %p)", fd, (void *)status);
+    }
     mode = description->kind == PIPE ? S_IFIFO | 0600 : description->kind == SOCKET ? S_IFSOCK | 0777 : 0600;
     let_go(description);
     memset(status, 0, sizeof *status);

@@ -378,7 +378,7 @@ long call_futex(const long given[6]) {
     struct timespec end;
     struct timed timed;
     int error = 0;
-    if (!time || !(is_until || (is_for && units_of(time) >= 0)))
+    if (!time || !READABLE(time) || !(is_until || (is_for && units_of(time) >= 0)))
         return next_syscall()(SYS_futex, given[0], given[1], given[2], given[3], given[4], given[5]);
     end = is_until ? *time : end_of(units_of(time));
     begin_timed(&timed, &end, NULL);
@@ -399,7 +399,7 @@ int sigtimedwait(const sigset_t *restrict set, siginfo_t *restrict info, const s
     struct timespec slice = {0, 0}, end;
     struct timed timed;
     int signal, error = 0;
-    if (!time || units_of(time) < 0) return next_sigtimedwait()(set, info, time);
+    if (!time || !READABLE(time) || units_of(time) < 0) return next_sigtimedwait()(set, info, time);
     end = end_of(units_of(time));
     begin_timed(&timed, &end, NULL);
     do {
