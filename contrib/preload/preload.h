@@ -237,6 +237,7 @@ struct description {
     clockid_t clock;
     atomic_bool is_nonblocking;
     struct waiting waiting;
+    int pipe_room; /* what F_SETPIPE_SZ has set, or 0 */
     struct options options;
     struct description *peer;
     int holders; /* descriptors that name it, and calls that use it */

@@ -361,6 +361,27 @@ void closefrom(int first) { close_range(first < 0 ? 0 : (unsigned int)first, UIN
 
 /* ---- fcntl, ioctl, fstat ---- */
 
+/* What F_GETPIPE_SZ tells. */
+static int tell_pipe_room(const struct description *pipe) {
+    if (pipe->kind != PIPE) return -EBADF;
+    return pipe->pipe_room > 0 ? pipe->pipe_room : (int)settings()->limits.pipe_bytes;
+}
+
+/* As on Linux, a pipe's room is a power of two, and a page at least. The kernel's has the room that it has: more is
+   refused, and less is told, but not so. */
+static int set_pipe_room(struct description *pipe, unsigned int asked) {
+    const struct description *reader = pipe->access == O_RDONLY ? pipe : pipe->peer;
+    unsigned int room = 4096;
+    if (pipe->kind != PIPE) return -EBADF;
+    if (asked > 1U << 31) return -EINVAL;
+    while (room < asked) room *= 2;
+    if (room > settings()->limits.pipe_bytes) return -EPERM;
+    if (reader && reader->waiting.count > room) return -EBUSY;
+    pipe->pipe_room = (int)room;
+    if (pipe->peer) pipe->peer->pipe_room = (int)room;
+    return (int)room;
+}
+
 /* What needs the entry, under the lock. */
 static int control(struct entry *entry, int fd, int command, long argument) {
     switch (command) {
@@ -370,13 +391,25 @@ static int control(struct entry *entry, int fd, int command, long argument) {
     case F_SETFD: entry->closes_on_exec = argument & FD_CLOEXEC; return 0;
     case F_DUPFD: return copy_from(fd, (int)argument, 0);
     case F_DUPFD_CLOEXEC: return copy_from(fd, (int)argument, O_CLOEXEC);
+    case F_GETPIPE_SZ: return tell_pipe_room(entry->description);
+    case F_SETPIPE_SZ: return set_pipe_room(entry->description, (unsigned int)argument);
     default: return -EINVAL;
     }
 }
 
+/* Says what comes of a room that isn't the kernel's. */
+static void say_room(int fd, long asked, int result) {
+    unsigned int room = settings()->limits.pipe_bytes;
+    if (result == -EPERM)
+        say("fcntl(%d, F_SETPIPE_SZ, %ld): a pipe has room for %u bytes (NIPPERSAGE_LIMITS)", fd, asked, room);
+    if (result > 0 && result < (int)room)
+        say("fcntl(%d, F_SETPIPE_SZ, %ld): is told, but the pipe has room for %u bytes", fd, asked, room);
+}
+
 static int control_simulated(int fd, int command, long argument) {
     bool is_known = command == F_GETFL || command == F_SETFL || command == F_GETFD || command == F_SETFD ||
-                    command == F_DUPFD || command == F_DUPFD_CLOEXEC;
+                    command == F_DUPFD || command == F_DUPFD_CLOEXEC || command == F_GETPIPE_SZ ||
+                    command == F_SETPIPE_SZ;
     struct entry *entry;
     int result;
     if (!is_known || (command == F_SETFL && (argument & O_ASYNC)))
@@ -386,6 +419,7 @@ static int control_simulated(int fd, int command, long argument) {
     entry = entry_of(fd);
     result = entry ? control(entry, fd, command, argument) : -EBADF;
     pthread_mutex_unlock(&lock);
+    if (command == F_SETPIPE_SZ) say_room(fd, argument, result);
     return (int)ANSWER(result, "fcntl(%d, %d, %#lx)", fd, command, argument);
 }
 

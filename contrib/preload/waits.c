@@ -303,6 +303,28 @@ static int not_a_poll(struct pollfd *files, nfds_t count, const struct timespec 
     return can_write(files, count * sizeof *files) ? 0 : -EFAULT;
 }
 
+/* A poll of more entries than the real kernel takes for the real limit on descriptors: one for each descriptor. */
+static int poll_merged(struct pollfd *files, nfds_t count, const struct timespec *time, const sigset_t *mask) {
+    struct pollfd *each = malloc((size_t)FIRST * sizeof *each);
+    int found;
+    if (!each) return (int)plain_answer(-ENOMEM);
+    for (int fd = 0; fd < FIRST; fd++) each[fd] = (struct pollfd){-1, 0, 0};
+    for (nfds_t i = 0; i < count; i++)
+        if (files[i].fd >= 0) {
+            each[files[i].fd].fd = files[i].fd;
+            each[files[i].fd].events |= files[i].events;
+        }
+    found = ppoll(each, (nfds_t)FIRST, time, mask);
+    if (found >= 0) found = 0;
+    for (nfds_t i = 0; i < count && found >= 0; i++) {
+        short shown = files[i].fd < 0 ? 0 : each[files[i].fd].revents;
+        files[i].revents = (short)(shown & (files[i].events | POLLERR | POLLHUP | POLLNVAL));
+        if (files[i].revents != 0) found++;
+    }
+    free(each);
+    return found;
+}
+
 int poll(struct pollfd *files, nfds_t count, int given) {
     SOUGHT sought = {.highest = -1};
     struct timeout timeout = in_milliseconds(given);
@@ -310,6 +332,10 @@ int poll(struct pollfd *files, nfds_t count, int given) {
     if (status < 0) return (int)ANSWER(status, "poll(%p, %lu, %s)", (void *)files, count, timeout.said.of);
     want_all(&sought, files, count);
     if (sought.has_real && sought.has_simulated) return mixes("poll");
+    if (sought.has_real && count > (nfds_t)FIRST) {
+        struct timespec time = timespec_of(given < 0 ? 0 : (uint64_t)timeout.units);
+        return poll_merged(files, count, given < 0 ? NULL : &time, NULL);
+    }
     if (sought.has_real) return real_answer(next_poll()(files, count, given), timeout.units);
     return poll_simulated(&sought, files, count, timeout, NULL, "poll");
 }
@@ -322,6 +348,7 @@ int ppoll(struct pollfd *files, nfds_t count, const struct timespec *time, const
     timeout = in_time(time);
     want_all(&sought, files, count);
     if (sought.has_real && sought.has_simulated) return mixes("ppoll");
+    if (sought.has_real && count > (nfds_t)FIRST) return poll_merged(files, count, time, mask);
     if (sought.has_real) return real_answer(next_ppoll()(files, count, time, mask), timeout.units);
     if (time && timeout.units < 0) return (int)ANSWER(-EINVAL, "ppoll(..., %lu, %s)", count, timeout.said.of);
     return poll_simulated(&sought, files, count, timeout, mask, "ppoll");
