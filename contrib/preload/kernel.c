@@ -20,10 +20,18 @@ static atomic_uint callers;
 static atomic_ulong count;
 static int sleeping;
 
+/* The C library keeps an older pthread_cond_timedwait, too, which dlsym may find. That of another library, as a
+   sanitizer's, comes before both. */
+static void *newer_of(const char *name, void *found) {
+    void *newer = dlvsym(RTLD_NEXT, name, "GLIBC_2.3.2");
+    Dl_info of_found, of_newer;
+    if (!newer || !found || dladdr(found, &of_found) == 0 || dladdr(newer, &of_newer) == 0) return newer ? newer : found;
+    return of_found.dli_fbase == of_newer.dli_fbase ? newer : found;
+}
+
 void *next_of(const char *name) {
-    /* The C library keeps an older pthread_cond_timedwait, too, which dlsym may find. */
-    void *found = strncmp(name, "pthread_cond", 12) == 0 ? dlvsym(RTLD_NEXT, name, "GLIBC_2.3.2") : NULL;
-    if (!found) found = dlsym(RTLD_NEXT, name);
+    void *found = dlsym(RTLD_NEXT, name);
+    if (strncmp(name, "pthread_cond", 12) == 0) found = newer_of(name, found);
     if (!found) {
         fprintf(stderr, "nippersage: the C library has no %s\n", name);
         abort();
