@@ -162,6 +162,7 @@ void write_history_once(void) {
 __attribute__((constructor)) static void begin(void) {
     QUIET;
     const char *path = variable("NIPPERSAGE_LOG");
+    learn_first_stack();
     is_logged = path && (unlink(path) == 0 || errno == ENOENT);
     if (path && !is_logged) say("the log can't be made anew at %s: %s", path, strerror(errno));
     at_quick_exit(write_history_once);

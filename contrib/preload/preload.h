@@ -53,6 +53,29 @@ static inline bool can_write(void *to, size_t size) {
 /* Whether a fault is one of a touch; the touch goes on, then, and answers that it failed. */
 bool end_bad_touch(void *context);
 
+/* ---- stacks.c: the shim's own stacks ---- */
+
+/* Looks how much stack this thread has; for the first one, and for one that has just begun. */
+void learn_first_stack(void);
+void learn_stack(void);
+/* Before and after a handler of the program that broke into what `context` is of. */
+struct place {
+    uintptr_t top, room;
+};
+struct place begin_handler_stack(const void *context);
+void end_handler_stack(struct place before);
+/* Calls it on the stack on which it would run on Linux. */
+void call_handler(void (*handler)(int, siginfo_t *, void *), int signal, siginfo_t *info, void *context);
+/* Calls a function of the shim within a handler, on the own stack if the program's is small. */
+void call_apart(void (*function)(void *, long), void *a, long b);
+/* Calls a function on another stack. */
+void call_on(uintptr_t stack, void (*function)(int, siginfo_t *, void *), int signal, siginfo_t *info, void *context);
+/* Where on the program's stack the call was made to which a frame of the shim belongs. */
+uintptr_t place_of_call(const void *frame);
+/* Whether a jump to `target` leaves what was called at a place; what it leaves of the own stack is free again. */
+bool is_left(uintptr_t place, uintptr_t target);
+void leave_stacks_below(uintptr_t target);
+
 /* ---- settings.c: what the environment says ---- */
 
 struct settings {
@@ -181,9 +204,9 @@ bool next_moment(uint64_t *moment);
 void wake_sleepers(void);
 /* As a signal arrives in a wait, before any lock is taken; then before and after its handler. */
 void disturb(struct sleeper *sleeper);
-void begin_handler_in(struct sleeper *sleeper, bool restarts);
-void end_handler_in(struct sleeper *sleeper);
-/* Ends those waits of this thread whose frames lie below an address of the stack, for a handler jumps there. */
+void begin_handler_in(void *sleeper, long restarts);
+void end_handler_in(void *sleeper, long unused);
+/* Ends those waits of this thread that a jump to an address of the stack leaves. */
 void leave_waits_below(uintptr_t address);
 /* So many threads more take part, or fewer. */
 void count_threads(int more);

@@ -147,10 +147,14 @@ static struct sigaction take_action(int signal) {
     return action;
 }
 
-/* Lets a signal that has no handler end the program. A fault comes again once it is left to the real kernel. */
-static void end_by(int signal, bool is_fault) {
+/* Lets a signal that has no handler end the program. A fault comes again once it is left to the real kernel; it is below
+   0 here. */
+static void end_by(void *nothing, long which) {
     struct sigaction none = {.sa_handler = SIG_DFL};
+    bool is_fault = which < 0;
+    int signal = (int)(is_fault ? -which : which);
     uint64_t one = BIT(signal);
+    (void)nothing;
     if (!is_fault) write_history_once();
     next_sigaction()(signal, &none, NULL);
     if (is_fault) return;
@@ -161,7 +165,7 @@ static void end_by(int signal, bool is_fault) {
 void end_if_killed(void) {
     for (int i = this_thread.first_held; i < this_thread.held_count; i++) {
         int signal = this_thread.held[i].si_signo;
-        if ((kept & BIT(signal)) && take_action(signal).sa_handler == SIG_DFL) end_by(signal, false);
+        if ((kept & BIT(signal)) && take_action(signal).sa_handler == SIG_DFL) end_by(NULL, signal);
     }
 }
 
@@ -170,20 +174,19 @@ static void run_handler(int signal, siginfo_t *info, ucontext_t *interrupted, bo
     struct sigaction action = take_action(signal);
     uint64_t mask = bits_of(&interrupted->uc_sigmask) | (bits_of(&action.sa_mask) & ~BAD_TOUCHES);
     struct sleeper *in = this_thread.innermost;
+    struct place before;
     if (!is_function(&action)) {
-        if (action.sa_handler == SIG_DFL) end_by(signal, is_fault);
+        if (action.sa_handler == SIG_DFL) call_apart(end_by, NULL, is_fault ? -signal : signal);
         return;
     }
+    before = begin_handler_stack(interrupted);
     if (!(action.sa_flags & SA_NODEFER)) mask |= BIT(signal);
     this_thread.handlers++;
-    if (in) begin_handler_in(in, action.sa_flags & SA_RESTART);
+    if (in) call_apart(begin_handler_in, in, action.sa_flags & SA_RESTART);
     set_mask(mask);
-    if (action.sa_flags & SA_SIGINFO) {
-        action.sa_sigaction(signal, info, interrupted);
-    } else {
-        action.sa_handler(signal);
-    }
-    if (in) end_handler_in(in);
+    call_handler(action.sa_sigaction, signal, info, interrupted);
+    if (in) call_apart(end_handler_in, in, 0);
+    end_handler_stack(before);
 }
 
 /* Faults can't wait: what follows them is wrong. */

@@ -31,6 +31,7 @@ struct sleeper {
     uint32_t slept_on;     /* what it was when the thread went to sleep */
     struct sleeper *outer; /* the wait of the same thread in whose handler this one was begun, or NULL */
     int depth;             /* the thread's when it began */
+    uintptr_t place;       /* where on the program's stack the call was made */
     struct sleeper *next;
 };
 
@@ -181,7 +182,8 @@ void disturb(struct sleeper *s) { atomic_fetch_add(&s->word, 1); }
 
 /* A wait that the handler breaks ends before the handler runs, as on Linux: what the handler makes ready is no answer to
    it. What was ready before is one. */
-void begin_handler_in(struct sleeper *s, bool restarts) {
+void begin_handler_in(void *sleeper, long restarts) {
+    struct sleeper *s = sleeper;
     int depth = this_thread.depth;
     QUIET;
     pthread_mutex_lock(&lock);
@@ -195,8 +197,10 @@ void begin_handler_in(struct sleeper *s, bool restarts) {
     pthread_mutex_unlock(&lock);
 }
 
-void end_handler_in(struct sleeper *s) {
+void end_handler_in(void *sleeper, long unused) {
+    struct sleeper *s = sleeper;
     QUIET;
+    (void)unused;
     pthread_mutex_lock(&lock);
     s->handlers--;
     pthread_mutex_unlock(&lock);
@@ -334,7 +338,7 @@ static void leave_innermost(struct sleeper *s) {
 /* The frames of what is left stay as they are until the jump itself. */
 void leave_waits_below(uintptr_t address) {
     QUIET;
-    while (this_thread.innermost && (uintptr_t)this_thread.innermost < address)
+    while (this_thread.innermost && is_left(this_thread.innermost->place, address))
         leave_innermost(this_thread.innermost);
 }
 
@@ -373,6 +377,7 @@ int wait_at(const struct wait *wait) {
     me.caller = self().caller;
     me.outer = this_thread.innermost;
     me.depth = this_thread.depth;
+    me.place = place_of_call(&me);
     if (wait->timeout >= 0) me.end = moment_now() + (uint64_t)wait->timeout;
     pthread_mutex_lock(&lock);
     me.result = park(&me);

@@ -237,6 +237,7 @@ static struct thread take_thread(struct thread *kept) {
 
 static void *run_counted(void *kept) {
     struct thread thread = take_thread(kept);
+    learn_stack();
     return thread.run(thread.argument);
 }
 
