@@ -159,13 +159,28 @@ extern _Thread_local struct thread_state this_thread;
 /* As a system call, a function that begins so runs no handler of a signal before its end, except where it sleeps.
    Who takes a lock of the shim, or calls the library, has to be in one. */
 #define QUIET __attribute__((cleanup(end_quiet), unused)) int is_quiet = begin_quiet()
-int begin_quiet(void);
-void end_quiet(const int *unused);
 /* The same for memory.c, which the library calls: nobody is woken at its end. */
 #define QUIET_WITHIN __attribute__((cleanup(end_quiet_within), unused)) int is_quiet = begin_quiet()
-void end_quiet_within(const int *unused);
 /* Runs what was held back, where this thread may run handlers again. */
 void let_handlers_run(void);
+void wake_sleepers(void);
+/* Each call has several of these within one another: so they are inline. */
+static inline int begin_quiet(void) {
+    this_thread.quiet++;
+    atomic_signal_fence(memory_order_seq_cst);
+    return 0;
+}
+static inline void end_quiet_within(const int *unused) {
+    (void)unused;
+    atomic_signal_fence(memory_order_seq_cst);
+    this_thread.quiet--;
+    atomic_signal_fence(memory_order_seq_cst);
+    if (this_thread.quiet == 0 && this_thread.is_held_back) let_handlers_run();
+}
+static inline void end_quiet(const int *unused) {
+    if (this_thread.quiet == 1) wake_sleepers();
+    end_quiet_within(unused);
+}
 /* The same within a quiet call, and whether there was any. */
 bool let_pending_run(void);
 /* Blocks other signals for the rest of a quiet call, and tells which were; the same back. */
@@ -200,8 +215,7 @@ int wait_at(const struct wait *wait);
 bool is_anyone_waiting(void);
 /* The next moment of the simulated clock at which something happens. Whether there is one. */
 bool next_moment(uint64_t *moment);
-/* Gives those their answers whose waits have ended. */
-void wake_sleepers(void);
+/* wake_sleepers gives those their answers whose waits have ended. */
 /* As a signal arrives in a wait, before any lock is taken; then before and after its handler. */
 void disturb(struct sleeper *sleeper);
 void begin_handler_in(void *sleeper, long restarts);

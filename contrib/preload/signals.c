@@ -46,25 +46,6 @@ static uint64_t set_mask(uint64_t mask) {
 
 /* ---- calls that hold handlers back ---- */
 
-int begin_quiet(void) {
-    this_thread.quiet++;
-    atomic_signal_fence(memory_order_seq_cst);
-    return 0;
-}
-
-void end_quiet_within(const int *unused) {
-    (void)unused;
-    atomic_signal_fence(memory_order_seq_cst);
-    this_thread.quiet--;
-    atomic_signal_fence(memory_order_seq_cst);
-    if (this_thread.quiet == 0) let_handlers_run();
-}
-
-void end_quiet(const int *unused) {
-    if (this_thread.quiet == 1) wake_sleepers();
-    end_quiet_within(unused);
-}
-
 /* What was held back is sent again, to this thread, while all signals are blocked: so the real kernel runs the handlers
    as it would have. */
 static void send_held(void) {
