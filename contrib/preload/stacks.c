@@ -92,11 +92,13 @@ static bool make_own_stack(void) {
     return true;
 }
 
+static bool is_begun; /* before that a sanitizer may call, which isn't ready yet, on the first thread's stack */
+
 static bool is_on_own(uintptr_t address) { return address - stacks.bottom < stacks.high - stacks.bottom; }
 
 /* For a stub: where its call is to begin, or 0 if it may go on where it is. */
 uintptr_t begin_on_own(struct switched *frame) {
-    if (is_on_own((uintptr_t)frame)) return 0;
+    if (!is_begun || is_on_own((uintptr_t)frame)) return 0;
     if (stacks.high == 0 && !make_own_stack()) return 0;
     frame->top = stacks.top;
     frame->outer = stacks.switched;
@@ -116,6 +118,7 @@ static void set_bounds(uintptr_t low, uintptr_t high) {
 void learn_first_stack(void) {
     struct rlimit limit = {0, 0};
     uintptr_t here = (uintptr_t)__builtin_frame_address(0), most = (uintptr_t)1 << 30;
+    is_begun = true;
     if (next_getrlimit()(RLIMIT_STACK, &limit) != 0) return;
     if (limit.rlim_cur < most) most = limit.rlim_cur;
     /* Above this frame there are those of the program's start, its arguments and its environment. */
@@ -276,6 +279,7 @@ __asm__(".text\n"
         ".p2align 4\n"
         ".type call_apart, @function\n"
         "call_apart:\n"
+        "    .cfi_startproc\n"
         "    movq %rdi, %r11\n"
         "    movq %rsi, %rdi\n"
         "    movq %rdx, %rsi\n"
@@ -285,6 +289,7 @@ __asm__(".text\n"
         "    cmpq %fs:8(%rax), %r10\n"
         "    jae on_own\n"
         "    jmp *%r11\n"
+        "    .cfi_endproc\n"
         ".size call_apart, . - call_apart\n"
         /* call_on(stack pointer, function, a, b, c) */
         ".p2align 4\n"

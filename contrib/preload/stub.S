@@ -9,6 +9,7 @@
     .type \name, @function
     .p2align 4
 \name:
+    .cfi_startproc
     movq stacks@gottpoff(%rip), %r11
     movq %rsp, %r10
     subq %fs:(%r11), %r10
@@ -16,5 +17,6 @@
     jb double_\name
     leaq double_\name(%rip), %r11
     jmp on_own
+    .cfi_endproc
     .size \name, . - \name
     .endm
