@@ -109,7 +109,8 @@ static struct sigaction real_action(int signal, const struct sigaction *asked) {
     bool is_kept = asked->sa_handler == SIG_DFL && (kept & BIT(signal));
     if (!is_function(asked) && !is_kept) return real;
     real.sa_sigaction = arrive;
-    real.sa_flags = (asked->sa_flags & ~(SA_NODEFER | (int)SA_RESETHAND)) | SA_SIGINFO | (is_kept ? SA_ONSTACK : 0);
+    real.sa_flags = (asked->sa_flags & ~(SA_NODEFER | (int)SA_RESETHAND)) | SA_SIGINFO;
+    if (is_kept && !(FAULTS & BIT(signal))) real.sa_flags |= SA_ONSTACK;
     sigfillset(&real.sa_mask);
     return real;
 }
@@ -155,12 +156,12 @@ static void run_handler(int signal, siginfo_t *info, ucontext_t *interrupted, bo
     struct sigaction action = take_action(signal);
     uint64_t mask = bits_of(&interrupted->uc_sigmask) | (bits_of(&action.sa_mask) & ~BAD_TOUCHES);
     struct sleeper *in = this_thread.innermost;
-    struct place before;
+    struct place before = begin_handler_stack(interrupted);
     if (!is_function(&action)) {
         if (action.sa_handler == SIG_DFL) call_apart(end_by, NULL, is_fault ? -signal : signal);
+        end_handler_stack(before);
         return;
     }
-    before = begin_handler_stack(interrupted);
     if (!(action.sa_flags & SA_NODEFER)) mask |= BIT(signal);
     this_thread.handlers++;
     if (in) call_apart(begin_handler_in, in, action.sa_flags & SA_RESTART);

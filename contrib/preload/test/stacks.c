@@ -146,8 +146,10 @@ static void threads(void) {
 
 static void write_byte(int signal) {
     int saved = errno;
+    stack_t now;
     (void)signal;
     came += write(ends[1], "h", 1) == 1;
+    if (sigaltstack(NULL, &now) == 0 && (now.ss_flags & SS_ONSTACK)) came += 10;
     errno = saved;
 }
 
