@@ -55,9 +55,10 @@ bool end_bad_touch(void *context);
 
 /* ---- stacks.c: the shim's own stacks ---- */
 
-/* Looks how much stack this thread has; for the first one, and for one that has just begun. */
+/* How much stack the first thread has, what a new one will have, and what one that has just begun has. */
 void learn_first_stack(void);
-void learn_stack(void);
+size_t stack_of(const pthread_attr_t *attributes);
+void learn_stack(size_t size);
 /* Before and after a handler of the program that broke into what `context` is of. */
 struct place {
     uintptr_t top, room;

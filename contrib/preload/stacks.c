@@ -8,6 +8,7 @@
    calls of that part begin below what is used of the shim's stack. */
 #include "preload.h"
 
+#include <dlfcn.h>
 #include <pthread.h>
 #include <stdlib.h>
 #include <sys/mman.h>
@@ -125,13 +126,30 @@ void learn_first_stack(void) {
     if (most > 2 * ROOM) set_bounds(here - most + ROOM, UINTPTR_MAX / 2);
 }
 
-void learn_stack(void) {
-    pthread_attr_t attributes;
-    void *low;
-    size_t size;
-    if (pthread_getattr_np(pthread_self(), &attributes) != 0) return;
-    if (pthread_attr_getstack(&attributes, &low, &size) == 0) set_bounds((uintptr_t)low, (uintptr_t)low + size);
-    pthread_attr_destroy(&attributes);
+/* What the C library itself takes of a new thread's stack, as for what is local to a thread, at most. */
+static size_t taken_of_stack(const pthread_attr_t *attributes) {
+    size_t (*least_stack)(const pthread_attr_t *) = (size_t (*)(const pthread_attr_t *))(uintptr_t)dlsym(
+        RTLD_DEFAULT, "__pthread_get_minstack");
+    return least_stack ? least_stack(attributes) : SIZE_MAX;
+}
+
+/* pthread_getattr_np would tell the thread itself where its stack is, but it calls the program's allocator, which has
+   something to make ready for each thread that calls it. */
+size_t stack_of(const pthread_attr_t *given) {
+    pthread_attr_t by_default;
+    const pthread_attr_t *attributes = given ? given : &by_default;
+    size_t size = 0, guard = 0, taken;
+    if (!given && pthread_getattr_default_np(&by_default) != 0) return 0;
+    taken = taken_of_stack(attributes);
+    pthread_attr_getstacksize(attributes, &size);
+    pthread_attr_getguardsize(attributes, &guard);
+    if (!given) pthread_attr_destroy(&by_default);
+    return taken == SIZE_MAX || size < taken || size - taken < guard ? 0 : size - taken - guard;
+}
+
+void learn_stack(size_t size) {
+    uintptr_t here = (uintptr_t)__builtin_frame_address(0);
+    if (size > 0) set_bounds(here - size, here);
 }
 
 /* ---- handlers ---- */

@@ -216,6 +216,7 @@ void join_threads(void) {
 struct thread {
     void *(*run)(void *);
     void *argument;
+    size_t stack;
 };
 
 static struct thread *keep_thread(struct thread thread) {
@@ -237,12 +238,12 @@ static struct thread take_thread(struct thread *kept) {
 
 static void *run_counted(void *kept) {
     struct thread thread = take_thread(kept);
-    learn_stack();
+    learn_stack(thread.stack);
     return thread.run(thread.argument);
 }
 
 int pthread_create(pthread_t *made, const pthread_attr_t *attributes, void *(*run)(void *), void *argument) {
-    struct thread *thread = keep_thread((struct thread){run, argument});
+    struct thread *thread = keep_thread((struct thread){run, argument, stack_of(attributes)});
     int error;
     if (!thread) return EAGAIN;
     pthread_once(&once, start_counting);
