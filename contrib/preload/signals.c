@@ -281,8 +281,9 @@ int siginterrupt(int signal, int breaks) {
 /* Those that something else than this file hears of already are left to it, as a sanitizer's. */
 static void keep_signal(int signal) {
     struct sigaction none = {.sa_handler = SIG_DFL}, now, real;
-    if (next_sigaction()(signal, NULL, &now) != 0 || now.sa_handler != SIG_DFL) return;
+    if (next_sigaction()(signal, NULL, &now) != 0 || is_function(&now)) return;
     kept |= BIT(signal);
+    if (now.sa_handler == SIG_IGN) return; /* until the program asks for its end by it */
     real = real_action(signal, &none);
     next_sigaction()(signal, &real, NULL);
 }

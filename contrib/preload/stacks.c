@@ -14,17 +14,18 @@
 #include <sys/mman.h>
 #include <sys/resource.h>
 #include <ucontext.h>
-#if __has_include(<valgrind/valgrind.h>)
-#include <valgrind/valgrind.h>
+#if __has_include(<valgrind/memcheck.h>)
+#include <valgrind/memcheck.h>
 #else
-#define VALGRIND_STACK_REGISTER(low, high) (void)(low)
+#define RUNNING_ON_VALGRIND 0
+#define VALGRIND_MAKE_MEM_UNDEFINED(begin, size) (void)(begin)
 #endif
 
 FORWARD(getrlimit)
 FORWARD(sigaltstack)
 
 #define DISARMS (1U << 31) /* SS_AUTODISARM, which the C library doesn't name */
-enum { ROOM = 64 << 10, SIZE = 256 << 10, GUARD = 4096, RED_ZONE = 128, FRAMES = 1024 };
+enum { ROOM = 64 << 10, SIZE = 256 << 10, GUARD = 4096, APART = 4 << 20, RED_ZONE = 128, FRAMES = 1024, PUSHED = 64 };
 
 /* At the bottom of a stub's frame: the call that is being made on the thread's own stack. */
 struct switched {
@@ -67,12 +68,15 @@ static void make_key(void) {
     if (pthread_key_create(&key, give_back) != 0) abort();
 }
 
+/* Valgrind takes a stack pointer that moves by less than 2 MB for one that stays on its stack: so there the own stack is
+   that far from all others. */
 static uintptr_t map_stack(void) {
-    void *made = mmap(NULL, SIZE, PROT_READ | PROT_WRITE, MAP_PRIVATE | MAP_ANONYMOUS | MAP_NORESERVE | MAP_STACK, -1, 0);
+    size_t apart = RUNNING_ON_VALGRIND ? APART : 0;
+    char *made = mmap(NULL, 2 * apart + SIZE, PROT_NONE, MAP_PRIVATE | MAP_ANONYMOUS | MAP_NORESERVE, -1, 0);
     if (made == MAP_FAILED) return 0;
-    mprotect(made, GUARD, PROT_NONE);
-    VALGRIND_STACK_REGISTER(made, (char *)made + SIZE);
-    return (uintptr_t)made;
+    if (mprotect(made + apart + GUARD, SIZE - GUARD, PROT_READ | PROT_WRITE) == 0) return (uintptr_t)made + apart;
+    munmap(made, 2 * apart + SIZE);
+    return 0;
 }
 
 static bool make_own_stack(void) {
@@ -97,6 +101,9 @@ static bool is_begun; /* before that a sanitizer may call, which isn't ready yet
 
 static bool is_on_own(uintptr_t address) { return address - stacks.bottom < stacks.high - stacks.bottom; }
 
+/* What is pushed right after a change of stacks valgrind wouldn't take for a part of it. */
+static void tell_valgrind(uintptr_t top) { VALGRIND_MAKE_MEM_UNDEFINED((void *)(top - PUSHED), PUSHED); }
+
 /* For a stub: where its call is to begin, or 0 if it may go on where it is. */
 uintptr_t begin_on_own(struct switched *frame) {
     if (!is_begun || is_on_own((uintptr_t)frame)) return 0;
@@ -105,6 +112,7 @@ uintptr_t begin_on_own(struct switched *frame) {
     frame->outer = stacks.switched;
     atomic_signal_fence(memory_order_seq_cst);
     stacks.switched = frame;
+    tell_valgrind(stacks.top);
     return stacks.top;
 }
 
@@ -179,8 +187,10 @@ void end_handler_stack(struct place before) {
 }
 
 void call_handler(void (*handler)(int, siginfo_t *, void *), int signal, siginfo_t *info, void *context) {
+    uintptr_t below = (uintptr_t)stacks.switched & ~(uintptr_t)15;
     if (is_on_own((uintptr_t)__builtin_frame_address(0)) && stacks.switched) {
-        call_on((uintptr_t)stacks.switched & ~(uintptr_t)15, handler, signal, info, context);
+        tell_valgrind(below);
+        call_on(below, handler, signal, info, context);
     } else {
         handler(signal, info, context);
     }
@@ -214,18 +224,24 @@ void leave_stacks_below(uintptr_t target) {
 
 /* ---- alternate stacks ---- */
 
+/* Valgrind's kernel has no such flag: there the calls of handlers are made on the alternate stack. */
+static int set_alternate(const stack_t *given) {
+    stack_t asked = *given;
+    if (!(asked.ss_flags & SS_DISABLE)) asked.ss_flags = (int)((unsigned int)asked.ss_flags | DISARMS);
+    if (next_sigaltstack()(&asked, NULL) == 0) return 0;
+    return errno == EINVAL ? next_sigaltstack()(given, NULL) : -1;
+}
+
 /* The real kernel disarms an alternate stack while a handler runs there: so a call of the handler may be made on the own
    stack, and a further handler begins below it. What the program is told is as if it weren't so. */
 int sigaltstack(const stack_t *restrict given, stack_t *restrict before) {
     bool is_used = is_on_alternate(place_of_call(__builtin_frame_address(0)));
-    stack_t asked, was = stacks.has_alternate ? stacks.alternate : (stack_t){.ss_flags = SS_DISABLE};
+    stack_t was = stacks.has_alternate ? stacks.alternate : (stack_t){.ss_flags = SS_DISABLE};
     QUIET_WITHIN;
     if (!READABLE_OR_NULL(given) || !WRITABLE_OR_NULL(before)) return (int)plain_answer(-EFAULT);
     if (given && is_used) return (int)plain_answer(-EPERM);
     if (given) {
-        asked = *given;
-        if (!(asked.ss_flags & SS_DISABLE)) asked.ss_flags = (int)((unsigned int)asked.ss_flags | DISARMS);
-        if (next_sigaltstack()(&asked, NULL) != 0) return -1;
+        if (set_alternate(given) != 0) return -1;
         stacks.alternate = *given;
         stacks.alternate.ss_flags &= ~SS_ONSTACK;
         stacks.has_alternate = !(given->ss_flags & SS_DISABLE);

@@ -17,8 +17,10 @@ static void *kill_late(void *signal) {
 }
 
 static int wait_for(int signal) {
+    struct sigaction action = {.sa_handler = SIG_DFL}; /* it may be ignored from before */
     pthread_t thread;
     char byte;
+    sigaction(signal, &action, NULL);
     pthread_create(&thread, NULL, kill_late, &signal);
     return read(ends[0], &byte, 1) >= 0 ? 2 : 5;
 }
