@@ -166,6 +166,12 @@ static bool is_on(const stack_t *stack, uintptr_t address) {
     return !(stack->ss_flags & SS_DISABLE) && address - (uintptr_t)stack->ss_sp < stack->ss_size;
 }
 
+/* An alternate stack may lie within the thread's. One that wasn't disarmed, as a sanitizer's, is used from its top by the
+   next handler, if that breaks into a call that is made elsewhere: so none is, if the stack is large enough. */
+static uintptr_t room_on(const stack_t *alternate) {
+    return (unsigned int)alternate->ss_flags & DISARMS || alternate->ss_size < ROOM / 4 ? 0 : UINTPTR_MAX;
+}
+
 struct place begin_handler_stack(const void *context) {
     const ucontext_t *interrupted = context;
     uintptr_t here = (uintptr_t)__builtin_frame_address(0);
@@ -174,10 +180,7 @@ struct place begin_handler_stack(const void *context) {
     if (is_on_own(there) && there - RED_ZONE < top) top = there - RED_ZONE;
     if (is_on_own(here) && here - FRAMES < top) top = here - FRAMES;
     stacks.top = top & ~(uintptr_t)63;
-    /* An alternate stack may lie within the thread's. One that isn't disarmed is used by the next handler from its top,
-       if this one's calls are made elsewhere: so they aren't. */
-    if (is_on(&interrupted->uc_stack, here))
-        stacks.room = (unsigned int)interrupted->uc_stack.ss_flags & DISARMS ? 0 : UINTPTR_MAX;
+    if (is_on(&interrupted->uc_stack, here)) stacks.room = room_on(&interrupted->uc_stack);
     return before;
 }
 
@@ -224,7 +227,7 @@ void leave_stacks_below(uintptr_t target) {
 
 /* ---- alternate stacks ---- */
 
-/* Valgrind's kernel has no such flag: there the calls of handlers are made on the alternate stack. */
+/* Valgrind's kernel has no such flag. */
 static int set_alternate(const stack_t *given) {
     stack_t asked = *given;
     if (!(asked.ss_flags & SS_DISABLE)) asked.ss_flags = (int)((unsigned int)asked.ss_flags | DISARMS);
