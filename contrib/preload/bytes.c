@@ -42,7 +42,8 @@ static ssize_t read_part(int fd, struct description *description, char *bytes, s
     ssize_t got = -EBADF;
     lock_table();
     if (names(fd, description))
-        got = can_write(bytes, most_of(description, count)) ? nippersage_read(self(), fd - FIRST, bytes, count) : -EFAULT;
+        got = can_write(bytes, most_of(description, count)) ? nippersage_read(self(), fd - FIRST, bytes, count)
+                                                            : -EFAULT;
     if (got > 0 && has_copy(description)) drop_waiting(&description->waiting, (size_t)got);
     unlock_table();
     return got;

@@ -25,7 +25,8 @@ static int sleeping;
 static void *newer_of(const char *name, void *found) {
     void *newer = dlvsym(RTLD_NEXT, name, "GLIBC_2.3.2");
     Dl_info of_found, of_newer;
-    if (!newer || !found || dladdr(found, &of_found) == 0 || dladdr(newer, &of_newer) == 0) return newer ? newer : found;
+    if (!newer || !found) return newer ? newer : found;
+    if (dladdr(found, &of_found) == 0 || dladdr(newer, &of_newer) == 0) return newer;
     return of_found.dli_fbase == of_newer.dli_fbase ? newer : found;
 }
 

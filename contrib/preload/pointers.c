@@ -1,13 +1,13 @@
 /* Pointers that a program gives to a call. The real kernel answers EFAULT for one that leads nowhere, and so do the
-   doubles: they touch each page that a call is to read or to write before it does anything. A touch of what isn't there
-   is a fault; signals.c has its signal for all of the program's life, sees where it came from, and lets the touch answer
-   that it failed. So a good pointer costs some instructions, and no call of the real kernel. */
+   doubles: they touch each page that a call is to read or to write before it does anything. A touch of what isn't
+   there is a fault; signals.c has its signal for all of the program's life, sees where it came from, and lets the
+   touch answer that it failed. So a good pointer costs some instructions, and no call of the real kernel. */
 #include "preload.h"
 
 #include <ucontext.h>
 
-/* Each page from the byte at `first` to that at `last` is touched: by reading a byte, or by a write that leaves the byte
-   as it is, whatever other threads do to it meanwhile. */
+/* Each page from the byte at `first` to that at `last` is touched: by reading a byte, or by a write that leaves the
+   byte as it is, whatever other threads do to it meanwhile. */
 __asm__(".text\n"
         ".p2align 4\n"
         ".globl touch_to_read, touch_to_write, begin_of_touches, end_of_touches, end_of_bad_touch\n"

@@ -164,6 +164,7 @@ extern _Thread_local struct thread_state this_thread;
 #define QUIET_WITHIN __attribute__((cleanup(end_quiet_within), unused)) int is_quiet = begin_quiet()
 /* Runs what was held back, where this thread may run handlers again. */
 void let_handlers_run(void);
+/* Gives those their answers whose waits have ended: sleepers.c. */
 void wake_sleepers(void);
 /* Each call has several of these within one another: so they are inline. */
 static inline int begin_quiet(void) {
@@ -216,7 +217,6 @@ int wait_at(const struct wait *wait);
 bool is_anyone_waiting(void);
 /* The next moment of the simulated clock at which something happens. Whether there is one. */
 bool next_moment(uint64_t *moment);
-/* wake_sleepers gives those their answers whose waits have ended. */
 /* As a signal arrives in a wait, before any lock is taken; then before and after its handler. */
 void disturb(struct sleeper *sleeper);
 void begin_handler_in(void *sleeper, long restarts);

@@ -129,8 +129,8 @@ static struct sigaction take_action(int signal) {
     return action;
 }
 
-/* Lets a signal that has no handler end the program. A fault comes again once it is left to the real kernel; it is below
-   0 here. */
+/* Lets a signal that has no handler end the program. A fault comes again once it is left to the real kernel; it is
+   below 0 here. */
 static void end_by(void *nothing, long which) {
     struct sigaction none = {.sa_handler = SIG_DFL};
     bool is_fault = which < 0;

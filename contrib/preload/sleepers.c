@@ -180,8 +180,8 @@ static void leave(struct sleeper *me) {
 
 void disturb(struct sleeper *s) { atomic_fetch_add(&s->word, 1); }
 
-/* A wait that the handler breaks ends before the handler runs, as on Linux: what the handler makes ready is no answer to
-   it. What was ready before is one. */
+/* A wait that the handler breaks ends before the handler runs, as on Linux: what the handler makes ready is no answer
+   to it. What was ready before is one. */
 void begin_handler_in(void *sleeper, long restarts) {
     struct sleeper *s = sleeper;
     int depth = this_thread.depth;

@@ -1,11 +1,11 @@
-/* A stack of the shim's own for each thread that needs one. A call takes some 10 KB of stack, for the simulated kernel
-   runs within it. Threads of PTHREAD_STACK_MIN, coroutines and handlers on alternate stacks may have less than that. So
-   build puts a stub before each function that the program sees: it goes on at once if the caller's stack has ROOM, as
-   that of an ordinary thread, and else calls the function on the thread's own stack.
+/* A stack of the shim's own for each thread that needs one. A call takes some 10 KB of stack, for the simulated
+   kernel runs within it. Threads of PTHREAD_STACK_MIN, coroutines and handlers on alternate stacks may have less than
+   that. So build puts a stub before each function that the program sees: it goes on at once if the caller's stack has
+   ROOM, as that of an ordinary thread, and else calls the function on the thread's own stack.
 
    The real kernel runs a handler that breaks into such a call on that stack, too, or on the program's alternate one.
-   The program's part of it runs where it would run on Linux: below the frame of the call, or on the alternate stack. The
-   calls of that part begin below what is used of the shim's stack. */
+   The program's part of it runs where it would run on Linux: below the frame of the call, or on the alternate stack.
+   The calls of that part begin below what is used of the shim's stack. */
 #include "preload.h"
 
 #include <dlfcn.h>
@@ -68,8 +68,8 @@ static void make_key(void) {
     if (pthread_key_create(&key, give_back) != 0) abort();
 }
 
-/* Valgrind takes a stack pointer that moves by less than 2 MB for one that stays on its stack: so there the own stack is
-   that far from all others. */
+/* Valgrind takes a stack pointer that moves by less than 2 MB for one that stays on its stack: so there the own stack
+   is that far from all others. */
 static uintptr_t map_stack(void) {
     size_t apart = RUNNING_ON_VALGRIND ? APART : 0;
     char *made = mmap(NULL, 2 * apart + SIZE, PROT_NONE, MAP_PRIVATE | MAP_ANONYMOUS | MAP_NORESERVE, -1, 0);
@@ -166,8 +166,8 @@ static bool is_on(const stack_t *stack, uintptr_t address) {
     return !(stack->ss_flags & SS_DISABLE) && address - (uintptr_t)stack->ss_sp < stack->ss_size;
 }
 
-/* An alternate stack may lie within the thread's. One that wasn't disarmed, as a sanitizer's, is used from its top by the
-   next handler, if that breaks into a call that is made elsewhere: so none is, if the stack is large enough. */
+/* An alternate stack may lie within the thread's. One that wasn't disarmed, as a sanitizer's, is used from its top by
+   the next handler, if that breaks into a call that is made elsewhere: so none is, if the stack is large enough. */
 static uintptr_t room_on(const stack_t *alternate) {
     return (unsigned int)alternate->ss_flags & DISARMS || alternate->ss_size < ROOM / 4 ? 0 : UINTPTR_MAX;
 }
@@ -235,8 +235,8 @@ static int set_alternate(const stack_t *given) {
     return errno == EINVAL ? next_sigaltstack()(given, NULL) : -1;
 }
 
-/* The real kernel disarms an alternate stack while a handler runs there: so a call of the handler may be made on the own
-   stack, and a further handler begins below it. What the program is told is as if it weren't so. */
+/* The real kernel disarms an alternate stack while a handler runs there: so a call of the handler may be made on the
+   own stack, and a further handler begins below it. What the program is told is as if it weren't so. */
 int sigaltstack(const stack_t *restrict given, stack_t *restrict before) {
     bool is_used = is_on_alternate(place_of_call(__builtin_frame_address(0)));
     stack_t was = stacks.has_alternate ? stacks.alternate : (stack_t){.ss_flags = SS_DISABLE};
