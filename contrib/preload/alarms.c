@@ -160,6 +160,7 @@ int setitimer(__itimer_which_t which, const struct itimerval *given, struct itim
     int status;
     QUIET;
     if (which != ITIMER_REAL) return next_setitimer()(which, given, before);
+    if (!READABLE_OR_NULL(given) || !WRITABLE_OR_NULL(before)) return (int)ANSWER(-EFAULT, "setitimer(ITIMER_REAL)");
     value.it_value = given ? nanoseconds_of(&given->it_value) : (struct timespec){0, 0};
     value.it_interval = given ? nanoseconds_of(&given->it_interval) : (struct timespec){0, 0};
     status = set(alarms, false, &value, &was);
@@ -171,6 +172,7 @@ int getitimer(__itimer_which_t which, struct itimerval *now) {
     struct itimerspec setting;
     QUIET;
     if (which != ITIMER_REAL) return next_getitimer()(which, now);
+    if (!WRITABLE(now)) return (int)ANSWER(-EFAULT, "getitimer(ITIMER_REAL, %p)", (void *)now);
     tell(alarms, &setting);
     *now = itimerval_of(&setting);
     return (int)ANSWER(0, "getitimer(ITIMER_REAL, %s)", setting_text(TEXT, &setting));
@@ -230,6 +232,8 @@ int timer_create(clockid_t clock, struct sigevent *restrict event, timer_t *rest
     int status;
     QUIET;
     if (!is_clock(clock)) return next_timer_create()(clock, event, made);
+    if (!READABLE_OR_NULL(event) || !WRITABLE(made))
+        return (int)ANSWER(-EFAULT, "timer_create(%s)", clock_text(TEXT, clock));
     if (event && event->sigev_notify == SIGEV_THREAD)
         return refuse(ENOTSUP, "timer_create: a timer that begins threads (SIGEV_THREAD) is not simulated");
     status = event && !is_event(event) ? -EINVAL : make(clock, event, made);
@@ -242,6 +246,8 @@ int timer_settime(timer_t timer, int flags, const struct itimerspec *restrict va
     int status;
     QUIET;
     if (!alarm) return next_timer_settime()(timer, flags, value, before);
+    if (!READABLE_OR_NULL(value) || !WRITABLE_OR_NULL(before))
+        return (int)ANSWER(-EFAULT, "timer_settime(%d)", (int)(alarm - alarms));
     status = value ? set(alarm, flags & TIMER_ABSTIME, value, before) : -EINVAL;
     return (int)ANSWER(status, "timer_settime(%d, %s, %s)", (int)(alarm - alarms),
                        flags & TIMER_ABSTIME ? "TIMER_ABSTIME" : "0", setting_text(TEXT, value));
@@ -252,7 +258,7 @@ int timer_gettime(timer_t timer, struct itimerspec *now) {
     int status;
     QUIET;
     if (!alarm) return next_timer_gettime()(timer, now);
-    status = tell(alarm, now);
+    status = WRITABLE(now) ? tell(alarm, now) : -EFAULT;
     return (int)ANSWER(status, "timer_gettime(%d, %s)", (int)(alarm - alarms),
                        setting_text(TEXT, status < 0 ? NULL : now));
 }

@@ -30,11 +30,20 @@ static bool has_copy(const struct description *description) {
     return description->kind == PIPE || description->kind == SOCKET;
 }
 
-/* One event. What waits is kept twice: see copies.c. */
+/* So much of so many bytes can a read move. */
+static size_t most_of(const struct description *description, size_t count) {
+    bool counts = description->kind == EVENTFD || description->kind == TIMERFD;
+    size_t most = counts ? sizeof(uint64_t) : description->waiting.count;
+    return count < most ? count : most;
+}
+
+/* One event. What waits is kept twice: see copies.c. What can't be put anywhere stays. */
 static ssize_t read_part(int fd, struct description *description, char *bytes, size_t count) {
     ssize_t got = -EBADF;
     lock_table();
-    if (names(fd, description)) got = nippersage_read(self(), fd - FIRST, bytes, count);
+    if (names(fd, description))
+        got = can_write(bytes, most_of(description, count)) ? nippersage_read(self(), fd - FIRST, bytes, count)
+                                                            : -EFAULT;
     if (got > 0 && has_copy(description)) drop_waiting(&description->waiting, (size_t)got);
     unlock_table();
     return got;
@@ -45,8 +54,11 @@ static ssize_t write_part(int fd, const struct description *description, const c
     ssize_t taken = -EBADF;
     lock_table();
     waiting = has_copy(description) && description->peer ? &description->peer->waiting : NULL;
-    if (names(fd, description))
+    if (names(fd, description) && description->access != O_RDONLY && !can_read(bytes, count)) {
+        taken = -EFAULT;
+    } else if (names(fd, description)) {
         taken = waiting && !make_room(waiting, count) ? -ENOMEM : nippersage_write(self(), fd - FIRST, bytes, count);
+    }
     if (taken > 0 && waiting) add_waiting(waiting, bytes, (size_t)taken);
     unlock_table();
     return taken;
@@ -68,7 +80,10 @@ static ssize_t peek_some(int fd, const struct description *description, char *by
     ssize_t got = -EBADF;
     char none;
     lock_table();
-    if (names(fd, description)) got = (ssize_t)look_at_waiting(&description->waiting, bytes, count);
+    if (names(fd, description))
+        got = can_write(bytes, most_of(description, count))
+                  ? (ssize_t)look_at_waiting(&description->waiting, bytes, count)
+                  : -EFAULT;
     if (got == 0 && count > 0) got = nippersage_read(self(), fd - FIRST, &none, 1);
     unlock_table();
     return got;
@@ -155,11 +170,25 @@ ssize_t give(int fd, const char *bytes, size_t count, int flags, const char *cal
 static ssize_t bytes_in(const struct iovec *vectors, int count) {
     size_t sum = 0;
     if (count < 0 || count > IOV_MAX) return -EINVAL;
+    if (!can_read(vectors, (size_t)count * sizeof *vectors)) return -EFAULT;
     for (int i = 0; i < count; i++) {
         if (vectors[i].iov_len > (size_t)SSIZE_MAX - sum) return -EINVAL;
         sum += vectors[i].iov_len;
     }
     return (ssize_t)sum;
+}
+
+/* Whether as much of vectors can be written as one read moves. */
+static bool can_write_vectors(const struct iovec *vectors, size_t count) {
+    const struct nippersage_limits *limits = &settings()->limits;
+    size_t most = limits->pipe_bytes > limits->sock_bytes ? limits->pipe_bytes : limits->sock_bytes;
+    if (count > most) count = most;
+    for (; count > 0; vectors++) {
+        size_t part = count < vectors->iov_len ? count : vectors->iov_len;
+        if (!can_write(vectors->iov_base, part)) return false;
+        count -= part;
+    }
+    return true;
 }
 
 /* Vectors are one buffer: so a write of at most PIPE_BUF bytes to a pipe is whole. */
@@ -168,26 +197,31 @@ static ssize_t take_vectors(int fd, const struct iovec *vectors, int count, int 
     ssize_t size = bytes_in(vectors, count), got, done = 0;
     char *bytes = size < 0 ? NULL : malloc(size > 0 ? (size_t)size : 1);
     if (!bytes) return size < 0 ? size : -ENOMEM;
-    got = take(fd, bytes, (size_t)size, flags, call);
+    got = can_write_vectors(vectors, (size_t)size) ? take(fd, bytes, (size_t)size, flags, call) : -EFAULT;
     for (int i = 0; done < got; i++) {
         size_t part = (size_t)(got - done) < vectors[i].iov_len ? (size_t)(got - done) : vectors[i].iov_len;
+        if (part > 0 && !can_write(vectors[i].iov_base, part)) break;
         if (part > 0) memcpy(vectors[i].iov_base, bytes + done, part);
         done += (ssize_t)part;
     }
     free(bytes);
-    return got;
+    return done < got ? done : got;
 }
 
 static ssize_t give_vectors(int fd, const struct iovec *vectors, int count, int flags, const char *call) {
     QUIET;
-    ssize_t size = bytes_in(vectors, count), taken;
+    ssize_t size = bytes_in(vectors, count), taken = 0;
     char *bytes = size < 0 ? NULL : malloc(size > 0 ? (size_t)size : 1), *next = bytes;
     if (!bytes) return size < 0 ? size : -ENOMEM;
-    for (int i = 0; i < count; i++) {
-        if (vectors[i].iov_len > 0) memcpy(next, vectors[i].iov_base, vectors[i].iov_len);
-        next += vectors[i].iov_len;
+    for (int i = 0; i < count && taken == 0; i++) {
+        if (!can_read(vectors[i].iov_base, vectors[i].iov_len)) {
+            taken = -EFAULT;
+        } else if (vectors[i].iov_len > 0) {
+            memcpy(next, vectors[i].iov_base, vectors[i].iov_len);
+            next += vectors[i].iov_len;
+        }
     }
-    taken = give(fd, bytes, (size_t)size, flags, call);
+    if (taken == 0) taken = give(fd, bytes, (size_t)size, flags, call);
     free(bytes);
     return taken;
 }
@@ -260,9 +294,9 @@ ssize_t recvfrom(int fd, void *bytes, size_t count, int flags, struct sockaddr *
     if (!is_simulated(fd)) return next_recvfrom()(fd, bytes, count, flags, from, size);
     QUIET;
     if (!receives_with(flags)) return refuse(EOPNOTSUPP, "recv(%d) with flags %#x is not simulated", fd, flags);
-    got = not_a_socket(fd);
+    got = from && !WRITABLE(size) ? -EFAULT : not_a_socket(fd);
     if (got == 0) got = take(fd, bytes, count, flags, "recv");
-    if (got >= 0 && from && size) *size = 0;
+    if (got >= 0 && from) *size = 0;
     return ANSWER(got, "recv(%d, %s, %zu, %#x)", fd, bytes_text(TEXT, bytes, got), count, flags);
 }
 
@@ -291,7 +325,7 @@ ssize_t recvmsg(int fd, struct msghdr *message, int flags) {
     if (!is_simulated(fd)) return next_recvmsg()(fd, message, flags);
     QUIET;
     if (!receives_with(flags)) return refuse(EOPNOTSUPP, "recvmsg(%d) with flags %#x is not simulated", fd, flags);
-    got = not_a_socket(fd);
+    got = WRITABLE(message) ? not_a_socket(fd) : -EFAULT;
     if (got == 0)
         got = take_vectors(fd, message->msg_iov, (int)message->msg_iovlen, flags, "recvmsg");
     if (got >= 0) message->msg_namelen = message->msg_controllen = message->msg_flags = 0;
@@ -302,6 +336,7 @@ ssize_t sendmsg(int fd, const struct msghdr *message, int flags) {
     ssize_t taken;
     if (!is_simulated(fd)) return next_sendmsg()(fd, message, flags);
     QUIET;
+    if (!READABLE(message)) return ANSWER(-EFAULT, "sendmsg(%d, %p, %#x)", fd, (const void *)message, flags);
     if (!sends_with(flags)) return refuse(EOPNOTSUPP, "sendmsg(%d) with flags %#x is not simulated", fd, flags);
     if (message->msg_controllen > 0)
         return refuse(EOPNOTSUPP, "sendmsg(%d): control messages, as of descriptors, are not simulated", fd);
@@ -335,6 +370,9 @@ int shutdown(int fd, int how) {
 static int tell_no_name(int fd, struct sockaddr *name, socklen_t *size) {
     static const struct sockaddr_un unnamed = {.sun_family = AF_UNIX};
     int status = not_a_socket(fd);
+    if (status == 0 && (!WRITABLE(size) || !can_write(name, *size < sizeof(sa_family_t) ? *size : sizeof(sa_family_t))))
+        status = -EFAULT;
+    if (status == 0 && (int)*size < 0) status = -EINVAL;
     if (status == 0) {
         memcpy(name, &unnamed, *size < sizeof(sa_family_t) ? *size : sizeof(sa_family_t));
         *size = sizeof(sa_family_t);

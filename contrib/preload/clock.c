@@ -92,6 +92,7 @@ static uint64_t moment_asked(void) {
 
 int clock_gettime(clockid_t clock, struct timespec *time) {
     if (!is_clock(clock)) return next_clock_gettime()(clock, time);
+    if (!WRITABLE(time)) return (int)plain_answer(-EFAULT);
     *time = timespec_of(moment_asked());
     if (is_of_day(clock)) time->tv_sec += EPOCH_SECONDS;
     return 0;
@@ -99,6 +100,7 @@ int clock_gettime(clockid_t clock, struct timespec *time) {
 
 int gettimeofday(struct timeval *restrict time, void *restrict zone) {
     struct timespec now = timespec_of(moment_asked());
+    if (!WRITABLE(time) || (zone && !can_write(zone, sizeof(struct timezone)))) return (int)plain_answer(-EFAULT);
     *time = (struct timeval){EPOCH_SECONDS + now.tv_sec, now.tv_nsec / 1000};
     if (zone) memset(zone, 0, sizeof(struct timezone));
     return 0;
@@ -110,6 +112,7 @@ int timespec_get(struct timespec *time, int base) {
 
 time_t time(time_t *told) {
     time_t now = EPOCH_SECONDS + timespec_of(moment_asked()).tv_sec;
+    if (!WRITABLE_OR_NULL(told)) return plain_answer(-EFAULT);
     if (told) *told = now;
     return now;
 }
@@ -121,14 +124,17 @@ static int sleep_or_break(int64_t units, struct timespec *left) {
     uint64_t end = moment_now() + (uint64_t)units, now;
     if (sleep_for(units, "clock_nanosleep") == 0) return 0;
     now = moment_now();
+    if (!WRITABLE_OR_NULL(left)) return EFAULT;
     if (left) *left = timespec_of(end > now ? end - now : 0);
     return EINTR;
 }
 
 int clock_nanosleep(clockid_t clock, int flags, const struct timespec *time, struct timespec *left) {
-    int64_t units = units_of(time), now = (int64_t)moment_now();
+    int64_t units, now = (int64_t)moment_now();
     int error, saved = errno;
     if (!is_clock(clock)) return next_clock_nanosleep()(clock, flags, time, left);
+    if (!READABLE(time)) return EFAULT;
+    units = units_of(time);
     if (units < 0) return EINVAL;
     QUIET;
     if (flags & TIMER_ABSTIME) {
@@ -178,7 +184,7 @@ int timerfd_settime(int fd, int flags, const struct itimerspec *value, struct it
     QUIET;
     struct description *description = hold(fd);
     struct itimerspec kept;
-    int status = !description ? -EBADF : !value ? -EFAULT : 0;
+    int status = !READABLE(value) || !WRITABLE_OR_NULL(before) ? -EFAULT : !description ? -EBADF : 0;
     if (status == 0) {
         kept = *value;
         if ((flags & TFD_TIMER_ABSTIME) && is_of_day(description->clock)) from_day(&kept.it_value);
@@ -186,14 +192,15 @@ int timerfd_settime(int fd, int flags, const struct itimerspec *value, struct it
     }
     if (description) let_go(description);
     return (int)ANSWER(status, "timerfd_settime(%d, %s, %s, %s)", fd,
-                       flags & TFD_TIMER_ABSTIME ? "TFD_TIMER_ABSTIME" : "0", setting_text(TEXT, value),
+                       flags & TFD_TIMER_ABSTIME ? "TFD_TIMER_ABSTIME" : "0",
+                       setting_text(TEXT, status == -EFAULT ? NULL : value),
                        setting_text(TEXT, status < 0 ? NULL : before));
 }
 
 int timerfd_gettime(int fd, struct itimerspec *now) {
     QUIET;
     struct description *description = hold(fd);
-    int status = description ? nippersage_timerfd_gettime(self(), fd - FIRST, now) : -EBADF;
+    int status = !description ? -EBADF : WRITABLE(now) ? nippersage_timerfd_gettime(self(), fd - FIRST, now) : -EFAULT;
     if (description) let_go(description);
     return (int)ANSWER(status, "timerfd_gettime(%d, %s)", fd, setting_text(TEXT, status < 0 ? NULL : now));
 }

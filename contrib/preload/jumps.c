@@ -15,25 +15,27 @@ static uintptr_t target_of(const struct __jmp_buf_tag *buffer) {
     return (kept >> ROTATED | kept << (64 - ROTATED)) ^ secret;
 }
 
+static void leave_below(uintptr_t target) {
+    leave_waits_below(target);
+    leave_stacks_below(target);
+}
+
 void longjmp(struct __jmp_buf_tag buffer[1], int value) {
-    leave_waits_below(target_of(buffer));
+    leave_below(target_of(buffer));
     next_longjmp()(buffer, value);
 }
 
 void _longjmp(struct __jmp_buf_tag buffer[1], int value) {
-    leave_waits_below(target_of(buffer));
+    leave_below(target_of(buffer));
     next__longjmp()(buffer, value);
 }
 
 void siglongjmp(struct __jmp_buf_tag buffer[1], int value) {
-    leave_waits_below(target_of(buffer));
+    leave_below(target_of(buffer));
     next_siglongjmp()(buffer, value);
 }
 
-/* What the C library makes of them in a program that was compiled with _FORTIFY_SOURCE. */
+/* What the C library makes of them in a program that was compiled with _FORTIFY_SOURCE. Its own would look whether the
+   jump goes up on the stack that this is called on, which may be the shim's. */
 _Noreturn void __longjmp_chk(struct __jmp_buf_tag buffer[1], int value);
-FORWARD(__longjmp_chk)
-_Noreturn void __longjmp_chk(struct __jmp_buf_tag buffer[1], int value) {
-    leave_waits_below(target_of(buffer));
-    next___longjmp_chk()(buffer, value);
-}
+_Noreturn void __longjmp_chk(struct __jmp_buf_tag buffer[1], int value) { longjmp(buffer, value); }

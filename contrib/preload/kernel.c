@@ -20,10 +20,19 @@ static atomic_uint callers;
 static atomic_ulong count;
 static int sleeping;
 
+/* The C library keeps an older pthread_cond_timedwait, too, which dlsym may find. That of another library, as a
+   sanitizer's, comes before both. */
+static void *newer_of(const char *name, void *found) {
+    void *newer = dlvsym(RTLD_NEXT, name, "GLIBC_2.3.2");
+    Dl_info of_found, of_newer;
+    if (!newer || !found) return newer ? newer : found;
+    if (dladdr(found, &of_found) == 0 || dladdr(newer, &of_newer) == 0) return newer;
+    return of_found.dli_fbase == of_newer.dli_fbase ? newer : found;
+}
+
 void *next_of(const char *name) {
-    /* The C library keeps an older pthread_cond_timedwait, too, which dlsym may find. */
-    void *found = strncmp(name, "pthread_cond", 12) == 0 ? dlvsym(RTLD_NEXT, name, "GLIBC_2.3.2") : NULL;
-    if (!found) found = real_dlsym()(RTLD_NEXT, name);
+    void *found = real_dlsym()(RTLD_NEXT, name);
+    if (strncmp(name, "pthread_cond", 12) == 0) found = newer_of(name, found);
     if (!found) {
         fprintf(stderr, "nippersage: the C library has no %s\n", name);
         abort();
@@ -114,7 +123,10 @@ int sleeping_instance(void) {
     return sleeping;
 }
 
-void keep_history(void) {
+/* Held while the history is written, so that a program that ends twice leaves a whole one. */
+static pthread_mutex_t writing = PTHREAD_MUTEX_INITIALIZER;
+
+static void write_history(void) {
     const char *path = settings()->history;
     int fd, status;
     if (!path || !kernel) return;
@@ -124,21 +136,33 @@ void keep_history(void) {
     if (status < 0) say("the history can't be written to %s: %s", path, strerror(-status));
 }
 
-static void write_history_once(void) {
-    static atomic_flag is_written = ATOMIC_FLAG_INIT;
-    if (atomic_flag_test_and_set(&is_written)) return;
-    tell_what_came_again();
-    keep_history();
+void keep_history(void) {
+    QUIET;
+    pthread_mutex_lock(&writing);
+    write_history();
+    pthread_mutex_unlock(&writing);
+}
+
+void write_history_once(void) {
+    static bool is_written;
+    QUIET;
+    pthread_mutex_lock(&writing);
+    if (!is_written) tell_what_came_again();
+    if (!is_written) write_history();
+    is_written = true;
+    pthread_mutex_unlock(&writing);
 }
 
 __attribute__((constructor)) static void begin(void) {
     QUIET;
     const char *path = settings()->log;
+    learn_first_stack();
     is_logged = path && (unlink(path) == 0 || errno == ENOENT);
     if (path && !is_logged) say("the log can't be made anew at %s: %s", path, strerror(errno));
     at_quick_exit(write_history_once);
     this_thread.is_counted = true;
     self();
+    keep_signals();
 }
 
 __attribute__((destructor)) static void end(void) { write_history_once(); }

@@ -127,18 +127,21 @@ static int set(const struct rlimit *limit) {
 
 int getrlimit(__rlimit_resource_t resource, struct rlimit *limit) {
     if (resource != RLIMIT_NOFILE) return next_getrlimit()(resource, limit);
+    if (!WRITABLE(limit)) return (int)plain_answer(-EFAULT);
     *limit = tell();
     return 0;
 }
 
 int setrlimit(__rlimit_resource_t resource, const struct rlimit *limit) {
-    return resource == RLIMIT_NOFILE ? set(limit) : next_setrlimit()(resource, limit);
+    if (resource != RLIMIT_NOFILE) return next_setrlimit()(resource, limit);
+    return READABLE(limit) ? set(limit) : (int)plain_answer(-EFAULT);
 }
 
 /* Of another process the limit is the real one. */
 int prlimit(pid_t pid, __rlimit_resource_t resource, const struct rlimit *limit, struct rlimit *before) {
     struct rlimit told;
     if (resource != RLIMIT_NOFILE || (pid != 0 && pid != getpid())) return next_prlimit()(pid, resource, limit, before);
+    if (!READABLE_OR_NULL(limit) || !WRITABLE_OR_NULL(before)) return (int)plain_answer(-EFAULT);
     told = tell();
     if (limit && set(limit) != 0) return -1;
     if (before) *before = told;

@@ -83,6 +83,7 @@ int getsockopt(int fd, int level, int option, void *restrict value, socklen_t *r
     int status;
     if (!is_simulated(fd)) return next_getsockopt()(fd, level, option, value, size);
     QUIET;
+    if (!WRITABLE(size)) return (int)ANSWER(-EFAULT, "getsockopt(%d, %d, %d, %p)", fd, level, option, (void *)size);
     description = hold_socket(fd, &status);
     if (description) {
         room = level == SOL_SOCKET ? tell(&description->options, option, &told) : 0;
@@ -92,6 +93,7 @@ int getsockopt(int fd, int level, int option, void *restrict value, socklen_t *r
         if (level == SOL_SOCKET && room == 0)
             return refuse(ENOPROTOOPT, "getsockopt(%d, SOL_SOCKET, %d) is not simulated", fd, option);
         if (status == 0 && (int)*size < 0) status = -EINVAL;
+        if (status == 0 && !can_write(value, *size < room ? *size : room)) status = -EFAULT;
     }
     if (status == 0) memcpy(value, &told, *size = *size < room ? *size : room);
     return (int)ANSWER(status, "getsockopt(%d, %d, %d)", fd, level, option);
@@ -159,7 +161,9 @@ int setsockopt(int fd, int level, int option, const void *value, socklen_t size)
     if (!is_simulated(fd)) return next_setsockopt()(fd, level, option, value, size);
     QUIET;
     memset(&given, 0, sizeof given);
-    if (value) memcpy(&given, value, size < sizeof given ? size : sizeof given);
+    if ((int)size > 0 && !can_read(value, size < sizeof given ? size : sizeof given))
+        return (int)ANSWER(-EFAULT, "setsockopt(%d, %d, %d, %p)", fd, level, option, value);
+    if ((int)size > 0) memcpy(&given, value, size < sizeof given ? size : sizeof given);
     description = hold_socket(fd, &status);
     if (description) {
         lock_table();

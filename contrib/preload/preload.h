@@ -31,6 +31,52 @@ enum { UNIT = 1000, MILLISECOND = 1000000 / UNIT, SECOND = 1000000000 / UNIT };
 /* With what status the shim ends a program: for a setting, for threads that wait for ever, for too many records. */
 enum { STATUS_SETTING = 2, STATUS_ENDLESS = 70, STATUS_FULL = 71 };
 
+/* ---- pointers.c: what a program's pointers lead to ---- */
+
+/* Whether each page of these bytes can be touched, from the first byte to the last: see can_read and can_write. */
+bool touch_to_read(const void *first, const void *last);
+bool touch_to_write(void *first, void *last);
+/* Whether a call may read so many bytes, or write them. If not, its answer is EFAULT. */
+static inline bool can_read(const void *from, size_t size) {
+    uintptr_t last = (uintptr_t)from + size - 1;
+    return size == 0 || (last >= (uintptr_t)from && touch_to_read(from, (const void *)last));
+}
+static inline bool can_write(void *to, size_t size) {
+    uintptr_t last = (uintptr_t)to + size - 1;
+    return size == 0 || (last >= (uintptr_t)to && touch_to_write(to, (void *)last));
+}
+/* The same for one object, and for one that may be NULL. */
+#define READABLE(pointer) can_read(pointer, sizeof *(pointer))
+#define WRITABLE(pointer) can_write(pointer, sizeof *(pointer))
+#define READABLE_OR_NULL(pointer) (!(pointer) || READABLE(pointer))
+#define WRITABLE_OR_NULL(pointer) (!(pointer) || WRITABLE(pointer))
+/* Whether a fault is one of a touch; the touch goes on, then, and answers that it failed. */
+bool end_bad_touch(void *context);
+
+/* ---- stacks.c: the shim's own stacks ---- */
+
+/* How much stack the first thread has, what a new one will have, and what one that has just begun has. */
+void learn_first_stack(void);
+size_t stack_of(const pthread_attr_t *attributes);
+void learn_stack(size_t size);
+/* Before and after a handler of the program that broke into what `context` is of. */
+struct place {
+    uintptr_t top, room;
+};
+struct place begin_handler_stack(const void *context);
+void end_handler_stack(struct place before);
+/* Calls it on the stack on which it would run on Linux. */
+void call_handler(void (*handler)(int, siginfo_t *, void *), int signal, siginfo_t *info, void *context);
+/* Calls a function of the shim within a handler, on the own stack if the program's is small. */
+void call_apart(void (*function)(void *, long), void *a, long b);
+/* Calls a function on another stack. */
+void call_on(uintptr_t stack, void (*function)(int, siginfo_t *, void *), int signal, siginfo_t *info, void *context);
+/* Where on the program's stack the call was made to which a frame of the shim belongs. */
+uintptr_t place_of_call(const void *frame);
+/* Whether a jump to `target` leaves what was called at a place; what it leaves of the own stack is free again. */
+bool is_left(uintptr_t place, uintptr_t target);
+void leave_stacks_below(uintptr_t target);
+
 /* ---- settings.c: what the environment says ---- */
 
 struct settings {
@@ -85,8 +131,9 @@ void *next_of(const char *name);
     }
 /* One line on standard error. */
 void say(const char *format, ...) __attribute__((format(printf, 1, 2)));
-/* Writes the history as it is. */
+/* Writes the history as it is; the same, if it isn't written for the program's end yet. */
 void keep_history(void);
+void write_history_once(void);
 /* The instance in which nothing is ever registered: who waits there sleeps. */
 int sleeping_instance(void);
 
@@ -125,13 +172,29 @@ extern _Thread_local struct thread_state this_thread;
 /* As a system call, a function that begins so runs no handler of a signal before its end, except where it sleeps.
    Who takes a lock of the shim, or calls the library, has to be in one. */
 #define QUIET __attribute__((cleanup(end_quiet), unused)) int is_quiet = begin_quiet()
-int begin_quiet(void);
-void end_quiet(const int *unused);
 /* The same for memory.c, which the library calls: nobody is woken at its end. */
 #define QUIET_WITHIN __attribute__((cleanup(end_quiet_within), unused)) int is_quiet = begin_quiet()
-void end_quiet_within(const int *unused);
 /* Runs what was held back, where this thread may run handlers again. */
 void let_handlers_run(void);
+/* Gives those their answers whose waits have ended: sleepers.c. */
+void wake_sleepers(void);
+/* Each call has several of these within one another: so they are inline. */
+static inline int begin_quiet(void) {
+    this_thread.quiet++;
+    atomic_signal_fence(memory_order_seq_cst);
+    return 0;
+}
+static inline void end_quiet_within(const int *unused) {
+    (void)unused;
+    atomic_signal_fence(memory_order_seq_cst);
+    this_thread.quiet--;
+    atomic_signal_fence(memory_order_seq_cst);
+    if (this_thread.quiet == 0 && this_thread.is_held_back) let_handlers_run();
+}
+static inline void end_quiet(const int *unused) {
+    if (this_thread.quiet == 1) wake_sleepers();
+    end_quiet_within(unused);
+}
 /* The same within a quiet call, and whether there was any. */
 bool let_pending_run(void);
 /* Blocks other signals for the rest of a quiet call, and tells which were; the same back. */
@@ -142,6 +205,10 @@ void handle_door_signal(void (*handler)(int signal, siginfo_t *info, void *conte
 void arrive(int signal, siginfo_t *info, void *context);
 /* Whether the program has a handler of a signal that others may send. */
 bool has_handlers(void);
+/* Begins to hear of faults, and of signals from outside that end a program, which leave the history. */
+void keep_signals(void);
+/* Ends the program by such a signal, if one was held back, for a sleep in which no handler may run. */
+void end_if_killed(void);
 /* Writes the history if a signal that is about to be sent ends the program. */
 void keep_history_before(int signal);
 /* Sends a signal that this thread has earned, as SIGPIPE. */
@@ -165,13 +232,11 @@ int wait_at(const struct wait *wait);
 bool is_anyone_waiting(void);
 /* The next moment of the simulated clock at which something happens. Whether there is one. */
 bool next_moment(uint64_t *moment);
-/* Gives those their answers whose waits have ended. */
-void wake_sleepers(void);
 /* As a signal arrives in a wait, before any lock is taken; then before and after its handler. */
 void disturb(struct sleeper *sleeper);
-void begin_handler_in(struct sleeper *sleeper, bool restarts);
-void end_handler_in(struct sleeper *sleeper);
-/* Ends those waits of this thread whose frames lie below an address of the stack, for a handler jumps there. */
+void begin_handler_in(void *sleeper, long restarts);
+void end_handler_in(void *sleeper, long unused);
+/* Ends those waits of this thread that a jump to an address of the stack leaves. */
 void leave_waits_below(uintptr_t address);
 /* So many threads more take part, or fewer. */
 void count_threads(int more);
@@ -225,6 +290,7 @@ struct description {
     clockid_t clock;
     atomic_bool is_nonblocking;
     struct waiting waiting;
+    int pipe_room; /* what F_SETPIPE_SZ has set, or 0 */
     struct options options;
     struct description *peer;
     int holders; /* descriptors that name it, and calls that use it */

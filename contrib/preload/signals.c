@@ -19,8 +19,11 @@ FORWARD(syscall)
 #define BIT(signal) (UINT64_C(1) << ((signal) - 1))
 /* What is never blocked: the two that the C library keeps for itself, and that of doors.c. */
 #define NEVER_BLOCKED (BIT(32) | BIT(33) | BIT(SIGSYS))
-#define ALL (~NEVER_BLOCKED)
 #define FAULTS (BIT(SIGSEGV) | BIT(SIGBUS) | BIT(SIGFPE) | BIT(SIGILL) | BIT(SIGTRAP) | BIT(SIGSYS))
+/* All but those, and faults, which can't wait. */
+#define ALL (~(NEVER_BLOCKED | FAULTS))
+/* Those of a touch of a bad pointer: pointers.c. */
+#define BAD_TOUCHES (BIT(SIGSEGV) | BIT(SIGBUS))
 enum { MOST_SIGNALS = 64 };
 
 _Thread_local struct thread_state this_thread;
@@ -30,6 +33,7 @@ static pthread_mutex_t lock = PTHREAD_MUTEX_INITIALIZER;
 static struct sigaction actions[MOST_SIGNALS + 1];
 static _Atomic uint64_t handled; /* the signals that have a handler */
 static void (*door_handler)(int, siginfo_t *, void *); /* of SIGSYS, or NULL */
+static uint64_t kept;            /* those that this file hears of without one, too */
 
 static uint64_t bits_of(const sigset_t *set) {
     uint64_t bits;
@@ -44,25 +48,6 @@ static uint64_t set_mask(uint64_t mask) {
 }
 
 /* ---- calls that hold handlers back ---- */
-
-int begin_quiet(void) {
-    this_thread.quiet++;
-    atomic_signal_fence(memory_order_seq_cst);
-    return 0;
-}
-
-void end_quiet_within(const int *unused) {
-    (void)unused;
-    atomic_signal_fence(memory_order_seq_cst);
-    this_thread.quiet--;
-    atomic_signal_fence(memory_order_seq_cst);
-    if (this_thread.quiet == 0) let_handlers_run();
-}
-
-void end_quiet(const int *unused) {
-    if (this_thread.quiet == 1) wake_sleepers();
-    end_quiet_within(unused);
-}
 
 /* What was held back is sent again, to this thread, while all signals are blocked: so the real kernel runs the handlers
    as it would have. */
@@ -119,67 +104,6 @@ static bool is_function(const struct sigaction *action) {
     return action->sa_handler != SIG_DFL && action->sa_handler != SIG_IGN;
 }
 
-/* What the program asked for of a signal. That of SA_RESETHAND is forgotten. */
-static struct sigaction take_action(int signal) {
-    struct sigaction action, none = {.sa_handler = SIG_DFL};
-    pthread_mutex_lock(&lock);
-    action = actions[signal];
-    if (is_function(&action) && (action.sa_flags & (int)SA_RESETHAND)) {
-        actions[signal].sa_handler = SIG_DFL;
-        atomic_fetch_and(&handled, ~BIT(signal));
-        if (signal != SIGSYS) next_sigaction()(signal, &none, NULL);
-    }
-    pthread_mutex_unlock(&lock);
-    return action;
-}
-
-/* The program has no handler any more, or never had one of SIGSYS. */
-static void end_by(int signal) {
-    struct sigaction none = {.sa_handler = SIG_DFL};
-    if (signal == SIGSYS) {
-        keep_history();
-        next_sigaction()(signal, &none, NULL);
-    }
-    raise(signal);
-}
-
-/* Runs with all signals blocked, as each action asks for. The handler runs with the mask that the program asked for. */
-static void run_handler(int signal, siginfo_t *info, ucontext_t *interrupted) {
-    struct sigaction action = take_action(signal);
-    uint64_t mask = bits_of(&interrupted->uc_sigmask) | bits_of(&action.sa_mask);
-    struct sleeper *in = this_thread.innermost;
-    if (!is_function(&action)) {
-        if (action.sa_handler == SIG_DFL) end_by(signal);
-        return;
-    }
-    if (!(action.sa_flags & SA_NODEFER)) mask |= BIT(signal);
-    this_thread.handlers++;
-    if (!(action.sa_flags & SA_RESTART)) this_thread.breaks++;
-    if (in) begin_handler_in(in, action.sa_flags & SA_RESTART);
-    set_mask(mask);
-    if (action.sa_flags & SA_SIGINFO) {
-        action.sa_sigaction(signal, info, interrupted);
-    } else {
-        action.sa_handler(signal);
-    }
-    if (in) end_handler_in(in);
-}
-
-/* Faults can't wait: what follows them is wrong. */
-void arrive(int signal, siginfo_t *info, void *context) {
-    bool is_fault = (FAULTS & BIT(signal)) && info->si_code > 0;
-    int saved = errno;
-    if (this_thread.quiet > 0 && !is_fault) {
-        hold_back(signal, info, context);
-    } else {
-        if (this_thread.innermost) disturb(this_thread.innermost);
-        run_handler(signal, info, context);
-    }
-    errno = saved;
-}
-
-/* ---- what the program asks for ---- */
-
 static struct sigaction door_action(void) {
     struct sigaction action = {.sa_sigaction = door_handler, .sa_flags = SA_SIGINFO | SA_ONSTACK | SA_RESTART};
     sigfillset(&action.sa_mask);
@@ -188,15 +112,91 @@ static struct sigaction door_action(void) {
     return action;
 }
 
+/* What the real kernel is to do. */
 static struct sigaction real_action(int signal, const struct sigaction *asked) {
     struct sigaction real = *asked;
+    bool is_kept = asked->sa_handler == SIG_DFL && (kept & BIT(signal));
     if (signal == SIGSYS && door_handler) return door_action();
-    if (!is_function(asked)) return real;
+    if (!is_function(asked) && !is_kept) return real;
     real.sa_sigaction = arrive;
     real.sa_flags = (asked->sa_flags & ~(SA_NODEFER | (int)SA_RESETHAND)) | SA_SIGINFO;
+    if (is_kept && !(FAULTS & BIT(signal))) real.sa_flags |= SA_ONSTACK;
     sigfillset(&real.sa_mask);
     return real;
 }
+
+/* What the program asked for of a signal. That of SA_RESETHAND is forgotten. */
+static struct sigaction take_action(int signal) {
+    struct sigaction action, none = {.sa_handler = SIG_DFL}, real = real_action(signal, &none);
+    pthread_mutex_lock(&lock);
+    action = actions[signal];
+    if (is_function(&action) && (action.sa_flags & (int)SA_RESETHAND)) {
+        actions[signal].sa_handler = SIG_DFL;
+        atomic_fetch_and(&handled, ~BIT(signal));
+        next_sigaction()(signal, &real, NULL);
+    }
+    pthread_mutex_unlock(&lock);
+    return action;
+}
+
+/* Lets a signal that has no handler end the program. A fault comes again once it is left to the real kernel; it is
+   below 0 here. */
+static void end_by(void *nothing, long which) {
+    struct sigaction none = {.sa_handler = SIG_DFL};
+    bool is_fault = which < 0;
+    int signal = (int)(is_fault ? -which : which);
+    uint64_t one = BIT(signal);
+    (void)nothing;
+    if (!is_fault) write_history_once();
+    next_sigaction()(signal, &none, NULL);
+    if (is_fault) return;
+    next_syscall()(SYS_tgkill, getpid(), next_syscall()(SYS_gettid), signal);
+    next_syscall()(SYS_rt_sigprocmask, SIG_UNBLOCK, &one, NULL, sizeof one);
+}
+
+void end_if_killed(void) {
+    for (int i = this_thread.first_held; i < this_thread.held_count; i++) {
+        int signal = this_thread.held[i].si_signo;
+        if ((kept & BIT(signal)) && take_action(signal).sa_handler == SIG_DFL) end_by(NULL, signal);
+    }
+}
+
+/* Runs with all signals blocked, as each action asks for. The handler runs with the mask that the program asked for. */
+static void run_handler(int signal, siginfo_t *info, ucontext_t *interrupted, bool is_fault) {
+    struct sigaction action = take_action(signal);
+    uint64_t mask = bits_of(&interrupted->uc_sigmask) | (bits_of(&action.sa_mask) & ~BAD_TOUCHES);
+    struct sleeper *in = this_thread.innermost;
+    struct place before = begin_handler_stack(interrupted);
+    if (!is_function(&action)) {
+        if (action.sa_handler == SIG_DFL) call_apart(end_by, NULL, is_fault ? -signal : signal);
+        end_handler_stack(before);
+        return;
+    }
+    if (!(action.sa_flags & SA_NODEFER)) mask |= BIT(signal);
+    this_thread.handlers++;
+    if (!(action.sa_flags & SA_RESTART)) this_thread.breaks++;
+    if (in) call_apart(begin_handler_in, in, action.sa_flags & SA_RESTART);
+    set_mask(mask);
+    call_handler(action.sa_sigaction, signal, info, interrupted);
+    if (in) call_apart(end_handler_in, in, 0);
+    end_handler_stack(before);
+}
+
+/* Faults can't wait: what follows them is wrong. */
+void arrive(int signal, siginfo_t *info, void *context) {
+    bool is_fault = (FAULTS & BIT(signal)) && info->si_code > 0;
+    int saved = errno;
+    if (is_fault && end_bad_touch(context)) return;
+    if (this_thread.quiet > 0 && !is_fault) {
+        hold_back(signal, info, context);
+    } else {
+        if (this_thread.innermost) disturb(this_thread.innermost);
+        run_handler(signal, info, context, is_fault);
+    }
+    errno = saved;
+}
+
+/* ---- what the program asks for ---- */
 
 static void keep_action(int signal, const struct sigaction *action) {
     actions[signal] = *action;
@@ -213,6 +213,7 @@ int sigaction(int signal, const struct sigaction *given, struct sigaction *befor
     QUIET;
     if (signal < 1 || signal > MOST_SIGNALS) return next_sigaction()(signal, given, before);
     next_syscall(); /* is found now, and not in a handler */
+    if (!READABLE_OR_NULL(given) || !WRITABLE_OR_NULL(before)) return (int)plain_answer(-EFAULT);
     if (given) {
         asked = *given;
         real = real_action(signal, given);
@@ -295,6 +296,26 @@ int siginterrupt(int signal, int breaks) {
 
 /* ---- for the rest of the shim ---- */
 
+/* Those that something else than this file hears of already are left to it, as a sanitizer's. */
+static void keep_signal(int signal) {
+    struct sigaction none = {.sa_handler = SIG_DFL}, now, real;
+    if (next_sigaction()(signal, NULL, &now) != 0 || is_function(&now)) return;
+    kept |= BIT(signal);
+    if (now.sa_handler == SIG_IGN) return; /* until the program asks for its end by it */
+    real = real_action(signal, &none);
+    next_sigaction()(signal, &real, NULL);
+}
+
+void keep_signals(void) {
+    next_syscall();
+    keep_signal(SIGSEGV);
+    keep_signal(SIGBUS);
+    if (!settings()->history) return;
+    keep_signal(SIGHUP);
+    keep_signal(SIGINT);
+    keep_signal(SIGTERM);
+}
+
 uint64_t swap_mask(const sigset_t *set) {
     uint64_t before = set_mask(ALL);
     if (this_thread.is_held_back) before = this_thread.mask;
@@ -350,6 +371,7 @@ int sigsuspend(const sigset_t *set) {
     uint64_t before;
     int result;
     QUIET;
+    if (!can_read(set, sizeof before)) return (int)ANSWER(-EFAULT, "sigsuspend(%p)", (const void *)set);
     before = swap_mask(set);
     result = await_handler("sigsuspend");
     put_mask_back(before);

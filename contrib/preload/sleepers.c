@@ -24,7 +24,6 @@ struct sleeper {
     uint32_t caller;
     int result;           /* NIPPERSAGE_PARKED until its answer is there */
     int handlers;         /* so many handlers run in it */
-    bool is_broken;       /* a handler ran after which it is to end */
     bool is_rung;         /* it left the kernel because a bell rang: see leave */
     bool is_asleep;       /* it is counted among those that sleep */
     long thread;          /* the real kernel's number */
@@ -32,6 +31,7 @@ struct sleeper {
     uint32_t slept_on;     /* what it was when the thread went to sleep */
     struct sleeper *outer; /* the wait of the same thread in whose handler this one was begun, or NULL */
     int depth;             /* the thread's when it began */
+    uintptr_t place;       /* where on the program's stack the call was made */
     struct sleeper *next;
 };
 
@@ -169,6 +169,7 @@ static void leave(struct sleeper *me) {
             if (result != NIPPERSAGE_PARKED) answer(s, result);
         }
     if (me->is_rung) {
+        me->is_rung = false; /* it stays in the list while its handler runs, and isn't parked again */
         answer(me, -EINTR);
     } else if (me->result == NIPPERSAGE_PARKED) {
         give_up_caller(me);
@@ -179,15 +180,27 @@ static void leave(struct sleeper *me) {
 
 void disturb(struct sleeper *s) { atomic_fetch_add(&s->word, 1); }
 
-void begin_handler_in(struct sleeper *s, bool restarts) {
+/* A wait that the handler breaks ends before the handler runs, as on Linux: what the handler makes ready is no answer
+   to it. What was ready before is one. */
+void begin_handler_in(void *sleeper, long restarts) {
+    struct sleeper *s = sleeper;
+    int depth = this_thread.depth;
+    QUIET;
     pthread_mutex_lock(&lock);
-    if (s->handlers++ == 0 && !(restarts && s->wait->restarts)) s->is_broken = true;
     count_asleep(s, false);
+    if (s->handlers++ == 0 && !(restarts && s->wait->restarts)) {
+        deliver_all();
+        this_thread.depth = s->depth;
+        if (s->result == NIPPERSAGE_PARKED) leave(s);
+        this_thread.depth = depth;
+    }
     pthread_mutex_unlock(&lock);
 }
 
-void end_handler_in(struct sleeper *s) {
+void end_handler_in(void *sleeper, long unused) {
+    struct sleeper *s = sleeper;
     QUIET;
+    (void)unused;
     pthread_mutex_lock(&lock);
     s->handlers--;
     pthread_mutex_unlock(&lock);
@@ -210,6 +223,8 @@ static bool sleep_once(struct sleeper *s, const struct timespec *most, bool slee
         this_thread.quiet = 0;
         atomic_signal_fence(memory_order_seq_cst);
         let_handlers_run();
+    } else {
+        end_if_killed();
     }
     if (sleeps)
         is_over = next_syscall()(SYS_futex, &s->word, FUTEX_WAIT | FUTEX_PRIVATE_FLAG, seen, most, NULL, 0) != 0 &&
@@ -282,9 +297,7 @@ static void sleep_until_answered(struct sleeper *me) {
         deliver_all();
         count_asleep(me, false);
         if (me->result != NIPPERSAGE_PARKED) return;
-        if (me->is_broken) {
-            leave(me);
-        } else if (this_thread.is_held_back) {
+        if (this_thread.is_held_back) {
             sleep_once(me, NULL, false);
         } else {
             count_asleep(me, true);
@@ -325,7 +338,7 @@ static void leave_innermost(struct sleeper *s) {
 /* The frames of what is left stay as they are until the jump itself. */
 void leave_waits_below(uintptr_t address) {
     QUIET;
-    while (this_thread.innermost && (uintptr_t)this_thread.innermost < address)
+    while (this_thread.innermost && is_left(this_thread.innermost->place, address))
         leave_innermost(this_thread.innermost);
 }
 
@@ -364,6 +377,7 @@ int wait_at(const struct wait *wait) {
     me.caller = self().caller;
     me.outer = this_thread.innermost;
     me.depth = this_thread.depth;
+    me.place = place_of_call(&me);
     if (wait->timeout >= 0) me.end = moment_now() + (uint64_t)wait->timeout;
     pthread_mutex_lock(&lock);
     me.result = park(&me);

@@ -40,6 +40,7 @@ ssize_t sendfile(int to, int from, off_t *at, size_t count) {
     off_t place;
     ssize_t sent;
     if (!is_simulated(to) && !is_simulated(from)) return next_sendfile()(to, from, at, count);
+    if (!WRITABLE_OR_NULL(at)) return ANSWER(-EFAULT, "sendfile(%d, %d, %p, %zu)", to, from, (void *)at, count);
     if (is_simulated(from))
         return refuse(EINVAL, "sendfile(%d, %d) out of a simulated descriptor is not simulated", to, from);
     place = at ? *at : next_lseek()(from, 0, SEEK_CUR);
@@ -196,6 +197,7 @@ ssize_t splice(int in, off64_t *at, int out, off64_t *onto, size_t count, unsign
     struct end from, to;
     ssize_t moved;
     if (!is_simulated(in) && !is_simulated(out)) return next_splice()(in, at, out, onto, count, flags);
+    if (!WRITABLE_OR_NULL(at) || !WRITABLE_OR_NULL(onto)) return ANSWER(-EFAULT, "splice(%d, %d)", in, out);
     moved = begin_end(&from, in, at, O_RDONLY, !(flags & SPLICE_F_NONBLOCK));
     if (moved == 0) {
         moved = begin_end(&to, out, onto, O_WRONLY, !(flags & SPLICE_F_NONBLOCK));

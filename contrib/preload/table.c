@@ -233,6 +233,7 @@ int pipe2(int ends[2], int flags) {
     static const int accesses[2] = {O_RDONLY, O_WRONLY};
     int numbers[2], status;
     QUIET;
+    if (!can_write(ends, 2 * sizeof *ends)) return (int)ANSWER(-EFAULT, "pipe2(%p)", (void *)ends);
     pthread_mutex_lock(&lock);
     status = put_pair(nippersage_pipe2(self(), numbers, flags), numbers, PIPE, accesses, flags, ends);
     pthread_mutex_unlock(&lock);
@@ -249,6 +250,7 @@ int socketpair(int domain, int type, int protocol, int ends[2]) {
     QUIET;
     if ((type & ~flags) != SOCK_STREAM)
         return refuse(ESOCKTNOSUPPORT, "socketpair: only SOCK_STREAM is simulated, not type %d", type & ~flags);
+    if (!can_write(ends, 2 * sizeof *ends)) return (int)ANSWER(-EFAULT, "socketpair(%p)", (void *)ends);
     pthread_mutex_lock(&lock);
     status = put_pair(nippersage_socketpair(self(), domain, type, protocol, numbers), numbers, SOCKET, accesses, flags,
                       ends);
@@ -359,6 +361,27 @@ void closefrom(int first) { close_range(first < 0 ? 0 : (unsigned int)first, UIN
 
 /* ---- fcntl, ioctl, fstat ---- */
 
+/* What F_GETPIPE_SZ tells. */
+static int tell_pipe_room(const struct description *pipe) {
+    if (pipe->kind != PIPE) return -EBADF;
+    return pipe->pipe_room > 0 ? pipe->pipe_room : (int)settings()->limits.pipe_bytes;
+}
+
+/* As on Linux, a pipe's room is a power of two, and a page at least. The kernel's has the room that it has: more is
+   refused, and less is told, but not so. */
+static int set_pipe_room(struct description *pipe, unsigned int asked) {
+    const struct description *reader = pipe->access == O_RDONLY ? pipe : pipe->peer;
+    unsigned int room = 4096;
+    if (pipe->kind != PIPE) return -EBADF;
+    if (asked > 1U << 31) return -EINVAL;
+    while (room < asked) room *= 2;
+    if (room > settings()->limits.pipe_bytes) return -EPERM;
+    if (reader && reader->waiting.count > room) return -EBUSY;
+    pipe->pipe_room = (int)room;
+    if (pipe->peer) pipe->peer->pipe_room = (int)room;
+    return (int)room;
+}
+
 /* What needs the entry, under the lock. */
 static int control(struct entry *entry, int fd, int command, long argument) {
     switch (command) {
@@ -368,13 +391,25 @@ static int control(struct entry *entry, int fd, int command, long argument) {
     case F_SETFD: entry->closes_on_exec = argument & FD_CLOEXEC; return 0;
     case F_DUPFD: return copy_from(fd, (int)argument, 0);
     case F_DUPFD_CLOEXEC: return copy_from(fd, (int)argument, O_CLOEXEC);
+    case F_GETPIPE_SZ: return tell_pipe_room(entry->description);
+    case F_SETPIPE_SZ: return set_pipe_room(entry->description, (unsigned int)argument);
     default: return -EINVAL;
     }
 }
 
+/* Says what comes of a room that isn't the kernel's. */
+static void say_room(int fd, long asked, int result) {
+    unsigned int room = settings()->limits.pipe_bytes;
+    if (result == -EPERM)
+        say("fcntl(%d, F_SETPIPE_SZ, %ld): a pipe has room for %u bytes (NIPPERSAGE_LIMITS)", fd, asked, room);
+    if (result > 0 && result < (int)room)
+        say("fcntl(%d, F_SETPIPE_SZ, %ld): is told, but the pipe has room for %u bytes", fd, asked, room);
+}
+
 static int control_simulated(int fd, int command, long argument) {
     bool is_known = command == F_GETFL || command == F_SETFL || command == F_GETFD || command == F_SETFD ||
-                    command == F_DUPFD || command == F_DUPFD_CLOEXEC;
+                    command == F_DUPFD || command == F_DUPFD_CLOEXEC || command == F_GETPIPE_SZ ||
+                    command == F_SETPIPE_SZ;
     struct entry *entry;
     int result;
     if (!is_known || (command == F_SETFL && (argument & O_ASYNC)))
@@ -384,6 +419,7 @@ static int control_simulated(int fd, int command, long argument) {
     entry = entry_of(fd);
     result = entry ? control(entry, fd, command, argument) : -EBADF;
     pthread_mutex_unlock(&lock);
+    if (command == F_SETPIPE_SZ) say_room(fd, argument, result);
     return (int)ANSWER(result, "fcntl(%d, %d, %#lx)", fd, command, argument);
 }
 
@@ -417,6 +453,7 @@ int fcntl64(int fd, int command, ...) {
 static int tell_unread(const struct description *description, int *count) {
     const struct description *at = description;
     if (at->kind != PIPE && at->kind != SOCKET) return -ENOTTY;
+    if (!WRITABLE(count)) return -EFAULT;
     if (at->access == O_WRONLY) at = at->peer;
     *count = at ? (int)at->waiting.count : 0;
     return 0;
@@ -424,7 +461,10 @@ static int tell_unread(const struct description *description, int *count) {
 
 static int request_of(struct entry *entry, unsigned long request, void *argument) {
     switch (request) {
-    case FIONBIO: entry->description->is_nonblocking = *(const int *)argument != 0; return 0;
+    case FIONBIO:
+        if (!READABLE((const int *)argument)) return -EFAULT;
+        entry->description->is_nonblocking = *(const int *)argument != 0;
+        return 0;
     case FIOCLEX: entry->closes_on_exec = true; return 0;
     case FIONCLEX: entry->closes_on_exec = false; return 0;
     case FIONREAD: return tell_unread(entry->description, argument);
@@ -457,6 +497,10 @@ int fstat(int fd, struct stat *status) {
     if (!is_simulated(fd)) return next_fstat()(fd, status);
     description = hold(fd);
     if (!description) return (int)ANSWER(-EBADF, "fstat(%d)", fd);
+    if (!WRITABLE(status)) {
+        let_go(description);
+        return (int)ANSWER(-EFAULT, "fstat(%d, %p)", fd, (void *)status);
+    }
     mode = description->kind == PIPE ? S_IFIFO | 0600 : description->kind == SOCKET ? S_IFSOCK | 0777 : 0600;
     let_go(description);
     memset(status, 0, sizeof *status);

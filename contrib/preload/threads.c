@@ -5,6 +5,7 @@
 #include "preload.h"
 
 #include <dirent.h>
+#include <limits.h>
 #include <linux/futex.h>
 #include <pthread.h>
 #include <semaphore.h>
@@ -116,11 +117,23 @@ static bool find_moment(uint64_t *moment) {
     return has_one;
 }
 
-/* Wakes those whose end has come. Others that wait for the same wake, too, as they may at any time. */
+/* A sleep of the C library at any word of a condition variable looks again whether it is over, and sleeps on if not. */
+static void stir(const pthread_cond_t *changed) {
+    const uint32_t *words = (const uint32_t *)(const void *)changed;
+    for (size_t i = 0; i < sizeof *changed / sizeof *words; i++) {
+        next_syscall()(SYS_futex, &words[i], FUTEX_WAKE | FUTEX_PRIVATE_FLAG, INT_MAX, NULL, NULL, 0);
+        next_syscall()(SYS_futex, &words[i], FUTEX_WAKE, INT_MAX, NULL, NULL, 0);
+    }
+}
+
+/* Ends those whose end has come, and no other wait for the same: the end of its sleep has passed now. */
 static void wake_timed(uint64_t moment) {
     pthread_mutex_lock(&timed_lock);
-    for (const struct timed *timed = all_timed; timed; timed = timed->next)
-        if (timed->changed && (uint64_t)timed->end <= moment) pthread_cond_broadcast(timed->changed);
+    for (struct timed *timed = all_timed; timed; timed = timed->next)
+        if (timed->changed && (uint64_t)timed->end <= moment) {
+            timed->until = (struct timespec){0, 0};
+            stir(timed->changed);
+        }
     pthread_mutex_unlock(&timed_lock);
 }
 
@@ -203,6 +216,7 @@ void join_threads(void) {
 struct thread {
     void *(*run)(void *);
     void *argument;
+    size_t stack;
 };
 
 static struct thread *keep_thread(struct thread thread) {
@@ -224,11 +238,12 @@ static struct thread take_thread(struct thread *kept) {
 
 static void *run_counted(void *kept) {
     struct thread thread = take_thread(kept);
+    learn_stack(thread.stack);
     return thread.run(thread.argument);
 }
 
 int pthread_create(pthread_t *made, const pthread_attr_t *attributes, void *(*run)(void *), void *argument) {
-    struct thread *thread = keep_thread((struct thread){run, argument});
+    struct thread *thread = keep_thread((struct thread){run, argument, stack_of(attributes)});
     int error;
     if (!thread) return EAGAIN;
     pthread_once(&once, start_counting);
@@ -376,7 +391,7 @@ long call_futex(const long given[6]) {
     struct timespec end;
     struct timed timed;
     int error = 0;
-    if (!time || !(is_until || (is_for && units_of(time) >= 0)))
+    if (!time || !READABLE(time) || !(is_until || (is_for && units_of(time) >= 0)))
         return next_syscall()(SYS_futex, given[0], given[1], given[2], given[3], given[4], given[5]);
     end = is_until ? *time : end_of(units_of(time));
     begin_timed(&timed, &end, NULL);
@@ -397,7 +412,7 @@ int sigtimedwait(const sigset_t *restrict set, siginfo_t *restrict info, const s
     struct timespec slice = {0, 0}, end;
     struct timed timed;
     int signal, error = 0;
-    if (!time || units_of(time) < 0) return next_sigtimedwait()(set, info, time);
+    if (!time || !READABLE(time) || units_of(time) < 0) return next_sigtimedwait()(set, info, time);
     end = end_of(units_of(time));
     begin_timed(&timed, &end, NULL);
     do {

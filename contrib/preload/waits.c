@@ -43,6 +43,9 @@ static void take_a_while(int found, int64_t units) {
     if (found == 0 && units == 0) let_clock_go_on();
 }
 
+/* So much of a set of signals does the real kernel read. */
+enum { SET_SIZE = 8 };
+
 /* A mask of signals for the time of a wait, if there is one. */
 struct masking {
     const sigset_t *mask;
@@ -77,6 +80,8 @@ static bool is_open(int fd) {
 int epoll_ctl(int epfd, int op, int fd, struct epoll_event *event) {
     int status = -EBADF;
     QUIET;
+    if (op != EPOLL_CTL_DEL && !READABLE(event))
+        return (int)ANSWER(-EFAULT, "epoll_ctl(%d, %s, %d, %p)", epfd, word_of(op), fd, (void *)event);
     if (!is_simulated(epfd) && epfd >= 0)
         return refuse(EBADF, "epoll_ctl(%d): no simulated instance has this descriptor", epfd);
     if (!is_simulated(fd) && fd >= 0)
@@ -86,11 +91,22 @@ int epoll_ctl(int epfd, int op, int fd, struct epoll_event *event) {
                        event_text(TEXT, op == EPOLL_CTL_DEL ? NULL : event));
 }
 
+/* How many of so many events there is room for, if not more than can be found are asked for. */
+static int room_for(struct epoll_event *events, int most) {
+    int least = most < (int)settings()->limits.watches ? most : (int)settings()->limits.watches;
+    if (least <= 0 || can_write(events, (size_t)least * sizeof *events)) return most;
+    while (least > 0 && !can_write(events, (size_t)least * sizeof *events)) least /= 2;
+    return least;
+}
+
 static int wait_in(int epfd, struct epoll_event *events, int most, struct timeout timeout, const sigset_t *mask,
                    const char *call) {
     QUIET;
+    int room = room_for(events, most);
+    if ((mask && !can_read(mask, SET_SIZE)) || (room == 0 && most > 0))
+        return (int)ANSWER(-EFAULT, "%s(%d, %p, %d, %s)", call, epfd, (void *)events, most, timeout.said.of);
     struct description *description = hold(epfd);
-    struct wait wait = {.instance = epfd - FIRST, .place = description, .events = events, .most = most,
+    struct wait wait = {.instance = epfd - FIRST, .place = description, .events = events, .most = room,
                         .timeout = timeout.units, .call = call};
     struct masking masking = begin_masking(mask);
     int count = -EBADF;
@@ -114,7 +130,9 @@ int epoll_pwait(int epfd, struct epoll_event *events, int most, int timeout, con
 
 /* As on Linux, what is no time is told before what is no instance. */
 int epoll_pwait2(int epfd, struct epoll_event *events, int most, const struct timespec *time, const sigset_t *mask) {
-    struct timeout timeout = in_time(time);
+    struct timeout timeout;
+    if (!READABLE_OR_NULL(time)) return (int)ANSWER(-EFAULT, "epoll_pwait2(%d, %p)", epfd, (const void *)time);
+    timeout = in_time(time);
     if (time && timeout.units < 0) return (int)ANSWER(-EINVAL, "epoll_pwait2(%d, %s)", epfd, timeout.said.of);
     return wait_in(epfd, events, most, timeout, mask, "epoll_pwait2");
 }
@@ -277,20 +295,60 @@ static void want_all(struct sought *sought, struct pollfd *files, nfds_t count) 
     for (nfds_t i = 0; i < count; i++) want(sought, files[i].fd, (uint16_t)files[i].events);
 }
 
+/* 0, or minus the error number of a poll that isn't made: for more descriptors than the program may have, or for bad
+   pointers. */
+static int not_a_poll(struct pollfd *files, nfds_t count, const struct timespec *time, const sigset_t *mask) {
+    if (!READABLE_OR_NULL(time) || (mask && !can_read(mask, SET_SIZE))) return -EFAULT;
+    if (count > (nfds_t)getdtablesize()) return -EINVAL;
+    return can_write(files, count * sizeof *files) ? 0 : -EFAULT;
+}
+
+/* A poll of more entries than the real kernel takes for the real limit on descriptors: one for each descriptor. */
+static int poll_merged(struct pollfd *files, nfds_t count, const struct timespec *time, const sigset_t *mask) {
+    struct pollfd *each = malloc((size_t)FIRST * sizeof *each);
+    int found;
+    if (!each) return (int)plain_answer(-ENOMEM);
+    for (int fd = 0; fd < FIRST; fd++) each[fd] = (struct pollfd){-1, 0, 0};
+    for (nfds_t i = 0; i < count; i++)
+        if (files[i].fd >= 0) {
+            each[files[i].fd].fd = files[i].fd;
+            each[files[i].fd].events |= files[i].events;
+        }
+    found = ppoll(each, (nfds_t)FIRST, time, mask);
+    if (found >= 0) found = 0;
+    for (nfds_t i = 0; i < count && found >= 0; i++) {
+        short shown = files[i].fd < 0 ? 0 : each[files[i].fd].revents;
+        files[i].revents = (short)(shown & (files[i].events | POLLERR | POLLHUP | POLLNVAL));
+        if (files[i].revents != 0) found++;
+    }
+    free(each);
+    return found;
+}
+
 int poll(struct pollfd *files, nfds_t count, int given) {
     SOUGHT sought = {.highest = -1};
     struct timeout timeout = in_milliseconds(given);
+    int status = not_a_poll(files, count, NULL, NULL);
+    if (status < 0) return (int)ANSWER(status, "poll(%p, %lu, %s)", (void *)files, count, timeout.said.of);
     want_all(&sought, files, count);
     if (sought.has_real && sought.has_simulated) return mixes("poll");
+    if (sought.has_real && count > (nfds_t)FIRST) {
+        struct timespec time = timespec_of(given < 0 ? 0 : (uint64_t)timeout.units);
+        return poll_merged(files, count, given < 0 ? NULL : &time, NULL);
+    }
     if (sought.has_real) return real_answer(next_poll()(files, count, given), timeout.units);
     return poll_simulated(&sought, files, count, timeout, NULL, "poll");
 }
 
 int ppoll(struct pollfd *files, nfds_t count, const struct timespec *time, const sigset_t *mask) {
     SOUGHT sought = {.highest = -1};
-    struct timeout timeout = in_time(time);
+    struct timeout timeout;
+    int status = not_a_poll(files, count, time, mask);
+    if (status < 0) return (int)ANSWER(status, "ppoll(%p, %lu)", (void *)files, count);
+    timeout = in_time(time);
     want_all(&sought, files, count);
     if (sought.has_real && sought.has_simulated) return mixes("ppoll");
+    if (sought.has_real && count > (nfds_t)FIRST) return poll_merged(files, count, time, mask);
     if (sought.has_real) return real_answer(next_ppoll()(files, count, time, mask), timeout.units);
     if (time && timeout.units < 0) return (int)ANSWER(-EINVAL, "ppoll(..., %lu, %s)", count, timeout.said.of);
     return poll_simulated(&sought, files, count, timeout, mask, "ppoll");
@@ -303,28 +361,47 @@ int __poll_chk(struct pollfd *files, nfds_t count, int timeout, size_t room) {
 }
 
 /* The three sets of select, with the events that each waits for and those that make a descriptor a member of the
-   answer. */
+   answer. A program may have larger sets than the C library: they are words of bits, as many as `most` takes. */
 struct sets {
-    fd_set *of[3];
+    unsigned long *of[3];
 };
+enum { WORD = 8 * sizeof(unsigned long) };
 static const uint32_t waits_for[3] = {EPOLLIN, EPOLLOUT, EPOLLPRI};
 static const uint32_t answers_to[3] = {EPOLLIN | EPOLLHUP | EPOLLERR, EPOLLOUT | EPOLLERR, EPOLLPRI};
 
-static void want_sets(struct sought *sought, int most, const struct sets *sets) {
-    for (int fd = 0; fd < most && fd < FD_SETSIZE; fd++)
-        for (int i = 0; i < 3; i++)
-            if (sets->of[i] && FD_ISSET(fd, sets->of[i])) want(sought, fd, waits_for[i]);
+static struct sets sets_of(fd_set *reads, fd_set *writes, fd_set *excepts) {
+    return (struct sets){{(unsigned long *)reads, (unsigned long *)writes, (unsigned long *)excepts}};
 }
 
+static bool has(const unsigned long *set, int fd) { return set && (set[fd / WORD] >> fd % WORD & 1); }
+
+/* 0, or minus the error number of a select that isn't made. As on Linux, numbers above all that there may be are no
+   members. */
+static int not_a_select(int *most, const struct sets *sets) {
+    if (*most < 0) return -EINVAL;
+    if (*most > FIRST + NUMBERS) *most = FIRST + NUMBERS;
+    for (int i = 0; i < 3; i++)
+        if (sets->of[i] && !can_write(sets->of[i], ((size_t)*most + WORD - 1) / WORD * sizeof *sets->of[i]))
+            return -EFAULT;
+    return 0;
+}
+
+static void want_sets(struct sought *sought, int most, const struct sets *sets) {
+    for (int fd = 0; fd < most; fd++)
+        for (int i = 0; i < 3; i++)
+            if (has(sets->of[i], fd)) want(sought, fd, waits_for[i]);
+}
+
+/* What isn't found is taken out of the sets, and as on Linux so is the rest of their last words. */
 static int put_sets(const struct sought *sought, int most, const struct sets *sets) {
     int found = 0;
-    for (int fd = 0; fd < most && fd < FD_SETSIZE; fd++)
+    for (int fd = 0; fd < (most + WORD - 1) / WORD * WORD; fd++)
         for (int i = 0; i < 3; i++) {
-            if (!sets->of[i] || !FD_ISSET(fd, sets->of[i])) continue;
-            if (shown_by(sought, fd) & answers_to[i]) {
+            if (!has(sets->of[i], fd)) continue;
+            if (fd < most && (shown_by(sought, fd) & answers_to[i])) {
                 found++;
             } else {
-                FD_CLR(fd, sets->of[i]);
+                sets->of[i][fd / WORD] &= ~(1UL << fd % WORD);
             }
         }
     return found;
@@ -344,12 +421,15 @@ static int select_simulated(struct sought *sought, int most, const struct sets *
 
 /* As Linux does, tells in *time how much of it is left. */
 int select(int most, fd_set *reads, fd_set *writes, fd_set *excepts, struct timeval *time) {
-    struct sets sets = {{reads, writes, excepts}};
+    struct sets sets = sets_of(reads, writes, excepts);
     SOUGHT sought = {.highest = -1};
-    struct timeout timeout = in_short_time(time);
-    uint64_t end = moment_now() + (uint64_t)(timeout.units < 0 ? 0 : timeout.units), now;
+    struct timeout timeout;
+    uint64_t end, now;
     struct timespec left;
-    int found;
+    int found = WRITABLE_OR_NULL(time) ? not_a_select(&most, &sets) : -EFAULT;
+    if (found < 0) return (int)ANSWER(found, "select(%d, ..., %p)", most, (void *)time);
+    timeout = in_short_time(time);
+    end = moment_now() + (uint64_t)(timeout.units < 0 ? 0 : timeout.units);
     want_sets(&sought, most, &sets);
     if (sought.has_real && sought.has_simulated) return mixes("select");
     if (sought.has_real) return real_answer(next_select()(most, reads, writes, excepts, time), timeout.units);
@@ -363,9 +443,12 @@ int select(int most, fd_set *reads, fd_set *writes, fd_set *excepts, struct time
 
 int pselect(int most, fd_set *reads, fd_set *writes, fd_set *excepts, const struct timespec *time,
             const sigset_t *mask) {
-    struct sets sets = {{reads, writes, excepts}};
+    struct sets sets = sets_of(reads, writes, excepts);
     SOUGHT sought = {.highest = -1};
-    struct timeout timeout = in_time(time);
+    struct timeout timeout;
+    int status = READABLE_OR_NULL(time) && (!mask || can_read(mask, SET_SIZE)) ? not_a_select(&most, &sets) : -EFAULT;
+    if (status < 0) return (int)ANSWER(status, "pselect(%d, ..., %p)", most, (const void *)time);
+    timeout = in_time(time);
     want_sets(&sought, most, &sets);
     if (sought.has_real && sought.has_simulated) return mixes("pselect");
     if (sought.has_real) return real_answer(next_pselect()(most, reads, writes, excepts, time, mask), timeout.units);

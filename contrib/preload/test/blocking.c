@@ -124,6 +124,42 @@ static void wait_on_condition(clockid_t clock) {
     pthread_condattr_destroy(&attributes);
 }
 
+static pthread_mutex_t shared_lock = PTHREAD_MUTEX_INITIALIZER;
+static pthread_cond_t shared_change = PTHREAD_COND_INITIALIZER;
+static int is_changed, wakes;
+
+static void *wait_for_change(void *nothing) {
+    pthread_mutex_lock(&shared_lock);
+    while (!is_changed) {
+        pthread_cond_wait(&shared_change, &shared_lock);
+        wakes++;
+    }
+    pthread_mutex_unlock(&shared_lock);
+    return nothing;
+}
+
+/* Ten waits with a time that is over wake nobody who waits for the same. */
+static void waits_beside(void) {
+    pthread_t thread;
+    int over = 0;
+    pthread_create(&thread, NULL, wait_for_change, NULL);
+    usleep(100000);
+    pthread_mutex_lock(&shared_lock);
+    for (int i = 0; i < 10; i++) {
+        struct timespec end;
+        clock_gettime(CLOCK_REALTIME, &end);
+        end.tv_nsec += 10000000;
+        end.tv_sec += end.tv_nsec / 1000000000;
+        end.tv_nsec %= 1000000000;
+        over += pthread_cond_timedwait(&shared_change, &shared_lock, &end) == ETIMEDOUT;
+    }
+    is_changed = 1;
+    pthread_cond_signal(&shared_change);
+    pthread_mutex_unlock(&shared_lock);
+    pthread_join(thread, NULL);
+    trace("%d over, the other wait woke %d times", over, wakes);
+}
+
 static void polls(void) {
     struct pollfd files[3] = {{sides[0], POLLIN, 0}, {sides[1], POLLIN | POLLOUT, 0}, {-1, POLLIN, 0}};
     int found = poll(files, 1, 100);
@@ -220,6 +256,7 @@ int main(void) {
     brim();
     wait_on_condition(CLOCK_REALTIME);
     wait_on_condition(CLOCK_MONOTONIC);
+    waits_beside();
     polls();
     selects();
     flags();

@@ -31,7 +31,13 @@ static void descriptors(void) {
     files[1].fd = ends[0];
     tell("poll of both", poll(files, 2, 0));
     tell("onto a real one", dup2(ends[1], 1));
-    tell("lock", fcntl(ends[0], F_SETPIPE_SZ, 4096));
+    tell("room", fcntl(ends[0], F_GETPIPE_SZ));
+    tell("the same", fcntl(ends[0], F_SETPIPE_SZ, 65000));
+    tell("more", fcntl(ends[1], F_SETPIPE_SZ, 65537));
+    tell("less", fcntl(ends[1], F_SETPIPE_SZ, 4097));
+    tell("is told", fcntl(ends[0], F_GETPIPE_SZ));
+    tell("of an instance", fcntl(instance, F_GETPIPE_SZ));
+    tell("lock", fcntl(ends[0], F_SETLEASE, F_RDLCK));
     tell("ioctl", ioctl(ends[0], TIOCGWINSZ, &mask));
     tell("pread", pread(ends[0], &mask, 1, 0));
     tell("tee", tee(ends[0], ends[1], 1, 0));

@@ -118,6 +118,120 @@ static void writes(int flags) {
     for (int i = 0; i < 2; i++) close(sides[i]);
 }
 
+/* ---- a handler that makes ready what it breaks ---- */
+
+static int full[2], sides[2]; /* a pipe without room, and sockets of which the first has a timeout */
+
+static void make_ready(int signal) {
+    char bytes[4096];
+    (void)signal;
+    came++;
+    if (write(ends[1], "ready", 5) != 5 || eventfd_write(counter, 3) != 0) came += 1000;
+    if (write(sides[1], "ready", 5) != 5 || read(full[0], bytes, sizeof bytes) != sizeof bytes) came += 1000;
+}
+
+static void set_nonblocking(bool is_nonblocking) {
+    const int all[] = {ends[0], counter, sides[0], full[1]};
+    for (int i = 0; i < 4; i++) fcntl(all[i], F_SETFL, is_nonblocking ? O_NONBLOCK : 0);
+}
+
+/* What came of a call, and what the handler has left behind, which is taken away again. */
+static void after(const char *call, long result) {
+    static char much[4096];
+    eventfd_t value;
+    long left;
+    said(call, result);
+    set_nonblocking(true);
+    left = outcome(read(ends[0], much, sizeof much));
+    trace("left: %ld, %ld, %ld", left, outcome(eventfd_read(counter, &value)), outcome(recv(sides[0], much, 64, 0)));
+    while (write(full[1], much, sizeof much) > 0) continue;
+    set_nonblocking(false);
+    came = 0;
+}
+
+static void ready_waits(int instance, const sigset_t *none) {
+    struct pollfd file = {ends[0], POLLIN, 0};
+    struct timeval most = {5, 0};
+    struct timespec time = {5, 0};
+    struct epoll_event event;
+    fd_set reads;
+    FD_ZERO(&reads);
+    FD_SET(ends[0], &reads);
+    alarm_in(50);
+    after("epoll_wait", epoll_wait(instance, &event, 1, -1));
+    alarm_in(50);
+    after("epoll_pwait", epoll_pwait(instance, &event, 1, 5000, none));
+    alarm_in(50);
+    after("epoll_pwait2", epoll_pwait2(instance, &event, 1, &time, none));
+    alarm_in(50);
+    after("poll", poll(&file, 1, 5000));
+    alarm_in(50);
+    after("ppoll", ppoll(&file, 1, NULL, none));
+    alarm_in(50);
+    after("select", select(ends[0] + 1, &reads, NULL, NULL, &most));
+    alarm_in(50);
+    after("pselect", pselect(ends[0] + 1, &reads, NULL, NULL, NULL, none));
+}
+
+/* A signal that is pending breaks a wait, unless something is ready: then it stays pending, if it is blocked after. */
+static void ready_pending(int instance) {
+    struct pollfd file = {ends[0], POLLIN, 0};
+    struct timespec none = {0, 0};
+    struct epoll_event event;
+    sigset_t alarms, before;
+    sigemptyset(&alarms);
+    sigaddset(&alarms, SIGALRM);
+    pthread_sigmask(SIG_BLOCK, &alarms, &before);
+    raise(SIGALRM);
+    after("pending, epoll_pwait of no time", epoll_pwait(instance, &event, 1, 0, &before));
+    after("pending, epoll_pwait", epoll_pwait(instance, &event, 1, -1, &before));
+    raise(SIGALRM);
+    after("pending, ppoll of no time", ppoll(&file, 1, &none, &before));
+    raise(SIGALRM);
+    after("pending, ppoll", ppoll(&file, 1, NULL, &before));
+    raise(SIGALRM);
+    after("pending, pselect", pselect(0, NULL, NULL, NULL, NULL, &before));
+    raise(SIGALRM);
+    if (write(ends[1], "x", 1) != 1) trace("not written");
+    after("pending, and ready", epoll_pwait(instance, &event, 1, -1, &before));
+    pthread_sigmask(SIG_SETMASK, &before, NULL);
+    after("at last", 0);
+}
+
+/* But for the one with a timeout, these go on after a handler of SA_RESTART, and find what it has made. */
+static void ready_calls(void) {
+    struct timeval most = {5, 0};
+    char bytes[8];
+    eventfd_t value;
+    alarm_in(50);
+    after("read", read(ends[0], bytes, sizeof bytes));
+    alarm_in(50);
+    after("write", write(full[1], bytes, sizeof bytes));
+    alarm_in(50);
+    after("eventfd", eventfd_read(counter, &value));
+    alarm_in(50);
+    after("recv", recv(sides[0], bytes, sizeof bytes, 0));
+    setsockopt(sides[0], SOL_SOCKET, SO_RCVTIMEO, &most, sizeof most);
+    alarm_in(50);
+    after("recv with a timeout", recv(sides[0], bytes, sizeof bytes, 0));
+}
+
+static void ready(int flags) {
+    struct epoll_event event = {.events = EPOLLIN};
+    int instance = epoll_create1(0);
+    sigset_t none;
+    sigemptyset(&none);
+    if (pipe(full) != 0 || socketpair(AF_UNIX, SOCK_STREAM, 0, sides) != 0) trace("no ends");
+    handle(SIGALRM, make_ready, flags);
+    epoll_ctl(instance, EPOLL_CTL_ADD, ends[0], &event);
+    after("before", 0);
+    ready_waits(instance, &none);
+    ready_pending(instance);
+    ready_calls();
+    for (int i = 0; i < 2; i++) close(full[i]), close(sides[i]);
+    close(instance);
+}
+
 /* ---- the self-pipe trick ---- */
 
 static pthread_t main_thread;
@@ -304,6 +418,8 @@ int main(void) {
     reads(0);
     reads(SA_RESTART);
     writes(0);
+    ready(0);
+    ready(SA_RESTART);
     self_pipe();
     self_event();
     two_waits();

@@ -1,0 +1,259 @@
+/* Calls on small stacks: threads of PTHREAD_STACK_MIN, coroutines of 8 KB, and handlers on an alternate stack of 8 KB,
+   which break into waits on each of these, wait themselves, or jump out. The stacks of coroutines tell how much of them
+   a call has taken. */
+#include "trace.h"
+
+#include <limits.h>
+#include <poll.h>
+#include <setjmp.h>
+#include <signal.h>
+#include <stdlib.h>
+#include <string.h>
+#include <sys/epoll.h>
+#include <sys/eventfd.h>
+#include <sys/mman.h>
+#include <sys/select.h>
+#include <sys/socket.h>
+#include <sys/time.h>
+#include <sys/timerfd.h>
+#include <sys/uio.h>
+#include <ucontext.h>
+#include <unistd.h>
+
+enum { COROUTINE = 8192, ALTERNATE = 8192, PAINT = 0xa5, THREADS = 20 };
+
+static int ends[2], sides[2], counter, timer, instance;
+static volatile int came;
+static sigjmp_buf out;
+
+static void alarm_in(int milliseconds) {
+    struct itimerval value = {.it_value = {0, milliseconds * 1000}};
+    setitimer(ITIMER_REAL, &value, NULL);
+}
+
+/* ---- every call, twice: the dynamic linker takes some stack at the first one ---- */
+
+static void call_once(int wanted) {
+    struct epoll_event event = {.events = EPOLLIN};
+    struct itimerspec value = {.it_value = {100, 0}};
+    struct timespec now;
+    struct timeval none = {0, 1000};
+    struct pollfd file = {ends[0], POLLIN, 0};
+    struct iovec one = {&now, 1};
+    int pair[2], number = 1;
+    socklen_t size = sizeof number;
+    fd_set reads;
+    char byte;
+    switch (wanted) {
+    case 0: came += write(ends[1], "xy", 2) == 2; break;
+    case 1: came += read(ends[0], &byte, 1) == 1; break;
+    case 2: came += epoll_ctl(instance, EPOLL_CTL_MOD, ends[0], &event) == 0; break;
+    case 3: came += epoll_wait(instance, &event, 1, 10) == 1; break;
+    case 4: came += poll(&file, 1, 10) == 1; break;
+    case 5:
+        FD_ZERO(&reads);
+        FD_SET(counter, &reads);
+        came += select(counter + 1, &reads, NULL, NULL, &none) == 0;
+        break;
+    case 6: came += pipe(pair) == 0 && close(pair[0]) == 0 && close(pair[1]) == 0; break;
+    case 7: came += timerfd_settime(timer, 0, &value, NULL) == 0; break;
+    case 8: came += clock_gettime(CLOCK_MONOTONIC, &now) == 0; break;
+    case 9: came += usleep(1000) == 0; break;
+    case 10: came += send(sides[0], "x", 1, 0) == 1 && recv(sides[1], &byte, 1, 0) == 1; break;
+    case 11: came += readv(ends[0], &one, 1) == 1; break;
+    case 12: came += setsockopt(sides[0], SOL_SOCKET, SO_KEEPALIVE, &number, sizeof number) == 0; break;
+    case 13: came += getsockopt(sides[0], SOL_SOCKET, SO_KEEPALIVE, &number, &size) == 0; break;
+    case 14: came += eventfd_write(counter, 1) == 0 && read(counter, &value, 8) == 8; break;
+    default: break;
+    }
+}
+enum { CALLS = 15 };
+
+/* ---- coroutines ---- */
+
+static ucontext_t outside, inside;
+static int wanted;
+
+static void run_coroutine(void) { call_once(wanted); }
+
+static size_t taken_by(int call, char *stack) {
+    size_t free_bytes = 0;
+    wanted = call;
+    memset(stack, PAINT, COROUTINE);
+    getcontext(&inside);
+    inside.uc_stack.ss_sp = stack;
+    inside.uc_stack.ss_size = COROUTINE;
+    inside.uc_link = &outside;
+    makecontext(&inside, run_coroutine, 0);
+    swapcontext(&outside, &inside);
+    while (free_bytes < COROUTINE && (unsigned char)stack[free_bytes] == PAINT) free_bytes++;
+    return COROUTINE - free_bytes;
+}
+
+static void coroutines(void) {
+    char *stack = malloc(COROUTINE);
+    size_t most = 0, taken, frame;
+    came = 0;
+    frame = taken_by(CALLS, stack);
+    for (int turn = 0; turn < 2; turn++)
+        for (int call = 0; call < CALLS; call++) {
+            taken = taken_by(call, stack);
+            if (turn == 1 && taken > most) most = taken;
+        }
+    trace("coroutines: %d calls, a KB or less each: %d", came, most - frame <= 1024);
+    free(stack);
+}
+
+/* ---- threads ---- */
+
+static void *run_thread(void *nothing) {
+    struct epoll_event event = {.events = EPOLLIN}, found;
+    int mine = epoll_create1(0), pair[2];
+    long sum = 0;
+    char byte;
+    if (pipe(pair) != 0) return nothing;
+    epoll_ctl(mine, EPOLL_CTL_ADD, pair[0], &event);
+    for (int i = 0; i < 20; i++) {
+        sum += write(pair[1], "x", 1);
+        sum += epoll_wait(mine, &found, 1, -1);
+        sum += read(pair[0], &byte, 1);
+        usleep(100);
+    }
+    close(mine);
+    for (int i = 0; i < 2; i++) close(pair[i]);
+    return (void *)sum;
+}
+
+static void threads(void) {
+    pthread_attr_t attributes;
+    pthread_t all[THREADS];
+    long sum = 0;
+    void *part;
+    pthread_attr_init(&attributes);
+    pthread_attr_setstacksize(&attributes, PTHREAD_STACK_MIN);
+    for (int round = 0; round < 3; round++) {
+        for (int i = 0; i < THREADS; i++) pthread_create(&all[i], &attributes, run_thread, NULL);
+        for (int i = 0; i < THREADS; i++) {
+            pthread_join(all[i], &part);
+            sum += (long)part;
+        }
+    }
+    pthread_attr_destroy(&attributes);
+    trace("threads: %ld", sum);
+}
+
+/* ---- handlers ---- */
+
+static void write_byte(int signal) {
+    int saved = errno;
+    stack_t now;
+    (void)signal;
+    came += write(ends[1], "h", 1) == 1;
+    if (sigaltstack(NULL, &now) == 0 && (now.ss_flags & SS_ONSTACK)) came += 10;
+    errno = saved;
+}
+
+/* Waits on the alternate stack, which another signal breaks there. */
+static void wait_within(int signal) {
+    struct pollfd file = {counter, POLLIN, 0};
+    (void)signal;
+    alarm_in(20);
+    came += poll(&file, 1, 1000) == -1 && errno == EINTR ? 100 : 0;
+}
+
+static void jump_out(int signal) {
+    (void)signal;
+    write_byte(signal);
+    siglongjmp(out, 1);
+}
+
+static void handle(int signal, void (*handler)(int), int flags) {
+    struct sigaction action = {.sa_handler = handler, .sa_flags = flags};
+    sigaction(signal, &action, NULL);
+    came = 0;
+}
+
+static int drained(void) {
+    char bytes[64];
+    struct pollfd file = {ends[0], POLLIN, 0};
+    return poll(&file, 1, 0) == 1 ? (int)read(ends[0], bytes, sizeof bytes) : 0;
+}
+
+/* What handlers do to a wait, on whatever stack this is. */
+static void be_broken(void) {
+    struct pollfd file = {counter, POLLIN, 0};
+    int flags = SA_ONSTACK;
+    for (int way = 0; way < 2; way++, flags = 0) {
+        handle(SIGALRM, write_byte, flags);
+        alarm_in(20);
+        trace("poll: %ld", outcome(poll(&file, 1, 1000)));
+        trace("%d written", drained());
+        handle(SIGUSR1, wait_within, flags);
+        raise(SIGUSR1);
+        trace("within: %d", (int)came);
+        trace("%d written", drained());
+        kill(getpid(), SIGUSR1);
+        trace("again: %d", (int)came);
+        trace("%d written", drained());
+    }
+}
+
+static void jump_about(void) {
+    struct pollfd file = {counter, POLLIN, 0};
+    stack_t now;
+    for (volatile int turn = 0; turn < 3; turn++) {
+        handle(SIGALRM, jump_out, turn == 2 ? 0 : SA_ONSTACK);
+        alarm_in(20);
+        if (sigsetjmp(out, 1) == 0) trace("poll: %d", poll(&file, 1, 1000));
+        sigaltstack(NULL, &now);
+        trace("out, %d came, %d written, used: %d", (int)came, drained(), now.ss_flags);
+    }
+}
+
+static void give_alternate(char *place) {
+    stack_t given = {.ss_sp = place, .ss_size = ALTERNATE};
+    if (sigaltstack(&given, NULL) != 0) trace("no alternate stack: %d", errno);
+}
+
+static void *run_small(void *alternate) {
+    sigset_t none;
+    sigemptyset(&none);
+    pthread_sigmask(SIG_SETMASK, &none, NULL);
+    give_alternate(alternate);
+    be_broken();
+    jump_about();
+    return NULL;
+}
+
+static void handlers(void) {
+    static char first[ALTERNATE], second[ALTERNATE];
+    pthread_attr_t attributes;
+    sigset_t all, before;
+    pthread_t thread;
+    sigemptyset(&all);
+    sigaddset(&all, SIGALRM);
+    sigaddset(&all, SIGUSR1);
+    run_small(first);
+    /* The thread gets the signals, and this one doesn't. */
+    pthread_attr_init(&attributes);
+    pthread_attr_setstacksize(&attributes, 2 * PTHREAD_STACK_MIN);
+    pthread_sigmask(SIG_BLOCK, &all, &before);
+    pthread_create(&thread, &attributes, run_small, second);
+    pthread_join(thread, NULL);
+    pthread_sigmask(SIG_SETMASK, &before, NULL);
+    pthread_attr_destroy(&attributes);
+}
+
+int main(void) {
+    struct epoll_event event = {.events = EPOLLIN};
+    instance = epoll_create1(0);
+    counter = eventfd(0, 0);
+    timer = timerfd_create(CLOCK_MONOTONIC, 0);
+    if (pipe(ends) != 0 || socketpair(AF_UNIX, SOCK_STREAM, 0, sides) != 0) trace("no ends");
+    epoll_ctl(instance, EPOLL_CTL_ADD, ends[0], &event);
+    coroutines();
+    threads();
+    handlers();
+    trace("end");
+    return 0;
+}
