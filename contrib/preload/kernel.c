@@ -17,7 +17,6 @@ static struct nippersage_kernel *_Atomic kernel;
 static pthread_once_t once = PTHREAD_ONCE_INIT;
 static _Thread_local bool is_starting;
 static atomic_uint callers;
-static atomic_ulong count;
 static int sleeping;
 
 void *next_of(const char *name) {
@@ -102,8 +101,9 @@ static void look_at_records(void) {
 /* While a thread makes the kernel, a handler that breaks into it finds none, and its calls answer EINVAL. */
 struct nippersage_task self(void) {
     uint32_t *caller = &this_thread.callers[this_thread.depth];
+    unsigned long calls = atomic_load_explicit(&this_thread.calls, memory_order_relaxed) + 1;
     if (!kernel && !is_starting) pthread_once(&once, start);
-    atomic_fetch_add(&count, 1);
+    atomic_store_explicit(&this_thread.calls, calls, memory_order_relaxed);
     if (*caller == 0) *caller = atomic_fetch_add(&callers, 1) % MOST_CALLERS + 1;
     if (!this_thread.is_counted) join_threads();
     if (settings()->records != SIZE_MAX) look_at_records();
@@ -113,8 +113,6 @@ struct nippersage_task self(void) {
 struct nippersage_kernel *the_kernel(void) {
     return kernel;
 }
-
-unsigned long calls(void) { return atomic_load(&count); }
 
 int sleeping_instance(void) {
     QUIET;
@@ -144,6 +142,7 @@ __attribute__((constructor)) static void begin(void) {
     if (path && !is_logged) say("the log can't be made anew at %s: %s", path, strerror(errno));
     at_quick_exit(write_history_once);
     this_thread.is_counted = true;
+    take_seat();
     self();
 }
 
