@@ -114,6 +114,7 @@ ssize_t take(int fd, char *bytes, size_t count, int flags, const char *call) {
     }
     end_block(&block);
     let_go(description);
+    if (got == -EAGAIN && done == 0) count_vain();
     return done > 0 ? (ssize_t)done : got;
 }
 
@@ -148,6 +149,7 @@ ssize_t give(int fd, const char *bytes, size_t count, int flags, const char *cal
     end_block(&block);
     if (taken == -EPIPE) send_pipe_signal(description, done, flags);
     let_go(description);
+    if (taken == -EAGAIN && done == 0) count_vain();
     return done > 0 ? (ssize_t)done : taken;
 }
 
@@ -192,11 +194,23 @@ static ssize_t give_vectors(int fd, const struct iovec *vectors, int count, int 
     return taken;
 }
 
+/* A call on a real descriptor. It may be a socket that has a timeout. */
+#define IN_TIME(fd, option, flags, call)                                            \
+    __extension__({                                                                 \
+        int64_t most = has_timeouts ? timeout_of_real(fd, option, flags) : 0;       \
+        struct timed timed;                                                         \
+        ssize_t answer;                                                             \
+        if (most > 0) begin_outside(&timed, most);                                  \
+        answer = (call);                                                            \
+        if (most > 0) end_outside(&timed, answer < 0 && errno == EAGAIN);           \
+        answer;                                                                     \
+    })
+
 /* ---- files ---- */
 
 ssize_t read(int fd, void *bytes, size_t count) {
     ssize_t got;
-    if (!is_simulated(fd)) return next_read()(fd, bytes, count);
+    if (!is_simulated(fd)) return IN_TIME(fd, SO_RCVTIMEO, 0, next_read()(fd, bytes, count));
     QUIET;
     got = take(fd, bytes, count, 0, "read");
     return ANSWER(got, "read(%d, %s, %zu)", fd, bytes_text(TEXT, bytes, got), count);
@@ -204,7 +218,7 @@ ssize_t read(int fd, void *bytes, size_t count) {
 
 ssize_t write(int fd, const void *bytes, size_t count) {
     ssize_t taken;
-    if (!is_simulated(fd)) return next_write()(fd, bytes, count);
+    if (!is_simulated(fd)) return IN_TIME(fd, SO_SNDTIMEO, 0, next_write()(fd, bytes, count));
     QUIET;
     taken = give(fd, bytes, count, 0, "write");
     return ANSWER(taken, "write(%d, %s, %zu)", fd, bytes_text(TEXT, bytes, (ssize_t)count), count);
@@ -212,7 +226,7 @@ ssize_t write(int fd, const void *bytes, size_t count) {
 
 ssize_t readv(int fd, const struct iovec *vectors, int count) {
     ssize_t got;
-    if (!is_simulated(fd)) return next_readv()(fd, vectors, count);
+    if (!is_simulated(fd)) return IN_TIME(fd, SO_RCVTIMEO, 0, next_readv()(fd, vectors, count));
     QUIET;
     got = take_vectors(fd, vectors, count, 0, "readv");
     return ANSWER(got, "readv(%d, ..., %d)", fd, count);
@@ -220,7 +234,7 @@ ssize_t readv(int fd, const struct iovec *vectors, int count) {
 
 ssize_t writev(int fd, const struct iovec *vectors, int count) {
     ssize_t taken;
-    if (!is_simulated(fd)) return next_writev()(fd, vectors, count);
+    if (!is_simulated(fd)) return IN_TIME(fd, SO_SNDTIMEO, 0, next_writev()(fd, vectors, count));
     QUIET;
     taken = give_vectors(fd, vectors, count, 0, "writev");
     return ANSWER(taken, "writev(%d, ..., %d)", fd, count);
@@ -257,7 +271,8 @@ static bool sends_with(int flags) { return (flags & ~(MSG_NOSIGNAL | MSG_DONTWAI
 
 ssize_t recvfrom(int fd, void *bytes, size_t count, int flags, struct sockaddr *from, socklen_t *size) {
     ssize_t got;
-    if (!is_simulated(fd)) return next_recvfrom()(fd, bytes, count, flags, from, size);
+    if (!is_simulated(fd))
+        return IN_TIME(fd, SO_RCVTIMEO, flags, next_recvfrom()(fd, bytes, count, flags, from, size));
     QUIET;
     if (!receives_with(flags)) return refuse(EOPNOTSUPP, "recv(%d) with flags %#x is not simulated", fd, flags);
     got = not_a_socket(fd);
@@ -276,7 +291,7 @@ ssize_t __recv_chk(int fd, void *bytes, size_t count, size_t room, int flags) {
 
 ssize_t sendto(int fd, const void *bytes, size_t count, int flags, const struct sockaddr *to, socklen_t size) {
     ssize_t taken;
-    if (!is_simulated(fd)) return next_sendto()(fd, bytes, count, flags, to, size);
+    if (!is_simulated(fd)) return IN_TIME(fd, SO_SNDTIMEO, flags, next_sendto()(fd, bytes, count, flags, to, size));
     QUIET;
     if (!sends_with(flags)) return refuse(EOPNOTSUPP, "send(%d) with flags %#x is not simulated", fd, flags);
     taken = to ? -EISCONN : not_a_socket(fd);
@@ -288,7 +303,7 @@ ssize_t send(int fd, const void *bytes, size_t count, int flags) { return sendto
 
 ssize_t recvmsg(int fd, struct msghdr *message, int flags) {
     ssize_t got;
-    if (!is_simulated(fd)) return next_recvmsg()(fd, message, flags);
+    if (!is_simulated(fd)) return IN_TIME(fd, SO_RCVTIMEO, flags, next_recvmsg()(fd, message, flags));
     QUIET;
     if (!receives_with(flags)) return refuse(EOPNOTSUPP, "recvmsg(%d) with flags %#x is not simulated", fd, flags);
     got = not_a_socket(fd);
@@ -300,7 +315,7 @@ ssize_t recvmsg(int fd, struct msghdr *message, int flags) {
 
 ssize_t sendmsg(int fd, const struct msghdr *message, int flags) {
     ssize_t taken;
-    if (!is_simulated(fd)) return next_sendmsg()(fd, message, flags);
+    if (!is_simulated(fd)) return IN_TIME(fd, SO_SNDTIMEO, flags, next_sendmsg()(fd, message, flags));
     QUIET;
     if (!sends_with(flags)) return refuse(EOPNOTSUPP, "sendmsg(%d) with flags %#x is not simulated", fd, flags);
     if (message->msg_controllen > 0)

@@ -38,9 +38,19 @@ static struct timeout in_short_time(const struct timeval *given) {
     return timeout;
 }
 
-/* A poll that finds nothing takes a while: a program that polls may do so until its clock has gone on. */
+/* A poll that finds nothing takes no time. But a program may poll until its clock has gone on: so after some in a row
+   each further one takes a while. */
 static void take_a_while(int found, int64_t units) {
-    if (found == 0 && units == 0) let_clock_go_on();
+    enum { FREE = 100 };
+    static _Thread_local uint64_t last;
+    static _Thread_local int in_a_row;
+    if (found != 0 || units != 0) {
+        in_a_row = 0;
+        return;
+    }
+    in_a_row = moment_now() == last ? in_a_row + 1 : 1;
+    if (in_a_row > FREE) let_clock_go_on();
+    last = moment_now();
 }
 
 /* A mask of signals for the time of a wait, if there is one. */
@@ -241,10 +251,24 @@ static int seek(struct sought *sought, int64_t units, const char *call) {
     return status < 0 ? status : 0;
 }
 
-/* The answer to a wait on real descriptors only: while it passed, time went on here, too. */
-static int real_answer(int found, int64_t units) {
-    if (found == 0 && units > 0) bring_clock_to(moment_now() + (uint64_t)units);
-    return found;
+/* A wait on real descriptors only: while it passes, time goes on here, too. */
+#define REALLY(call, units)                                     \
+    __extension__({                                             \
+        struct timed timed;                                     \
+        int64_t most = (units);                                 \
+        int found;                                              \
+        if (most > 0) begin_outside(&timed, most);              \
+        found = (call);                                         \
+        if (most > 0) end_outside(&timed, found == 0);          \
+        take_a_while(found, most);                              \
+        found;                                                  \
+    })
+
+/* One on nothing: 0 or -EINTR. */
+static int sleep_or_poll(int64_t units, const char *call) {
+    if (units != 0) return sleep_for(units, call);
+    take_a_while(0, 0);
+    return 0;
 }
 
 static int mixes(const char *call) {
@@ -266,7 +290,7 @@ static int poll_simulated(struct sought *sought, struct pollfd *files, nfds_t co
                           const sigset_t *mask, const char *call) {
     QUIET;
     struct masking masking = begin_masking(mask);
-    int status = sought->has_simulated ? seek(sought, timeout.units, call) : sleep_for(timeout.units, call);
+    int status = sought->has_simulated ? seek(sought, timeout.units, call) : sleep_or_poll(timeout.units, call);
     if (status == 0 && mask && timeout.units == 0 && !finds_any(sought) && let_pending_run()) status = -EINTR;
     end_masking(masking);
     if (status == 0) status = put_shown(sought, files, count);
@@ -282,7 +306,7 @@ int poll(struct pollfd *files, nfds_t count, int given) {
     struct timeout timeout = in_milliseconds(given);
     want_all(&sought, files, count);
     if (sought.has_real && sought.has_simulated) return mixes("poll");
-    if (sought.has_real) return real_answer(next_poll()(files, count, given), timeout.units);
+    if (sought.has_real) return REALLY(next_poll()(files, count, given), timeout.units);
     return poll_simulated(&sought, files, count, timeout, NULL, "poll");
 }
 
@@ -291,7 +315,7 @@ int ppoll(struct pollfd *files, nfds_t count, const struct timespec *time, const
     struct timeout timeout = in_time(time);
     want_all(&sought, files, count);
     if (sought.has_real && sought.has_simulated) return mixes("ppoll");
-    if (sought.has_real) return real_answer(next_ppoll()(files, count, time, mask), timeout.units);
+    if (sought.has_real) return REALLY(next_ppoll()(files, count, time, mask), timeout.units);
     if (time && timeout.units < 0) return (int)ANSWER(-EINVAL, "ppoll(..., %lu, %s)", count, timeout.said.of);
     return poll_simulated(&sought, files, count, timeout, mask, "ppoll");
 }
@@ -334,7 +358,7 @@ static int select_simulated(struct sought *sought, int most, const struct sets *
                             const sigset_t *mask, const char *call) {
     QUIET;
     struct masking masking = begin_masking(mask);
-    int status = sought->has_simulated ? seek(sought, timeout.units, call) : sleep_for(timeout.units, call);
+    int status = sought->has_simulated ? seek(sought, timeout.units, call) : sleep_or_poll(timeout.units, call);
     if (status == 0 && mask && timeout.units == 0 && !finds_any(sought) && let_pending_run()) status = -EINTR;
     end_masking(masking);
     if (status == 0 && sought->has_closed) status = -EBADF;
@@ -352,7 +376,7 @@ int select(int most, fd_set *reads, fd_set *writes, fd_set *excepts, struct time
     int found;
     want_sets(&sought, most, &sets);
     if (sought.has_real && sought.has_simulated) return mixes("select");
-    if (sought.has_real) return real_answer(next_select()(most, reads, writes, excepts, time), timeout.units);
+    if (sought.has_real) return REALLY(next_select()(most, reads, writes, excepts, time), timeout.units);
     if (time && timeout.units < 0) return (int)ANSWER(-EINVAL, "select(%d, ..., %s)", most, timeout.said.of);
     found = select_simulated(&sought, most, &sets, timeout, NULL, "select");
     now = moment_now();
@@ -368,7 +392,7 @@ int pselect(int most, fd_set *reads, fd_set *writes, fd_set *excepts, const stru
     struct timeout timeout = in_time(time);
     want_sets(&sought, most, &sets);
     if (sought.has_real && sought.has_simulated) return mixes("pselect");
-    if (sought.has_real) return real_answer(next_pselect()(most, reads, writes, excepts, time, mask), timeout.units);
+    if (sought.has_real) return REALLY(next_pselect()(most, reads, writes, excepts, time, mask), timeout.units);
     if (time && timeout.units < 0) return (int)ANSWER(-EINVAL, "pselect(%d, ..., %s)", most, timeout.said.of);
     return select_simulated(&sought, most, &sets, timeout, mask, "pselect");
 }
