@@ -84,8 +84,13 @@ static _Noreturn void end_full(void) {
     static atomic_flag is_told = ATOMIC_FLAG_INIT;
     if (atomic_flag_test_and_set(&is_told))
         for (;;) next_pause()();
-    say("the history has %zu records, as many as NIPPERSAGE_RECORDS allows; status %d", settings()->records,
-        STATUS_FULL);
+    if (settings()->looks_seldom) {
+        say("the history has %zu records, as many as half of the memory holds (NIPPERSAGE_RECORDS); status %d",
+            settings()->records, STATUS_FULL);
+    } else {
+        say("the history has %zu records, as many as NIPPERSAGE_RECORDS allows; status %d", settings()->records,
+            STATUS_FULL);
+    }
     if (ftrylockfile(stdout) == 0) {
         fflush(stdout);
         funlockfile(stdout);
@@ -106,7 +111,7 @@ struct nippersage_task self(void) {
     atomic_store_explicit(&this_thread.calls, calls, memory_order_relaxed);
     if (*caller == 0) *caller = atomic_fetch_add(&callers, 1) % MOST_CALLERS + 1;
     if (!this_thread.is_counted) join_threads();
-    if (settings()->records != SIZE_MAX) look_at_records();
+    if ((calls & settings()->looks_seldom) == 0) look_at_records();
     return (struct nippersage_task){kernel, *caller, 1};
 }
 

@@ -35,7 +35,8 @@ enum { STATUS_SETTING = 2, STATUS_ENDLESS = 70, STATUS_FULL = 71 };
 
 struct settings {
     int first;                       /* NIPPERSAGE_REAL_DESCRIPTORS: so many numbers are real */
-    size_t records;                  /* NIPPERSAGE_RECORDS: the history may have fewer; SIZE_MAX where it isn't set */
+    size_t records;                  /* NIPPERSAGE_RECORDS: the history may have fewer */
+    unsigned long looks_seldom;      /* a thread looks whether it has, if its calls have none of these bits */
     uint64_t busy_waits;             /* NIPPERSAGE_BUSY_WAITS: so many take a millisecond; 0 is none */
     uint64_t patience;               /* NIPPERSAGE_PATIENCE, in milliseconds of real time */
     struct nippersage_limits limits; /* NIPPERSAGE_LIMITS */
