@@ -1,6 +1,6 @@
 /* Who of the threads sleeps. Those that sleep in waits of the simulated kernel are counted: sleepers.c. What the others
-   do is known to the real kernel only: a file in /proc tells in which call a thread sleeps, and another one how often it
-   has run. So nobody looks there for a thread that is counted, unless the program has handlers of signals.
+   do is known to the real kernel only: a file in /proc tells in which call a thread sleeps, and a clock how long it has
+   run. So nobody looks there for a thread that is counted, unless the program has handlers of signals.
 
    While somebody looks, no lock of the shim is held: who waits for one sleeps, too, as far as the real kernel knows. */
 #include "preload.h"
@@ -19,6 +19,8 @@ struct seat {
     bool has_left;                /* the thread is about to end */
     atomic_bool is_asleep;        /* in a wait of the simulated kernel */
     _Atomic uint64_t asked;       /* the moment at which it asked in vain for the last time */
+    enum rest seen;               /* what the last look found that it did; looks only */
+    uint64_t seen_run;            /* so long it had run until then */
     struct seat *next;
 };
 
@@ -139,38 +141,36 @@ static enum rest rest_of(long thread) {
     }
 }
 
-/* How often it has run: the third number of its line. Where none is told, each answer is another one. */
-static unsigned long runs_of(long thread) {
-    static atomic_ulong unknown = 1UL << 63;
-    unsigned long long of_three[3];
-    char line[128];
-    if (read_of(thread, "schedstat", line, sizeof line) > 0 &&
-        sscanf(line, "%llu %llu %llu", &of_three[0], &of_three[1], &of_three[2]) == 3)
-        return (unsigned long)of_three[2];
-    return atomic_fetch_add(&unknown, 1);
+/* How long a thread has run, in nanoseconds: its own clock has this number. Where none is told, each answer is another
+   one. */
+static uint64_t run_of(long thread) {
+    static _Atomic uint64_t unknown = UINT64_C(1) << 63;
+    enum { OF_A_THREAD = 6 };
+    struct timespec run;
+    if (next_syscall()(SYS_clock_gettime, ~thread * 8 | OF_A_THREAD, &run) != 0) return atomic_fetch_add(&unknown, 1);
+    return (uint64_t)run.tv_sec * 1000000000 + (uint64_t)run.tv_nsec;
 }
 
 /* ---- a look ---- */
 
-/* What is copied of the seats for a look. */
+/* What is copied of a seat for a look. Only a look drops seats, so this one stays. */
 struct looked {
-    long thread;
+    struct seat *seat;
     bool is_counted; /* among those that sleep in waits of the simulated kernel */
     bool has_left;
-    unsigned long runs;
 };
 static struct looked *list;
 static size_t room, count, awake; /* in the list; of them, those whose threads aren't counted and haven't left */
 static atomic_flag is_looking = ATOMIC_FLAG_INIT;
 
-static bool copy_seat(const struct seat *seat, const uint64_t *moment) {
+static bool copy_seat(struct seat *seat, const uint64_t *moment) {
     bool is_counted = atomic_load(&seat->is_asleep);
     if (seat->of == &this_thread) return true;
     if (!is_counted && !seat->has_left) awake++;
     if (is_counted && !has_handlers()) return true;
     if (moment && !seat->has_left && atomic_load(&seat->asked) == *moment) return true;
     if (count == room) return false;
-    list[count++] = (struct looked){seat->thread, is_counted, seat->has_left, 0};
+    list[count++] = (struct looked){seat, is_counted, seat->has_left};
     return true;
 }
 
@@ -189,73 +189,92 @@ static bool copy_seats(const uint64_t *moment) {
     }
     count = awake = 0;
     pthread_mutex_lock(&lock);
-    for (const struct seat *seat = seats; seat && fits; seat = seat->next) fits = copy_seat(seat, moment);
+    for (struct seat *seat = seats; seat && fits; seat = seat->next) fits = copy_seat(seat, moment);
     pthread_mutex_unlock(&lock);
     return fits;
 }
 
+static void unlink_seat(struct seat *seat) {
+    struct seat **link = &seats;
+    while (*link != seat) link = &(*link)->next;
+    *link = seat->next;
+}
+
 /* The next look begins with the one that is awake now, and ends with it if it still is. */
-static void put_first(long thread) {
-    struct seat **link = &seats, *found;
+static void put_first(struct seat *seat) {
     pthread_mutex_lock(&lock);
-    while (*link && (*link)->thread != thread) link = &(*link)->next;
-    found = *link;
-    if (found) {
-        *link = found->next;
-        found->next = seats;
-        seats = found;
-    }
+    unlink_seat(seat);
+    seat->next = seats;
+    seats = seat;
     pthread_mutex_unlock(&lock);
 }
 
-static void drop_seat(long thread) {
-    struct seat **link = &seats, *found;
+static void drop_seat(struct seat *seat) {
     pthread_mutex_lock(&lock);
-    while (*link && ((*link)->thread != thread || !(*link)->has_left)) link = &(*link)->next;
-    found = *link;
-    if (found) {
-        *link = found->next;
-        seat_count--;
-    }
+    unlink_seat(seat);
+    seat_count--;
     pthread_mutex_unlock(&lock);
-    free(found);
+    free(seat);
 }
 
-/* One that is about to end may wake another one, which waits for its end. */
-static enum rest rest_of_copy(struct looked *looked, bool is_one_of_several) {
-    enum rest rest;
-    if (looked->has_left) {
-        if (!is_gone(looked->thread)) return AWAKE;
-        drop_seat(looked->thread);
-        return AT_REST;
+static bool is_at_rest(struct seat *seat, uint64_t run) {
+    seat->seen_run = run;
+    seat->seen = rest_of(seat->thread);
+    if (seat->seen == AWAKE) put_first(seat);
+    return seat->seen != AWAKE;
+}
+
+/* Whether those that aren't counted sleep, each at a moment of its own: one that hasn't run since a look did so then.
+   One that is about to end may wake another one, which waits for its end. */
+static bool sleep_each(bool *are_new) {
+    *are_new = true;
+    for (size_t i = 0; i < count; i++) {
+        struct seat *seat = list[i].seat;
+        uint64_t run;
+        if (list[i].is_counted) continue;
+        if (list[i].has_left) {
+            if (!is_gone(seat->thread)) return false;
+            drop_seat(seat);
+            continue;
+        }
+        run = run_of(seat->thread);
+        if (seat->seen != AWAKE && seat->seen_run == run) {
+            *are_new = false;
+        } else if (!is_at_rest(seat, run)) {
+            return false;
+        }
     }
-    if (is_one_of_several && !looked->is_counted) looked->runs = runs_of(looked->thread);
-    rest = rest_of(looked->thread);
-    if (rest == AWAKE) put_first(looked->thread);
-    return looked->is_counted && rest != AWAKE ? AT_REST : rest;
-}
-
-/* Whether none of several has run since its look: then there was a moment at which all of them slept. */
-static bool is_unchanged(void) {
-    for (size_t i = 0; i < count; i++)
-        if (!list[i].is_counted && !list[i].has_left && runs_of(list[i].thread) != list[i].runs) return false;
     return true;
 }
 
-/* Those that are counted come last, for another one may have sent them a signal. */
+/* Whether they sleep still, and haven't run since then. So there was a moment at which all of them slept. */
+static bool sleep_still(void) {
+    for (size_t i = 0; i < count; i++) {
+        struct seat *seat = list[i].seat;
+        if (list[i].is_counted || list[i].has_left) continue;
+        if (!is_at_rest(seat, seat->seen_run) || (tells_calls() && run_of(seat->thread) != seat->seen_run)) return false;
+    }
+    return true;
+}
+
+/* One of those that are counted may have been sent a signal by another one. */
+static bool are_undisturbed(void) {
+    for (size_t i = 0; i < count; i++)
+        if (list[i].is_counted && rest_of(list[i].seat->thread) == AWAKE) return false;
+    return true;
+}
+
+/* Nobody can have woken the only one that isn't counted. */
 static struct look look_at_copies(void) {
     struct look look = {.rest = AT_REST};
-    bool are_several = awake > 1;
-    for (int counted = 0; counted <= 1; counted++)
-        for (size_t i = 0; i < count; i++) {
-            enum rest rest;
-            if (list[i].is_counted != (counted == 1)) continue;
-            rest = rest_of_copy(&list[i], are_several);
-            if (rest == AWAKE) return (struct look){.rest = AWAKE};
-            if (rest == OUTSIDE) look.outside++;
-            if (!list[i].is_counted && !list[i].has_left) look.awake++;
-        }
-    if (are_several && tells_calls() && !is_unchanged()) return (struct look){.rest = AWAKE};
+    bool are_new;
+    if (!sleep_each(&are_new) || !are_undisturbed()) return (struct look){.rest = AWAKE};
+    if ((awake > 1 || !are_new) && !sleep_still()) return (struct look){.rest = AWAKE};
+    for (size_t i = 0; i < count; i++) {
+        if (list[i].is_counted || list[i].has_left) continue;
+        look.awake++;
+        if (list[i].seat->seen == OUTSIDE) look.outside++;
+    }
     if (look.outside > 0) look.rest = OUTSIDE;
     return look;
 }

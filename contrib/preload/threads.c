@@ -25,7 +25,7 @@ static pthread_key_t counted;
 static pthread_once_t once = PTHREAD_ONCE_INIT, once_watched = PTHREAD_ONCE_INIT;
 static atomic_bool is_watching;
 
-enum { MORE = 20 * MILLISECOND };
+enum { MORE = 20 * MILLISECOND, SLACK = 50 };
 /* So many turns of the watcher, each of a millisecond of real time. */
 enum { A_SECOND = 1000 };
 
@@ -41,37 +41,45 @@ static int64_t real_now(void) {
 
 /* ---- moments ---- */
 
-/* The first end of a wait with a time. */
-static bool next_timed(uint64_t *moment) {
-    bool has_one = false;
+/* The first end of a wait with a time, or the last one of those that come so soon after it. */
+static bool next_timed(uint64_t *moment, uint64_t slack) {
+    uint64_t first = UINT64_MAX, last = 0;
     if (atomic_load(&timed_count) == 0) return false;
     pthread_mutex_lock(&timed_lock);
+    for (const struct timed *timed = all_timed; timed; timed = timed->next)
+        if ((uint64_t)timed->end < first) first = (uint64_t)timed->end;
     for (const struct timed *timed = all_timed; timed; timed = timed->next) {
         uint64_t end = (uint64_t)timed->end;
-        if (end > LAST_MOMENT || (has_one && end >= *moment)) continue;
-        *moment = end;
-        has_one = true;
+        if (end - first <= slack && end > last && end <= LAST_MOMENT) last = end;
     }
     pthread_mutex_unlock(&timed_lock);
-    return has_one;
+    *moment = last;
+    return last > 0;
 }
 
-bool next_moment(uint64_t *moment) {
+/* The next moment at which something else happens. */
+static bool next_event(uint64_t *moment) {
     struct timespec next;
-    uint64_t other;
-    QUIET;
+    uint64_t alarm;
     bool has_one = nippersage_next_moment(the_kernel(), &next) == 1;
     if (has_one) *moment = (uint64_t)units_of(&next);
-    if (next_alarm(&other) && (!has_one || other < *moment)) {
-        *moment = other;
-        has_one = true;
-    }
-    if (next_timed(&other) && (!has_one || other < *moment)) {
-        *moment = other;
-        has_one = true;
-    }
-    return has_one;
+    if (!next_alarm(&alarm) || (has_one && *moment <= alarm)) return has_one;
+    *moment = alarm;
+    return true;
 }
+
+/* With slack, waits on locks that end so soon after each other end together, as Linux has it for all waits: else a
+   program whose threads wait for some microseconds each would take turns for each of them. */
+static bool next_moment_with(uint64_t slack, uint64_t *moment) {
+    uint64_t event = UINT64_MAX, end = UINT64_MAX;
+    QUIET;
+    bool has_event = next_event(&event), has_end = next_timed(&end, slack);
+    if (!has_event && !has_end) return false;
+    *moment = event < end ? event : end;
+    return true;
+}
+
+bool next_moment(uint64_t *moment) { return next_moment_with(0, moment); }
 
 /* How far the clock may go while threads wait for what is outside: as far as real time has gone since then, and not past
    the end of such a wait. Else what is outside would come too late for each of them. */
@@ -132,7 +140,7 @@ static bool move_clock(int64_t *pause) {
     uint64_t moment, limit;
     int waits;
     QUIET;
-    if (!next_moment(&moment)) return false;
+    if (!next_moment_with(SLACK, &moment)) return false;
     limit = outside_limit(&waits);
     if (moment > limit) {
         *pause = moment - limit < MILLISECOND ? (int64_t)(moment - limit) : MILLISECOND;
