@@ -31,6 +31,12 @@ static atomic_ulong left_calls; /* of threads that have ended */
 
 /* ---- the list ---- */
 
+/* A number that the real kernel gives again is that of no thread before. */
+static void forget_number(long thread) {
+    for (struct seat *seat = seats; seat; seat = seat->next)
+        if (seat->thread == thread) seat->thread = 0;
+}
+
 void take_seat(void) {
     struct seat *made;
     QUIET;
@@ -40,6 +46,7 @@ void take_seat(void) {
     made->thread = next_syscall()(SYS_gettid);
     made->of = &this_thread;
     pthread_mutex_lock(&lock);
+    forget_number(made->thread);
     made->next = seats;
     seats = made;
     seat_count++;
@@ -94,13 +101,18 @@ static ssize_t read_of(long thread, const char *name, char *line, size_t room) {
     return size;
 }
 
-/* By its line "42 (name) S ..". One that can't be read has ended. */
-bool is_thread_asleep(long thread) {
+/* The letter of its state, by its line "42 (name) S ..". One that can't be read has ended. */
+static char state_of(long thread) {
     char line[512];
     const char *end;
-    if (read_of(thread, "stat", line, sizeof line) <= 0) return true;
+    if (read_of(thread, "stat", line, sizeof line) <= 0) return 'X';
     end = strrchr(line, ')');
-    return end && end[1] == ' ' && (end[2] == 'S' || end[2] == 'Z' || end[2] == 'X');
+    return end && end[1] == ' ' ? end[2] : '?';
+}
+
+bool is_thread_asleep(long thread) {
+    char state = state_of(thread);
+    return state == 'S' || state == 'Z' || state == 'X';
 }
 
 /* Under valgrind threads take turns: each that waits for its turn seems to sleep for good. */
@@ -116,11 +128,10 @@ static bool tells_calls(void) {
     return atomic_load(&known) == 1;
 }
 
-/* The real kernel has no such thread any more. */
+/* The real kernel has no such thread any more, or, of the first one, no more than its number. */
 static bool is_gone(long thread) {
-    char line[128];
-    return read_of(thread, "stat", line, sizeof line) == -ENOENT &&
-           read_of(next_syscall()(SYS_gettid), "stat", line, sizeof line) > 0;
+    char line[128], state = state_of(thread);
+    return state == 'Z' || (state == 'X' && read_of(next_syscall()(SYS_gettid), "stat", line, sizeof line) > 0);
 }
 
 /* A lock, and what only a signal ends, are at rest: no time of the real kernel and nothing outside ends them. */
@@ -224,19 +235,23 @@ static bool is_at_rest(struct seat *seat, uint64_t run) {
     return seat->seen != AWAKE;
 }
 
-/* Whether those that aren't counted sleep, each at a moment of its own: one that hasn't run since a look did so then.
-   One that is about to end may wake another one, which waits for its end. */
+/* One that is about to end may wake another one, which waits for its end. */
+static bool are_gone(void) {
+    for (size_t i = 0; i < count; i++) {
+        if (!list[i].has_left) continue;
+        if (!is_gone(list[i].seat->thread)) return false;
+        drop_seat(list[i].seat);
+    }
+    return true;
+}
+
+/* Whether those that aren't counted sleep, each at a moment of its own: one that hasn't run since a look did so then. */
 static bool sleep_each(bool *are_new) {
     *are_new = true;
     for (size_t i = 0; i < count; i++) {
         struct seat *seat = list[i].seat;
         uint64_t run;
-        if (list[i].is_counted) continue;
-        if (list[i].has_left) {
-            if (!is_gone(seat->thread)) return false;
-            drop_seat(seat);
-            continue;
-        }
+        if (list[i].is_counted || list[i].has_left) continue;
         run = run_of(seat->thread);
         if (seat->seen != AWAKE && seat->seen_run == run) {
             *are_new = false;
@@ -268,7 +283,7 @@ static bool are_undisturbed(void) {
 static struct look look_at_copies(void) {
     struct look look = {.rest = AT_REST};
     bool are_new;
-    if (!sleep_each(&are_new) || !are_undisturbed()) return (struct look){.rest = AWAKE};
+    if (!are_gone() || !sleep_each(&are_new) || !are_undisturbed()) return (struct look){.rest = AWAKE};
     if ((awake > 1 || !are_new) && !sleep_still()) return (struct look){.rest = AWAKE};
     for (size_t i = 0; i < count; i++) {
         if (list[i].is_counted || list[i].has_left) continue;

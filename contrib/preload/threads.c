@@ -277,11 +277,13 @@ uint64_t step_for_asking(void) {
 
 /* ---- threads that take part ---- */
 
-/* The last of a thread. */
+/* The last of a thread. With the last thread the program ends, though the watcher is there still. */
 static void stop_counting(void *nothing) {
+    unsigned long woken;
     (void)nothing;
     count_threads(-1);
     leave_seat();
+    if (count_awake(&woken) == 0 && !is_anyone_waiting()) exit(0);
     tell_watcher(0);
 }
 
@@ -315,11 +317,12 @@ static void start_counting(void) {
     watch_threads();
 }
 
-/* One that pthread_create didn't make is counted from its first call on. */
+/* One that pthread_create didn't make is counted from its first call on. The first one is counted already, though the
+   constructor of another library may call before this one's. */
 void join_threads(void) {
     if (this_thread.is_counted) return;
     pthread_once(&once, start_counting);
-    count_threads(1);
+    if (next_syscall()(SYS_gettid) != getpid()) count_threads(1);
     count_this_thread();
 }
 
