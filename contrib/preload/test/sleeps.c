@@ -1,15 +1,16 @@
-/* Threads that sleep for less than a millisecond: their sleeps end at some hundred thousand moments, while the first
-   thread waits for them in the real kernel. Beside them two wait on locks for a few microseconds at a time. Simulated
-   only; sleeps.out is what it says. */
+/* Threads that sleep for less than a millisecond: their sleeps end at some thousand moments, while the first thread
+   sleeps, too, or waits for them in the real kernel. That costs processor time for each moment, but not much more.
+   Then two wait on locks for a few microseconds at a time. Simulated only; sleeps.out is what it says. */
 #include "trace.h"
 
 #include <semaphore.h>
 #include <stdatomic.h>
 #include <stdint.h>
 #include <stdlib.h>
+#include <sys/resource.h>
 #include <unistd.h>
 
-enum { THREADS = 20, SLEEPS = 3000 };
+enum { THREADS = 20, SLEEPS = 100, ROUNDS = 3, MOST_TIMES = 8, WAITS = 300 };
 
 static atomic_long too_short;
 
@@ -32,14 +33,38 @@ static void *sleep_often(void *seed) {
     return NULL;
 }
 
-static void sleep_in_threads(void) {
+/* In microseconds, of real time. */
+static long processor_time(void) {
+    struct rusage used;
+    getrusage(RUSAGE_SELF, &used);
+    return (used.ru_utime.tv_sec + used.ru_stime.tv_sec) * 1000000 + used.ru_utime.tv_usec + used.ru_stime.tv_usec;
+}
+
+/* What it costs. */
+static long sleep_in_threads(bool first_sleeps) {
     pthread_t threads[THREADS];
-    long began = microseconds(), took;
+    long began = processor_time();
     for (int i = 0; i < THREADS; i++) pthread_create(&threads[i], NULL, sleep_often, (void *)(uintptr_t)(i + 1));
+    if (first_sleeps) sleep(1);
     for (int i = 0; i < THREADS; i++) pthread_join(threads[i], NULL);
-    took = microseconds() - began;
-    printf("sleeps: %ld were too short, the clock went on by some seconds: %d\n", atomic_load(&too_short),
-           took > SLEEPS * 400L && took < SLEEPS * 700L);
+    return processor_time() - began;
+}
+
+static void compare(void) {
+    long counted = 0, joined = 0, began = microseconds(), took;
+    for (int i = 0; i < ROUNDS; i++) {
+        counted += sleep_in_threads(true);
+        joined += sleep_in_threads(false);
+    }
+    took = microseconds() - began - ROUNDS * 1000000L;
+    printf("sleeps: %ld were too short, all took some milliseconds: %d\n", atomic_load(&too_short),
+           took > ROUNDS * SLEEPS * 400L && took < ROUNDS * SLEEPS * 700L);
+    printf("what it costs to wait for them: ");
+    if (joined < MOST_TIMES * counted) {
+        printf("not much more\n");
+    } else {
+        printf("%ld us of processor time, and %ld us to sleep beside them\n", joined, counted);
+    }
 }
 
 /* ---- waits on locks that end by the clock ---- */
@@ -60,14 +85,14 @@ static void *wait_often(void *nothing) {
     int over = 0;
     sem_init(&semaphore, 0, 0);
     pthread_mutex_lock(&lock);
-    for (int i = 0; i < SLEEPS; i++) {
+    for (int i = 0; i < WAITS; i++) {
         struct timespec end = in(CLOCK_REALTIME, 10);
         over += pthread_cond_timedwait(&changed, &lock, &end) == ETIMEDOUT;
         end = in(CLOCK_REALTIME, 7);
         over += sem_timedwait(&semaphore, &end) < 0 && errno == ETIMEDOUT;
     }
     pthread_mutex_unlock(&lock);
-    if (over != 2 * SLEEPS) atomic_fetch_add(&too_short, 1);
+    if (over != 2 * WAITS) atomic_fetch_add(&too_short, 1);
     return nothing;
 }
 
@@ -78,11 +103,21 @@ static void wait_in_threads(void) {
     for (int i = 0; i < 2; i++) pthread_join(threads[i], NULL);
     took = microseconds() - began;
     printf("locks: %ld ended too soon, %d us each\n", atomic_load(&too_short),
-           took >= SLEEPS * 17L && took < SLEEPS * 34L ? 17 : (int)(took / SLEEPS));
+           took >= WAITS * 17L && took < WAITS * 34L ? 17 : (int)(took / WAITS));
+}
+
+/* ---- the first thread ends before another one ---- */
+
+static void *end_later(void *nothing) {
+    usleep(1000);
+    printf("the first thread has ended\n");
+    return nothing;
 }
 
 int main(void) {
-    sleep_in_threads();
+    pthread_t last;
+    compare();
     wait_in_threads();
-    return 0;
+    pthread_create(&last, NULL, end_later, NULL);
+    pthread_exit(NULL);
 }
