@@ -195,15 +195,15 @@ static ssize_t give_vectors(int fd, const struct iovec *vectors, int count, int 
 }
 
 /* A call on a real descriptor. It may be a socket that has a timeout. */
-#define IN_TIME(fd, option, flags, call)                                            \
-    __extension__({                                                                 \
-        int64_t most = has_timeouts ? timeout_of_real(fd, option, flags) : 0;       \
-        struct timed timed;                                                         \
-        ssize_t answer;                                                             \
-        if (most > 0) begin_outside(&timed, most);                                  \
-        answer = (call);                                                            \
-        if (most > 0) end_outside(&timed, answer < 0 && errno == EAGAIN);           \
-        answer;                                                                     \
+#define IN_TIME(fd, option, flags, call)                                           \
+    __extension__({                                                                \
+        int64_t longest = has_timeouts ? timeout_of_real(fd, option, flags) : 0;   \
+        struct timed outside;                                                      \
+        ssize_t answer;                                                            \
+        if (longest > 0) begin_outside(&outside, longest);                         \
+        answer = (call);                                                           \
+        if (longest > 0) end_outside(&outside, answer < 0 && errno == EAGAIN);     \
+        answer;                                                                    \
     })
 
 /* ---- files ---- */

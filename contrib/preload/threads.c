@@ -517,8 +517,11 @@ void end_outside(struct timed *timed, bool is_over) {
 
 /* ---- waits with a time on locks ---- */
 
-/* What a wait is on, for begin_timed_on. NULL is what nobody can wake. */
-#define ON(object) (object), sizeof *(object), _Generic((object), pthread_cond_t *: true, default: false)
+/* What a wait is on, for begin_timed_on. NULL is what nobody can wake. Of a semaphore only the count is ever slept on,
+   and the bytes at its end are of no value at all. */
+#define ON(object)                                                                           \
+    (object), _Generic((object), sem_t *: 2 * sizeof(uint32_t), default: sizeof *(object)), \
+        _Generic((object), pthread_cond_t *: true, default: false)
 
 /* A wait of the C library until `time`, which answers an error number; on an object, or on NULL. */
 #define TIMED(name, object, parameters, arguments)                   \

@@ -254,14 +254,14 @@ static int seek(struct sought *sought, int64_t units, const char *call) {
 /* A wait on real descriptors only: while it passes, time goes on here, too. */
 #define REALLY(call, units)                                     \
     __extension__({                                             \
-        struct timed timed;                                     \
-        int64_t most = (units);                                 \
-        int found;                                              \
-        if (most > 0) begin_outside(&timed, most);              \
-        found = (call);                                         \
-        if (most > 0) end_outside(&timed, found == 0);          \
-        take_a_while(found, most);                              \
-        found;                                                  \
+        struct timed outside;                                   \
+        int64_t longest = (units);                              \
+        int answer;                                             \
+        if (longest > 0) begin_outside(&outside, longest);      \
+        answer = (call);                                        \
+        if (longest > 0) end_outside(&outside, answer == 0);    \
+        take_a_while(answer, longest);                          \
+        answer;                                                 \
     })
 
 /* One on nothing: 0 or -EINTR. */
