@@ -129,6 +129,7 @@ ssize_t take(int fd, char *bytes, size_t count, int flags, const char *call) {
     }
     end_block(&block);
     let_go(description);
+    if (got == -EAGAIN && done == 0) count_vain();
     return done > 0 ? (ssize_t)done : got;
 }
 
@@ -163,6 +164,7 @@ ssize_t give(int fd, const char *bytes, size_t count, int flags, const char *cal
     end_block(&block);
     if (taken == -EPIPE) send_pipe_signal(description, done, flags);
     let_go(description);
+    if (taken == -EAGAIN && done == 0) count_vain();
     return done > 0 ? (ssize_t)done : taken;
 }
 
@@ -226,11 +228,23 @@ static ssize_t give_vectors(int fd, const struct iovec *vectors, int count, int 
     return taken;
 }
 
+/* A call on a real descriptor. It may be a socket that has a timeout. */
+#define IN_TIME(fd, option, flags, call)                                           \
+    __extension__({                                                                \
+        int64_t longest = has_timeouts ? timeout_of_real(fd, option, flags) : 0;   \
+        struct timed outside;                                                      \
+        ssize_t answer;                                                            \
+        if (longest > 0) begin_outside(&outside, longest);                         \
+        answer = (call);                                                           \
+        if (longest > 0) end_outside(&outside, answer < 0 && errno == EAGAIN);     \
+        answer;                                                                    \
+    })
+
 /* ---- files ---- */
 
 ssize_t read(int fd, void *bytes, size_t count) {
     ssize_t got;
-    if (!is_simulated(fd)) return next_read()(fd, bytes, count);
+    if (!is_simulated(fd)) return IN_TIME(fd, SO_RCVTIMEO, 0, next_read()(fd, bytes, count));
     QUIET;
     got = take(fd, bytes, count, 0, "read");
     return ANSWER(got, "read(%d, %s, %zu)", fd, bytes_text(TEXT, bytes, got), count);
@@ -238,7 +252,7 @@ ssize_t read(int fd, void *bytes, size_t count) {
 
 ssize_t write(int fd, const void *bytes, size_t count) {
     ssize_t taken;
-    if (!is_simulated(fd)) return next_write()(fd, bytes, count);
+    if (!is_simulated(fd)) return IN_TIME(fd, SO_SNDTIMEO, 0, next_write()(fd, bytes, count));
     QUIET;
     taken = give(fd, bytes, count, 0, "write");
     return ANSWER(taken, "write(%d, %s, %zu)", fd, bytes_text(TEXT, bytes, (ssize_t)count), count);
@@ -246,7 +260,7 @@ ssize_t write(int fd, const void *bytes, size_t count) {
 
 ssize_t readv(int fd, const struct iovec *vectors, int count) {
     ssize_t got;
-    if (!is_simulated(fd)) return next_readv()(fd, vectors, count);
+    if (!is_simulated(fd)) return IN_TIME(fd, SO_RCVTIMEO, 0, next_readv()(fd, vectors, count));
     QUIET;
     got = take_vectors(fd, vectors, count, 0, "readv");
     return ANSWER(got, "readv(%d, ..., %d)", fd, count);
@@ -254,7 +268,7 @@ ssize_t readv(int fd, const struct iovec *vectors, int count) {
 
 ssize_t writev(int fd, const struct iovec *vectors, int count) {
     ssize_t taken;
-    if (!is_simulated(fd)) return next_writev()(fd, vectors, count);
+    if (!is_simulated(fd)) return IN_TIME(fd, SO_SNDTIMEO, 0, next_writev()(fd, vectors, count));
     QUIET;
     taken = give_vectors(fd, vectors, count, 0, "writev");
     return ANSWER(taken, "writev(%d, ..., %d)", fd, count);
@@ -291,7 +305,8 @@ static bool sends_with(int flags) { return (flags & ~(MSG_NOSIGNAL | MSG_DONTWAI
 
 ssize_t recvfrom(int fd, void *bytes, size_t count, int flags, struct sockaddr *from, socklen_t *size) {
     ssize_t got;
-    if (!is_simulated(fd)) return next_recvfrom()(fd, bytes, count, flags, from, size);
+    if (!is_simulated(fd))
+        return IN_TIME(fd, SO_RCVTIMEO, flags, next_recvfrom()(fd, bytes, count, flags, from, size));
     QUIET;
     if (!receives_with(flags)) return refuse(EOPNOTSUPP, "recv(%d) with flags %#x is not simulated", fd, flags);
     got = from && !WRITABLE(size) ? -EFAULT : not_a_socket(fd);
@@ -310,7 +325,7 @@ ssize_t __recv_chk(int fd, void *bytes, size_t count, size_t room, int flags) {
 
 ssize_t sendto(int fd, const void *bytes, size_t count, int flags, const struct sockaddr *to, socklen_t size) {
     ssize_t taken;
-    if (!is_simulated(fd)) return next_sendto()(fd, bytes, count, flags, to, size);
+    if (!is_simulated(fd)) return IN_TIME(fd, SO_SNDTIMEO, flags, next_sendto()(fd, bytes, count, flags, to, size));
     QUIET;
     if (!sends_with(flags)) return refuse(EOPNOTSUPP, "send(%d) with flags %#x is not simulated", fd, flags);
     taken = to ? -EISCONN : not_a_socket(fd);
@@ -322,7 +337,7 @@ ssize_t send(int fd, const void *bytes, size_t count, int flags) { return sendto
 
 ssize_t recvmsg(int fd, struct msghdr *message, int flags) {
     ssize_t got;
-    if (!is_simulated(fd)) return next_recvmsg()(fd, message, flags);
+    if (!is_simulated(fd)) return IN_TIME(fd, SO_RCVTIMEO, flags, next_recvmsg()(fd, message, flags));
     QUIET;
     if (!receives_with(flags)) return refuse(EOPNOTSUPP, "recvmsg(%d) with flags %#x is not simulated", fd, flags);
     got = WRITABLE(message) ? not_a_socket(fd) : -EFAULT;
@@ -334,7 +349,7 @@ ssize_t recvmsg(int fd, struct msghdr *message, int flags) {
 
 ssize_t sendmsg(int fd, const struct msghdr *message, int flags) {
     ssize_t taken;
-    if (!is_simulated(fd)) return next_sendmsg()(fd, message, flags);
+    if (!is_simulated(fd)) return IN_TIME(fd, SO_SNDTIMEO, flags, next_sendmsg()(fd, message, flags));
     QUIET;
     if (!READABLE(message)) return ANSWER(-EFAULT, "sendmsg(%d, %p, %#x)", fd, (const void *)message, flags);
     if (!sends_with(flags)) return refuse(EOPNOTSUPP, "sendmsg(%d) with flags %#x is not simulated", fd, flags);

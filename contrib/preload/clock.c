@@ -46,14 +46,18 @@ void bring_clock_to(uint64_t moment) {
     if (now < moment) nippersage_tick(self(), &more);
     pthread_mutex_unlock(&lock);
     send_alarms();
+    end_timed_waits(now < moment ? moment : now);
 }
 
 /* A program that polls, or asks for the time, again and again goes on once its clock has gone on. It goes on by a
    millisecond: with a UNIT the program would poll a thousand times as often. What happens within the millisecond is
-   seen when it happens. */
+   seen when it happens. Another thread that does something keeps the clock where it is. */
 void let_clock_go_on(void) {
-    uint64_t end = moment_now() + MILLISECOND, next;
+    uint64_t step, end, next;
     QUIET;
+    step = step_for_asking();
+    if (step == 0) return;
+    end = moment_now() + step;
     bring_clock_to(next_moment(&next) && next < end ? next : end);
 }
 
@@ -71,6 +75,10 @@ bool is_of_day(clockid_t clock) {
            clock == CLOCK_REALTIME_ALARM;
 }
 
+static unsigned long calls_of_this_thread(void) {
+    return atomic_load_explicit(&this_thread.calls, memory_order_relaxed);
+}
+
 /* The clock for a program that asks. One that asks again and again waits for it to go on: it goes on at the thousandth
    time without another call in between, and at the ten thousandth time at one moment. */
 static uint64_t moment_asked(void) {
@@ -78,16 +86,33 @@ static uint64_t moment_asked(void) {
     static _Thread_local uint64_t last_moment;
     static _Thread_local int in_a_row, at_a_moment;
     uint64_t moment = moment_now();
-    in_a_row = calls() == last_calls ? in_a_row + 1 : 0;
+    in_a_row = calls_of_this_thread() == last_calls ? in_a_row + 1 : 0;
     at_a_moment = moment == last_moment ? at_a_moment + 1 : 0;
     if (in_a_row == 1000 || at_a_moment == 10000) {
         in_a_row = at_a_moment = 0;
         let_clock_go_on();
         moment = moment_now();
     }
-    last_calls = calls();
+    last_calls = calls_of_this_thread();
     last_moment = moment;
     return moment;
+}
+
+/* The same for calls that are in the history. So each takes a millisecond from then on: a program that asks for an hour
+   would fill the machine. */
+void count_vain(void) {
+    static _Thread_local unsigned long last_calls;
+    static _Thread_local uint64_t last_moment;
+    static _Thread_local int in_a_row, at_a_moment;
+    uint64_t moment = moment_now();
+    in_a_row = calls_of_this_thread() - last_calls > 1 ? 1 : in_a_row < 1000 ? in_a_row + 1 : 1000;
+    at_a_moment = moment == last_moment ? at_a_moment + 1 : 0;
+    if (in_a_row == 1000 || at_a_moment == 10000) {
+        at_a_moment = 0;
+        let_clock_go_on();
+    }
+    last_calls = calls_of_this_thread();
+    last_moment = moment;
 }
 
 int clock_gettime(clockid_t clock, struct timespec *time) {
@@ -200,6 +225,7 @@ int timerfd_settime(int fd, int flags, const struct itimerspec *value, struct it
 int timerfd_gettime(int fd, struct itimerspec *now) {
     QUIET;
     struct description *description = hold(fd);
+    if (description) count_vain();
     int status = !description ? -EBADF : WRITABLE(now) ? nippersage_timerfd_gettime(self(), fd - FIRST, now) : -EFAULT;
     if (description) let_go(description);
     return (int)ANSWER(status, "timerfd_gettime(%d, %s)", fd, setting_text(TEXT, status < 0 ? NULL : now));

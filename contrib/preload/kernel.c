@@ -17,7 +17,6 @@ static struct nippersage_kernel *_Atomic kernel;
 static pthread_once_t once = PTHREAD_ONCE_INIT;
 static _Thread_local bool is_starting;
 static atomic_uint callers;
-static atomic_ulong count;
 static int sleeping;
 
 /* The C library keeps an older pthread_cond_timedwait, too, which dlsym may find. That of another library, as a
@@ -86,8 +85,13 @@ static _Noreturn void end_full(void) {
     static atomic_flag is_told = ATOMIC_FLAG_INIT;
     if (atomic_flag_test_and_set(&is_told))
         for (;;) next_pause()();
-    say("the history has %zu records, as many as NIPPERSAGE_RECORDS allows; status %d", settings()->records,
-        STATUS_FULL);
+    if (settings()->looks_seldom) {
+        say("the history has %zu records, as many as half of the memory holds (NIPPERSAGE_RECORDS); status %d",
+            settings()->records, STATUS_FULL);
+    } else {
+        say("the history has %zu records, as many as NIPPERSAGE_RECORDS allows; status %d", settings()->records,
+            STATUS_FULL);
+    }
     if (ftrylockfile(stdout) == 0) {
         fflush(stdout);
         funlockfile(stdout);
@@ -103,19 +107,18 @@ static void look_at_records(void) {
 /* While a thread makes the kernel, a handler that breaks into it finds none, and its calls answer EINVAL. */
 struct nippersage_task self(void) {
     uint32_t *caller = &this_thread.callers[this_thread.depth];
+    unsigned long calls = atomic_load_explicit(&this_thread.calls, memory_order_relaxed) + 1;
     if (!kernel && !is_starting) pthread_once(&once, start);
-    atomic_fetch_add(&count, 1);
+    atomic_store_explicit(&this_thread.calls, calls, memory_order_relaxed);
     if (*caller == 0) *caller = atomic_fetch_add(&callers, 1) % MOST_CALLERS + 1;
     if (!this_thread.is_counted) join_threads();
-    if (settings()->records != SIZE_MAX) look_at_records();
+    if ((calls & settings()->looks_seldom) == 0) look_at_records();
     return (struct nippersage_task){kernel, *caller, 1};
 }
 
 struct nippersage_kernel *the_kernel(void) {
     return kernel;
 }
-
-unsigned long calls(void) { return atomic_load(&count); }
 
 int sleeping_instance(void) {
     QUIET;
@@ -161,6 +164,7 @@ __attribute__((constructor)) static void begin(void) {
     if (path && !is_logged) say("the log can't be made anew at %s: %s", path, strerror(errno));
     at_quick_exit(write_history_once);
     this_thread.is_counted = true;
+    take_seat();
     self();
     keep_signals();
 }

@@ -5,6 +5,7 @@
 #include <sys/socket.h>
 #include <sys/time.h>
 
+FORWARD(fcntl)
 FORWARD(getsockopt)
 FORWARD(setsockopt)
 
@@ -154,11 +155,33 @@ static int set(struct options *options, int option, const union value *value, so
     return 0;
 }
 
+/* ---- real sockets ---- */
+
+atomic_bool has_timeouts;
+
+/* Those that have no timeout are asked for none, as long as none has one. */
+static int set_real(int fd, int level, int option, const void *value, socklen_t size) {
+    if (level == SOL_SOCKET && (option == SO_RCVTIMEO || option == SO_RECEIVE_TIME || option == SO_SNDTIMEO ||
+                                option == SO_SEND_TIME))
+        atomic_store(&has_timeouts, true);
+    return next_setsockopt()(fd, level, option, value, size);
+}
+
+int64_t timeout_of_real(int fd, int option, int flags) {
+    struct timeval time = {0, 0};
+    socklen_t size = sizeof time;
+    int saved = errno;
+    bool waits = !(flags & MSG_DONTWAIT) && next_getsockopt()(fd, SOL_SOCKET, option, &time, &size) == 0 &&
+                 !(next_fcntl()(fd, F_GETFL) & O_NONBLOCK);
+    errno = saved;
+    return waits ? units_of(&(struct timespec){time.tv_sec, time.tv_usec * 1000}) : 0;
+}
+
 int setsockopt(int fd, int level, int option, const void *value, socklen_t size) {
     struct description *description;
     union value given;
     int status;
-    if (!is_simulated(fd)) return next_setsockopt()(fd, level, option, value, size);
+    if (!is_simulated(fd)) return set_real(fd, level, option, value, size);
     QUIET;
     memset(&given, 0, sizeof given);
     if ((int)size > 0 && !can_read(value, size < sizeof given ? size : sizeof given))

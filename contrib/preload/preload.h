@@ -81,7 +81,8 @@ void leave_stacks_below(uintptr_t target);
 
 struct settings {
     int first;                       /* NIPPERSAGE_REAL_DESCRIPTORS: so many numbers are real */
-    size_t records;                  /* NIPPERSAGE_RECORDS: the history may have fewer; SIZE_MAX where it isn't set */
+    size_t records;                  /* NIPPERSAGE_RECORDS: the history may have fewer */
+    unsigned long looks_seldom;      /* a thread looks whether it has, if its calls have none of these bits */
     uint64_t busy_waits;             /* NIPPERSAGE_BUSY_WAITS: so many take a millisecond; 0 is none */
     uint64_t patience;               /* NIPPERSAGE_PATIENCE, in milliseconds of real time */
     struct nippersage_limits limits; /* NIPPERSAGE_LIMITS */
@@ -118,8 +119,6 @@ long call_limit(long number, const long given[6]);
 struct nippersage_task self(void);
 /* The kernel, for a question that is no call; NULL before it is made, and while it is. */
 struct nippersage_kernel *the_kernel(void);
-/* How many times self was called: what didn't change it made no call. */
-unsigned long calls(void);
 /* The C library's function of a name. It ends the program where there is none. */
 void *next_of(const char *name);
 /* next_NAME() is the C library's NAME. */
@@ -152,6 +151,7 @@ void tell_what_came_again(void);
 /* ---- signals.c: handlers of signals, and when they run ---- */
 
 struct sleeper;
+struct seat;
 enum { MOST_DEPTH = 8, MOST_HELD = 16 };
 /* What the shim keeps of a thread. A handler that breaks in may find any state of it but a wrong one. */
 struct thread_state {
@@ -160,6 +160,8 @@ struct thread_state {
     int first_held, held_count;
     siginfo_t held[MOST_HELD]; /* signals that came meanwhile */
     bool is_counted;           /* the thread takes part: threads.c */
+    struct seat *seat;         /* of one that takes part: looks.c */
+    _Atomic unsigned long calls; /* so often it called self */
     uint64_t mask;             /* of the real kernel's signals */
     struct sleeper *innermost; /* the wait in which a handler would run now, or NULL */
     unsigned long handlers;    /* so many have been run */
@@ -240,6 +242,32 @@ void end_handler_in(void *sleeper, long unused);
 void leave_waits_below(uintptr_t address);
 /* So many threads more take part, or fewer. */
 void count_threads(int more);
+/* How many of them don't sleep in wait_at, and how often one of those that did was woken. */
+int count_awake(unsigned long *woken);
+
+/* ---- looks.c: who of the threads sleeps ---- */
+
+/* The thread that calls is one of those that are looked at, and is one no more. */
+void take_seat(void);
+void leave_seat(void);
+/* Whether a thread sleeps in wait_at; a seat may be NULL. */
+void mark_asleep(struct seat *seat, bool is_asleep);
+/* The thread that calls asks in vain at this moment. */
+void mark_asking(uint64_t moment);
+/* How many times threads that take part called self: what didn't change it made no call. */
+unsigned long calls(void);
+/* Whether a thread sleeps in the real kernel; one that has ended does. */
+bool is_thread_asleep(long thread);
+/* What threads do at one moment. What sleeps OUTSIDE may be woken by time or by something outside of the program. */
+enum rest { AWAKE, OUTSIDE, AT_REST };
+struct look {
+    enum rest rest;
+    int awake;       /* so many threads don't sleep in wait_at */
+    int outside;     /* so many sleep OUTSIDE */
+    bool is_partial; /* there are others, which may do anything */
+};
+/* Looks at all that take part but this one. Who asked in vain at the moment, if one is given, counts as one at rest. */
+struct look look_at_others(const uint64_t *moment);
 
 /* ---- log.c: a line for each call, as strace writes it ---- */
 
@@ -331,6 +359,13 @@ ssize_t give(int fd, const char *bytes, size_t count, int flags, const char *cal
 /* Reads as recv(2) with these flags does. */
 ssize_t take(int fd, char *bytes, size_t count, int flags, const char *call);
 
+/* ---- options.c ---- */
+
+/* Whether a real socket was given a timeout, and how long a call on a real descriptor waits at most; 0 is no end, or no
+   wait. */
+extern atomic_bool has_timeouts;
+int64_t timeout_of_real(int fd, int option, int flags);
+
 /* ---- waits.c ---- */
 
 /* The waits of a call that blocks, each until an event arrives at a description. The first one registers it. */
@@ -355,8 +390,11 @@ struct timespec timespec_of(uint64_t units);
 int sleep_for(int64_t units, const char *call);
 /* Moves the clock to a moment, if it isn't there yet, and sends the signals of alarms whose time has come. */
 void bring_clock_to(uint64_t moment);
-/* Moves the clock on by a millisecond, but not past the next moment at which something happens. */
+/* Moves the clock on by a millisecond, but not past the next moment at which something happens, and only if no other
+   thread does anything. */
 void let_clock_go_on(void);
+/* A call of this thread answered EAGAIN, or told a timer: after many of them the clock goes on. */
+void count_vain(void);
 /* The simulated clock at the start, and what CLOCK_REALTIME was when it was at 0, in seconds and in UNITs. */
 enum { START = 1000 * SECOND, EPOCH_SECONDS = 1000000000 - START / SECOND };
 #define EPOCH ((int64_t)EPOCH_SECONDS * SECOND)
@@ -400,15 +438,47 @@ void *(*real_dlsym(void))(void *handle, const char *name);
 
 /* ---- threads.c ---- */
 
-/* Whether a thread sleeps in the real kernel; one that has ended does. */
-bool is_thread_asleep(long thread);
 /* Begins to move the clock for threads that sleep in the real kernel. */
 void watch_threads(void);
+/* This thread goes to sleep, and so many are awake, or sleep elsewhere. */
+void tell_watcher(int awake);
+/* How far the clock may go on for a thread that asks in vain again and again. */
+uint64_t step_for_asking(void);
+/* Ends the waits with a time whose end has come. */
+void end_timed_waits(uint64_t moment);
 /* Takes the thread that calls among those that take part. */
 void join_threads(void);
 /* A wait of the C library with a time by CLOCK_REALTIME, which answers an error number: calls `wait` until it answers
    something else than ETIMEDOUT, or the simulated clock is at `day`. */
 int wait_until(const struct timespec *day, int (*wait)(void *given, const struct timespec *until), void *given);
+/* A wait with a time, as pthread_cond_timedwait. It sleeps in the real kernel, and ends once the simulated clock is at
+   its end. Who moves the clock to it wakes it. Where other threads go on for as long as it is to last and some more, it
+   ends, too, and the clock is brought to its end: CPython's threads take turns so. */
+struct timed {
+    int64_t end;             /* by the simulated clock, or below 0 where it is no time */
+    int64_t left;            /* UNITs of real time before it ends in any case */
+    uint32_t *words;         /* of what it waits for, or NULL: it sleeps on one of them */
+    size_t word_count;
+    bool is_condition;       /* what it waits for is a condition variable */
+    clockid_t clock;         /* the real clock that the C library waits by */
+    struct timespec until;   /* the end of its sleep by that clock, which is read again each time that it wakes */
+    bool is_outside;         /* it waits for something outside of the program, as a poll of real descriptors */
+    uint64_t began;          /* such a one, by the simulated clock */
+    int64_t began_really;
+    uint32_t own_word;       /* it sleeps on, once it is over outside */
+    struct timed *next;
+};
+/* One until `time` on an object of so many bytes, or on NULL. It then sleeps until `until`, and what error_of_timed makes
+   of its error is the answer, or SLEEP_ON: then it sleeps again. */
+enum { SLEEP_ON = -1 };
+void begin_timed_on(struct timed *timed, const struct timespec *time, const void *object, size_t size,
+                    bool is_condition);
+int error_of_timed(struct timed *timed, int error);
+void end_timed(const struct timed *timed);
+/* A wait for something outside that takes at most so many UNITs of real time. Until its end the clock goes no faster
+   than real time does. Whether it is over says whether nothing came: then the clock is at its end. */
+void begin_outside(struct timed *timed, int64_t units);
+void end_outside(struct timed *timed, bool is_over);
 /* futex(2) with these six arguments, whose times are by the simulated clock. */
 long call_futex(const long given[6]);
 

@@ -27,6 +27,7 @@ struct sleeper {
     bool is_rung;         /* it left the kernel because a bell rang: see leave */
     bool is_asleep;       /* it is counted among those that sleep */
     long thread;          /* the real kernel's number */
+    struct seat *seat;    /* of the thread */
     _Atomic uint32_t word; /* goes on at each news */
     uint32_t slept_on;     /* what it was when the thread went to sleep */
     struct sleeper *outer; /* the wait of the same thread in whose handler this one was begun, or NULL */
@@ -40,6 +41,7 @@ static pthread_mutex_t lock = PTHREAD_MUTEX_INITIALIZER;
 static struct sleeper *sleepers; /* in the order in which they came */
 static atomic_int count;         /* of sleepers */
 static int asleep;               /* those whose threads sleep, so that nothing but news or a signal wakes them */
+static unsigned long woken;      /* so often one of them was woken */
 static int threads = 1;          /* that take part */
 
 static struct nippersage_task task_of(const struct sleeper *s) {
@@ -47,8 +49,11 @@ static struct nippersage_task task_of(const struct sleeper *s) {
 }
 
 static void count_asleep(struct sleeper *s, bool is_asleep) {
-    if (s->is_asleep != is_asleep) asleep += is_asleep ? 1 : -1;
+    if (s->is_asleep == is_asleep) return;
+    asleep += is_asleep ? 1 : -1;
+    if (!is_asleep) woken++;
     s->is_asleep = is_asleep;
+    mark_asleep(s->seat, is_asleep);
 }
 
 static void wake(struct sleeper *s) {
@@ -213,9 +218,10 @@ void end_handler_in(void *sleeper, long unused) {
 static bool sleep_once(struct sleeper *s, const struct timespec *most, bool sleeps) {
     uint32_t seen = s->slept_on = atomic_load(&s->word);
     struct sleeper *before = this_thread.innermost;
-    int quiet = this_thread.quiet, depth = this_thread.depth;
+    int quiet = this_thread.quiet, depth = this_thread.depth, awake = threads - asleep;
     bool is_over = false;
     pthread_mutex_unlock(&lock);
+    if (sleeps && awake > 0) tell_watcher(awake);
     if (depth + 1 < MOST_DEPTH) {
         this_thread.innermost = s;
         this_thread.depth = depth + 1;
@@ -345,18 +351,18 @@ void leave_waits_below(uintptr_t address) {
 /* ---- a program that is never idle ---- */
 
 /* So many waits in a row that find something, at one moment, take a millisecond, as let_clock_go_on has it. Under the
-   lock. */
-static void count_busy(int found) {
+   lock; whether it was the last one of them. */
+static bool count_busy(int found) {
     static uint64_t last;
     static uint64_t times;
     uint64_t now, most = settings()->busy_waits;
-    if (found <= 0 || most == 0) return;
+    if (found <= 0 || most == 0) return false;
     now = moment_now();
     times = now == last ? times + 1 : 1;
     last = now;
-    if (times < most) return;
+    if (times < most) return false;
     times = 0;
-    let_clock_go_on();
+    return true;
 }
 
 /* ---- waits ---- */
@@ -373,8 +379,10 @@ static _Noreturn void end_endless(const char *call) {
 
 int wait_at(const struct wait *wait) {
     struct sleeper me = {.wait = wait, .end = NEVER, .thread = next_syscall()(SYS_gettid)};
+    bool is_busy;
     QUIET;
     me.caller = self().caller;
+    me.seat = this_thread.seat;
     me.outer = this_thread.innermost;
     me.depth = this_thread.depth;
     me.place = place_of_call(&me);
@@ -386,13 +394,24 @@ int wait_at(const struct wait *wait) {
         sleep_until_answered(&me);
         unlink_sleeper(&me);
     }
-    count_busy(me.result);
+    is_busy = count_busy(me.result);
     pthread_mutex_unlock(&lock);
+    if (is_busy) let_clock_go_on();
     if (me.result == ENDLESS) end_endless(wait->call);
     return me.result;
 }
 
 /* ---- threads that take part ---- */
+
+int count_awake(unsigned long *woken_so_far) {
+    int awake;
+    QUIET;
+    pthread_mutex_lock(&lock);
+    awake = threads - asleep;
+    *woken_so_far = woken;
+    pthread_mutex_unlock(&lock);
+    return awake;
+}
 
 /* Once one ends, the others may be those that are to move the clock. */
 void count_threads(int more) {

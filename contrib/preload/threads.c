@@ -1,7 +1,7 @@
 /* Threads. Those that take part are counted, and while all of them sleep in simulated waits, the last one moves the
    clock: sleepers.c. A thread may also sleep in the real kernel, as in pthread_cond_wait; then nobody would move the
-   clock. So a thread of the shim's own looks, each millisecond of real time, whether all others sleep, and moves it for
-   them. */
+   clock. So a thread of the shim's own, the watcher, looks whether all others sleep, and moves it for them. It looks when
+   one of them begins to sleep, and each millisecond of real time. */
 #include "preload.h"
 
 #include <dirent.h>
@@ -12,6 +12,7 @@
 #include <signal.h>
 #include <stdio.h>
 #include <stdlib.h>
+#include <sys/prctl.h>
 #include <sys/syscall.h>
 
 FORWARD(pthread_create)
@@ -24,55 +25,96 @@ static pthread_key_t counted;
 static pthread_once_t once = PTHREAD_ONCE_INIT, once_watched = PTHREAD_ONCE_INIT;
 static atomic_bool is_watching;
 
-/* A wait with a time, as pthread_cond_timedwait. It sleeps in the real kernel, and ends once the simulated clock is
-   at its end. The watcher moves the clock to it, and wakes it. Where other threads go on for as long as it is to last
-   and MORE, it ends, too, and the clock is brought to its end: CPython's threads take turns so. */
-struct timed {
-    int64_t end;             /* by the simulated clock, or below 0 where it is no time */
-    int64_t left;            /* UNITs of real time before it ends in any case */
-    pthread_cond_t *changed; /* what it waits for, if that has to be woken */
-    clockid_t clock;         /* the real clock that the C library waits by */
-    struct timespec until;   /* the end of its sleep by that clock */
-    struct timed *next;
-};
-enum { MORE = 20 * MILLISECOND, SLEEP_ON = -1 };
+enum { MORE = 20 * MILLISECOND, SLACK = 50 };
 /* So many turns of the watcher, each of a millisecond of real time. */
 enum { A_SECOND = 1000 };
 
 static pthread_mutex_t timed_lock = PTHREAD_MUTEX_INITIALIZER;
 static struct timed *all_timed;
+static atomic_int timed_count;
+
+static int64_t real_now(void) {
+    struct timespec now;
+    next_clock_gettime()(CLOCK_MONOTONIC, &now);
+    return units_of(&now);
+}
+
+/* ---- moments ---- */
+
+/* The first end of a wait with a time, or the last one of those that come so soon after it. */
+static bool next_timed(uint64_t *moment, uint64_t slack) {
+    uint64_t first = UINT64_MAX, last = 0;
+    if (atomic_load(&timed_count) == 0) return false;
+    pthread_mutex_lock(&timed_lock);
+    for (const struct timed *timed = all_timed; timed; timed = timed->next)
+        if ((uint64_t)timed->end < first) first = (uint64_t)timed->end;
+    for (const struct timed *timed = all_timed; timed; timed = timed->next) {
+        uint64_t end = (uint64_t)timed->end;
+        if (end - first <= slack && end > last && end <= LAST_MOMENT) last = end;
+    }
+    pthread_mutex_unlock(&timed_lock);
+    *moment = last;
+    return last > 0;
+}
+
+/* The next moment at which something else happens. */
+static bool next_event(uint64_t *moment) {
+    struct timespec next;
+    uint64_t alarm;
+    bool has_one = nippersage_next_moment(the_kernel(), &next) == 1;
+    if (has_one) *moment = (uint64_t)units_of(&next);
+    if (!next_alarm(&alarm) || (has_one && *moment <= alarm)) return has_one;
+    *moment = alarm;
+    return true;
+}
+
+/* With slack, waits on locks that end so soon after each other end together, as Linux has it for all waits: else a
+   program whose threads wait for some microseconds each would take turns for each of them. */
+static bool next_moment_with(uint64_t slack, uint64_t *moment) {
+    uint64_t event = UINT64_MAX, end = UINT64_MAX;
+    QUIET;
+    bool has_event = next_event(&event), has_end = next_timed(&end, slack);
+    if (!has_event && !has_end) return false;
+    *moment = event < end ? event : end;
+    return true;
+}
+
+bool next_moment(uint64_t *moment) { return next_moment_with(0, moment); }
+
+/* How far the clock may go while threads wait for what is outside: as far as real time has gone since then, and not past
+   the end of such a wait. Else what is outside would come too late for each of them. */
+static uint64_t outside_limit(int *waits) {
+    uint64_t limit = UINT64_MAX;
+    int64_t now = real_now();
+    *waits = 0;
+    if (atomic_load(&timed_count) == 0) return limit;
+    pthread_mutex_lock(&timed_lock);
+    for (const struct timed *timed = all_timed; timed; timed = timed->next) {
+        uint64_t there = timed->began + (uint64_t)(now - timed->began_really);
+        if (!timed->is_outside) continue;
+        if (there > (uint64_t)timed->end) there = (uint64_t)timed->end;
+        if (there < limit) limit = there;
+        ++*waits;
+    }
+    pthread_mutex_unlock(&timed_lock);
+    return limit;
+}
 
 /* ---- the watcher ---- */
 
-/* Whether a thread sleeps, by its line in /proc: "42 (name) S ..". One that can't be read has ended. */
-static bool is_asleep(int tasks, const char *thread) {
-    char path[64], line[512];
-    const char *end;
-    ssize_t size = 0;
-    int fd;
-    snprintf(path, sizeof path, "%.20s/stat", thread);
-    fd = openat(tasks, path, O_RDONLY | O_CLOEXEC);
-    if (fd >= 0) {
-        size = read(fd, line, sizeof line - 1);
-        close(fd);
-    }
-    if (size <= 0) return true;
-    line[size] = '\0';
-    end = strrchr(line, ')');
-    return end && end[1] == ' ' && (end[2] == 'S' || end[2] == 'Z' || end[2] == 'X');
+/* It sleeps until somebody pokes it, or a millisecond. */
+static _Atomic uint32_t pokes;
+static atomic_bool is_idle;
+static atomic_int resting = 1; /* so many threads were awake, or slept elsewhere, when it moved the clock last */
+
+void tell_watcher(int awake) {
+    if (!atomic_load(&is_watching) || awake > atomic_load(&resting)) return;
+    atomic_fetch_add(&pokes, 1);
+    if (atomic_exchange(&is_idle, false))
+        next_syscall()(SYS_futex, &pokes, FUTEX_WAKE | FUTEX_PRIVATE_FLAG, 1, NULL, NULL, 0);
 }
 
-bool is_thread_asleep(long thread) {
-    int tasks = open("/proc/self/task", O_RDONLY | O_DIRECTORY | O_CLOEXEC);
-    char name[24];
-    bool so;
-    snprintf(name, sizeof name, "%ld", thread);
-    so = tasks >= 0 && is_asleep(tasks, name);
-    if (tasks >= 0) close(tasks);
-    return so;
-}
-
-/* Whether all threads but this one sleep. */
+/* Whether all threads but this one sleep, by the list that the real kernel has of them. */
 static bool all_sleep(void) {
     DIR *tasks = opendir("/proc/self/task");
     long own = syscall(SYS_gettid);
@@ -80,7 +122,7 @@ static bool all_sleep(void) {
     bool so = tasks != NULL;
     while (so && (entry = readdir(tasks))) {
         long thread = strtol(entry->d_name, NULL, 10);
-        if (thread > 0 && thread != own) so = is_asleep(dirfd(tasks), entry->d_name);
+        if (thread > 0 && thread != own) so = is_thread_asleep(thread);
     }
     if (tasks) closedir(tasks);
     return so;
@@ -92,92 +134,162 @@ static void say_endless(int turns) {
         say("nothing has happened for a second: every thread sleeps, and no time ends a simulated wait");
 }
 
-bool next_moment(uint64_t *moment) {
-    struct timespec next;
-    uint64_t alarm;
-    bool has_one = nippersage_next_moment(the_kernel(), &next) == 1;
-    if (has_one) *moment = (uint64_t)units_of(&next);
-    if (!next_alarm(&alarm) || (has_one && *moment <= alarm)) return has_one;
-    *moment = alarm;
-    return true;
-}
-
-/* Whether there is a moment to which the clock can go: the next one at which something happens, or the end of a wait
-   with a time. */
-static bool find_moment(uint64_t *moment) {
-    bool has_one = next_moment(moment);
-    pthread_mutex_lock(&timed_lock);
-    for (const struct timed *timed = all_timed; timed; timed = timed->next) {
-        uint64_t end = (uint64_t)timed->end;
-        if (end > LAST_MOMENT || (has_one && end >= *moment)) continue;
-        *moment = end;
-        has_one = true;
-    }
-    pthread_mutex_unlock(&timed_lock);
-    return has_one;
-}
-
-/* A sleep of the C library at any word of a condition variable looks again whether it is over, and sleeps on if not. */
-static void stir(const pthread_cond_t *changed) {
-    const uint32_t *words = (const uint32_t *)(const void *)changed;
-    for (size_t i = 0; i < sizeof *changed / sizeof *words; i++) {
-        next_syscall()(SYS_futex, &words[i], FUTEX_WAKE | FUTEX_PRIVATE_FLAG, INT_MAX, NULL, NULL, 0);
-        next_syscall()(SYS_futex, &words[i], FUTEX_WAKE, INT_MAX, NULL, NULL, 0);
-    }
-}
-
-/* Ends those whose end has come, and no other wait for the same: the end of its sleep has passed now. */
-static void wake_timed(uint64_t moment) {
-    pthread_mutex_lock(&timed_lock);
-    for (struct timed *timed = all_timed; timed; timed = timed->next)
-        if (timed->changed && (uint64_t)timed->end <= moment) {
-            timed->until = (struct timespec){0, 0};
-            stir(timed->changed);
-        }
-    pthread_mutex_unlock(&timed_lock);
-}
-
-/* Moves the clock on, if there is a moment to which it can go. */
-static bool move_clock(void) {
-    uint64_t moment;
+/* Moves the clock to the next moment, if there is one to which it may go. If it may so later, *pause is how long it is
+   until then. */
+static bool move_clock(int64_t *pause) {
+    uint64_t moment, limit;
+    int waits;
     QUIET;
-    if (!find_moment(&moment)) return false;
+    if (!next_moment_with(SLACK, &moment)) return false;
+    limit = outside_limit(&waits);
+    if (moment > limit) {
+        *pause = moment - limit < MILLISECOND ? (int64_t)(moment - limit) : MILLISECOND;
+        return false;
+    }
     bring_clock_to(moment);
-    wake_timed(moment);
     return true;
 }
 
-/* Once all sleep, and did so a millisecond ago, and made no call in between, nothing but time can wake them. A thread
-   that computes for a second without a call may wait for another one that sleeps: then time goes on, too. */
+/* What the watcher knows from turn to turn. */
+struct watch {
+    int64_t last_turn;    /* in real time */
+    unsigned long before; /* calls until then */
+    int quiet, still;     /* so many turns without a call, and so many in which all slept, too */
+    uint32_t pokes;
+    int64_t pause; /* so long it sleeps next, whatever happens; 0 is until a poke */
+};
+
+/* All sleep, and only time or something outside can wake them: so they did a millisecond ago, and made no call in
+   between. A thread that computes for a second without a call may wait for another one that sleeps: then time goes on,
+   too. */
+static bool take_turn(struct watch *watch, struct look look, int64_t *pause) {
+    enum rest rest = look.rest;
+    bool moves;
+    if (look.is_partial) rest = all_sleep() ? OUTSIDE : AWAKE;
+    watch->last_turn = real_now();
+    watch->quiet = calls() == watch->before ? watch->quiet + 1 : 0;
+    watch->still = watch->quiet > 0 && rest != AWAKE ? watch->still + 1 : 0;
+    end_timed_waits(moment_now());
+    moves = (watch->still > 1 || watch->quiet > A_SECOND) && move_clock(pause);
+    if (moves) {
+        watch->quiet = watch->still = 0;
+    } else {
+        say_endless(watch->still);
+    }
+    watch->before = calls();
+    return moves;
+}
+
+/* Moves the clock if all sleep, and nothing but time can wake them. */
+static bool look_and_move(struct watch *watch, int64_t *pause) {
+    struct look look = look_at_others(NULL);
+    int waits;
+    outside_limit(&waits);
+    if (look.rest != AWAKE && look.outside <= waits && move_clock(pause)) {
+        atomic_store(&resting, look.awake);
+        watch->quiet = watch->still = 0;
+        watch->before = calls();
+        return true;
+    }
+    return *pause == 0 && real_now() - watch->last_turn >= MILLISECOND && take_turn(watch, look, pause);
+}
+
+/* Whether somebody poked it. */
+static bool await_poke(struct watch *watch) {
+    struct timespec most = timespec_of((uint64_t)(watch->pause > 0 ? watch->pause : MILLISECOND));
+    uint32_t now;
+    bool is_poked;
+    if (watch->pause > 0) {
+        next_nanosleep()(&most, NULL);
+    } else {
+        atomic_store(&is_idle, true);
+        next_syscall()(SYS_futex, &pokes, FUTEX_WAIT | FUTEX_PRIVATE_FLAG, watch->pokes, &most, NULL, 0);
+        atomic_store(&is_idle, false);
+    }
+    now = atomic_load(&pokes);
+    is_poked = now != watch->pokes;
+    watch->pokes = now;
+    return is_poked;
+}
+
+/* After a poke it looks again and again, but less and less often, for who poked is perhaps not yet asleep. */
 static _Noreturn void *watch(void *nothing) {
-    static const struct timespec a_while = {0, 1000000};
-    unsigned long before = 0;
-    int quiet = 0, still = 0; /* so many milliseconds without a call, and so many in which all slept, too */
+    enum { FIRST_PAUSE = 20, LAST_PAUSE = 640 };
+    struct watch watch = {.last_turn = real_now()};
     (void)nothing;
     this_thread.is_counted = true; /* it takes no part */
+    next_syscall()(SYS_prctl, PR_SET_TIMERSLACK, UNIT, 0, 0, 0);
     for (;;) {
-        next_nanosleep()(&a_while, NULL);
-        quiet = calls() == before ? quiet + 1 : 0;
-        still = quiet > 0 && all_sleep() ? still + 1 : 0;
-        if ((still > 1 || quiet > A_SECOND) && move_clock()) {
-            quiet = still = 0;
+        bool is_poked = await_poke(&watch);
+        int64_t until = 0;
+        if (look_and_move(&watch, &until)) {
+            watch.pause = 0;
+        } else if (until > 0) {
+            watch.pause = until;
+        } else if (watch.pause > 0) {
+            watch.pause = watch.pause < LAST_PAUSE ? 2 * watch.pause : 0;
         } else {
-            say_endless(still);
+            watch.pause = is_poked ? FIRST_PAUSE : 0;
         }
-        before = calls();
     }
+}
+
+/* ---- threads that ask in vain ---- */
+
+/* While another thread computes, the clock stays; but it may compute until this one sees its clock go on. So after a
+   second at one moment, it goes on as real time does. */
+static uint64_t step_beside_others(uint64_t now) {
+    static pthread_mutex_t lock = PTHREAD_MUTEX_INITIALIZER;
+    static uint64_t from = 1, to; /* the moments of the last step, or of none */
+    static int64_t since;         /* in real time */
+    static bool is_over;
+    int64_t real = real_now(), passed;
+    uint64_t step = 0;
+    pthread_mutex_lock(&lock);
+    if (now < from || now > to) {
+        from = to = now;
+        since = real;
+        is_over = false;
+    }
+    passed = real - since;
+    if (is_over || passed >= SECOND) {
+        is_over = true;
+        since = real;
+        step = passed < MILLISECOND ? (uint64_t)passed : MILLISECOND;
+        from = now;
+        to = now + step;
+    }
+    pthread_mutex_unlock(&lock);
+    return step;
+}
+
+uint64_t step_for_asking(void) {
+    uint64_t now, limit;
+    int waits;
+    if (!atomic_load(&is_watching)) return MILLISECOND;
+    now = moment_now();
+    mark_asking(now);
+    if (look_at_others(&now).rest == AWAKE) return step_beside_others(now);
+    limit = outside_limit(&waits);
+    if (limit <= now) return 0;
+    return limit - now < MILLISECOND ? limit - now : MILLISECOND;
 }
 
 /* ---- threads that take part ---- */
 
-/* The last of a thread. */
+/* The last of a thread. With the last thread the program ends, though the watcher is there still. */
 static void stop_counting(void *nothing) {
+    unsigned long woken;
     (void)nothing;
     count_threads(-1);
+    leave_seat();
+    if (count_awake(&woken) == 0 && !is_anyone_waiting()) exit(0);
+    tell_watcher(0);
 }
 
 static void count_this_thread(void) {
     this_thread.is_counted = true;
+    take_seat();
     pthread_setspecific(counted, &this_thread);
 }
 
@@ -205,11 +317,12 @@ static void start_counting(void) {
     watch_threads();
 }
 
-/* One that pthread_create didn't make is counted from its first call on. */
+/* One that pthread_create didn't make is counted from its first call on. The first one is counted already, though the
+   constructor of another library may call before this one's. */
 void join_threads(void) {
     if (this_thread.is_counted) return;
     pthread_once(&once, start_counting);
-    count_threads(1);
+    if (next_syscall()(SYS_gettid) != getpid()) count_threads(1);
     count_this_thread();
 }
 
@@ -258,69 +371,167 @@ int pthread_create(pthread_t *made, const pthread_attr_t *attributes, void *(*ru
 
 /* ---- waits with a time ---- */
 
+enum { SLICE = 20 * MILLISECOND };
+
 /* Which clock a time is by the time itself says: one begins at START, the other at EPOCH_SECONDS more. */
 static bool is_a_day(const struct timespec *time) { return time->tv_sec >= EPOCH_SECONDS / 2; }
 
-/* So many UNITs of real time from now end the wait's next sleep. */
+/* So many UNITs of real time from now end the wait's next sleep; none do if its end has come by now. */
 static void sleep_at_most(struct timed *timed, int64_t units) {
-    struct timespec more = timespec_of((uint64_t)units);
-    next_clock_gettime()(timed->clock, &timed->until);
-    timed->until.tv_sec += more.tv_sec + (timed->until.tv_nsec + more.tv_nsec) / 1000000000;
-    timed->until.tv_nsec = (timed->until.tv_nsec + more.tv_nsec) % 1000000000;
+    struct timespec until, more = timespec_of((uint64_t)units);
+    next_clock_gettime()(timed->clock, &until);
+    until.tv_sec += more.tv_sec + (until.tv_nsec + more.tv_nsec) / 1000000000;
+    until.tv_nsec = (until.tv_nsec + more.tv_nsec) % 1000000000;
+    __atomic_store_n(&timed->until.tv_nsec, until.tv_nsec, __ATOMIC_SEQ_CST);
+    __atomic_store_n(&timed->until.tv_sec, until.tv_sec, __ATOMIC_SEQ_CST);
+    if ((int64_t)moment_now() >= timed->end) __atomic_store_n(&timed->until.tv_sec, 0, __ATOMIC_SEQ_CST);
 }
 
-/* A wait on a condition variable sleeps until it is woken, another one for a millisecond at a time. One that nobody can
-   end, for want of other threads, doesn't sleep. */
-static void begin_timed(struct timed *timed, const struct timespec *time, pthread_cond_t *changed) {
-    int64_t now = (int64_t)moment_now(), end = units_of(time);
+/* Its thread sleeps on one of the words, and looks at `until` again when it is woken. So it wakes up and finds that its
+   time is over. Another thread that sleeps on the same words finds that it has to sleep on. */
+static void end_sleep(struct timed *timed) {
+    __atomic_store_n(&timed->until.tv_sec, 0, __ATOMIC_SEQ_CST);
+    for (uint32_t *word = timed->words; word < timed->words + timed->word_count; word++) {
+        next_syscall()(SYS_futex, word, FUTEX_WAKE | FUTEX_PRIVATE_FLAG, INT_MAX, NULL, NULL, 0);
+        next_syscall()(SYS_futex, word, FUTEX_WAKE, INT_MAX, NULL, NULL, 0);
+    }
+}
+
+static bool is_over(const struct timed *timed) {
+    return __atomic_load_n(&timed->until.tv_sec, __ATOMIC_SEQ_CST) == 0;
+}
+
+void end_timed_waits(uint64_t moment) {
+    int saved = errno;
+    if (atomic_load(&timed_count) == 0) return;
     QUIET;
-    *timed = (struct timed){.end = end, .changed = changed, .until = *time};
+    pthread_mutex_lock(&timed_lock);
+    for (struct timed *timed = all_timed; timed; timed = timed->next)
+        if ((uint64_t)timed->end <= moment && !timed->is_outside) end_sleep(timed);
+    pthread_mutex_unlock(&timed_lock);
+    errno = saved;
+}
+
+static void link_timed(struct timed *timed) {
+    QUIET;
+    self();
+    pthread_mutex_lock(&timed_lock);
+    timed->next = all_timed;
+    all_timed = timed;
+    atomic_fetch_add(&timed_count, 1);
+    pthread_mutex_unlock(&timed_lock);
+}
+
+/* The longest sleep. A wait on a condition variable sleeps once, or it could miss a signal in between. Another one looks
+   at the clock again after a while, for there may be locks that nobody can wake. */
+static int64_t slice_of(const struct timed *timed) {
+    if (timed->is_condition) return timed->left;
+    return timed->words ? SLICE : MILLISECOND;
+}
+
+/* One that nobody can end, for want of other threads, doesn't sleep. */
+void begin_timed_on(struct timed *timed, const struct timespec *time, const void *object, size_t size,
+                    bool is_condition) {
+    int64_t now = (int64_t)moment_now(), end = units_of(time), slice;
+    *timed = (struct timed){.end = end, .until = *time, .is_condition = is_condition};
     timed->clock = is_a_day(time) ? CLOCK_REALTIME : CLOCK_MONOTONIC;
+    timed->words = (uint32_t *)(uintptr_t)object;
+    timed->word_count = object ? size / sizeof *timed->words : 0;
     if (end < 0) return;
     if (is_a_day(time)) end -= EPOCH;
     if (end < 0) end = 0;
     timed->end = end;
     timed->left = end <= now || !atomic_load(&is_watching) ? 0 : end - now + MORE;
-    sleep_at_most(timed, changed || timed->left == 0 ? timed->left : MILLISECOND);
-    self();
-    pthread_mutex_lock(&timed_lock);
-    timed->next = all_timed;
-    all_timed = timed;
-    pthread_mutex_unlock(&timed_lock);
+    slice = slice_of(timed);
+    link_timed(timed);
+    sleep_at_most(timed, timed->left < slice ? timed->left : slice);
+    if (timed->left > 0) tell_watcher(0);
+}
+
+/* One on a condition variable, or on what nobody can wake. */
+static void begin_timed(struct timed *timed, const struct timespec *time, pthread_cond_t *changed) {
+    begin_timed_on(timed, time, changed, sizeof *changed, changed != NULL);
 }
 
 /* The error of a wait that answered this one: ETIMEDOUT if it is over, SLEEP_ON if it is to go on. */
-static int error_of_timed(struct timed *timed, int error) {
-    if (timed->end < 0 || (error != ETIMEDOUT && !(error == 0 && timed->changed))) return error;
-    if ((int64_t)moment_now() >= timed->end) return ETIMEDOUT;
-    if (error == 0) return 0;
-    timed->left = timed->changed ? 0 : timed->left - MILLISECOND;
+int error_of_timed(struct timed *timed, int error) {
+    int64_t slice = slice_of(timed);
+    if (timed->end < 0 || error != ETIMEDOUT || (int64_t)moment_now() >= timed->end) return error;
+    timed->left -= slice;
     if (timed->left > 0) {
-        sleep_at_most(timed, MILLISECOND);
+        sleep_at_most(timed, timed->left < slice ? timed->left : slice);
         return SLEEP_ON;
     }
     bring_clock_to((uint64_t)timed->end);
     return ETIMEDOUT;
 }
 
-static void end_timed(const struct timed *timed) {
+void end_timed(const struct timed *timed) {
     struct timed **link = &all_timed;
     int saved = errno;
     QUIET;
+    if (timed->end < 0) return;
     pthread_mutex_lock(&timed_lock);
     while (*link && *link != timed) link = &(*link)->next;
-    if (*link) *link = timed->next;
+    if (*link) {
+        *link = timed->next;
+        atomic_fetch_sub(&timed_count, 1);
+    }
     pthread_mutex_unlock(&timed_lock);
     errno = saved;
 }
 
-/* A wait of the C library until `time`, which answers an error number; on a condition variable, or on NULL. */
-#define TIMED(name, condition, parameters, arguments)                \
+/* ---- waits with a time for what is outside ---- */
+
+void begin_outside(struct timed *timed, int64_t units) {
+    *timed = (struct timed){.began = moment_now(), .began_really = real_now(), .is_outside = true};
+    timed->clock = CLOCK_MONOTONIC;
+    timed->end = (int64_t)timed->began + units;
+    if (!atomic_load(&is_watching)) return;
+    link_timed(timed);
+    tell_watcher(0);
+}
+
+/* Real time has passed, and nothing has come from outside. What is to happen until then by the simulated clock happens
+   before it, unless others go on for as long as MORE. */
+static void await_end(struct timed *timed) {
+    pthread_mutex_lock(&timed_lock);
+    timed->is_outside = false;
+    timed->words = &timed->own_word;
+    timed->word_count = 1;
+    pthread_mutex_unlock(&timed_lock);
+    sleep_at_most(timed, MORE);
+    tell_watcher(0);
+    while ((int64_t)moment_now() < timed->end &&
+           (next_syscall()(SYS_futex, &timed->own_word, FUTEX_WAIT_BITSET | FUTEX_PRIVATE_FLAG, 0, &timed->until, NULL,
+                           FUTEX_BITSET_MATCH_ANY) == 0 ||
+            errno != ETIMEDOUT))
+        continue;
+}
+
+void end_outside(struct timed *timed, bool is_over) {
+    int saved = errno;
+    if (is_over && atomic_load(&is_watching)) await_end(timed);
+    end_timed(timed);
+    if (is_over) bring_clock_to((uint64_t)timed->end);
+    errno = saved;
+}
+
+/* ---- waits with a time on locks ---- */
+
+/* What a wait is on, for begin_timed_on. NULL is what nobody can wake. Of a semaphore only the count is ever slept on,
+   and the bytes at its end are of no value at all. */
+#define ON(object)                                                                           \
+    (object), _Generic((object), sem_t *: 2 * sizeof(uint32_t), default: sizeof *(object)), \
+        _Generic((object), pthread_cond_t *: true, default: false)
+
+/* A wait of the C library until `time`, which answers an error number; on an object, or on NULL. */
+#define TIMED(name, object, parameters, arguments)                   \
     FORWARD(name)                                                    \
     int name parameters {                                            \
         struct timed timed;                                          \
         int error;                                                   \
-        begin_timed(&timed, time, condition);                        \
+        begin_timed_on(&timed, time, ON(object));                    \
         do {                                                         \
             error = error_of_timed(&timed, next_##name() arguments); \
         } while (error == SLEEP_ON);                                 \
@@ -335,33 +546,34 @@ TIMED(pthread_cond_clockwait, changed,
       (pthread_cond_t *restrict changed, pthread_mutex_t *restrict lock, clockid_t clock,
        const struct timespec *restrict time),
       (changed, lock, clock, &timed.until))
-TIMED(pthread_mutex_timedlock, NULL, (pthread_mutex_t *restrict lock, const struct timespec *restrict time),
+TIMED(pthread_mutex_timedlock, lock, (pthread_mutex_t *restrict lock, const struct timespec *restrict time),
       (lock, &timed.until))
-TIMED(pthread_mutex_clocklock, NULL,
+TIMED(pthread_mutex_clocklock, lock,
       (pthread_mutex_t *restrict lock, clockid_t clock, const struct timespec *restrict time),
       (lock, clock, &timed.until))
 
 /* One that answers by errno. */
-#define TIMED_BY_ERRNO(name, type, parameters, arguments)                \
-    FORWARD(name)                                                        \
-    type name parameters {                                               \
-        struct timed timed;                                              \
-        type status;                                                     \
-        int error;                                                       \
-        begin_timed(&timed, time, NULL);                                 \
-        do {                                                             \
-            status = next_##name() arguments;                            \
-            error = error_of_timed(&timed, status < 0 ? errno : 0);      \
-        } while (status < 0 && errno == ETIMEDOUT && error == SLEEP_ON); \
-        end_timed(&timed);                                               \
-        if (status < 0) errno = error;                                   \
-        return status;                                                   \
+#define TIMED_BY_ERRNO_ON(name, type, object, parameters, arguments)    \
+    FORWARD(name)                                                       \
+    type name parameters {                                              \
+        struct timed timed;                                             \
+        type status;                                                    \
+        int error;                                                      \
+        begin_timed_on(&timed, time, ON(object));                       \
+        do {                                                            \
+            status = next_##name() arguments;                           \
+            error = error_of_timed(&timed, status < 0 ? errno : 0);     \
+        } while (status < 0 && error == SLEEP_ON);                      \
+        end_timed(&timed);                                              \
+        if (status < 0) errno = error;                                  \
+        return status;                                                  \
     }
 
-TIMED_BY_ERRNO(sem_timedwait, int, (sem_t *restrict semaphore, const struct timespec *restrict time),
-               (semaphore, &timed.until))
-TIMED_BY_ERRNO(sem_clockwait, int, (sem_t *restrict semaphore, clockid_t clock, const struct timespec *restrict time),
-               (semaphore, clock, &timed.until))
+TIMED_BY_ERRNO_ON(sem_timedwait, int, semaphore, (sem_t *restrict semaphore, const struct timespec *restrict time),
+                  (semaphore, &timed.until))
+TIMED_BY_ERRNO_ON(sem_clockwait, int, semaphore,
+                  (sem_t *restrict semaphore, clockid_t clock, const struct timespec *restrict time),
+                  (semaphore, clock, &timed.until))
 
 int wait_until(const struct timespec *day, int (*wait)(void *given, const struct timespec *until), void *given) {
     struct timed timed;
@@ -390,18 +602,20 @@ long call_futex(const long given[6]) {
     long bits = is_until ? given[5] : (long)FUTEX_BITSET_MATCH_ANY, status;
     struct timespec end;
     struct timed timed;
+    bool has_slept = false;
     int error = 0;
     if (!time || !READABLE(time) || !(is_until || (is_for && units_of(time) >= 0)))
         return next_syscall()(SYS_futex, given[0], given[1], given[2], given[3], given[4], given[5]);
     end = is_until ? *time : end_of(units_of(time));
-    begin_timed(&timed, &end, NULL);
+    begin_timed_on(&timed, &end, (void *)given[0], sizeof(uint32_t), false);
     do {
-        bool has_slept = error == SLEEP_ON;
         status = next_syscall()(SYS_futex, given[0], operation, given[2], &timed.until, given[4], bits);
-        /* Who wakes it has changed the word, perhaps between two of its sleeps. */
-        if (status < 0 && errno == EAGAIN && has_slept) status = 0;
         if (status < 0) error = errno == ETIMEDOUT ? error_of_timed(&timed, ETIMEDOUT) : errno;
-    } while (status < 0 && errno == ETIMEDOUT && error == SLEEP_ON);
+        /* Who wakes it has changed the word, perhaps between two of its sleeps. */
+        if (status < 0 && error == EAGAIN && has_slept) status = 0;
+        has_slept = true;
+        /* Woken by the watcher, it looks at the word and at the time once more. */
+    } while (status < 0 ? error == SLEEP_ON : is_over(&timed));
     end_timed(&timed);
     if (status < 0) errno = error;
     return status;

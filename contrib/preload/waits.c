@@ -38,9 +38,19 @@ static struct timeout in_short_time(const struct timeval *given) {
     return timeout;
 }
 
-/* A poll that finds nothing takes a while: a program that polls may do so until its clock has gone on. */
+/* A poll that finds nothing takes no time. But a program may poll until its clock has gone on: so after some in a row
+   each further one takes a while. */
 static void take_a_while(int found, int64_t units) {
-    if (found == 0 && units == 0) let_clock_go_on();
+    enum { FREE = 100 };
+    static _Thread_local uint64_t last;
+    static _Thread_local int in_a_row;
+    if (found != 0 || units != 0) {
+        in_a_row = 0;
+        return;
+    }
+    in_a_row = moment_now() == last ? in_a_row + 1 : 1;
+    if (in_a_row > FREE) let_clock_go_on();
+    last = moment_now();
 }
 
 /* So much of a set of signals does the real kernel read. */
@@ -259,10 +269,24 @@ static int seek(struct sought *sought, int64_t units, const char *call) {
     return status < 0 ? status : 0;
 }
 
-/* The answer to a wait on real descriptors only: while it passed, time went on here, too. */
-static int real_answer(int found, int64_t units) {
-    if (found == 0 && units > 0) bring_clock_to(moment_now() + (uint64_t)units);
-    return found;
+/* A wait on real descriptors only: while it passes, time goes on here, too. */
+#define REALLY(call, units)                                     \
+    __extension__({                                             \
+        struct timed outside;                                   \
+        int64_t longest = (units);                              \
+        int answer;                                             \
+        if (longest > 0) begin_outside(&outside, longest);      \
+        answer = (call);                                        \
+        if (longest > 0) end_outside(&outside, answer == 0);    \
+        take_a_while(answer, longest);                          \
+        answer;                                                 \
+    })
+
+/* One on nothing: 0 or -EINTR. */
+static int sleep_or_poll(int64_t units, const char *call) {
+    if (units != 0) return sleep_for(units, call);
+    take_a_while(0, 0);
+    return 0;
 }
 
 static int mixes(const char *call) {
@@ -284,7 +308,7 @@ static int poll_simulated(struct sought *sought, struct pollfd *files, nfds_t co
                           const sigset_t *mask, const char *call) {
     QUIET;
     struct masking masking = begin_masking(mask);
-    int status = sought->has_simulated ? seek(sought, timeout.units, call) : sleep_for(timeout.units, call);
+    int status = sought->has_simulated ? seek(sought, timeout.units, call) : sleep_or_poll(timeout.units, call);
     if (status == 0 && mask && timeout.units == 0 && !finds_any(sought) && let_pending_run()) status = -EINTR;
     end_masking(masking);
     if (status == 0) status = put_shown(sought, files, count);
@@ -336,7 +360,7 @@ int poll(struct pollfd *files, nfds_t count, int given) {
         struct timespec time = timespec_of(given < 0 ? 0 : (uint64_t)timeout.units);
         return poll_merged(files, count, given < 0 ? NULL : &time, NULL);
     }
-    if (sought.has_real) return real_answer(next_poll()(files, count, given), timeout.units);
+    if (sought.has_real) return REALLY(next_poll()(files, count, given), timeout.units);
     return poll_simulated(&sought, files, count, timeout, NULL, "poll");
 }
 
@@ -349,7 +373,7 @@ int ppoll(struct pollfd *files, nfds_t count, const struct timespec *time, const
     want_all(&sought, files, count);
     if (sought.has_real && sought.has_simulated) return mixes("ppoll");
     if (sought.has_real && count > (nfds_t)FIRST) return poll_merged(files, count, time, mask);
-    if (sought.has_real) return real_answer(next_ppoll()(files, count, time, mask), timeout.units);
+    if (sought.has_real) return REALLY(next_ppoll()(files, count, time, mask), timeout.units);
     if (time && timeout.units < 0) return (int)ANSWER(-EINVAL, "ppoll(..., %lu, %s)", count, timeout.said.of);
     return poll_simulated(&sought, files, count, timeout, mask, "ppoll");
 }
@@ -411,7 +435,7 @@ static int select_simulated(struct sought *sought, int most, const struct sets *
                             const sigset_t *mask, const char *call) {
     QUIET;
     struct masking masking = begin_masking(mask);
-    int status = sought->has_simulated ? seek(sought, timeout.units, call) : sleep_for(timeout.units, call);
+    int status = sought->has_simulated ? seek(sought, timeout.units, call) : sleep_or_poll(timeout.units, call);
     if (status == 0 && mask && timeout.units == 0 && !finds_any(sought) && let_pending_run()) status = -EINTR;
     end_masking(masking);
     if (status == 0 && sought->has_closed) status = -EBADF;
@@ -432,7 +456,7 @@ int select(int most, fd_set *reads, fd_set *writes, fd_set *excepts, struct time
     end = moment_now() + (uint64_t)(timeout.units < 0 ? 0 : timeout.units);
     want_sets(&sought, most, &sets);
     if (sought.has_real && sought.has_simulated) return mixes("select");
-    if (sought.has_real) return real_answer(next_select()(most, reads, writes, excepts, time), timeout.units);
+    if (sought.has_real) return REALLY(next_select()(most, reads, writes, excepts, time), timeout.units);
     if (time && timeout.units < 0) return (int)ANSWER(-EINVAL, "select(%d, ..., %s)", most, timeout.said.of);
     found = select_simulated(&sought, most, &sets, timeout, NULL, "select");
     now = moment_now();
@@ -451,7 +475,7 @@ int pselect(int most, fd_set *reads, fd_set *writes, fd_set *excepts, const stru
     timeout = in_time(time);
     want_sets(&sought, most, &sets);
     if (sought.has_real && sought.has_simulated) return mixes("pselect");
-    if (sought.has_real) return real_answer(next_pselect()(most, reads, writes, excepts, time, mask), timeout.units);
+    if (sought.has_real) return REALLY(next_pselect()(most, reads, writes, excepts, time, mask), timeout.units);
     if (time && timeout.units < 0) return (int)ANSWER(-EINVAL, "pselect(%d, ..., %s)", most, timeout.said.of);
     return select_simulated(&sought, most, &sets, timeout, mask, "pselect");
 }

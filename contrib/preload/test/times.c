@@ -222,13 +222,26 @@ static long look(void) {
     return 0;
 }
 
-/* The clock goes on by a millisecond, or to the next timer. */
+/* Polls until the clock has gone on, or something is found. */
+static long poll_on(void) {
+    long long began = nanoseconds();
+    long found;
+    do found = epoll_wait(instance, &event, 1, 0);
+    while (found == 0 && nanoseconds() == began);
+    return found;
+}
+
+/* A poll takes no time. After many the clock goes on by a millisecond, or to the next timer. */
 static void polling(void) {
     set(0, *OF(0, 10000), 0);
     TELL("poll before a timer", epoll_wait(instance, &event, 1, 0));
+    TELL("polls before a timer", poll_on());
     TELL("poll then", epoll_wait(instance, &event, 1, 0));
     TELL("expirations", expirations());
     TELL("poll without one", epoll_wait(instance, &event, 1, 0));
+    TELL("poll of no time", poll(NULL, 0, 0));
+    TELL("select of no time", select(0, NULL, NULL, NULL, OF_SHORT(0, 0)));
+    TELL("polls without one", poll_on());
     set(0, *OF(0, 300000), 0);
     TELL("looks before a timer", look());
     TELL("expirations", expirations());
