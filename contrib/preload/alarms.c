@@ -159,7 +159,7 @@ int setitimer(__itimer_which_t which, const struct itimerval *given, struct itim
     struct itimerspec value, was;
     int status;
     QUIET;
-    if (which != ITIMER_REAL) return next_setitimer()(which, given, before);
+    if (is_outside || which != ITIMER_REAL) return next_setitimer()(which, given, before);
     value.it_value = given ? nanoseconds_of(&given->it_value) : (struct timespec){0, 0};
     value.it_interval = given ? nanoseconds_of(&given->it_interval) : (struct timespec){0, 0};
     status = set(alarms, false, &value, &was);
@@ -170,7 +170,7 @@ int setitimer(__itimer_which_t which, const struct itimerval *given, struct itim
 int getitimer(__itimer_which_t which, struct itimerval *now) {
     struct itimerspec setting;
     QUIET;
-    if (which != ITIMER_REAL) return next_getitimer()(which, now);
+    if (is_outside || which != ITIMER_REAL) return next_getitimer()(which, now);
     tell(alarms, &setting);
     *now = itimerval_of(&setting);
     return (int)ANSWER(0, "getitimer(ITIMER_REAL, %s)", setting_text(TEXT, &setting));
@@ -180,6 +180,7 @@ int getitimer(__itimer_which_t which, struct itimerval *now) {
 unsigned int alarm(unsigned int seconds) {
     struct itimerspec value = {.it_value = {seconds, 0}}, before;
     unsigned int left;
+    OUTSIDE((unsigned int)RAW(SYS_alarm, seconds));
     QUIET;
     set(alarms, false, &value, &before);
     left = (unsigned int)before.it_value.tv_sec;
@@ -229,7 +230,7 @@ static int make(clockid_t clock, const struct sigevent *event, timer_t *made) {
 int timer_create(clockid_t clock, struct sigevent *restrict event, timer_t *restrict made) {
     int status;
     QUIET;
-    if (!is_clock(clock)) return next_timer_create()(clock, event, made);
+    if (is_outside || !is_clock(clock)) return next_timer_create()(clock, event, made);
     if (event && event->sigev_notify == SIGEV_THREAD)
         return refuse(ENOTSUP, "timer_create: a timer that begins threads (SIGEV_THREAD) is not simulated");
     status = event && !is_event(event) ? -EINVAL : make(clock, event, made);

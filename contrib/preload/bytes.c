@@ -34,6 +34,7 @@ static bool has_copy(const struct description *description) {
 static ssize_t read_part(int fd, struct description *description, char *bytes, size_t count) {
     ssize_t got = -EBADF;
     lock_table();
+    if (description->shown > 0) claim_shown(description);
     if (names(fd, description)) got = nippersage_read(self(), fd - FIRST, bytes, count);
     if (got > 0 && has_copy(description)) drop_waiting(&description->waiting, (size_t)got);
     unlock_table();
@@ -64,10 +65,11 @@ static ssize_t read_some(int fd, struct description *description, char *bytes, s
 }
 
 /* Shows what is there, and leaves it. Where nothing is, a read tells why, and takes nothing. */
-static ssize_t peek_some(int fd, const struct description *description, char *bytes, size_t count) {
+static ssize_t peek_some(int fd, struct description *description, char *bytes, size_t count) {
     ssize_t got = -EBADF;
     char none;
     lock_table();
+    if (description->shown > 0) claim_shown(description);
     if (names(fd, description)) got = (ssize_t)look_at_waiting(&description->waiting, bytes, count);
     if (got == 0 && count > 0) got = nippersage_read(self(), fd - FIRST, &none, 1);
     unlock_table();
@@ -94,6 +96,12 @@ static bool may_wait(const struct description *description, int flags) {
     return !(flags & MSG_DONTWAIT) && !description->is_nonblocking;
 }
 
+/* A pidfd has no bytes. */
+static ssize_t not_of_pidfd(struct description *description) {
+    let_go(description);
+    return -EINVAL;
+}
+
 ssize_t take(int fd, char *bytes, size_t count, int flags, const char *call) {
     QUIET;
     struct description *description = hold(fd);
@@ -102,6 +110,9 @@ ssize_t take(int fd, char *bytes, size_t count, int flags, const char *call) {
     ssize_t got;
     bool goes_on = true;
     if (!description) return -EBADF;
+    if (description->kind == PIDFD) return not_of_pidfd(description);
+    description->is_read_here = true;
+    move_bytes();
     block = begin_block(description->options.receive_time, call);
     while (goes_on) {
         got = flags & MSG_PEEK ? peek_some(fd, description, bytes, count)
@@ -136,6 +147,7 @@ ssize_t give(int fd, const char *bytes, size_t count, int flags, const char *cal
     ssize_t taken;
     bool goes_on = true;
     if (!description) return -EBADF;
+    if (description->kind == PIDFD) return not_of_pidfd(description);
     block = begin_block(description->options.send_time, call);
     while (goes_on) {
         taken = write_some(fd, description, bytes + done, count - done);
@@ -311,15 +323,30 @@ ssize_t sendmsg(int fd, const struct msghdr *message, int flags) {
     return ANSWER(taken, "sendmsg(%d, ..., %#x)", fd, flags);
 }
 
+/* A child that reads there has to hear of it. */
+static void note_shut(struct description *description) {
+    lock_table();
+    description->is_shut = true;
+    unlock_table();
+}
+
+static void note_peer_shut(struct description *description) {
+    lock_table();
+    if (description->peer) description->peer->is_shut = true;
+    unlock_table();
+}
+
 /* To shut a socket for reading is to shut its peer for writing. A peer that is closed is shut already. */
 static int shut(int fd, int how) {
     struct description *description = hold(fd);
     int status = !description ? -EBADF : description->kind != SOCKET ? -ENOTSOCK : 0, peer;
     if (status == 0 && (how < SHUT_RD || how > SHUT_RDWR)) status = -EINVAL;
     if (status == 0 && how != SHUT_RD) status = nippersage_shutdown(self(), fd - FIRST, SHUT_WR);
+    if (status == 0 && how != SHUT_RD) note_shut(description);
     if (status == 0 && how != SHUT_WR) {
         peer = number_of_peer(description);
         if (peer >= 0) status = nippersage_shutdown(self(), peer, SHUT_WR);
+        if (status == 0) note_peer_shut(description);
     }
     if (description) let_go(description);
     return status;

@@ -9,8 +9,12 @@
 FORWARD(clock_gettime)
 FORWARD(clock_nanosleep)
 
+static uint64_t left_at = START; /* in a child: the moment of the fork */
+
+void keep_moment(void) { left_at = moment_now(); }
+
 uint64_t moment_now(void) {
-    struct timespec now = timespec_of(START);
+    struct timespec now = timespec_of(left_at);
     QUIET;
     nippersage_now(the_kernel(), &now);
     return (uint64_t)units_of(&now);
@@ -53,6 +57,7 @@ void bring_clock_to(uint64_t moment) {
    seen when it happens. */
 void let_clock_go_on(void) {
     uint64_t end = moment_now() + MILLISECOND, next;
+    if (!may_take_a_while()) return;
     QUIET;
     bring_clock_to(next_moment(&next) && next < end ? next : end);
 }
@@ -91,14 +96,19 @@ static uint64_t moment_asked(void) {
 }
 
 int clock_gettime(clockid_t clock, struct timespec *time) {
-    if (!is_clock(clock)) return next_clock_gettime()(clock, time);
+    if (is_outside || !is_clock(clock)) return next_clock_gettime()(clock, time);
     *time = timespec_of(moment_asked());
     if (is_of_day(clock)) time->tv_sec += EPOCH_SECONDS;
     return 0;
 }
 
+FORWARD(gettimeofday)
+FORWARD(time)
+
 int gettimeofday(struct timeval *restrict time, void *restrict zone) {
-    struct timespec now = timespec_of(moment_asked());
+    struct timespec now;
+    OUTSIDE(next_gettimeofday()(time, zone));
+    now = timespec_of(moment_asked());
     *time = (struct timeval){EPOCH_SECONDS + now.tv_sec, now.tv_nsec / 1000};
     if (zone) memset(zone, 0, sizeof(struct timezone));
     return 0;
@@ -109,7 +119,9 @@ int timespec_get(struct timespec *time, int base) {
 }
 
 time_t time(time_t *told) {
-    time_t now = EPOCH_SECONDS + timespec_of(moment_asked()).tv_sec;
+    time_t now;
+    OUTSIDE(next_time()(told));
+    now = EPOCH_SECONDS + timespec_of(moment_asked()).tv_sec;
     if (told) *told = now;
     return now;
 }
@@ -128,7 +140,7 @@ static int sleep_or_break(int64_t units, struct timespec *left) {
 int clock_nanosleep(clockid_t clock, int flags, const struct timespec *time, struct timespec *left) {
     int64_t units = units_of(time), now = (int64_t)moment_now();
     int error, saved = errno;
-    if (!is_clock(clock)) return next_clock_nanosleep()(clock, flags, time, left);
+    if (is_outside || !is_clock(clock)) return next_clock_nanosleep()(clock, flags, time, left);
     if (units < 0) return EINVAL;
     QUIET;
     if (flags & TIMER_ABSTIME) {
@@ -174,7 +186,11 @@ static void from_day(struct timespec *time) {
     if (time->tv_sec == 0 && time->tv_nsec == 0) time->tv_nsec = UNIT;
 }
 
+FORWARD(timerfd_settime)
+FORWARD(timerfd_gettime)
+
 int timerfd_settime(int fd, int flags, const struct itimerspec *value, struct itimerspec *before) {
+    OUTSIDE(next_timerfd_settime()(fd, flags, value, before));
     QUIET;
     struct description *description = hold(fd);
     struct itimerspec kept;
@@ -191,6 +207,7 @@ int timerfd_settime(int fd, int flags, const struct itimerspec *value, struct it
 }
 
 int timerfd_gettime(int fd, struct itimerspec *now) {
+    OUTSIDE(next_timerfd_gettime()(fd, now));
     QUIET;
     struct description *description = hold(fd);
     int status = description ? nippersage_timerfd_gettime(self(), fd - FIRST, now) : -EBADF;

@@ -114,6 +114,8 @@ struct nippersage_kernel *the_kernel(void) {
     return kernel;
 }
 
+void forget_kernel(void) { kernel = NULL; }
+
 unsigned long calls(void) { return atomic_load(&count); }
 
 int sleeping_instance(void) {
@@ -134,6 +136,7 @@ void keep_history(void) {
 
 static void write_history_once(void) {
     static atomic_flag is_written = ATOMIC_FLAG_INIT;
+    hand_over();
     if (!atomic_flag_test_and_set(&is_written)) keep_history();
 }
 

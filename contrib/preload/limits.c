@@ -83,6 +83,34 @@ void bound_real_descriptors(void) {
     refuse_high();
 }
 
+/* ---- for children ---- */
+
+/* Meanwhile the program can't change it. */
+bool raise_real_limit(struct rlimit *before) {
+    struct rlimit raised;
+    if (is_outside) return true;
+    pthread_mutex_lock(&lock);
+    if (next_getrlimit()(RLIMIT_NOFILE, before) == 0) {
+        raised = (struct rlimit){before->rlim_max, before->rlim_max};
+        if (next_setrlimit()(RLIMIT_NOFILE, &raised) == 0) return true;
+    }
+    pthread_mutex_unlock(&lock);
+    return false;
+}
+
+void lower_real_limit(const struct rlimit *before) {
+    if (is_outside) return;
+    next_setrlimit()(RLIMIT_NOFILE, before);
+    pthread_mutex_unlock(&lock);
+}
+
+void give_limit_back(bool is_highest) {
+    struct rlimit limit;
+    if (next_getrlimit()(RLIMIT_NOFILE, &limit) != 0) return;
+    limit.rlim_cur = is_highest ? limit.rlim_max : smaller(kept.rlim_cur, limit.rlim_max);
+    next_setrlimit()(RLIMIT_NOFILE, &limit);
+}
+
 /* ---- what the program asks and sets ---- */
 
 static struct rlimit tell(void) {
@@ -121,19 +149,20 @@ static int set(const struct rlimit *limit) {
 }
 
 int getrlimit(__rlimit_resource_t resource, struct rlimit *limit) {
-    if (resource != RLIMIT_NOFILE) return next_getrlimit()(resource, limit);
+    if (is_outside || resource != RLIMIT_NOFILE) return next_getrlimit()(resource, limit);
     *limit = tell();
     return 0;
 }
 
 int setrlimit(__rlimit_resource_t resource, const struct rlimit *limit) {
-    return resource == RLIMIT_NOFILE ? set(limit) : next_setrlimit()(resource, limit);
+    return !is_outside && resource == RLIMIT_NOFILE ? set(limit) : next_setrlimit()(resource, limit);
 }
 
 /* Of another process the limit is the real one. */
 int prlimit(pid_t pid, __rlimit_resource_t resource, const struct rlimit *limit, struct rlimit *before) {
     struct rlimit told;
-    if (resource != RLIMIT_NOFILE || (pid != 0 && pid != getpid())) return next_prlimit()(pid, resource, limit, before);
+    if (is_outside || resource != RLIMIT_NOFILE || (pid != 0 && pid != getpid()))
+        return next_prlimit()(pid, resource, limit, before);
     told = tell();
     if (limit && set(limit) != 0) return -1;
     if (before) *before = told;
@@ -166,7 +195,10 @@ long call_limit(long number, const long given[6]) {
 /* ---- the same limit by other names ---- */
 
 static int most_descriptors(void) {
-    rlim_t soft = tell().rlim_cur;
+    struct rlimit limit;
+    rlim_t soft;
+    getrlimit(RLIMIT_NOFILE, &limit);
+    soft = limit.rlim_cur;
     return soft > INT_MAX ? INT_MAX : (int)soft;
 }
 

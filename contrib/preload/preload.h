@@ -38,6 +38,7 @@ struct settings {
     size_t records;                  /* NIPPERSAGE_RECORDS: the history may have fewer; SIZE_MAX where it isn't set */
     uint64_t busy_waits;             /* NIPPERSAGE_BUSY_WAITS: so many take a millisecond; 0 is none */
     uint64_t patience;               /* NIPPERSAGE_PATIENCE, in milliseconds of real time */
+    uint64_t child_time;             /* NIPPERSAGE_CHILD_TIME: so many times slower is a clock that a child holds */
     struct nippersage_limits limits; /* NIPPERSAGE_LIMITS */
 };
 extern _Atomic(const struct settings *) read_settings;
@@ -55,6 +56,9 @@ _Noreturn void end_for_setting(const char *name, const char *value, const char *
 /* The first simulated descriptor, and how many of them there may be. */
 #define FIRST (settings()->first)
 #define NUMBERS ((int)settings()->limits.descriptors)
+
+/* In a child no number is simulated: FIRST is above all. */
+void make_all_numbers_real(void);
 
 static inline bool is_simulated(int fd) { return fd >= FIRST; }
 
@@ -185,7 +189,7 @@ const char *reports_text(struct text *room, const struct epoll_event *events, in
 
 /* ---- table.c: what the kernel doesn't keep of a descriptor ---- */
 
-enum kind { PIPE, SOCKET, EVENTFD, TIMERFD, EPOLL };
+enum kind { PIPE, SOCKET, EVENTFD, TIMERFD, EPOLL, PIDFD };
 
 /* The bytes that wait at a pipe or a socket: copies.c. */
 struct waiting {
@@ -212,7 +216,12 @@ struct description {
     struct waiting waiting;
     struct options options;
     struct description *peer;
-    int holders; /* descriptors that name it, and calls that use it */
+    int holders;       /* descriptors that name it, calls that use it, and children */
+    bool is_shut;      /* nothing is written here any more */
+    bool is_read_here; /* the program itself has asked for what can be read here */
+    int shown;         /* so many children have been shown bytes of it that they haven't taken: bridge.c */
+    int real_pidfd;    /* of a pidfd */
+    struct description *next_pidfd;
 };
 
 /* The description of a descriptor, held until it is let go of, or NULL. */
@@ -224,6 +233,16 @@ int make_table(void);
 int make_own_instance(void);
 int make_own_eventfd(unsigned int value);
 void end_own(int number);
+/* For children.h, under the lock: what a number of the kernel names, or NULL; whether it is free; one holder more, or
+   fewer; a number that names a description, or -1; whether any does. */
+struct description *description_at(int number, bool *closes_on_exec);
+bool is_taken(int number);
+void add_holder(struct description *description);
+void drop_holder(struct description *description);
+int number_of(const struct description *description);
+bool is_named(const struct description *description);
+/* A new pidfd, which has this real one: its descriptor, or minus an error number, and then the real one is closed. */
+int put_pidfd(int real);
 /* The lock of all descriptions, for a quiet function. No call that waits is made under it. */
 void lock_table(void);
 void unlock_table(void);
@@ -276,6 +295,8 @@ int sleep_for(int64_t units, const char *call);
 void bring_clock_to(uint64_t moment);
 /* Moves the clock on by a millisecond, but not past the next moment at which something happens. */
 void let_clock_go_on(void);
+/* Before a fork: the moment that the child keeps. */
+void keep_moment(void);
 /* The simulated clock at the start, and what CLOCK_REALTIME was when it was at 0, in seconds and in UNITs. */
 enum { START = 1000 * SECOND, EPOCH_SECONDS = 1000000000 - START / SECOND };
 #define EPOCH ((int64_t)EPOCH_SECONDS * SECOND)
@@ -310,6 +331,88 @@ void watch_threads(void);
 void join_threads(void);
 /* futex(2) with these six arguments, whose times are by the simulated clock. */
 long call_futex(const long given[6]);
+
+/* ---- children: children.h says what they are ---- */
+
+/* children.c: whether this process is one, so that all that it does is real. */
+extern bool is_outside;
+/* At the head of a double that asks for no descriptor: in a child it hands on to the C library. */
+#define OUTSIDE(call) \
+    if (is_outside) return call
+/* Whether anything of children is there. */
+extern atomic_int living;
+static inline bool has_children(void) { return atomic_load_explicit(&living, memory_order_relaxed) > 0; }
+/* The locks of what a child needs to find whole. */
+void lock_sleepers(void);
+void unlock_sleepers(void);
+void lock_actions(void);
+void unlock_actions(void);
+void lock_memory(void);
+void unlock_memory(void);
+/* In a child there is no kernel. */
+void forget_kernel(void);
+
+/* raw.c: a system call that the shim makes by itself: its answer, or minus an error number. */
+long raw_call(long number, long a, long b, long c, long d, long e, long f);
+#define RAW(...) RAW_OF_SEVEN(__VA_ARGS__, 0, 0, 0, 0, 0, 0)
+#define RAW_OF_SEVEN(number, a, b, c, d, e, f, ...) \
+    raw_call(number, (long)(a), (long)(b), (long)(c), (long)(d), (long)(e), (long)(f))
+
+/* limits.c: while the limit is raised, descriptors can be made above the program's. Whether it is: then it has to be
+   lowered again. In a child, the limit that the program was told, or for a while the highest one. */
+struct rlimit;
+bool raise_real_limit(struct rlimit *before);
+void lower_real_limit(const struct rlimit *before);
+void give_limit_back(bool is_highest);
+
+/* bridge.c: moves what children and the program have written, taken and closed. Whether a child has done anything. For
+   a call that isn't under the table's lock. */
+bool move_bytes(void);
+/* Sleeps in the real kernel until there is something to move, or a signal, or for so long; handlers may run. */
+void sleep_with_children(const struct timespec *most);
+/* The same for the thread that watches the others, which moves bytes for those that sleep in the real kernel. */
+void spend_a_turn(const struct timespec *turn);
+/* Before the program reads bytes by itself: those that were shown to a child come back. Under the table's lock. */
+void claim_shown(struct description *description);
+/* At the end of the program: what it has written goes to its children. */
+void hand_over(void);
+/* sleepers.c: whether threads that take part sleep in waits, but not all; whether all do. reaping.c: whether one waits
+   for the end of a child. */
+bool is_partly_asleep(void);
+bool are_all_asleep(void);
+bool is_anyone_reaping(void);
+
+/* pace.c: whether the clock may go to a moment, for no child holds it or real time has passed. */
+bool may_go_to(uint64_t moment);
+/* So much real time has passed in a wait. */
+void pass_time(uint64_t units);
+/* A child has done something: what has passed is paid by whole tenths of a second. */
+void pay_at_answer(void);
+/* Whether a poll that finds nothing may take its millisecond. */
+bool may_take_a_while(void);
+/* Lets a millisecond of real time pass, if a child holds the clock and does nothing. */
+void idle_with_children(void);
+
+/* pidfd.c: a new one waits for the end of its process; it is no more. */
+void begin_pidfd(struct description *description);
+void end_pidfd(struct description *description);
+/* The real descriptor of a pidfd, or the same number. */
+int real_pidfd(int fd);
+/* The events that may be waited for at a descriptor. */
+uint32_t events_at(int fd, uint32_t events);
+int pidfd_open(pid_t pid, unsigned int flags);
+int pidfd_send_signal(int fd, int signal, siginfo_t *info, unsigned int flags);
+
+/* If the call of this number has a double in reaping.c or programs.c, calls that. */
+bool call_reaping(long number, const long given[6], long *result);
+bool call_program(long number, const long given[6], long *result);
+
+/* log.c: a line for what a child has done. */
+#define log_child(pid, ...)                          \
+    do {                                             \
+        if (is_logged) logged_child(pid, __VA_ARGS__); \
+    } while (0)
+void logged_child(pid_t pid, long result, const char *format, ...) __attribute__((format(printf, 3, 4)));
 
 #pragma GCC visibility pop
 

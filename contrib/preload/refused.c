@@ -3,7 +3,6 @@
 
 #include <pty.h>
 #include <sched.h>
-#include <spawn.h>
 #include <stdarg.h>
 #include <stdio.h>
 #include <stdlib.h>
@@ -69,97 +68,35 @@ FILE *fdopen(int fd, const char *mode) {
 
 /* ---- processes ---- */
 
+FORWARD(clone)
+FORWARD(daemon)
+FORWARD(forkpty)
 FORWARD(unshare)
 
-pid_t fork(void) { return refuse(ENOSYS, "fork is not simulated: two processes can't share a simulated kernel"); }
-
-pid_t vfork(void) { return refuse(ENOSYS, "vfork is not simulated: two processes can't share a simulated kernel"); }
-
-pid_t _Fork(void) { return fork(); }
-
 int clone(int (*run)(void *), void *stack, int flags, void *argument, ...) {
-    (void)run, (void)stack, (void)flags, (void)argument;
+    void *more[3];
+    va_list arguments;
+    va_start(arguments, argument);
+    for (int i = 0; i < 3; i++) more[i] = va_arg(arguments, void *);
+    va_end(arguments);
+    OUTSIDE(next_clone()(run, stack, flags, argument, more[0], more[1], more[2]));
     return refuse(ENOSYS, "clone is not simulated: neither processes nor threads are made so");
 }
 
 int daemon(int stays, int keeps) {
-    (void)stays, (void)keeps;
-    return fork();
+    OUTSIDE(next_daemon()(stays, keeps));
+    return refuse(ENOSYS, "daemon is not simulated: what goes on would be a child, on the real kernel");
 }
 
 int forkpty(int *made, char *name, const struct termios *like, const struct winsize *size) {
-    (void)made, (void)name, (void)like, (void)size;
-    return fork();
+    OUTSIDE(next_forkpty()(made, name, like, size));
+    return refuse(ENOSYS, "forkpty is not simulated: it makes a terminal");
 }
 
 /* Memory, files and names are the program's own business, but not a table of descriptors without the simulated ones. */
 int unshare(int flags) {
-    if (!(flags & CLONE_FILES)) return next_unshare()(flags);
+    if (is_outside || !(flags & CLONE_FILES)) return next_unshare()(flags);
     return refuse(EINVAL, "unshare(CLONE_FILES) is not simulated: the simulated descriptors can't be copied");
-}
-
-static int refuse_program(const char *path) {
-    return refuse(ENOSYS, "%s can't be run: another program can't share a simulated kernel", path);
-}
-
-int execve(const char *path, char *const words[], char *const environment[]) {
-    (void)words, (void)environment;
-    return refuse_program(path);
-}
-
-int execv(const char *path, char *const words[]) { return execve(path, words, NULL); }
-
-int execvp(const char *path, char *const words[]) { return execve(path, words, NULL); }
-
-int execvpe(const char *path, char *const words[], char *const environment[]) {
-    return execve(path, words, environment);
-}
-
-int execl(const char *path, const char *word, ...) {
-    (void)word;
-    return refuse_program(path);
-}
-
-int execlp(const char *path, const char *word, ...) {
-    (void)word;
-    return refuse_program(path);
-}
-
-int execle(const char *path, const char *word, ...) {
-    (void)word;
-    return refuse_program(path);
-}
-
-int fexecve(int fd, char *const words[], char *const environment[]) {
-    (void)fd, (void)environment;
-    return refuse_program(words[0]);
-}
-
-int execveat(int folder, const char *path, char *const words[], char *const environment[], int flags) {
-    (void)folder, (void)words, (void)environment, (void)flags;
-    return refuse_program(path);
-}
-
-int posix_spawn(pid_t *restrict made, const char *restrict path, const posix_spawn_file_actions_t *restrict actions,
-                const posix_spawnattr_t *restrict attributes, char *const words[restrict],
-                char *const environment[restrict]) {
-    (void)made, (void)actions, (void)attributes, (void)words, (void)environment;
-    refuse_program(path);
-    return ENOSYS;
-}
-
-int posix_spawnp(pid_t *restrict made, const char *restrict path, const posix_spawn_file_actions_t *restrict actions,
-                 const posix_spawnattr_t *restrict attributes, char *const words[restrict],
-                 char *const environment[restrict]) {
-    return posix_spawn(made, path, actions, attributes, words, environment);
-}
-
-int system(const char *command) { return command ? refuse_program(command) : 0; }
-
-FILE *popen(const char *command, const char *mode) {
-    (void)mode;
-    refuse_program(command);
-    return NULL;
 }
 
 /* ---- calls by number ---- */
@@ -207,7 +144,9 @@ static bool call_double(long number, const long given[6], long *result) {
     case SYS_getrlimit:
     case SYS_setrlimit:
     case SYS_prlimit64: *result = call_limit(number, given); return true;
-    default: return call_clock(number, given, result) || call_harmless(number, given, result);
+    default:
+        return call_clock(number, given, result) || call_harmless(number, given, result) ||
+               call_reaping(number, given, result) || call_program(number, given, result);
     }
 }
 
@@ -236,11 +175,14 @@ static bool has_no_double(long number) {
     case SYS_fork:
     case SYS_vfork:
     case SYS_clone:
-    case SYS_clone3:
-    case SYS_execve:
-    case SYS_execveat: return true;
+    case SYS_clone3: return true;
     default: return false;
     }
+}
+
+/* What is looked at in a child, too: programs run without the shim, and nothing that could do harm is done. */
+static bool call_outside(long number, const long given[6], long *result) {
+    return call_harmless(number, given, result) || call_program(number, given, result);
 }
 
 long syscall(long number, ...) {
@@ -249,6 +191,9 @@ long syscall(long number, ...) {
     va_start(arguments, number);
     for (int i = 0; i < 6; i++) given[i] = va_arg(arguments, long);
     va_end(arguments);
+    if (is_outside && !call_outside(number, given, &result))
+        return next_syscall()(number, given[0], given[1], given[2], given[3], given[4], given[5]);
+    if (is_outside) return result;
     if (number == SYS_io_uring_setup) return refuse(ENOSYS, "io_uring is not simulated");
     if (has_no_double(number)) return refuse(ENOSYS, "syscall(%ld): this call by its number is not simulated", number);
     if (call_double(number, given, &result)) return result;

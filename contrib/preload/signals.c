@@ -113,6 +113,10 @@ static void hold_back(int signal, siginfo_t *info, ucontext_t *interrupted) {
 
 /* ---- running a handler ---- */
 
+void lock_actions(void) { pthread_mutex_lock(&lock); }
+
+void unlock_actions(void) { pthread_mutex_unlock(&lock); }
+
 static bool is_function(const struct sigaction *action) {
     return action->sa_handler != SIG_DFL && action->sa_handler != SIG_IGN;
 }
@@ -156,10 +160,12 @@ static void run_handler(int signal, siginfo_t *info, ucontext_t *interrupted) {
 static void arrive(int signal, siginfo_t *info, void *context) {
     bool is_fault = (FAULTS & BIT(signal)) && info->si_code > 0;
     int saved = errno;
-    if (this_thread.quiet > 0 && !is_fault) {
+    if (this_thread.quiet > 0 && !is_fault && !is_outside) {
         hold_back(signal, info, context);
     } else {
         if (this_thread.innermost) disturb(this_thread.innermost);
+        /* All that the child wrote can be read in its handler. */
+        if (signal == SIGCHLD) move_bytes();
         run_handler(signal, info, context);
     }
     errno = saved;
@@ -312,7 +318,11 @@ static int await_handler(const char *call) {
     return wait_at(&wait);
 }
 
+FORWARD(pause)
+FORWARD(sigsuspend)
+
 int pause(void) {
+    OUTSIDE(next_pause()());
     QUIET;
     return (int)ANSWER(await_handler("pause"), "pause()");
 }
@@ -320,6 +330,7 @@ int pause(void) {
 int sigsuspend(const sigset_t *set) {
     uint64_t before;
     int result;
+    OUTSIDE(next_sigsuspend()(set));
     QUIET;
     before = swap_mask(set);
     result = await_handler("sigsuspend");

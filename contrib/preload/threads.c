@@ -15,7 +15,6 @@
 
 FORWARD(pthread_create)
 FORWARD(clock_gettime)
-FORWARD(nanosleep)
 FORWARD(sigtimedwait)
 FORWARD(syscall)
 
@@ -87,7 +86,7 @@ static bool all_sleep(void) {
 
 /* Where no time wakes anyone, a real descriptor may. So it is only said, and after a second. */
 static void say_endless(int turns) {
-    if (turns == A_SECOND && is_anyone_waiting())
+    if (turns == A_SECOND && is_anyone_waiting() && !has_children())
         say("nothing has happened for a second: every thread sleeps, and no time ends a simulated wait");
 }
 
@@ -128,7 +127,11 @@ static void wake_timed(uint64_t moment) {
 static bool move_clock(void) {
     uint64_t moment;
     QUIET;
-    if (!find_moment(&moment)) return false;
+    if (move_bytes()) {
+        pay_at_answer();
+        return true;
+    }
+    if (!find_moment(&moment) || !may_go_to(moment)) return false;
     bring_clock_to(moment);
     wake_timed(moment);
     return true;
@@ -143,9 +146,10 @@ static _Noreturn void *watch(void *nothing) {
     (void)nothing;
     this_thread.is_counted = true; /* it takes no part */
     for (;;) {
-        next_nanosleep()(&a_while, NULL);
+        spend_a_turn(&a_while);
         quiet = calls() == before ? quiet + 1 : 0;
         still = quiet > 0 && all_sleep() ? still + 1 : 0;
+        if (still > 0 && has_children() && !are_all_asleep()) pass_time(MILLISECOND);
         if ((still > 1 || quiet > A_SECOND) && move_clock()) {
             quiet = still = 0;
         } else {
@@ -228,8 +232,10 @@ static void *run_counted(void *kept) {
 }
 
 int pthread_create(pthread_t *made, const pthread_attr_t *attributes, void *(*run)(void *), void *argument) {
-    struct thread *thread = keep_thread((struct thread){run, argument});
+    struct thread *thread;
     int error;
+    OUTSIDE(next_pthread_create()(made, attributes, run, argument));
+    thread = keep_thread((struct thread){run, argument});
     if (!thread) return EAGAIN;
     pthread_once(&once, start_counting);
     count_threads(1);
@@ -291,6 +297,7 @@ static int error_of_timed(struct timed *timed, int error) {
 static void end_timed(const struct timed *timed) {
     struct timed **link = &all_timed;
     int saved = errno;
+    if (is_outside) return; /* a handler made a child in the wait */
     QUIET;
     pthread_mutex_lock(&timed_lock);
     while (*link && *link != timed) link = &(*link)->next;
@@ -300,11 +307,12 @@ static void end_timed(const struct timed *timed) {
 }
 
 /* A wait of the C library until `time`, which answers an error number; on a condition variable, or on NULL. */
-#define TIMED(name, condition, parameters, arguments)                \
+#define TIMED(name, condition, parameters, arguments, untimed)       \
     FORWARD(name)                                                    \
     int name parameters {                                            \
         struct timed timed;                                          \
         int error;                                                   \
+        OUTSIDE(next_##name() untimed);                              \
         begin_timed(&timed, time, condition);                        \
         do {                                                         \
             error = error_of_timed(&timed, next_##name() arguments); \
@@ -315,24 +323,25 @@ static void end_timed(const struct timed *timed) {
 
 TIMED(pthread_cond_timedwait, changed,
       (pthread_cond_t *restrict changed, pthread_mutex_t *restrict lock, const struct timespec *restrict time),
-      (changed, lock, &timed.until))
+      (changed, lock, &timed.until), (changed, lock, time))
 TIMED(pthread_cond_clockwait, changed,
       (pthread_cond_t *restrict changed, pthread_mutex_t *restrict lock, clockid_t clock,
        const struct timespec *restrict time),
-      (changed, lock, clock, &timed.until))
+      (changed, lock, clock, &timed.until), (changed, lock, clock, time))
 TIMED(pthread_mutex_timedlock, NULL, (pthread_mutex_t *restrict lock, const struct timespec *restrict time),
-      (lock, &timed.until))
+      (lock, &timed.until), (lock, time))
 TIMED(pthread_mutex_clocklock, NULL,
       (pthread_mutex_t *restrict lock, clockid_t clock, const struct timespec *restrict time),
-      (lock, clock, &timed.until))
+      (lock, clock, &timed.until), (lock, clock, time))
 
 /* One that answers by errno. */
-#define TIMED_BY_ERRNO(name, type, parameters, arguments)                \
+#define TIMED_BY_ERRNO(name, type, parameters, arguments, untimed)       \
     FORWARD(name)                                                        \
     type name parameters {                                               \
         struct timed timed;                                              \
         type status;                                                     \
         int error;                                                       \
+        OUTSIDE(next_##name() untimed);                                  \
         begin_timed(&timed, time, NULL);                                 \
         do {                                                             \
             status = next_##name() arguments;                            \
@@ -344,9 +353,9 @@ TIMED(pthread_mutex_clocklock, NULL,
     }
 
 TIMED_BY_ERRNO(sem_timedwait, int, (sem_t *restrict semaphore, const struct timespec *restrict time),
-               (semaphore, &timed.until))
+               (semaphore, &timed.until), (semaphore, time))
 TIMED_BY_ERRNO(sem_clockwait, int, (sem_t *restrict semaphore, clockid_t clock, const struct timespec *restrict time),
-               (semaphore, clock, &timed.until))
+               (semaphore, clock, &timed.until), (semaphore, clock, time))
 
 /* One that is to last so many UNITs ends at this moment of CLOCK_MONOTONIC. */
 static struct timespec end_of(int64_t units) {
@@ -365,7 +374,7 @@ long call_futex(const long given[6]) {
     struct timespec end;
     struct timed timed;
     int error = 0;
-    if (!time || !(is_until || (is_for && units_of(time) >= 0)))
+    if (is_outside || !time || !(is_until || (is_for && units_of(time) >= 0)))
         return next_syscall()(SYS_futex, given[0], given[1], given[2], given[3], given[4], given[5]);
     end = is_until ? *time : end_of(units_of(time));
     begin_timed(&timed, &end, NULL);
@@ -386,7 +395,7 @@ int sigtimedwait(const sigset_t *restrict set, siginfo_t *restrict info, const s
     struct timespec slice = {0, 0}, end;
     struct timed timed;
     int signal, error = 0;
-    if (!time || units_of(time) < 0) return next_sigtimedwait()(set, info, time);
+    if (is_outside || !time || units_of(time) < 0) return next_sigtimedwait()(set, info, time);
     end = end_of(units_of(time));
     begin_timed(&timed, &end, NULL);
     do {

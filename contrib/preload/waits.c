@@ -40,7 +40,9 @@ static struct timeout in_short_time(const struct timeval *given) {
 
 /* A poll that finds nothing takes a while: a program that polls may do so until its clock has gone on. */
 static void take_a_while(int found, int64_t units) {
-    if (found == 0 && units == 0) let_clock_go_on();
+    if (found != 0 || units != 0) return;
+    idle_with_children();
+    let_clock_go_on();
 }
 
 /* A mask of signals for the time of a wait, if there is one. */
@@ -74,14 +76,20 @@ static bool is_open(int fd) {
     return description != NULL;
 }
 
+FORWARD(epoll_ctl)
+
 int epoll_ctl(int epfd, int op, int fd, struct epoll_event *event) {
+    struct epoll_event asked;
     int status = -EBADF;
+    OUTSIDE(next_epoll_ctl()(epfd, op, fd, event));
     QUIET;
     if (!is_simulated(epfd) && epfd >= 0)
         return refuse(EBADF, "epoll_ctl(%d): no simulated instance has this descriptor", epfd);
     if (!is_simulated(fd) && fd >= 0)
         return refuse(EPERM, "epoll_ctl(%d, %s, %d): a real descriptor in a simulated instance", epfd, word_of(op), fd);
-    if (is_open(epfd) && is_open(fd)) status = nippersage_epoll_ctl(self(), epfd - FIRST, op, fd - FIRST, event);
+    if (event) asked = (struct epoll_event){.events = events_at(fd, event->events), .data = event->data};
+    if (is_open(epfd) && is_open(fd))
+        status = nippersage_epoll_ctl(self(), epfd - FIRST, op, fd - FIRST, event ? &asked : NULL);
     return (int)ANSWER(status, "epoll_ctl(%d, %s, %d, %s)", epfd, word_of(op), fd,
                        event_text(TEXT, op == EPOLL_CTL_DEL ? NULL : event));
 }
@@ -104,17 +112,24 @@ static int wait_in(int epfd, struct epoll_event *events, int most, struct timeou
                        timeout.said.of);
 }
 
+FORWARD(epoll_wait)
+FORWARD(epoll_pwait)
+FORWARD(epoll_pwait2)
+
 int epoll_wait(int epfd, struct epoll_event *events, int most, int timeout) {
+    OUTSIDE(next_epoll_wait()(epfd, events, most, timeout));
     return wait_in(epfd, events, most, in_milliseconds(timeout), NULL, "epoll_wait");
 }
 
 int epoll_pwait(int epfd, struct epoll_event *events, int most, int timeout, const sigset_t *mask) {
+    OUTSIDE(next_epoll_pwait()(epfd, events, most, timeout, mask));
     return wait_in(epfd, events, most, in_milliseconds(timeout), mask, "epoll_pwait");
 }
 
 /* As on Linux, what is no time is told before what is no instance. */
 int epoll_pwait2(int epfd, struct epoll_event *events, int most, const struct timespec *time, const sigset_t *mask) {
     struct timeout timeout = in_time(time);
+    OUTSIDE(next_epoll_pwait2()(epfd, events, most, time, mask));
     if (time && timeout.units < 0) return (int)ANSWER(-EINVAL, "epoll_pwait2(%d, %s)", epfd, timeout.said.of);
     return wait_in(epfd, events, most, timeout, mask, "epoll_pwait2");
 }
@@ -200,6 +215,7 @@ static int register_all(struct sought *sought, int instance) {
         struct epoll_event event = {.events = sought->wanted[n] & ~(uint32_t)IS_WANTED, .data.u64 = (uint64_t)n};
         int status;
         if (!(sought->wanted[n] & IS_WANTED)) continue;
+        event.events = events_at(n + FIRST, event.events);
         status = is_open(n + FIRST) ? nippersage_epoll_ctl(self(), instance, EPOLL_CTL_ADD, n, &event) : -EBADF;
         if (status < 0 && status != -EBADF) return status;
         if (status == -EBADF) {
@@ -280,6 +296,7 @@ static void want_all(struct sought *sought, struct pollfd *files, nfds_t count) 
 int poll(struct pollfd *files, nfds_t count, int given) {
     SOUGHT sought = {.highest = -1};
     struct timeout timeout = in_milliseconds(given);
+    OUTSIDE(next_poll()(files, count, given));
     want_all(&sought, files, count);
     if (sought.has_real && sought.has_simulated) return mixes("poll");
     if (sought.has_real) return real_answer(next_poll()(files, count, given), timeout.units);
@@ -289,6 +306,7 @@ int poll(struct pollfd *files, nfds_t count, int given) {
 int ppoll(struct pollfd *files, nfds_t count, const struct timespec *time, const sigset_t *mask) {
     SOUGHT sought = {.highest = -1};
     struct timeout timeout = in_time(time);
+    OUTSIDE(next_ppoll()(files, count, time, mask));
     want_all(&sought, files, count);
     if (sought.has_real && sought.has_simulated) return mixes("ppoll");
     if (sought.has_real) return real_answer(next_ppoll()(files, count, time, mask), timeout.units);
@@ -350,6 +368,7 @@ int select(int most, fd_set *reads, fd_set *writes, fd_set *excepts, struct time
     uint64_t end = moment_now() + (uint64_t)(timeout.units < 0 ? 0 : timeout.units), now;
     struct timespec left;
     int found;
+    OUTSIDE(next_select()(most, reads, writes, excepts, time));
     want_sets(&sought, most, &sets);
     if (sought.has_real && sought.has_simulated) return mixes("select");
     if (sought.has_real) return real_answer(next_select()(most, reads, writes, excepts, time), timeout.units);
@@ -366,6 +385,7 @@ int pselect(int most, fd_set *reads, fd_set *writes, fd_set *excepts, const stru
     struct sets sets = {{reads, writes, excepts}};
     SOUGHT sought = {.highest = -1};
     struct timeout timeout = in_time(time);
+    OUTSIDE(next_pselect()(most, reads, writes, excepts, time, mask));
     want_sets(&sought, most, &sets);
     if (sought.has_real && sought.has_simulated) return mixes("pselect");
     if (sought.has_real) return real_answer(next_pselect()(most, reads, writes, excepts, time, mask), timeout.units);

@@ -1,0 +1,300 @@
+/* Forks. A child is a real process, outside of the simulation: all that it does is real. Its pipes and sockets are, too;
+   bridge.c does in the simulated kernel what it does to them. children.h tells the rest.
+
+   The shim's own part of a fork lies in handlers of forks, which it registers before the program can register any. So
+   they are the last before a fork, when the program's have been run, and the first after it: in the child all numbers
+   are real when the program's run, which may close and make pipes, as libuv's do. */
+#include "children.h"
+
+#include <poll.h>
+#include <pthread.h>
+#include <stdlib.h>
+#include <sys/wait.h>
+
+FORWARD(clock_gettime)
+FORWARD(fork)
+FORWARD(_Fork)
+
+bool is_outside;
+struct child *all_children;
+struct end *all_ends;
+atomic_int living;
+
+/* What a fork makes, under all locks. */
+static struct {
+    struct end *ends;
+    struct child *child;
+    int64_t process;
+    int error; /* minus an error number */
+} forking;
+static _Thread_local bool is_forking;
+static _Thread_local int kept = NONE; /* the child keeps this descriptor of the shim's own */
+/* What this thread's fork has made, or minus an error number. */
+static _Thread_local struct child *made;
+static _Thread_local int make_error;
+static atomic_int processes = 1; /* of the simulated kernel, and those that forks are about to make */
+
+uint64_t real_now(void) {
+    struct timespec now;
+    next_clock_gettime()(CLOCK_MONOTONIC, &now);
+    return (uint64_t)units_of(&now);
+}
+
+/* No thread has this caller's number: all calls for children are made under the table's lock. */
+struct nippersage_task acting(uint64_t process) {
+    enum { FOR_CHILDREN = (1 << 30) + 7 };
+    return (struct nippersage_task){the_kernel(), FOR_CHILDREN, process};
+}
+
+/* ---- before and after the fork ---- */
+
+/* What the child may need of the shim is whole at the moment of the fork. */
+static void lock_all(void) {
+    lock_sleepers();
+    lock_table();
+}
+
+static void unlock_all(void) {
+    unlock_table();
+    unlock_sleepers();
+}
+
+static void lock_leaves(void) {
+    lock_actions();
+    lock_memory();
+}
+
+static void unlock_leaves(void) {
+    unlock_memory();
+    unlock_actions();
+}
+
+static void prepare(void) {
+    if (!is_forking) return;
+    keep_moment();
+    lock_all();
+    forking.ends = NULL;
+    forking.child = malloc(sizeof *forking.child);
+    forking.error = forking.child ? make_ends(&forking.ends) : -ENOMEM;
+    if (forking.error == 0) {
+        forking.process = nippersage_fork(self());
+        if (forking.process < 0) forking.error = (int)forking.process;
+    }
+    lock_leaves();
+}
+
+static void link_child(struct child *child) {
+    struct child **link = &all_children;
+    while (*link) link = &(*link)->next;
+    *link = child;
+    atomic_fetch_add(&living, 1);
+}
+
+static void go_on_in_parent(void) {
+    if (!is_forking) return;
+    unlock_leaves();
+    if (forking.error == 0) {
+        *forking.child = (struct child){.process = (uint64_t)forking.process, .pidfd = -1};
+        keep_ends(forking.ends, forking.child->process);
+        link_child(forking.child);
+    } else {
+        give_up_ends(forking.ends);
+        free(forking.child);
+        forking.child = NULL;
+    }
+    made = forking.child;
+    make_error = forking.error;
+    unlock_all();
+}
+
+/* From here on every double hands on to the C library: no number is simulated, and there is no kernel. Signals that
+   were held back were the parent's. One for which not all could be made ends at once: its parent says why. */
+static void go_outside(void) {
+    if (!is_forking) return;
+    unlock_leaves();
+    if (forking.error < 0) RAW(SYS_exit_group, 127);
+    take_numbers(forking.ends, kept);
+    this_thread.first_held = this_thread.held_count = 0;
+    atomic_store(&living, 0);
+    is_logged = false;
+    is_outside = true;
+    make_all_numbers_real();
+    forget_kernel();
+    unlock_all();
+}
+
+__attribute__((constructor(101))) static void hear_of_forks(void) {
+    pthread_atfork(prepare, go_on_in_parent, go_outside);
+}
+
+/* ---- the fork ---- */
+
+static void meet_child(struct child *child, pid_t pid) {
+    struct rlimit before;
+    lock_table();
+    child->pid = pid;
+    if (raise_real_limit(&before)) {
+        child->pidfd = lift((int)RAW(SYS_pidfd_open, pid, 0));
+        lower_real_limit(&before);
+    }
+    child->has_ended = child->pidfd < 0;
+    for (struct end *end = all_ends; end; end = end->next)
+        if (end->process == child->process) end->pid = pid;
+    unlock_table();
+}
+
+/* There is no child after all: what it would have had is closed. */
+static void unmake_child(struct child *child) {
+    lock_table();
+    for (struct end *end = all_ends; end; end = end->next)
+        if (end->process == child->process && end->description) end_end_of_child(end);
+    child->has_ended = child->is_reaped = true;
+    unlock_table();
+    move_bytes();
+}
+
+/* What a fork of the real kernel has answered: the program's answer, or minus an error number. */
+static pid_t settle_fork(pid_t pid, int real_error) {
+    struct child *child = made;
+    if (pid > 0 && child) {
+        meet_child(child, pid);
+        return pid;
+    }
+    if (pid > 0) RAW(SYS_wait4, pid, NULL, __WALL, NULL);
+    if (child) unmake_child(child);
+    return pid > 0 ? make_error : -real_error;
+}
+
+static pid_t fork_once(bool runs_handlers) {
+    uint64_t all = UINT64_MAX, before;
+    pid_t pid;
+    self();
+    watch_threads();
+    move_bytes();
+    RAW(SYS_rt_sigprocmask, SIG_SETMASK, &all, &before, sizeof all);
+    is_forking = true;
+    if (!runs_handlers) prepare();
+    pid = runs_handlers ? next_fork()() : next__Fork()();
+    if (!runs_handlers && pid == 0) go_outside();
+    if (!runs_handlers && pid != 0) go_on_in_parent();
+    is_forking = false;
+    if (pid != 0) pid = settle_fork(pid, errno);
+    RAW(SYS_rt_sigprocmask, SIG_SETMASK, &before, NULL, sizeof before);
+    return pid;
+}
+
+static pid_t refuse_fork(pid_t status) {
+    if (status == -EMFILE) say("fork: the hard limit on open files is too low for the real pipes of a child");
+    return status;
+}
+
+/* One process of the kernel is the program's own. */
+static pid_t fork_counted(bool runs_handlers, const char *call) {
+    pid_t pid = -EAGAIN;
+    QUIET;
+    next__Fork();
+    if (atomic_fetch_add(&processes, 1) < (int)settings()->limits.processes) pid = fork_once(runs_handlers);
+    if (pid < 0) atomic_fetch_sub(&processes, 1);
+    if (pid == -EAGAIN) say("%s: the simulated kernel has no more than %u processes (NIPPERSAGE_LIMITS)", call,
+                            settings()->limits.processes);
+    return (pid_t)ANSWER(pid < 0 ? refuse_fork(pid) : pid, "%s()", call);
+}
+
+pid_t fork(void) { return is_outside ? next_fork()() : fork_counted(true, "fork"); }
+
+pid_t fork_quietly(int keeps) {
+    pid_t pid;
+    OUTSIDE(next__Fork()());
+    kept = keeps;
+    pid = fork_counted(false, "fork");
+    kept = NONE;
+    return pid;
+}
+
+pid_t _Fork(void) { return fork_quietly(NONE); }
+
+/* A child of vfork has memory of its own here, as POSIX allows. */
+pid_t vfork(void) { return fork(); }
+
+pid_t __fork(void);
+pid_t __fork(void) { return fork(); }
+
+pid_t __vfork(void);
+pid_t __vfork(void) { return fork(); }
+
+/* ---- the end of children: under the table's lock ---- */
+
+void note_reaped(pid_t pid) {
+    QUIET;
+    lock_table();
+    for (struct child *child = all_children; child; child = child->next)
+        if (child->pid == pid) child->is_reaped = true;
+    unlock_table();
+}
+
+int fill_children(struct pollfd *files) {
+    int count = 0;
+    for (const struct child *child = all_children; child; child = child->next)
+        files[count++] = (struct pollfd){child->pidfd, POLLIN, 0};
+    return count;
+}
+
+static void note_end(struct child *child) {
+    RAW(SYS_close, child->pidfd);
+    child->pidfd = -1;
+    child->has_ended = true;
+    child->ended = real_now();
+}
+
+static bool has_end(const struct child *child) {
+    for (const struct end *end = all_ends; end; end = end->next)
+        if (end->process == child->process) return true;
+    return false;
+}
+
+/* For so long after its end, in real time, a child that wasn't reaped holds the clock. */
+enum { A_MOMENT = 50 * MILLISECOND };
+
+static bool is_forgotten(const struct child *child) {
+    if (!child->has_ended || has_end(child)) return false;
+    return child->is_reaped || real_now() - child->ended >= A_MOMENT;
+}
+
+/* A process of the simulated kernel ends with its last end, and not before the child. */
+static void forget_child(struct child *child) {
+    nippersage_exit(acting(child->process));
+    log_child(child->pid, 0, "exit()");
+    free(child);
+    atomic_fetch_sub(&processes, 1);
+    atomic_fetch_sub(&living, 1);
+}
+
+bool look_at_children(const struct pollfd *files) {
+    struct child **link = &all_children, *child;
+    bool has_news = false;
+    while ((child = *link)) {
+        bool is_over = child->pidfd >= 0 && files->fd == child->pidfd && files->revents;
+        files++;
+        if (is_over) note_end(child);
+        has_news |= is_over;
+        if (is_forgotten(child)) {
+            *link = child->next;
+            forget_child(child);
+        } else {
+            link = &child->next;
+        }
+    }
+    return has_news;
+}
+
+/* The ends of a child that was reaped, as a daemon's, hold it only for a second of real time after their last bytes. */
+bool is_time_held(void) {
+    bool so = false;
+    QUIET;
+    lock_table();
+    for (const struct child *child = all_children; child; child = child->next)
+        so |= !child->has_ended || (!child->is_reaped && real_now() - child->ended < A_MOMENT);
+    for (const struct end *end = all_ends; end && !so; end = end->next) so = real_now() - end->moved < SECOND;
+    unlock_table();
+    return so;
+}
