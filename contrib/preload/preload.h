@@ -400,8 +400,6 @@ void end_pidfd(struct description *description);
 int real_pidfd(int fd);
 /* The events that may be waited for at a descriptor. */
 uint32_t events_at(int fd, uint32_t events);
-int pidfd_open(pid_t pid, unsigned int flags);
-int pidfd_send_signal(int fd, int signal, siginfo_t *info, unsigned int flags);
 
 /* If the call of this number has a double in reaping.c or programs.c, calls that. */
 bool call_reaping(long number, const long given[6], long *result);
@@ -415,5 +413,9 @@ bool call_program(long number, const long given[6], long *result);
 void logged_child(pid_t pid, long result, const char *format, ...) __attribute__((format(printf, 3, 4)));
 
 #pragma GCC visibility pop
+
+/* Doubles that an older C library doesn't declare. */
+int pidfd_open(pid_t pid, unsigned int flags);
+int pidfd_send_signal(int fd, int signal, siginfo_t *info, unsigned int flags);
 
 #endif
