@@ -127,11 +127,24 @@ static bool may_be_shown(const struct end *end) {
     return false;
 }
 
+/* A child that is about to run a program holds the readers of its own pipes for a moment, until it closes them. Bytes
+   that it was shown before could come back through a pipe that nobody else reads any more, without a word that it is
+   broken. So such a child is shown none yet. */
+static bool awaits_closing(const struct end *shown) {
+    enum { A_MOMENT = 100 * MILLISECOND };
+    bool is_young = real_now() - shown->made < A_MOMENT;
+    for (const struct end *end = all_ends; end; end = end->next) {
+        if (!end->description || !end->gives || end->process != shown->process) continue;
+        if (!end->description->peer || (is_young && !is_named(end->description->peer))) return true;
+    }
+    return false;
+}
+
 static bool show(struct end *end) {
     char bytes[AT_ONCE];
     size_t count = look_at_waiting(&end->description->waiting, bytes, end->is_socket ? AT_ONCE : PAGE);
     long taken;
-    if (!may_be_shown(end)) return false;
+    if (!may_be_shown(end) || awaits_closing(end)) return false;
     taken = end->is_socket ? RAW(SYS_sendto, end->real, bytes, count, MSG_DONTWAIT | MSG_NOSIGNAL, NULL, 0)
                            : write_quietly(end->real, bytes, count);
     if (taken <= 0) return false;

@@ -31,7 +31,7 @@ struct end {
     bool is_socket;
     bool takes, gives;        /* whether the child may read here, and write */
     size_t shown;             /* so many bytes were shown to it that it hasn't taken */
-    uint64_t moved;           /* the real time at which bytes came last */
+    uint64_t made, moved;     /* the real times at which it was made, and at which bytes came last */
     struct end *next;
 };
 

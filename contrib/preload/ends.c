@@ -196,6 +196,7 @@ void keep_ends(struct end *made, uint64_t process) {
             free_end(made);
         } else {
             made->process = process;
+            made->made = real_now();
             link_end(made);
         }
         made = next;
