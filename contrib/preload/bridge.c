@@ -46,6 +46,7 @@ static short revents_of(const struct end *end) {
 /* Nothing more comes of a child. One that has only shut its socket goes on reading there. */
 static void end_of_bytes(struct end *end, long status) {
     bool is_closed = !end->is_socket || status < 0 || (revents_of(end) & (POLLHUP | POLLERR));
+    if (is_closed && !is_named(end->description)) note_closing(end->process);
     end->gives = false;
     if (is_closed || !end->takes) {
         end_end_of_child(end);
@@ -318,6 +319,33 @@ bool move_bytes(void) {
     return has_moved;
 }
 
+/* ---- when they are moved ---- */
+
+/* So many answers in a row have told the program that there is nothing, or so many waits didn't sleep. */
+enum { MOST_IDLE = 10, MOST_BUSY = 16 };
+static atomic_int idle, busy;
+
+bool move_in_wait(void) {
+    atomic_store(&idle, 0);
+    atomic_store(&busy, 0);
+    if (!move_bytes()) return false;
+    if (await_end()) move_bytes();
+    pay_at_answer();
+    return true;
+}
+
+/* A program that never waits is to hear of its children, too. It is a little slower than the real clock then. */
+void look_for_nothing(void) {
+    static const struct timespec a_while = {0, 1000000};
+    if (!has_children() || atomic_fetch_add(&idle, 1) < MOST_IDLE) return;
+    if (!move_bytes()) sleep_with_children(&a_while);
+    move_bytes();
+}
+
+void look_if_busy(void) {
+    if (has_children() && atomic_fetch_add(&busy, 1) >= MOST_BUSY) move_bytes();
+}
+
 /* ---- the end of the program ---- */
 
 /* A real pipe gets the room for all, since nobody moves bytes any more. */
@@ -366,13 +394,8 @@ void sleep_with_children(const struct timespec *most) {
     pass_time(real_now() - began);
 }
 
-void spend_a_turn(const struct timespec *turn) {
-    uint64_t end, now;
-    if (!has_children()) {
-        next_nanosleep()(turn, NULL);
-        return;
-    }
-    end = real_now() + (uint64_t)units_of(turn);
+static void move_until(uint64_t end) {
+    uint64_t now;
     while ((now = real_now()) < end) {
         struct timespec left = timespec_of(end - now);
         if (!is_partly_asleep() && !is_anyone_reaping()) {
@@ -382,4 +405,16 @@ void spend_a_turn(const struct timespec *turn) {
         sleep_in_real(&left);
         if (move_bytes()) pay_at_answer();
     }
+}
+
+uint64_t spend_a_turn(const struct timespec *turn) {
+    static uint64_t last;
+    uint64_t before = last;
+    if (!has_children()) {
+        next_nanosleep()(turn, NULL);
+        return last = 0;
+    }
+    move_until(real_now() + (uint64_t)units_of(turn));
+    last = real_now();
+    return before > 0 ? last - before : 0;
 }

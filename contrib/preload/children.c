@@ -170,7 +170,6 @@ static pid_t fork_once(bool runs_handlers) {
     pid_t pid;
     self();
     watch_threads();
-    move_bytes();
     RAW(SYS_rt_sigprocmask, SIG_SETMASK, &all, &before, sizeof all);
     is_forking = true;
     if (!runs_handlers) prepare();
@@ -250,6 +249,31 @@ static bool has_end(const struct child *child) {
     for (const struct end *end = all_ends; end; end = end->next)
         if (end->process == child->process) return true;
     return false;
+}
+
+static struct child *find_child(uint64_t process) {
+    struct child *child = all_children;
+    while (child && child->process != process) child = child->next;
+    return child;
+}
+
+void note_closing(uint64_t process) {
+    struct child *child = find_child(process);
+    if (child) child->may_end = true;
+}
+
+bool await_end(void) {
+    static const struct timespec some = {0, 2000000};
+    bool has_ended = false;
+    QUIET_WITHIN;
+    lock_table();
+    for (struct child *child = all_children; child; child = child->next) {
+        struct pollfd file = {child->pidfd, POLLIN, 0};
+        if (child->may_end && child->pidfd >= 0) has_ended |= RAW(SYS_ppoll, &file, 1, &some, NULL, 8) > 0;
+        child->may_end = false;
+    }
+    unlock_table();
+    return has_ended;
 }
 
 /* For so long after its end, in real time, a child that wasn't reaped holds the clock. */

@@ -39,6 +39,7 @@ struct child {
     uint64_t process;
     pid_t pid;      /* 0 before the fork has answered */
     int pidfd;      /* the real one; -1 before it is there, and after the child's end */
+    bool may_end;   /* it has closed what it wrote to */
     bool has_ended, is_reaped;
     uint64_t ended; /* the real time at which its end was seen */
     struct child *next;
@@ -52,6 +53,10 @@ extern struct end *all_ends;       /* in the order of their children, and of the
 uint64_t real_now(void);
 /* The shim in a process of the simulated kernel. */
 struct nippersage_task acting(uint64_t process);
+/* A child has closed what it wrote to, as it does at its end: both can be seen at once if one waits a little. Whether a
+   child has ended. */
+void note_closing(uint64_t process);
+bool await_end(void);
 /* A child whose end was told to the program. */
 void note_reaped(pid_t pid);
 /* fork without the program's handlers of forks. The child keeps this one of the shim's own descriptors, if any. */

@@ -76,8 +76,3 @@ bool may_take_a_while(void) {
     atomic_store(&last, now);
     return true;
 }
-
-void idle_with_children(void) {
-    static const struct timespec a_while = {0, 1000000};
-    if (has_children() && is_time_held()) sleep_with_children(&a_while);
-}

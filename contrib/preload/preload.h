@@ -365,13 +365,19 @@ bool raise_real_limit(struct rlimit *before);
 void lower_real_limit(const struct rlimit *before);
 void give_limit_back(bool is_highest);
 
-/* bridge.c: moves what children and the program have written, taken and closed. Whether a child has done anything. For
-   a call that isn't under the table's lock. */
+/* bridge.c: moves what children and the program have written, taken and closed. Whether anything was moved. For a call
+   that isn't under the table's lock. */
 bool move_bytes(void);
+/* The same in a wait. */
+bool move_in_wait(void);
+/* The program is told that there is nothing, or finds something in a wait at once. If it goes on so, it looks. */
+void look_for_nothing(void);
+void look_if_busy(void);
 /* Sleeps in the real kernel until there is something to move, or a signal, or for so long; handlers may run. */
 void sleep_with_children(const struct timespec *most);
-/* The same for the thread that watches the others, which moves bytes for those that sleep in the real kernel. */
-void spend_a_turn(const struct timespec *turn);
+/* The same for the thread that watches the others, which moves bytes for those that sleep in the real kernel. How much
+   real time has passed since its last turn, if there are children. */
+uint64_t spend_a_turn(const struct timespec *turn);
 /* Before the program reads bytes by itself: those that were shown to a child come back. Under the table's lock. */
 void claim_shown(struct description *description);
 /* At the end of the program: what it has written goes to its children. */
@@ -390,8 +396,6 @@ void pass_time(uint64_t units);
 void pay_at_answer(void);
 /* Whether a poll that finds nothing may take its millisecond. */
 bool may_take_a_while(void);
-/* Lets a millisecond of real time pass, if a child holds the clock and does nothing. */
-void idle_with_children(void);
 
 /* pidfd.c: a new one waits for the end of its process; it is no more. */
 void begin_pidfd(struct description *description);

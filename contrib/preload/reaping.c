@@ -15,25 +15,30 @@ static atomic_int reaping;
 
 bool is_anyone_reaping(void) { return atomic_load(&reaping) > 0; }
 
-static void begin_reaping(void) {
+static void begin_reaping(int options) {
+    if (options & WNOHANG) return;
     move_bytes();
     atomic_fetch_add(&reaping, 1);
 }
 
-static void end_reaping(pid_t ended) {
-    atomic_fetch_sub(&reaping, 1);
-    if (ended > 0) note_reaped(ended);
-    move_bytes();
+static void end_reaping(int options, pid_t ended) {
+    if (!(options & WNOHANG)) atomic_fetch_sub(&reaping, 1);
+    if (ended > 0) {
+        note_reaped(ended);
+        move_bytes();
+    } else if (options & WNOHANG) {
+        look_for_nothing();
+    }
 }
 
 pid_t wait4(pid_t pid, int *status, int options, struct rusage *usage) {
     int told = 0;
     pid_t got;
     if (is_outside || !has_children()) return next_wait4()(pid, status, options, usage);
-    begin_reaping();
+    begin_reaping(options);
     got = next_wait4()(pid, &told, options, usage);
     if (got > 0 && status) *status = told;
-    end_reaping(got > 0 && (WIFEXITED(told) || WIFSIGNALED(told)) ? got : 0);
+    end_reaping(options, got > 0 && (WIFEXITED(told) || WIFSIGNALED(told)) ? got : 0);
     return got;
 }
 
@@ -55,10 +60,10 @@ int waitid(idtype_t type, id_t id, siginfo_t *info, int options) {
     if (type == P_PIDFD) id = (id_t)real_pidfd((int)id);
     if (!has_children()) return next_waitid()(type, id, info, options);
     memset(&told, 0, sizeof told);
-    begin_reaping();
+    begin_reaping(options);
     got = next_waitid()(type, id, &told, options);
     if (got == 0 && info) *info = told;
-    end_reaping(got == 0 && is_end(&told, options) ? told.si_pid : 0);
+    end_reaping(options, got == 0 && is_end(&told, options) ? told.si_pid : 0);
     return got;
 }
 

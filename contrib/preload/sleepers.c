@@ -288,10 +288,7 @@ static bool await_children(struct sleeper *me) {
     struct timespec a_while = {0, 1000000};
     uint64_t moment, now = moment_now();
     bool has_moment = next_moment(&moment);
-    if (move_bytes()) {
-        pay_at_answer();
-        return true;
-    }
+    if (move_in_wait()) return true;
     if (has_moment && may_go_to(moment)) return false;
     if (has_moment && moment > now && moment - now < MILLISECOND) a_while = timespec_of(moment - now);
     me->awaits_children = true;
@@ -412,7 +409,7 @@ int wait_at(const struct wait *wait) {
     me.outer = this_thread.innermost;
     me.depth = this_thread.depth;
     if (wait->timeout >= 0) me.end = moment_now() + (uint64_t)wait->timeout;
-    move_bytes();
+    look_if_busy();
     pthread_mutex_lock(&lock);
     me.result = park(&me);
     if (me.result == NIPPERSAGE_PARKED) {

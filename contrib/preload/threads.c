@@ -142,14 +142,15 @@ static bool move_clock(void) {
 static _Noreturn void *watch(void *nothing) {
     static const struct timespec a_while = {0, 1000000};
     unsigned long before = 0;
+    uint64_t passed;
     int quiet = 0, still = 0; /* so many milliseconds without a call, and so many in which all slept, too */
     (void)nothing;
     this_thread.is_counted = true; /* it takes no part */
     for (;;) {
-        spend_a_turn(&a_while);
+        passed = spend_a_turn(&a_while);
         quiet = calls() == before ? quiet + 1 : 0;
         still = quiet > 0 && all_sleep() ? still + 1 : 0;
-        if (still > 0 && has_children() && !are_all_asleep()) pass_time(MILLISECOND);
+        if (still > 0 && has_children() && !are_all_asleep()) pass_time(passed);
         if ((still > 1 || quiet > A_SECOND) && move_clock()) {
             quiet = still = 0;
         } else {

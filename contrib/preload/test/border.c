@@ -9,6 +9,7 @@
 #include <sched.h>
 #include <signal.h>
 #include <spawn.h>
+#include <sys/wait.h>
 #include <stdlib.h>
 #include <string.h>
 #include <sys/resource.h>
@@ -107,6 +108,7 @@ static void processes(const int ends[2]) {
     printf("posix_spawn: %d\n", posix_spawn(&made, "/bin/true", &actions, NULL, words, environ));
     fflush(stdout);
     posix_spawn_file_actions_destroy(&actions);
+    tell("it ended", waitpid(made, NULL, 0) == made ? 0 : -1);
     tell("clone", clone(NULL, NULL, SIGCHLD, NULL));
     tell("daemon", daemon(1, 1));
     tell("unshare", unshare(CLONE_FILES));

@@ -137,9 +137,9 @@ static void other_times(const char *path, int file) {
     tell_age(path);
 }
 
-/* A program that takes fork's answer for a process. */
+/* A program that takes the answer of a fork that failed for a process. */
 static void signals(void) {
-    pid_t child = fork();
+    pid_t child = -1;
     tell("kill", kill(child, SIGTERM));
     tell("by number", syscall(SYS_kill, child, SIGTERM));
     tell("its group", kill(-child, SIGTERM));

@@ -64,9 +64,9 @@ static void timers(void) {
 
 static void processes(void) {
     char *const words[] = {"true", NULL};
-    tell("fork", fork());
+    tell("fork by number", syscall(SYS_fork));
     tell("execv", execv("/bin/true", words));
-    tell("system", system("true"));
+    tell("by number", syscall(SYS_execve, "/bin/true", words, NULL));
     tell("io_uring", syscall(SYS_io_uring_setup, 1, NULL));
     tell("by number", syscall(SYS_epoll_create1, 0));
 }
