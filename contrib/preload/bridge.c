@@ -43,11 +43,28 @@ static short revents_of(const struct end *end) {
     return RAW(SYS_ppoll, &file, 1, &none, NULL, 8) > 0 ? file.revents : 0;
 }
 
+/* Whether anything came. */
+static bool drain(struct end *end) {
+    char bytes[PAGE];
+    size_t room;
+    bool has_come = false;
+    while (end->gives && !end->is_over && (room = room_for(end)) > 0) {
+        long got = -ENOMEM;
+        if (make_room(&end->description->peer->waiting, room)) got = RAW(SYS_read, end->real, bytes, room);
+        if (got == -EAGAIN || got == -EINTR || got == -ENOMEM) break;
+        if (got > 0) put_in(end, bytes, (size_t)got);
+        end->is_over = got <= 0;
+        end->is_reset = got < 0;
+        has_come = true;
+    }
+    return has_come;
+}
+
 /* Nothing more comes of a child. One that has only shut its socket goes on reading there. */
-static void end_of_bytes(struct end *end, long status) {
-    bool is_closed = !end->is_socket || status < 0 || (revents_of(end) & (POLLHUP | POLLERR));
+static void end_of_bytes(struct end *end) {
+    bool is_closed = !end->is_socket || end->is_reset || (revents_of(end) & (POLLHUP | POLLERR));
     if (is_closed && !is_named(end->description)) note_closing(end->process);
-    end->gives = false;
+    end->gives = end->is_over = false;
     if (is_closed || !end->takes) {
         end_end_of_child(end);
         return;
@@ -55,25 +72,6 @@ static void end_of_bytes(struct end *end, long status) {
     end->description->is_shut = true;
     nippersage_shutdown(acting(end->process), end->number, SHUT_WR);
     log_child(end->pid, 0, "shutdown(%d, SHUT_WR)", end->number + FIRST);
-}
-
-/* Whether anything came. */
-static bool drain(struct end *end) {
-    char bytes[PAGE];
-    size_t room;
-    bool has_come = false;
-    while (end->description && end->gives && (room = room_for(end)) > 0) {
-        long got = -ENOMEM;
-        if (make_room(&end->description->peer->waiting, room)) got = RAW(SYS_read, end->real, bytes, room);
-        if (got == -EAGAIN || got == -EINTR || got == -ENOMEM) break;
-        if (got > 0) {
-            put_in(end, bytes, (size_t)got);
-        } else {
-            end_of_bytes(end, got);
-        }
-        has_come = true;
-    }
-    return has_come;
 }
 
 /* ---- bytes for a child ---- */
@@ -184,22 +182,20 @@ static void end_of_reading(struct end *end, short revents) {
     if (peer) peer->is_shut = true;
 }
 
-/* Whether the child has taken anything, or closed. */
+/* Whether the child has read all that it was shown. */
+static bool take_shown(struct end *end) {
+    if (end->shown == 0 || unread_of(end) > 0) return false;
+    take_as_child(end, end->shown);
+    show_no_more(end);
+    return true;
+}
+
+/* Shows what waits, or that no more will come. Whether a child has already taken some. */
 static bool feed(struct end *end) {
     bool has_taken = false;
     while (end->description && end->takes) {
-        short revents = revents_of(end);
-        bool is_broken = end->is_socket ? (revents & POLLHUP) && !end->gives : revents & POLLERR;
-        if (is_broken) {
-            end_of_reading(end, revents);
-            return true;
-        }
-        if (end->shown > 0) {
-            if (unread_of(end) > 0) break;
-            take_as_child(end, end->shown);
-            show_no_more(end);
-            has_taken = true;
-        }
+        has_taken |= take_shown(end);
+        if (end->shown > 0) break;
         if (end->description->waiting.count == 0) {
             if (!has_writer(end)) pass_end_on(end);
             break;
@@ -207,6 +203,31 @@ static bool feed(struct end *end) {
         if (!show(end)) break;
     }
     return has_taken;
+}
+
+/* ---- what a child has closed ---- */
+
+/* A pipe, and nothing waits in it. */
+static bool is_closed_pipe(const struct end *end, short revents) {
+    if (end->is_socket) return false;
+    return end->takes ? revents & POLLERR : (revents & (POLLHUP | POLLIN)) == POLLHUP;
+}
+
+static bool note_closed(struct end *end, short revents) {
+    bool is_closed = is_closed_pipe(end, revents), is_deaf = end->is_socket && !end->gives && (revents & POLLHUP);
+    if (end->gives && (end->is_over || is_closed)) {
+        end_of_bytes(end);
+    } else if (end->takes && (is_closed || is_deaf)) {
+        end_of_reading(end, revents);
+    } else {
+        return false;
+    }
+    return true;
+}
+
+/* A copy of what the program has, too: a child closes it at its beginning. */
+static bool note_closed_copy(struct end *end, short revents) {
+    return is_closed_pipe(end, revents) && is_named(end->description) && note_closed(end, revents);
 }
 
 /* ---- what the program itself reads ---- */
@@ -254,35 +275,61 @@ static struct pollfd file_of(const struct end *end, bool sleeps) {
     return file;
 }
 
-/* What is looked at in the real kernel: so many ends, then so many children, then pidfds. */
+/* What is looked at in the real kernel, one after the other: pidfds, children, and ends, the last one first. So if the
+   end of a child is seen, all that it wrote is. */
 struct look {
-    struct pollfd *files; /* NULL without memory */
-    nfds_t ends, children, all;
+    struct pollfd *files, *children, *ends, *last; /* NULL without memory */
 };
 
 static struct look fill(bool sleeps) {
-    struct look look = {malloc(((size_t)atomic_load(&living) + 1) * sizeof *look.files), 0, 0, 0};
+    struct look look;
+    look.files = malloc(((size_t)atomic_load(&living) + 1) * sizeof *look.files);
+    look.last = look.ends = look.children = look.files;
     if (!look.files) return look;
-    for (const struct end *end = all_ends; end; end = end->next) look.files[look.ends++] = file_of(end, sleeps);
-    look.children = (nfds_t)fill_children(look.files + look.ends);
-    look.all = look.ends + look.children;
-    look.all += (nfds_t)fill_pidfds(look.files + look.all);
+    look.children += fill_pidfds(look.files);
+    look.ends = look.children + fill_children(look.children);
+    look.last = look.ends;
+    for (const struct end *end = all_ends; end; end = end->next) look.last++;
+    struct pollfd *file = look.last;
+    for (const struct end *end = all_ends; end; end = end->next) *--file = file_of(end, sleeps);
     return look;
 }
 
-static bool needs_feeding(const struct end *end) {
-    return end->takes && (end->shown > 0 || end->description->waiting.count > 0 || !has_writer(end));
+static long ask(const struct look *look, const struct timespec *most) {
+    return RAW(SYS_ppoll, look->files, look->last - look->files, most, NULL, 8);
 }
 
-static bool move_ends(const struct pollfd *files) {
-    const struct pollfd *file = files;
+static bool shows_closing(const struct look *look) {
+    const struct pollfd *file = look->last;
+    for (const struct end *end = all_ends; end && file--; end = end->next)
+        if (is_closed_pipe(end, file->revents)) return true;
+    return false;
+}
+
+/* What a child closes at once, by an exec or its end, is closed one by one by the real kernel. So if anything is, it is
+   asked once more a little later. */
+static bool ask_now(const struct look *look) {
+    static const struct timespec none, a_little = {0, 100000};
+    if (ask(look, &none) < 0) return false;
+    if (!shows_closing(look)) return true;
+    RAW(SYS_nanosleep, &a_little, NULL);
+    return ask(look, &none) >= 0;
+}
+
+/* In an order in which they can have come, so that the history is the same if they are seen one by one or at once. A
+   child closes its copies first. It reads before it answers, and closes what it used at its end. */
+static bool move_ends(const struct look *look) {
+    const struct pollfd *file;
     bool has_moved = false;
-    for (struct end *end = all_ends; end; end = end->next) has_moved |= pass_closing_on(end);
-    for (struct end *end = all_ends; end; end = end->next, file++)
-        if (end->description && file->revents) has_moved |= drain(end);
-    file = files;
-    for (struct end *end = all_ends; end; end = end->next, file++)
-        if (end->description && (file->revents || needs_feeding(end))) has_moved |= feed(end);
+#define FOR_ALL_ENDS  \
+    file = look->last; \
+    for (struct end *end = all_ends; end && file--; end = end->next) if (end->description)
+    FOR_ALL_ENDS has_moved |= pass_closing_on(end);
+    FOR_ALL_ENDS has_moved |= note_closed_copy(end, file->revents);
+    FOR_ALL_ENDS has_moved |= take_shown(end);
+    FOR_ALL_ENDS if (file->revents) has_moved |= drain(end);
+    FOR_ALL_ENDS has_moved |= note_closed(end, file->revents);
+    FOR_ALL_ENDS has_moved |= feed(end);
     return has_moved;
 }
 
@@ -299,7 +346,6 @@ static void forget_ends(void) {
 }
 
 bool move_bytes(void) {
-    static const struct timespec none;
     int saved = errno;
     bool has_moved = false;
     struct look look;
@@ -307,11 +353,11 @@ bool move_bytes(void) {
     QUIET;
     lock_table();
     look = fill(false);
-    if (look.files && RAW(SYS_ppoll, look.files, look.all, &none, NULL, 8) >= 0) {
-        has_moved = move_ends(look.files);
+    if (look.files && ask_now(&look)) {
+        has_moved = move_ends(&look);
         forget_ends();
-        has_moved |= look_at_children(look.files + look.ends);
-        has_moved |= ring_pidfds(look.files + look.ends + look.children);
+        has_moved |= look_at_children(look.children);
+        has_moved |= ring_pidfds(look.files);
     }
     free(look.files);
     unlock_table();
@@ -377,14 +423,14 @@ void hand_over(void) {
 
 /* Handlers of signals may run meanwhile. */
 static void sleep_in_real(const struct timespec *most) {
-    struct look look = {NULL, 0, 0, 0};
+    struct look look;
     {
         QUIET_WITHIN;
         lock_table();
         look = fill(true);
         unlock_table();
     }
-    RAW(SYS_ppoll, look.files, look.all, most, NULL, 8);
+    ask(&look, most);
     free(look.files);
 }
 

@@ -30,6 +30,7 @@ struct end {
     bool is_shared;           /* while a fork is made: an earlier child has it, too */
     bool is_socket;
     bool takes, gives;        /* whether the child may read here, and write */
+    bool is_over, is_reset;   /* it has closed what it wrote to, with bytes for it that it hadn't read */
     size_t shown;             /* so many bytes were shown to it that it hasn't taken */
     uint64_t made, moved;     /* the real times at which it was made, and at which bytes came last */
     struct end *next;

@@ -200,7 +200,7 @@ static void count_descriptors(const char *name) {
     pipe2(out, O_CLOEXEC);
     posix_spawn_file_actions_init(&actions);
     posix_spawn_file_actions_adddup2(&actions, out[1], 1);
-    snprintf(command, sizeof command, "ls /proc/%d/fd | wc -l", getpid());
+    snprintf(command, sizeof command, "sleep 0.1; ls /proc/%d/fd | wc -l", getpid());
     posix_spawn(&child, "/bin/sh", &actions, NULL, words, environ);
     posix_spawn_file_actions_destroy(&actions);
     close(out[1]);
