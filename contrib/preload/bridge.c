@@ -411,9 +411,8 @@ static void hand_all_over(struct end *end) {
 
 void hand_over(void) {
     if (!has_children()) return;
-    move_bytes();
     QUIET;
-    lock_table();
+    if (!try_lock_table()) return;
     for (struct end *end = all_ends; end; end = end->next)
         if (end->takes && end->description->waiting.count > 0 && may_be_shown(end)) hand_all_over(end);
     unlock_table();

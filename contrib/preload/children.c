@@ -25,6 +25,7 @@ static struct {
     struct end *ends;
     struct child *child;
     int64_t process;
+    int pidfd; /* the number for it */
     int error; /* minus an error number */
 } forking;
 static _Thread_local bool is_forking;
@@ -69,16 +70,22 @@ static void unlock_leaves(void) {
     unlock_actions();
 }
 
+static void give_up(int64_t status) {
+    give_up_ends(forking.ends);
+    RAW(SYS_close, forking.pidfd);
+    forking.error = (int)status;
+}
+
 static void prepare(void) {
     if (!is_forking) return;
     keep_moment();
     lock_all();
     forking.ends = NULL;
     forking.child = malloc(sizeof *forking.child);
-    forking.error = forking.child ? make_ends(&forking.ends) : -ENOMEM;
+    forking.error = forking.child ? make_ends(&forking.ends, &forking.pidfd) : -ENOMEM;
     if (forking.error == 0) {
         forking.process = nippersage_fork(self());
-        if (forking.process < 0) forking.error = (int)forking.process;
+        if (forking.process < 0) give_up(forking.process);
     }
     lock_leaves();
 }
@@ -94,11 +101,10 @@ static void go_on_in_parent(void) {
     if (!is_forking) return;
     unlock_leaves();
     if (forking.error == 0) {
-        *forking.child = (struct child){.process = (uint64_t)forking.process, .pidfd = -1};
+        *forking.child = (struct child){.process = (uint64_t)forking.process, .pidfd = forking.pidfd};
         keep_ends(forking.ends, forking.child->process);
         link_child(forking.child);
     } else {
-        give_up_ends(forking.ends);
         free(forking.child);
         forking.child = NULL;
     }
@@ -129,15 +135,24 @@ __attribute__((constructor(101))) static void hear_of_forks(void) {
 
 /* ---- the fork ---- */
 
+static void note_end(struct child *child) {
+    RAW(SYS_close, child->pidfd);
+    child->pidfd = -1;
+    child->has_ended = true;
+    child->ended = real_now();
+}
+
 static void meet_child(struct child *child, pid_t pid) {
     struct rlimit before;
     lock_table();
     child->pid = pid;
     if (raise_real_limit(&before)) {
-        child->pidfd = lift((int)RAW(SYS_pidfd_open, pid, 0));
+        long opened = RAW(SYS_pidfd_open, pid, 0);
+        if (opened >= 0) RAW(SYS_dup3, opened, child->pidfd, O_CLOEXEC);
+        if (opened >= 0) RAW(SYS_close, opened);
+        if (opened < 0) note_end(child); /* another thread has waited for it */
         lower_real_limit(&before);
     }
-    child->has_ended = child->pidfd < 0;
     for (struct end *end = all_ends; end; end = end->next)
         if (end->process == child->process) end->pid = pid;
     unlock_table();
@@ -148,7 +163,8 @@ static void unmake_child(struct child *child) {
     lock_table();
     for (struct end *end = all_ends; end; end = end->next)
         if (end->process == child->process && end->description) end_end_of_child(end);
-    child->has_ended = child->is_reaped = true;
+    note_end(child);
+    child->is_reaped = true;
     unlock_table();
     move_bytes();
 }
@@ -236,13 +252,6 @@ int fill_children(struct pollfd *files) {
     for (const struct child *child = all_children; child; child = child->next)
         files[count++] = (struct pollfd){child->pidfd, POLLIN, 0};
     return count;
-}
-
-static void note_end(struct child *child) {
-    RAW(SYS_close, child->pidfd);
-    child->pidfd = -1;
-    child->has_ended = true;
-    child->ended = real_now();
 }
 
 static bool has_end(const struct child *child) {

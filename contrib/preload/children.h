@@ -39,7 +39,7 @@ struct end {
 struct child {
     uint64_t process;
     pid_t pid;      /* 0 before the fork has answered */
-    int pidfd;      /* the real one; -1 before it is there, and after the child's end */
+    int pidfd;      /* the real one; before it is there, an eventfd; -1 after the child's end */
     bool may_end;   /* it has closed what it wrote to */
     bool has_ended, is_reaped;
     uint64_t ended; /* the real time at which its end was seen */
@@ -66,8 +66,9 @@ pid_t fork_quietly(int kept);
 
 /* ---- ends.c ---- */
 
-/* Real ends for all that a child inherits: 0, or minus an error number, and then there is none. */
-int make_ends(struct end **made);
+/* Real ends for all that a child inherits, and a number for its pidfd, which is an eventfd until then. 0, or minus an
+   error number, and then there is none. */
+int make_ends(struct end **made, int *pidfd);
 /* The end of a description in a list, or NULL. */
 struct end *find_end(struct end *list, const struct description *description);
 /* Gives up ends that no child has come to have. */

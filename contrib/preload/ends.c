@@ -103,15 +103,17 @@ static int make_all(struct end **made) {
     return 0;
 }
 
-int make_ends(struct end **made) {
+int make_ends(struct end **made, int *pidfd) {
     struct rlimit before;
     int status = raise_real_limit(&before) ? 0 : -EMFILE;
     *made = NULL;
     if (status < 0) return status;
-    status = make_all(made);
+    *pidfd = lift((int)RAW(SYS_eventfd2, 0, O_CLOEXEC));
+    status = *pidfd < 0 ? *pidfd : make_all(made);
     lower_real_limit(&before);
     if (status == 0) return 0;
     give_up_ends(*made);
+    close_if_open(pidfd);
     *made = NULL;
     return status;
 }

@@ -77,15 +77,6 @@ bool ring_pidfds(const struct pollfd *files) {
     return has_rung;
 }
 
-/* An eventfd has room for more, but a pidfd is never written to. */
-uint32_t events_at(int fd, uint32_t events) {
-    struct description *description = hold(fd);
-    bool is_pidfd = description && description->kind == PIDFD;
-    if (description && (events & EPOLLIN)) description->is_read_here = true;
-    if (description) let_go(description);
-    return is_pidfd ? events & ~(uint32_t)EPOLLOUT : events;
-}
-
 /* ---- calls that take one ---- */
 
 int real_pidfd(int fd) {

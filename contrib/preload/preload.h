@@ -246,6 +246,8 @@ int put_pidfd(int real);
 /* The lock of all descriptions, for a quiet function. No call that waits is made under it. */
 void lock_table(void);
 void unlock_table(void);
+/* The same at the end of the program, which may come under the lock. Whether it was taken. */
+bool try_lock_table(void);
 /* Whether a descriptor still names a description, under the lock. */
 bool names(int fd, const struct description *description);
 /* A number of the kernel that names a description, or -1. The lock isn't held. */
@@ -402,8 +404,6 @@ void begin_pidfd(struct description *description);
 void end_pidfd(struct description *description);
 /* The real descriptor of a pidfd, or the same number. */
 int real_pidfd(int fd);
-/* The events that may be waited for at a descriptor. */
-uint32_t events_at(int fd, uint32_t events);
 
 /* If the call of this number has a double in reaping.c or programs.c, calls that. */
 bool call_reaping(long number, const long given[6], long *result);

@@ -135,6 +135,15 @@ void lock_table(void) { pthread_mutex_lock(&lock); }
 
 void unlock_table(void) { pthread_mutex_unlock(&lock); }
 
+bool try_lock_table(void) {
+    static const struct timespec a_while = {0, 1000000};
+    for (int tries = 0; tries < 100; tries++) {
+        if (pthread_mutex_trylock(&lock) == 0) return true;
+        RAW(SYS_nanosleep, &a_while, NULL);
+    }
+    return false;
+}
+
 bool names(int fd, const struct description *description) {
     struct entry *entry = entry_of(fd);
     return entry && entry->description == description;

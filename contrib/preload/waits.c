@@ -70,6 +70,16 @@ static const char *word_of(int op) {
     }
 }
 
+/* Whether a descriptor is open. Nobody waits to write to a pidfd, though the eventfd that it is has room for more. */
+static bool may_be_watched(int fd, struct epoll_event *wanted) {
+    struct description *description = hold(fd);
+    if (!description) return false;
+    if (wanted && (wanted->events & EPOLLIN)) description->is_read_here = true;
+    if (wanted && description->kind == PIDFD) wanted->events &= ~(uint32_t)EPOLLOUT;
+    let_go(description);
+    return true;
+}
+
 static bool is_open(int fd) {
     struct description *description = hold(fd);
     if (description) let_go(description);
@@ -87,8 +97,8 @@ int epoll_ctl(int epfd, int op, int fd, struct epoll_event *event) {
         return refuse(EBADF, "epoll_ctl(%d): no simulated instance has this descriptor", epfd);
     if (!is_simulated(fd) && fd >= 0)
         return refuse(EPERM, "epoll_ctl(%d, %s, %d): a real descriptor in a simulated instance", epfd, word_of(op), fd);
-    if (event) asked = (struct epoll_event){.events = events_at(fd, event->events), .data = event->data};
-    if (is_open(epfd) && is_open(fd))
+    if (event) asked = *event;
+    if (is_open(epfd) && may_be_watched(fd, event ? &asked : NULL))
         status = nippersage_epoll_ctl(self(), epfd - FIRST, op, fd - FIRST, event ? &asked : NULL);
     return (int)ANSWER(status, "epoll_ctl(%d, %s, %d, %s)", epfd, word_of(op), fd,
                        event_text(TEXT, op == EPOLL_CTL_DEL ? NULL : event));
@@ -215,8 +225,7 @@ static int register_all(struct sought *sought, int instance) {
         struct epoll_event event = {.events = sought->wanted[n] & ~(uint32_t)IS_WANTED, .data.u64 = (uint64_t)n};
         int status;
         if (!(sought->wanted[n] & IS_WANTED)) continue;
-        event.events = events_at(n + FIRST, event.events);
-        status = is_open(n + FIRST) ? nippersage_epoll_ctl(self(), instance, EPOLL_CTL_ADD, n, &event) : -EBADF;
+        status = may_be_watched(n + FIRST, &event) ? nippersage_epoll_ctl(self(), instance, EPOLL_CTL_ADD, n, &event) : -EBADF;
         if (status < 0 && status != -EBADF) return status;
         if (status == -EBADF) {
             sought->shown[n] = POLLNVAL;
