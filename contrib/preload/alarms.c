@@ -180,7 +180,7 @@ int getitimer(__itimer_which_t which, struct itimerval *now) {
 unsigned int alarm(unsigned int seconds) {
     struct itimerspec value = {.it_value = {seconds, 0}}, before;
     unsigned int left;
-    OUTSIDE((unsigned int)RAW(SYS_alarm, seconds));
+    HAND_ON((unsigned int)RAW(SYS_alarm, seconds));
     QUIET;
     set(alarms, false, &value, &before);
     left = (unsigned int)before.it_value.tv_sec;

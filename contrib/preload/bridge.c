@@ -34,7 +34,7 @@ static void put_in(struct end *end, const char *bytes, size_t count) {
     ssize_t taken = nippersage_write(acting(end->process), end->number, bytes, count);
     if (taken > 0) add_waiting(waiting, bytes, (size_t)taken);
     log_child(end->pid, taken, "write(%d, %s, %zu)", end->number + FIRST, bytes_text(TEXT, bytes, (ssize_t)count), count);
-    end->moved = real_now();
+    end->moved = real_moment();
 }
 
 static short revents_of(const struct end *end) {
@@ -131,7 +131,7 @@ static bool may_be_shown(const struct end *end) {
    broken. So such a child is shown none yet. */
 static bool awaits_closing(const struct end *shown) {
     enum { A_MOMENT = 100 * MILLISECOND };
-    bool is_young = real_now() - shown->made < A_MOMENT;
+    bool is_young = real_moment() - shown->made < A_MOMENT;
     for (const struct end *end = all_ends; end; end = end->next) {
         if (!end->description || !end->gives || end->process != shown->process) continue;
         if (!end->description->peer || (is_young && !is_named(end->description->peer))) return true;
@@ -277,30 +277,30 @@ static struct pollfd file_of(const struct end *end, bool sleeps) {
 
 /* What is looked at in the real kernel, one after the other: pidfds, children, and ends, the last one first. So if the
    end of a child is seen, all that it wrote is. */
-struct look {
+struct glance {
     struct pollfd *files, *children, *ends, *last; /* NULL without memory */
 };
 
-static struct look fill(bool sleeps) {
-    struct look look;
-    look.files = malloc(((size_t)atomic_load(&living) + 1) * sizeof *look.files);
-    look.last = look.ends = look.children = look.files;
-    if (!look.files) return look;
-    look.children += fill_pidfds(look.files);
-    look.ends = look.children + fill_children(look.children);
-    look.last = look.ends;
-    for (const struct end *end = all_ends; end; end = end->next) look.last++;
-    struct pollfd *file = look.last;
+static struct glance fill(bool sleeps) {
+    struct glance glance;
+    glance.files = malloc(((size_t)atomic_load(&living) + 1) * sizeof *glance.files);
+    glance.last = glance.ends = glance.children = glance.files;
+    if (!glance.files) return glance;
+    glance.children += fill_pidfds(glance.files);
+    glance.ends = glance.children + fill_children(glance.children);
+    glance.last = glance.ends;
+    for (const struct end *end = all_ends; end; end = end->next) glance.last++;
+    struct pollfd *file = glance.last;
     for (const struct end *end = all_ends; end; end = end->next) *--file = file_of(end, sleeps);
-    return look;
+    return glance;
 }
 
-static long ask(const struct look *look, const struct timespec *most) {
-    return RAW(SYS_ppoll, look->files, look->last - look->files, most, NULL, 8);
+static long ask(const struct glance *glance, const struct timespec *most) {
+    return RAW(SYS_ppoll, glance->files, glance->last - glance->files, most, NULL, 8);
 }
 
-static bool shows_closing(const struct look *look) {
-    const struct pollfd *file = look->last;
+static bool shows_closing(const struct glance *glance) {
+    const struct pollfd *file = glance->last;
     for (const struct end *end = all_ends; end && file--; end = end->next)
         if (is_closed_pipe(end, file->revents)) return true;
     return false;
@@ -308,21 +308,21 @@ static bool shows_closing(const struct look *look) {
 
 /* What a child closes at once, by an exec or its end, is closed one by one by the real kernel. So if anything is, it is
    asked once more a little later. */
-static bool ask_now(const struct look *look) {
+static bool ask_now(const struct glance *glance) {
     static const struct timespec none, a_little = {0, 100000};
-    if (ask(look, &none) < 0) return false;
-    if (!shows_closing(look)) return true;
+    if (ask(glance, &none) < 0) return false;
+    if (!shows_closing(glance)) return true;
     RAW(SYS_nanosleep, &a_little, NULL);
-    return ask(look, &none) >= 0;
+    return ask(glance, &none) >= 0;
 }
 
 /* In an order in which they can have come, so that the history is the same if they are seen one by one or at once. A
    child closes its copies first. It reads before it answers, and closes what it used at its end. */
-static bool move_ends(const struct look *look) {
+static bool move_ends(const struct glance *glance) {
     const struct pollfd *file;
     bool has_moved = false;
 #define FOR_ALL_ENDS  \
-    file = look->last; \
+    file = glance->last; \
     for (struct end *end = all_ends; end && file--; end = end->next) if (end->description)
     FOR_ALL_ENDS has_moved |= pass_closing_on(end);
     FOR_ALL_ENDS has_moved |= note_closed_copy(end, file->revents);
@@ -348,18 +348,18 @@ static void forget_ends(void) {
 bool move_bytes(void) {
     int saved = errno;
     bool has_moved = false;
-    struct look look;
+    struct glance glance;
     if (!has_children()) return false;
     QUIET;
     lock_table();
-    look = fill(false);
-    if (look.files && ask_now(&look)) {
-        has_moved = move_ends(&look);
+    glance = fill(false);
+    if (glance.files && ask_now(&glance)) {
+        has_moved = move_ends(&glance);
         forget_ends();
-        has_moved |= look_at_children(look.children);
-        has_moved |= ring_pidfds(look.files);
+        has_moved |= look_at_children(glance.children);
+        has_moved |= ring_pidfds(glance.files);
     }
-    free(look.files);
+    free(glance.files);
     unlock_table();
     errno = saved;
     return has_moved;
@@ -422,26 +422,26 @@ void hand_over(void) {
 
 /* Handlers of signals may run meanwhile. */
 static void sleep_in_real(const struct timespec *most) {
-    struct look look;
+    struct glance glance;
     {
         QUIET_WITHIN;
         lock_table();
-        look = fill(true);
+        glance = fill(true);
         unlock_table();
     }
-    ask(&look, most);
-    free(look.files);
+    ask(&glance, most);
+    free(glance.files);
 }
 
 void sleep_with_children(const struct timespec *most) {
-    uint64_t began = real_now();
+    uint64_t began = real_moment();
     sleep_in_real(most);
-    pass_time(real_now() - began);
+    pass_time(real_moment() - began);
 }
 
 static void move_until(uint64_t end) {
     uint64_t now;
-    while ((now = real_now()) < end) {
+    while ((now = real_moment()) < end) {
         struct timespec left = timespec_of(end - now);
         if (!is_partly_asleep() && !is_anyone_reaping()) {
             next_nanosleep()(&left, NULL);
@@ -459,7 +459,7 @@ uint64_t spend_a_turn(const struct timespec *turn) {
         next_nanosleep()(turn, NULL);
         return last = 0;
     }
-    move_until(real_now() + (uint64_t)units_of(turn));
-    last = real_now();
+    move_until(real_moment() + (uint64_t)units_of(turn));
+    last = real_moment();
     return before > 0 ? last - before : 0;
 }

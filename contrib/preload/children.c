@@ -35,7 +35,7 @@ static _Thread_local struct child *made;
 static _Thread_local int make_error;
 static atomic_int processes = 1; /* of the simulated kernel, and those that forks are about to make */
 
-uint64_t real_now(void) {
+uint64_t real_moment(void) {
     struct timespec now;
     next_clock_gettime()(CLOCK_MONOTONIC, &now);
     return (uint64_t)units_of(&now);
@@ -139,7 +139,7 @@ static void note_end(struct child *child) {
     RAW(SYS_close, child->pidfd);
     child->pidfd = -1;
     child->has_ended = true;
-    child->ended = real_now();
+    child->ended = real_moment();
 }
 
 static void meet_child(struct child *child, pid_t pid) {
@@ -219,7 +219,7 @@ pid_t fork(void) { return is_outside ? next_fork()() : fork_counted(true, "fork"
 
 pid_t fork_quietly(int keeps) {
     pid_t pid;
-    OUTSIDE(next__Fork()());
+    HAND_ON(next__Fork()());
     kept = keeps;
     pid = fork_counted(false, "fork");
     kept = NONE;
@@ -290,7 +290,7 @@ enum { A_MOMENT = 50 * MILLISECOND };
 
 static bool is_forgotten(const struct child *child) {
     if (!child->has_ended || has_end(child)) return false;
-    return child->is_reaped || real_now() - child->ended >= A_MOMENT;
+    return child->is_reaped || real_moment() - child->ended >= A_MOMENT;
 }
 
 /* A process of the simulated kernel ends with its last end, and not before the child. */
@@ -326,8 +326,8 @@ bool is_time_held(void) {
     QUIET;
     lock_table();
     for (const struct child *child = all_children; child; child = child->next)
-        so |= !child->has_ended || (!child->is_reaped && real_now() - child->ended < A_MOMENT);
-    for (const struct end *end = all_ends; end && !so; end = end->next) so = real_now() - end->moved < SECOND;
+        so |= !child->has_ended || (!child->is_reaped && real_moment() - child->ended < A_MOMENT);
+    for (const struct end *end = all_ends; end && !so; end = end->next) so = real_moment() - end->moved < SECOND;
     unlock_table();
     return so;
 }

@@ -51,7 +51,7 @@ struct child {
 extern struct child *all_children; /* in the order of their forks */
 extern struct end *all_ends;       /* in the order of their children, and of their numbers */
 /* Real time, in UNITs. */
-uint64_t real_now(void);
+uint64_t real_moment(void);
 /* The shim in a process of the simulated kernel. */
 struct nippersage_task acting(uint64_t process);
 /* A child has closed what it wrote to, as it does at its end: both can be seen at once if one waits a little. Whether a

@@ -107,7 +107,7 @@ FORWARD(time)
 
 int gettimeofday(struct timeval *restrict time, void *restrict zone) {
     struct timespec now;
-    OUTSIDE(next_gettimeofday()(time, zone));
+    HAND_ON(next_gettimeofday()(time, zone));
     now = timespec_of(moment_asked());
     *time = (struct timeval){EPOCH_SECONDS + now.tv_sec, now.tv_nsec / 1000};
     if (zone) memset(zone, 0, sizeof(struct timezone));
@@ -120,7 +120,7 @@ int timespec_get(struct timespec *time, int base) {
 
 time_t time(time_t *told) {
     time_t now;
-    OUTSIDE(next_time()(told));
+    HAND_ON(next_time()(told));
     now = EPOCH_SECONDS + timespec_of(moment_asked()).tv_sec;
     if (told) *told = now;
     return now;
@@ -190,7 +190,7 @@ FORWARD(timerfd_settime)
 FORWARD(timerfd_gettime)
 
 int timerfd_settime(int fd, int flags, const struct itimerspec *value, struct itimerspec *before) {
-    OUTSIDE(next_timerfd_settime()(fd, flags, value, before));
+    HAND_ON(next_timerfd_settime()(fd, flags, value, before));
     QUIET;
     struct description *description = hold(fd);
     struct itimerspec kept;
@@ -207,7 +207,7 @@ int timerfd_settime(int fd, int flags, const struct itimerspec *value, struct it
 }
 
 int timerfd_gettime(int fd, struct itimerspec *now) {
-    OUTSIDE(next_timerfd_gettime()(fd, now));
+    HAND_ON(next_timerfd_gettime()(fd, now));
     QUIET;
     struct description *description = hold(fd);
     int status = description ? nippersage_timerfd_gettime(self(), fd - FIRST, now) : -EBADF;

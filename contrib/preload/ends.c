@@ -198,7 +198,7 @@ void keep_ends(struct end *made, uint64_t process) {
             free_end(made);
         } else {
             made->process = process;
-            made->made = real_now();
+            made->made = real_moment();
             link_end(made);
         }
         made = next;

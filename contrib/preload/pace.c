@@ -71,7 +71,7 @@ bool may_take_a_while(void) {
     static _Atomic uint64_t last;
     uint64_t slower = settings()->child_time, now;
     if (!has_children() || !is_time_held()) return true;
-    now = real_now();
+    now = real_moment();
     if (slower == 0 || now - atomic_load(&last) < MILLISECOND * slower) return false;
     atomic_store(&last, now);
     return true;

@@ -339,7 +339,7 @@ long call_futex(const long given[6]);
 /* children.c: whether this process is one, so that all that it does is real. */
 extern bool is_outside;
 /* At the head of a double that asks for no descriptor: in a child it hands on to the C library. */
-#define OUTSIDE(call) \
+#define HAND_ON(call) \
     if (is_outside) return call
 /* Whether anything of children is there. */
 extern atomic_int living;

@@ -79,17 +79,17 @@ int clone(int (*run)(void *), void *stack, int flags, void *argument, ...) {
     va_start(arguments, argument);
     for (int i = 0; i < 3; i++) more[i] = va_arg(arguments, void *);
     va_end(arguments);
-    OUTSIDE(next_clone()(run, stack, flags, argument, more[0], more[1], more[2]));
+    HAND_ON(next_clone()(run, stack, flags, argument, more[0], more[1], more[2]));
     return refuse(ENOSYS, "clone is not simulated: neither processes nor threads are made so");
 }
 
 int daemon(int stays, int keeps) {
-    OUTSIDE(next_daemon()(stays, keeps));
+    HAND_ON(next_daemon()(stays, keeps));
     return refuse(ENOSYS, "daemon is not simulated: what goes on would be a child, on the real kernel");
 }
 
 int forkpty(int *made, char *name, const struct termios *like, const struct winsize *size) {
-    OUTSIDE(next_forkpty()(made, name, like, size));
+    HAND_ON(next_forkpty()(made, name, like, size));
     return refuse(ENOSYS, "forkpty is not simulated: it makes a terminal");
 }
 

@@ -322,7 +322,7 @@ FORWARD(pause)
 FORWARD(sigsuspend)
 
 int pause(void) {
-    OUTSIDE(next_pause()());
+    HAND_ON(next_pause()());
     QUIET;
     return (int)ANSWER(await_handler("pause"), "pause()");
 }
@@ -330,7 +330,7 @@ int pause(void) {
 int sigsuspend(const sigset_t *set) {
     uint64_t before;
     int result;
-    OUTSIDE(next_sigsuspend()(set));
+    HAND_ON(next_sigsuspend()(set));
     QUIET;
     before = swap_mask(set);
     result = await_handler("sigsuspend");

@@ -225,7 +225,7 @@ FORWARD(pipe2)
 
 int epoll_create1(int flags) {
     int made;
-    OUTSIDE(next_epoll_create1()(flags));
+    HAND_ON(next_epoll_create1()(flags));
     QUIET;
     pthread_mutex_lock(&lock);
     made =
@@ -242,7 +242,7 @@ int epoll_create(int size) {
 
 int eventfd(unsigned int count, int flags) {
     int made;
-    OUTSIDE(next_eventfd()(count, flags));
+    HAND_ON(next_eventfd()(count, flags));
     QUIET;
     pthread_mutex_lock(&lock);
     made = put_new(nippersage_eventfd(self(), count, flags), (struct description){.kind = EVENTFD, .access = O_RDWR},
@@ -254,7 +254,7 @@ int eventfd(unsigned int count, int flags) {
 int timerfd_create(clockid_t clock, int flags) {
     struct description like = {.kind = TIMERFD, .access = O_RDWR, .clock = clock};
     int kept = clock == CLOCK_BOOTTIME ? CLOCK_MONOTONIC : clock, made;
-    OUTSIDE(next_timerfd_create()(clock, flags));
+    HAND_ON(next_timerfd_create()(clock, flags));
     QUIET;
     pthread_mutex_lock(&lock);
     made = put_new(nippersage_timerfd_create(self(), kept, flags), like, flags);
@@ -265,7 +265,7 @@ int timerfd_create(clockid_t clock, int flags) {
 int pipe2(int ends[2], int flags) {
     static const int accesses[2] = {O_RDONLY, O_WRONLY};
     int numbers[2], status;
-    OUTSIDE(next_pipe2()(ends, flags));
+    HAND_ON(next_pipe2()(ends, flags));
     QUIET;
     pthread_mutex_lock(&lock);
     status = put_pair(nippersage_pipe2(self(), numbers, flags), numbers, PIPE, accesses, flags, ends);

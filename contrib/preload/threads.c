@@ -235,7 +235,7 @@ static void *run_counted(void *kept) {
 int pthread_create(pthread_t *made, const pthread_attr_t *attributes, void *(*run)(void *), void *argument) {
     struct thread *thread;
     int error;
-    OUTSIDE(next_pthread_create()(made, attributes, run, argument));
+    HAND_ON(next_pthread_create()(made, attributes, run, argument));
     thread = keep_thread((struct thread){run, argument});
     if (!thread) return EAGAIN;
     pthread_once(&once, start_counting);
@@ -313,7 +313,7 @@ static void end_timed(const struct timed *timed) {
     int name parameters {                                            \
         struct timed timed;                                          \
         int error;                                                   \
-        OUTSIDE(next_##name() untimed);                              \
+        HAND_ON(next_##name() untimed);                              \
         begin_timed(&timed, time, condition);                        \
         do {                                                         \
             error = error_of_timed(&timed, next_##name() arguments); \
@@ -342,7 +342,7 @@ TIMED(pthread_mutex_clocklock, NULL,
         struct timed timed;                                              \
         type status;                                                     \
         int error;                                                       \
-        OUTSIDE(next_##name() untimed);                                  \
+        HAND_ON(next_##name() untimed);                                  \
         begin_timed(&timed, time, NULL);                                 \
         do {                                                             \
             status = next_##name() arguments;                            \

@@ -91,7 +91,7 @@ FORWARD(epoll_ctl)
 int epoll_ctl(int epfd, int op, int fd, struct epoll_event *event) {
     struct epoll_event asked;
     int status = -EBADF;
-    OUTSIDE(next_epoll_ctl()(epfd, op, fd, event));
+    HAND_ON(next_epoll_ctl()(epfd, op, fd, event));
     QUIET;
     if (!is_simulated(epfd) && epfd >= 0)
         return refuse(EBADF, "epoll_ctl(%d): no simulated instance has this descriptor", epfd);
@@ -127,19 +127,19 @@ FORWARD(epoll_pwait)
 FORWARD(epoll_pwait2)
 
 int epoll_wait(int epfd, struct epoll_event *events, int most, int timeout) {
-    OUTSIDE(next_epoll_wait()(epfd, events, most, timeout));
+    HAND_ON(next_epoll_wait()(epfd, events, most, timeout));
     return wait_in(epfd, events, most, in_milliseconds(timeout), NULL, "epoll_wait");
 }
 
 int epoll_pwait(int epfd, struct epoll_event *events, int most, int timeout, const sigset_t *mask) {
-    OUTSIDE(next_epoll_pwait()(epfd, events, most, timeout, mask));
+    HAND_ON(next_epoll_pwait()(epfd, events, most, timeout, mask));
     return wait_in(epfd, events, most, in_milliseconds(timeout), mask, "epoll_pwait");
 }
 
 /* As on Linux, what is no time is told before what is no instance. */
 int epoll_pwait2(int epfd, struct epoll_event *events, int most, const struct timespec *time, const sigset_t *mask) {
     struct timeout timeout = in_time(time);
-    OUTSIDE(next_epoll_pwait2()(epfd, events, most, time, mask));
+    HAND_ON(next_epoll_pwait2()(epfd, events, most, time, mask));
     if (time && timeout.units < 0) return (int)ANSWER(-EINVAL, "epoll_pwait2(%d, %s)", epfd, timeout.said.of);
     return wait_in(epfd, events, most, timeout, mask, "epoll_pwait2");
 }
@@ -305,7 +305,7 @@ static void want_all(struct sought *sought, struct pollfd *files, nfds_t count) 
 int poll(struct pollfd *files, nfds_t count, int given) {
     SOUGHT sought = {.highest = -1};
     struct timeout timeout = in_milliseconds(given);
-    OUTSIDE(next_poll()(files, count, given));
+    HAND_ON(next_poll()(files, count, given));
     want_all(&sought, files, count);
     if (sought.has_real && sought.has_simulated) return mixes("poll");
     if (sought.has_real) return real_answer(next_poll()(files, count, given), timeout.units);
@@ -315,7 +315,7 @@ int poll(struct pollfd *files, nfds_t count, int given) {
 int ppoll(struct pollfd *files, nfds_t count, const struct timespec *time, const sigset_t *mask) {
     SOUGHT sought = {.highest = -1};
     struct timeout timeout = in_time(time);
-    OUTSIDE(next_ppoll()(files, count, time, mask));
+    HAND_ON(next_ppoll()(files, count, time, mask));
     want_all(&sought, files, count);
     if (sought.has_real && sought.has_simulated) return mixes("ppoll");
     if (sought.has_real) return real_answer(next_ppoll()(files, count, time, mask), timeout.units);
@@ -377,7 +377,7 @@ int select(int most, fd_set *reads, fd_set *writes, fd_set *excepts, struct time
     uint64_t end = moment_now() + (uint64_t)(timeout.units < 0 ? 0 : timeout.units), now;
     struct timespec left;
     int found;
-    OUTSIDE(next_select()(most, reads, writes, excepts, time));
+    HAND_ON(next_select()(most, reads, writes, excepts, time));
     want_sets(&sought, most, &sets);
     if (sought.has_real && sought.has_simulated) return mixes("select");
     if (sought.has_real) return real_answer(next_select()(most, reads, writes, excepts, time), timeout.units);
@@ -394,7 +394,7 @@ int pselect(int most, fd_set *reads, fd_set *writes, fd_set *excepts, const stru
     struct sets sets = {{reads, writes, excepts}};
     SOUGHT sought = {.highest = -1};
     struct timeout timeout = in_time(time);
-    OUTSIDE(next_pselect()(most, reads, writes, excepts, time, mask));
+    HAND_ON(next_pselect()(most, reads, writes, excepts, time, mask));
     want_sets(&sought, most, &sets);
     if (sought.has_real && sought.has_simulated) return mixes("pselect");
     if (sought.has_real) return real_answer(next_pselect()(most, reads, writes, excepts, time, mask), timeout.units);
