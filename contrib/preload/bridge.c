@@ -1,5 +1,5 @@
-/* What children do to their pipes and sockets is done in the simulated kernel, and what the program does is passed on to
-   them. Bytes are moved when the program waits and when it looks, never beside it.
+/* What children do to their pipes and sockets is done in the simulated kernel, and what the program does is passed on
+   to them. Bytes are moved when the program waits and when it looks, never beside it.
 
    Bytes for a child are shown to it: they lie in its real pipe, and stay in the simulated one until the child has taken
    them. So a writer sees them as long as they wait, and a reader in the program can still claim them.
@@ -20,8 +20,8 @@ enum { AT_ONCE = 16384 };
 
 /* ---- bytes of a child ---- */
 
-/* So much of them has room in the simulated kernel, at most a page; 0 if a page hasn't. So a write of a page that a child
-   makes isn't mixed with another one's. */
+/* So much of them has room in the simulated kernel, at most a page; 0 if a page hasn't. So a write of a page that a
+   child makes isn't mixed with another one's. */
 static size_t room_for(const struct end *end) {
     const struct nippersage_limits *limits = &settings()->limits;
     size_t most = end->is_socket ? limits->sock_bytes : limits->pipe_bytes, part = most < PAGE ? most : PAGE;
@@ -33,7 +33,8 @@ static void put_in(struct end *end, const char *bytes, size_t count) {
     struct waiting *waiting = &end->description->peer->waiting;
     ssize_t taken = nippersage_write(acting(end->process), end->number, bytes, count);
     if (taken > 0) add_waiting(waiting, bytes, (size_t)taken);
-    log_child(end->pid, taken, "write(%d, %s, %zu)", end->number + FIRST, bytes_text(TEXT, bytes, (ssize_t)count), count);
+    log_child(end->pid, taken, "write(%d, %s, %zu)", end->number + FIRST, bytes_text(TEXT, bytes, (ssize_t)count),
+              count);
     end->moved = real_moment();
 }
 
@@ -268,10 +269,9 @@ static bool pass_closing_on(struct end *end) {
 
 /* What is asked of a real end. Whoever sleeps meanwhile doesn't ask for what it can't move. */
 static struct pollfd file_of(const struct end *end, bool sleeps) {
-    bool gives = end->gives && room_for(end) > 0;
-    struct pollfd file = {end->real, gives ? POLLIN : 0, 0};
+    struct pollfd file = {end->real, end->gives ? POLLIN : 0, 0};
     if (end->shown > 0 && !end->is_socket) file.events |= POLLOUT;
-    if (sleeps && end->gives && !gives) file.fd = -1;
+    if (sleeps && end->gives && room_for(end) == 0) file.fd = -1;
     return file;
 }
 

@@ -1,5 +1,5 @@
-/* Forks. A child is a real process, outside of the simulation: all that it does is real. Its pipes and sockets are, too;
-   bridge.c does in the simulated kernel what it does to them. children.h tells the rest.
+/* Forks. A child is a real process, outside of the simulation: all that it does is real. Its pipes and sockets are,
+   too; bridge.c does in the simulated kernel what it does to them. children.h tells the rest.
 
    The shim's own part of a fork lies in handlers of forks, which it registers before the program can register any. So
    they are the last before a fork, when the program's have been run, and the first after it: in the child all numbers

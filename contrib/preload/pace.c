@@ -1,9 +1,9 @@
 /* Time while a child lives. It is real for the child, so the program may not run ahead: a jump of the simulated clock
    takes as much real time as it is long. Only what passes while the program waits counts.
 
-   What a child does leaves the clock where it is, if it comes quickly. What has passed is owed, and paid by whole tenths
-   of a second when a child does something. So no time of the program comes earlier than by the real clock, and none more
-   than a tenth of a second later; and a child that is never silent keeps no time from coming. */
+   What a child does leaves the clock where it is, if it comes quickly. What has passed is owed, and paid by whole
+   tenths of a second when a child does something. So no time of the program comes earlier than by the real clock, and
+   none more than a tenth of a second later; and a child that is never silent keeps no time from coming. */
 #include "children.h"
 
 #include <pthread.h>

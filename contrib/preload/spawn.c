@@ -1,5 +1,5 @@
-/* posix_spawn: a fork, what is to be done in the child by plain calls there, and an exec. What is to be done to files is
-   kept in lists of the shim's own, for the C library's refuse numbers above the real limit. */
+/* posix_spawn: a fork, what is to be done in the child by plain calls there, and an exec. What is to be done to files
+   is kept in lists of the shim's own, for the C library's refuse numbers above the real limit. */
 #include "children.h"
 
 #include <sched.h>

@@ -225,7 +225,9 @@ static int register_all(struct sought *sought, int instance) {
         struct epoll_event event = {.events = sought->wanted[n] & ~(uint32_t)IS_WANTED, .data.u64 = (uint64_t)n};
         int status;
         if (!(sought->wanted[n] & IS_WANTED)) continue;
-        status = may_be_watched(n + FIRST, &event) ? nippersage_epoll_ctl(self(), instance, EPOLL_CTL_ADD, n, &event) : -EBADF;
+        status = -EBADF;
+        if (may_be_watched(n + FIRST, &event))
+            status = nippersage_epoll_ctl(self(), instance, EPOLL_CTL_ADD, n, &event);
         if (status < 0 && status != -EBADF) return status;
         if (status == -EBADF) {
             sought->shown[n] = POLLNVAL;

@@ -1,5 +1,5 @@
-/* Children that a fork makes, with an exec and without: their pipes and sockets, what is closed and when, who reads what,
-   and how time goes meanwhile. */
+/* Children that a fork makes, with an exec and without: their pipes and sockets, what is closed and when, who reads
+   what, and how time goes meanwhile. */
 #include "trace.h"
 
 #include <fcntl.h>
@@ -237,6 +237,22 @@ static void full(void) {
     close(in[1]);
 }
 
+/* More than a pipe holds is there in whole, though its reader comes late and its writer is gone by then. */
+static void late_reader(void) {
+    int out[2];
+    char room[4096];
+    size_t came = 0;
+    ssize_t got;
+    pid_t child;
+    pipe(out);
+    child = RUN(-1, out[1], -1, "head", "-c", "69000", "/dev/zero");
+    close(out[1]);
+    usleep(300000);
+    while ((got = read(out[0], room, sizeof room)) > 0) came += (size_t)got;
+    trace("read late: %zu, then %ld, ended: %d", came, outcome(got), end_of(child));
+    close(out[0]);
+}
+
 static void much(void) {
     enum { ALL = 1000000 };
     int in[2], out[2];
@@ -451,6 +467,7 @@ int main(void) {
     halves();
     closed_copies();
     full();
+    late_reader();
     much();
     pipeline();
     exec_errors();

@@ -66,8 +66,7 @@ static void files(void) {
     posix_spawn_file_actions_addchdir_np(&actions, "/usr/lib");
     posix_spawn_file_actions_adddup2(&actions, other[0], 9);
     ask("files",
-        "pwd; test -e /proc/self/fd/7 && echo 7; test -e /proc/self/fd/8 || echo no 8; test -p /proc/self/fd/9 && echo 9",
-        &actions, NULL);
+        "pwd; cd /proc/self/fd; test -e 7 && echo 7; test -e 8 || echo no 8; test -p 9 && echo 9", &actions, NULL);
     posix_spawn_file_actions_destroy(&actions);
     posix_spawn_file_actions_init(&actions);
     posix_spawn_file_actions_adddup2(&actions, other[1], 1);
@@ -137,7 +136,7 @@ static void pidfds(void) {
     posix_spawn_file_actions_t actions;
     struct epoll_event wanted = {.events = EPOLLIN | EPOLLOUT}, shown[4];
     struct pollfd file;
-    siginfo_t info;
+    siginfo_t info = {0};
     int in[2], out[2], ep = epoll_create1(0), fd, count;
     char byte;
     pid_t child;
@@ -156,7 +155,6 @@ static void pidfds(void) {
     trace("nothing: %d", epoll_wait(ep, shown, 4, 20));
     file = (struct pollfd){fd, POLLIN | POLLOUT, 0};
     trace("nothing: %d", poll(&file, 1, 0));
-    memset(&info, 0, sizeof info);
     trace("not yet: %ld, %d", outcome(waitid(P_PIDFD, (id_t)fd, &info, WEXITED | WNOHANG)), info.si_pid);
     trace("signal 0: %ld", outcome(pidfd_send_signal(fd, 0, NULL, 0)));
     write(in[1], "go\n", 3);

@@ -49,8 +49,10 @@ static int spawn(char *words[], bool has_pipes) {
     uv_process_options_t options = {.exit_cb = on_end, .file = words[0], .args = words, .stdio = files,
                                     .stdio_count = 3};
     if (has_pipes) {
-        files[0] = (uv_stdio_container_t){.flags = UV_CREATE_PIPE | UV_READABLE_PIPE, .data.stream = (uv_stream_t *)&in};
-        files[1] = (uv_stdio_container_t){.flags = UV_CREATE_PIPE | UV_WRITABLE_PIPE, .data.stream = (uv_stream_t *)&out};
+        files[0].flags = UV_CREATE_PIPE | UV_READABLE_PIPE;
+        files[0].data.stream = (uv_stream_t *)&in;
+        files[1].flags = UV_CREATE_PIPE | UV_WRITABLE_PIPE;
+        files[1].data.stream = (uv_stream_t *)&out;
     }
     return uv_spawn(&loop, &child, &options);
 }
