@@ -28,6 +28,7 @@ static struct {
     int pidfd; /* the number for it */
     int error; /* minus an error number */
 } forking;
+static pthread_once_t once = PTHREAD_ONCE_INIT;
 static _Thread_local bool is_forking;
 static _Thread_local int kept = NONE; /* the child keeps this descriptor of the shim's own */
 /* What this thread's fork has made, or minus an error number. */
@@ -84,7 +85,7 @@ static void prepare(void) {
     forking.child = malloc(sizeof *forking.child);
     forking.error = forking.child ? make_ends(&forking.ends, &forking.pidfd) : -ENOMEM;
     if (forking.error == 0) {
-        forking.process = nippersage_fork(self());
+        forking.process = nippersage_fork(acting(1));
         if (forking.process < 0) give_up(forking.process);
     }
     lock_leaves();
@@ -207,7 +208,7 @@ static pid_t refuse_fork(pid_t status) {
 static pid_t fork_counted(bool runs_handlers, const char *call) {
     pid_t pid = -EAGAIN;
     QUIET;
-    next__Fork();
+    pthread_once(&once, find_forwards);
     if (atomic_fetch_add(&processes, 1) < (int)settings()->limits.processes) pid = fork_once(runs_handlers);
     if (pid < 0) atomic_fetch_sub(&processes, 1);
     if (pid == -EAGAIN) say("%s: the simulated kernel has no more than %u processes (NIPPERSAGE_LIMITS)", call,

@@ -20,10 +20,21 @@ static atomic_uint callers;
 static atomic_ulong count;
 static int sleeping;
 
-void *next_of(const char *name) {
-    /* The C library keeps an older pthread_cond_timedwait, too, which dlsym may find. */
+/* The C library keeps an older pthread_cond_timedwait, too, which dlsym may find. */
+static void *find_next(const char *name) {
     void *found = strncmp(name, "pthread_cond", 12) == 0 ? dlvsym(RTLD_NEXT, name, "GLIBC_2.3.2") : NULL;
-    if (!found) found = dlsym(RTLD_NEXT, name);
+    return found ? found : dlsym(RTLD_NEXT, name);
+}
+
+#define HIDDEN __attribute__((visibility("hidden")))
+void find_forwards(void) {
+    extern const struct forward __start_forwards[] HIDDEN, __stop_forwards[] HIDDEN; /* the linker's */
+    for (const struct forward *each = __start_forwards; each < __stop_forwards; each++)
+        if (!*each->found) *each->found = find_next(each->name);
+}
+
+void *next_of(const char *name) {
+    void *found = find_next(name);
     if (!found) {
         fprintf(stderr, "nippersage: the C library has no %s\n", name);
         abort();

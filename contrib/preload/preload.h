@@ -79,13 +79,21 @@ struct nippersage_kernel *the_kernel(void);
 unsigned long calls(void);
 /* The C library's function of a name. It ends the program where there is none. */
 void *next_of(const char *name);
-/* next_NAME() is the C library's NAME. */
-#define FORWARD(name)                            \
-    static __typeof__(&name) next_##name(void) { \
-        static void *_Atomic found;              \
-        if (!found) found = next_of(#name);      \
-        return (__typeof__(&name))found;         \
+/* next_NAME() is the C library's NAME. All of them are kept in a list. */
+struct forward {
+    const char *name;
+    void *_Atomic *found;
+};
+#define IN_LIST __attribute__((section("forwards"), used))
+#define FORWARD(name)                                                            \
+    static void *_Atomic found_##name;                                           \
+    static const struct forward forward_##name IN_LIST = {#name, &found_##name}; \
+    static __typeof__(&name) next_##name(void) {                                 \
+        if (!found_##name) found_##name = next_of(#name);                        \
+        return (__typeof__(&name))found_##name;                                  \
     }
+/* Finds all that there are, for a child: another thread may hold the linker's lock at the fork. */
+void find_forwards(void);
 /* One line on standard error. */
 void say(const char *format, ...) __attribute__((format(printf, 1, 2)));
 /* The same, and -1 with this errno. */
