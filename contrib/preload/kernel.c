@@ -26,9 +26,8 @@ static void *find_next(const char *name) {
     return found ? found : dlsym(RTLD_NEXT, name);
 }
 
-#define HIDDEN __attribute__((visibility("hidden")))
 void find_forwards(void) {
-    extern const struct forward __start_forwards[] HIDDEN, __stop_forwards[] HIDDEN; /* the linker's */
+    extern const struct forward __start_forwards[], __stop_forwards[]; /* the linker's */
     for (const struct forward *each = __start_forwards; each < __stop_forwards; each++)
         if (!*each->found) *each->found = find_next(each->name);
 }
