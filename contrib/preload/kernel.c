@@ -26,8 +26,12 @@ static void *find_next(const char *name) {
     return found ? found : dlsym(RTLD_NEXT, name);
 }
 
+/* The linker makes these. */
+#pragma GCC visibility push(hidden)
+extern const struct forward __start_forwards[], __stop_forwards[];
+#pragma GCC visibility pop
+
 void find_forwards(void) {
-    extern const struct forward __start_forwards[], __stop_forwards[]; /* the linker's */
     for (const struct forward *each = __start_forwards; each < __stop_forwards; each++)
         if (!*each->found) *each->found = find_next(each->name);
 }
