@@ -13,6 +13,11 @@
 
 extern char **environ;
 
+/* Not to everybody, if there is no child. */
+static void send_to(pid_t child, int signal) {
+    if (child > 0) kill(child, signal);
+}
+
 /* How a child ended: its status, or minus the signal. */
 static int end_of(pid_t child) {
     int status = 0;
@@ -142,7 +147,7 @@ static void own_bytes(void) {
         usleep(10000);
         trace("own pipe: %ld %s", outcome(read(ends[0], bytes, 3)), bytes);
     }
-    kill(child, SIGKILL);
+    send_to(child, SIGKILL);
     trace("killed: %d", end_of(child));
     trace("own socket: %ld", outcome(write(sides[0], "abc", 3)));
     trace("own socket: %ld %s", outcome(read(sides[1], bytes, 3)), bytes);
@@ -229,7 +234,7 @@ static void full(void) {
     trace("a child that doesn't read: %d bytes", writes * 1024);
     file = (struct pollfd){in[1], POLLOUT, 0};
     trace("no room: %d", poll(&file, 1, 0));
-    kill(child, SIGTERM);
+    send_to(child, SIGTERM);
     trace("terminated: %d", end_of(child));
     poll(&file, 1, 1000);
     trace("broken: %d", (file.revents & POLLERR) != 0);
@@ -441,7 +446,7 @@ static void times(void) {
     trace("nothing comes: %d", poll(&file, 1, 200));
     passed = clock_now() - began;
     trace("after 0.2 s: %d", passed >= 200 && passed < 2000);
-    kill(child, SIGKILL);
+    send_to(child, SIGKILL);
     trace("killed: %d", end_of(child));
     close(out[0]);
     pipe(out);

@@ -14,6 +14,11 @@
 
 extern char **environ;
 
+/* Not to everybody, if there is no child. */
+static void send_to(pid_t child, int signal) {
+    if (child > 0) kill(child, signal);
+}
+
 static void tell(const char *name, long result) {
     printf("%s: %ld\n", name, outcome(result));
     fflush(stdout);
@@ -56,13 +61,13 @@ static void more_than_processes(void) {
     printf("children: %d\n", count);
     tell("posix_spawn", posix_spawn(&last, "/bin/true", NULL, NULL, (char *[]){"true", NULL}, environ));
     for (int i = 0; i < count; i++) {
-        kill(children[i], SIGKILL);
+        send_to(children[i], SIGKILL);
         ended += waitpid(children[i], NULL, 0) == children[i];
     }
     printf("ended: %d\n", ended);
     last = sleeper();
     printf("one more: %d\n", last > 0);
-    kill(last, SIGKILL);
+    send_to(last, SIGKILL);
     waitpid(last, NULL, 0);
 }
 

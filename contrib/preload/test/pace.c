@@ -9,6 +9,11 @@
 #include <sys/wait.h>
 #include <unistd.h>
 
+/* Not to everybody, if there is no child. */
+static void send_to(pid_t child, int signal) {
+    if (child > 0) kill(child, signal);
+}
+
 static pid_t run(const char *command, int out[2]) {
     pid_t child;
     pipe(out);
@@ -32,7 +37,7 @@ static void race(const char *command, int milliseconds) {
     found = poll(&file, 1, milliseconds);
     printf("%s: %s", command, found == 0 ? "the time" : "the child");
     printf(found == 0 ? " after %ld ms\n" : "\n", clock_now() - began);
-    kill(child, SIGKILL);
+    send_to(child, SIGKILL);
     waitpid(child, NULL, 0);
     close(out[0]);
 }
@@ -70,7 +75,7 @@ static void chatter(void) {
         lines++;
     }
     printf("the time comes: %d\n", lines > 2);
-    kill(child, SIGKILL);
+    send_to(child, SIGKILL);
     waitpid(child, NULL, 0);
     close(out[0]);
 }

@@ -16,6 +16,11 @@
 
 extern char **environ;
 
+/* Not to everybody, if there is no child. */
+static void send_to(pid_t child, int signal) {
+    if (child > 0) kill(child, signal);
+}
+
 static int end_of(pid_t child) {
     int status = 0;
     if (waitpid(child, &status, 0) != child) return -1000;
@@ -175,15 +180,15 @@ static void pidfds(void) {
 static void stopped(void) {
     char *words[] = {"sleep", "100", NULL};
     int status = 0;
-    pid_t child;
+    pid_t child = -1;
     posix_spawnp(&child, "sleep", NULL, NULL, words, environ);
-    kill(child, SIGSTOP);
+    send_to(child, SIGSTOP);
     waitpid(child, &status, WUNTRACED);
     trace("stopped: %d %d", WIFSTOPPED(status), WSTOPSIG(status));
-    kill(child, SIGCONT);
+    send_to(child, SIGCONT);
     waitpid(child, &status, WCONTINUED);
     trace("goes on: %d", WIFCONTINUED(status));
-    kill(child, SIGTERM);
+    send_to(child, SIGTERM);
     trace("ended: %d", end_of(child));
 }
 

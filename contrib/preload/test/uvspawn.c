@@ -40,7 +40,7 @@ static void on_shut(uv_shutdown_t *done, int status) {
 
 static void on_timer(uv_timer_t *handle) {
     trace("it sleeps");
-    trace("killed: %d", uv_process_kill(&child, SIGTERM));
+    trace("killed: %d", uv_process_get_pid(&child) > 0 ? uv_process_kill(&child, SIGTERM) : -1);
     uv_close((uv_handle_t *)handle, NULL);
 }
 
