@@ -19,6 +19,7 @@
 #include <sys/syscall.h>
 #include <sys/time.h>
 #include <sys/timex.h>
+#include <sys/wait.h>
 #include <unistd.h>
 #include <utime.h>
 
@@ -150,6 +151,26 @@ static void signals(void) {
     tell("another owner", fcntl(0, F_SETOWN, getpid()));
 }
 
+/* A child that runs no other program has times in its memory that were made up. */
+static void in_child(const char *path) {
+    struct timespec both[2];
+    pid_t child;
+    clock_gettime(CLOCK_REALTIME, &both[0]);
+    both[1] = both[0];
+    child = fork();
+    if (child == 0) {
+        tell("in a child, clock_settime", clock_settime(CLOCK_REALTIME, &both[0]));
+        tell("in a child, by number", syscall(SYS_clock_settime, CLOCK_REALTIME, &both[0]));
+        tell("in a child, its parent's time", utimensat(AT_FDCWD, path, both, 0));
+        clock_gettime(CLOCK_REALTIME, &both[0]);
+        both[1] = both[0];
+        tell("in a child, its own time", utimensat(AT_FDCWD, path, both, 0));
+        tell("in a child, kill", kill(-1, SIGTERM));
+        _exit(0);
+    }
+    tell("the child", waitpid(child, NULL, 0) == child ? 0 : -1);
+}
+
 int main(void) {
     char path[] = "/tmp/nippersage-harm-XXXXXX";
     int file;
@@ -162,6 +183,7 @@ int main(void) {
     file = mkstemp(path);
     made_up_times(path, file);
     other_times(path, file);
+    in_child(path);
     unlink(path);
     signals();
     return 0;
