@@ -383,13 +383,13 @@ bool move_in_wait(void) {
 /* A program that never waits is to hear of its children, too. It is a little slower than the real clock then. */
 void look_for_nothing(void) {
     static const struct timespec a_while = {0, 1000000};
-    if (!has_children() || atomic_fetch_add(&idle, 1) < MOST_IDLE) return;
+    if (atomic_fetch_add(&idle, 1) < MOST_IDLE) return;
     if (!move_bytes()) sleep_with_children(&a_while);
     move_bytes();
 }
 
 void look_if_busy(void) {
-    if (has_children() && atomic_fetch_add(&busy, 1) >= MOST_BUSY) move_bytes();
+    if (atomic_fetch_add(&busy, 1) >= MOST_BUSY) move_bytes();
 }
 
 /* ---- the end of the program ---- */

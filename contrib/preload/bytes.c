@@ -118,7 +118,7 @@ ssize_t take(int fd, char *bytes, size_t count, int flags, const char *call) {
                                : read_some(fd, description, bytes + done, count - done);
         if (got > 0) done += (size_t)got;
         goes_on = got == -EAGAIN ? may_wait(description, flags) : got > 0 && (flags & MSG_WAITALL) && done < count;
-        if (got == -EAGAIN && !goes_on) look_for_nothing();
+        if (got == -EAGAIN && !goes_on && has_children()) look_for_nothing();
         if (got != -EAGAIN || !goes_on) continue;
         got = wait_for_arrival(&block, fd, EPOLLIN);
         goes_on = got == 0;
@@ -153,7 +153,7 @@ ssize_t give(int fd, const char *bytes, size_t count, int flags, const char *cal
         taken = write_some(fd, description, bytes + done, count - done);
         if (taken > 0) done += (size_t)taken;
         goes_on = has_more(description, taken, done == count, flags);
-        if (taken == -EAGAIN && !goes_on) look_for_nothing();
+        if (taken == -EAGAIN && !goes_on && has_children()) look_for_nothing();
         if (taken != -EAGAIN || !goes_on) continue;
         taken = wait_for_arrival(&block, fd, EPOLLOUT);
         goes_on = taken == 0;

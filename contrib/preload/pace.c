@@ -35,15 +35,17 @@ static void pay(uint64_t real) {
 }
 
 bool may_go_to(uint64_t moment) {
-    uint64_t slower = settings()->child_time, now = moment_now(), real;
+    uint64_t slower, now, real;
     bool so;
     if (!has_children()) return true;
     if (!is_time_held()) {
         forget_time();
         return true;
     }
+    slower = settings()->child_time;
     if (slower == 0) return false;
     QUIET_WITHIN;
+    now = moment_now();
     real = moment > now ? (moment - now) * slower : 0;
     pthread_mutex_lock(&lock);
     so = since >= real;
@@ -69,8 +71,9 @@ void pay_at_answer(void) {
 /* A program that polls sees a millisecond pass for a millisecond of real time. */
 bool may_take_a_while(void) {
     static _Atomic uint64_t last;
-    uint64_t slower = settings()->child_time, now;
+    uint64_t slower, now;
     if (!has_children() || !is_time_held()) return true;
+    slower = settings()->child_time;
     now = real_moment();
     if (slower == 0 || now - atomic_load(&last) < MILLISECOND * slower) return false;
     atomic_store(&last, now);

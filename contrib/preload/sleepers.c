@@ -409,7 +409,7 @@ int wait_at(const struct wait *wait) {
     me.outer = this_thread.innermost;
     me.depth = this_thread.depth;
     if (wait->timeout >= 0) me.end = moment_now() + (uint64_t)wait->timeout;
-    look_if_busy();
+    if (has_children()) look_if_busy();
     pthread_mutex_lock(&lock);
     me.result = park(&me);
     if (me.result == NIPPERSAGE_PARKED) {

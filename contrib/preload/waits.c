@@ -41,7 +41,7 @@ static struct timeout in_short_time(const struct timeval *given) {
 /* A poll that finds nothing takes a while: a program that polls may do so until its clock has gone on. */
 static void take_a_while(int found, int64_t units) {
     if (found != 0 || units != 0) return;
-    look_for_nothing();
+    if (has_children()) look_for_nothing();
     let_clock_go_on();
 }
 
