@@ -130,8 +130,20 @@ static void go_outside(void) {
     unlock_all();
 }
 
-__attribute__((constructor(101))) static void hear_of_forks(void) {
-    pthread_atfork(prepare, go_on_in_parent, go_outside);
+/* What pthread_atfork calls. Libraries may be begun before this one, and have handlers then. */
+int __register_atfork(void (*before)(void), void (*parent)(void), void (*child)(void), void *library);
+FORWARD(__register_atfork)
+
+static void hear_of_forks(void) { next___register_atfork()(prepare, go_on_in_parent, go_outside, NULL); }
+
+__attribute__((constructor(101))) static void hear_of_forks_first(void) {
+    static pthread_once_t heard = PTHREAD_ONCE_INIT;
+    pthread_once(&heard, hear_of_forks);
+}
+
+int __register_atfork(void (*before)(void), void (*parent)(void), void (*child)(void), void *library) {
+    hear_of_forks_first();
+    return next___register_atfork()(before, parent, child, library);
 }
 
 /* ---- the fork ---- */
@@ -159,8 +171,9 @@ static void meet_child(struct child *child, pid_t pid) {
     unlock_table();
 }
 
-/* There is no child after all: what it would have had is closed. */
+/* There is no child after all: what it would have had is closed. Whoever counts it takes it back. */
 static void unmake_child(struct child *child) {
+    atomic_fetch_add(&processes, 1);
     lock_table();
     for (struct end *end = all_ends; end; end = end->next)
         if (end->process == child->process && end->description) end_end_of_child(end);
@@ -199,30 +212,29 @@ static pid_t fork_once(bool runs_handlers) {
     return pid;
 }
 
-static pid_t refuse_fork(pid_t status) {
-    if (status == -EMFILE) say("fork: the hard limit on open files is too low for the real pipes of a child");
-    return status;
-}
-
 /* One process of the kernel is the program's own. */
-static pid_t fork_counted(bool runs_handlers, const char *call) {
+static pid_t fork_counted(bool runs_handlers) {
+    int most = (int)settings()->limits.processes;
     pid_t pid = -EAGAIN;
     QUIET;
     pthread_once(&once, find_forwards);
-    if (atomic_fetch_add(&processes, 1) < (int)settings()->limits.processes) pid = fork_once(runs_handlers);
+    if (atomic_fetch_add(&processes, 1) < most) {
+        pid = fork_once(runs_handlers);
+    } else {
+        say("fork: the simulated kernel has no more than %d processes (NIPPERSAGE_LIMITS)", most);
+    }
     if (pid < 0) atomic_fetch_sub(&processes, 1);
-    if (pid == -EAGAIN) say("%s: the simulated kernel has no more than %u processes (NIPPERSAGE_LIMITS)", call,
-                            settings()->limits.processes);
-    return (pid_t)ANSWER(pid < 0 ? refuse_fork(pid) : pid, "%s()", call);
+    if (pid == -EMFILE) say("fork: the hard limit on open files is too low for the real pipes of a child");
+    return (pid_t)ANSWER(pid, "fork()");
 }
 
-pid_t fork(void) { return is_outside ? next_fork()() : fork_counted(true, "fork"); }
+pid_t fork(void) { return is_outside ? next_fork()() : fork_counted(true); }
 
 pid_t fork_quietly(int keeps) {
     pid_t pid;
     HAND_ON(next__Fork()());
     kept = keeps;
-    pid = fork_counted(false, "fork");
+    pid = fork_counted(false);
     kept = NONE;
     return pid;
 }
