@@ -452,14 +452,17 @@ static void move_until(uint64_t end) {
     }
 }
 
+/* What passes while it computes isn't counted, but what it waits for a processor is. */
 uint64_t spend_a_turn(const struct timespec *turn) {
-    static uint64_t last;
-    uint64_t before = last;
+    static uint64_t last, computed;
+    uint64_t before = last - computed;
+    bool is_first = last == 0;
     if (!has_children()) {
         next_nanosleep()(turn, NULL);
         return last = 0;
     }
     move_until(real_moment() + (uint64_t)units_of(turn));
     last = real_moment();
-    return before > 0 ? last - before : 0;
+    computed = computed_until_now();
+    return is_first || last - computed < before ? 0 : last - computed - before;
 }

@@ -36,11 +36,15 @@ static _Thread_local struct child *made;
 static _Thread_local int make_error;
 static atomic_int processes = 1; /* of the simulated kernel, and those that forks are about to make */
 
-uint64_t real_moment(void) {
+static uint64_t real_time(clockid_t clock) {
     struct timespec now;
-    next_clock_gettime()(CLOCK_MONOTONIC, &now);
+    next_clock_gettime()(clock, &now);
     return (uint64_t)units_of(&now);
 }
+
+uint64_t real_moment(void) { return real_time(CLOCK_MONOTONIC); }
+
+uint64_t computed_until_now(void) { return real_time(CLOCK_PROCESS_CPUTIME_ID); }
 
 /* No thread has this caller's number: all calls for children are made under the table's lock. */
 struct nippersage_task acting(uint64_t process) {
@@ -163,7 +167,7 @@ static void meet_child(struct child *child, pid_t pid) {
         long opened = RAW(SYS_pidfd_open, pid, 0);
         if (opened >= 0) RAW(SYS_dup3, opened, child->pidfd, O_CLOEXEC);
         if (opened >= 0) RAW(SYS_close, opened);
-        if (opened < 0) note_end(child); /* another thread has waited for it */
+        if (opened == -ESRCH) note_end(child); /* another thread has waited for it */
         lower_real_limit(&before);
     }
     for (struct end *end = all_ends; end; end = end->next)
@@ -256,7 +260,10 @@ void note_reaped(pid_t pid) {
     QUIET;
     lock_table();
     for (struct child *child = all_children; child; child = child->next)
-        if (child->pid == pid) child->is_reaped = true;
+        if (child->pid == pid) {
+            child->is_reaped = true;
+            if (!child->has_ended) note_end(child);
+        }
     unlock_table();
 }
 

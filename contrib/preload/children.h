@@ -50,8 +50,9 @@ struct child {
 
 extern struct child *all_children; /* in the order of their forks */
 extern struct end *all_ends;       /* in the order of their children, and of their numbers */
-/* Real time, in UNITs. */
+/* Real time, and what all processors have spent on this program, in UNITs. */
 uint64_t real_moment(void);
+uint64_t computed_until_now(void);
 /* The shim in a process of the simulated kernel. */
 struct nippersage_task acting(uint64_t process);
 /* A child has closed what it wrote to, as it does at its end: both can be seen at once if one waits a little. Whether a

@@ -385,8 +385,8 @@ void look_for_nothing(void);
 void look_if_busy(void);
 /* Sleeps in the real kernel until there is something to move, or a signal, or for so long; handlers may run. */
 void sleep_with_children(const struct timespec *most);
-/* The same for the thread that watches the others, which moves bytes for those that sleep in the real kernel. How much
-   real time has passed since its last turn, if there are children. */
+/* The same for the thread that watches the others, which moves bytes for those that sleep in the real kernel. For how
+   much real time the program has not computed since its last turn, if there are children. */
 uint64_t spend_a_turn(const struct timespec *turn);
 /* Before the program reads bytes by itself: those that were shown to a child come back. Under the table's lock. */
 void claim_shown(struct description *description);

@@ -150,7 +150,7 @@ static _Noreturn void *watch(void *nothing) {
         passed = spend_a_turn(&a_while);
         quiet = calls() == before ? quiet + 1 : 0;
         still = quiet > 0 && all_sleep() ? still + 1 : 0;
-        if (still > 0 && has_children() && !are_all_asleep()) pass_time(passed);
+        if (has_children() && !are_all_asleep()) pass_time(passed);
         if ((still > 1 || quiet > A_SECOND) && move_clock()) {
             quiet = still = 0;
         } else {
