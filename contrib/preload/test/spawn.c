@@ -192,7 +192,8 @@ static void stopped(void) {
     trace("ended: %d", end_of(child));
 }
 
-/* So many descriptors has this process, told by a child that looks some times: who reads in /proc has one for a moment. */
+/* So many descriptors has this process, told by a child that looks some times: who reads in /proc has one for a
+   moment. */
 static void count_descriptors(const char *name) {
     char command[150];
     posix_spawn_file_actions_t actions;
@@ -203,8 +204,8 @@ static void count_descriptors(const char *name) {
     pipe2(out, O_CLOEXEC);
     posix_spawn_file_actions_init(&actions);
     posix_spawn_file_actions_adddup2(&actions, out[1], 1);
-    snprintf(command, sizeof command, "for i in 1 2 3 4 5 6; do sleep 0.1; ls /proc/%d/fd | wc -l; done | sort -n | head -n 1",
-             getpid());
+    snprintf(command, sizeof command,
+             "for i in 1 2 3 4 5 6; do sleep 0.1; ls /proc/%d/fd | wc -l; done | sort -n | head -n 1", getpid());
     posix_spawn(&child, "/bin/sh", &actions, NULL, words, environ);
     posix_spawn_file_actions_destroy(&actions);
     close(out[1]);
