@@ -64,14 +64,14 @@ static void files(void) {
     posix_spawn_file_actions_init(&actions);
     trace("dup2 of none: %d", posix_spawn_file_actions_adddup2(&actions, -1, 5));
     trace("close of none: %d", posix_spawn_file_actions_addclose(&actions, -1));
-    posix_spawn_file_actions_addopen(&actions, 7, "/etc/hostname", O_RDONLY, 0);
-    posix_spawn_file_actions_addopen(&actions, 8, "/dev/null", O_WRONLY, 0);
-    posix_spawn_file_actions_addclose(&actions, 8);
-    posix_spawn_file_actions_addclose(&actions, 99);
+    posix_spawn_file_actions_addopen(&actions, 107, "/etc/hostname", O_RDONLY, 0);
+    posix_spawn_file_actions_addopen(&actions, 108, "/dev/null", O_WRONLY, 0);
+    posix_spawn_file_actions_addclose(&actions, 108);
+    posix_spawn_file_actions_addclose(&actions, 199);
     posix_spawn_file_actions_addchdir_np(&actions, "/usr/lib");
-    posix_spawn_file_actions_adddup2(&actions, other[0], 9);
+    posix_spawn_file_actions_adddup2(&actions, other[0], 109);
     ask("files",
-        "pwd; cd /proc/self/fd; test -e 7 && echo 7; test -e 8 || echo no 8; test -p 9 && echo 9", &actions, NULL);
+        "pwd; cd /proc/self/fd; test -e 107 && echo 7; test -e 108 || echo no 8; test -p 109 && echo 9", &actions, NULL);
     posix_spawn_file_actions_destroy(&actions);
     posix_spawn_file_actions_init(&actions);
     posix_spawn_file_actions_adddup2(&actions, other[1], 1);
@@ -82,7 +82,7 @@ static void files(void) {
     trace("closefrom, ended: %d", end_of(child));
     posix_spawn_file_actions_destroy(&actions);
     posix_spawn_file_actions_init(&actions);
-    posix_spawn_file_actions_addopen(&actions, 7, "/no/such/file", O_RDONLY, 0);
+    posix_spawn_file_actions_addopen(&actions, 107, "/no/such/file", O_RDONLY, 0);
     ask("a missing file", "echo no", &actions, NULL);
     posix_spawn_file_actions_destroy(&actions);
     posix_spawn_file_actions_init(&actions);
