@@ -159,7 +159,7 @@ int setitimer(__itimer_which_t which, const struct itimerval *given, struct itim
     struct itimerspec value, was;
     int status;
     QUIET;
-    if (which != ITIMER_REAL) return next_setitimer()(which, given, before);
+    if (is_outside || which != ITIMER_REAL) return next_setitimer()(which, given, before);
     if (!READABLE_OR_NULL(given) || !WRITABLE_OR_NULL(before)) return (int)ANSWER(-EFAULT, "setitimer(ITIMER_REAL)");
     value.it_value = given ? nanoseconds_of(&given->it_value) : (struct timespec){0, 0};
     value.it_interval = given ? nanoseconds_of(&given->it_interval) : (struct timespec){0, 0};
@@ -171,7 +171,7 @@ int setitimer(__itimer_which_t which, const struct itimerval *given, struct itim
 int getitimer(__itimer_which_t which, struct itimerval *now) {
     struct itimerspec setting;
     QUIET;
-    if (which != ITIMER_REAL) return next_getitimer()(which, now);
+    if (is_outside || which != ITIMER_REAL) return next_getitimer()(which, now);
     if (!WRITABLE(now)) return (int)ANSWER(-EFAULT, "getitimer(ITIMER_REAL, %p)", (void *)now);
     tell(alarms, &setting);
     *now = itimerval_of(&setting);
@@ -182,6 +182,7 @@ int getitimer(__itimer_which_t which, struct itimerval *now) {
 unsigned int alarm(unsigned int seconds) {
     struct itimerspec value = {.it_value = {seconds, 0}}, before;
     unsigned int left;
+    HAND_ON((unsigned int)RAW(SYS_alarm, seconds));
     QUIET;
     set(alarms, false, &value, &before);
     left = (unsigned int)before.it_value.tv_sec;
@@ -231,7 +232,7 @@ static int make(clockid_t clock, const struct sigevent *event, timer_t *made) {
 int timer_create(clockid_t clock, struct sigevent *restrict event, timer_t *restrict made) {
     int status;
     QUIET;
-    if (!is_clock(clock)) return next_timer_create()(clock, event, made);
+    if (is_outside || !is_clock(clock)) return next_timer_create()(clock, event, made);
     if (!READABLE_OR_NULL(event) || !WRITABLE(made))
         return (int)ANSWER(-EFAULT, "timer_create(%s)", clock_text(TEXT, clock));
     if (event && event->sigev_notify == SIGEV_THREAD)

@@ -41,6 +41,7 @@ static size_t most_of(const struct description *description, size_t count) {
 static ssize_t read_part(int fd, struct description *description, char *bytes, size_t count) {
     ssize_t got = -EBADF;
     lock_table();
+    if (description->shown > 0) claim_shown(description);
     if (names(fd, description))
         got = can_write(bytes, most_of(description, count)) ? nippersage_read(self(), fd - FIRST, bytes, count)
                                                             : -EFAULT;
@@ -76,10 +77,11 @@ static ssize_t read_some(int fd, struct description *description, char *bytes, s
 }
 
 /* Shows what is there, and leaves it. Where nothing is, a read tells why, and takes nothing. */
-static ssize_t peek_some(int fd, const struct description *description, char *bytes, size_t count) {
+static ssize_t peek_some(int fd, struct description *description, char *bytes, size_t count) {
     ssize_t got = -EBADF;
     char none;
     lock_table();
+    if (description->shown > 0) claim_shown(description);
     if (names(fd, description))
         got = can_write(bytes, most_of(description, count))
                   ? (ssize_t)look_at_waiting(&description->waiting, bytes, count)
@@ -109,6 +111,12 @@ static bool may_wait(const struct description *description, int flags) {
     return !(flags & MSG_DONTWAIT) && !description->is_nonblocking;
 }
 
+/* A pidfd has no bytes. */
+static ssize_t not_of_pidfd(struct description *description) {
+    let_go(description);
+    return -EINVAL;
+}
+
 ssize_t take(int fd, char *bytes, size_t count, int flags, const char *call) {
     QUIET;
     struct description *description = hold(fd);
@@ -117,12 +125,15 @@ ssize_t take(int fd, char *bytes, size_t count, int flags, const char *call) {
     ssize_t got;
     bool goes_on = true;
     if (!description) return -EBADF;
+    if (description->kind == PIDFD) return not_of_pidfd(description);
+    description->is_read_here = true;
     block = begin_block(description->options.receive_time, call);
     while (goes_on) {
         got = flags & MSG_PEEK ? peek_some(fd, description, bytes, count)
                                : read_some(fd, description, bytes + done, count - done);
         if (got > 0) done += (size_t)got;
         goes_on = got == -EAGAIN ? may_wait(description, flags) : got > 0 && (flags & MSG_WAITALL) && done < count;
+        if (got == -EAGAIN && !goes_on && has_children()) look_for_nothing();
         if (got != -EAGAIN || !goes_on) continue;
         got = wait_for_arrival(&block, fd, EPOLLIN);
         goes_on = got == 0;
@@ -152,11 +163,13 @@ ssize_t give(int fd, const char *bytes, size_t count, int flags, const char *cal
     ssize_t taken;
     bool goes_on = true;
     if (!description) return -EBADF;
+    if (description->kind == PIDFD) return not_of_pidfd(description);
     block = begin_block(description->options.send_time, call);
     while (goes_on) {
         taken = write_some(fd, description, bytes + done, count - done);
         if (taken > 0) done += (size_t)taken;
         goes_on = has_more(description, taken, done == count, flags);
+        if (taken == -EAGAIN && !goes_on && has_children()) look_for_nothing();
         if (taken != -EAGAIN || !goes_on) continue;
         taken = wait_for_arrival(&block, fd, EPOLLOUT);
         goes_on = taken == 0;
@@ -231,9 +244,10 @@ static ssize_t give_vectors(int fd, const struct iovec *vectors, int count, int 
 /* A call on a real descriptor. It may be a socket that has a timeout. */
 #define IN_TIME(fd, option, flags, call)                                           \
     __extension__({                                                                \
-        int64_t longest = has_timeouts ? timeout_of_real(fd, option, flags) : 0;   \
+        int64_t longest = 0;                                                       \
         struct timed outside;                                                      \
         ssize_t answer;                                                            \
+        if (has_timeouts && !is_outside) longest = timeout_of_real(fd, option, flags); \
         if (longest > 0) begin_outside(&outside, longest);                         \
         answer = (call);                                                           \
         if (longest > 0) end_outside(&outside, answer < 0 && errno == EAGAIN);     \
@@ -361,15 +375,30 @@ ssize_t sendmsg(int fd, const struct msghdr *message, int flags) {
     return ANSWER(taken, "sendmsg(%d, ..., %#x)", fd, flags);
 }
 
+/* A child that reads there has to hear of it. */
+static void note_shut(struct description *description) {
+    lock_table();
+    description->is_shut = true;
+    unlock_table();
+}
+
+static void note_peer_shut(struct description *description) {
+    lock_table();
+    if (description->peer) description->peer->is_shut = true;
+    unlock_table();
+}
+
 /* To shut a socket for reading is to shut its peer for writing. A peer that is closed is shut already. */
 static int shut(int fd, int how) {
     struct description *description = hold(fd);
     int status = !description ? -EBADF : description->kind != SOCKET ? -ENOTSOCK : 0, peer;
     if (status == 0 && (how < SHUT_RD || how > SHUT_RDWR)) status = -EINVAL;
     if (status == 0 && how != SHUT_RD) status = nippersage_shutdown(self(), fd - FIRST, SHUT_WR);
+    if (status == 0 && how != SHUT_RD) note_shut(description);
     if (status == 0 && how != SHUT_WR) {
         peer = number_of_peer(description);
         if (peer >= 0) status = nippersage_shutdown(self(), peer, SHUT_WR);
+        if (status == 0) note_peer_shut(description);
     }
     if (description) let_go(description);
     return status;

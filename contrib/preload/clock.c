@@ -9,8 +9,12 @@
 FORWARD(clock_gettime)
 FORWARD(clock_nanosleep)
 
+static uint64_t left_at = START; /* in a child: the moment of the fork */
+
+void keep_moment(void) { left_at = moment_now(); }
+
 uint64_t moment_now(void) {
-    struct timespec now = timespec_of(START);
+    struct timespec now = timespec_of(left_at);
     QUIET;
     nippersage_now(the_kernel(), &now);
     return (uint64_t)units_of(&now);
@@ -56,7 +60,7 @@ void let_clock_go_on(void) {
     uint64_t step, end, next;
     QUIET;
     step = step_for_asking();
-    if (step == 0) return;
+    if (step == 0 || !may_take_a_while()) return;
     end = moment_now() + step;
     bring_clock_to(next_moment(&next) && next < end ? next : end);
 }
@@ -116,15 +120,20 @@ void count_vain(void) {
 }
 
 int clock_gettime(clockid_t clock, struct timespec *time) {
-    if (!is_clock(clock)) return next_clock_gettime()(clock, time);
+    if (is_outside || !is_clock(clock)) return next_clock_gettime()(clock, time);
     if (!WRITABLE(time)) return (int)plain_answer(-EFAULT);
     *time = timespec_of(moment_asked());
     if (is_of_day(clock)) time->tv_sec += EPOCH_SECONDS;
     return 0;
 }
 
+FORWARD(gettimeofday)
+FORWARD(time)
+
 int gettimeofday(struct timeval *restrict time, void *restrict zone) {
-    struct timespec now = timespec_of(moment_asked());
+    struct timespec now;
+    HAND_ON(next_gettimeofday()(time, zone));
+    now = timespec_of(moment_asked());
     if (!WRITABLE(time) || (zone && !can_write(zone, sizeof(struct timezone)))) return (int)plain_answer(-EFAULT);
     *time = (struct timeval){EPOCH_SECONDS + now.tv_sec, now.tv_nsec / 1000};
     if (zone) memset(zone, 0, sizeof(struct timezone));
@@ -136,7 +145,9 @@ int timespec_get(struct timespec *time, int base) {
 }
 
 time_t time(time_t *told) {
-    time_t now = EPOCH_SECONDS + timespec_of(moment_asked()).tv_sec;
+    time_t now;
+    HAND_ON(next_time()(told));
+    now = EPOCH_SECONDS + timespec_of(moment_asked()).tv_sec;
     if (!WRITABLE_OR_NULL(told)) return plain_answer(-EFAULT);
     if (told) *told = now;
     return now;
@@ -157,7 +168,7 @@ static int sleep_or_break(int64_t units, struct timespec *left) {
 int clock_nanosleep(clockid_t clock, int flags, const struct timespec *time, struct timespec *left) {
     int64_t units, now = (int64_t)moment_now();
     int error, saved = errno;
-    if (!is_clock(clock)) return next_clock_nanosleep()(clock, flags, time, left);
+    if (is_outside || !is_clock(clock)) return next_clock_nanosleep()(clock, flags, time, left);
     if (!READABLE(time)) return EFAULT;
     units = units_of(time);
     if (units < 0) return EINVAL;
@@ -205,7 +216,11 @@ static void from_day(struct timespec *time) {
     if (time->tv_sec == 0 && time->tv_nsec == 0) time->tv_nsec = UNIT;
 }
 
+FORWARD(timerfd_settime)
+FORWARD(timerfd_gettime)
+
 int timerfd_settime(int fd, int flags, const struct itimerspec *value, struct itimerspec *before) {
+    HAND_ON(next_timerfd_settime()(fd, flags, value, before));
     QUIET;
     struct description *description = hold(fd);
     struct itimerspec kept;
@@ -223,6 +238,7 @@ int timerfd_settime(int fd, int flags, const struct itimerspec *value, struct it
 }
 
 int timerfd_gettime(int fd, struct itimerspec *now) {
+    HAND_ON(next_timerfd_gettime()(fd, now));
     QUIET;
     struct description *description = hold(fd);
     if (description) count_vain();

@@ -4,11 +4,15 @@
  * - real_call, which is the shim itself, may call anything.
  * - Calls of the program and its libraries are stopped. The real kernel sends SIGSYS, and the handler here answers as
  *   the shim's function of that name does, with its line. But the C library has all signals blocked while it makes a
- *   process, so that SIGSYS would end the program: there clone and clone3 are ENOSYS, without a line. After that answer
- *   of clone3 it makes its threads by clone, which may make them.
- * - Everybody else is left alone. A filter stays over fork and exec, so this is for a program that a process of this
- *   one were to run: if it asks for another layout before (personality(2), ADDR_COMPAT_LAYOUT), its libraries lie
- *   outside of what is judged here. But one that has calls of its own at the addresses of this program is stopped.
+ *   process by clone3 or vfork, so that SIGSYS would end the program: there clone and clone3 are ENOSYS, without a line.
+ *   After that answer of clone3 it makes its threads by clone, which may make them.
+ * - The C library's fork is one instruction. The shim forks by it, and the handler makes that call, as it does in a
+ *   child; to others it is ENOSYS.
+ * - A child has the filter, too, at the same addresses. There the handler makes what is asked for, but for what would
+ *   do harm.
+ * - Everybody else is left alone. A filter stays over fork and exec, so this is for a program that a child runs: it has
+ *   another layout (personality(2), ADDR_COMPAT_LAYOUT), by which its libraries lie outside of what is judged here. But
+ *   one that has calls of its own at the addresses of this program is stopped.
  * - The machine's clocks are closed to all of them.
  *
  * A handler that is blocked can't answer, so no mask of the program's has SIGSYS in the real kernel. The program is
@@ -24,6 +28,7 @@
 #include <linux/sockios.h>
 #include <sched.h>
 #include <stdlib.h>
+#include <sys/personality.h>
 #include <sys/prctl.h>
 #include <sys/resource.h>
 #include <sys/socket.h>
@@ -35,6 +40,8 @@
 #define RUNNING_ON_VALGRIND 0
 #endif
 
+FORWARD(_Fork)
+FORWARD(getrlimit)
 FORWARD(pthread_sigmask)
 
 /* ---- the shim's own calls ---- */
@@ -64,7 +71,7 @@ __asm__(".text\n"
 enum { MARK = 0x4e53, BY_FILTER = 1 };
 
 /* Where it goes on: at a place, or after so many instructions more. */
-enum target { KILL, IOCTL, FCNTL, CLONE, UNSHARE, PAIR, TIMER, LIMIT, LIMIT_OF, NEW_LIMIT, FOREIGN, FOREIGN_IOCTL, DOOR,
+enum target { KILL, IOCTL, FCNTL, CLONE, FORK, UNSHARE, PAIR, TIMER, LIMIT, LIMIT_OF, NEW_LIMIT, FOREIGN, FOREIGN_IOCTL, DOOR,
               PROCESS, CLOCK, CALLER, INSIDE, ALLOW, ABSENT, PLACES };
 #define SKIP(count) (PLACES + (count))
 #define NEXT SKIP(0)
@@ -128,6 +135,29 @@ static void join_places(struct filter *filter) {
         filter->code[i].jf = distance(filter, i, filter->otherwise[i]);
     }
 }
+
+/* ---- forks of the C library ---- */
+
+/* All of its forks are made by one instruction, which is the first one of _Fork that makes a call; clone has the number
+   56. From glibc 2.41 on there is another call before it: all signals are blocked then, and no handler could answer. */
+static bool asks_by_signal;
+
+/* Behind that instruction, or 0. */
+static uint64_t fork_place(void) {
+    static const unsigned char by_clone[] = {0xb8, SYS_clone, 0, 0, 0, 0x0f, 0x05};
+    enum { CALLS = sizeof by_clone - 2, MOST = 512 };
+    const unsigned char *code = (const unsigned char *)(uintptr_t)next__Fork();
+    const unsigned char *end = memmem(code, MOST, by_clone, sizeof by_clone);
+    if (!end || RUNNING_ON_VALGRIND) return 0;
+    end += sizeof by_clone;
+    asks_by_signal = !memmem(code, (size_t)(end - code) - 2, by_clone + CALLS, 2) &&
+                     !memchr(code, 0xe8, (size_t)(end - code) - 2);
+    return (uint64_t)(uintptr_t)end;
+}
+
+static bool has_filter;
+
+bool can_fork(void) { return !has_filter || RUNNING_ON_VALGRIND || fork_place() != 0; }
 
 /* ---- which calls ---- */
 
@@ -200,6 +230,16 @@ static void put_clock_requests(struct filter *filter, enum target place, int oth
     if_equal(filter, (uint32_t)RTC_WKALM_SET, CLOCK, otherwise);
 }
 
+/* The C library's own forks: the handler knows those of the shim, and of a child. */
+static void put_fork(struct filter *filter) {
+    uint64_t place = fork_place();
+    begin_place(filter, FORK);
+    load(filter, offsetof(struct seccomp_data, instruction_pointer) + sizeof(uint32_t));
+    if_equal(filter, (uint32_t)(place >> 32), NEXT, PROCESS);
+    load(filter, offsetof(struct seccomp_data, instruction_pointer));
+    if_equal(filter, (uint32_t)place, asks_by_signal ? DOOR : ALLOW, PROCESS);
+}
+
 /* Those of which only some are stopped, by what is asked. Behind a pointer looks the handler. */
 static void put_requests(struct filter *filter) {
     put_clock_requests(filter, FOREIGN_IOCTL, DOOR);
@@ -220,8 +260,9 @@ static void put_requests(struct filter *filter) {
     begin_place(filter, CLONE); /* what shares memory and descriptors is as a thread: sanitizers look for leaks so */
     load_argument(filter, 0);
     if_has(filter, CLONE_THREAD, ALLOW, NEXT);
-    if_has(filter, CLONE_VM, NEXT, PROCESS);
+    if_has(filter, CLONE_VM, NEXT, FORK);
     if_has(filter, CLONE_FILES, ALLOW, PROCESS);
+    put_fork(filter);
     begin_place(filter, UNSHARE);
     load_argument(filter, 0);
     if_has(filter, CLONE_FILES, DOOR, ALLOW);
@@ -357,7 +398,64 @@ static bool set_filter(struct sock_fprog *program) {
     return prctl(PR_SET_SECCOMP, SECCOMP_MODE_FILTER, program) == 0;
 }
 
+/* ---- other programs ---- */
+
+/* A filter stays over exec, and this one knows its program by where its libraries lie. So another one lies elsewhere: it
+   has the older layout, unless this one has it. That is what a stack without bound makes. */
+struct layout {
+    long before;
+    struct rlimit stack;
+};
+
+static void begin_layout(struct layout *layout) {
+    static const uint64_t older = 0x400000000000;
+    enum { A_STACK = 8 << 20 };
+    layout->before = RAW(SYS_personality, UINT32_MAX);
+    next_getrlimit()(RLIMIT_STACK, &layout->stack);
+    if ((uint64_t)(uintptr_t)behind_call >= older) {
+        RAW(SYS_personality, layout->before | ADDR_COMPAT_LAYOUT);
+    } else {
+        struct rlimit bounded = {A_STACK, layout->stack.rlim_max};
+        RAW(SYS_personality, layout->before & ~(long)ADDR_COMPAT_LAYOUT);
+        if (layout->stack.rlim_cur == RLIM_INFINITY) RAW(SYS_setrlimit, RLIMIT_STACK, &bounded);
+    }
+}
+
+static void end_layout(const struct layout *layout) {
+    RAW(SYS_personality, layout->before);
+    RAW(SYS_setrlimit, RLIMIT_STACK, &layout->stack);
+}
+
+long run_program(long number, const long given[6]) {
+    struct layout layout;
+    long result;
+    begin_layout(&layout);
+    result = real_call(number, given[0], given[1], given[2], given[3], given[4], given[5]);
+    end_layout(&layout);
+    return result;
+}
+
 /* ---- the answers ---- */
+
+/* A call of a child: all is real that would do no harm. */
+static long answer_child(long number, const long given[6]) {
+    long result;
+    if (number == SYS_ioctl && !is_harmless_request((int)given[0], (unsigned long)given[1], (const void *)given[2]))
+        return -1;
+    if (number == SYS_fcntl && !is_harmless_command((int)given[1], given[2])) return -1;
+    call_outside(number, given, &result);
+    return result;
+}
+
+/* The call may wait, or another program is to have the mask of signals: so it has the one that there was. */
+static long answer_child_with_mask(long number, const long given[6], ucontext_t *context) {
+    uint64_t all;
+    long result;
+    RAW(SYS_rt_sigprocmask, SIG_SETMASK, &context->uc_sigmask, &all, sizeof all);
+    result = answer_child(number, given);
+    RAW(SYS_rt_sigprocmask, SIG_SETMASK, &all, NULL, sizeof all);
+    return result;
+}
 
 /* What the shim's functions answer, and errno. */
 static long answer_call(unsigned int table, long number, const long given[6]) {
@@ -394,8 +492,17 @@ static void answer_at_door(int signal, siginfo_t *info, void *context) {
         pass_on(signal, info, context);
         return;
     }
+    if (info->si_arch == AUDIT_ARCH_X86_64 && info->si_syscall == SYS_clone && (is_outside || is_making_child())) {
+        registers[REG_RAX] = real_call(SYS_clone, given[0], given[1], given[2], given[3], given[4], given[5]);
+        errno = saved;
+        return;
+    }
     place_at_door = (uintptr_t)registers[REG_RIP];
-    result = answer_call(info->si_arch, info->si_syscall, given);
+    if (is_outside && info->si_arch == AUDIT_ARCH_X86_64) {
+        result = answer_child_with_mask(info->si_syscall, given, context);
+    } else {
+        result = answer_call(info->si_arch, info->si_syscall, given);
+    }
     place_at_door = place;
     registers[REG_RAX] = result == -1 ? -errno : result;
     errno = saved;
@@ -412,7 +519,8 @@ void shut_doors(void) {
     join_places(filter);
     program = (struct sock_fprog){(unsigned short)filter->count, filter->code};
     handle_door_signal(answer_at_door);
-    if (!set_filter(&program))
+    has_filter = set_filter(&program);
+    if (!has_filter)
         say("no filter can be set (%s): what is called past the C library reaches the real kernel",
             strerrordesc_np(errno));
     free(filter);

@@ -165,7 +165,7 @@ int utime(const char *path, const struct utimbuf *times) {
 static bool may_signal(pid_t to, int signal) { return signal == 0 || (to != -1 && (to != 1 || getpid() == 1)); }
 
 static int refuse_signal(const char *call, pid_t to) {
-    return refuse(EPERM, "%s(%d): -1 is the answer to a fork that is not simulated, and no process", call, to);
+    return refuse(EPERM, "%s(%d): -1 is the answer to a fork that failed, and no process", call, to);
 }
 
 int kill(pid_t to, int signal) { return may_signal(to, signal) ? next_kill()(to, signal) : refuse_signal("kill", to); }

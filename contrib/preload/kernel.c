@@ -29,9 +29,23 @@ static void *newer_of(const char *name, void *found) {
     return of_found.dli_fbase == of_newer.dli_fbase ? newer : found;
 }
 
-void *next_of(const char *name) {
+static void *find_next(const char *name) {
     void *found = real_dlsym()(RTLD_NEXT, name);
-    if (strncmp(name, "pthread_cond", 12) == 0) found = newer_of(name, found);
+    return strncmp(name, "pthread_cond", 12) == 0 ? newer_of(name, found) : found;
+}
+
+/* The linker makes these. */
+#pragma GCC visibility push(hidden)
+extern const struct forward __start_forwards[], __stop_forwards[];
+#pragma GCC visibility pop
+
+void find_forwards(void) {
+    for (const struct forward *each = __start_forwards; each < __stop_forwards; each++)
+        if (!*each->found) *each->found = find_next(each->name);
+}
+
+void *next_of(const char *name) {
+    void *found = find_next(name);
     if (!found) {
         fprintf(stderr, "nippersage: the C library has no %s\n", name);
         abort();
@@ -120,6 +134,8 @@ struct nippersage_kernel *the_kernel(void) {
     return kernel;
 }
 
+void forget_kernel(void) { kernel = NULL; }
+
 int sleeping_instance(void) {
     QUIET;
     self();
@@ -140,16 +156,20 @@ static void write_history(void) {
 }
 
 void keep_history(void) {
+    if (is_outside) return;
     QUIET;
     pthread_mutex_lock(&writing);
     write_history();
     pthread_mutex_unlock(&writing);
 }
 
+/* A child has none. */
 void write_history_once(void) {
     static bool is_written;
+    if (is_outside) return;
     QUIET;
     pthread_mutex_lock(&writing);
+    if (!is_written) hand_over();
     if (!is_written) tell_what_came_again();
     if (!is_written) write_history();
     is_written = true;

@@ -88,6 +88,34 @@ void bound_real_descriptors(void) {
     refuse_high();
 }
 
+/* ---- for children ---- */
+
+/* Meanwhile the program can't change it. */
+bool raise_real_limit(struct rlimit *before) {
+    struct rlimit raised;
+    if (is_outside) return true;
+    pthread_mutex_lock(&lock);
+    if (next_getrlimit()(RLIMIT_NOFILE, before) == 0) {
+        raised = (struct rlimit){before->rlim_max, before->rlim_max};
+        if (set_real_limit(&raised) == 0) return true;
+    }
+    pthread_mutex_unlock(&lock);
+    return false;
+}
+
+void lower_real_limit(const struct rlimit *before) {
+    if (is_outside) return;
+    set_real_limit(before);
+    pthread_mutex_unlock(&lock);
+}
+
+void give_limit_back(bool is_highest) {
+    struct rlimit limit;
+    if (next_getrlimit()(RLIMIT_NOFILE, &limit) != 0) return;
+    limit.rlim_cur = is_highest ? limit.rlim_max : smaller(kept.rlim_cur, limit.rlim_max);
+    set_real_limit(&limit);
+}
+
 /* ---- what the program asks and sets ---- */
 
 static struct rlimit tell(void) {
@@ -126,21 +154,22 @@ static int set(const struct rlimit *limit) {
 }
 
 int getrlimit(__rlimit_resource_t resource, struct rlimit *limit) {
-    if (resource != RLIMIT_NOFILE) return next_getrlimit()(resource, limit);
+    if (is_outside || resource != RLIMIT_NOFILE) return next_getrlimit()(resource, limit);
     if (!WRITABLE(limit)) return (int)plain_answer(-EFAULT);
     *limit = tell();
     return 0;
 }
 
 int setrlimit(__rlimit_resource_t resource, const struct rlimit *limit) {
-    if (resource != RLIMIT_NOFILE) return next_setrlimit()(resource, limit);
+    if (is_outside || resource != RLIMIT_NOFILE) return next_setrlimit()(resource, limit);
     return READABLE(limit) ? set(limit) : (int)plain_answer(-EFAULT);
 }
 
 /* Of another process the limit is the real one. */
 int prlimit(pid_t pid, __rlimit_resource_t resource, const struct rlimit *limit, struct rlimit *before) {
     struct rlimit told;
-    if (resource != RLIMIT_NOFILE || (pid != 0 && pid != getpid())) return next_prlimit()(pid, resource, limit, before);
+    if (is_outside || resource != RLIMIT_NOFILE || (pid != 0 && pid != getpid()))
+        return next_prlimit()(pid, resource, limit, before);
     if (!READABLE_OR_NULL(limit) || !WRITABLE_OR_NULL(before)) return (int)plain_answer(-EFAULT);
     told = tell();
     if (limit && set(limit) != 0) return -1;
@@ -174,7 +203,10 @@ long call_limit(long number, const long given[6]) {
 /* ---- the same limit by other names ---- */
 
 static int most_descriptors(void) {
-    rlim_t soft = tell().rlim_cur;
+    struct rlimit limit;
+    rlim_t soft;
+    getrlimit(RLIMIT_NOFILE, &limit);
+    soft = limit.rlim_cur;
     return soft > INT_MAX ? INT_MAX : (int)soft;
 }
 

@@ -13,10 +13,24 @@ FORWARD(pthread_rwlock_timedrdlock)
 FORWARD(pthread_rwlock_timedwrlock)
 FORWARD(pthread_timedjoin_np)
 
+/* In a child the clocks are real. */
+static struct timespec real_day_of(clockid_t clock, const struct timespec *time) {
+    struct timespec day, now;
+    if (clock != CLOCK_MONOTONIC) return *time;
+    clock_gettime(CLOCK_REALTIME, &day);
+    clock_gettime(CLOCK_MONOTONIC, &now);
+    day.tv_sec += time->tv_sec - now.tv_sec;
+    day.tv_nsec += time->tv_nsec - now.tv_nsec;
+    if (day.tv_nsec < 0) day.tv_sec--, day.tv_nsec += 1000000000;
+    if (day.tv_nsec >= 1000000000) day.tv_sec++, day.tv_nsec -= 1000000000;
+    return day;
+}
+
 /* The same moment by CLOCK_REALTIME, by which the plain functions wait. What was before the simulated clock began is
    a moment of then. */
 static struct timespec day_of(clockid_t clock, const struct timespec *time) {
     struct timespec day = *time;
+    if (is_outside) return real_day_of(clock, time);
     if (clock != CLOCK_MONOTONIC) {
         if (day.tv_sec < EPOCH_SECONDS) day.tv_sec = EPOCH_SECONDS;
     } else if (day.tv_sec < 0) {

@@ -66,6 +66,20 @@ long logged_answer(long result, const char *format, ...) {
     return plain_answer(result);
 }
 
+void logged_child(pid_t pid, long result, const char *format, ...) {
+    char line[2048], call[1024];
+    QUIET;
+    double now = (double)moment_now() / SECOND;
+    const char *answer = answer_text(TEXT, result);
+    va_list arguments;
+    int size;
+    va_start(arguments, format);
+    vsnprintf(call, sizeof call, format, arguments);
+    va_end(arguments);
+    size = snprintf(line, sizeof line, "[child %d] %.6f %s = %s\n", pid, now, call, answer);
+    write_line(line, (size_t)size);
+}
+
 const char *bytes_text(struct text *room, const void *bytes, ssize_t count) {
     static const ssize_t most = 32;
     const unsigned char *from = bytes;

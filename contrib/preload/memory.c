@@ -55,6 +55,10 @@ static void *map(size_t size) {
     return made == MAP_FAILED ? NULL : made;
 }
 
+void lock_memory(void) { pthread_mutex_lock(&lock); }
+
+void unlock_memory(void) { pthread_mutex_unlock(&lock); }
+
 /* The next bytes of a chunk. What is left of the chunk before is given up: its pages were never touched. */
 static struct head *cut(size_t total) {
     struct head *made;

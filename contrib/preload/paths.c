@@ -54,7 +54,7 @@ static const char *behind_list(const char *path) {
 
 /* Whether a path may be gone to. */
 static bool may_reach(const char *call, const char *path) {
-    const char *rest = path && path[0] == '/' ? behind_list(path) : NULL;
+    const char *rest = !is_outside && path && path[0] == '/' ? behind_list(path) : NULL;
     if (!rest) return true;
     while (*rest == '/') rest++;
     if (*rest == '\0') {

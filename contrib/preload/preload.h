@@ -85,6 +85,7 @@ struct settings {
     unsigned long looks_seldom;      /* a thread looks whether it has, if its calls have none of these bits */
     uint64_t busy_waits;             /* NIPPERSAGE_BUSY_WAITS: so many take a millisecond; 0 is none */
     uint64_t patience;               /* NIPPERSAGE_PATIENCE, in milliseconds of real time */
+    uint64_t child_time;             /* NIPPERSAGE_CHILD_TIME: so many times slower is a clock that a child holds */
     struct nippersage_limits limits; /* NIPPERSAGE_LIMITS */
     const char *history, *log;       /* NIPPERSAGE_HISTORY and NIPPERSAGE_LOG, whole paths; NULL if they aren't set */
 };
@@ -104,6 +105,9 @@ _Noreturn void end_for_setting(const char *name, const char *value, const char *
 #define FIRST (settings()->first)
 #define NUMBERS ((int)settings()->limits.descriptors)
 
+/* In a child no number is simulated: FIRST is above all. */
+void make_all_numbers_real(void);
+
 static inline bool is_simulated(int fd) { return fd >= FIRST; }
 
 /* ---- limits.c: the real descriptors stay below FIRST ---- */
@@ -121,13 +125,21 @@ struct nippersage_task self(void);
 struct nippersage_kernel *the_kernel(void);
 /* The C library's function of a name. It ends the program where there is none. */
 void *next_of(const char *name);
-/* next_NAME() is the C library's NAME. */
-#define FORWARD(name)                            \
-    static __typeof__(&name) next_##name(void) { \
-        static void *_Atomic found;              \
-        if (!found) found = next_of(#name);      \
-        return (__typeof__(&name))found;         \
+/* next_NAME() is the C library's NAME. All of them are kept in a list. */
+struct forward {
+    const char *name;
+    void *_Atomic *found;
+};
+#define IN_LIST __attribute__((section("forwards"), used))
+#define FORWARD(name)                                                            \
+    static void *_Atomic found_##name;                                           \
+    static const struct forward forward_##name IN_LIST = {#name, &found_##name}; \
+    static __typeof__(&name) next_##name(void) {                                 \
+        if (!found_##name) found_##name = next_of(#name);                        \
+        return (__typeof__(&name))found_##name;                                  \
     }
+/* Finds all that there are, for a child: another thread may hold the linker's lock at the fork. */
+void find_forwards(void);
 /* One line on standard error. */
 void say(const char *format, ...) __attribute__((format(printf, 1, 2)));
 /* Writes the history as it is; the same, if it isn't written for the program's end yet. */
@@ -293,7 +305,7 @@ const char *reports_text(struct text *room, const struct epoll_event *events, in
 
 /* ---- table.c: what the kernel doesn't keep of a descriptor ---- */
 
-enum kind { PIPE, SOCKET, EVENTFD, TIMERFD, EPOLL };
+enum kind { PIPE, SOCKET, EVENTFD, TIMERFD, EPOLL, PIDFD };
 
 /* The bytes that wait at a pipe or a socket: copies.c. */
 struct waiting {
@@ -321,7 +333,12 @@ struct description {
     int pipe_room; /* what F_SETPIPE_SZ has set, or 0 */
     struct options options;
     struct description *peer;
-    int holders; /* descriptors that name it, and calls that use it */
+    int holders;       /* descriptors that name it, calls that use it, and children */
+    bool is_shut;      /* nothing is written here any more */
+    bool is_read_here; /* the program itself has asked for what can be read here */
+    int shown;         /* so many children have been shown bytes of it that they haven't taken: bridge.c */
+    int real_pidfd;    /* of a pidfd */
+    struct description *next_pidfd;
 };
 
 /* The description of a descriptor, held until it is let go of, or NULL. */
@@ -333,9 +350,21 @@ int make_table(void);
 int make_own_instance(void);
 int make_own_eventfd(unsigned int value);
 void end_own(int number);
+/* For children.h, under the lock: what a number of the kernel names, or NULL; whether it is free; one holder more, or
+   fewer; a number that names a description, or -1; whether any does. */
+struct description *description_at(int number, bool *closes_on_exec);
+bool is_taken(int number);
+void add_holder(struct description *description);
+void drop_holder(struct description *description);
+int number_of(const struct description *description);
+bool is_named(const struct description *description);
+/* A new pidfd, which has this real one: its descriptor, or minus an error number, and then the real one is closed. */
+int put_pidfd(int real);
 /* The lock of all descriptions, for a quiet function. No call that waits is made under it. */
 void lock_table(void);
 void unlock_table(void);
+/* The same at the end of the program, which may come under the lock. Whether it was taken. */
+bool try_lock_table(void);
 /* Whether a descriptor still names a description, under the lock. */
 bool names(int fd, const struct description *description);
 /* A number of the kernel that names a description, or -1. The lock isn't held. */
@@ -395,6 +424,8 @@ void bring_clock_to(uint64_t moment);
 void let_clock_go_on(void);
 /* A call of this thread answered EAGAIN, or told a timer: after many of them the clock goes on. */
 void count_vain(void);
+/* Before a fork: the moment that the child keeps. */
+void keep_moment(void);
 /* The simulated clock at the start, and what CLOCK_REALTIME was when it was at 0, in seconds and in UNITs. */
 enum { START = 1000 * SECOND, EPOCH_SECONDS = 1000000000 - START / SECOND };
 #define EPOCH ((int64_t)EPOCH_SECONDS * SECOND)
@@ -482,6 +513,103 @@ void end_outside(struct timed *timed, bool is_over);
 /* futex(2) with these six arguments, whose times are by the simulated clock. */
 long call_futex(const long given[6]);
 
+/* ---- children: children.h says what they are ---- */
+
+/* children.c: whether this process is one, so that all that it does is real. */
+extern bool is_outside;
+/* At the head of a double that asks for no descriptor: in a child it hands on to the C library. */
+#define HAND_ON(call) \
+    if (is_outside) return call
+/* Whether anything of children is there. */
+extern atomic_int living;
+static inline bool has_children(void) { return atomic_load_explicit(&living, memory_order_relaxed) > 0; }
+/* The locks of what a child needs to find whole. */
+void lock_sleepers(void);
+void unlock_sleepers(void);
+void lock_actions(void);
+void unlock_actions(void);
+void lock_memory(void);
+void unlock_memory(void);
+void lock_stacks(void);
+void unlock_stacks(void);
+/* In a child there is no kernel. */
+void forget_kernel(void);
+
+/* A call of real_call with fewer arguments. */
+#define RAW(...) RAW_OF_SEVEN(__VA_ARGS__, 0, 0, 0, 0, 0, 0)
+#define RAW_OF_SEVEN(number, a, b, c, d, e, f, ...) \
+    real_call(number, (long)(a), (long)(b), (long)(c), (long)(d), (long)(e), (long)(f))
+
+/* limits.c: while the limit is raised, descriptors can be made above the program's. Whether it is: then it has to be
+   lowered again. In a child, the limit that the program was told, or for a while the highest one. */
+struct rlimit;
+bool raise_real_limit(struct rlimit *before);
+void lower_real_limit(const struct rlimit *before);
+void give_limit_back(bool is_highest);
+
+/* bridge.c: moves what children and the program have written, taken and closed. Whether anything was moved. For a call
+   that isn't under the table's lock. */
+bool move_bytes(void);
+/* The same in a wait. */
+bool move_in_wait(void);
+/* The program is told that there is nothing, or finds something in a wait at once. If it goes on so, it looks. */
+void look_for_nothing(void);
+void look_if_busy(void);
+/* Sleeps in the real kernel until there is something to move, or a signal, or for so long; handlers may run. */
+void sleep_with_children(const struct timespec *most);
+/* The same for the thread that watches the others, which moves bytes for those that sleep in the real kernel, and for how
+   much real time the program has not computed since its last turn. Whether there are children: else it doesn't sleep. */
+bool spend_a_turn(const struct timespec *turn, uint64_t *passed);
+/* Before the program reads bytes by itself: those that were shown to a child come back. Under the table's lock. */
+void claim_shown(struct description *description);
+/* At the end of the program: what it has written goes to its children. */
+void hand_over(void);
+/* sleepers.c: whether threads that take part sleep in waits, but not all; whether all do. reaping.c: whether one waits
+   for the end of a child. */
+bool is_partly_asleep(void);
+bool are_all_asleep(void);
+bool is_anyone_reaping(void);
+
+/* pace.c: whether the clock may go to a moment, for no child holds it or real time has passed. */
+bool may_go_to(uint64_t moment);
+/* So much real time has passed in a wait. */
+void pass_time(uint64_t units);
+/* A child has done something: what has passed is paid by whole tenths of a second. */
+void pay_at_answer(void);
+/* Whether a poll that finds nothing may take its millisecond. */
+bool may_take_a_while(void);
+
+/* pidfd.c: a new one waits for the end of its process; it is no more. */
+void begin_pidfd(struct description *description);
+void end_pidfd(struct description *description);
+/* The real descriptor of a pidfd, or the same number. */
+int real_pidfd(int fd);
+
+/* If the call of this number has a double in reaping.c or programs.c, calls that. */
+bool call_reaping(long number, const long given[6], long *result);
+bool call_program(long number, const long given[6], long *result);
+
+/* refused.c: a call of a child by its number: programs run without the shim, and nothing that could do harm is done. */
+bool call_outside(long number, const long given[6], long *result);
+
+/* children.c: whether this thread is in a fork that the shim itself has begun. */
+bool is_making_child(void);
+/* doors.c: whether the filter lets the shim fork. An exec of a child, which lies where the filter leaves it alone: minus
+   an error number. */
+bool can_fork(void);
+long run_program(long number, const long given[6]);
+
+/* log.c: a line for what a child has done. */
+#define log_child(pid, ...)                          \
+    do {                                             \
+        if (is_logged) logged_child(pid, __VA_ARGS__); \
+    } while (0)
+void logged_child(pid_t pid, long result, const char *format, ...) __attribute__((format(printf, 3, 4)));
+
 #pragma GCC visibility pop
+
+/* Doubles that an older C library doesn't declare. */
+int pidfd_open(pid_t pid, unsigned int flags);
+int pidfd_send_signal(int fd, int signal, siginfo_t *info, unsigned int flags);
 
 #endif

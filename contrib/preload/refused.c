@@ -3,7 +3,6 @@
 
 #include <pty.h>
 #include <sched.h>
-#include <spawn.h>
 #include <stdarg.h>
 #include <stdio.h>
 #include <stdlib.h>
@@ -71,129 +70,35 @@ FILE *fdopen(int fd, const char *mode) {
 
 /* ---- processes ---- */
 
+FORWARD(clone)
+FORWARD(daemon)
+FORWARD(forkpty)
 FORWARD(unshare)
 
-pid_t fork(void) { return refuse(ENOSYS, "fork is not simulated: two processes can't share a simulated kernel"); }
-
-pid_t vfork(void) { return refuse(ENOSYS, "vfork is not simulated: two processes can't share a simulated kernel"); }
-
-pid_t _Fork(void) { return fork(); }
-
 int clone(int (*run)(void *), void *stack, int flags, void *argument, ...) {
-    (void)run, (void)stack, (void)flags, (void)argument;
+    void *more[3];
+    va_list arguments;
+    va_start(arguments, argument);
+    for (int i = 0; i < 3; i++) more[i] = va_arg(arguments, void *);
+    va_end(arguments);
+    HAND_ON(next_clone()(run, stack, flags, argument, more[0], more[1], more[2]));
     return refuse(ENOSYS, "clone is not simulated: neither processes nor threads are made so");
 }
 
 int daemon(int stays, int keeps) {
-    (void)stays, (void)keeps;
-    return fork();
+    HAND_ON(next_daemon()(stays, keeps));
+    return refuse(ENOSYS, "daemon is not simulated: what goes on would be a child, on the real kernel");
 }
 
 int forkpty(int *made, char *name, const struct termios *like, const struct winsize *size) {
-    (void)made, (void)name, (void)like, (void)size;
-    return fork();
+    HAND_ON(next_forkpty()(made, name, like, size));
+    return refuse(ENOSYS, "forkpty is not simulated: it makes a terminal");
 }
 
 /* Memory, files and names are the program's own business, but not a table of descriptors without the simulated ones. */
 int unshare(int flags) {
-    if (!(flags & CLONE_FILES)) return next_unshare()(flags);
+    if (is_outside || !(flags & CLONE_FILES)) return next_unshare()(flags);
     return refuse(EINVAL, "unshare(CLONE_FILES) is not simulated: the simulated descriptors can't be copied");
-}
-
-static int refuse_program(const char *call, const char *path) {
-    return refuse(ENOSYS, "%s(%s) is not simulated: another program can't share a simulated kernel", call, path);
-}
-
-int execve(const char *path, char *const words[], char *const environment[]) {
-    (void)words, (void)environment;
-    return refuse_program("execve", path);
-}
-
-int execv(const char *path, char *const words[]) {
-    (void)words;
-    return refuse_program("execv", path);
-}
-
-int execvp(const char *path, char *const words[]) {
-    (void)words;
-    return refuse_program("execvp", path);
-}
-
-int execvpe(const char *path, char *const words[], char *const environment[]) {
-    (void)words, (void)environment;
-    return refuse_program("execvpe", path);
-}
-
-int execl(const char *path, const char *word, ...) {
-    (void)word;
-    return refuse_program("execl", path);
-}
-
-int execlp(const char *path, const char *word, ...) {
-    (void)word;
-    return refuse_program("execlp", path);
-}
-
-int execle(const char *path, const char *word, ...) {
-    (void)word;
-    return refuse_program("execle", path);
-}
-
-int fexecve(int fd, char *const words[], char *const environment[]) {
-    (void)fd, (void)environment;
-    return refuse_program("fexecve", words[0]);
-}
-
-int execveat(int folder, const char *path, char *const words[], char *const environment[], int flags) {
-    (void)folder, (void)words, (void)environment, (void)flags;
-    return refuse_program("execveat", path);
-}
-
-int posix_spawn(pid_t *restrict made, const char *restrict path, const posix_spawn_file_actions_t *restrict actions,
-                const posix_spawnattr_t *restrict attributes, char *const words[restrict],
-                char *const environment[restrict]) {
-    (void)made, (void)actions, (void)attributes, (void)words, (void)environment;
-    refuse_program("posix_spawn", path);
-    return ENOSYS;
-}
-
-int posix_spawnp(pid_t *restrict made, const char *restrict path, const posix_spawn_file_actions_t *restrict actions,
-                 const posix_spawnattr_t *restrict attributes, char *const words[restrict],
-                 char *const environment[restrict]) {
-    return posix_spawn(made, path, actions, attributes, words, environment);
-}
-
-/* An action on a simulated number is taken, as on Linux, and has no effect: posix_spawn says why. The C library would
-   answer EBADF, for the real limit is below that number. */
-static bool is_simulated_action(int fd) { return is_simulated(fd) && fd < getdtablesize(); }
-
-#define SPAWN_ACTION(name, parameters, is_one, arguments)        \
-    int name parameters;                                         \
-    FORWARD(name)                                                \
-    int name parameters {                                        \
-        return is_one ? 0 : next_##name() arguments;             \
-    }
-
-SPAWN_ACTION(posix_spawn_file_actions_addclose, (posix_spawn_file_actions_t *actions, int fd), is_simulated_action(fd),
-             (actions, fd))
-SPAWN_ACTION(posix_spawn_file_actions_adddup2, (posix_spawn_file_actions_t *actions, int fd, int to),
-             is_simulated_action(fd) || is_simulated_action(to), (actions, fd, to))
-SPAWN_ACTION(posix_spawn_file_actions_addopen,
-             (posix_spawn_file_actions_t *restrict actions, int fd, const char *restrict path, int flags, mode_t mode),
-             is_simulated_action(fd), (actions, fd, path, flags, mode))
-SPAWN_ACTION(posix_spawn_file_actions_addfchdir_np, (posix_spawn_file_actions_t *actions, int fd),
-             is_simulated_action(fd), (actions, fd))
-SPAWN_ACTION(posix_spawn_file_actions_addclosefrom_np, (posix_spawn_file_actions_t *actions, int fd),
-             is_simulated_action(fd), (actions, fd))
-SPAWN_ACTION(posix_spawn_file_actions_addtcsetpgrp_np, (posix_spawn_file_actions_t *actions, int fd),
-             is_simulated_action(fd), (actions, fd))
-
-int system(const char *command) { return command ? refuse_program("system", command) : 0; }
-
-FILE *popen(const char *command, const char *mode) {
-    (void)mode;
-    refuse_program("popen", command);
-    return NULL;
 }
 
 /* ---- calls by number ---- */
@@ -244,7 +149,9 @@ static bool call_double(long number, const long given[6], long *result) {
     case SYS_getrlimit:
     case SYS_setrlimit:
     case SYS_prlimit64: *result = call_limit(number, given); return true;
-    default: return call_clock(number, given, result) || call_harmless(number, given, result);
+    default:
+        return call_clock(number, given, result) || call_harmless(number, given, result) ||
+               call_reaping(number, given, result) || call_program(number, given, result);
     }
 }
 
@@ -273,9 +180,7 @@ static bool has_no_double(long number) {
     case SYS_fork:
     case SYS_vfork:
     case SYS_clone:
-    case SYS_clone3:
-    case SYS_execve:
-    case SYS_execveat: return true;
+    case SYS_clone3: return true;
     default: return false;
     }
 }
@@ -291,12 +196,20 @@ bool call_by_number(long number, const long given[6], long *result) {
     return true;
 }
 
+/* A child of vfork would run on a stack that this call goes on with. */
+bool call_outside(long number, const long given[6], long *result) {
+    if (call_harmless(number, given, result) || call_program(number, given, result)) return true;
+    if (number == SYS_vfork) number = SYS_fork;
+    *result = plain_answer(real_call(number, given[0], given[1], given[2], given[3], given[4], given[5]));
+    return true;
+}
+
 long syscall(long number, ...) {
     va_list arguments;
     long given[6], result;
     va_start(arguments, number);
     for (int i = 0; i < 6; i++) given[i] = va_arg(arguments, long);
     va_end(arguments);
-    if (call_by_number(number, given, &result)) return result;
+    if (is_outside ? call_outside(number, given, &result) : call_by_number(number, given, &result)) return result;
     return next_syscall()(number, given[0], given[1], given[2], given[3], given[4], given[5]);
 }

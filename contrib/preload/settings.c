@@ -24,6 +24,7 @@ static struct settings values = {
     .first = 512,
     .busy_waits = 1000,
     .patience = 1000,
+    .child_time = 1,
     .limits = {.descriptors = 1024,
                .files = 4096,
                .processes = 64,
@@ -145,10 +146,13 @@ static void read_all(void) {
     values.first = (int)whole_number("NIPPERSAGE_REAL_DESCRIPTORS", 16, 1000000, (uint64_t)values.first);
     values.busy_waits = whole_number("NIPPERSAGE_BUSY_WAITS", 0, MOST_RECORDS, values.busy_waits);
     values.patience = whole_number("NIPPERSAGE_PATIENCE", 0, MOST_RECORDS, values.patience);
+    values.child_time = whole_number("NIPPERSAGE_CHILD_TIME", 0, 1000, values.child_time);
     values.records = whole_number("NIPPERSAGE_RECORDS", 1, MOST_RECORDS, most_records());
     values.looks_seldom = variable("NIPPERSAGE_RECORDS") ? 0 : 1023;
     atomic_store(&read_settings, &values);
 }
+
+void make_all_numbers_real(void) { values.first = INT_MAX; }
 
 const struct settings *make_settings(void) {
     static pthread_once_t once = PTHREAD_ONCE_INIT;

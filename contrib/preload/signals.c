@@ -100,6 +100,10 @@ static void hold_back(int signal, siginfo_t *info, ucontext_t *interrupted) {
 
 /* ---- running a handler ---- */
 
+void lock_actions(void) { pthread_mutex_lock(&lock); }
+
+void unlock_actions(void) { pthread_mutex_unlock(&lock); }
+
 static bool is_function(const struct sigaction *action) {
     return action->sa_handler != SIG_DFL && action->sa_handler != SIG_IGN;
 }
@@ -161,12 +165,19 @@ void end_if_killed(void) {
     }
 }
 
-/* Runs with all signals blocked, as each action asks for. The handler runs with the mask that the program asked for. */
+static void move_bytes_in_handler(void *nothing, long unused) {
+    (void)nothing, (void)unused;
+    move_bytes();
+}
+
+/* Runs with all signals blocked, as each action asks for. The handler runs with the mask that the program asked for. In
+   a handler of SIGCHLD all that the child wrote can be read. */
 static void run_handler(int signal, siginfo_t *info, ucontext_t *interrupted, bool is_fault) {
     struct sigaction action = take_action(signal);
     uint64_t mask = bits_of(&interrupted->uc_sigmask) | (bits_of(&action.sa_mask) & ~BAD_TOUCHES);
     struct sleeper *in = this_thread.innermost;
     struct place before = begin_handler_stack(interrupted);
+    if (signal == SIGCHLD && has_children()) call_apart(move_bytes_in_handler, NULL, 0);
     if (!is_function(&action)) {
         if (action.sa_handler == SIG_DFL) call_apart(end_by, NULL, is_fault ? -signal : signal);
         end_handler_stack(before);
@@ -187,7 +198,7 @@ void arrive(int signal, siginfo_t *info, void *context) {
     bool is_fault = (FAULTS & BIT(signal)) && info->si_code > 0;
     int saved = errno;
     if (is_fault && end_bad_touch(context)) return;
-    if (this_thread.quiet > 0 && !is_fault) {
+    if (this_thread.quiet > 0 && !is_fault && !is_outside) {
         hold_back(signal, info, context);
     } else {
         if (this_thread.innermost) disturb(this_thread.innermost);
@@ -362,7 +373,11 @@ static int await_handler(const char *call) {
     return wait_at(&wait);
 }
 
+FORWARD(pause)
+FORWARD(sigsuspend)
+
 int pause(void) {
+    HAND_ON(next_pause()());
     QUIET;
     return (int)ANSWER(await_handler("pause"), "pause()");
 }
@@ -370,6 +385,7 @@ int pause(void) {
 int sigsuspend(const sigset_t *set) {
     uint64_t before;
     int result;
+    HAND_ON(next_sigsuspend()(set));
     QUIET;
     if (!can_read(set, sizeof before)) return (int)ANSWER(-EFAULT, "sigsuspend(%p)", (const void *)set);
     before = swap_mask(set);

@@ -26,6 +26,7 @@ struct sleeper {
     int handlers;         /* so many handlers run in it */
     bool is_rung;         /* it left the kernel because a bell rang: see leave */
     bool is_asleep;       /* it is counted among those that sleep */
+    bool awaits_children; /* it sleeps until a child does something */
     long thread;          /* the real kernel's number */
     struct seat *seat;    /* of the thread */
     _Atomic uint32_t word; /* goes on at each news */
@@ -126,6 +127,28 @@ void wake_sleepers(void) {
     pthread_mutex_lock(&lock);
     deliver_all();
     pthread_mutex_unlock(&lock);
+}
+
+void lock_sleepers(void) { pthread_mutex_lock(&lock); }
+
+void unlock_sleepers(void) { pthread_mutex_unlock(&lock); }
+
+bool is_partly_asleep(void) {
+    bool so;
+    QUIET_WITHIN;
+    pthread_mutex_lock(&lock);
+    so = asleep > 0 && asleep < threads;
+    pthread_mutex_unlock(&lock);
+    return so;
+}
+
+bool are_all_asleep(void) {
+    bool so;
+    QUIET_WITHIN;
+    pthread_mutex_lock(&lock);
+    so = asleep >= threads;
+    pthread_mutex_unlock(&lock);
+    return so;
 }
 
 bool is_anyone_waiting(void) { return atomic_load(&count) > 0; }
@@ -232,9 +255,12 @@ static bool sleep_once(struct sleeper *s, const struct timespec *most, bool slee
     } else {
         end_if_killed();
     }
-    if (sleeps)
+    if (sleeps && s->awaits_children) {
+        sleep_with_children(most);
+    } else if (sleeps) {
         is_over = next_syscall()(SYS_futex, &s->word, FUTEX_WAIT | FUTEX_PRIVATE_FLAG, seen, most, NULL, 0) != 0 &&
                   errno == ETIMEDOUT;
+    }
     atomic_signal_fence(memory_order_seq_cst);
     this_thread.quiet = quiet;
     atomic_signal_fence(memory_order_seq_cst);
@@ -277,6 +303,21 @@ static bool may_be_signalled(void) {
     return false;
 }
 
+/* While there are children, and all threads sleep: moves what they have done, or the clock if it may go on, or sleeps
+   until they do something. Whether that was of use. */
+static bool await_children(struct sleeper *me) {
+    struct timespec a_while = {0, 1000000};
+    uint64_t moment, now = moment_now();
+    bool has_moment = next_moment(&moment);
+    if (move_in_wait()) return true;
+    if (has_moment && may_go_to(moment)) return false;
+    if (has_moment && moment > now && moment - now < MILLISECOND) a_while = timespec_of(moment - now);
+    me->awaits_children = true;
+    sleep_once(me, &a_while, true);
+    me->awaits_children = false;
+    return true;
+}
+
 /* Sleeps until there is news, or moves the clock if nothing but it brings news. */
 static void await_news(struct sleeper *me, bool *has_waited) {
     static const struct timespec moment = {0, 200000};
@@ -286,7 +327,7 @@ static void await_news(struct sleeper *me, bool *has_waited) {
         sleep_once(me, NULL, true);
     } else if (still == PERHAPS_STILL) {
         sleep_once(me, &moment, true);
-    } else if (!go_on()) {
+    } else if (!(has_children() && await_children(me)) && !go_on()) {
         if (*has_waited || !may_be_signalled()) {
             me->result = ENDLESS;
         } else {
@@ -303,7 +344,9 @@ static void sleep_until_answered(struct sleeper *me) {
         deliver_all();
         count_asleep(me, false);
         if (me->result != NIPPERSAGE_PARKED) return;
-        if (this_thread.is_held_back) {
+        if (is_outside) {
+            me->result = -EINTR; /* a handler made a child in it */
+        } else if (this_thread.is_held_back) {
             sleep_once(me, NULL, false);
         } else {
             count_asleep(me, true);
@@ -343,6 +386,7 @@ static void leave_innermost(struct sleeper *s) {
 
 /* The frames of what is left stay as they are until the jump itself. */
 void leave_waits_below(uintptr_t address) {
+    if (is_outside) return;
     QUIET;
     while (this_thread.innermost && is_left(this_thread.innermost->place, address))
         leave_innermost(this_thread.innermost);
@@ -387,6 +431,7 @@ int wait_at(const struct wait *wait) {
     me.depth = this_thread.depth;
     me.place = place_of_call(&me);
     if (wait->timeout >= 0) me.end = moment_now() + (uint64_t)wait->timeout;
+    if (has_children()) look_if_busy();
     pthread_mutex_lock(&lock);
     me.result = park(&me);
     if (me.result == NIPPERSAGE_PARKED) {

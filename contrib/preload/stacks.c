@@ -52,6 +52,10 @@ static uintptr_t spare; /* the bottom of one that a thread has left; the next on
 static pthread_key_t key;
 static pthread_once_t once = PTHREAD_ONCE_INIT;
 
+void lock_stacks(void) { pthread_mutex_lock(&lock); }
+
+void unlock_stacks(void) { pthread_mutex_unlock(&lock); }
+
 static uintptr_t *next_of_spare(uintptr_t bottom) { return (uintptr_t *)(bottom + SIZE - sizeof(uintptr_t)); }
 
 static void give_back(void *bottom) {

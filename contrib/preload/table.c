@@ -11,6 +11,7 @@
 #include <sys/ioctl.h>
 #include <sys/socket.h>
 #include <sys/stat.h>
+#include <sys/syscall.h>
 
 FORWARD(socketpair)
 FORWARD(dup)
@@ -50,6 +51,7 @@ static struct entry *entry_of(int fd) {
 static void drop(struct description *description) {
     if (!description || --description->holders > 0) return;
     if (description->peer) description->peer->peer = NULL;
+    if (description->kind == PIDFD) end_pidfd(description);
     end_waiting(&description->waiting);
     free(description);
 }
@@ -133,17 +135,40 @@ void lock_table(void) { pthread_mutex_lock(&lock); }
 
 void unlock_table(void) { pthread_mutex_unlock(&lock); }
 
+bool try_lock_table(void) {
+    static const struct timespec a_while = {0, 1000000};
+    for (int tries = 0; tries < 100; tries++) {
+        if (pthread_mutex_trylock(&lock) == 0) return true;
+        RAW(SYS_nanosleep, &a_while, NULL);
+    }
+    return false;
+}
+
 bool names(int fd, const struct description *description) {
     struct entry *entry = entry_of(fd);
     return entry && entry->description == description;
 }
 
-/* A number that names it, or -1. Under the lock. */
-static int number_of(const struct description *description) {
+/* ---- for others, under the lock ---- */
+
+struct description *description_at(int number, bool *closes_on_exec) {
+    *closes_on_exec = table[number].closes_on_exec;
+    return table[number].description;
+}
+
+bool is_taken(int number) { return table[number].description || table[number].is_own; }
+
+void add_holder(struct description *description) { description->holders++; }
+
+void drop_holder(struct description *description) { drop(description); }
+
+int number_of(const struct description *description) {
     int number = 0;
     while (number < NUMBERS && table[number].description != description) number++;
     return number < NUMBERS ? number : -1;
 }
+
+bool is_named(const struct description *description) { return number_of(description) >= 0; }
 
 int number_that_names(const struct description *description) {
     int number;
@@ -193,8 +218,14 @@ void end_own(int number) {
 
 /* ---- new descriptors ---- */
 
+FORWARD(epoll_create1)
+FORWARD(eventfd)
+FORWARD(timerfd_create)
+FORWARD(pipe2)
+
 int epoll_create1(int flags) {
     int made;
+    HAND_ON(next_epoll_create1()(flags));
     QUIET;
     pthread_mutex_lock(&lock);
     made =
@@ -211,6 +242,7 @@ int epoll_create(int size) {
 
 int eventfd(unsigned int count, int flags) {
     int made;
+    HAND_ON(next_eventfd()(count, flags));
     QUIET;
     pthread_mutex_lock(&lock);
     made = put_new(nippersage_eventfd(self(), count, flags), (struct description){.kind = EVENTFD, .access = O_RDWR},
@@ -222,6 +254,7 @@ int eventfd(unsigned int count, int flags) {
 int timerfd_create(clockid_t clock, int flags) {
     struct description like = {.kind = TIMERFD, .access = O_RDWR, .clock = clock};
     int kept = clock == CLOCK_BOOTTIME ? CLOCK_MONOTONIC : clock, made;
+    HAND_ON(next_timerfd_create()(clock, flags));
     QUIET;
     pthread_mutex_lock(&lock);
     made = put_new(nippersage_timerfd_create(self(), kept, flags), like, flags);
@@ -232,6 +265,7 @@ int timerfd_create(clockid_t clock, int flags) {
 int pipe2(int ends[2], int flags) {
     static const int accesses[2] = {O_RDONLY, O_WRONLY};
     int numbers[2], status;
+    HAND_ON(next_pipe2()(ends, flags));
     QUIET;
     if (!can_write(ends, 2 * sizeof *ends)) return (int)ANSWER(-EFAULT, "pipe2(%p)", (void *)ends);
     pthread_mutex_lock(&lock);
@@ -246,7 +280,7 @@ int pipe(int ends[2]) { return pipe2(ends, 0); }
 int socketpair(int domain, int type, int protocol, int ends[2]) {
     static const int accesses[2] = {O_RDWR, O_RDWR};
     int flags = type & (SOCK_CLOEXEC | SOCK_NONBLOCK), numbers[2], status;
-    if (domain != AF_UNIX) return next_socketpair()(domain, type, protocol, ends);
+    if (is_outside || domain != AF_UNIX) return next_socketpair()(domain, type, protocol, ends);
     QUIET;
     if ((type & ~flags) != SOCK_STREAM)
         return refuse(ESOCKTNOSUPPORT, "socketpair: only SOCK_STREAM is simulated, not type %d", type & ~flags);
@@ -258,6 +292,18 @@ int socketpair(int domain, int type, int protocol, int ends[2]) {
     return (int)ANSWER(status, "socketpair(AF_UNIX, SOCK_STREAM%s%s, %d, [%d, %d])", flags ? "|" : "",
                        flags ? flags_text(TEXT, "SOCK_", flags) : "", protocol, status < 0 ? -1 : ends[0],
                        status < 0 ? -1 : ends[1]);
+}
+
+int put_pidfd(int real) {
+    struct description like = {.kind = PIDFD, .access = O_RDWR, .real_pidfd = real};
+    int made;
+    QUIET;
+    pthread_mutex_lock(&lock);
+    made = put_new(nippersage_eventfd(self(), 0, 0), like, O_CLOEXEC);
+    if (made >= 0) begin_pidfd(table[made - FIRST].description);
+    pthread_mutex_unlock(&lock);
+    if (made < 0) RAW(SYS_close, real);
+    return made;
 }
 
 /* ---- copies and closes ---- */

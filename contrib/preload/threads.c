@@ -130,7 +130,7 @@ static bool all_sleep(void) {
 
 /* Where no time wakes anyone, a real descriptor may. So it is only said, and after a second. */
 static void say_endless(int turns) {
-    if (turns == A_SECOND && is_anyone_waiting())
+    if (turns == A_SECOND && is_anyone_waiting() && !has_children())
         say("nothing has happened for a second: every thread sleeps, and no time ends a simulated wait");
 }
 
@@ -140,12 +140,17 @@ static bool move_clock(int64_t *pause) {
     uint64_t moment, limit;
     int waits;
     QUIET;
+    if (move_bytes()) {
+        pay_at_answer();
+        return true;
+    }
     if (!next_moment_with(SLACK, &moment)) return false;
     limit = outside_limit(&waits);
     if (moment > limit) {
         *pause = moment - limit < MILLISECOND ? (int64_t)(moment - limit) : MILLISECOND;
         return false;
     }
+    if (!may_go_to(moment)) return false;
     bring_clock_to(moment);
     return true;
 }
@@ -212,6 +217,15 @@ static bool await_poke(struct watch *watch) {
     return is_poked;
 }
 
+/* The same where there are children: then it waits for them, too. */
+static bool await_turn(struct watch *watch) {
+    static const struct timespec a_while = {0, 1000000};
+    uint64_t passed;
+    if (!spend_a_turn(&a_while, &passed)) return await_poke(watch);
+    if (!are_all_asleep()) pass_time(passed);
+    return false;
+}
+
 /* After a poke it looks again and again, but less and less often, for who poked is perhaps not yet asleep. */
 static _Noreturn void *watch(void *nothing) {
     enum { FIRST_PAUSE = 20, LAST_PAUSE = 640 };
@@ -220,7 +234,7 @@ static _Noreturn void *watch(void *nothing) {
     this_thread.is_counted = true; /* it takes no part */
     next_syscall()(SYS_prctl, PR_SET_TIMERSLACK, UNIT, 0, 0, 0);
     for (;;) {
-        bool is_poked = await_poke(&watch);
+        bool is_poked = await_turn(&watch);
         int64_t until = 0;
         if (look_and_move(&watch, &until)) {
             watch.pause = 0;
@@ -281,6 +295,7 @@ uint64_t step_for_asking(void) {
 static void stop_counting(void *nothing) {
     unsigned long woken;
     (void)nothing;
+    if (is_outside) return;
     count_threads(-1);
     leave_seat();
     if (count_awake(&woken) == 0 && !is_anyone_waiting()) exit(0);
@@ -356,8 +371,10 @@ static void *run_counted(void *kept) {
 }
 
 int pthread_create(pthread_t *made, const pthread_attr_t *attributes, void *(*run)(void *), void *argument) {
-    struct thread *thread = keep_thread((struct thread){run, argument, stack_of(attributes)});
+    struct thread *thread;
     int error;
+    HAND_ON(next_pthread_create()(made, attributes, run, argument));
+    thread = keep_thread((struct thread){run, argument, stack_of(attributes)});
     if (!thread) return EAGAIN;
     pthread_once(&once, start_counting);
     count_threads(1);
@@ -469,6 +486,7 @@ int error_of_timed(struct timed *timed, int error) {
 void end_timed(const struct timed *timed) {
     struct timed **link = &all_timed;
     int saved = errno;
+    if (is_outside) return; /* a handler made a child in the wait */
     QUIET;
     if (timed->end < 0) return;
     pthread_mutex_lock(&timed_lock);
@@ -526,11 +544,12 @@ void end_outside(struct timed *timed, bool is_over) {
         _Generic((object), pthread_cond_t *: true, default: false)
 
 /* A wait of the C library until `time`, which answers an error number; on an object, or on NULL. */
-#define TIMED(name, object, parameters, arguments)                   \
+#define TIMED(name, object, parameters, arguments, untimed)          \
     FORWARD(name)                                                    \
     int name parameters {                                            \
         struct timed timed;                                          \
         int error;                                                   \
+        HAND_ON(next_##name() untimed);                              \
         begin_timed_on(&timed, time, ON(object));                    \
         do {                                                         \
             error = error_of_timed(&timed, next_##name() arguments); \
@@ -541,43 +560,45 @@ void end_outside(struct timed *timed, bool is_over) {
 
 TIMED(pthread_cond_timedwait, changed,
       (pthread_cond_t *restrict changed, pthread_mutex_t *restrict lock, const struct timespec *restrict time),
-      (changed, lock, &timed.until))
+      (changed, lock, &timed.until), (changed, lock, time))
 TIMED(pthread_cond_clockwait, changed,
       (pthread_cond_t *restrict changed, pthread_mutex_t *restrict lock, clockid_t clock,
        const struct timespec *restrict time),
-      (changed, lock, clock, &timed.until))
+      (changed, lock, clock, &timed.until), (changed, lock, clock, time))
 TIMED(pthread_mutex_timedlock, lock, (pthread_mutex_t *restrict lock, const struct timespec *restrict time),
-      (lock, &timed.until))
+      (lock, &timed.until), (lock, time))
 TIMED(pthread_mutex_clocklock, lock,
       (pthread_mutex_t *restrict lock, clockid_t clock, const struct timespec *restrict time),
-      (lock, clock, &timed.until))
+      (lock, clock, &timed.until), (lock, clock, time))
 
 /* One that answers by errno. */
-#define TIMED_BY_ERRNO_ON(name, type, object, parameters, arguments)    \
-    FORWARD(name)                                                       \
-    type name parameters {                                              \
-        struct timed timed;                                             \
-        type status;                                                    \
-        int error;                                                      \
-        begin_timed_on(&timed, time, ON(object));                       \
-        do {                                                            \
-            status = next_##name() arguments;                           \
-            error = error_of_timed(&timed, status < 0 ? errno : 0);     \
-        } while (status < 0 && error == SLEEP_ON);                      \
-        end_timed(&timed);                                              \
-        if (status < 0) errno = error;                                  \
-        return status;                                                  \
+#define TIMED_BY_ERRNO_ON(name, type, object, parameters, arguments, untimed) \
+    FORWARD(name)                                                             \
+    type name parameters {                                                    \
+        struct timed timed;                                                   \
+        type status;                                                          \
+        int error;                                                            \
+        HAND_ON(next_##name() untimed);                                       \
+        begin_timed_on(&timed, time, ON(object));                             \
+        do {                                                                  \
+            status = next_##name() arguments;                                 \
+            error = error_of_timed(&timed, status < 0 ? errno : 0);           \
+        } while (status < 0 && error == SLEEP_ON);                            \
+        end_timed(&timed);                                                    \
+        if (status < 0) errno = error;                                        \
+        return status;                                                        \
     }
 
 TIMED_BY_ERRNO_ON(sem_timedwait, int, semaphore, (sem_t *restrict semaphore, const struct timespec *restrict time),
-                  (semaphore, &timed.until))
+                  (semaphore, &timed.until), (semaphore, time))
 TIMED_BY_ERRNO_ON(sem_clockwait, int, semaphore,
                   (sem_t *restrict semaphore, clockid_t clock, const struct timespec *restrict time),
-                  (semaphore, clock, &timed.until))
+                  (semaphore, clock, &timed.until), (semaphore, clock, time))
 
 int wait_until(const struct timespec *day, int (*wait)(void *given, const struct timespec *until), void *given) {
     struct timed timed;
     int error;
+    HAND_ON(wait(given, day));
     begin_timed(&timed, day, NULL);
     do {
         error = error_of_timed(&timed, wait(given, &timed.until));
@@ -604,7 +625,7 @@ long call_futex(const long given[6]) {
     struct timed timed;
     bool has_slept = false;
     int error = 0;
-    if (!time || !READABLE(time) || !(is_until || (is_for && units_of(time) >= 0)))
+    if (is_outside || !time || !READABLE(time) || !(is_until || (is_for && units_of(time) >= 0)))
         return next_syscall()(SYS_futex, given[0], given[1], given[2], given[3], given[4], given[5]);
     end = is_until ? *time : end_of(units_of(time));
     begin_timed_on(&timed, &end, (void *)given[0], sizeof(uint32_t), false);
@@ -626,7 +647,7 @@ int sigtimedwait(const sigset_t *restrict set, siginfo_t *restrict info, const s
     struct timespec slice = {0, 0}, end;
     struct timed timed;
     int signal, error = 0;
-    if (!time || !READABLE(time) || units_of(time) < 0) return next_sigtimedwait()(set, info, time);
+    if (is_outside || !time || !READABLE(time) || units_of(time) < 0) return next_sigtimedwait()(set, info, time);
     end = end_of(units_of(time));
     begin_timed(&timed, &end, NULL);
     do {

@@ -48,6 +48,7 @@ static void take_a_while(int found, int64_t units) {
         in_a_row = 0;
         return;
     }
+    if (has_children()) look_for_nothing();
     in_a_row = moment_now() == last ? in_a_row + 1 : 1;
     if (in_a_row > FREE) let_clock_go_on();
     last = moment_now();
@@ -81,14 +82,28 @@ static const char *word_of(int op) {
     }
 }
 
+/* Whether a descriptor is open. Nobody waits to write to a pidfd, though the eventfd that it is has room for more. */
+static bool may_be_watched(int fd, struct epoll_event *wanted) {
+    struct description *description = hold(fd);
+    if (!description) return false;
+    if (wanted && (wanted->events & EPOLLIN)) description->is_read_here = true;
+    if (wanted && description->kind == PIDFD) wanted->events &= ~(uint32_t)EPOLLOUT;
+    let_go(description);
+    return true;
+}
+
 static bool is_open(int fd) {
     struct description *description = hold(fd);
     if (description) let_go(description);
     return description != NULL;
 }
 
+FORWARD(epoll_ctl)
+
 int epoll_ctl(int epfd, int op, int fd, struct epoll_event *event) {
+    struct epoll_event asked;
     int status = -EBADF;
+    HAND_ON(next_epoll_ctl()(epfd, op, fd, event));
     QUIET;
     if (op != EPOLL_CTL_DEL && !READABLE(event))
         return (int)ANSWER(-EFAULT, "epoll_ctl(%d, %s, %d, %p)", epfd, word_of(op), fd, (void *)event);
@@ -96,7 +111,9 @@ int epoll_ctl(int epfd, int op, int fd, struct epoll_event *event) {
         return refuse(EBADF, "epoll_ctl(%d): no simulated instance has this descriptor", epfd);
     if (!is_simulated(fd) && fd >= 0)
         return refuse(EPERM, "epoll_ctl(%d, %s, %d): a real descriptor in a simulated instance", epfd, word_of(op), fd);
-    if (is_open(epfd) && is_open(fd)) status = nippersage_epoll_ctl(self(), epfd - FIRST, op, fd - FIRST, event);
+    if (event) asked = *event;
+    if (is_open(epfd) && may_be_watched(fd, event ? &asked : NULL))
+        status = nippersage_epoll_ctl(self(), epfd - FIRST, op, fd - FIRST, event ? &asked : NULL);
     return (int)ANSWER(status, "epoll_ctl(%d, %s, %d, %s)", epfd, word_of(op), fd,
                        event_text(TEXT, op == EPOLL_CTL_DEL ? NULL : event));
 }
@@ -130,17 +147,24 @@ static int wait_in(int epfd, struct epoll_event *events, int most, struct timeou
                        timeout.said.of);
 }
 
+FORWARD(epoll_wait)
+FORWARD(epoll_pwait)
+FORWARD(epoll_pwait2)
+
 int epoll_wait(int epfd, struct epoll_event *events, int most, int timeout) {
+    HAND_ON(next_epoll_wait()(epfd, events, most, timeout));
     return wait_in(epfd, events, most, in_milliseconds(timeout), NULL, "epoll_wait");
 }
 
 int epoll_pwait(int epfd, struct epoll_event *events, int most, int timeout, const sigset_t *mask) {
+    HAND_ON(next_epoll_pwait()(epfd, events, most, timeout, mask));
     return wait_in(epfd, events, most, in_milliseconds(timeout), mask, "epoll_pwait");
 }
 
 /* As on Linux, what is no time is told before what is no instance. */
 int epoll_pwait2(int epfd, struct epoll_event *events, int most, const struct timespec *time, const sigset_t *mask) {
     struct timeout timeout;
+    HAND_ON(next_epoll_pwait2()(epfd, events, most, time, mask));
     if (!READABLE_OR_NULL(time)) return (int)ANSWER(-EFAULT, "epoll_pwait2(%d, %p)", epfd, (const void *)time);
     timeout = in_time(time);
     if (time && timeout.units < 0) return (int)ANSWER(-EINVAL, "epoll_pwait2(%d, %s)", epfd, timeout.said.of);
@@ -228,7 +252,9 @@ static int register_all(struct sought *sought, int instance) {
         struct epoll_event event = {.events = sought->wanted[n] & ~(uint32_t)IS_WANTED, .data.u64 = (uint64_t)n};
         int status;
         if (!(sought->wanted[n] & IS_WANTED)) continue;
-        status = is_open(n + FIRST) ? nippersage_epoll_ctl(self(), instance, EPOLL_CTL_ADD, n, &event) : -EBADF;
+        status = -EBADF;
+        if (may_be_watched(n + FIRST, &event))
+            status = nippersage_epoll_ctl(self(), instance, EPOLL_CTL_ADD, n, &event);
         if (status < 0 && status != -EBADF) return status;
         if (status == -EBADF) {
             sought->shown[n] = POLLNVAL;
@@ -352,7 +378,9 @@ static int poll_merged(struct pollfd *files, nfds_t count, const struct timespec
 int poll(struct pollfd *files, nfds_t count, int given) {
     SOUGHT sought = {.highest = -1};
     struct timeout timeout = in_milliseconds(given);
-    int status = not_a_poll(files, count, NULL, NULL);
+    int status;
+    HAND_ON(next_poll()(files, count, given));
+    status = not_a_poll(files, count, NULL, NULL);
     if (status < 0) return (int)ANSWER(status, "poll(%p, %lu, %s)", (void *)files, count, timeout.said.of);
     want_all(&sought, files, count);
     if (sought.has_real && sought.has_simulated) return mixes("poll");
@@ -367,7 +395,9 @@ int poll(struct pollfd *files, nfds_t count, int given) {
 int ppoll(struct pollfd *files, nfds_t count, const struct timespec *time, const sigset_t *mask) {
     SOUGHT sought = {.highest = -1};
     struct timeout timeout;
-    int status = not_a_poll(files, count, time, mask);
+    int status;
+    HAND_ON(next_ppoll()(files, count, time, mask));
+    status = not_a_poll(files, count, time, mask);
     if (status < 0) return (int)ANSWER(status, "ppoll(%p, %lu)", (void *)files, count);
     timeout = in_time(time);
     want_all(&sought, files, count);
@@ -450,7 +480,9 @@ int select(int most, fd_set *reads, fd_set *writes, fd_set *excepts, struct time
     struct timeout timeout;
     uint64_t end, now;
     struct timespec left;
-    int found = WRITABLE_OR_NULL(time) ? not_a_select(&most, &sets) : -EFAULT;
+    int found;
+    HAND_ON(next_select()(most, reads, writes, excepts, time));
+    found = WRITABLE_OR_NULL(time) ? not_a_select(&most, &sets) : -EFAULT;
     if (found < 0) return (int)ANSWER(found, "select(%d, ..., %p)", most, (void *)time);
     timeout = in_short_time(time);
     end = moment_now() + (uint64_t)(timeout.units < 0 ? 0 : timeout.units);
@@ -470,7 +502,9 @@ int pselect(int most, fd_set *reads, fd_set *writes, fd_set *excepts, const stru
     struct sets sets = sets_of(reads, writes, excepts);
     SOUGHT sought = {.highest = -1};
     struct timeout timeout;
-    int status = READABLE_OR_NULL(time) && (!mask || can_read(mask, SET_SIZE)) ? not_a_select(&most, &sets) : -EFAULT;
+    int status;
+    HAND_ON(next_pselect()(most, reads, writes, excepts, time, mask));
+    status = READABLE_OR_NULL(time) && (!mask || can_read(mask, SET_SIZE)) ? not_a_select(&most, &sets) : -EFAULT;
     if (status < 0) return (int)ANSWER(status, "pselect(%d, ..., %p)", most, (const void *)time);
     timeout = in_time(time);
     want_sets(&sought, most, &sets);

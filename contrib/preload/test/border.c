@@ -9,6 +9,7 @@
 #include <sched.h>
 #include <signal.h>
 #include <spawn.h>
+#include <sys/wait.h>
 #include <stdlib.h>
 #include <string.h>
 #include <sys/resource.h>
@@ -103,17 +104,20 @@ static void processes(const int ends[2]) {
     posix_spawn_file_actions_t actions;
     pid_t made = 0;
     posix_spawn_file_actions_init(&actions);
-    printf("actions: %d", posix_spawn_file_actions_adddup2(&actions, ends[1], 1));
-    printf(" %d", posix_spawn_file_actions_adddup2(&actions, 0, ends[1]));
-    printf(" %d", posix_spawn_file_actions_addclose(&actions, ends[0]));
+    printf("actions: %d", posix_spawn_file_actions_adddup2(&actions, 0, ends[1]));
     printf(" %d", posix_spawn_file_actions_addopen(&actions, ends[0], "/dev/null", O_RDONLY, 0));
     printf(" %d", posix_spawn_file_actions_addclosefrom_np(&actions, ends[0]));
     printf(" %d, of a number above all %d\n", posix_spawn_file_actions_addfchdir_np(&actions, ends[0]),
            posix_spawn_file_actions_addclose(&actions, 100000));
+    posix_spawn_file_actions_destroy(&actions);
+    posix_spawn_file_actions_init(&actions);
+    posix_spawn_file_actions_adddup2(&actions, ends[1], 1);
+    posix_spawn_file_actions_addclose(&actions, ends[0]);
     fflush(stdout);
     printf("posix_spawn: %d\n", posix_spawn(&made, "/bin/true", &actions, NULL, words, environ));
     fflush(stdout);
     posix_spawn_file_actions_destroy(&actions);
+    tell("it ended", waitpid(made, NULL, 0) == made ? 0 : -1);
     tell("clone", clone(NULL, NULL, SIGCHLD, NULL));
     tell("daemon", daemon(1, 1));
     tell("unshare", unshare(CLONE_FILES));

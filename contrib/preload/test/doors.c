@@ -87,7 +87,7 @@ static void descriptors_by_number(void) {
 /* What goes on: the limit is kept by the shim, times of other files and timers of processors are real. */
 static void what_passes(void) {
     struct timespec made_up[2] = {{1000000000, 0}, {1000000000, 0}}, day[2] = {{1700000000, 5}, {1700000000, 5}};
-    struct rlimit limit = {1400, 1536}, real;
+    struct rlimit limit, real;
     char path[] = "/tmp/nippersage-doors-XXXXXX";
     struct stat status;
     int timer, file = mkstemp(path), sides[2];
@@ -96,6 +96,8 @@ static void what_passes(void) {
     stat(path, &status);
     tell("the file has it", status.st_mtime == 1700000000);
     unlink(path);
+    getrlimit(RLIMIT_NOFILE, &limit);
+    limit.rlim_cur = 1400;
     tell("limit", raw(SYS_setrlimit, RLIMIT_NOFILE, (long)&limit, 0, 0));
     tell("limit of a process", raw(SYS_prlimit64, getpid(), RLIMIT_NOFILE, (long)&limit, 0));
     getrlimit(RLIMIT_NOFILE, &limit);
@@ -201,6 +203,35 @@ static void needs(void) {
     tell("syslog", 0);
 }
 
+/* ---- in a child all of it is real, but what would do harm, and the programs that it runs are left alone ---- */
+
+static _Noreturn void be_child(void *(*by_deep)(const char *name)) {
+    char *words[] = {"sh", "-c", "x=$(echo one; (echo two) | cat); echo $x", NULL};
+    struct timespec now = {1000000000, 0};
+    int ends[2];
+    tell("in a child, fork", process(raw(SYS_fork, 0, 0, 0, 0)));
+    tell("eventfd2", raw(SYS_eventfd2, 0, 0, 0, 0) > 2);
+    tell("pipe2", raw(SYS_pipe2, (long)ends, 0, 0, 0));
+    tell("epoll_create1", raw(SYS_epoll_create1, 0, 0, 0, 0) > 2);
+    tell("a table of its own", raw(SYS_unshare, CLONE_FILES, 0, 0, 0));
+    tell("clock_settime", raw(SYS_clock_settime, CLOCK_REALTIME, (long)&now, 0, 0));
+    tell("past the shim", 0);
+    tell("fork", process(BY(by_deep, of_ints, fork, (0))));
+    tell("pipe", BY(by_deep, of_ints, pipe, ((long)ends)));
+    tell("kill", BY(by_deep, of_ints, kill, (-1, SIGTERM)));
+    tell("execve", raw(SYS_execve, (long)"/nowhere", (long)words, (long)environ, 0));
+    raw(SYS_execve, (long)"/bin/sh", (long)words, (long)environ, 0);
+    _exit(1);
+}
+
+static void children(void *(*by_deep)(const char *name)) {
+    int status = -1;
+    pid_t child = fork();
+    if (child == 0) be_child(by_deep);
+    waitpid(child, &status, 0);
+    tell("the child", status == 0);
+}
+
 int main(void) {
     const char *path = getenv("DEEP");
     void *deep = path ? dlopen(path, RTLD_NOW | RTLD_DEEPBIND) : NULL;
@@ -218,5 +249,6 @@ int main(void) {
     if (by_deep) by_library(by_deep);
     handlers();
     needs();
+    if (by_deep) children(by_deep);
     return 0;
 }

@@ -13,6 +13,7 @@
 #include <sys/syscall.h>
 #include <sys/time.h>
 #include <sys/timex.h>
+#include <sys/wait.h>
 #include <unistd.h>
 #include <utime.h>
 
@@ -101,9 +102,9 @@ static void other_times(const char *path, int file) {
     tell_age(path);
 }
 
-/* A program that takes fork's answer for a process. */
+/* A program that takes the answer of a fork that failed for a process. */
 static void signals(void) {
-    pid_t child = fork();
+    pid_t child = -1;
     tell("kill", kill(child, SIGTERM));
     tell("by number", syscall(SYS_kill, child, SIGTERM));
     tell("its group", kill(-child, SIGTERM));
@@ -112,6 +113,26 @@ static void signals(void) {
     tell("owner", fcntl(0, F_SETOWN, child));
     tell("owner", ioctl(0, FIOSETOWN, &child));
     tell("another owner", fcntl(0, F_SETOWN, getpid()));
+}
+
+/* A child that runs no other program has times in its memory that were made up. */
+static void in_child(const char *path) {
+    struct timespec both[2];
+    pid_t child;
+    clock_gettime(CLOCK_REALTIME, &both[0]);
+    both[1] = both[0];
+    child = fork();
+    if (child == 0) {
+        tell("in a child, clock_settime", clock_settime(CLOCK_REALTIME, &both[0]));
+        tell("in a child, by number", syscall(SYS_clock_settime, CLOCK_REALTIME, &both[0]));
+        tell("in a child, its parent's time", utimensat(AT_FDCWD, path, both, 0));
+        clock_gettime(CLOCK_REALTIME, &both[0]);
+        both[1] = both[0];
+        tell("in a child, its own time", utimensat(AT_FDCWD, path, both, 0));
+        tell("in a child, kill", kill(-1, SIGTERM));
+        _exit(0);
+    }
+    tell("the child", waitpid(child, NULL, 0) == child ? 0 : -1);
 }
 
 int main(void) {
@@ -126,6 +147,7 @@ int main(void) {
     file = mkstemp(path);
     made_up_times(path, file);
     other_times(path, file);
+    in_child(path);
     unlink(path);
     signals();
     return 0;

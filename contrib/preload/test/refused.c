@@ -70,9 +70,9 @@ static void timers(void) {
 
 static void processes(void) {
     char *const words[] = {"true", NULL};
-    tell("fork", fork());
+    tell("fork by number", syscall(SYS_fork));
     tell("execv", execv("/bin/true", words));
-    tell("system", system("true"));
+    tell("by number", syscall(SYS_execve, "/bin/true", words, NULL));
     tell("io_uring", syscall(SYS_io_uring_setup, 1, NULL));
     tell("by number", syscall(SYS_epoll_create1, 0));
 }
@@ -82,9 +82,9 @@ __attribute__((noinline)) static long by_number(long number) { return syscall(nu
 /* A line comes once for each call and place, whatever its arguments, and a count at the end. */
 static void again(void) {
     int result = 0;
-    for (int i = 0; i < 1000; i++) result = fork();
+    for (int i = 0; i < 1000; i++) result = daemon(0, 0);
     tell("a thousand at one place", result);
-    tell("and at another one", fork());
+    tell("and at another one", daemon(0, 0));
     for (int i = 0; i < 3; i++) result = pread(517 + i % 2, &result, 1, 0);
     tell("of different numbers", result);
     by_number(SYS_epoll_create1);

@@ -1,0 +1,101 @@
+/* Forks that are refused, and those that aren't made, for want of processes or of descriptors. */
+#include "trace.h"
+
+#include <fcntl.h>
+#include <sched.h>
+#include <signal.h>
+#include <spawn.h>
+#include <stdlib.h>
+#include <string.h>
+#include <sys/resource.h>
+#include <sys/syscall.h>
+#include <sys/wait.h>
+#include <unistd.h>
+
+extern char **environ;
+
+/* Not to everybody, if there is no child. */
+static void send_to(pid_t child, int signal) {
+    if (child > 0) kill(child, signal);
+}
+
+static void tell(const char *name, long result) {
+    printf("%s: %ld\n", name, outcome(result));
+    fflush(stdout);
+}
+
+static int run(void *nothing) {
+    (void)nothing;
+    return 0;
+}
+
+static void refused(void) {
+    static char stack[4096];
+    char *const words[] = {"true", NULL};
+    FILE *stream;
+    tell("clone", clone(run, stack + sizeof stack, SIGCHLD, NULL));
+    tell("clone by number", syscall(SYS_clone, SIGCHLD, NULL, NULL, NULL, NULL));
+    tell("clone3", syscall(SYS_clone3, NULL, 0));
+    tell("exec", execv("/bin/true", words));
+    tell("execlp", execlp("true", "true", NULL));
+    stream = popen("true", "r");
+    tell("popen", stream ? 0 : -1);
+    tell("daemon", daemon(1, 1));
+}
+
+static pid_t sleeper(void) {
+    pid_t child = fork();
+    if (child == 0) {
+        sleep(1000);
+        _exit(0);
+    }
+    return child;
+}
+
+/* One process of 64 is the program's own. */
+static void more_than_processes(void) {
+    pid_t children[64], last;
+    int count = 0, ended = 0;
+    while (count < 64 && (children[count] = sleeper()) > 0) count++;
+    tell("the next one", -1);
+    printf("children: %d\n", count);
+    tell("posix_spawn", posix_spawn(&last, "/bin/true", NULL, NULL, (char *[]){"true", NULL}, environ));
+    for (int i = 0; i < count; i++) {
+        send_to(children[i], SIGKILL);
+        ended += waitpid(children[i], NULL, 0) == children[i];
+    }
+    printf("ended: %d\n", ended);
+    last = sleeper();
+    printf("one more: %d\n", last > 0);
+    send_to(last, SIGKILL);
+    waitpid(last, NULL, 0);
+}
+
+/* The real limit has room for a few descriptors above those that the program can name. */
+static void low_limit(void) {
+    struct rlimit limit = {1500, 1540};
+    int ends[2], more[2];
+    char byte = 'x';
+    pid_t child;
+    pipe(ends);
+    tell("limit", setrlimit(RLIMIT_NOFILE, &limit));
+    pipe(more);
+    tell("two pipes", fork());
+    tell("nobody to wait for", waitpid(-1, NULL, WNOHANG));
+    close(more[0]), close(more[1]);
+    close(ends[0]);
+    child = fork();
+    if (child == 0) _exit(3);
+    printf("one end: %d\n", child > 0);
+    tell("it ended", waitpid(child, NULL, 0) == child ? 0 : -1);
+    tell("the pipe has no reader", write(ends[1], &byte, 1));
+    close(ends[1]);
+}
+
+int main(void) {
+    signal(SIGPIPE, SIG_IGN);
+    refused();
+    more_than_processes();
+    low_limit();
+    return 0;
+}

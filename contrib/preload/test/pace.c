@@ -1,0 +1,123 @@
+/* How the clock goes while a child lives, and after it. An hour that took an hour would end the run. */
+#include "trace.h"
+
+#include <fcntl.h>
+#include <poll.h>
+#include <signal.h>
+#include <stdlib.h>
+#include <string.h>
+#include <sys/wait.h>
+#include <unistd.h>
+
+/* Not to everybody, if there is no child. */
+static void send_to(pid_t child, int signal) {
+    if (child > 0) kill(child, signal);
+}
+
+static pid_t run(const char *command, int out[2]) {
+    pid_t child;
+    pipe(out);
+    child = fork();
+    if (child == 0) {
+        dup2(out[1], 1);
+        close_range(3, ~0U, 0);
+        execl("/bin/sh", "sh", "-c", command, NULL);
+        _exit(127);
+    }
+    close(out[1]);
+    return child;
+}
+
+/* What comes first: the end of so many milliseconds, or of a child. */
+static void race(const char *command, int milliseconds) {
+    int out[2], found;
+    pid_t child = run(command, out);
+    long began = clock_now();
+    struct pollfd file = {out[0], POLLIN, 0};
+    found = poll(&file, 1, milliseconds);
+    printf("%s: %s", command, found == 0 ? "the time" : "the child");
+    printf(found == 0 ? " after %ld ms\n" : "\n", clock_now() - began);
+    send_to(child, SIGKILL);
+    waitpid(child, NULL, 0);
+    close(out[0]);
+}
+
+static void hours(void) {
+    long began = clock_now();
+    for (int i = 0; i < 3; i++) sleep(3600);
+    printf("three hours: %ld s\n", (clock_now() - began) / 1000);
+}
+
+/* A time that begins after a wait isn't shorter by it, though no time passed for the program in the wait. */
+static void time_after_wait(void) {
+    int out[2], status = -1;
+    pid_t child = run("sleep 2; echo x; sleep 0.1; echo y", out);
+    struct pollfd file = {out[0], POLLIN, 0};
+    char bytes[2];
+    read(out[0], bytes, sizeof bytes);
+    printf("before its second line comes %s\n", poll(&file, 1, 1900) == 0 ? "the time" : "nothing");
+    read(out[0], bytes, sizeof bytes);
+    printf("the last one: %c, ", bytes[0]);
+    waitpid(child, &status, 0);
+    printf("status %d\n", status);
+    close(out[0]);
+}
+
+/* A child that is never silent for long keeps no time from coming. */
+static void chatter(void) {
+    int out[2], lines = 0;
+    pid_t child = run("while :; do echo; sleep 0.02; done", out);
+    long end = clock_now() + 500, left;
+    struct pollfd file = {out[0], POLLIN, 0};
+    char bytes[64];
+    while ((left = end - clock_now()) > 0) {
+        if (poll(&file, 1, (int)left) == 1) read(out[0], bytes, sizeof bytes);
+        lines++;
+    }
+    printf("the time comes: %d\n", lines > 2);
+    send_to(child, SIGKILL);
+    waitpid(child, NULL, 0);
+    close(out[0]);
+}
+
+/* A poll that finds nothing takes no more than its real time. */
+static void polls(void) {
+    int out[2];
+    pid_t child = run("sleep 0.3; echo x", out);
+    long began = clock_now(), passed;
+    struct pollfd file = {out[0], POLLIN, 0};
+    while (poll(&file, 1, 0) == 0) continue;
+    passed = clock_now() - began;
+    printf("polls: %s\n", passed > 20000 ? "far too many milliseconds" : "real milliseconds");
+    waitpid(child, NULL, 0);
+    close(out[0]);
+}
+
+/* What a child leaves behind holds the clock for a second after its last bytes. */
+static void daemon_of_child(void) {
+    int out[2];
+    pid_t child = run("echo begins; sleep 10 & exit", out);
+    char bytes[16];
+    read(out[0], bytes, sizeof bytes);
+    waitpid(child, NULL, 0);
+    hours();
+    printf("its end is open: %ld\n", outcome(fcntl(out[0], F_SETFL, O_NONBLOCK)));
+    printf("nothing: %ld\n", outcome(read(out[0], bytes, sizeof bytes)));
+    close(out[0]);
+}
+
+int main(int count, char **words) {
+    if (count == 2 && strcmp(words[1], "standing") == 0) {
+        race("sleep 0.3", 100);
+        hours();
+        return 0;
+    }
+    race("exec sleep 100", 200);
+    race("echo", 60000);
+    hours();
+    time_after_wait();
+    chatter();
+    polls();
+    daemon_of_child();
+    return 0;
+}
