@@ -42,6 +42,7 @@ extern const struct forward __start_forwards[], __stop_forwards[];
 void find_forwards(void) {
     for (const struct forward *each = __start_forwards; each < __stop_forwards; each++)
         if (!*each->found) *each->found = find_next(each->name);
+    dlerror(); /* it may be that not all are there */
 }
 
 void *next_of(const char *name) {

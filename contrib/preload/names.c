@@ -13,6 +13,7 @@
 #include <sys/socket.h>
 #include <sys/stat.h>
 #include <sys/uio.h>
+#include <sys/wait.h>
 
 FORWARD(preadv2)
 FORWARD(pwritev2)
@@ -48,6 +49,8 @@ SAME(int, __sigsuspend, (const sigset_t *set), sigsuspend, (set))
 SAME(long, __sysconf, (int name), sysconf, (name))
 SAME(pid_t, __fork, (void), fork, ())
 SAME(pid_t, __vfork, (void), fork, ())
+SAME(pid_t, __wait, (int *status), wait, (status))
+SAME(pid_t, __waitpid, (pid_t pid, int *status, int options), waitpid, (pid, status, options))
 SAME(FILE *, _IO_fopen, (const char *path, const char *mode), fopen, (path, mode))
 SAME(FILE *, _IO_fdopen, (int fd, const char *mode), fdopen, (fd, mode))
 SAME(FILE *, _IO_popen, (const char *command, const char *mode), popen, (command, mode))
