@@ -145,15 +145,14 @@ static void go_outside(void) {
 int __register_atfork(void (*before)(void), void (*parent)(void), void (*child)(void), void *library);
 FORWARD(__register_atfork)
 
-static void hear_of_forks(void) { next___register_atfork()(prepare, go_on_in_parent, go_outside, NULL); }
-
-__attribute__((constructor(101))) static void hear_of_forks_first(void) {
-    static pthread_once_t heard = PTHREAD_ONCE_INIT;
-    pthread_once(&heard, hear_of_forks);
+/* A sanitizer registers its own before it is ready, and may stand in for pthread_once. There is one thread by then. */
+__attribute__((constructor(101))) static void hear_of_forks(void) {
+    static atomic_flag has_heard = ATOMIC_FLAG_INIT;
+    if (!atomic_flag_test_and_set(&has_heard)) next___register_atfork()(prepare, go_on_in_parent, go_outside, NULL);
 }
 
 int __register_atfork(void (*before)(void), void (*parent)(void), void (*child)(void), void *library) {
-    hear_of_forks_first();
+    hear_of_forks();
     return next___register_atfork()(before, parent, child, library);
 }
 
