@@ -121,8 +121,8 @@ static void go_on_in_parent(void) {
 }
 
 /* From here on every double hands on to the C library: no number is simulated, and there is no kernel. Signals that
-   were held back were the parent's. One for which not all could be made ends at once: its parent says why. So does one of
-   a fork that the shim knows nothing of. */
+   were held back were the parent's. One for which not all could be made ends at once: its parent says why. So does one
+   of a fork that the shim knows nothing of. */
 static void go_outside(void) {
     if (is_outside) return;
     if (!is_forking) {
@@ -231,7 +231,7 @@ static pid_t fork_counted(bool runs_handlers) {
     pid_t pid = -EAGAIN;
     QUIET;
     self();
-    if (!can_fork()) return refuse(ENOSYS, "fork: this C library's can't be told from others by the filter");
+    if (!can_fork()) return refuse(ENOSYS, "fork: the C library's own can't be told from others by the filter");
     pthread_once(&once, find_forwards);
     if (atomic_fetch_add(&processes, 1) < most) {
         pid = fork_once(runs_handlers);

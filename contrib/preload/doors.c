@@ -3,9 +3,9 @@
  * what comes so. It judges by the number, the arguments and the address from which the call is made:
  * - real_call, which is the shim itself, may call anything.
  * - Calls of the program and its libraries are stopped. The real kernel sends SIGSYS, and the handler here answers as
- *   the shim's function of that name does, with its line. But the C library has all signals blocked while it makes a
- *   process by clone3 or vfork, so that SIGSYS would end the program: there clone and clone3 are ENOSYS, without a line.
- *   After that answer of clone3 it makes its threads by clone, which may make them.
+ *   the shim's function of that name does, with its line. But the C library's posix_spawn has all signals blocked while
+ *   it makes a process, so that SIGSYS would end the program: there clone and clone3 are ENOSYS, without a line. After
+ *   that answer of clone3 it makes its threads by clone, which may make them.
  * - The C library's fork is one instruction. The shim forks by it, and the handler makes that call, as it does in a
  *   child; to others it is ENOSYS.
  * - A child has the filter, too, at the same addresses. There the handler makes what is asked for, but for what would
@@ -71,8 +71,8 @@ __asm__(".text\n"
 enum { MARK = 0x4e53, BY_FILTER = 1 };
 
 /* Where it goes on: at a place, or after so many instructions more. */
-enum target { KILL, IOCTL, FCNTL, CLONE, FORK, UNSHARE, PAIR, TIMER, LIMIT, LIMIT_OF, NEW_LIMIT, FOREIGN, FOREIGN_IOCTL, DOOR,
-              PROCESS, CLOCK, CALLER, INSIDE, ALLOW, ABSENT, PLACES };
+enum target { KILL, IOCTL, FCNTL, CLONE, FORK, UNSHARE, PAIR, TIMER, LIMIT, LIMIT_OF, NEW_LIMIT, FOREIGN, FOREIGN_IOCTL,
+              DOOR, PROCESS, CLOCK, CALLER, INSIDE, ALLOW, ABSENT, PLACES };
 #define SKIP(count) (PLACES + (count))
 #define NEXT SKIP(0)
 
@@ -400,24 +400,33 @@ static bool set_filter(struct sock_fprog *program) {
 
 /* ---- other programs ---- */
 
-/* A filter stays over exec, and this one knows its program by where its libraries lie. So another one lies elsewhere: it
-   has the older layout, unless this one has it. That is what a stack without bound makes. */
+/* A filter stays over exec, and this one knows its program by where its libraries lie. So another program's lie
+   elsewhere: low, or high if this one's lie low. They do in the older layout, and if the stack has no bound. */
 struct layout {
     long before;
     struct rlimit stack;
 };
 
+static void lie_low(const struct layout *layout) {
+    struct rlimit unbounded = {RLIM_INFINITY, RLIM_INFINITY};
+    if (RAW(SYS_personality, layout->before | ADDR_COMPAT_LAYOUT) >= 0) return;
+    RAW(SYS_setrlimit, RLIMIT_STACK, &unbounded); /* some containers forbid the other */
+}
+
+static void lie_high(const struct layout *layout) {
+    struct rlimit bounded = {8 << 20, layout->stack.rlim_max};
+    RAW(SYS_personality, layout->before & ~(long)ADDR_COMPAT_LAYOUT);
+    if (layout->stack.rlim_cur == RLIM_INFINITY) RAW(SYS_setrlimit, RLIMIT_STACK, &bounded);
+}
+
 static void begin_layout(struct layout *layout) {
-    static const uint64_t older = 0x400000000000;
-    enum { A_STACK = 8 << 20 };
+    static const uint64_t middle = 0x400000000000;
     layout->before = RAW(SYS_personality, UINT32_MAX);
     next_getrlimit()(RLIMIT_STACK, &layout->stack);
-    if ((uint64_t)(uintptr_t)behind_call >= older) {
-        RAW(SYS_personality, layout->before | ADDR_COMPAT_LAYOUT);
+    if ((uint64_t)(uintptr_t)behind_call >= middle) {
+        lie_low(layout);
     } else {
-        struct rlimit bounded = {A_STACK, layout->stack.rlim_max};
-        RAW(SYS_personality, layout->before & ~(long)ADDR_COMPAT_LAYOUT);
-        if (layout->stack.rlim_cur == RLIM_INFINITY) RAW(SYS_setrlimit, RLIMIT_STACK, &bounded);
+        lie_high(layout);
     }
 }
 

@@ -557,8 +557,9 @@ void look_for_nothing(void);
 void look_if_busy(void);
 /* Sleeps in the real kernel until there is something to move, or a signal, or for so long; handlers may run. */
 void sleep_with_children(const struct timespec *most);
-/* The same for the thread that watches the others, which moves bytes for those that sleep in the real kernel, and for how
-   much real time the program has not computed since its last turn. Whether there are children: else it doesn't sleep. */
+/* The same for the thread that watches the others, which moves bytes for those that sleep in the real kernel. Tells for
+   how much real time the program has not computed since its last turn. Whether there are children: else it doesn't
+   sleep. */
 bool spend_a_turn(const struct timespec *turn, uint64_t *passed);
 /* Before the program reads bytes by itself: those that were shown to a child come back. Under the table's lock. */
 void claim_shown(struct description *description);
@@ -594,8 +595,8 @@ bool call_outside(long number, const long given[6], long *result);
 
 /* children.c: whether this thread is in a fork that the shim itself has begun. */
 bool is_making_child(void);
-/* doors.c: whether the filter lets the shim fork. An exec of a child, which lies where the filter leaves it alone: minus
-   an error number. */
+/* doors.c: whether the filter lets the shim fork. An exec of a child, whose program lies where the filter leaves it
+   alone: minus an error number. */
 bool can_fork(void);
 long run_program(long number, const long given[6]);
 
