@@ -149,8 +149,8 @@ void keep_history(void) {
 void write_history_once(void) {
     static bool is_written;
     QUIET;
+    tell_what_came_again();
     pthread_mutex_lock(&writing);
-    if (!is_written) tell_what_came_again();
     if (!is_written) write_history();
     is_written = true;
     pthread_mutex_unlock(&writing);
