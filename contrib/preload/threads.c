@@ -493,14 +493,14 @@ void begin_outside(struct timed *timed, int64_t units) {
 }
 
 /* Real time has passed, and nothing has come from outside. What is to happen until then by the simulated clock happens
-   before it, unless others go on for as long as MORE. */
+   before it, unless others go on for a second more: on a busy machine they are late. */
 static void await_end(struct timed *timed) {
     pthread_mutex_lock(&timed_lock);
     timed->is_outside = false;
     timed->words = &timed->own_word;
     timed->word_count = 1;
     pthread_mutex_unlock(&timed_lock);
-    sleep_at_most(timed, MORE);
+    sleep_at_most(timed, SECOND);
     tell_watcher(0);
     while ((int64_t)moment_now() < timed->end &&
            (next_syscall()(SYS_futex, &timed->own_word, FUTEX_WAIT_BITSET | FUTEX_PRIVATE_FLAG, 0, &timed->until, NULL,
