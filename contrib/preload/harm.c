@@ -105,6 +105,7 @@ static int set_real_times(int folder, const char *path, const struct timespec ti
 }
 
 static int set_times(const char *call, int folder, const char *path, const struct timespec times[2], int flags) {
+    if (times && !can_read(times, 2 * sizeof *times)) return (int)plain_answer(-EFAULT);
     if (!may_have(call, times)) return -1;
     return path ? set_real_times(folder, path, times, flags) : (int)plain_answer(-EINVAL);
 }
@@ -112,6 +113,7 @@ static int set_times(const char *call, int folder, const char *path, const struc
 /* The same with microseconds. */
 static int set_short_times(const char *call, int folder, const char *path, const struct timeval times[2], int flags) {
     struct timespec both[2];
+    if (times && !can_read(times, 2 * sizeof *times)) return (int)plain_answer(-EFAULT);
     for (int i = 0; times && i < 2; i++) {
         if (times[i].tv_usec < 0 || times[i].tv_usec >= 1000000) {
             errno = EINVAL;
@@ -128,6 +130,7 @@ int utimensat(int folder, const char *path, const struct timespec times[2], int 
 
 static int set_times_of(const char *call, int fd, const struct timespec times[2]) {
     if (is_simulated(fd)) return refuse(EBADF, "%s(%d) is not simulated", call, fd);
+    if (times && !can_read(times, 2 * sizeof *times)) return (int)plain_answer(-EFAULT);
     return may_have(call, times) ? set_real_times(fd, NULL, times, 0) : -1;
 }
 
@@ -135,6 +138,7 @@ int futimens(int fd, const struct timespec times[2]) { return set_times_of("futi
 
 int futimes(int fd, const struct timeval times[2]) {
     struct timespec both[2];
+    if (times && !can_read(times, 2 * sizeof *times)) return (int)plain_answer(-EFAULT);
     for (int i = 0; times && i < 2; i++) both[i] = (struct timespec){times[i].tv_sec, times[i].tv_usec * 1000};
     return set_times_of("futimes", fd, times ? both : NULL);
 }
@@ -154,6 +158,7 @@ int futimesat(int folder, const char *path, const struct timeval times[2]) {
 
 int utime(const char *path, const struct utimbuf *times) {
     struct timespec both[2];
+    if (!READABLE_OR_NULL(times)) return (int)plain_answer(-EFAULT);
     if (times) both[0] = (struct timespec){times->actime, 0}, both[1] = (struct timespec){times->modtime, 0};
     return set_times("utime", AT_FDCWD, path, times ? both : NULL, 0);
 }
@@ -181,7 +186,8 @@ bool is_harmless_request(int fd, unsigned long request, const void *argument) {
         refuse(EPERM, "ioctl(%d, %#lx): a program with a simulated clock may not set the machine's", fd, request);
         return false;
     }
-    if ((request == FIOSETOWN || request == SIOCSPGRP) && *(const int *)argument == -1) {
+    if ((request == FIOSETOWN || request == SIOCSPGRP) && can_read(argument, sizeof(int)) &&
+        *(const int *)argument == -1) {
         refuse_signal("ioctl to set the owner", -1);
         return false;
     }

@@ -169,9 +169,9 @@ void write_history_once(void) {
     static bool is_written;
     if (is_outside) return;
     QUIET;
+    tell_what_came_again();
     pthread_mutex_lock(&writing);
     if (!is_written) hand_over();
-    if (!is_written) tell_what_came_again();
     if (!is_written) write_history();
     is_written = true;
     pthread_mutex_unlock(&writing);

@@ -127,8 +127,9 @@ static int post(void *given, const struct timespec *until) {
     return message->got < 0 ? errno : 0;
 }
 
-/* Without a time they wait for as long as it takes, though the header says that there has to be one. */
-static bool has_time(const struct timespec *volatile time) { return time; }
+/* Without a time they wait for as long as it takes, though the header says that there has to be one. For a bad pointer
+   the real kernel answers. */
+static bool has_time(const struct timespec *volatile time) { return time && READABLE(time); }
 
 static ssize_t answer_to(const struct message *message, int error) {
     if (error == 0) return message->got;

@@ -184,7 +184,12 @@ struct place begin_handler_stack(const void *context) {
     if (is_on_own(there) && there - RED_ZONE < top) top = there - RED_ZONE;
     if (is_on_own(here) && here - FRAMES < top) top = here - FRAMES;
     stacks.top = top & ~(uintptr_t)63;
-    if (is_on(&interrupted->uc_stack, here)) stacks.room = room_on(&interrupted->uc_stack);
+    if (is_on(&interrupted->uc_stack, here)) {
+        stacks.room = room_on(&interrupted->uc_stack);
+    } else if ((unsigned int)interrupted->uc_stack.ss_flags & DISARMS) {
+        /* It is disarmed for every handler. One that runs elsewhere leaves it to those that break into it. */
+        next_sigaltstack()(&interrupted->uc_stack, NULL);
+    }
     return before;
 }
 

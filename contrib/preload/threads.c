@@ -41,20 +41,31 @@ static int64_t real_now(void) {
 
 /* ---- moments ---- */
 
-/* The first end of a wait with a time, or the last one of those that come so soon after it. */
-static bool next_timed(uint64_t *moment, uint64_t slack) {
-    uint64_t first = UINT64_MAX, last = 0;
-    if (atomic_load(&timed_count) == 0) return false;
+/* How late waits on locks may end. Linux delays a wait by 50 microseconds by default, and many threads besides take turns
+   on few processors. Here so many would take turns at each moment at which anything happens, however soon it is. */
+static uint64_t slack(void) {
+    int count = atomic_load(&timed_count);
+    return count < MILLISECOND / SLACK ? (uint64_t)count * SLACK : (uint64_t)MILLISECOND;
+}
+
+/* The ends of waits with a time: the first one, and the last one of those that come within the slack after it. */
+struct ends {
+    uint64_t first, last;
+};
+
+static bool find_ends(struct ends *ends) {
+    uint64_t late = slack();
+    *ends = (struct ends){UINT64_MAX, 0};
+    if (late == 0) return false;
     pthread_mutex_lock(&timed_lock);
     for (const struct timed *timed = all_timed; timed; timed = timed->next)
-        if ((uint64_t)timed->end < first) first = (uint64_t)timed->end;
+        if ((uint64_t)timed->end < ends->first) ends->first = (uint64_t)timed->end;
     for (const struct timed *timed = all_timed; timed; timed = timed->next) {
         uint64_t end = (uint64_t)timed->end;
-        if (end - first <= slack && end > last && end <= LAST_MOMENT) last = end;
+        if (end - ends->first <= late && end > ends->last && end <= LAST_MOMENT) ends->last = end;
     }
     pthread_mutex_unlock(&timed_lock);
-    *moment = last;
-    return last > 0;
+    return ends->last > 0;
 }
 
 /* The next moment at which something else happens. */
@@ -68,18 +79,16 @@ static bool next_event(uint64_t *moment) {
     return true;
 }
 
-/* With slack, waits on locks that end so soon after each other end together, as Linux has it for all waits: else a
-   program whose threads wait for some microseconds each would take turns for each of them. */
-static bool next_moment_with(uint64_t slack, uint64_t *moment) {
-    uint64_t event = UINT64_MAX, end = UINT64_MAX;
+/* What else happens until waits on locks have to end comes before their ends, and they end together. */
+bool next_moment(uint64_t *moment) {
+    uint64_t event = UINT64_MAX;
+    struct ends ends;
     QUIET;
-    bool has_event = next_event(&event), has_end = next_timed(&end, slack);
+    bool has_event = next_event(&event), has_end = find_ends(&ends);
     if (!has_event && !has_end) return false;
-    *moment = event < end ? event : end;
+    *moment = !has_end || (has_event && event <= ends.first + slack()) ? event : ends.last;
     return true;
 }
-
-bool next_moment(uint64_t *moment) { return next_moment_with(0, moment); }
 
 /* How far the clock may go while threads wait for what is outside: as far as real time has gone since then, and not past
    the end of such a wait. Else what is outside would come too late for each of them. */
@@ -144,7 +153,7 @@ static bool move_clock(int64_t *pause) {
         pay_at_answer();
         return true;
     }
-    if (!next_moment_with(SLACK, &moment)) return false;
+    if (!next_moment(&moment)) return false;
     limit = outside_limit(&waits);
     if (moment > limit) {
         *pause = moment - limit < MILLISECOND ? (int64_t)(moment - limit) : MILLISECOND;
@@ -420,8 +429,10 @@ static bool is_over(const struct timed *timed) {
 
 void end_timed_waits(uint64_t moment) {
     int saved = errno;
+    uint64_t next;
     if (atomic_load(&timed_count) == 0) return;
     QUIET;
+    if (!next_moment(&next) || next > moment) return; /* something else comes first, or nothing ends by then */
     pthread_mutex_lock(&timed_lock);
     for (struct timed *timed = all_timed; timed; timed = timed->next)
         if ((uint64_t)timed->end <= moment && !timed->is_outside) end_sleep(timed);
@@ -511,14 +522,14 @@ void begin_outside(struct timed *timed, int64_t units) {
 }
 
 /* Real time has passed, and nothing has come from outside. What is to happen until then by the simulated clock happens
-   before it, unless others go on for as long as MORE. */
+   before it, unless others go on for a second more: on a busy machine they are late. */
 static void await_end(struct timed *timed) {
     pthread_mutex_lock(&timed_lock);
     timed->is_outside = false;
     timed->words = &timed->own_word;
     timed->word_count = 1;
     pthread_mutex_unlock(&timed_lock);
-    sleep_at_most(timed, MORE);
+    sleep_at_most(timed, SECOND);
     tell_watcher(0);
     while ((int64_t)moment_now() < timed->end &&
            (next_syscall()(SYS_futex, &timed->own_word, FUTEX_WAIT_BITSET | FUTEX_PRIVATE_FLAG, 0, &timed->until, NULL,

@@ -20,7 +20,7 @@
 #include <ucontext.h>
 #include <unistd.h>
 
-enum { COROUTINE = 8192, ALTERNATE = 8192, PAINT = 0xa5, THREADS = 20 };
+enum { COROUTINE = 8192, LARGER = 32768, ALTERNATE = 8192, PAINT = 0xa5, THREADS = 20 };
 
 static int ends[2], sides[2], counter, timer, instance;
 static volatile int came;
@@ -74,18 +74,22 @@ enum { CALLS = 15 };
 static ucontext_t outside, inside;
 static int wanted;
 
-static void run_coroutine(void) { call_once(wanted); }
+static void run_wanted(void) { call_once(wanted); }
+
+static void run_as_coroutine(void (*run)(void), char *stack, size_t size) {
+    getcontext(&inside);
+    inside.uc_stack.ss_sp = stack;
+    inside.uc_stack.ss_size = size;
+    inside.uc_link = &outside;
+    makecontext(&inside, run, 0);
+    swapcontext(&outside, &inside);
+}
 
 static size_t taken_by(int call, char *stack) {
     size_t free_bytes = 0;
     wanted = call;
     memset(stack, PAINT, COROUTINE);
-    getcontext(&inside);
-    inside.uc_stack.ss_sp = stack;
-    inside.uc_stack.ss_size = COROUTINE;
-    inside.uc_link = &outside;
-    makecontext(&inside, run_coroutine, 0);
-    swapcontext(&outside, &inside);
+    run_as_coroutine(run_wanted, stack, COROUTINE);
     while (free_bytes < COROUTINE && (unsigned char)stack[free_bytes] == PAINT) free_bytes++;
     return COROUTINE - free_bytes;
 }
@@ -182,13 +186,12 @@ static int drained(void) {
 /* What handlers do to a wait, on whatever stack this is. */
 static void be_broken(void) {
     struct pollfd file = {counter, POLLIN, 0};
-    int flags = SA_ONSTACK;
-    for (int way = 0; way < 2; way++, flags = 0) {
-        handle(SIGALRM, write_byte, flags);
+    for (int way = 0; way < 4; way++) {
+        handle(SIGALRM, write_byte, way & 1 ? SA_ONSTACK : 0);
         alarm_in(20);
         trace("poll: %ld", outcome(poll(&file, 1, 1000)));
         trace("%d written", drained());
-        handle(SIGUSR1, wait_within, flags);
+        handle(SIGUSR1, wait_within, way & 2 ? SA_ONSTACK : 0);
         raise(SIGUSR1);
         trace("within: %d", (int)came);
         trace("%d written", drained());
@@ -202,7 +205,7 @@ static void jump_about(void) {
     struct pollfd file = {counter, POLLIN, 0};
     stack_t now;
     for (volatile int turn = 0; turn < 3; turn++) {
-        handle(SIGALRM, jump_out, turn == 2 ? 0 : SA_ONSTACK);
+        handle(SIGALRM, jump_out, turn == 0 ? 0 : SA_ONSTACK);
         alarm_in(20);
         if (sigsetjmp(out, 1) == 0) trace("poll: %d", poll(&file, 1, 1000));
         sigaltstack(NULL, &now);
@@ -215,13 +218,17 @@ static void give_alternate(char *place) {
     if (sigaltstack(&given, NULL) != 0) trace("no alternate stack: %d", errno);
 }
 
+static void break_and_jump(void) {
+    be_broken();
+    jump_about();
+}
+
 static void *run_small(void *alternate) {
     sigset_t none;
     sigemptyset(&none);
     pthread_sigmask(SIG_SETMASK, &none, NULL);
     give_alternate(alternate);
-    be_broken();
-    jump_about();
+    break_and_jump();
     return NULL;
 }
 
@@ -230,10 +237,13 @@ static void handlers(void) {
     pthread_attr_t attributes;
     sigset_t all, before;
     pthread_t thread;
+    char *stack = malloc(LARGER);
     sigemptyset(&all);
     sigaddset(&all, SIGALRM);
     sigaddset(&all, SIGUSR1);
     run_small(first);
+    run_as_coroutine(break_and_jump, stack, LARGER);
+    free(stack);
     /* The thread gets the signals, and this one doesn't. */
     pthread_attr_init(&attributes);
     pthread_attr_setstacksize(&attributes, 2 * PTHREAD_STACK_MIN);

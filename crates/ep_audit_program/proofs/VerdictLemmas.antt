@@ -1,5 +1,5 @@
 -- How far a history was read and judged.
-use Rattle.std.proofs.Common.{◌≡◌, ◌∙◌, ◌+◌, ◌++◌, ◌∷◌, [], ℕ, IfSome, List, None, Option, Some, ap, length, map, sym}
+use Rattle.std.proofs.Common.{◌≡◌, ◌∙◌, ◌+◌, ◌++◌, ◌∷◌, [], ℕ, IfSome, List, None, Option, Some, ap, length, sym}
 use Rattle.std.proofs.lemmas.List.{length-map}
 use Rattle.std.specs.Io.KnownBytes.{prepend_known}
 use Rattle.ep_base.specs.Limits.{Limits}

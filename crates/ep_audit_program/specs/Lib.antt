@@ -1,1 +1,3 @@
+pub mod Options
+pub mod Status
 pub mod Verdict

@@ -1,6 +1,12 @@
 //! The program, over any reader and writers.
-ghost use Rattle.std.specs.Prelude.{◌≡◌, ◌≢◌, ◌≤◌};
-ghost use Rattle.std.specs.IoError.{error_kind};
+ghost use Rattle.std.specs.Prelude.{◌≡◌, ◌≢◌, ◌<◌, ◌≤◌, IfSome, IsNone, Some, [], map, string_bytes};
+ghost use Rattle.clap.specs.Kinds.{IsAmong};
+ghost use Rattle.clap.specs.Words.{kind_of};
+ghost use Rattle.ep_base.specs.Limits.{Limits as Numbers, default_limits};
+ghost use Rattle.ep_text.specs.Limits.{IsLimitsText};
+ghost use Rattle.ep_script.specs.Lines.{lines_of};
+ghost use Rattle.ep_audit_program.specs.Options.{faults_in, limits_in};
+ghost use Rattle.ep_audit_program.specs.Status.{AreLimitsOf, IsAuditBy, IsStatusOf, status_of};
 
 use crate::command_line::limits_word;
 use crate::judge::Verdict;
@@ -55,7 +61,11 @@ fn write_text<W: Write>(text: &clap::Error, writer: &mut W) -> io::Result<()> {
 
 /// Tells what `clap` found: help or the version on the output, a mistake in the words on `errors`.
 fn tell<W: Write, E: Write>(found: &clap::Error, output: &mut W, errors: &mut E) -> u8
-    ensures { result ≤ 2 }
+    ensures bound { result ≤ 2 }
+    ensures asked { result ≢ 1 }
+    ensures memory { kind_of found.now ≡ ErrorKind.OutOfMemory → result ≡ 2 }
+    ensures mistake { kind_of found.now ≢ ErrorKind.DisplayHelp
+        → kind_of found.now ≢ ErrorKind.DisplayVersion → result ≡ 2 }
 {
     match found.kind() {
         ErrorKind::OutOfMemory => fail("out of memory", errors),
@@ -87,7 +97,8 @@ fn write_illegal<W: Write>(place: u64, line: &[u8], output: &mut W) -> io::Resul
 
 /// Tells the verdict. If it can't be written there is none.
 fn tell_verdict<W: Write, E: Write>(found: &Verdict, output: &mut W, errors: &mut E) -> u8
-    ensures { result ≤ 2 }
+    ensures bound { result ≤ 2 }
+    ensures status { result < 2 → result ≡ status_of found.now }
 {
     let (status, written) = match found {
         Verdict::Legal(count) => (LEGAL, write_legal(*count, output)),
@@ -109,7 +120,9 @@ fn read_and_judge<R: Read, W: Write, E: Write>(
 ) -> u8
 where
     R: Drop,
-    ensures { result ≤ 2 }
+    ensures bound { result ≤ 2 }
+    ensures verdict { result < 2
+        → IfSome (R.remaining reader) (λ input. IsStatusOf limits.now (lines_of input) result) }
 {
     let mut reader = Watched::new(reader);
     match judge_history(alloc, limits, &mut reader) {
@@ -121,12 +134,26 @@ where
     }
 }
 
-/// Does what the words of the command line, the program's name first, ask for, and gives the
-/// status: 0 where the history on `reader` is a run of the machine under the limits, or for `--help`
-/// and `--version`, 1 where it is none, 2 where there is no verdict: bad words or limits, a line
-/// that is no record, a reader or an output that fails, or want of memory. The words are looked at
-/// first, then the limits, and the history is read last. The verdict is written to `output`, and
-/// why there is none to `errors`, in one line; a write there that fails changes no status.
+/// The limits of the text, and those of a kernel by default if there is none. `None` exactly if the text writes no
+/// limits.
+fn limits_of(text: Option<&str>) -> Option<Limits>
+    ensures missing { IsNone text.entry → result ≡ Some default_limits }
+    ensures read { IfSome text.entry (λ t. IfSome result (IsLimitsText t.now)) }
+{
+    match text {
+        None => Some(Limits::default()),
+        Some(text) => parse_limits(text),
+    }
+}
+
+/// Does what the words of the command line, the program's name first, ask for, and gives the status. It is
+/// - 0 if the history on `reader` is a run of the machine under the limits, or for `--help` and `--version`,
+/// - 1 if it is none,
+/// - 2 if there is no verdict: for bad words or limits, a line that is no record, a reader or an output that fails, or
+///   want of memory.
+///
+/// The words are looked at first, then the limits, and the history is read last. The verdict is written to `output`,
+/// and why there is none to `errors`, in one line. A write there that fails changes no status.
 pub fn run_with<R: Read + Drop, W: Write, E: Write>(
     alloc: Global,
     words: Vec<String>,
@@ -134,17 +161,21 @@ pub fn run_with<R: Read + Drop, W: Write, E: Write>(
     output: &mut W,
     errors: &mut E,
 ) -> u8
-    ensures { result ≤ 2 }
+    ensures bound { result ≤ 2 }
+    ensures asked { faults_in (map string_bytes words.items) ≢ [] → result ≢ 1 }
+    ensures mistake { faults_in (map string_bytes words.items) ≢ []
+        → (IsAmong ErrorKind.DisplayHelp (faults_in (map string_bytes words.items)) → ⊥)
+        → (IsAmong ErrorKind.DisplayVersion (faults_in (map string_bytes words.items)) → ⊥)
+        → result ≡ 2 }
+    ensures verdict { faults_in (map string_bytes words.items) ≡ [] → result < 2
+        → IfSome (R.remaining reader) (λ input.
+        IsAuditBy (limits_in (map string_bytes words.items)) (lines_of input) result) }
 {
     let text = match limits_word(alloc, words.as_slice()) {
         Ok(text) => text,
         Err(found) => return tell(&found, output, errors),
     };
-    let limits = match text {
-        None => Some(Limits::default()),
-        Some(text) => parse_limits(text),
-    };
-    match limits {
+    match limits_of(text) {
         Some(limits) => read_and_judge(alloc, &limits, reader, output, errors),
         None => refuse_limits(text.unwrap_or(""), errors),
     }
