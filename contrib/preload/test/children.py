@@ -71,7 +71,7 @@ async def all_of_them():
     for part in echo, converse, close_reader, guard, much, many:
         await part()
     try:
-        await asyncio.create_subprocess_exec("no-such-program")
+        await asyncio.create_subprocess_exec("/no-such-program")
     except FileNotFoundError as error:
         trace(error)
 
