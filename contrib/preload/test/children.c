@@ -1,5 +1,6 @@
 /* Children that a fork makes, with an exec and without: their pipes and sockets, what is closed and when, who reads
    what, and how time goes meanwhile. */
+#include "child.h"
 #include "trace.h"
 
 #include <fcntl.h>
@@ -12,18 +13,6 @@
 #include <unistd.h>
 
 extern char **environ;
-
-/* Not to everybody, if there is no child. */
-static void send_to(pid_t child, int signal) {
-    if (child > 0) kill(child, signal);
-}
-
-/* How a child ended: its status, or minus the signal. */
-static int end_of(pid_t child) {
-    int status = 0;
-    if (waitpid(child, &status, 0) != child) return -1000;
-    return WIFEXITED(status) ? WEXITSTATUS(status) : -WTERMSIG(status);
-}
 
 /* A program whose 0, 1 and 2 are these descriptors, if they aren't below 0. All others are closed. */
 static pid_t run(char *const words[], int in, int out, int error) {

@@ -1,4 +1,5 @@
 /* Forks that are refused, and those that aren't made, for want of processes or of descriptors. */
+#include "child.h"
 #include "trace.h"
 
 #include <fcntl.h>
@@ -13,11 +14,6 @@
 #include <unistd.h>
 
 extern char **environ;
-
-/* Not to everybody, if there is no child. */
-static void send_to(pid_t child, int signal) {
-    if (child > 0) kill(child, signal);
-}
 
 static void tell(const char *name, long result) {
     printf("%s: %ld\n", name, outcome(result));

@@ -1,4 +1,5 @@
 /* How the clock goes while a child lives, and after it. An hour that took an hour would end the run. */
+#include "child.h"
 #include "trace.h"
 
 #include <fcntl.h>
@@ -8,11 +9,6 @@
 #include <string.h>
 #include <sys/wait.h>
 #include <unistd.h>
-
-/* Not to everybody, if there is no child. */
-static void send_to(pid_t child, int signal) {
-    if (child > 0) kill(child, signal);
-}
 
 static pid_t run(const char *command, int out[2]) {
     pid_t child;

@@ -1,4 +1,5 @@
 /* posix_spawn with all that it can be asked for, and pidfds beside pipes. */
+#include "child.h"
 #include "trace.h"
 
 #include <fcntl.h>
@@ -15,17 +16,6 @@
 #include <unistd.h>
 
 extern char **environ;
-
-/* Not to everybody, if there is no child. */
-static void send_to(pid_t child, int signal) {
-    if (child > 0) kill(child, signal);
-}
-
-static int end_of(pid_t child) {
-    int status = 0;
-    if (waitpid(child, &status, 0) != child) return -1000;
-    return WIFEXITED(status) ? WEXITSTATUS(status) : -WTERMSIG(status);
-}
 
 static void tell_all(const char *name, int fd) {
     char bytes[4096];
