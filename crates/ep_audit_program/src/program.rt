@@ -6,7 +6,7 @@ ghost use Rattle.ep_base.specs.Limits.{Limits as Numbers, default_limits};
 ghost use Rattle.ep_text.specs.Limits.{IsLimitsText};
 ghost use Rattle.ep_script.specs.Lines.{lines_of};
 ghost use Rattle.ep_audit_program.specs.Options.{faults_in, limits_in};
-ghost use Rattle.ep_audit_program.specs.Status.{AreLimitsOf, IsAuditBy, IsStatusOf, status_of};
+ghost use Rattle.ep_audit_program.specs.Status.{IsAuditBy, IsStatusOf, status_of};
 
 use crate::command_line::limits_word;
 use crate::judge::Verdict;
@@ -167,6 +167,9 @@ pub fn run_with<R: Read + Drop, W: Write, E: Write>(
         → (IsAmong ErrorKind.DisplayHelp (faults_in (map string_bytes words.items)) → ⊥)
         → (IsAmong ErrorKind.DisplayVersion (faults_in (map string_bytes words.items)) → ⊥)
         → result ≡ 2 }
+    ensures limits { faults_in (map string_bytes words.items) ≡ []
+        → IfSome (limits_in (map string_bytes words.items)) (λ text.
+        ((limits : Numbers) → IsLimitsText text limits → ⊥) → result ≡ 2) }
     ensures verdict { faults_in (map string_bytes words.items) ≡ [] → result < 2
         → IfSome (R.remaining reader) (λ input.
         IsAuditBy (limits_in (map string_bytes words.items)) (lines_of input) result) }
