@@ -241,19 +241,6 @@ static ssize_t give_vectors(int fd, const struct iovec *vectors, int count, int 
     return taken;
 }
 
-/* A call on a real descriptor. It may be a socket that has a timeout. */
-#define IN_TIME(fd, option, flags, call)                                           \
-    __extension__({                                                                \
-        int64_t longest = 0;                                                       \
-        struct timed outside;                                                      \
-        ssize_t answer;                                                            \
-        if (has_timeouts && !is_outside) longest = timeout_of_real(fd, option, flags); \
-        if (longest > 0) begin_outside(&outside, longest);                         \
-        answer = (call);                                                           \
-        if (longest > 0) end_outside(&outside, answer < 0 && errno == EAGAIN);     \
-        answer;                                                                    \
-    })
-
 /* ---- files ---- */
 
 ssize_t read(int fd, void *bytes, size_t count) {

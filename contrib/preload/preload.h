@@ -394,6 +394,19 @@ ssize_t take(int fd, char *bytes, size_t count, int flags, const char *call);
    wait. */
 extern atomic_bool has_timeouts;
 int64_t timeout_of_real(int fd, int option, int flags);
+/* A call on a real descriptor, which may be such a socket. One that connects tells by another error that its time is
+   over. */
+#define IN_TIME(fd, option, flags, call)                                                                 \
+    __extension__({                                                                                      \
+        int64_t longest = 0;                                                                             \
+        struct timed outside;                                                                            \
+        __typeof__(call) answer;                                                                         \
+        if (has_timeouts && !is_outside) longest = timeout_of_real(fd, option, flags);                   \
+        if (longest > 0) begin_outside(&outside, longest, false);                                        \
+        answer = (call);                                                                                 \
+        if (longest > 0) end_outside(&outside, answer < 0 && (errno == EAGAIN || errno == EINPROGRESS)); \
+        answer;                                                                                          \
+    })
 
 /* ---- waits.c ---- */
 
@@ -494,6 +507,7 @@ struct timed {
     clockid_t clock;         /* the real clock that the C library waits by */
     struct timespec until;   /* the end of its sleep by that clock, which is read again each time that it wakes */
     bool is_outside;         /* it waits for something outside of the program, as a poll of real descriptors */
+    bool lasts_on;           /* such a one may last on after its end, and then holds the clock no more */
     uint64_t began;          /* such a one, by the simulated clock */
     int64_t began_really;
     uint32_t own_word;       /* it sleeps on, once it is over outside */
@@ -507,8 +521,9 @@ void begin_timed_on(struct timed *timed, const struct timespec *time, const void
 int error_of_timed(struct timed *timed, int error);
 void end_timed(const struct timed *timed);
 /* A wait for something outside that takes at most so many UNITs of real time. Until its end the clock goes no faster
-   than real time does. Whether it is over says whether nothing came: then the clock is at its end. */
-void begin_outside(struct timed *timed, int64_t units);
+   than real time does. Whether it is over says whether nothing came: then the clock is at its end. One that lasts on is
+   over at its end if something comes after it. */
+void begin_outside(struct timed *timed, int64_t units, bool lasts_on);
 void end_outside(struct timed *timed, bool is_over);
 /* futex(2) with these six arguments, whose times are by the simulated clock. */
 long call_futex(const long given[6]);

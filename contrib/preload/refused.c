@@ -24,15 +24,8 @@
         return refuse(error, "%s(%d) is not simulated", #name, fd); \
     }
 
-REAL_ONLY(int, accept, (int fd, struct sockaddr *from, socklen_t *size), (fd, from, size), EINVAL)
-REAL_ONLY(int, accept4, (int fd, struct sockaddr *from, socklen_t *size, int flags), (fd, from, size, flags), EINVAL)
 REAL_ONLY(int, bind, (int fd, const struct sockaddr *to, socklen_t size), (fd, to, size), EINVAL)
-REAL_ONLY(int, connect, (int fd, const struct sockaddr *to, socklen_t size), (fd, to, size), EISCONN)
 REAL_ONLY(int, listen, (int fd, int most), (fd, most), EINVAL)
-REAL_ONLY(int, recvmmsg, (int fd, struct mmsghdr *to, unsigned int count, int flags, struct timespec *time),
-          (fd, to, count, flags, time), EOPNOTSUPP)
-REAL_ONLY(int, sendmmsg, (int fd, struct mmsghdr *from, unsigned int count, int flags), (fd, from, count, flags),
-          EOPNOTSUPP)
 REAL_ONLY(ssize_t, preadv, (int fd, const struct iovec *to, int count, off_t at), (fd, to, count, at), ESPIPE)
 REAL_ONLY(ssize_t, pwritev, (int fd, const struct iovec *from, int count, off_t at), (fd, from, count, at), ESPIPE)
 REAL_ONLY(ssize_t, pread, (int fd, void *to, size_t count, off_t at), (fd, to, count, at), ESPIPE)
