@@ -475,6 +475,15 @@ void shut_doors(void);
 /* A call of the real kernel that no filter of the shim's stops: its answer, or minus an error number. */
 long real_call(long number, long first, long second, long third, long fourth, long fifth, long sixth);
 
+/* ---- masks.c: SIGSYS, which is never blocked ---- */
+
+/* rt_sigprocmask(2) with these arguments, by number; the same in a handler that the filter has called, for what the
+   context is of: 0, or minus an error number. */
+long call_mask(const long given[6]);
+long change_mask_of(void *context, const long given[6]);
+/* A SIGSYS that the filter hasn't sent. */
+void take_own_door_signal(int signal, siginfo_t *info, void *context);
+
 /* ---- handles.c ---- */
 
 /* The C library's dlsym. */

@@ -139,6 +139,7 @@ static bool call_double(long number, const long given[6], long *result) {
     case SYS_ioctl: *result = ioctl((int)given[0], (unsigned long)given[1], given[2]); return true;
     case SYS_futex: *result = call_futex(given); return true;
     case SYS_unshare: *result = unshare((int)given[0]); return true;
+    case SYS_rt_sigprocmask: *result = call_mask(given); return true;
     case SYS_getrlimit:
     case SYS_setrlimit:
     case SYS_prlimit64: *result = call_limit(number, given); return true;
@@ -192,6 +193,10 @@ bool call_by_number(long number, const long given[6], long *result) {
 /* A child of vfork would run on a stack that this call goes on with. */
 bool call_outside(long number, const long given[6], long *result) {
     if (call_harmless(number, given, result) || call_program(number, given, result)) return true;
+    if (number == SYS_rt_sigprocmask) {
+        *result = call_mask(given);
+        return true;
+    }
     if (number == SYS_vfork) number = SYS_fork;
     *result = plain_answer(real_call(number, given[0], given[1], given[2], given[3], given[4], given[5]));
     return true;
