@@ -475,6 +475,11 @@ void shut_doors(void);
 /* A call of the real kernel that no filter of the shim's stops: its answer, or minus an error number. */
 long real_call(long number, long first, long second, long third, long fourth, long fifth, long sixth);
 
+/* ---- streams.c ---- */
+
+/* At an orderly end of the program: what streams haven't written yet. */
+void flush_streams(void);
+
 /* ---- masks.c: SIGSYS, which is never blocked ---- */
 
 /* rt_sigprocmask(2) with these arguments, by number; the same in a handler that the filter has called, for what the

@@ -44,7 +44,6 @@ REAL_ONLY(int, fdatasync, (int fd), (fd), EINVAL)
 REAL_TWO(tee, (int from, int to, size_t count, unsigned int flags), from, to, (from, to, count, flags))
 
 FORWARD(lseek)
-FORWARD(fdopen)
 
 /* ESPIPE is what Linux answers, and programs ask in order to hear it: no line. */
 off_t lseek(int fd, off_t offset, int whence) {
@@ -54,12 +53,6 @@ off_t lseek(int fd, off_t offset, int whence) {
 }
 
 off64_t lseek64(int fd, off64_t offset, int whence) { return lseek(fd, offset, whence); }
-
-FILE *fdopen(int fd, const char *mode) {
-    if (!is_simulated(fd)) return next_fdopen()(fd, mode);
-    refuse(EINVAL, "fdopen(%d): streams of the C library are not simulated", fd);
-    return NULL;
-}
 
 /* ---- processes ---- */
 

@@ -28,14 +28,11 @@ static int run(void *nothing) {
 static void refused(void) {
     static char stack[4096];
     char *const words[] = {"true", NULL};
-    FILE *stream;
     tell("clone", clone(run, stack + sizeof stack, SIGCHLD, NULL));
     tell("clone by number", syscall(SYS_clone, SIGCHLD, NULL, NULL, NULL, NULL));
     tell("clone3", syscall(SYS_clone3, NULL, 0));
     tell("exec", execv("/bin/true", words));
     tell("execlp", execlp("true", "true", NULL));
-    stream = popen("true", "r");
-    tell("popen", stream ? 0 : -1);
     tell("daemon", daemon(1, 1));
 }
 

@@ -42,7 +42,6 @@ static void descriptors(void) {
     tell("pread", pread(ends[0], &mask, 1, 0));
     tell("tee", tee(ends[0], ends[1], 1, 0));
     tell("sendfile", sendfile(1, ends[0], NULL, 1));
-    tell("stream", fdopen(ends[0], "r") ? 0 : -1);
     tell("a number of nobody", (close(ends[0]), read(ends[0], &mask, 1)));
 }
 
