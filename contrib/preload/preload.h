@@ -475,6 +475,12 @@ void shut_doors(void);
 /* A call of the real kernel that no filter of the shim's stops: its answer, or minus an error number. */
 long real_call(long number, long first, long second, long third, long fourth, long fifth, long sixth);
 
+/* ---- paths.c ---- */
+
+/* Whether a path names a list of this process' descriptors. Whether a call may go to it: if not, it is refused. */
+bool is_list(const char *path);
+bool may_reach(const char *call, const char *path);
+
 /* ---- streams.c ---- */
 
 /* At an orderly end of the program: what streams haven't written yet. */
