@@ -291,6 +291,12 @@ static struct child *find_child(uint64_t process) {
     return child;
 }
 
+bool lives_or_later(uint64_t process) {
+    const struct child *child = find_child(process);
+    while (child && child->has_ended) child = child->next;
+    return child != NULL;
+}
+
 void note_closing(uint64_t process) {
     struct child *child = find_child(process);
     if (child) child->may_end = true;
