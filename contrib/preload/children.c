@@ -136,6 +136,7 @@ static void go_outside(void) {
     atomic_store(&living, 0);
     is_logged = false;
     is_outside = true;
+    remember_lost();
     make_all_numbers_real();
     forget_kernel();
     unlock_all();

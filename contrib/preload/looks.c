@@ -140,14 +140,17 @@ static bool is_gone(long thread) {
     return state == 'Z' || (state == 'X' && read_of(next_syscall()(SYS_gettid), "stat", line, sizeof line) > 0);
 }
 
-/* To open the file of a thread takes longer than to read it. So some stay open, above all numbers of the program. */
+/* To open the file of a thread takes longer than to read it. So some stay open, above all numbers of the program, if
+   children have enough of those all the same. */
 static int open_file(long thread) {
+    enum { FOR_CHILDREN = 1024 };
     struct rlimit before;
     char path[64];
-    int fd;
+    int fd = EACH_TIME;
     if (files == MOST_FILES || !raise_real_limit(&before)) return EACH_TIME;
     snprintf(path, sizeof path, "/proc/self/task/%ld/syscall", thread);
-    fd = lift((int)RAW(SYS_openat, AT_FDCWD, path, O_RDONLY | O_CLOEXEC));
+    if (before.rlim_max >= (rlim_t)(FIRST + NUMBERS + MOST_FILES + FOR_CHILDREN))
+        fd = lift((int)RAW(SYS_openat, AT_FDCWD, path, O_RDONLY | O_CLOEXEC));
     lower_real_limit(&before);
     if (fd < 0) return EACH_TIME;
     files++;

@@ -354,6 +354,7 @@ void end_own(int number);
    fewer; a number that names a description, or -1; whether any does. */
 struct description *description_at(int number, bool *closes_on_exec);
 bool is_taken(int number);
+void free_number(int number);
 void add_holder(struct description *description);
 void drop_holder(struct description *description);
 int number_of(const struct description *description);
@@ -581,6 +582,17 @@ struct rlimit;
 bool raise_real_limit(struct rlimit *before);
 void lower_real_limit(const struct rlimit *before);
 void give_limit_back(bool is_highest);
+
+/* lost.c: before its numbers are real, a child remembers which were simulated. In it the answer of a real call on a
+   number, which is refused with a line if what the parent has there isn't there in a child. The answer of a close, by
+   what the real kernel has answered: such a number is free then. */
+void remember_lost(void);
+bool is_lost(int fd);
+long answer_unless_lost(long result, const char *call, int fd);
+int close_lost(int fd, int status);
+/* At the head of a double: in a child it hands on to the C library, and tells what isn't there. */
+#define HAND_ON_OF(fd, name, call) \
+    if (is_outside) return (int)answer_unless_lost(call, name, fd)
 
 /* bridge.c: moves what children and the program have written, taken and closed. Whether anything was moved. For a call
    that isn't under the table's lock. */

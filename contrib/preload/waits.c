@@ -103,7 +103,7 @@ FORWARD(epoll_ctl)
 int epoll_ctl(int epfd, int op, int fd, struct epoll_event *event) {
     struct epoll_event asked;
     int status = -EBADF;
-    HAND_ON(next_epoll_ctl()(epfd, op, fd, event));
+    HAND_ON_OF(is_lost(epfd) ? epfd : fd, "epoll_ctl", next_epoll_ctl()(epfd, op, fd, event));
     QUIET;
     if (op != EPOLL_CTL_DEL && !READABLE(event))
         return (int)ANSWER(-EFAULT, "epoll_ctl(%d, %s, %d, %p)", epfd, word_of(op), fd, (void *)event);
@@ -152,19 +152,19 @@ FORWARD(epoll_pwait)
 FORWARD(epoll_pwait2)
 
 int epoll_wait(int epfd, struct epoll_event *events, int most, int timeout) {
-    HAND_ON(next_epoll_wait()(epfd, events, most, timeout));
+    HAND_ON_OF(epfd, "epoll_wait", next_epoll_wait()(epfd, events, most, timeout));
     return wait_in(epfd, events, most, in_milliseconds(timeout), NULL, "epoll_wait");
 }
 
 int epoll_pwait(int epfd, struct epoll_event *events, int most, int timeout, const sigset_t *mask) {
-    HAND_ON(next_epoll_pwait()(epfd, events, most, timeout, mask));
+    HAND_ON_OF(epfd, "epoll_pwait", next_epoll_pwait()(epfd, events, most, timeout, mask));
     return wait_in(epfd, events, most, in_milliseconds(timeout), mask, "epoll_pwait");
 }
 
 /* As on Linux, what is no time is told before what is no instance. */
 int epoll_pwait2(int epfd, struct epoll_event *events, int most, const struct timespec *time, const sigset_t *mask) {
     struct timeout timeout;
-    HAND_ON(next_epoll_pwait2()(epfd, events, most, time, mask));
+    HAND_ON_OF(epfd, "epoll_pwait2", next_epoll_pwait2()(epfd, events, most, time, mask));
     if (!READABLE_OR_NULL(time)) return (int)ANSWER(-EFAULT, "epoll_pwait2(%d, %p)", epfd, (const void *)time);
     timeout = in_time(time);
     if (time && timeout.units < 0) return (int)ANSWER(-EINVAL, "epoll_pwait2(%d, %s)", epfd, timeout.said.of);
