@@ -439,27 +439,25 @@ struct layout {
     struct rlimit stack;
 };
 
-static void lie_low(const struct layout *layout) {
+static bool lie_low(const struct layout *layout) {
     struct rlimit unbounded = {RLIM_INFINITY, RLIM_INFINITY};
-    if (RAW(SYS_personality, layout->before | ADDR_COMPAT_LAYOUT) >= 0) return;
-    RAW(SYS_setrlimit, RLIMIT_STACK, &unbounded); /* some containers forbid the other */
+    if (RAW(SYS_personality, layout->before | ADDR_COMPAT_LAYOUT) >= 0) return true;
+    return RAW(SYS_setrlimit, RLIMIT_STACK, &unbounded) == 0; /* some containers forbid the other */
 }
 
-static void lie_high(const struct layout *layout) {
+static bool lie_high(const struct layout *layout) {
     struct rlimit bounded = {8 << 20, layout->stack.rlim_max};
-    RAW(SYS_personality, layout->before & ~(long)ADDR_COMPAT_LAYOUT);
+    bool has_changed = RAW(SYS_personality, layout->before & ~(long)ADDR_COMPAT_LAYOUT) >= 0;
     if (layout->stack.rlim_cur == RLIM_INFINITY) RAW(SYS_setrlimit, RLIMIT_STACK, &bounded);
+    return has_changed || !(layout->before & ADDR_COMPAT_LAYOUT);
 }
 
-static void begin_layout(struct layout *layout) {
+/* Whether it will be another one. */
+static bool begin_layout(struct layout *layout) {
     static const uint64_t middle = 0x400000000000;
     layout->before = RAW(SYS_personality, UINT32_MAX);
     next_getrlimit()(RLIMIT_STACK, &layout->stack);
-    if ((uint64_t)(uintptr_t)behind_call >= middle) {
-        lie_low(layout);
-    } else {
-        lie_high(layout);
-    }
+    return (uint64_t)(uintptr_t)behind_call >= middle ? lie_low(layout) : lie_high(layout);
 }
 
 static void end_layout(const struct layout *layout) {
@@ -467,11 +465,24 @@ static void end_layout(const struct layout *layout) {
     RAW(SYS_setrlimit, RLIMIT_STACK, &layout->stack);
 }
 
+/* Whether there is such a program: if not, the real kernel tells why. An empty path names an open file. */
+static bool is_there(long number, const long given[6]) {
+    bool has_folder = number == SYS_execveat;
+    const char *path = (const char *)given[has_folder ? 1 : 0];
+    return can_read(path, 1) && (!*path || RAW(SYS_faccessat, has_folder ? given[0] : AT_FDCWD, path, X_OK) == 0);
+}
+
+/* One that would lie where this program does would be ended in the midst of its work: so it isn't run. */
 long run_program(long number, const long given[6]) {
     struct layout layout;
-    long result;
-    begin_layout(&layout);
-    result = real_call(number, given[0], given[1], given[2], given[3], given[4], given[5]);
+    bool is_other = begin_layout(&layout) || !has_filter || RUNNING_ON_VALGRIND;
+    long result = -EPERM;
+    if (is_other || !is_there(number, given)) {
+        result = real_call(number, given[0], given[1], given[2], given[3], given[4], given[5]);
+    } else {
+        refuse(EPERM, "exec(%s): the filter would take it for this program, since personality and a stack without bound "
+               "are forbidden here", (const char *)given[number == SYS_execveat ? 1 : 0]);
+    }
     end_layout(&layout);
     return result;
 }
