@@ -10,7 +10,7 @@
 #include <unistd.h>
 
 enum { MOST_THREADS = 40, ROUNDS = 50, MOST_MOMENTS = 8 * ROUNDS, BESIDE = 20, SLEEPS = 100, SLEEP = 150,
-       TRIES = 10 };
+       MOST_LATE = SLEEPS * SLEEP / 3, TRIES = 10 };
 
 static atomic_long too_soon, latest;
 static long moments[MOST_THREADS * ROUNDS];
@@ -119,9 +119,9 @@ static void sleep_beside(void) {
         pthread_create(&sleeper, NULL, sleep_often, &late);
         pthread_join(sleeper, NULL);
         join(BESIDE, threads);
-    } while (++tries < TRIES && (late > 0 || atomic_load(&latest) > 2000));
+    } while (++tries < TRIES && (late > MOST_LATE || atomic_load(&latest) > 2000));
     printf("beside %d threads: ", BESIDE);
-    if (late > 0) printf("%d sleeps were %ld us late, ", SLEEPS, late);
+    if (late > MOST_LATE) printf("%d sleeps were %ld us late, ", SLEEPS, late);
     if (atomic_load(&latest) > 2000) printf("a wait was %ld us late, ", atomic_load(&latest));
     printf("%ld waits were too soon\n", atomic_load(&too_soon));
 }
