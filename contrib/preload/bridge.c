@@ -115,9 +115,12 @@ static long write_quietly(int fd, const char *bytes, size_t count) {
     return taken;
 }
 
-/* A socket whose bytes the program itself asks for is the program's, as long as it is open there. */
+/* A socket whose bytes the program itself asks for is the program's, as long as it is open there. If there are two real
+   ones, since the first one couldn't be shared any more, the first one gets them. */
 static bool may_be_shown(const struct end *end) {
-    return !end->is_socket || !end->description->is_read_here || !is_named(end->description);
+    if (!end->is_socket) return true;
+    if (end->description->is_read_here && is_named(end->description)) return false;
+    return find_end(all_ends, end->description) == end;
 }
 
 /* A child that is about to run a program holds the readers of its own pipes for a moment, until it closes them. Bytes
@@ -262,12 +265,17 @@ static bool pass_closing_on(struct end *end) {
     return true;
 }
 
-/* A socket that the program has, too, and all its children have ended: they have written no more, and what they haven't
-   read is the program's. */
-static bool end_deserted(struct end *end) {
-    if (end->kept < 0 || lives_or_later(end->process) || (revents_of(end) & POLLIN)) return false;
+/* A socket that the program has, too, and all children that inherited it have ended. What they haven't read is the
+   program's. If a child of theirs still has the real one, it goes on. */
+static bool note_deserted(struct end *end) {
+    short revents;
+    if (end->kept < 0 || lives_or_later(end->process)) return false;
     if (end->shown > 0) take_back(end);
-    end_end_of_child(end);
+    let_kept_go(end);
+    revents = revents_of(end);
+    if (!(revents & POLLHUP)) return true;
+    drain(end);
+    note_closed(end, revents);
     return true;
 }
 
@@ -293,7 +301,8 @@ static struct glance fill(bool sleeps) {
     glance.children += fill_pidfds(glance.files);
     glance.ends = glance.children + fill_children(glance.children);
     glance.last = glance.ends;
-    for (struct end *end = all_ends; end; end = end->next, glance.last++) let_kept_go(end);
+    for (struct end *end = all_ends; end; end = end->next, glance.last++)
+        if (end->description && !is_named(end->description)) let_kept_go(end);
     struct pollfd *file = glance.last;
     for (const struct end *end = all_ends; end; end = end->next) *--file = file_of(end, sleeps);
     return glance;
@@ -333,8 +342,15 @@ static bool move_ends(const struct glance *glance) {
     FOR_ALL_ENDS has_moved |= take_shown(end);
     FOR_ALL_ENDS if (file->revents) has_moved |= drain(end);
     FOR_ALL_ENDS has_moved |= note_closed(end, file->revents);
-    FOR_ALL_ENDS has_moved |= end_deserted(end);
+    FOR_ALL_ENDS has_moved |= note_deserted(end);
     FOR_ALL_ENDS has_moved |= feed(end);
+    return has_moved;
+}
+
+static bool note_all_deserted(void) {
+    bool has_moved = false;
+    for (struct end *end = all_ends; end; end = end->next)
+        if (end->description) has_moved |= note_deserted(end);
     return has_moved;
 }
 
@@ -362,6 +378,8 @@ bool move_bytes(void) {
         has_moved = move_ends(&glance);
         forget_ends();
         has_moved |= look_at_children(glance.children);
+        has_moved |= note_all_deserted();
+        forget_ends();
         has_moved |= ring_pidfds(glance.files);
     }
     free(glance.files);

@@ -85,7 +85,7 @@ void keep_ends(struct end *made, uint64_t process);
 int lift(int fd);
 /* The end is no more: what the child had is closed in the simulated kernel. */
 void end_end_of_child(struct end *end);
-/* Once the program has a socket no more, only children hold the real one. */
+/* From then on only children hold the real socket, so that their closing it is seen. */
 void let_kept_go(struct end *end);
 
 /* ---- what is looked at in the real kernel, in the order of the lists: under the table's lock ---- */

@@ -72,7 +72,8 @@ static int share(struct end *end, const struct end *before) {
 static int make_real(struct end *end) {
     const struct description *description = end->description;
     const struct end *before = find_end(all_ends, description);
-    int status = before ? share(end, before) : end->is_socket ? make_socket(end) : make_pipe(end);
+    bool can_share = before && (!end->is_socket || before->kept >= 0);
+    int status = can_share ? share(end, before) : end->is_socket ? make_socket(end) : make_pipe(end);
     if (status < 0) return status;
     RAW(SYS_fcntl, end->childs, F_SETFL, description->is_nonblocking ? O_NONBLOCK : 0);
     if (end->real >= 0) RAW(SYS_fcntl, end->real, F_SETFL, O_NONBLOCK);
@@ -157,9 +158,7 @@ void end_end_of_child(struct end *end) {
     end->description = NULL;
 }
 
-void let_kept_go(struct end *end) {
-    if (end->description && !is_named(end->description)) close_if_open(&end->kept);
-}
+void let_kept_go(struct end *end) { close_if_open(&end->kept); }
 
 /* ---- after the fork ---- */
 

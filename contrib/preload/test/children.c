@@ -516,6 +516,32 @@ static void socket_of_both(void) {
     close(sides[1]);
 }
 
+/* A child of the child has it still, when the child has ended. */
+static void socket_of_grandchild(void) {
+    char bytes[8] = "";
+    int sides[2], go[2], done[2];
+    pid_t child;
+    socketpair(AF_UNIX, SOCK_STREAM, 0, sides);
+    pipe(go);
+    pipe(done);
+    child = fork();
+    if (child == 0) {
+        char byte;
+        if (fork() != 0) _exit(6);
+        close(sides[1]);
+        if (read(go[0], &byte, 1) == 1 && write(sides[0], "of a grandchild" + 5, 7) == 7) write(done[1], "x", 1);
+        _exit(0);
+    }
+    trace("the child has ended: %d", end_of(child));
+    write(go[1], "x", 1);
+    trace("done: %ld", outcome(read(done[0], bytes, 1)));
+    trace("from it: %ld, %s", outcome(read(sides[1], bytes, sizeof bytes - 1)), bytes);
+    close(sides[0]);
+    for (int i = 0; i < 2; i++) close(go[i]), close(done[i]);
+    tell_all("then", sides[1]);
+    close(sides[1]);
+}
+
 /* More than there may be at once: none stays because the program still has the socket. */
 static void sockets_that_stay(void) {
     int sides[2], count = 0;
@@ -554,6 +580,7 @@ int main(void) {
     closing_first();
     socket_of_children();
     socket_of_both();
+    socket_of_grandchild();
     sockets_that_stay();
     return 0;
 }
