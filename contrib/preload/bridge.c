@@ -115,16 +115,12 @@ static long write_quietly(int fd, const char *bytes, size_t count) {
     return taken;
 }
 
-/* A socket whose bytes the program itself asks for is the program's, as long as it is open there. Of several children
-   only the first is shown the bytes of one socket. */
+/* A socket whose bytes the program itself asks for is the program's, as long as it is open there. If there are two real
+   ones, since the first one couldn't be shared any more, the first one gets them. */
 static bool may_be_shown(const struct end *end) {
-    static bool is_told;
     if (!end->is_socket) return true;
     if (end->description->is_read_here && is_named(end->description)) return false;
-    if (find_end(all_ends, end->description) == end) return true;
-    if (!is_told) say("several children have the socket %d: its bytes go to the first one only", end->number + FIRST);
-    is_told = true;
-    return false;
+    return find_end(all_ends, end->description) == end;
 }
 
 /* A child that is about to run a program holds the readers of its own pipes for a moment, until it closes them. Bytes
@@ -233,12 +229,14 @@ static bool note_closed_copy(struct end *end, short revents) {
 
 /* ---- what the program itself reads ---- */
 
-/* What was shown to a child by a pipe is taken back, but for what it has read meanwhile. What is in a socket is the
-   child's. */
+/* What was shown to a child is taken back, but for what it has read meanwhile. What is in a socket that the program has
+   closed is the child's. */
 static void take_back(struct end *end) {
-    char path[40], bytes[PAGE];
+    char path[40], bytes[AT_ONCE];
     long fd, left = 0;
-    if (!end->is_socket) {
+    if (end->kept >= 0) {
+        left = RAW(SYS_recvfrom, end->kept, bytes, sizeof bytes, MSG_DONTWAIT, NULL, NULL);
+    } else if (!end->is_socket) {
         snprintf(path, sizeof path, "/proc/self/fd/%d", end->real);
         fd = RAW(SYS_openat, AT_FDCWD, path, O_RDONLY | O_NONBLOCK | O_CLOEXEC, 0);
         if (fd >= 0) left = RAW(SYS_read, fd, bytes, sizeof bytes);
@@ -267,6 +265,20 @@ static bool pass_closing_on(struct end *end) {
     return true;
 }
 
+/* A socket that the program has, too, and all children that inherited it have ended. What they haven't read is the
+   program's. If a child of theirs still has the real one, it goes on. */
+static bool note_deserted(struct end *end) {
+    short revents;
+    if (end->kept < 0 || lives_or_later(end->process)) return false;
+    if (end->shown > 0) take_back(end);
+    let_kept_go(end);
+    revents = revents_of(end);
+    if (!(revents & POLLHUP)) return true;
+    drain(end);
+    note_closed(end, revents);
+    return true;
+}
+
 /* What is asked of a real end. Whoever sleeps meanwhile doesn't ask for what it can't move. */
 static struct pollfd file_of(const struct end *end, bool sleeps) {
     struct pollfd file = {end->real, end->gives ? POLLIN : 0, 0};
@@ -289,7 +301,8 @@ static struct glance fill(bool sleeps) {
     glance.children += fill_pidfds(glance.files);
     glance.ends = glance.children + fill_children(glance.children);
     glance.last = glance.ends;
-    for (const struct end *end = all_ends; end; end = end->next) glance.last++;
+    for (struct end *end = all_ends; end; end = end->next, glance.last++)
+        if (end->description && !is_named(end->description)) let_kept_go(end);
     struct pollfd *file = glance.last;
     for (const struct end *end = all_ends; end; end = end->next) *--file = file_of(end, sleeps);
     return glance;
@@ -329,7 +342,15 @@ static bool move_ends(const struct glance *glance) {
     FOR_ALL_ENDS has_moved |= take_shown(end);
     FOR_ALL_ENDS if (file->revents) has_moved |= drain(end);
     FOR_ALL_ENDS has_moved |= note_closed(end, file->revents);
+    FOR_ALL_ENDS has_moved |= note_deserted(end);
     FOR_ALL_ENDS has_moved |= feed(end);
+    return has_moved;
+}
+
+static bool note_all_deserted(void) {
+    bool has_moved = false;
+    for (struct end *end = all_ends; end; end = end->next)
+        if (end->description) has_moved |= note_deserted(end);
     return has_moved;
 }
 
@@ -357,6 +378,8 @@ bool move_bytes(void) {
         has_moved = move_ends(&glance);
         forget_ends();
         has_moved |= look_at_children(glance.children);
+        has_moved |= note_all_deserted();
+        forget_ends();
         has_moved |= ring_pidfds(glance.files);
     }
     free(glance.files);

@@ -241,24 +241,12 @@ static ssize_t give_vectors(int fd, const struct iovec *vectors, int count, int 
     return taken;
 }
 
-/* A call on a real descriptor. It may be a socket that has a timeout. */
-#define IN_TIME(fd, option, flags, call)                                           \
-    __extension__({                                                                \
-        int64_t longest = 0;                                                       \
-        struct timed outside;                                                      \
-        ssize_t answer;                                                            \
-        if (has_timeouts && !is_outside) longest = timeout_of_real(fd, option, flags); \
-        if (longest > 0) begin_outside(&outside, longest);                         \
-        answer = (call);                                                           \
-        if (longest > 0) end_outside(&outside, answer < 0 && errno == EAGAIN);     \
-        answer;                                                                    \
-    })
-
 /* ---- files ---- */
 
 ssize_t read(int fd, void *bytes, size_t count) {
     ssize_t got;
-    if (!is_simulated(fd)) return IN_TIME(fd, SO_RCVTIMEO, 0, next_read()(fd, bytes, count));
+    if (!is_simulated(fd))
+        return answer_unless_lost(IN_TIME(fd, SO_RCVTIMEO, 0, next_read()(fd, bytes, count)), "read", fd);
     QUIET;
     got = take(fd, bytes, count, 0, "read");
     return ANSWER(got, "read(%d, %s, %zu)", fd, bytes_text(TEXT, bytes, got), count);
@@ -266,7 +254,8 @@ ssize_t read(int fd, void *bytes, size_t count) {
 
 ssize_t write(int fd, const void *bytes, size_t count) {
     ssize_t taken;
-    if (!is_simulated(fd)) return IN_TIME(fd, SO_SNDTIMEO, 0, next_write()(fd, bytes, count));
+    if (!is_simulated(fd))
+        return answer_unless_lost(IN_TIME(fd, SO_SNDTIMEO, 0, next_write()(fd, bytes, count)), "write", fd);
     QUIET;
     taken = give(fd, bytes, count, 0, "write");
     return ANSWER(taken, "write(%d, %s, %zu)", fd, bytes_text(TEXT, bytes, (ssize_t)count), count);
@@ -274,7 +263,8 @@ ssize_t write(int fd, const void *bytes, size_t count) {
 
 ssize_t readv(int fd, const struct iovec *vectors, int count) {
     ssize_t got;
-    if (!is_simulated(fd)) return IN_TIME(fd, SO_RCVTIMEO, 0, next_readv()(fd, vectors, count));
+    if (!is_simulated(fd))
+        return answer_unless_lost(IN_TIME(fd, SO_RCVTIMEO, 0, next_readv()(fd, vectors, count)), "readv", fd);
     QUIET;
     got = take_vectors(fd, vectors, count, 0, "readv");
     return ANSWER(got, "readv(%d, ..., %d)", fd, count);
@@ -282,7 +272,8 @@ ssize_t readv(int fd, const struct iovec *vectors, int count) {
 
 ssize_t writev(int fd, const struct iovec *vectors, int count) {
     ssize_t taken;
-    if (!is_simulated(fd)) return IN_TIME(fd, SO_SNDTIMEO, 0, next_writev()(fd, vectors, count));
+    if (!is_simulated(fd))
+        return answer_unless_lost(IN_TIME(fd, SO_SNDTIMEO, 0, next_writev()(fd, vectors, count)), "writev", fd);
     QUIET;
     taken = give_vectors(fd, vectors, count, 0, "writev");
     return ANSWER(taken, "writev(%d, ..., %d)", fd, count);

@@ -136,6 +136,7 @@ static void go_outside(void) {
     atomic_store(&living, 0);
     is_logged = false;
     is_outside = true;
+    remember_lost();
     make_all_numbers_real();
     forget_kernel();
     unlock_all();
@@ -289,6 +290,12 @@ static struct child *find_child(uint64_t process) {
     struct child *child = all_children;
     while (child && child->process != process) child = child->next;
     return child;
+}
+
+bool lives_or_later(uint64_t process) {
+    const struct child *child = find_child(process);
+    while (child && child->has_ended) child = child->next;
+    return child != NULL;
 }
 
 void note_closing(uint64_t process) {

@@ -27,6 +27,7 @@ struct end {
     pid_t pid;                /* of the first child that had it */
     int real;                 /* the shim's real end */
     int childs;               /* while a fork is made, the child's; else -1 */
+    int kept;                 /* of a socket that the program has, too: the child's, for later children; else -1 */
     bool is_shared;           /* while a fork is made: an earlier child has it, too */
     bool is_socket;
     bool takes, gives;        /* whether the child may read here, and write */
@@ -61,6 +62,8 @@ void note_closing(uint64_t process);
 bool await_end(void);
 /* A child whose end was told to the program. */
 void note_reaped(pid_t pid);
+/* Whether this child lives, or one that was made after it. */
+bool lives_or_later(uint64_t process);
 /* fork without the program's handlers of forks. The child keeps this one of the shim's own descriptors, if any. */
 enum { NONE = -1 };
 pid_t fork_quietly(int kept);
@@ -82,6 +85,8 @@ void keep_ends(struct end *made, uint64_t process);
 int lift(int fd);
 /* The end is no more: what the child had is closed in the simulated kernel. */
 void end_end_of_child(struct end *end);
+/* From then on only children hold the real socket, so that their closing it is seen. */
+void let_kept_go(struct end *end);
 
 /* ---- what is looked at in the real kernel, in the order of the lists: under the table's lock ---- */
 

@@ -220,7 +220,7 @@ FORWARD(timerfd_settime)
 FORWARD(timerfd_gettime)
 
 int timerfd_settime(int fd, int flags, const struct itimerspec *value, struct itimerspec *before) {
-    HAND_ON(next_timerfd_settime()(fd, flags, value, before));
+    HAND_ON_OF(fd, "timerfd_settime", next_timerfd_settime()(fd, flags, value, before));
     QUIET;
     struct description *description = hold(fd);
     struct itimerspec kept;
@@ -238,7 +238,7 @@ int timerfd_settime(int fd, int flags, const struct itimerspec *value, struct it
 }
 
 int timerfd_gettime(int fd, struct itimerspec *now) {
-    HAND_ON(next_timerfd_gettime()(fd, now));
+    HAND_ON_OF(fd, "timerfd_gettime", next_timerfd_gettime()(fd, now));
     QUIET;
     struct description *description = hold(fd);
     if (description) count_vain();

@@ -15,8 +15,8 @@
  *   one that has calls of its own at the addresses of this program is stopped.
  * - The machine's clocks are closed to all of them.
  *
- * A handler that is blocked can't answer, so no mask of the program's has SIGSYS in the real kernel. The program is
- * told of its masks as it set them. */
+ * A handler that is blocked can't answer, so no mask of the program's has SIGSYS in the real kernel: masks.c. A mask
+ * that is set by number is stopped, too, but for those of the C library's functions. */
 #include "preload.h"
 
 #include <elf.h>
@@ -42,7 +42,7 @@
 
 FORWARD(_Fork)
 FORWARD(getrlimit)
-FORWARD(pthread_sigmask)
+FORWARD(syscall)
 
 /* ---- the shim's own calls ---- */
 
@@ -71,7 +71,7 @@ __asm__(".text\n"
 enum { MARK = 0x4e53, BY_FILTER = 1 };
 
 /* Where it goes on: at a place, or after so many instructions more. */
-enum target { KILL, IOCTL, FCNTL, CLONE, FORK, UNSHARE, PAIR, TIMER, LIMIT, LIMIT_OF, NEW_LIMIT, FOREIGN, FOREIGN_IOCTL,
+enum target { MASK, KILL, IOCTL, FCNTL, CLONE, FORK, UNSHARE, PAIR, TIMER, LIMIT, LIMIT_OF, NEW_LIMIT, FOREIGN, FOREIGN_IOCTL,
               DOOR, PROCESS, CLOCK, CALLER, INSIDE, ALLOW, ABSENT, PLACES };
 #define SKIP(count) (PLACES + (count))
 #define NEXT SKIP(0)
@@ -165,6 +165,7 @@ static const struct {
     int number;
     enum target place;
 } judged[] = {
+    {SYS_rt_sigprocmask, MASK},
     {SYS_ioctl, IOCTL},
     {SYS_fcntl, FCNTL},
     {SYS_kill, KILL},
@@ -307,7 +308,7 @@ static void load_caller(struct filter *filter, bool is_upper) {
 }
 
 /* A range is a number of whole blocks of 4 GB, or lies within one. */
-static void put_range(struct filter *filter, struct range range) {
+static void put_range(struct filter *filter, struct range range, enum target inside) {
     bool is_whole = (uint32_t)range.first == 0 && (uint32_t)range.last == UINT32_MAX;
     load_caller(filter, true);
     if (!is_whole) {
@@ -315,7 +316,7 @@ static void put_range(struct filter *filter, struct range range) {
         load_caller(filter, false);
     }
     if_least(filter, is_whole ? upper(range.first) : (uint32_t)range.first, NEXT, SKIP(1));
-    if_above(filter, is_whole ? upper(range.last) : (uint32_t)range.last, NEXT, INSIDE);
+    if_above(filter, is_whole ? upper(range.last) : (uint32_t)range.last, NEXT, inside);
 }
 
 /* Where libraries lie: around this one, for the real kernel maps them one beside the other, with a sixteenth of all
@@ -328,29 +329,38 @@ static struct range where_libraries_lie(void) {
     return (struct range){block - around, block + around < top ? block + around + UINT32_MAX : top};
 }
 
-/* The instructions of the program itself, which dl_iterate_phdr tells first. */
-static int find_program(struct dl_phdr_info *info, size_t size, void *found) {
-    struct range *range = found;
+/* The instructions of a part of the program: of itself, which dl_iterate_phdr tells first, or of the library that an
+   address is in. */
+struct part {
+    uint64_t address; /* or 0 */
+    struct range range;
+};
+
+static int find_part(struct dl_phdr_info *info, size_t size, void *found) {
+    struct part *part = found;
+    struct range *range = &part->range;
     (void)size;
+    *range = (struct range){0, 0};
     for (int i = 0; i < info->dlpi_phnum; i++) {
-        const ElfW(Phdr) *part = &info->dlpi_phdr[i];
-        uint64_t first = info->dlpi_addr + part->p_vaddr, last = first + part->p_memsz;
-        if (part->p_type != PT_LOAD || !(part->p_flags & PF_X)) continue;
+        const ElfW(Phdr) *header = &info->dlpi_phdr[i];
+        uint64_t first = info->dlpi_addr + header->p_vaddr, last = first + header->p_memsz;
+        if (header->p_type != PT_LOAD || !(header->p_flags & PF_X)) continue;
         if (range->last == 0 || first < range->first) range->first = first;
         if (last > range->last) range->last = last;
     }
-    return 1;
+    return part->address == 0 || (part->address >= range->first && part->address < range->last);
 }
 
-static void put_program(struct filter *filter) {
-    struct range range = {0, 0};
-    dl_iterate_phdr(find_program, &range);
-    if (range.last == 0 || RUNNING_ON_VALGRIND) return;
+static void put_part(struct filter *filter, uint64_t address, enum target inside) {
+    struct part part = {.address = address};
+    struct range range;
+    if (RUNNING_ON_VALGRIND || !dl_iterate_phdr(find_part, &part) || part.range.last == 0) return;
+    range = part.range;
     if (upper(range.first) != upper(range.last)) {
-        put_range(filter, (struct range){range.first, range.first | UINT32_MAX});
+        put_range(filter, (struct range){range.first, range.first | UINT32_MAX}, inside);
         range.first = range.last & ~(uint64_t)UINT32_MAX;
     }
-    put_range(filter, range);
+    put_range(filter, range, inside);
 }
 
 /* What is answered to a call of the program, and to one of others, is kept while the caller is looked at. */
@@ -363,9 +373,31 @@ static void put_verdict(struct filter *filter, enum target place, uint32_t insid
     if_equal(filter, outside, CALLER, CALLER); /* in any case */
 }
 
+/* Behind the instruction of the C library's syscall, or 0. */
+static uint64_t place_of_numbers(void) {
+    static const unsigned char call[] = {0x0f, 0x05};
+    enum { MOST = 64 };
+    const unsigned char *found = memmem((const void *)(uintptr_t)next_syscall(), MOST, call, sizeof call);
+    return found ? (uint64_t)(uintptr_t)(found + sizeof call) : 0;
+}
+
+/* A mask that the C library sets has SIGSYS for moments only, or is one of masks.c. Its function syscall sets those that
+   it is asked for. */
+static void put_masks(struct filter *filter) {
+    uint64_t place = place_of_numbers();
+    begin_place(filter, MASK);
+    load_caller(filter, true);
+    if_equal(filter, upper(place), NEXT, SKIP(2));
+    load_caller(filter, false);
+    if_equal(filter, (uint32_t)place, DOOR, NEXT);
+    put_part(filter, (uint64_t)(uintptr_t)next__Fork(), ALLOW);
+    if_least(filter, 0, DOOR, DOOR); /* in any case */
+}
+
 static void put_verdicts(struct filter *filter) {
     uint64_t own = (uint64_t)(uintptr_t)behind_call;
     struct range libraries = where_libraries_lie();
+    put_masks(filter);
     put_verdict(filter, DOOR, SECCOMP_RET_TRAP | MARK, SECCOMP_RET_ALLOW);
     put_verdict(filter, PROCESS, SECCOMP_RET_ERRNO | ENOSYS, SECCOMP_RET_ALLOW);
     put_verdict(filter, CLOCK, SECCOMP_RET_TRAP | MARK, SECCOMP_RET_ERRNO | EPERM);
@@ -374,8 +406,8 @@ static void put_verdicts(struct filter *filter) {
     if_equal(filter, upper(own), NEXT, SKIP(2));
     load_caller(filter, false);
     if_equal(filter, (uint32_t)own, ALLOW, NEXT);
-    if (libraries.last > 0) put_range(filter, libraries);
-    put_program(filter);
+    if (libraries.last > 0) put_range(filter, libraries, INSIDE);
+    put_part(filter, 0, INSIDE);
     put(filter, BPF_LD | BPF_MEM, 1, NEXT, NEXT);
     put(filter, BPF_RET | BPF_A, 0, NEXT, NEXT);
     begin_place(filter, INSIDE);
@@ -407,27 +439,25 @@ struct layout {
     struct rlimit stack;
 };
 
-static void lie_low(const struct layout *layout) {
+static bool lie_low(const struct layout *layout) {
     struct rlimit unbounded = {RLIM_INFINITY, RLIM_INFINITY};
-    if (RAW(SYS_personality, layout->before | ADDR_COMPAT_LAYOUT) >= 0) return;
-    RAW(SYS_setrlimit, RLIMIT_STACK, &unbounded); /* some containers forbid the other */
+    if (RAW(SYS_personality, layout->before | ADDR_COMPAT_LAYOUT) >= 0) return true;
+    return RAW(SYS_setrlimit, RLIMIT_STACK, &unbounded) == 0; /* some containers forbid the other */
 }
 
-static void lie_high(const struct layout *layout) {
+static bool lie_high(const struct layout *layout) {
     struct rlimit bounded = {8 << 20, layout->stack.rlim_max};
-    RAW(SYS_personality, layout->before & ~(long)ADDR_COMPAT_LAYOUT);
+    bool has_changed = RAW(SYS_personality, layout->before & ~(long)ADDR_COMPAT_LAYOUT) >= 0;
     if (layout->stack.rlim_cur == RLIM_INFINITY) RAW(SYS_setrlimit, RLIMIT_STACK, &bounded);
+    return has_changed || !(layout->before & ADDR_COMPAT_LAYOUT);
 }
 
-static void begin_layout(struct layout *layout) {
+/* Whether it will be another one. */
+static bool begin_layout(struct layout *layout) {
     static const uint64_t middle = 0x400000000000;
     layout->before = RAW(SYS_personality, UINT32_MAX);
     next_getrlimit()(RLIMIT_STACK, &layout->stack);
-    if ((uint64_t)(uintptr_t)behind_call >= middle) {
-        lie_low(layout);
-    } else {
-        lie_high(layout);
-    }
+    return (uint64_t)(uintptr_t)behind_call >= middle ? lie_low(layout) : lie_high(layout);
 }
 
 static void end_layout(const struct layout *layout) {
@@ -435,11 +465,24 @@ static void end_layout(const struct layout *layout) {
     RAW(SYS_setrlimit, RLIMIT_STACK, &layout->stack);
 }
 
+/* Whether there is such a program: if not, the real kernel tells why. An empty path names an open file. */
+static bool is_there(long number, const long given[6]) {
+    bool has_folder = number == SYS_execveat;
+    const char *path = (const char *)given[has_folder ? 1 : 0];
+    return can_read(path, 1) && (!*path || RAW(SYS_faccessat, has_folder ? given[0] : AT_FDCWD, path, X_OK) == 0);
+}
+
+/* One that would lie where this program does would be ended in the midst of its work: so it isn't run. */
 long run_program(long number, const long given[6]) {
     struct layout layout;
-    long result;
-    begin_layout(&layout);
-    result = real_call(number, given[0], given[1], given[2], given[3], given[4], given[5]);
+    bool is_other = begin_layout(&layout) || !has_filter || RUNNING_ON_VALGRIND;
+    long result = -EPERM;
+    if (is_other || !is_there(number, given)) {
+        result = real_call(number, given[0], given[1], given[2], given[3], given[4], given[5]);
+    } else {
+        refuse(EPERM, "exec(%s): the filter would take it for this program, since personality and a stack without bound "
+               "are forbidden here", (const char *)given[number == SYS_execveat ? 1 : 0]);
+    }
     end_layout(&layout);
     return result;
 }
@@ -479,17 +522,6 @@ static long answer_call(unsigned int table, long number, const long given[6]) {
     return refuse_number(number, "syscall(%ld): this call by its number is not simulated", number);
 }
 
-static _Thread_local bool has_blocked, has_pending; /* SIGSYS, as the program knows it */
-
-/* A SIGSYS of the program's own. */
-static void pass_on(int signal, siginfo_t *info, void *context) {
-    if (has_blocked && info->si_code <= 0) {
-        has_pending = true;
-    } else {
-        arrive(signal, info, context);
-    }
-}
-
 static void answer_at_door(int signal, siginfo_t *info, void *context) {
     greg_t *registers = ((ucontext_t *)context)->uc_mcontext.gregs;
     long given[6] = {registers[REG_RDI], registers[REG_RSI], registers[REG_RDX],
@@ -498,11 +530,16 @@ static void answer_at_door(int signal, siginfo_t *info, void *context) {
     int saved = errno;
     long result;
     if (info->si_code != BY_FILTER || info->si_errno != MARK) {
-        pass_on(signal, info, context);
+        take_own_door_signal(signal, info, context);
         return;
     }
     if (info->si_arch == AUDIT_ARCH_X86_64 && info->si_syscall == SYS_clone && (is_outside || is_making_child())) {
         registers[REG_RAX] = real_call(SYS_clone, given[0], given[1], given[2], given[3], given[4], given[5]);
+        errno = saved;
+        return;
+    }
+    if (info->si_arch == AUDIT_ARCH_X86_64 && info->si_syscall == SYS_rt_sigprocmask) {
+        registers[REG_RAX] = change_mask_of(context, given);
         errno = saved;
         return;
     }
@@ -533,33 +570,4 @@ void shut_doors(void) {
         say("no filter can be set (%s): what is called past the C library reaches the real kernel",
             strerrordesc_np(errno));
     free(filter);
-}
-
-/* ---- masks that SIGSYS is never in ---- */
-
-static void note_blocked(int how, const sigset_t *given) {
-    bool has = sigismember(given, SIGSYS) == 1;
-    if (how == SIG_SETMASK || has) has_blocked = has && how != SIG_UNBLOCK;
-    if (has_blocked || !has_pending) return;
-    has_pending = false;
-    raise(SIGSYS);
-}
-
-int pthread_sigmask(int how, const sigset_t *given, sigset_t *before) {
-    bool was_blocked = has_blocked;
-    sigset_t asked, real;
-    int error;
-    if (given) real = asked = *given;
-    if (given && how != SIG_UNBLOCK) sigdelset(&real, SIGSYS);
-    error = next_pthread_sigmask()(how, given ? &real : NULL, before);
-    if (error == 0 && before && was_blocked) sigaddset(before, SIGSYS);
-    if (error == 0 && given) note_blocked(how, &asked);
-    return error;
-}
-
-int sigprocmask(int how, const sigset_t *given, sigset_t *before) {
-    int error = pthread_sigmask(how, given, before);
-    if (error == 0) return 0;
-    errno = error;
-    return -1;
 }

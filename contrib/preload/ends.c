@@ -1,4 +1,4 @@
-/* The real pipes and sockets of children: one for each open description that a child inherits. The shim's own real
+/* The real pipes and sockets of children: one for each open description that children inherit. The shim's own real
    descriptors stand above all numbers that the program can name, so that it can't close them, and none of its own
    numbers is taken for them. */
 #include "children.h"
@@ -53,21 +53,27 @@ static int make_socket(struct end *end) {
     return status < 0 ? (int)status : put_both(end, both[0], both[1]);
 }
 
-/* A child before this one has the same end of the pipe: its real pipe is opened once more. */
-static int share_pipe(struct end *end, const struct end *before) {
+/* A child before this one has the same end of the pipe: its real pipe is opened once more. Of a socket there is a copy. */
+static int share(struct end *end, const struct end *before) {
     char path[40];
     long fd;
+    end->is_shared = true;
+    if (end->is_socket) {
+        fd = RAW(SYS_fcntl, before->kept, F_DUPFD_CLOEXEC, TOP);
+        end->childs = fd == -EINVAL ? -EMFILE : (int)fd;
+        return end->childs < 0 ? end->childs : 0;
+    }
     snprintf(path, sizeof path, "/proc/self/fd/%d", before->real);
     fd = RAW(SYS_openat, AT_FDCWD, path, (end->takes ? O_RDONLY : O_WRONLY) | O_NONBLOCK | O_CLOEXEC, 0);
-    end->is_shared = true;
     end->childs = lift((int)fd);
     return end->childs < 0 ? end->childs : 0;
 }
 
 static int make_real(struct end *end) {
     const struct description *description = end->description;
-    const struct end *before = end->is_socket ? NULL : find_end(all_ends, description);
-    int status = before ? share_pipe(end, before) : end->is_socket ? make_socket(end) : make_pipe(end);
+    const struct end *before = find_end(all_ends, description);
+    bool can_share = before && (!end->is_socket || before->kept >= 0);
+    int status = can_share ? share(end, before) : end->is_socket ? make_socket(end) : make_pipe(end);
     if (status < 0) return status;
     RAW(SYS_fcntl, end->childs, F_SETFL, description->is_nonblocking ? O_NONBLOCK : 0);
     if (end->real >= 0) RAW(SYS_fcntl, end->real, F_SETFL, O_NONBLOCK);
@@ -78,7 +84,7 @@ static struct end *new_end(struct description *description, int number) {
     struct end *end = malloc(sizeof *end);
     bool is_socket = description->kind == SOCKET;
     if (!end) return NULL;
-    *end = (struct end){.description = description, .number = number, .real = -1, .childs = -1};
+    *end = (struct end){.description = description, .number = number, .real = -1, .childs = -1, .kept = -1};
     end->is_socket = is_socket;
     end->takes = is_socket || description->access == O_RDONLY;
     end->gives = is_socket || description->access == O_WRONLY;
@@ -123,6 +129,7 @@ int make_ends(struct end **made, int *pidfd) {
 static struct end *free_end(struct end *end) {
     struct end *next = end->next;
     close_if_open(&end->childs);
+    close_if_open(&end->kept);
     close_if_open(&end->real);
     if (end->description) drop_holder(end->description);
     free(end);
@@ -145,10 +152,13 @@ void end_end_of_child(struct end *end) {
     if (end->shown > 0) end->description->shown--;
     nippersage_close(acting(end->process), end->number);
     log_child(end->pid, 0, "close(%d)", end->number + FIRST);
+    close_if_open(&end->kept);
     close_if_open(&end->real);
     drop_holder(end->description);
     end->description = NULL;
 }
+
+void let_kept_go(struct end *end) { close_if_open(&end->kept); }
 
 /* ---- after the fork ---- */
 
@@ -193,6 +203,10 @@ void keep_ends(struct end *made, uint64_t process) {
         if ((is_taken(n) || n <= sleeping_instance()) && !is_kept(made, n)) nippersage_close(acting(process), n);
     while (made) {
         struct end *next = made->next;
+        if (made->is_socket && !made->is_shared) {
+            made->kept = made->childs;
+            made->childs = -1;
+        }
         close_if_open(&made->childs);
         if (made->is_shared) {
             free_end(made);

@@ -190,7 +190,10 @@ __attribute__((constructor)) static void begin(void) {
     keep_signals();
 }
 
-__attribute__((destructor)) static void end(void) { write_history_once(); }
+__attribute__((destructor)) static void end(void) {
+    flush_streams();
+    write_history_once();
+}
 
 void _exit(int status) {
     write_history_once();

@@ -3,7 +3,7 @@
    run. So nobody looks there for a thread that is counted, unless the program has handlers of signals.
 
    While somebody looks, no lock of the shim is held: who waits for one sleeps, too, as far as the real kernel knows. */
-#include "preload.h"
+#include "children.h"
 
 #include <pthread.h>
 #include <stdio.h>
@@ -15,6 +15,7 @@ FORWARD(syscall)
 /* A thread that takes part. It outlives its thread until a look finds that the real kernel has no such thread. */
 struct seat {
     long thread;                  /* the real kernel's number */
+    int file;                     /* its file in /proc that tells in which call it sleeps; looks only */
     const struct thread_state *of;
     bool has_left;                /* the thread is about to end */
     atomic_bool is_asleep;        /* in a wait of the simulated kernel */
@@ -23,6 +24,10 @@ struct seat {
     uint64_t seen_run;            /* so long it had run until then */
     struct seat *next;
 };
+
+/* What `file` is else: it wasn't asked for yet, and it is opened for each question. */
+enum { NOT_YET = -1, EACH_TIME = -2, MOST_FILES = 512 };
+static int files; /* that are open; looks only */
 
 static pthread_mutex_t lock = PTHREAD_MUTEX_INITIALIZER;
 static struct seat *seats;
@@ -45,6 +50,7 @@ void take_seat(void) {
     if (!made) return; /* then the looks don't tell all, and the watcher asks of each thread */
     made->thread = next_syscall()(SYS_gettid);
     made->of = &this_thread;
+    made->file = NOT_YET;
     pthread_mutex_lock(&lock);
     forget_number(made->thread);
     made->next = seats;
@@ -134,12 +140,38 @@ static bool is_gone(long thread) {
     return state == 'Z' || (state == 'X' && read_of(next_syscall()(SYS_gettid), "stat", line, sizeof line) > 0);
 }
 
+/* To open the file of a thread takes longer than to read it. So some stay open, above all numbers of the program, if
+   children have enough of those all the same. */
+static int open_file(long thread) {
+    enum { FOR_CHILDREN = 1024 };
+    struct rlimit before;
+    char path[64];
+    int fd = EACH_TIME;
+    if (files == MOST_FILES || !raise_real_limit(&before)) return EACH_TIME;
+    snprintf(path, sizeof path, "/proc/self/task/%ld/syscall", thread);
+    if (before.rlim_max >= (rlim_t)(FIRST + NUMBERS + MOST_FILES + FOR_CHILDREN))
+        fd = lift((int)RAW(SYS_openat, AT_FDCWD, path, O_RDONLY | O_CLOEXEC));
+    lower_real_limit(&before);
+    if (fd < 0) return EACH_TIME;
+    files++;
+    return fd;
+}
+
+static ssize_t read_call_of(struct seat *seat, char *line, size_t room) {
+    long size;
+    if (seat->file == NOT_YET) seat->file = open_file(seat->thread);
+    if (seat->file < 0) return read_of(seat->thread, "syscall", line, room);
+    size = RAW(SYS_pread64, seat->file, line, room - 1, 0);
+    if (size >= 0) line[size] = '\0';
+    return size;
+}
+
 /* A lock, and what only a signal ends, are at rest: no time of the real kernel and nothing outside ends them. */
-static enum rest rest_of(long thread) {
+static enum rest rest_of(struct seat *seat) {
     char line[128], *end;
     long call;
-    if (!tells_calls()) return is_thread_asleep(thread) ? OUTSIDE : AWAKE;
-    if (read_of(thread, "syscall", line, sizeof line) <= 0) return is_gone(thread) ? AT_REST : AWAKE;
+    if (!tells_calls()) return is_thread_asleep(seat->thread) ? OUTSIDE : AWAKE;
+    if (read_call_of(seat, line, sizeof line) <= 0) return is_gone(seat->thread) ? AT_REST : AWAKE;
     call = strtol(line, &end, 10);
     if (end == line || call < 0) return AWAKE; /* "running", or it waits for memory */
     switch (call) {
@@ -225,12 +257,16 @@ static void drop_seat(struct seat *seat) {
     unlink_seat(seat);
     seat_count--;
     pthread_mutex_unlock(&lock);
+    if (seat->file >= 0) {
+        RAW(SYS_close, seat->file);
+        files--;
+    }
     free(seat);
 }
 
 static bool is_at_rest(struct seat *seat, uint64_t run) {
     seat->seen_run = run;
-    seat->seen = rest_of(seat->thread);
+    seat->seen = rest_of(seat);
     if (seat->seen == AWAKE) put_first(seat);
     return seat->seen != AWAKE;
 }
@@ -275,7 +311,7 @@ static bool sleep_still(void) {
 /* One of those that are counted may have been sent a signal by another one. */
 static bool are_undisturbed(void) {
     for (size_t i = 0; i < count; i++)
-        if (list[i].is_counted && rest_of(list[i].seat->thread) == AWAKE) return false;
+        if (list[i].is_counted && rest_of(list[i].seat) == AWAKE) return false;
     return true;
 }
 

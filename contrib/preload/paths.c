@@ -1,6 +1,6 @@
 /* The lists of this process' descriptors in /proc, by their names. They have its real descriptors only: who reads one
-   would miss the simulated ones, and take them for closed. So a list is refused, and so is a simulated descriptor by
-   its name there. A real one is opened as ever. */
+   would miss the simulated ones, and take them for closed. opendir and readdir tell those, too: lists.c. Everything else
+   that would open a list is refused, and so is a simulated descriptor by its name there. A real one is opened as ever. */
 #include "preload.h"
 
 #include <dirent.h>
@@ -10,7 +10,6 @@
 #include <stdlib.h>
 
 FORWARD(openat)
-FORWARD(opendir)
 FORWARD(scandir)
 FORWARD(scandir64)
 FORWARD(scandirat)
@@ -52,11 +51,20 @@ static const char *behind_list(const char *path) {
     return rest && (*rest == '\0' || *rest == '/') ? rest : NULL;
 }
 
-/* Whether a path may be gone to. */
-static bool may_reach(const char *call, const char *path) {
+static const char *behind_own_list(const char *path) {
     const char *rest = !is_outside && path && path[0] == '/' ? behind_list(path) : NULL;
+    while (rest && *rest == '/') rest++;
+    return rest;
+}
+
+bool is_list(const char *path) {
+    const char *rest = behind_own_list(path);
+    return rest && *rest == '\0';
+}
+
+bool may_reach(const char *call, const char *path) {
+    const char *rest = behind_own_list(path);
     if (!rest) return true;
-    while (*rest == '/') rest++;
     if (*rest == '\0') {
         refuse(ENOENT, "%s(%s): this list would lack the simulated descriptors, and is not simulated", call, path);
         return false;
@@ -126,8 +134,6 @@ FILE *fopen(const char *restrict path, const char *restrict mode) {
 FILE *fopen64(const char *restrict path, const char *restrict mode) { return fopen(path, mode); }
 
 /* ---- folders and links ---- */
-
-DIR *opendir(const char *path) { return may_reach("opendir", path) ? next_opendir()(path) : NULL; }
 
 int scandir(const char *restrict path, struct dirent ***restrict found, int (*select)(const struct dirent *),
             int (*compare)(const struct dirent **, const struct dirent **)) {

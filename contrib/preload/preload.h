@@ -354,6 +354,7 @@ void end_own(int number);
    fewer; a number that names a description, or -1; whether any does. */
 struct description *description_at(int number, bool *closes_on_exec);
 bool is_taken(int number);
+void free_number(int number);
 void add_holder(struct description *description);
 void drop_holder(struct description *description);
 int number_of(const struct description *description);
@@ -394,6 +395,19 @@ ssize_t take(int fd, char *bytes, size_t count, int flags, const char *call);
    wait. */
 extern atomic_bool has_timeouts;
 int64_t timeout_of_real(int fd, int option, int flags);
+/* A call on a real descriptor, which may be such a socket. One that connects tells by another error that its time is
+   over. */
+#define IN_TIME(fd, option, flags, call)                                                                 \
+    __extension__({                                                                                      \
+        int64_t longest = 0;                                                                             \
+        struct timed outside;                                                                            \
+        __typeof__(call) answer;                                                                         \
+        if (has_timeouts && !is_outside) longest = timeout_of_real(fd, option, flags);                   \
+        if (longest > 0) begin_outside(&outside, longest, false);                                        \
+        answer = (call);                                                                                 \
+        if (longest > 0) end_outside(&outside, answer < 0 && (errno == EAGAIN || errno == EINPROGRESS)); \
+        answer;                                                                                          \
+    })
 
 /* ---- waits.c ---- */
 
@@ -462,6 +476,26 @@ void shut_doors(void);
 /* A call of the real kernel that no filter of the shim's stops: its answer, or minus an error number. */
 long real_call(long number, long first, long second, long third, long fourth, long fifth, long sixth);
 
+/* ---- paths.c ---- */
+
+/* Whether a path names a list of this process' descriptors. Whether a call may go to it: if not, it is refused. */
+bool is_list(const char *path);
+bool may_reach(const char *call, const char *path);
+
+/* ---- streams.c ---- */
+
+/* At an orderly end of the program: what streams haven't written yet. */
+void flush_streams(void);
+
+/* ---- masks.c: SIGSYS, which is never blocked ---- */
+
+/* rt_sigprocmask(2) with these arguments, by number; the same in a handler that the filter has called, for what the
+   context is of: 0, or minus an error number. */
+long call_mask(const long given[6]);
+long change_mask_of(void *context, const long given[6]);
+/* A SIGSYS that the filter hasn't sent. */
+void take_own_door_signal(int signal, siginfo_t *info, void *context);
+
 /* ---- handles.c ---- */
 
 /* The C library's dlsym. */
@@ -494,6 +528,7 @@ struct timed {
     clockid_t clock;         /* the real clock that the C library waits by */
     struct timespec until;   /* the end of its sleep by that clock, which is read again each time that it wakes */
     bool is_outside;         /* it waits for something outside of the program, as a poll of real descriptors */
+    bool lasts_on;           /* such a one may last on after its end, and then holds the clock no more */
     uint64_t began;          /* such a one, by the simulated clock */
     int64_t began_really;
     uint32_t own_word;       /* it sleeps on, once it is over outside */
@@ -507,8 +542,9 @@ void begin_timed_on(struct timed *timed, const struct timespec *time, const void
 int error_of_timed(struct timed *timed, int error);
 void end_timed(const struct timed *timed);
 /* A wait for something outside that takes at most so many UNITs of real time. Until its end the clock goes no faster
-   than real time does. Whether it is over says whether nothing came: then the clock is at its end. */
-void begin_outside(struct timed *timed, int64_t units);
+   than real time does. Whether it is over says whether nothing came: then the clock is at its end. One that lasts on is
+   over at its end if something comes after it. */
+void begin_outside(struct timed *timed, int64_t units, bool lasts_on);
 void end_outside(struct timed *timed, bool is_over);
 /* futex(2) with these six arguments, whose times are by the simulated clock. */
 long call_futex(const long given[6]);
@@ -546,6 +582,17 @@ struct rlimit;
 bool raise_real_limit(struct rlimit *before);
 void lower_real_limit(const struct rlimit *before);
 void give_limit_back(bool is_highest);
+
+/* lost.c: before its numbers are real, a child remembers which were simulated. In it the answer of a real call on a
+   number, which is refused with a line if what the parent has there isn't there in a child. The answer of a close, by
+   what the real kernel has answered: such a number is free then. */
+void remember_lost(void);
+bool is_lost(int fd);
+long answer_unless_lost(long result, const char *call, int fd);
+int close_lost(int fd, int status);
+/* At the head of a double: in a child it hands on to the C library, and tells what isn't there. */
+#define HAND_ON_OF(fd, name, call) \
+    if (is_outside) return (int)answer_unless_lost(call, name, fd)
 
 /* bridge.c: moves what children and the program have written, taken and closed. Whether anything was moved. For a call
    that isn't under the table's lock. */

@@ -3,7 +3,6 @@
 #include "preload.h"
 
 #include <stdarg.h>
-#include <stdio.h>
 #include <stdlib.h>
 #include <sys/syscall.h>
 #include <sys/wait.h>
@@ -150,7 +149,7 @@ bool call_program(long number, const long given[6], long *result) {
     return true;
 }
 
-/* ---- system and popen ---- */
+/* ---- system ---- */
 
 /* As POSIX has it: SIGINT and SIGQUIT are ignored meanwhile, and SIGCHLD is blocked. */
 struct waiting_for_shell {
@@ -196,10 +195,4 @@ int system(const char *command) {
     } while (got < 0 && pid >= 0 && errno == EINTR);
     end_shell(&before);
     return got < 0 ? -1 : status;
-}
-
-FILE *popen(const char *command, const char *mode) {
-    (void)mode;
-    refuse(ENOSYS, "popen(%s): streams of the C library are not simulated", command);
-    return NULL;
 }

@@ -24,15 +24,8 @@
         return refuse(error, "%s(%d) is not simulated", #name, fd); \
     }
 
-REAL_ONLY(int, accept, (int fd, struct sockaddr *from, socklen_t *size), (fd, from, size), EINVAL)
-REAL_ONLY(int, accept4, (int fd, struct sockaddr *from, socklen_t *size, int flags), (fd, from, size, flags), EINVAL)
 REAL_ONLY(int, bind, (int fd, const struct sockaddr *to, socklen_t size), (fd, to, size), EINVAL)
-REAL_ONLY(int, connect, (int fd, const struct sockaddr *to, socklen_t size), (fd, to, size), EISCONN)
 REAL_ONLY(int, listen, (int fd, int most), (fd, most), EINVAL)
-REAL_ONLY(int, recvmmsg, (int fd, struct mmsghdr *to, unsigned int count, int flags, struct timespec *time),
-          (fd, to, count, flags, time), EOPNOTSUPP)
-REAL_ONLY(int, sendmmsg, (int fd, struct mmsghdr *from, unsigned int count, int flags), (fd, from, count, flags),
-          EOPNOTSUPP)
 REAL_ONLY(ssize_t, preadv, (int fd, const struct iovec *to, int count, off_t at), (fd, to, count, at), ESPIPE)
 REAL_ONLY(ssize_t, pwritev, (int fd, const struct iovec *from, int count, off_t at), (fd, from, count, at), ESPIPE)
 REAL_ONLY(ssize_t, pread, (int fd, void *to, size_t count, off_t at), (fd, to, count, at), ESPIPE)
@@ -51,7 +44,6 @@ REAL_ONLY(int, fdatasync, (int fd), (fd), EINVAL)
 REAL_TWO(tee, (int from, int to, size_t count, unsigned int flags), from, to, (from, to, count, flags))
 
 FORWARD(lseek)
-FORWARD(fdopen)
 
 /* ESPIPE is what Linux answers, and programs ask in order to hear it: no line. */
 off_t lseek(int fd, off_t offset, int whence) {
@@ -61,12 +53,6 @@ off_t lseek(int fd, off_t offset, int whence) {
 }
 
 off64_t lseek64(int fd, off64_t offset, int whence) { return lseek(fd, offset, whence); }
-
-FILE *fdopen(int fd, const char *mode) {
-    if (!is_simulated(fd)) return next_fdopen()(fd, mode);
-    refuse(EINVAL, "fdopen(%d): streams of the C library are not simulated", fd);
-    return NULL;
-}
 
 /* ---- processes ---- */
 
@@ -146,6 +132,7 @@ static bool call_double(long number, const long given[6], long *result) {
     case SYS_ioctl: *result = ioctl((int)given[0], (unsigned long)given[1], given[2]); return true;
     case SYS_futex: *result = call_futex(given); return true;
     case SYS_unshare: *result = unshare((int)given[0]); return true;
+    case SYS_rt_sigprocmask: *result = call_mask(given); return true;
     case SYS_getrlimit:
     case SYS_setrlimit:
     case SYS_prlimit64: *result = call_limit(number, given); return true;
@@ -199,6 +186,10 @@ bool call_by_number(long number, const long given[6], long *result) {
 /* A child of vfork would run on a stack that this call goes on with. */
 bool call_outside(long number, const long given[6], long *result) {
     if (call_harmless(number, given, result) || call_program(number, given, result)) return true;
+    if (number == SYS_rt_sigprocmask) {
+        *result = call_mask(given);
+        return true;
+    }
     if (number == SYS_vfork) number = SYS_fork;
     *result = plain_answer(real_call(number, given[0], given[1], given[2], given[3], given[4], given[5]));
     return true;

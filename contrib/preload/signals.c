@@ -43,7 +43,7 @@ static uint64_t bits_of(const sigset_t *set) {
 
 static uint64_t set_mask(uint64_t mask) {
     uint64_t before = 0;
-    next_syscall()(SYS_rt_sigprocmask, SIG_SETMASK, &mask, &before, sizeof mask);
+    RAW(SYS_rt_sigprocmask, SIG_SETMASK, &mask, &before, sizeof mask);
     return before;
 }
 
@@ -155,7 +155,7 @@ static void end_by(void *nothing, long which) {
     next_sigaction()(signal, &none, NULL);
     if (is_fault) return;
     next_syscall()(SYS_tgkill, getpid(), next_syscall()(SYS_gettid), signal);
-    next_syscall()(SYS_rt_sigprocmask, SIG_UNBLOCK, &one, NULL, sizeof one);
+    RAW(SYS_rt_sigprocmask, SIG_UNBLOCK, &one, NULL, sizeof one);
 }
 
 void end_if_killed(void) {
@@ -351,7 +351,7 @@ static bool ends_programs(int signal) {
 void keep_history_before(int signal) {
     uint64_t mask = this_thread.mask;
     struct sigaction action;
-    if (!this_thread.is_held_back) next_syscall()(SYS_rt_sigprocmask, SIG_BLOCK, NULL, &mask, sizeof mask);
+    if (!this_thread.is_held_back) RAW(SYS_rt_sigprocmask, SIG_BLOCK, NULL, &mask, sizeof mask);
     if (!ends_programs(signal) || (mask & BIT(signal)) || next_sigaction()(signal, NULL, &action) != 0) return;
     if (action.sa_handler == SIG_DFL) keep_history();
 }

@@ -158,6 +158,8 @@ struct description *description_at(int number, bool *closes_on_exec) {
 
 bool is_taken(int number) { return table[number].description || table[number].is_own; }
 
+void free_number(int number) { table[number] = (struct entry){NULL, false, false}; }
+
 void add_holder(struct description *description) { description->holders++; }
 
 void drop_holder(struct description *description) { drop(description); }
@@ -327,6 +329,7 @@ static int copy_from(int fd, int least, int flags) {
 
 int dup(int fd) {
     int made;
+    HAND_ON_OF(fd, "dup", next_dup()(fd));
     if (!is_simulated(fd)) return next_dup()(fd);
     QUIET;
     pthread_mutex_lock(&lock);
@@ -344,6 +347,7 @@ static int copy_to(int fd, int to, int flags) {
 
 int dup3(int fd, int to, int flags) {
     int made;
+    HAND_ON_OF(fd, "dup3", next_dup3()(fd, to, flags));
     if (!is_simulated(fd) && !is_simulated(to)) return next_dup3()(fd, to, flags);
     QUIET;
     if (is_simulated(fd) != is_simulated(to))
@@ -357,6 +361,7 @@ int dup3(int fd, int to, int flags) {
 
 int dup2(int fd, int to) {
     struct description *same;
+    HAND_ON_OF(fd, "dup2", next_dup2()(fd, to));
     if (fd != to || !is_simulated(fd))
         return is_simulated(fd) || is_simulated(to) ? dup3(fd, to, 0) : next_dup2()(fd, to);
     same = hold(fd);
@@ -366,7 +371,10 @@ int dup2(int fd, int to) {
 
 int close(int fd) {
     int status;
-    if (!is_simulated(fd)) return next_close()(fd);
+    if (!is_simulated(fd)) {
+        status = next_close()(fd);
+        return is_outside ? close_lost(fd, status) : status;
+    }
     QUIET;
     pthread_mutex_lock(&lock);
     status = close_entry(fd);
@@ -483,6 +491,7 @@ int fcntl(int fd, int command, ...) {
     va_start(arguments, command);
     argument = va_arg(arguments, long);
     va_end(arguments);
+    HAND_ON_OF(fd, "fcntl", control_real(fd, command, argument));
     return is_simulated(fd) ? control_simulated(fd, command, argument) : control_real(fd, command, argument);
 }
 

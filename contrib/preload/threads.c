@@ -59,10 +59,10 @@ static bool find_ends(struct ends *ends) {
     if (late == 0) return false;
     pthread_mutex_lock(&timed_lock);
     for (const struct timed *timed = all_timed; timed; timed = timed->next)
-        if ((uint64_t)timed->end < ends->first) ends->first = (uint64_t)timed->end;
+        if (!timed->lasts_on && (uint64_t)timed->end < ends->first) ends->first = (uint64_t)timed->end;
     for (const struct timed *timed = all_timed; timed; timed = timed->next) {
         uint64_t end = (uint64_t)timed->end;
-        if (end - ends->first <= late && end > ends->last && end <= LAST_MOMENT) ends->last = end;
+        if (!timed->lasts_on && end - ends->first <= late && end > ends->last && end <= LAST_MOMENT) ends->last = end;
     }
     pthread_mutex_unlock(&timed_lock);
     return ends->last > 0;
@@ -100,7 +100,7 @@ static uint64_t outside_limit(int *waits) {
     pthread_mutex_lock(&timed_lock);
     for (const struct timed *timed = all_timed; timed; timed = timed->next) {
         uint64_t there = timed->began + (uint64_t)(now - timed->began_really);
-        if (!timed->is_outside) continue;
+        if (!timed->is_outside || (timed->lasts_on && there >= (uint64_t)timed->end)) continue;
         if (there > (uint64_t)timed->end) there = (uint64_t)timed->end;
         if (there < limit) limit = there;
         ++*waits;
@@ -512,8 +512,8 @@ void end_timed(const struct timed *timed) {
 
 /* ---- waits with a time for what is outside ---- */
 
-void begin_outside(struct timed *timed, int64_t units) {
-    *timed = (struct timed){.began = moment_now(), .began_really = real_now(), .is_outside = true};
+void begin_outside(struct timed *timed, int64_t units, bool lasts_on) {
+    *timed = (struct timed){.began = moment_now(), .began_really = real_now(), .is_outside = true, .lasts_on = lasts_on};
     timed->clock = CLOCK_MONOTONIC;
     timed->end = (int64_t)timed->began + units;
     if (!atomic_load(&is_watching)) return;
@@ -525,7 +525,7 @@ void begin_outside(struct timed *timed, int64_t units) {
    before it, unless others go on for a second more: on a busy machine they are late. */
 static void await_end(struct timed *timed) {
     pthread_mutex_lock(&timed_lock);
-    timed->is_outside = false;
+    timed->is_outside = timed->lasts_on = false;
     timed->words = &timed->own_word;
     timed->word_count = 1;
     pthread_mutex_unlock(&timed_lock);

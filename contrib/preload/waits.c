@@ -103,7 +103,7 @@ FORWARD(epoll_ctl)
 int epoll_ctl(int epfd, int op, int fd, struct epoll_event *event) {
     struct epoll_event asked;
     int status = -EBADF;
-    HAND_ON(next_epoll_ctl()(epfd, op, fd, event));
+    HAND_ON_OF(is_lost(epfd) ? epfd : fd, "epoll_ctl", next_epoll_ctl()(epfd, op, fd, event));
     QUIET;
     if (op != EPOLL_CTL_DEL && !READABLE(event))
         return (int)ANSWER(-EFAULT, "epoll_ctl(%d, %s, %d, %p)", epfd, word_of(op), fd, (void *)event);
@@ -152,19 +152,19 @@ FORWARD(epoll_pwait)
 FORWARD(epoll_pwait2)
 
 int epoll_wait(int epfd, struct epoll_event *events, int most, int timeout) {
-    HAND_ON(next_epoll_wait()(epfd, events, most, timeout));
+    HAND_ON_OF(epfd, "epoll_wait", next_epoll_wait()(epfd, events, most, timeout));
     return wait_in(epfd, events, most, in_milliseconds(timeout), NULL, "epoll_wait");
 }
 
 int epoll_pwait(int epfd, struct epoll_event *events, int most, int timeout, const sigset_t *mask) {
-    HAND_ON(next_epoll_pwait()(epfd, events, most, timeout, mask));
+    HAND_ON_OF(epfd, "epoll_pwait", next_epoll_pwait()(epfd, events, most, timeout, mask));
     return wait_in(epfd, events, most, in_milliseconds(timeout), mask, "epoll_pwait");
 }
 
 /* As on Linux, what is no time is told before what is no instance. */
 int epoll_pwait2(int epfd, struct epoll_event *events, int most, const struct timespec *time, const sigset_t *mask) {
     struct timeout timeout;
-    HAND_ON(next_epoll_pwait2()(epfd, events, most, time, mask));
+    HAND_ON_OF(epfd, "epoll_pwait2", next_epoll_pwait2()(epfd, events, most, time, mask));
     if (!READABLE_OR_NULL(time)) return (int)ANSWER(-EFAULT, "epoll_pwait2(%d, %p)", epfd, (const void *)time);
     timeout = in_time(time);
     if (time && timeout.units < 0) return (int)ANSWER(-EINVAL, "epoll_pwait2(%d, %s)", epfd, timeout.said.of);
@@ -242,7 +242,9 @@ static void want(struct sought *sought, int fd, uint32_t events) {
     if (fd - FIRST > sought->highest) sought->highest = fd - FIRST;
 }
 
+/* A real one shows nothing here. */
 static uint32_t shown_by(const struct sought *sought, int fd) {
+    if (!is_simulated(fd)) return 0;
     return fd < FIRST + NUMBERS ? sought->shown[fd - FIRST] : POLLNVAL;
 }
 
@@ -301,7 +303,7 @@ static int seek(struct sought *sought, int64_t units, const char *call) {
         struct timed outside;                                   \
         int64_t longest = (units);                              \
         int answer;                                             \
-        if (longest > 0) begin_outside(&outside, longest);      \
+        if (longest > 0) begin_outside(&outside, longest, false); \
         answer = (call);                                        \
         if (longest > 0) end_outside(&outside, answer == 0);    \
         take_a_while(answer, longest);                          \
@@ -316,8 +318,11 @@ static int sleep_or_poll(int64_t units, const char *call) {
 }
 
 static int mixes(const char *call) {
-    return refuse(EPERM, "%s of real and simulated descriptors at once is not simulated", call);
+    return refuse(EPERM, "%s of real and simulated descriptors at once, of which none is ready, is not simulated", call);
 }
+
+/* The same with no time. */
+static struct timeout at_once(const struct timeout *timeout) { return (struct timeout){0, timeout->said}; }
 
 /* Fills in what poll answers. */
 static int put_shown(const struct sought *sought, struct pollfd *files, nfds_t count) {
@@ -375,6 +380,24 @@ static int poll_merged(struct pollfd *files, nfds_t count, const struct timespec
     return found;
 }
 
+/* Real and simulated ones at once: what is ready now. A wait for both isn't simulated. */
+static int poll_both(struct sought *sought, struct pollfd *files, nfds_t count, const struct timeout *timeout,
+                     const sigset_t *mask, const char *call) {
+    struct pollfd *real = count <= (nfds_t)FIRST ? malloc((size_t)count * sizeof *real) : NULL;
+    int found, status;
+    if (!real) return mixes(call);
+    for (nfds_t i = 0; i < count; i++) {
+        real[i] = files[i];
+        if (is_simulated(files[i].fd)) real[i].fd = -1;
+    }
+    found = status = next_poll()(real, count, 0);
+    if (found >= 0) status = poll_simulated(sought, files, count, at_once(timeout), found > 0 ? NULL : mask, call);
+    for (nfds_t i = 0; i < count && status >= 0; i++) files[i].revents |= real[i].revents;
+    free(real);
+    if (status < 0) return status;
+    return found + status == 0 && timeout->units != 0 ? mixes(call) : found + status;
+}
+
 int poll(struct pollfd *files, nfds_t count, int given) {
     SOUGHT sought = {.highest = -1};
     struct timeout timeout = in_milliseconds(given);
@@ -383,7 +406,7 @@ int poll(struct pollfd *files, nfds_t count, int given) {
     status = not_a_poll(files, count, NULL, NULL);
     if (status < 0) return (int)ANSWER(status, "poll(%p, %lu, %s)", (void *)files, count, timeout.said.of);
     want_all(&sought, files, count);
-    if (sought.has_real && sought.has_simulated) return mixes("poll");
+    if (sought.has_real && sought.has_simulated) return poll_both(&sought, files, count, &timeout, NULL, "poll");
     if (sought.has_real && count > (nfds_t)FIRST) {
         struct timespec time = timespec_of(given < 0 ? 0 : (uint64_t)timeout.units);
         return poll_merged(files, count, given < 0 ? NULL : &time, NULL);
@@ -401,10 +424,11 @@ int ppoll(struct pollfd *files, nfds_t count, const struct timespec *time, const
     if (status < 0) return (int)ANSWER(status, "ppoll(%p, %lu)", (void *)files, count);
     timeout = in_time(time);
     want_all(&sought, files, count);
-    if (sought.has_real && sought.has_simulated) return mixes("ppoll");
-    if (sought.has_real && count > (nfds_t)FIRST) return poll_merged(files, count, time, mask);
-    if (sought.has_real) return REALLY(next_ppoll()(files, count, time, mask), timeout.units);
+    if (sought.has_real && !sought.has_simulated && count > (nfds_t)FIRST) return poll_merged(files, count, time, mask);
+    if (sought.has_real && !sought.has_simulated)
+        return REALLY(next_ppoll()(files, count, time, mask), timeout.units);
     if (time && timeout.units < 0) return (int)ANSWER(-EINVAL, "ppoll(..., %lu, %s)", count, timeout.said.of);
+    if (sought.has_real) return poll_both(&sought, files, count, &timeout, mask, "ppoll");
     return poll_simulated(&sought, files, count, timeout, mask, "ppoll");
 }
 
@@ -473,6 +497,37 @@ static int select_simulated(struct sought *sought, int most, const struct sets *
     return (int)ANSWER(status, "%s(%d, ..., %s)", call, most, timeout.said.of);
 }
 
+/* Without memory NULL is kept, too. */
+static struct sets real_part_of(const struct sets *sets, int most, unsigned long *room) {
+    size_t words = ((size_t)most + WORD - 1) / WORD;
+    struct sets real = {{NULL, NULL, NULL}};
+    for (size_t i = 0; i < 3 && room; i++) {
+        if (!sets->of[i]) continue;
+        real.of[i] = memcpy(room + i * words, sets->of[i], words * sizeof *room);
+        for (int fd = FIRST; fd < most; fd++) real.of[i][fd / WORD] &= ~(1UL << fd % WORD);
+    }
+    return real;
+}
+
+/* As poll_both. */
+static int select_both(struct sought *sought, int most, const struct sets *sets, const struct timeout *timeout,
+                       const sigset_t *mask, const char *call) {
+    size_t words = ((size_t)most + WORD - 1) / WORD;
+    unsigned long *room = malloc(3 * words * sizeof *room);
+    struct sets real = real_part_of(sets, most, room);
+    struct timeval none = {0, 0};
+    int found, status;
+    if (!room) return (int)plain_answer(-ENOMEM);
+    found = status = next_select()(FIRST < most ? FIRST : most, (fd_set *)(void *)real.of[0],
+                                   (fd_set *)(void *)real.of[1], (fd_set *)(void *)real.of[2], &none);
+    if (found >= 0) status = select_simulated(sought, most, sets, at_once(timeout), found > 0 ? NULL : mask, call);
+    for (size_t i = 0; i < 3 * words && status >= 0; i++)
+        if (real.of[i / words]) sets->of[i / words][i % words] |= room[i];
+    free(room);
+    if (status < 0) return status;
+    return found + status == 0 && timeout->units != 0 ? mixes(call) : found + status;
+}
+
 /* As Linux does, tells in *time how much of it is left. */
 int select(int most, fd_set *reads, fd_set *writes, fd_set *excepts, struct timeval *time) {
     struct sets sets = sets_of(reads, writes, excepts);
@@ -487,10 +542,11 @@ int select(int most, fd_set *reads, fd_set *writes, fd_set *excepts, struct time
     timeout = in_short_time(time);
     end = moment_now() + (uint64_t)(timeout.units < 0 ? 0 : timeout.units);
     want_sets(&sought, most, &sets);
-    if (sought.has_real && sought.has_simulated) return mixes("select");
-    if (sought.has_real) return REALLY(next_select()(most, reads, writes, excepts, time), timeout.units);
+    if (sought.has_real && !sought.has_simulated)
+        return REALLY(next_select()(most, reads, writes, excepts, time), timeout.units);
     if (time && timeout.units < 0) return (int)ANSWER(-EINVAL, "select(%d, ..., %s)", most, timeout.said.of);
-    found = select_simulated(&sought, most, &sets, timeout, NULL, "select");
+    found = sought.has_real ? select_both(&sought, most, &sets, &timeout, NULL, "select")
+                            : select_simulated(&sought, most, &sets, timeout, NULL, "select");
     now = moment_now();
     left = timespec_of(now < end ? end - now : 0);
     if (time) *time = (struct timeval){left.tv_sec, left.tv_nsec / 1000};
@@ -508,8 +564,9 @@ int pselect(int most, fd_set *reads, fd_set *writes, fd_set *excepts, const stru
     if (status < 0) return (int)ANSWER(status, "pselect(%d, ..., %p)", most, (const void *)time);
     timeout = in_time(time);
     want_sets(&sought, most, &sets);
-    if (sought.has_real && sought.has_simulated) return mixes("pselect");
-    if (sought.has_real) return REALLY(next_pselect()(most, reads, writes, excepts, time, mask), timeout.units);
+    if (sought.has_real && !sought.has_simulated)
+        return REALLY(next_pselect()(most, reads, writes, excepts, time, mask), timeout.units);
     if (time && timeout.units < 0) return (int)ANSWER(-EINVAL, "pselect(%d, ..., %s)", most, timeout.said.of);
+    if (sought.has_real) return select_both(&sought, most, &sets, &timeout, mask, "pselect");
     return select_simulated(&sought, most, &sets, timeout, mask, "pselect");
 }

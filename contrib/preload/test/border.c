@@ -81,10 +81,11 @@ static void lists(int real, const int ends[2]) {
     char path[64], target[64];
     const char *const folders[] = {"/proc/self/fd", "/proc/self/fd/", "/proc/thread-self/fd", "/proc/self/fdinfo",
                                    "/dev/fd"};
+    struct dirent **found;
     DIR *tasks;
-    for (int i = 0; i < 5; i++) tell(folders[i], opendir(folders[i]) ? 0 : -1);
+    for (int i = 0; i < 5; i++) tell(folders[i], scandir(folders[i], &found, NULL, NULL));
     snprintf(path, sizeof path, "/proc/%d/fd", getpid());
-    tell("by the process' number", opendir(path) ? 0 : -1);
+    tell("by the process' number", scandir(path, &found, NULL, NULL));
     tell("open", open("/proc/self/fd", O_RDONLY | O_DIRECTORY));
     snprintf(path, sizeof path, "/proc/self/fd/%d", ends[0]);
     tell("a simulated one", open(path, O_RDONLY));

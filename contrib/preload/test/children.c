@@ -448,6 +448,113 @@ static void times(void) {
     close(out[0]);
 }
 
+/* ---- one socket of several ---- */
+
+/* A child that reads a byte of a socket, or writes one, and ends with it. If there is a pipe, it waits for a byte there
+   first. */
+static pid_t use_socket(const int sides[2], const int go[2], char byte) {
+    pid_t child = fork();
+    char got = byte, none;
+    if (child != 0) return child;
+    close(sides[1]);
+    if (go && read(go[0], &none, 1) != 1) _exit(1);
+    if (byte == 0 ? read(sides[0], &got, 1) != 1 : write(sides[0], &byte, 1) != 1) _exit(1);
+    _exit(got);
+}
+
+/* The one that comes first is the first one. */
+static int end_in_turn(pid_t child, const int go[2]) {
+    if (write(go[1], "", 1) != 1) return -1;
+    return end_of(child);
+}
+
+static void tell_hangup(const char *name, int fd) {
+    struct pollfd file = {fd, POLLIN, 0};
+    int found = poll(&file, 1, 0);
+    trace("%s: %d, %#x", name, found, (unsigned int)file.revents);
+}
+
+/* What one of them leaves is there for the next one. */
+static void socket_of_children(void) {
+    pid_t children[3];
+    int sides[2], go[3][2];
+    for (int i = 0; i < 3; i++) pipe(go[i]);
+    socketpair(AF_UNIX, SOCK_STREAM, 0, sides);
+    for (int i = 0; i < 3; i++) children[i] = use_socket(sides, go[i], 0);
+    close(sides[0]);
+    trace("to three children: %ld", outcome(write(sides[1], "abc", 3)));
+    for (int i = 0; i < 3; i++) trace("one has read %c", end_in_turn(children[i], go[i]));
+    trace("to none: %ld", outcome(write(sides[1], "d", 1)));
+    close(sides[1]);
+    socketpair(AF_UNIX, SOCK_STREAM, 0, sides);
+    for (int i = 0; i < 2; i++) children[i] = use_socket(sides, go[i], (char)('x' + i));
+    close(sides[0]);
+    for (int i = 0; i < 2; i++) trace("one has written %c", end_in_turn(children[i], go[i]));
+    tell_all("of two children", sides[1]);
+    close(sides[1]);
+    for (int i = 0; i < 6; i++) close(go[i / 2][i % 2]);
+}
+
+/* The program has it, too: it gets what a child has left, and the other end hears of no end. */
+static void socket_of_both(void) {
+    char bytes[8] = "";
+    int sides[2];
+    pid_t first, second;
+    socketpair(AF_UNIX, SOCK_STREAM, 0, sides);
+    write(sides[1], "abcd", 4);
+    first = use_socket(sides, NULL, 0);
+    trace("the first child has read %c", end_of(first));
+    tell_hangup("no end", sides[1]);
+    second = use_socket(sides, NULL, 0);
+    trace("the second one %c", end_of(second));
+    trace("the program: %ld, %s", outcome(read(sides[0], bytes, sizeof bytes - 1)), bytes);
+    first = use_socket(sides, NULL, 'x');
+    trace("written: %c, %ld, %s", end_of(first), outcome(read(sides[1], bytes, 1)), bytes);
+    tell_hangup("no end", sides[1]);
+    close(sides[0]);
+    tell_hangup("the end", sides[1]);
+    close(sides[1]);
+}
+
+/* A child of the child has it still, when the child has ended. */
+static void socket_of_grandchild(void) {
+    char bytes[8] = "";
+    int sides[2], go[2], done[2];
+    pid_t child;
+    socketpair(AF_UNIX, SOCK_STREAM, 0, sides);
+    pipe(go);
+    pipe(done);
+    child = fork();
+    if (child == 0) {
+        char byte;
+        if (fork() != 0) _exit(6);
+        close(sides[1]);
+        if (read(go[0], &byte, 1) == 1 && write(sides[0], "of a grandchild" + 5, 7) == 7) write(done[1], "x", 1);
+        _exit(0);
+    }
+    trace("the child has ended: %d", end_of(child));
+    write(go[1], "x", 1);
+    trace("done: %ld", outcome(read(done[0], bytes, 1)));
+    trace("from it: %ld, %s", outcome(read(sides[1], bytes, sizeof bytes - 1)), bytes);
+    close(sides[0]);
+    for (int i = 0; i < 2; i++) close(go[i]), close(done[i]);
+    tell_all("then", sides[1]);
+    close(sides[1]);
+}
+
+/* More than there may be at once: none stays because the program still has the socket. */
+static void sockets_that_stay(void) {
+    int sides[2], count = 0;
+    socketpair(AF_UNIX, SOCK_STREAM | SOCK_CLOEXEC, 0, sides);
+    while (count < 70 && end_of(RUN(-1, -1, -1, "true")) == 0) count++;
+    trace("%d children", count);
+    trace("written: %ld", outcome(write(sides[1], "x", 1)));
+    trace("read: %ld", outcome(read(sides[0], (char[1]){0}, 1)));
+    close(sides[0]);
+    tell_hangup("the end", sides[1]);
+    close(sides[1]);
+}
+
 int main(void) {
     signal(SIGPIPE, SIG_IGN);
     trace("begin");
@@ -471,5 +578,9 @@ int main(void) {
     beside_threads();
     times();
     closing_first();
+    socket_of_children();
+    socket_of_both();
+    socket_of_grandchild();
+    sockets_that_stay();
     return 0;
 }

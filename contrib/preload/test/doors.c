@@ -9,6 +9,8 @@
 #include <netdb.h>
 #include <sched.h>
 #include <signal.h>
+#include <stdarg.h>
+#include <stdint.h>
 #include <stdlib.h>
 #include <string.h>
 #include <sys/ioctl.h>
@@ -158,12 +160,48 @@ static void masks(void) {
     tell("it is blocked", sigismember(&before, SIGSYS));
 }
 
+/* The same by number. SIGUSR2 is really blocked. */
+static void masks_by_number(const char *how, long (*change)(long number, ...)) {
+    uint64_t all = ~UINT64_C(0), before = 7, now = 0, usr2 = UINT64_C(1) << (SIGUSR2 - 1);
+    sigset_t pending;
+    int was = own;
+    printf("rt_sigprocmask by %s\n", how);
+    tell("all", change(SYS_rt_sigprocmask, SIG_SETMASK, &all, &before, 8L));
+    tell("none was blocked", before == 0);
+    tell("with all signals blocked", raw(SYS_eventfd2, 0, 0, 0, 0));
+    raise(SIGSYS);
+    raise(SIGUSR2);
+    tell("own one, blocked", own - was);
+    tell("unblocked", change(SYS_rt_sigprocmask, SIG_UNBLOCK, &usr2, &now, 8L));
+    tell("all were blocked", (now | 1UL << (SIGKILL - 1) | 1UL << (SIGSTOP - 1)) == all);
+    tell("back", change(SYS_rt_sigprocmask, SIG_SETMASK, &before, NULL, 8L));
+    tell("own one", own - was);
+    tell("asked", change(SYS_rt_sigprocmask, 99L, NULL, &now, 8L));
+    tell("none is", now == 0);
+    tell("other ways", outcome(change(SYS_rt_sigprocmask, 99L, &usr2, NULL, 8L)));
+    tell("another size", outcome(change(SYS_rt_sigprocmask, SIG_BLOCK, &usr2, NULL, 16L)));
+    tell("a bad pointer", outcome(change(SYS_rt_sigprocmask, SIG_BLOCK, (void *)8, NULL, 8L)));
+    tell("SIGUSR2 is pending", sigpending(&pending) == 0 && sigismember(&pending, SIGUSR2));
+}
+
+static long by_instruction(long number, ...) {
+    va_list more;
+    long given[4], result;
+    va_start(more, number);
+    for (int i = 0; i < 4; i++) given[i] = va_arg(more, long);
+    va_end(more);
+    result = raw(number, given[0], given[1], given[2], given[3]);
+    if (result >= 0) return result;
+    errno = (int)-result;
+    return -1;
+}
+
 static void call_in_handler(int signal) {
     (void)signal;
     tell("in a handler", raw(SYS_eventfd2, 0, 0, 0, 0));
 }
 
-static void handlers(void) {
+static void handlers(void *(*by_deep)(const char *name)) {
     struct sigaction action = {.sa_sigaction = count_own, .sa_flags = SA_SIGINFO}, before, other;
     sigfillset(&action.sa_mask);
     sigaction(SIGSYS, &action, &before);
@@ -173,6 +211,10 @@ static void handlers(void) {
     tell("beside its handler", raw(SYS_eventfd2, 0, 0, 0, 0));
     tell("not its own", own);
     masks();
+    signal(SIGUSR2, SIG_IGN);
+    masks_by_number("instruction", by_instruction);
+    masks_by_number("name", syscall);
+    if (by_deep) masks_by_number("the C library's function", (long (*)(long, ...))by_deep("syscall"));
     other = action;
     other.sa_handler = call_in_handler;
     other.sa_flags = 0;
@@ -208,12 +250,16 @@ static void needs(void) {
 static _Noreturn void be_child(void *(*by_deep)(const char *name)) {
     char *words[] = {"sh", "-c", "x=$(echo one; (echo two) | cat); echo $x", NULL};
     struct timespec now = {1000000000, 0};
+    uint64_t all = ~UINT64_C(0), before = 0;
     int ends[2];
     tell("in a child, fork", process(raw(SYS_fork, 0, 0, 0, 0)));
     tell("eventfd2", raw(SYS_eventfd2, 0, 0, 0, 0) > 2);
     tell("pipe2", raw(SYS_pipe2, (long)ends, 0, 0, 0));
     tell("epoll_create1", raw(SYS_epoll_create1, 0, 0, 0, 0) > 2);
     tell("a table of its own", raw(SYS_unshare, CLONE_FILES, 0, 0, 0));
+    tell("mask", by_instruction(SYS_rt_sigprocmask, SIG_SETMASK, &all, &before, 8L));
+    tell("eventfd2", raw(SYS_eventfd2, 0, 0, 0, 0) > 2);
+    tell("mask", by_instruction(SYS_rt_sigprocmask, SIG_SETMASK, &before, NULL, 8L));
     tell("clock_settime", raw(SYS_clock_settime, CLOCK_REALTIME, (long)&now, 0, 0));
     tell("past the shim", 0);
     tell("fork", process(BY(by_deep, of_ints, fork, (0))));
@@ -247,7 +293,7 @@ int main(void) {
     library = dlopen("libc.so.6", RTLD_NOW | RTLD_NOLOAD);
     by_library(by_handle);
     if (by_deep) by_library(by_deep);
-    handlers();
+    handlers(by_deep);
     needs();
     if (by_deep) children(by_deep);
     return 0;

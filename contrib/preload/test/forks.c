@@ -7,9 +7,13 @@
 #include <signal.h>
 #include <spawn.h>
 #include <stdlib.h>
+#include <stdint.h>
 #include <string.h>
+#include <sys/epoll.h>
+#include <sys/eventfd.h>
 #include <sys/resource.h>
 #include <sys/syscall.h>
+#include <sys/timerfd.h>
 #include <sys/wait.h>
 #include <unistd.h>
 
@@ -28,14 +32,11 @@ static int run(void *nothing) {
 static void refused(void) {
     static char stack[4096];
     char *const words[] = {"true", NULL};
-    FILE *stream;
     tell("clone", clone(run, stack + sizeof stack, SIGCHLD, NULL));
     tell("clone by number", syscall(SYS_clone, SIGCHLD, NULL, NULL, NULL, NULL));
     tell("clone3", syscall(SYS_clone3, NULL, 0));
     tell("exec", execv("/bin/true", words));
     tell("execlp", execlp("true", "true", NULL));
-    stream = popen("true", "r");
-    tell("popen", stream ? 0 : -1);
     tell("daemon", daemon(1, 1));
 }
 
@@ -88,8 +89,44 @@ static void low_limit(void) {
     close(ends[1]);
 }
 
+/* What a child doesn't have. A close is answered as if it did. */
+static _Noreturn void be_without(int event, int timer, int instance) {
+    struct epoll_event wanted = {.events = EPOLLIN};
+    struct itimerspec setting;
+    uint64_t count = 1;
+    int own = epoll_create1(0), file = open("/dev/null", O_RDONLY);
+    tell("write", write(event, &count, sizeof count));
+    tell("read", read(event, &count, sizeof count));
+    tell("read", read(event, &count, sizeof count));
+    tell("dup", dup(event));
+    tell("fcntl", fcntl(event, F_GETFD));
+    tell("timerfd_gettime", timerfd_gettime(timer, &setting));
+    tell("epoll_wait", epoll_wait(instance, &wanted, 1, 0));
+    tell("epoll_ctl", epoll_ctl(instance, EPOLL_CTL_ADD, file, &wanted));
+    tell("in one of its own", epoll_ctl(own, EPOLL_CTL_ADD, event, &wanted));
+    tell("close", close(event));
+    tell("then", close(event));
+    tell("read", read(event, &count, sizeof count));
+    tell("another file there", dup2(file, timer));
+    tell("read", read(timer, &count, sizeof count));
+    tell("close", close(timer));
+    tell("then", close(timer));
+    tell("others", close(1000));
+    _exit(0);
+}
+
+static void without(void) {
+    int event = eventfd(0, 0), timer = timerfd_create(CLOCK_MONOTONIC, 0), instance = epoll_create1(0);
+    pid_t child = fork();
+    if (child == 0) be_without(event, timer, instance);
+    printf("it ended: %d\n", end_of(child));
+    fflush(stdout);
+    close(event), close(timer), close(instance);
+}
+
 int main(void) {
     signal(SIGPIPE, SIG_IGN);
+    without();
     refused();
     more_than_processes();
     low_limit();

@@ -72,6 +72,105 @@ static void receive_nothing(void) {
     set_timeout(0);
 }
 
+/* ---- timeouts of calls that take no bytes, or many messages ---- */
+
+static int listener, waiting_one;
+static struct sockaddr_un listener_name;
+static socklen_t listener_size = sizeof listener_name;
+
+/* One that has as many connections waiting as it may have. */
+static void make_listener(void) {
+    struct sockaddr_un any = {.sun_family = AF_UNIX};
+    struct timeval time = {0, 20000};
+    int first = socket(AF_UNIX, SOCK_STREAM, 0);
+    listener = socket(AF_UNIX, SOCK_STREAM, 0);
+    waiting_one = socket(AF_UNIX, SOCK_STREAM, 0);
+    if (bind(listener, (struct sockaddr *)&any, sizeof any.sun_family) != 0 || listen(listener, 0) != 0 ||
+        getsockname(listener, (struct sockaddr *)&listener_name, &listener_size) != 0 ||
+        connect(first, (struct sockaddr *)&listener_name, listener_size) != 0)
+        trace("no listener");
+    setsockopt(waiting_one, SOL_SOCKET, SO_SNDTIMEO, &time, sizeof time);
+}
+
+static ssize_t by_connect(void) {
+    return connect(waiting_one, (struct sockaddr *)&listener_name, listener_size);
+}
+
+static ssize_t by_accept(void) { return accept(real, NULL, NULL); }
+
+static ssize_t by_accept4(void) { return accept4(real, NULL, NULL, SOCK_CLOEXEC); }
+
+enum { MESSAGES = 40 };
+static struct mmsghdr messages[MESSAGES];
+
+static void make_messages(void) {
+    static char bytes[MESSAGES];
+    static struct iovec vectors[MESSAGES];
+    for (int i = 0; i < MESSAGES; i++) {
+        vectors[i] = (struct iovec){&bytes[i], 1};
+        messages[i] = (struct mmsghdr){.msg_hdr = {.msg_iov = &vectors[i], .msg_iovlen = 1}};
+    }
+}
+
+static ssize_t by_recvmmsg(void) { return recvmmsg(real, messages, MESSAGES, 0, NULL); }
+
+/* The receiver of these has no room for more. */
+static ssize_t by_sendmmsg(void) { return sendmmsg(waiting_one, messages, MESSAGES, 0); }
+
+static void fill(void) {
+    struct timeval time = {0, 20000};
+    int receiver = real;
+    ssize_t sent;
+    waiting_one = socket(AF_UNIX, SOCK_DGRAM, 0);
+    connect(waiting_one, (struct sockaddr *)&name, name_size);
+    setsockopt(waiting_one, SOL_SOCKET, SO_SNDTIMEO, &time, sizeof time);
+    sent = by_sendmmsg();
+    trace("sendmmsg sends what has room: %d", sent > 0 && sent < MESSAGES);
+    receive("sendmmsg", by_sendmmsg);
+    while (sent > 0 && sent-- > 0) recv(receiver, &(char){0}, 1, MSG_DONTWAIT);
+    close(waiting_one);
+}
+
+static void accept_and_connect(void) {
+    int datagrams = real;
+    make_listener();
+    receive("connect", by_connect);
+    real = listener;
+    close(accept(listener, NULL, NULL));
+    receive("accept", by_accept);
+    receive("accept4", by_accept4);
+    real = datagrams;
+    close(listener);
+    close(waiting_one);
+}
+
+static void *send_often(void *milliseconds) {
+    int from = socket(AF_UNIX, SOCK_DGRAM, 0);
+    for (int i = 0; i < 6; i++) {
+        usleep((useconds_t)(long)milliseconds * 1000);
+        sendto(from, "x", 1, 0, (struct sockaddr *)&name, name_size);
+    }
+    close(from);
+    return NULL;
+}
+
+/* The time of recvmmsg is looked at when a message comes, and not before. How many come until then depends on how busy
+   the machine is, unless `exact` says it. */
+static void receive_until(long seconds, long each, unsigned int count, int exact, long least) {
+    struct timespec time = {seconds, seconds > 0 ? 0 : 100000000};
+    pthread_t sender;
+    long began = clock_now(), took;
+    int got;
+    pthread_create(&sender, NULL, send_often, (void *)each);
+    got = recvmmsg(real, messages, count, 0, &time);
+    took = clock_now() - began;
+    pthread_join(sender, NULL);
+    while (recv(real, &(char){0}, 1, MSG_DONTWAIT) > 0) {}
+    trace("recvmmsg of %u, one each %ld ms: %d, after %ld ms: %d, time is left: %d", count, each,
+          exact > 0 ? got : got >= 1 && got <= 5, least, took >= least && took < least + 80,
+          time.tv_sec > 0 || time.tv_nsec > 0);
+}
+
 /* ---- beside threads ---- */
 
 static atomic_int ticks;
@@ -175,7 +274,14 @@ int main(void) {
     receive("recv", by_recv);
     receive("read", by_read);
     receive("recvmsg", by_recvmsg);
+    make_messages();
+    receive("recvmmsg", by_recvmmsg);
+    fill();
+    accept_and_connect();
     receive_nothing();
+    receive_until(0, 30, MESSAGES, 0, 100);
+    receive_until(10, 20, 2, 2, 40);
+    receive_until(0, 300, MESSAGES, 1, 300);
     wait_beside("poll beside a timer", by_poll, tick);
     wait_beside("ppoll beside a sleep", by_ppoll, sleep_on);
     wait_beside("select beside a sleep", by_select, sleep_on);

@@ -7,6 +7,7 @@
 #include <signal.h>
 #include <stdlib.h>
 #include <sys/epoll.h>
+#include <sys/select.h>
 #include <sys/ioctl.h>
 #include <sys/sendfile.h>
 #include <sys/socket.h>
@@ -23,13 +24,20 @@ static void descriptors(void) {
     struct epoll_event event = {.events = EPOLLIN};
     struct pollfd files[2] = {{0, POLLIN, 0}, {0, POLLIN, 0}};
     int ends[2], instance = epoll_create1(0);
+    fd_set reads;
     sigset_t mask;
     sigemptyset(&mask);
     tell("pipe", pipe(ends));
     tell("add a real one", epoll_ctl(instance, EPOLL_CTL_ADD, 0, &event));
     tell("add to a real one", epoll_ctl(0, EPOLL_CTL_ADD, ends[0], &event));
+    files[0].fd = socket(AF_UNIX, SOCK_DGRAM, 0);
     files[1].fd = ends[0];
-    tell("poll of both", poll(files, 2, 0));
+    tell("poll of both", poll(files, 2, 1000));
+    FD_ZERO(&reads);
+    FD_SET(files[0].fd, &reads);
+    FD_SET(files[1].fd, &reads);
+    tell("select of both", select(ends[0] + 1, &reads, NULL, NULL, NULL));
+    close(files[0].fd);
     tell("onto a real one", dup2(ends[1], 1));
     tell("room", fcntl(ends[0], F_GETPIPE_SZ));
     tell("the same", fcntl(ends[0], F_SETPIPE_SZ, 65000));
@@ -42,7 +50,6 @@ static void descriptors(void) {
     tell("pread", pread(ends[0], &mask, 1, 0));
     tell("tee", tee(ends[0], ends[1], 1, 0));
     tell("sendfile", sendfile(1, ends[0], NULL, 1));
-    tell("stream", fdopen(ends[0], "r") ? 0 : -1);
     tell("a number of nobody", (close(ends[0]), read(ends[0], &mask, 1)));
 }
 
