@@ -134,7 +134,8 @@ static bool is_gone(long thread) {
     return state == 'Z' || (state == 'X' && read_of(next_syscall()(SYS_gettid), "stat", line, sizeof line) > 0);
 }
 
-/* A lock, and what only a signal ends, are at rest: no time of the real kernel and nothing outside ends them. */
+/* A lock, and what only a signal ends, are at rest: no time of the real kernel and nothing outside ends them. Another
+   call in which a thread waits and no signal may wake it (D) is at work, as where the table of descriptors grows. */
 static enum rest rest_of(long thread) {
     char line[128], *end;
     long call;
@@ -148,7 +149,7 @@ static enum rest rest_of(long thread) {
     case SYS_pause:
     case SYS_rt_sigsuspend:
     case SYS_rt_sigtimedwait: return AT_REST;
-    default: return OUTSIDE;
+    default: return state_of(thread) == 'D' ? AWAKE : OUTSIDE;
     }
 }
 

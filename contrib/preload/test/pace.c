@@ -4,7 +4,10 @@
 
 #include <fcntl.h>
 #include <poll.h>
+#include <pthread.h>
+#include <semaphore.h>
 #include <signal.h>
+#include <spawn.h>
 #include <stdlib.h>
 #include <string.h>
 #include <sys/wait.h>
@@ -102,12 +105,36 @@ static void daemon_of_child(void) {
     close(out[0]);
 }
 
+/* A guard in one thread, while another one makes the first child. The real kernel's table of descriptors grows for it,
+   which takes some milliseconds in which the thread can't go on: it doesn't wait for a time. */
+static sem_t done;
+
+static void *make_first(void *nothing) {
+    char *words[] = {"true", NULL}, *environment[] = {NULL};
+    pid_t child = -1;
+    if (posix_spawnp(&child, "true", NULL, NULL, words, environment) == 0) waitpid(child, NULL, 0);
+    sem_post(&done);
+    return nothing;
+}
+
+static void guard(void) {
+    struct timespec end;
+    pthread_t beside;
+    sem_init(&done, 0, 0);
+    clock_gettime(CLOCK_REALTIME, &end);
+    end.tv_sec += 60;
+    pthread_create(&beside, NULL, make_first, NULL);
+    printf("beside a guard: %ld\n", outcome(sem_timedwait(&done, &end)));
+    pthread_join(beside, NULL);
+}
+
 int main(int count, char **words) {
     if (count == 2 && strcmp(words[1], "standing") == 0) {
         race("sleep 0.3", 100);
         hours();
         return 0;
     }
+    guard();
     race("exec sleep 100", 200);
     race("echo", 60000);
     hours();
