@@ -120,7 +120,7 @@ static long write_quietly(int fd, const char *bytes, size_t count) {
 static bool may_be_shown(const struct end *end) {
     static bool is_told;
     if (!end->is_socket) return true;
-    if (end->description->is_read_here && is_named(end->description)) return false;
+    if ((end->description->is_read_here || end->description->is_watched) && is_named(end->description)) return false;
     if (find_end(all_ends, end->description) == end) return true;
     if (!is_told) say("several children have the socket %d: its bytes go to the first one only", end->number + FIRST);
     is_told = true;

@@ -335,7 +335,8 @@ struct description {
     struct description *peer;
     int holders;       /* descriptors that name it, calls that use it, and children */
     bool is_shut;      /* nothing is written here any more */
-    bool is_read_here; /* the program itself has asked for what can be read here */
+    bool is_read_here; /* the program itself has read here, or tried */
+    bool is_watched;   /* an instance asks for what can be read here */
     int shown;         /* so many children have been shown bytes of it that they haven't taken: bridge.c */
     int real_pidfd;    /* of a pidfd */
     struct description *next_pidfd;

@@ -8,6 +8,7 @@
 #include <signal.h>
 #include <stdlib.h>
 #include <string.h>
+#include <sys/epoll.h>
 #include <sys/socket.h>
 #include <sys/wait.h>
 #include <unistd.h>
@@ -207,6 +208,22 @@ static void closed_copies(void) {
     trace("across: %ld", outcome(write(sides[1], "abc", 3)));
     trace("came: %ld %s", outcome(read(sides[0], bytes, 3)), bytes);
     close(sides[0]), close(sides[1]);
+}
+
+/* A socket that an instance asks for no more, as after libuv's look whether it takes one, is a child's to read. */
+static void asked_before(void) {
+    int sides[2], instance = epoll_create1(EPOLL_CLOEXEC);
+    struct epoll_event event = {.events = EPOLLIN};
+    char bytes[16];
+    pid_t child;
+    socketpair(AF_UNIX, SOCK_STREAM, 0, sides);
+    trace("asked for: %ld", outcome(epoll_ctl(instance, EPOLL_CTL_ADD, sides[0], &event)));
+    trace("and no more: %ld", outcome(epoll_ctl(instance, EPOLL_CTL_DEL, sides[0], &event)));
+    child = fork();
+    if (child == 0) _exit((int)read(sides[0], bytes, sizeof bytes));
+    trace("for the child: %ld", outcome(write(sides[1], "seven..", 7)));
+    trace("it read: %d", end_of(child));
+    close(sides[0]), close(sides[1]), close(instance);
 }
 
 static void full(void) {
@@ -460,6 +477,7 @@ int main(void) {
     shared_bytes();
     halves();
     closed_copies();
+    asked_before();
     full();
     late_reader();
     much();
