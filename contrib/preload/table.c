@@ -532,6 +532,7 @@ int ioctl(int fd, unsigned long request, ...) {
     entry = entry_of(fd);
     result = entry ? request_of(entry, request, argument) : -EBADF;
     pthread_mutex_unlock(&lock);
+    if (request == FIONREAD && result == 0 && *(int *)argument == 0 && has_children()) look_for_nothing();
     /* TCGETS asks whether this is a terminal; ENOTTY is its answer. */
     if (result == -ENOTTY && request != TCGETS) return refuse(ENOTTY, "ioctl(%d, %#lx) is not simulated", fd, request);
     return (int)ANSWER(result, "ioctl(%d, %#lx)", fd, request);
