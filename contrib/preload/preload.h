@@ -574,9 +574,11 @@ bool is_anyone_reaping(void);
 
 /* pace.c: whether the clock may go to a moment, for no child holds it or real time has passed. */
 bool may_go_to(uint64_t moment);
+/* A wait begins: what passed before it counts for no time that begins with it. */
+void begin_pace(void);
 /* So much real time has passed in a wait. */
 void pass_time(uint64_t units);
-/* A child has done something: what has passed is paid by whole tenths of a second. */
+/* A child has done something: what has passed is paid, if it is a tenth of a second or more. */
 void pay_at_answer(void);
 /* Whether a poll that finds nothing may take its millisecond. */
 bool may_take_a_while(void);

@@ -431,7 +431,10 @@ int wait_at(const struct wait *wait) {
     me.depth = this_thread.depth;
     me.place = place_of_call(&me);
     if (wait->timeout >= 0) me.end = moment_now() + (uint64_t)wait->timeout;
-    if (has_children()) look_if_busy();
+    if (has_children()) {
+        look_if_busy();
+        begin_pace();
+    }
     pthread_mutex_lock(&lock);
     me.result = park(&me);
     if (me.result == NIPPERSAGE_PARKED) {

@@ -441,6 +441,7 @@ void end_timed_waits(uint64_t moment) {
 }
 
 static void link_timed(struct timed *timed) {
+    if (has_children()) begin_pace();
     QUIET;
     self();
     pthread_mutex_lock(&timed_lock);

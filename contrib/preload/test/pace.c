@@ -92,6 +92,27 @@ static void polls(void) {
     close(out[0]);
 }
 
+/* What passed before a guard, in looks, doesn't make it come early. */
+static void guard_after_looks(void) {
+    int in[2], out[2];
+    pid_t child;
+    char byte = 'x';
+    pipe(in), pipe(out);
+    child = fork();
+    if (child == 0) {
+        close(in[1]), close(out[0]);
+        if (read(in[0], &byte, 1) == 1 && usleep(50000) == 0) write(out[1], &byte, 1);
+        _exit(0);
+    }
+    close(in[0]), close(out[1]);
+    struct pollfd file = {out[0], POLLIN, 0};
+    for (int i = 0; i < 2000; i++) poll(&file, 1, 0);
+    write(in[1], &byte, 1);
+    printf("after two seconds of looks comes %s\n", poll(&file, 1, 1000) == 0 ? "the time" : "the child");
+    waitpid(child, NULL, 0);
+    close(in[1]), close(out[0]);
+}
+
 /* What a child leaves behind holds the clock for a second after its last bytes. */
 static void daemon_of_child(void) {
     int out[2];
@@ -141,6 +162,7 @@ int main(int count, char **words) {
     time_after_wait();
     chatter();
     polls();
+    guard_after_looks();
     daemon_of_child();
     return 0;
 }
