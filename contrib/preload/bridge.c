@@ -33,6 +33,7 @@ static void put_in(struct end *end, const char *bytes, size_t count) {
     struct waiting *waiting = &end->description->peer->waiting;
     ssize_t taken = nippersage_write(acting(end->process), end->number, bytes, count);
     if (taken > 0) add_waiting(waiting, bytes, (size_t)taken);
+    if (taken > 0) waiting->has_childs = true;
     log_child(end->pid, taken, "write(%d, %s, %zu)", end->number + FIRST, bytes_text(TEXT, bytes, (ssize_t)count),
               count);
     end->moved = real_moment();
@@ -115,12 +116,19 @@ static long write_quietly(int fd, const char *bytes, size_t count) {
     return taken;
 }
 
-/* A socket whose bytes the program itself asks for is the program's, as long as it is open there. Of several children
-   only the first is shown the bytes of one socket. */
+/* A socket whose bytes the program itself asks for is the program's, as long as it is open there. So is one to which a
+   child has written: what is shown in a socket can't be taken back, and children have copies of ends that they never
+   read, as those of workers that were made before them. Of several children only the first is shown the bytes of one
+   socket. */
+static bool is_programs(const struct description *description) {
+    return (description->is_read_here || description->is_watched || description->waiting.has_childs) &&
+           is_named(description);
+}
+
 static bool may_be_shown(const struct end *end) {
     static bool is_told;
     if (!end->is_socket) return true;
-    if ((end->description->is_read_here || end->description->is_watched) && is_named(end->description)) return false;
+    if (is_programs(end->description)) return false;
     if (find_end(all_ends, end->description) == end) return true;
     if (!is_told) say("several children have the socket %d: its bytes go to the first one only", end->number + FIRST);
     is_told = true;

@@ -311,6 +311,7 @@ enum kind { PIPE, SOCKET, EVENTFD, TIMERFD, EPOLL, PIDFD };
 struct waiting {
     char *bytes;
     size_t room, first, count;
+    bool has_childs; /* a child has written some of what waits */
 };
 
 /* What setsockopt has set: options.c. */

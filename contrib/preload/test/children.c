@@ -210,6 +210,32 @@ static void closed_copies(void) {
     close(sides[0]), close(sides[1]);
 }
 
+/* Each child has copies of the ends that the parent reads, of its own and of those before it. The bytes are the parent's,
+   which reads late, and for the first time. */
+static void workers(void) {
+    enum { COUNT = 3 };
+    int ends[COUNT];
+    char bytes[8];
+    pid_t children[COUNT];
+    for (int i = 0; i < COUNT; i++) {
+        int sides[2];
+        socketpair(AF_UNIX, SOCK_STREAM, 0, sides);
+        ends[i] = sides[0];
+        children[i] = fork();
+        if (children[i] == 0) {
+            dprintf(sides[1], "of %d", i);
+            usleep(200000);
+            _exit(i);
+        }
+        close(sides[1]);
+    }
+    usleep(100000);
+    for (int i = 0; i < COUNT; i++) trace("%ld: %.4s", outcome(read(ends[i], bytes, sizeof bytes)), bytes);
+    for (int i = 0; i < COUNT; i++) trace("its end: %d", end_of(children[i]));
+    for (int i = 0; i < COUNT; i++) trace("nothing more: %ld", outcome(read(ends[i], bytes, 1)));
+    for (int i = 0; i < COUNT; i++) close(ends[i]);
+}
+
 /* A socket that an instance asks for no more, as after libuv's look whether it takes one, is a child's to read. */
 static void asked_before(void) {
     int sides[2], instance = epoll_create1(EPOLL_CLOEXEC);
@@ -477,6 +503,7 @@ int main(void) {
     shared_bytes();
     halves();
     closed_copies();
+    workers();
     asked_before();
     full();
     late_reader();
