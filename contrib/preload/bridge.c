@@ -389,11 +389,13 @@ bool move_in_wait(void) {
 }
 
 /* A program that never waits is to hear of its children, too. It is a little slower than the real clock then. */
-void look_for_nothing(void) {
+bool look_for_nothing(void) {
     static const struct timespec a_while = {0, 1000000};
-    if (atomic_fetch_add(&idle, 1) < MOST_IDLE) return;
-    if (!move_bytes()) sleep_with_children(&a_while);
-    move_bytes();
+    bool has_moved;
+    if (atomic_fetch_add(&idle, 1) < MOST_IDLE) return false;
+    has_moved = move_bytes();
+    if (!has_moved) sleep_with_children(&a_while);
+    return !move_bytes() && !has_moved;
 }
 
 void look_if_busy(void) {

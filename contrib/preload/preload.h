@@ -554,8 +554,9 @@ void give_limit_back(bool is_highest);
 bool move_bytes(void);
 /* The same in a wait. */
 bool move_in_wait(void);
-/* The program is told that there is nothing, or finds something in a wait at once. If it goes on so, it looks. */
-void look_for_nothing(void);
+/* The program is told that there is nothing, or finds something in a wait at once. If it goes on so, it looks. Whether a
+   millisecond of real time has passed in vain. */
+bool look_for_nothing(void);
 void look_if_busy(void);
 /* Sleeps in the real kernel until there is something to move, or a signal, or for so long; handlers may run. */
 void sleep_with_children(const struct timespec *most);

@@ -39,18 +39,19 @@ static struct timeout in_short_time(const struct timeval *given) {
 }
 
 /* A poll that finds nothing takes no time. But a program may poll until its clock has gone on: so after some in a row
-   each further one takes a while. */
+   each further one takes a while. While a child lives, those take one that have taken real time. */
 static void take_a_while(int found, int64_t units) {
     enum { FREE = 100 };
     static _Thread_local uint64_t last;
     static _Thread_local int in_a_row;
+    bool has_passed;
     if (found != 0 || units != 0) {
         in_a_row = 0;
         return;
     }
-    if (has_children()) look_for_nothing();
+    has_passed = has_children() && look_for_nothing();
     in_a_row = moment_now() == last ? in_a_row + 1 : 1;
-    if (in_a_row > FREE) let_clock_go_on();
+    if (has_passed || in_a_row > FREE) let_clock_go_on();
     last = moment_now();
 }
 
