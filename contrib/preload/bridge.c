@@ -117,18 +117,24 @@ static long write_quietly(int fd, const char *bytes, size_t count) {
 }
 
 /* A socket whose bytes the program itself asks for is the program's, as long as it is open there. So is one to which a
-   child has written: what is shown in a socket can't be taken back, and children have copies of ends that they never
-   read, as those of workers that were made before them. Of several children only the first is shown the bytes of one
-   socket. */
-static bool is_programs(const struct description *description) {
-    return (description->is_read_here || description->is_watched || description->waiting.has_childs) &&
-           is_named(description);
+   child has written, for children have copies of ends that they never read, as those of workers that were made before
+   them. One that an instance only asks for is shown all the same if it can be taken back. */
+static bool is_programs(const struct end *end) {
+    const struct description *description = end->description;
+    long fd;
+    if (!is_named(description)) return false;
+    if (description->is_read_here || description->waiting.has_childs) return true;
+    if (!description->is_watched) return false;
+    fd = fetch_socket(end);
+    if (fd >= 0) RAW(SYS_close, fd);
+    return fd < 0;
 }
 
+/* Of several children only the first is shown the bytes of one socket. */
 static bool may_be_shown(const struct end *end) {
     static bool is_told;
     if (!end->is_socket) return true;
-    if (is_programs(end->description)) return false;
+    if (is_programs(end)) return false;
     if (find_end(all_ends, end->description) == end) return true;
     if (!is_told) say("several children have the socket %d: its bytes go to the first one only", end->number + FIRST);
     is_told = true;
@@ -180,7 +186,7 @@ static bool has_writer(const struct end *end) {
 static void end_of_reading(struct end *end, short revents) {
     struct description *peer = end->description->peer;
     int number = peer ? number_of(peer) : -1;
-    take_as_child(end, end->shown - unread_of(end));
+    if (!end->is_socket || !(revents & POLLERR)) take_as_child(end, end->shown - unread_of(end));
     show_no_more(end);
     end->takes = false;
     if (!end->is_socket || !end->gives || (revents & POLLHUP)) {
@@ -191,10 +197,11 @@ static void end_of_reading(struct end *end, short revents) {
     if (peer) peer->is_shut = true;
 }
 
-/* Whether the child has read all that it was shown. */
+/* Whether the child has read all that it was shown. A socket that was closed with some unread tells an error: those are
+   the program's again. */
 static bool take_shown(struct end *end) {
     if (end->shown == 0 || unread_of(end) > 0) return false;
-    take_as_child(end, end->shown);
+    if (!end->is_socket || !(revents_of(end) & POLLERR)) take_as_child(end, end->shown);
     show_no_more(end);
     return true;
 }
@@ -241,18 +248,29 @@ static bool note_closed_copy(struct end *end, short revents) {
 
 /* ---- what the program itself reads ---- */
 
-/* What was shown to a child by a pipe is taken back, but for what it has read meanwhile. What is in a socket is the
-   child's. */
+/* The other side of a real pipe, or the child's socket. Where the child's can't be had, what is in it is the child's. */
+static long open_other_side(const struct end *end) {
+    char path[40];
+    if (end->is_socket) return fetch_socket(end);
+    snprintf(path, sizeof path, "/proc/self/fd/%d", end->real);
+    return RAW(SYS_openat, AT_FDCWD, path, O_RDONLY | O_NONBLOCK | O_CLOEXEC, 0);
+}
+
+/* What was shown to a child is taken back, but for what it has read meanwhile. */
 static void take_back(struct end *end) {
-    char path[40], bytes[PAGE];
-    long fd, left = 0;
-    if (!end->is_socket) {
-        snprintf(path, sizeof path, "/proc/self/fd/%d", end->real);
-        fd = RAW(SYS_openat, AT_FDCWD, path, O_RDONLY | O_NONBLOCK | O_CLOEXEC, 0);
-        if (fd >= 0) left = RAW(SYS_read, fd, bytes, sizeof bytes);
-        if (fd >= 0) RAW(SYS_close, fd);
+    char bytes[PAGE];
+    long fd, got;
+    size_t left = 0;
+    if (take_shown(end)) return;
+    fd = open_other_side(end);
+    while (fd >= 0 && left < end->shown) {
+        got = end->is_socket ? RAW(SYS_recvfrom, fd, bytes, sizeof bytes, MSG_DONTWAIT, NULL, NULL)
+                             : RAW(SYS_read, fd, bytes, sizeof bytes);
+        if (got <= 0) break;
+        left += (size_t)got;
     }
-    take_as_child(end, end->shown - (left > 0 ? (size_t)left : 0));
+    if (fd >= 0) RAW(SYS_close, fd);
+    take_as_child(end, end->shown - left);
     show_no_more(end);
 }
 

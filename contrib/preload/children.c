@@ -9,6 +9,7 @@
 #include <poll.h>
 #include <pthread.h>
 #include <stdlib.h>
+#include <sys/stat.h>
 #include <sys/wait.h>
 
 FORWARD(clock_gettime)
@@ -294,6 +295,15 @@ static struct child *find_child(uint64_t process) {
 void note_closing(uint64_t process) {
     struct child *child = find_child(process);
     if (child) child->may_end = true;
+}
+
+long fetch_socket(const struct end *end) {
+    const struct child *child = find_child(end->process);
+    struct stat found;
+    long fd = child && child->pidfd >= 0 ? RAW(SYS_pidfd_getfd, child->pidfd, end->number + FIRST, 0) : -ESRCH;
+    if (fd < 0 || (RAW(SYS_fstat, fd, &found) == 0 && found.st_ino == end->inode)) return fd;
+    RAW(SYS_close, fd);
+    return -EBADF;
 }
 
 bool await_end(void) {

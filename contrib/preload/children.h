@@ -27,6 +27,7 @@ struct end {
     pid_t pid;                /* of the first child that had it */
     int real;                 /* the shim's real end */
     int childs;               /* while a fork is made, the child's; else -1 */
+    uint64_t inode;           /* of a child's socket */
     bool is_shared;           /* while a fork is made: an earlier child has it, too */
     bool is_socket;
     bool takes, gives;        /* whether the child may read here, and write */
@@ -61,6 +62,9 @@ void note_closing(uint64_t process);
 bool await_end(void);
 /* A child whose end was told to the program. */
 void note_reaped(pid_t pid);
+/* The child's own socket that belongs to this end, if it has it still at the number at which it came to have it, and the
+   real kernel gives it out. A new real descriptor, or minus an error number. */
+long fetch_socket(const struct end *end);
 /* fork without the program's handlers of forks. The child keeps this one of the shim's own descriptors, if any. */
 enum { NONE = -1 };
 pid_t fork_quietly(int kept);

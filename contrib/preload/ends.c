@@ -7,6 +7,7 @@
 #include <stdio.h>
 #include <stdlib.h>
 #include <sys/socket.h>
+#include <sys/stat.h>
 
 /* The first number that the program can't name. */
 #define TOP (FIRST + NUMBERS)
@@ -49,8 +50,11 @@ static int make_pipe(struct end *end) {
 
 static int make_socket(struct end *end) {
     int both[2];
+    struct stat childs;
     long status = RAW(SYS_socketpair, AF_UNIX, SOCK_STREAM | SOCK_CLOEXEC, 0, both);
-    return status < 0 ? (int)status : put_both(end, both[0], both[1]);
+    if (status == 0) status = put_both(end, both[0], both[1]);
+    if (status == 0 && RAW(SYS_fstat, end->childs, &childs) == 0) end->inode = childs.st_ino;
+    return (int)status;
 }
 
 /* A child before this one has the same end of the pipe: its real pipe is opened once more. */
