@@ -15,6 +15,8 @@
 
 FORWARD(nanosleep)
 
+static atomic_int shown_ends; /* so many have been shown bytes that they haven't taken */
+
 /* So much is shown at once: a page to a pipe, which has room for no more. */
 enum { AT_ONCE = 16384 };
 
@@ -90,9 +92,11 @@ static void take_as_child(struct end *end, size_t count) {
     }
 }
 
-static void show_no_more(struct end *end) {
-    if (end->shown > 0) end->description->shown--;
+void show_no_more(struct end *end) {
+    if (end->shown == 0) return;
     end->shown = 0;
+    end->description->shown--;
+    atomic_fetch_sub(&shown_ends, 1);
 }
 
 /* How many bytes of those that were shown the child hasn't read. A socket only tells whether there are any. */
@@ -164,6 +168,7 @@ static bool show(struct end *end) {
     if (taken <= 0) return false;
     end->shown = (size_t)taken;
     end->description->shown++;
+    atomic_fetch_add(&shown_ends, 1);
     return true;
 }
 
@@ -204,6 +209,16 @@ static bool take_shown(struct end *end) {
     if (!end->is_socket || !(revents_of(end) & POLLERR)) take_as_child(end, end->shown);
     show_no_more(end);
     return true;
+}
+
+/* A child may tell by memory that it shares, or by a file, what it has taken. */
+void note_taken(void) {
+    if (atomic_load(&shown_ends) == 0) return;
+    QUIET;
+    lock_table();
+    for (struct end *end = all_ends; end; end = end->next)
+        if (end->description) take_shown(end);
+    unlock_table();
 }
 
 /* Shows what waits, or that no more will come. Whether a child has already taken some. */

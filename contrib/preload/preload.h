@@ -564,6 +564,8 @@ void sleep_with_children(const struct timespec *most);
    how much real time the program has not computed since its last turn. Whether there are children: else it doesn't
    sleep. */
 bool spend_a_turn(const struct timespec *turn, uint64_t *passed);
+/* Before the program looks whether something waits, or has room: what children have taken by now waits no more. */
+void note_taken(void);
 /* Before the program reads bytes by itself: those that were shown to a child come back. Under the table's lock. */
 void claim_shown(struct description *description);
 /* At the end of the program: what it has written goes to its children. */

@@ -433,6 +433,7 @@ int wait_at(const struct wait *wait) {
     if (wait->timeout >= 0) me.end = moment_now() + (uint64_t)wait->timeout;
     if (has_children()) {
         look_if_busy();
+        note_taken();
         begin_pace();
     }
     pthread_mutex_lock(&lock);

@@ -528,6 +528,7 @@ int ioctl(int fd, unsigned long request, ...) {
     va_end(arguments);
     if (!is_simulated(fd)) return is_harmless_request(fd, request, argument) ? next_ioctl()(fd, request, argument) : -1;
     QUIET;
+    if (request == FIONREAD && has_children()) note_taken();
     pthread_mutex_lock(&lock);
     entry = entry_of(fd);
     result = entry ? request_of(entry, request, argument) : -EBADF;

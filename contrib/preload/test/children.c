@@ -5,10 +5,13 @@
 
 #include <fcntl.h>
 #include <poll.h>
+#include <semaphore.h>
 #include <signal.h>
 #include <stdlib.h>
 #include <string.h>
 #include <sys/epoll.h>
+#include <sys/ioctl.h>
+#include <sys/mman.h>
 #include <sys/socket.h>
 #include <sys/wait.h>
 #include <unistd.h>
@@ -165,6 +168,37 @@ static void shared_bytes(void) {
     close(done[1]);
     trace("nothing more: %ld", outcome(read(done[0], &none, 1)));
     close(ends[0]), close(ends[1]), close(done[0]);
+}
+
+/* A child tells by memory that both share that it has taken what waited. Then it waits no more. */
+static void told_by_memory(void) {
+    int ends[2], waits = -1;
+    char byte = 'x';
+    sem_t *told = mmap(NULL, 2 * sizeof *told, PROT_READ | PROT_WRITE, MAP_SHARED | MAP_ANONYMOUS, -1, 0);
+    struct pollfd file;
+    pid_t child;
+    if (sem_init(&told[0], 1, 0) != 0 || sem_init(&told[1], 1, 0) != 0 || pipe(ends) != 0) trace("no ends");
+    child = fork();
+    if (child == 0) {
+        sem_wait(&told[0]);
+        read(ends[0], &byte, 1);
+        sem_post(&told[1]);
+        sem_wait(&told[0]);
+        _exit(0);
+    }
+    write(ends[1], &byte, 1);
+    usleep(10000);
+    file = (struct pollfd){ends[0], POLLIN, 0};
+    trace("it waits: %d", poll(&file, 1, 0));
+    sem_post(&told[0]);
+    sem_wait(&told[1]);
+    trace("no more: %d", poll(&file, 1, 0));
+    trace("asked: %ld", outcome(ioctl(ends[0], FIONREAD, &waits)));
+    trace("so many: %d", waits);
+    sem_post(&told[0]);
+    trace("ended: %d", end_of(child));
+    munmap(told, 2 * sizeof *told);
+    close(ends[0]), close(ends[1]);
 }
 
 /* Both halves of a socket end by themselves. */
@@ -501,6 +535,7 @@ int main(void) {
     one_reader_of_many();
     own_bytes();
     shared_bytes();
+    told_by_memory();
     halves();
     closed_copies();
     workers();
