@@ -2,9 +2,10 @@
    takes as much real time as it is long. Only what passes while the program waits counts.
 
    What a child does leaves the clock where it is, if it comes quickly. What has passed is owed. If that is more than a
-   tenth of a second, it is paid when a child does something: but not more than has passed in this wait, or a time that
-   began with it would come too early. So no time of the program comes earlier than by the real clock, and none more
-   than a tenth of a second later; and a child that is never silent keeps no time from coming. */
+   tenth of a second, it is paid when a child does something or the wait ends: but not more than has passed in this wait,
+   or a time that began with it would come too early. So no time of the program comes earlier than by the real clock,
+   and none more than a tenth of a second later. A child that is never silent keeps no time from coming, and neither do
+   signals. Where several threads wait, what has passed counts for each, as if its wait had begun with the first. */
 #include "children.h"
 
 #include <pthread.h>

@@ -574,15 +574,17 @@ void hand_over(void);
    for the end of a child. */
 bool is_partly_asleep(void);
 bool are_all_asleep(void);
+/* threads.c: whether waits with a time on locks go on. */
+bool has_timed_waits(void);
 bool is_anyone_reaping(void);
 
 /* pace.c: whether the clock may go to a moment, for no child holds it or real time has passed. */
 bool may_go_to(uint64_t moment);
-/* A wait begins: what passed before it counts for no time that begins with it. */
+/* A wait begins, and no other one goes on: what passed before it counts for no time that begins with it. */
 void begin_pace(void);
 /* So much real time has passed in a wait. */
 void pass_time(uint64_t units);
-/* A child has done something: what has passed is paid, if it is a tenth of a second or more. */
+/* A child has done something, or a wait is over: what has passed in it is paid, if a tenth of a second or more is owed. */
 void pay_at_answer(void);
 /* Whether a poll that finds nothing may take its millisecond. */
 bool may_take_a_while(void);

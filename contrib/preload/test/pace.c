@@ -10,6 +10,7 @@
 #include <spawn.h>
 #include <stdlib.h>
 #include <string.h>
+#include <sys/timerfd.h>
 #include <sys/wait.h>
 #include <unistd.h>
 
@@ -113,6 +114,28 @@ static void guard_after_looks(void) {
     close(in[1]), close(out[0]);
 }
 
+/* Signals that end each wait keep no time from coming. */
+static void on_signal(int signal) { (void)signal; }
+
+static void time_beside_signals(void) {
+    const struct itimerspec soon = {.it_value = {0, 500000000}};
+    int timer = timerfd_create(CLOCK_MONOTONIC, 0), waits = 0;
+    struct pollfd file = {timer, POLLIN, 0};
+    pid_t parent = getpid(), child;
+    signal(SIGUSR1, on_signal);
+    child = fork();
+    if (child == 0) {
+        while (kill(parent, SIGUSR1) == 0) usleep(20000);
+        _exit(0);
+    }
+    timerfd_settime(timer, 0, &soon, NULL);
+    while (waits < 1000 && poll(&file, 1, 60000) != 1) waits++;
+    printf("beside signals the time comes: %d\n", waits < 1000);
+    send_to(child, SIGKILL);
+    waitpid(child, NULL, 0);
+    close(timer);
+}
+
 /* What a child leaves behind holds the clock for a second after its last bytes. */
 static void daemon_of_child(void) {
     int out[2];
@@ -163,6 +186,7 @@ int main(int count, char **words) {
     chatter();
     polls();
     guard_after_looks();
+    time_beside_signals();
     daemon_of_child();
     return 0;
 }
