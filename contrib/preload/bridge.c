@@ -140,6 +140,7 @@ static bool may_be_shown(const struct end *end) {
     if (!end->is_socket) return true;
     if (is_programs(end)) return false;
     if (find_end(all_ends, end->description) == end) return true;
+    if (end->description->is_watched && is_named(end->description)) return false; /* the program mostly reads it */
     if (!is_told) say("several children have the socket %d: its bytes go to the first one only", end->number + FIRST);
     is_told = true;
     return false;
