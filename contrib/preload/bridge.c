@@ -15,6 +15,8 @@
 
 FORWARD(nanosleep)
 
+static atomic_int shown_ends; /* so many have been shown bytes that they haven't taken */
+
 /* So much is shown at once: a page to a pipe, which has room for no more. */
 enum { AT_ONCE = 16384 };
 
@@ -33,6 +35,7 @@ static void put_in(struct end *end, const char *bytes, size_t count) {
     struct waiting *waiting = &end->description->peer->waiting;
     ssize_t taken = nippersage_write(acting(end->process), end->number, bytes, count);
     if (taken > 0) add_waiting(waiting, bytes, (size_t)taken);
+    if (taken > 0) waiting->has_childs = true;
     log_child(end->pid, taken, "write(%d, %s, %zu)", end->number + FIRST, bytes_text(TEXT, bytes, (ssize_t)count),
               count);
     end->moved = real_moment();
@@ -89,9 +92,11 @@ static void take_as_child(struct end *end, size_t count) {
     }
 }
 
-static void show_no_more(struct end *end) {
-    if (end->shown > 0) end->description->shown--;
+void show_no_more(struct end *end) {
+    if (end->shown == 0) return;
     end->shown = 0;
+    end->description->shown--;
+    atomic_fetch_sub(&shown_ends, 1);
 }
 
 /* How many bytes of those that were shown the child hasn't read. A socket only tells whether there are any. */
@@ -115,12 +120,20 @@ static long write_quietly(int fd, const char *bytes, size_t count) {
     return taken;
 }
 
-/* A socket whose bytes the program itself asks for is the program's, as long as it is open there. If there are two real
-   ones, since the first one couldn't be shared any more, the first one gets them. */
+/* A socket whose bytes the program itself asks for is the program's, as long as it is open there. So is one to which a
+   child has written, for children have copies of ends that they never read, as those of workers that were made before
+   them. One that an instance only asks for is shown all the same if it can be taken back. */
+static bool is_programs(const struct end *end) {
+    const struct description *description = end->description;
+    if (!is_named(description)) return false;
+    if (description->is_read_here || description->waiting.has_childs) return true;
+    return description->is_watched && end->kept < 0;
+}
+
+/* If there are two real sockets, since the first one couldn't be shared any more, the first one gets the bytes. */
 static bool may_be_shown(const struct end *end) {
     if (!end->is_socket) return true;
-    if (end->description->is_read_here && is_named(end->description)) return false;
-    return find_end(all_ends, end->description) == end;
+    return !is_programs(end) && find_end(all_ends, end->description) == end;
 }
 
 /* A child that is about to run a program holds the readers of its own pipes for a moment, until it closes them. Bytes
@@ -146,6 +159,7 @@ static bool show(struct end *end) {
     if (taken <= 0) return false;
     end->shown = (size_t)taken;
     end->description->shown++;
+    atomic_fetch_add(&shown_ends, 1);
     return true;
 }
 
@@ -168,7 +182,7 @@ static bool has_writer(const struct end *end) {
 static void end_of_reading(struct end *end, short revents) {
     struct description *peer = end->description->peer;
     int number = peer ? number_of(peer) : -1;
-    take_as_child(end, end->shown - unread_of(end));
+    if (!end->is_socket || !(revents & POLLERR)) take_as_child(end, end->shown - unread_of(end));
     show_no_more(end);
     end->takes = false;
     if (!end->is_socket || !end->gives || (revents & POLLHUP)) {
@@ -179,12 +193,23 @@ static void end_of_reading(struct end *end, short revents) {
     if (peer) peer->is_shut = true;
 }
 
-/* Whether the child has read all that it was shown. */
+/* Whether the child has read all that it was shown. A socket that was closed with some unread tells an error: those are
+   the program's again. */
 static bool take_shown(struct end *end) {
     if (end->shown == 0 || unread_of(end) > 0) return false;
-    take_as_child(end, end->shown);
+    if (!end->is_socket || !(revents_of(end) & POLLERR)) take_as_child(end, end->shown);
     show_no_more(end);
     return true;
+}
+
+/* A child may tell by memory that it shares, or by a file, what it has taken. */
+void note_taken(void) {
+    if (atomic_load(&shown_ends) == 0) return;
+    QUIET;
+    lock_table();
+    for (struct end *end = all_ends; end; end = end->next)
+        if (end->description) take_shown(end);
+    unlock_table();
 }
 
 /* Shows what waits, or that no more will come. Whether a child has already taken some. */
@@ -229,20 +254,29 @@ static bool note_closed_copy(struct end *end, short revents) {
 
 /* ---- what the program itself reads ---- */
 
-/* What was shown to a child is taken back, but for what it has read meanwhile. What is in a socket that the program has
-   closed is the child's. */
+/* The other side of a real pipe, or the children's socket. What is in one that isn't kept is the children's. */
+static long open_other_side(const struct end *end) {
+    char path[40];
+    if (end->is_socket) return end->kept;
+    snprintf(path, sizeof path, "/proc/self/fd/%d", end->real);
+    return RAW(SYS_openat, AT_FDCWD, path, O_RDONLY | O_NONBLOCK | O_CLOEXEC, 0);
+}
+
+/* What was shown to a child is taken back, but for what it has read meanwhile. */
 static void take_back(struct end *end) {
-    char path[40], bytes[AT_ONCE];
-    long fd, left = 0;
-    if (end->kept >= 0) {
-        left = RAW(SYS_recvfrom, end->kept, bytes, sizeof bytes, MSG_DONTWAIT, NULL, NULL);
-    } else if (!end->is_socket) {
-        snprintf(path, sizeof path, "/proc/self/fd/%d", end->real);
-        fd = RAW(SYS_openat, AT_FDCWD, path, O_RDONLY | O_NONBLOCK | O_CLOEXEC, 0);
-        if (fd >= 0) left = RAW(SYS_read, fd, bytes, sizeof bytes);
-        if (fd >= 0) RAW(SYS_close, fd);
+    char bytes[PAGE];
+    long fd, got;
+    size_t left = 0;
+    if (take_shown(end)) return;
+    fd = open_other_side(end);
+    while (fd >= 0 && left < end->shown) {
+        got = end->is_socket ? RAW(SYS_recvfrom, fd, bytes, sizeof bytes, MSG_DONTWAIT, NULL, NULL)
+                             : RAW(SYS_read, fd, bytes, sizeof bytes);
+        if (got <= 0) break;
+        left += (size_t)got;
     }
-    take_as_child(end, end->shown - (left > 0 ? (size_t)left : 0));
+    if (fd >= 0 && fd != end->kept) RAW(SYS_close, fd);
+    take_as_child(end, end->shown - left);
     show_no_more(end);
 }
 
@@ -404,11 +438,13 @@ bool move_in_wait(void) {
 }
 
 /* A program that never waits is to hear of its children, too. It is a little slower than the real clock then. */
-void look_for_nothing(void) {
+bool look_for_nothing(void) {
     static const struct timespec a_while = {0, 1000000};
-    if (atomic_fetch_add(&idle, 1) < MOST_IDLE) return;
-    if (!move_bytes()) sleep_with_children(&a_while);
-    move_bytes();
+    bool has_moved;
+    if (atomic_fetch_add(&idle, 1) < MOST_IDLE) return false;
+    has_moved = move_bytes();
+    if (!has_moved) sleep_with_children(&a_while);
+    return !move_bytes() && !has_moved;
 }
 
 void look_if_busy(void) {

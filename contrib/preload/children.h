@@ -88,6 +88,11 @@ void end_end_of_child(struct end *end);
 /* From then on only children hold the real socket, so that their closing it is seen. */
 void let_kept_go(struct end *end);
 
+/* ---- bridge.c ---- */
+
+/* What was shown of an end isn't any more. */
+void show_no_more(struct end *end);
+
 /* ---- what is looked at in the real kernel, in the order of the lists: under the table's lock ---- */
 
 /* Children, of children.c, and pidfds that aren't ready yet, of pidfd.c: what is asked of them, and how many they are;

@@ -41,10 +41,11 @@ void drop_waiting(struct waiting *waiting, size_t count) {
     waiting->count -= count;
     if (waiting->count > 0) return;
     waiting->first = 0;
+    waiting->has_childs = false;
     if (waiting->room > LEAST_ROOM) end_waiting(waiting);
 }
 
 void end_waiting(struct waiting *waiting) {
     free(waiting->bytes);
-    *waiting = (struct waiting){NULL, 0, 0, 0};
+    *waiting = (struct waiting){NULL, 0, 0, 0, false};
 }

@@ -149,7 +149,7 @@ static void throw_away(const struct end *end) {
 
 void end_end_of_child(struct end *end) {
     if (end->is_socket) throw_away(end);
-    if (end->shown > 0) end->description->shown--;
+    show_no_more(end);
     nippersage_close(acting(end->process), end->number);
     log_child(end->pid, 0, "close(%d)", end->number + FIRST);
     close_if_open(&end->kept);

@@ -166,7 +166,8 @@ static ssize_t read_call_of(struct seat *seat, char *line, size_t room) {
     return size;
 }
 
-/* A lock, and what only a signal ends, are at rest: no time of the real kernel and nothing outside ends them. */
+/* A lock, and what only a signal ends, are at rest: no time of the real kernel and nothing outside ends them. Another
+   call in which a thread waits and no signal may wake it (D) is at work, as where the table of descriptors grows. */
 static enum rest rest_of(struct seat *seat) {
     char line[128], *end;
     long call;
@@ -180,7 +181,7 @@ static enum rest rest_of(struct seat *seat) {
     case SYS_pause:
     case SYS_rt_sigsuspend:
     case SYS_rt_sigtimedwait: return AT_REST;
-    default: return OUTSIDE;
+    default: return state_of(seat->thread) == 'D' ? AWAKE : OUTSIDE;
     }
 }
 

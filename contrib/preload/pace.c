@@ -1,9 +1,11 @@
 /* Time while a child lives. It is real for the child, so the program may not run ahead: a jump of the simulated clock
    takes as much real time as it is long. Only what passes while the program waits counts.
 
-   What a child does leaves the clock where it is, if it comes quickly. What has passed is owed, and paid by whole
-   tenths of a second when a child does something. So no time of the program comes earlier than by the real clock, and
-   none more than a tenth of a second later; and a child that is never silent keeps no time from coming. */
+   What a child does leaves the clock where it is, if it comes quickly. What has passed is owed. If that is more than a
+   tenth of a second, it is paid when a child does something or the wait ends: but not more than has passed in this wait,
+   or a time that began with it would come too early. So no time of the program comes earlier than by the real clock,
+   and none more than a tenth of a second later. A child that is never silent keeps no time from coming, and neither do
+   signals. Where several threads wait, what has passed counts for each, as if its wait had begun with the first. */
 #include "children.h"
 
 #include <pthread.h>
@@ -11,8 +13,15 @@
 enum { TENTH = SECOND / 10 };
 
 static pthread_mutex_t lock = PTHREAD_MUTEX_INITIALIZER;
-static uint64_t since; /* so much real time has passed in waits since the clock moved, or a child did something */
-static uint64_t owed;  /* and so much since the clock moved */
+static uint64_t since; /* so much real time has passed since a wait began, the clock moved, or a child did something */
+static uint64_t owed;  /* so much has passed in waits that the clock hasn't gone on by */
+
+void begin_pace(void) {
+    QUIET_WITHIN;
+    pthread_mutex_lock(&lock);
+    since = 0;
+    pthread_mutex_unlock(&lock);
+}
 
 void pass_time(uint64_t units) {
     QUIET_WITHIN;
@@ -30,7 +39,7 @@ static void forget_time(void) {
 }
 
 static void pay(uint64_t real) {
-    since = since > real ? since - real : 0;
+    since = 0;
     owed = owed > real ? owed - real : 0;
 }
 
@@ -60,10 +69,9 @@ void pay_at_answer(void) {
     QUIET_WITHIN;
     if (!is_time_held()) forget_time();
     pthread_mutex_lock(&lock);
-    since = 0;
-    if (slower > 0) to += owed / slower / TENTH * TENTH;
+    if (slower > 0 && owed >= TENTH * slower) to += since / slower;
     if (to > now && next_moment(&next) && next <= to) to = next > now ? next - 1 : now;
-    if (to > now) pay((to - now) * slower);
+    pay((to - now) * slower);
     pthread_mutex_unlock(&lock);
     if (to > now) bring_clock_to(to);
 }

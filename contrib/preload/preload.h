@@ -311,6 +311,7 @@ enum kind { PIPE, SOCKET, EVENTFD, TIMERFD, EPOLL, PIDFD };
 struct waiting {
     char *bytes;
     size_t room, first, count;
+    bool has_childs; /* a child has written some of what waits */
 };
 
 /* What setsockopt has set: options.c. */
@@ -335,7 +336,8 @@ struct description {
     struct description *peer;
     int holders;       /* descriptors that name it, calls that use it, and children */
     bool is_shut;      /* nothing is written here any more */
-    bool is_read_here; /* the program itself has asked for what can be read here */
+    bool is_read_here; /* the program itself has read here, or tried */
+    bool is_watched;   /* an instance asks for what can be read here */
     int shown;         /* so many children have been shown bytes of it that they haven't taken: bridge.c */
     int real_pidfd;    /* of a pidfd */
     struct description *next_pidfd;
@@ -599,8 +601,9 @@ int close_lost(int fd, int status);
 bool move_bytes(void);
 /* The same in a wait. */
 bool move_in_wait(void);
-/* The program is told that there is nothing, or finds something in a wait at once. If it goes on so, it looks. */
-void look_for_nothing(void);
+/* The program is told that there is nothing, or finds something in a wait at once. If it goes on so, it looks. Whether a
+   millisecond of real time has passed in vain. */
+bool look_for_nothing(void);
 void look_if_busy(void);
 /* Sleeps in the real kernel until there is something to move, or a signal, or for so long; handlers may run. */
 void sleep_with_children(const struct timespec *most);
@@ -608,6 +611,8 @@ void sleep_with_children(const struct timespec *most);
    how much real time the program has not computed since its last turn. Whether there are children: else it doesn't
    sleep. */
 bool spend_a_turn(const struct timespec *turn, uint64_t *passed);
+/* Before the program looks whether something waits, or has room: what children have taken by now waits no more. */
+void note_taken(void);
 /* Before the program reads bytes by itself: those that were shown to a child come back. Under the table's lock. */
 void claim_shown(struct description *description);
 /* At the end of the program: what it has written goes to its children. */
@@ -616,13 +621,17 @@ void hand_over(void);
    for the end of a child. */
 bool is_partly_asleep(void);
 bool are_all_asleep(void);
+/* threads.c: whether waits with a time on locks go on. */
+bool has_timed_waits(void);
 bool is_anyone_reaping(void);
 
 /* pace.c: whether the clock may go to a moment, for no child holds it or real time has passed. */
 bool may_go_to(uint64_t moment);
+/* A wait begins, and no other one goes on: what passed before it counts for no time that begins with it. */
+void begin_pace(void);
 /* So much real time has passed in a wait. */
 void pass_time(uint64_t units);
-/* A child has done something: what has passed is paid by whole tenths of a second. */
+/* A child has done something, or a wait is over: what has passed in it is paid, if a tenth of a second or more is owed. */
 void pay_at_answer(void);
 /* Whether a poll that finds nothing may take its millisecond. */
 bool may_take_a_while(void);

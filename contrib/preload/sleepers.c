@@ -423,7 +423,7 @@ static _Noreturn void end_endless(const char *call) {
 
 int wait_at(const struct wait *wait) {
     struct sleeper me = {.wait = wait, .end = NEVER, .thread = next_syscall()(SYS_gettid)};
-    bool is_busy;
+    bool is_busy, has_slept;
     QUIET;
     me.caller = self().caller;
     me.seat = this_thread.seat;
@@ -431,16 +431,22 @@ int wait_at(const struct wait *wait) {
     me.depth = this_thread.depth;
     me.place = place_of_call(&me);
     if (wait->timeout >= 0) me.end = moment_now() + (uint64_t)wait->timeout;
-    if (has_children()) look_if_busy();
+    if (has_children()) {
+        look_if_busy();
+        note_taken();
+        if (!is_partly_asleep() && !has_timed_waits()) begin_pace();
+    }
     pthread_mutex_lock(&lock);
     me.result = park(&me);
-    if (me.result == NIPPERSAGE_PARKED) {
+    has_slept = me.result == NIPPERSAGE_PARKED;
+    if (has_slept) {
         link_last(&me);
         sleep_until_answered(&me);
         unlink_sleeper(&me);
     }
     is_busy = count_busy(me.result);
     pthread_mutex_unlock(&lock);
+    if (has_slept && has_children()) pay_at_answer();
     if (is_busy) let_clock_go_on();
     if (me.result == ENDLESS) end_endless(wait->call);
     return me.result;

@@ -537,10 +537,12 @@ int ioctl(int fd, unsigned long request, ...) {
     va_end(arguments);
     if (!is_simulated(fd)) return is_harmless_request(fd, request, argument) ? next_ioctl()(fd, request, argument) : -1;
     QUIET;
+    if (request == FIONREAD && has_children()) note_taken();
     pthread_mutex_lock(&lock);
     entry = entry_of(fd);
     result = entry ? request_of(entry, request, argument) : -EBADF;
     pthread_mutex_unlock(&lock);
+    if (request == FIONREAD && result == 0 && *(int *)argument == 0 && has_children()) look_for_nothing();
     /* TCGETS asks whether this is a terminal; ENOTTY is its answer. */
     if (result == -ENOTTY && request != TCGETS) return refuse(ENOTTY, "ioctl(%d, %#lx) is not simulated", fd, request);
     return (int)ANSWER(result, "ioctl(%d, %#lx)", fd, request);

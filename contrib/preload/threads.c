@@ -440,7 +440,10 @@ void end_timed_waits(uint64_t moment) {
     errno = saved;
 }
 
+bool has_timed_waits(void) { return atomic_load(&timed_count) > 0; }
+
 static void link_timed(struct timed *timed) {
+    if (has_children() && !is_partly_asleep() && !has_timed_waits()) begin_pace();
     QUIET;
     self();
     pthread_mutex_lock(&timed_lock);

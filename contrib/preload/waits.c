@@ -39,18 +39,19 @@ static struct timeout in_short_time(const struct timeval *given) {
 }
 
 /* A poll that finds nothing takes no time. But a program may poll until its clock has gone on: so after some in a row
-   each further one takes a while. */
+   each further one takes a while. While a child lives, those take one that have taken real time. */
 static void take_a_while(int found, int64_t units) {
     enum { FREE = 100 };
     static _Thread_local uint64_t last;
     static _Thread_local int in_a_row;
+    bool has_passed;
     if (found != 0 || units != 0) {
         in_a_row = 0;
         return;
     }
-    if (has_children()) look_for_nothing();
+    has_passed = has_children() && look_for_nothing();
     in_a_row = moment_now() == last ? in_a_row + 1 : 1;
-    if (in_a_row > FREE) let_clock_go_on();
+    if (has_passed || in_a_row > FREE) let_clock_go_on();
     last = moment_now();
 }
 
@@ -82,11 +83,12 @@ static const char *word_of(int op) {
     }
 }
 
-/* Whether a descriptor is open. Nobody waits to write to a pidfd, though the eventfd that it is has room for more. */
+/* Whether a descriptor is open. Nobody waits to write to a pidfd, though the eventfd that it is has room for more. What
+   an instance asks for no more, as after libuv's look whether it takes a descriptor, is free for a child. */
 static bool may_be_watched(int fd, struct epoll_event *wanted) {
     struct description *description = hold(fd);
     if (!description) return false;
-    if (wanted && (wanted->events & EPOLLIN)) description->is_read_here = true;
+    description->is_watched = wanted && (wanted->events & EPOLLIN);
     if (wanted && description->kind == PIDFD) wanted->events &= ~(uint32_t)EPOLLOUT;
     let_go(description);
     return true;
@@ -101,7 +103,7 @@ static bool is_open(int fd) {
 FORWARD(epoll_ctl)
 
 int epoll_ctl(int epfd, int op, int fd, struct epoll_event *event) {
-    struct epoll_event asked;
+    struct epoll_event asked, *wanted = op == EPOLL_CTL_DEL ? NULL : &asked;
     int status = -EBADF;
     HAND_ON_OF(is_lost(epfd) ? epfd : fd, "epoll_ctl", next_epoll_ctl()(epfd, op, fd, event));
     QUIET;
@@ -111,11 +113,11 @@ int epoll_ctl(int epfd, int op, int fd, struct epoll_event *event) {
         return refuse(EBADF, "epoll_ctl(%d): no simulated instance has this descriptor", epfd);
     if (!is_simulated(fd) && fd >= 0)
         return refuse(EPERM, "epoll_ctl(%d, %s, %d): a real descriptor in a simulated instance", epfd, word_of(op), fd);
-    if (event) asked = *event;
-    if (is_open(epfd) && may_be_watched(fd, event ? &asked : NULL))
-        status = nippersage_epoll_ctl(self(), epfd - FIRST, op, fd - FIRST, event ? &asked : NULL);
+    if (wanted) asked = *event;
+    if (is_open(epfd) && may_be_watched(fd, wanted))
+        status = nippersage_epoll_ctl(self(), epfd - FIRST, op, fd - FIRST, wanted);
     return (int)ANSWER(status, "epoll_ctl(%d, %s, %d, %s)", epfd, word_of(op), fd,
-                       event_text(TEXT, op == EPOLL_CTL_DEL ? NULL : event));
+                       event_text(TEXT, wanted ? event : NULL));
 }
 
 /* How many of so many events there is room for, if not more than can be found are asked for. */

@@ -5,9 +5,13 @@
 
 #include <fcntl.h>
 #include <poll.h>
+#include <semaphore.h>
 #include <signal.h>
 #include <stdlib.h>
 #include <string.h>
+#include <sys/epoll.h>
+#include <sys/ioctl.h>
+#include <sys/mman.h>
 #include <sys/socket.h>
 #include <sys/wait.h>
 #include <unistd.h>
@@ -166,6 +170,37 @@ static void shared_bytes(void) {
     close(ends[0]), close(ends[1]), close(done[0]);
 }
 
+/* A child tells by memory that both share that it has taken what waited. Then it waits no more. */
+static void told_by_memory(void) {
+    int ends[2], waits = -1;
+    char byte = 'x';
+    sem_t *told = mmap(NULL, 2 * sizeof *told, PROT_READ | PROT_WRITE, MAP_SHARED | MAP_ANONYMOUS, -1, 0);
+    struct pollfd file;
+    pid_t child;
+    if (sem_init(&told[0], 1, 0) != 0 || sem_init(&told[1], 1, 0) != 0 || pipe(ends) != 0) trace("no ends");
+    child = fork();
+    if (child == 0) {
+        sem_wait(&told[0]);
+        read(ends[0], &byte, 1);
+        sem_post(&told[1]);
+        sem_wait(&told[0]);
+        _exit(0);
+    }
+    write(ends[1], &byte, 1);
+    usleep(10000);
+    file = (struct pollfd){ends[0], POLLIN, 0};
+    trace("it waits: %d", poll(&file, 1, 0));
+    sem_post(&told[0]);
+    sem_wait(&told[1]);
+    trace("no more: %d", poll(&file, 1, 0));
+    trace("asked: %ld", outcome(ioctl(ends[0], FIONREAD, &waits)));
+    trace("so many: %d", waits);
+    sem_post(&told[0]);
+    trace("ended: %d", end_of(child));
+    munmap(told, 2 * sizeof *told);
+    close(ends[0]), close(ends[1]);
+}
+
 /* Both halves of a socket end by themselves. */
 static void halves(void) {
     int sides[2];
@@ -207,6 +242,48 @@ static void closed_copies(void) {
     trace("across: %ld", outcome(write(sides[1], "abc", 3)));
     trace("came: %ld %s", outcome(read(sides[0], bytes, 3)), bytes);
     close(sides[0]), close(sides[1]);
+}
+
+/* Each child has copies of the ends that the parent reads, of its own and of those before it. The bytes are the parent's,
+   which reads late, and for the first time. */
+static void workers(void) {
+    enum { COUNT = 3 };
+    int ends[COUNT];
+    char bytes[8];
+    pid_t children[COUNT];
+    for (int i = 0; i < COUNT; i++) {
+        int sides[2];
+        socketpair(AF_UNIX, SOCK_STREAM, 0, sides);
+        ends[i] = sides[0];
+        children[i] = fork();
+        if (children[i] == 0) {
+            dprintf(sides[1], "of %d", i);
+            usleep(200000);
+            _exit(i);
+        }
+        close(sides[1]);
+    }
+    usleep(100000);
+    for (int i = 0; i < COUNT; i++) trace("%ld: %.4s", outcome(read(ends[i], bytes, sizeof bytes)), bytes);
+    for (int i = 0; i < COUNT; i++) trace("its end: %d", end_of(children[i]));
+    for (int i = 0; i < COUNT; i++) trace("nothing more: %ld", outcome(read(ends[i], bytes, 1)));
+    for (int i = 0; i < COUNT; i++) close(ends[i]);
+}
+
+/* A socket that an instance asks for no more, as after libuv's look whether it takes one, is a child's to read. */
+static void asked_before(void) {
+    int sides[2], instance = epoll_create1(EPOLL_CLOEXEC);
+    struct epoll_event event = {.events = EPOLLIN};
+    char bytes[16];
+    pid_t child;
+    socketpair(AF_UNIX, SOCK_STREAM, 0, sides);
+    trace("asked for: %ld", outcome(epoll_ctl(instance, EPOLL_CTL_ADD, sides[0], &event)));
+    trace("and no more: %ld", outcome(epoll_ctl(instance, EPOLL_CTL_DEL, sides[0], &event)));
+    child = fork();
+    if (child == 0) _exit((int)read(sides[0], bytes, sizeof bytes));
+    trace("for the child: %ld", outcome(write(sides[1], "seven..", 7)));
+    trace("it read: %d", end_of(child));
+    close(sides[0]), close(sides[1]), close(instance);
 }
 
 static void full(void) {
@@ -565,8 +642,11 @@ int main(void) {
     one_reader_of_many();
     own_bytes();
     shared_bytes();
+    told_by_memory();
     halves();
     closed_copies();
+    workers();
+    asked_before();
     full();
     late_reader();
     much();

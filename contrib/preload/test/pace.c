@@ -4,9 +4,13 @@
 
 #include <fcntl.h>
 #include <poll.h>
+#include <pthread.h>
+#include <semaphore.h>
 #include <signal.h>
+#include <spawn.h>
 #include <stdlib.h>
 #include <string.h>
+#include <sys/timerfd.h>
 #include <sys/wait.h>
 #include <unistd.h>
 
@@ -89,6 +93,49 @@ static void polls(void) {
     close(out[0]);
 }
 
+/* What passed before a guard, in looks, doesn't make it come early. */
+static void guard_after_looks(void) {
+    int in[2], out[2];
+    pid_t child;
+    char byte = 'x';
+    pipe(in), pipe(out);
+    child = fork();
+    if (child == 0) {
+        close(in[1]), close(out[0]);
+        if (read(in[0], &byte, 1) == 1 && usleep(50000) == 0) write(out[1], &byte, 1);
+        _exit(0);
+    }
+    close(in[0]), close(out[1]);
+    struct pollfd file = {out[0], POLLIN, 0};
+    for (int i = 0; i < 2000; i++) poll(&file, 1, 0);
+    write(in[1], &byte, 1);
+    printf("after two seconds of looks comes %s\n", poll(&file, 1, 1000) == 0 ? "the time" : "the child");
+    waitpid(child, NULL, 0);
+    close(in[1]), close(out[0]);
+}
+
+/* Signals that end each wait keep no time from coming. */
+static void on_signal(int signal) { (void)signal; }
+
+static void time_beside_signals(void) {
+    const struct itimerspec soon = {.it_value = {0, 500000000}};
+    int timer = timerfd_create(CLOCK_MONOTONIC, 0), waits = 0;
+    struct pollfd file = {timer, POLLIN, 0};
+    pid_t parent = getpid(), child;
+    signal(SIGUSR1, on_signal);
+    child = fork();
+    if (child == 0) {
+        while (kill(parent, SIGUSR1) == 0) usleep(20000);
+        _exit(0);
+    }
+    timerfd_settime(timer, 0, &soon, NULL);
+    while (waits < 1000 && poll(&file, 1, 60000) != 1) waits++;
+    printf("beside signals the time comes: %d\n", waits < 1000);
+    send_to(child, SIGKILL);
+    waitpid(child, NULL, 0);
+    close(timer);
+}
+
 /* What a child leaves behind holds the clock for a second after its last bytes. */
 static void daemon_of_child(void) {
     int out[2];
@@ -102,18 +149,44 @@ static void daemon_of_child(void) {
     close(out[0]);
 }
 
+/* A guard in one thread, while another one makes the first child. The real kernel's table of descriptors grows for it,
+   which takes some milliseconds in which the thread can't go on: it doesn't wait for a time. */
+static sem_t done;
+
+static void *make_first(void *nothing) {
+    char *words[] = {"true", NULL}, *environment[] = {NULL};
+    pid_t child = -1;
+    if (posix_spawnp(&child, "true", NULL, NULL, words, environment) == 0) waitpid(child, NULL, 0);
+    sem_post(&done);
+    return nothing;
+}
+
+static void guard(void) {
+    struct timespec end;
+    pthread_t beside;
+    sem_init(&done, 0, 0);
+    clock_gettime(CLOCK_REALTIME, &end);
+    end.tv_sec += 60;
+    pthread_create(&beside, NULL, make_first, NULL);
+    printf("beside a guard: %ld\n", outcome(sem_timedwait(&done, &end)));
+    pthread_join(beside, NULL);
+}
+
 int main(int count, char **words) {
     if (count == 2 && strcmp(words[1], "standing") == 0) {
         race("sleep 0.3", 100);
         hours();
         return 0;
     }
+    guard();
     race("exec sleep 100", 200);
     race("echo", 60000);
     hours();
     time_after_wait();
     chatter();
     polls();
+    guard_after_looks();
+    time_beside_signals();
     daemon_of_child();
     return 0;
 }

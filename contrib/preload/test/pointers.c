@@ -33,6 +33,7 @@ static void jump(int signal) {
 /* ---- what is read from a pointer ---- */
 
 static long in_epoll_ctl(void *bad) { return epoll_ctl(instance, EPOLL_CTL_MOD, ends[0], bad); }
+static long in_deletion(void *bad) { return epoll_ctl(instance, EPOLL_CTL_DEL, counter, bad); }
 static long in_epoll_pwait(void *bad) { return epoll_pwait(instance, &(struct epoll_event){0}, 1, 0, bad); }
 static long in_epoll_pwait2(void *bad) { return epoll_pwait2(instance, &(struct epoll_event){0}, 1, bad, NULL); }
 static long in_write(void *bad) { return write(ends[1], bad, 8); }
@@ -93,7 +94,7 @@ static const struct {
              CALL(to_poll),       CALL(to_recvmsg_part),  CALL(to_select),       CALL(to_pipe),
              CALL(to_socketpair), CALL(to_timerfd),       CALL(to_fstat),        CALL(to_timerfd_gettime),
              CALL(to_option),     CALL(to_option_size),   CALL(to_unread),       CALL(to_name),
-             CALL(to_timer),      CALL(to_limit)};
+             CALL(to_timer),      CALL(to_limit),         CALL(in_deletion)};
 
 static void call_all(const char *where, void *bad, const char *kind) {
     for (size_t i = 0; i < sizeof calls / sizeof *calls; i++)
