@@ -9,6 +9,8 @@ import shutil
 import sys
 import tempfile
 
+import older_kit
+
 # A failed goal, or an error in a proof, with its place; and what says only that something else failed.
 FAILED = re.compile(r"(?:note: )?(?:\./)?((?:src|specs|proofs)/\S+?):(\d+):\d+: (?:error|it is not proved)")
 OF_ANOTHER = re.compile(r"has no field|is not in scope|has no `|was not admitted")
@@ -86,7 +88,7 @@ def load_rt():
     rt = importlib.util.module_from_spec(importlib.util.spec_from_loader("rt", loader))
     sys.dont_write_bytecode = True
     loader.exec_module(rt)
-    return rt
+    return older_kit.completed(rt)
 
 
 def over_seed(rt, room, call):
