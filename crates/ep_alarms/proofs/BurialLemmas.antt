@@ -16,7 +16,7 @@ use Rattle.ep_law.specs.Laws.{Member}
 use Rattle.ep_machine.specs.Deaths.{die, die_all, kept_object}
 use Rattle.ep_machine.specs.Files.{Files, Place, is_live, live, object_at, place_of}
 use Rattle.ep_machine.specs.Lists.{is_among}
-use Rattle.ep_machine.specs.Objects.{Object, close_end, counter, instance, pair, pipe, plain, timer}
+use Rattle.ep_machine.specs.Objects.{Object, close_end, plain}
 use Rattle.ep_machine.specs.Timer.{Timer}
 use Rattle.ep_alarms.proofs.SetLemmas.{some_none}
 use Rattle.ep_alarms.specs.Alarms.{AreSet, IsSetFor, LosesDying}
@@ -34,11 +34,7 @@ member_any f (y ∷ ys) x m h = elim m [
 -- a timer stays what it is, whichever end closes
 closed_timer : (x : Object) (e : End) → timer_of (close_end x e).0 ≡ timer_of x
 closed_timer plain e = refl
-closed_timer (pipe p) e = refl
-closed_timer (pair p) e = refl
-closed_timer (counter c) e = refl
-closed_timer (timer t) e = refl
-closed_timer instance e = refl
+closed_timer x e = refl
 
 abbrev timer_there : Files → ℕ → Option Timer
 timer_there f k = timer_of (unwrap_or (slice_index_or f.objects k None) plain)

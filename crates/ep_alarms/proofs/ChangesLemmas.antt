@@ -5,7 +5,7 @@ use Rattle.std.specs.List.{list_any}
 use Rattle.std.proofs.lemmas.Bool.{cases_lt, false≢true, leb-false}
 use Rattle.std.proofs.lemmas.List.{get_or-set_same, get_or_past}
 use Rattle.std.proofs.lemmas.Option.{none-some}
-use Rattle.ep_base.specs.declared.call.Call.TheVariants.{Close, Dup, Dup2, EpollCreate, EpollCtl, EpollWait, EventFd, Exec, Exit, Fork, GetTime, Pipe as PipeCall, Plain, Read, SetTime, Shutdown, SocketPair, TimerFd, Write}
+use Rattle.ep_base.specs.declared.call.Call.TheVariants.{EpollCtl, EpollWait, GetTime, Read, SetTime, Shutdown, TimerFd, Write}
 use Rattle.ep_base.specs.declared.call.Event.{Event}
 use Rattle.ep_base.specs.declared.call.Event.TheVariants.{Call as CallOf, Resume, Tick}
 use Rattle.ep_base.specs.declared.ids.Pid.{Pid}
@@ -329,17 +329,7 @@ module _ (event : Event) (found : Option DescId) (outcome : Outcome) (has_room :
     by_other (SetTime fd absolute value interval) creates none did = object_none p q a were.sound sound_now were.keys were.set clock were.ends pid.0 fd (SetTime fd absolute value interval) outcome.answer did none
     by_other (GetTime fd) creates none did = object_none p q a were.sound sound_now were.keys were.set clock were.ends pid.0 fd (GetTime fd) outcome.answer did none
     by_other (TimerFd kind cloexec) creates none did = absurd (creates kind cloexec refl)
-    by_other (PipeCall cloexec) creates none did = on_tables (PipeCall cloexec) tt did
-    by_other (SocketPair cloexec) creates none did = on_tables (SocketPair cloexec) tt did
-    by_other (EventFd init semaphore cloexec) creates none did = on_tables (EventFd init semaphore cloexec) tt did
-    by_other (Plain cloexec) creates none did = on_tables (Plain cloexec) tt did
-    by_other (EpollCreate cloexec) creates none did = on_tables (EpollCreate cloexec) tt did
-    by_other (Dup fd) creates none did = on_tables (Dup fd) tt did
-    by_other (Dup2 fd to) creates none did = on_tables (Dup2 fd to) tt did
-    by_other (Close fd) creates none did = on_tables (Close fd) tt did
-    by_other Fork creates none did = on_tables Fork tt did
-    by_other Exec creates none did = on_tables Exec tt did
-    by_other Exit creates none did = on_tables Exit tt did
+    by_other call creates none did = on_tables call tt did
 
     none_in : found ≡ None → called_in p.tables.files (CallOf pid call) ≡ None
     none_in none =

@@ -111,11 +111,7 @@ record Next (t : Option Timer) (now : ℕ) (next : Option ℕ) : Type 0 where
 
 next_of : (x : Object) (now m : ℕ) (o : Option (Option ℕ)) (next : Option ℕ) → o ≡ Some (Some m) → IsSetSince (timer_of x) now o → IsNextMoment x now next → Next (timer_of x) now next
 next_of (timer t) now m o next is h n = record { off = not_by t now next n; set = λ not. n }
-next_of plain now m o next is h n = absurd (some_none (Some m) (sym is ∙ h))
-next_of (pipe p) now m o next is h n = absurd (some_none (Some m) (sym is ∙ h))
-next_of (pair p) now m o next is h n = absurd (some_none (Some m) (sym is ∙ h))
-next_of (counter p) now m o next is h n = absurd (some_none (Some m) (sym is ∙ h))
-next_of instance now m o next is h n = absurd (some_none (Some m) (sym is ∙ h))
+next_of x now m o next is h n = absurd (some_none (Some m) (sym is ∙ h))
 
 next_under : (f : Files) (d : Option ℕ) (now m : ℕ) (o : Option (Option ℕ)) (next : Option ℕ) → o ≡ Some (Some m) → IsSetSince (timer_at f d) now o → IsNextMoment (content_of f (unwrap_or d 0)) now next → Next (timer_at f d) now next
 next_under f None now m o next is h n = absurd (some_none (Some m) (sym is ∙ h))

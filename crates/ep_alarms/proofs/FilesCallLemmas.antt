@@ -5,7 +5,7 @@ use Rattle.std.proofs.lemmas.Bool.{cases_eq, cases_lt}
 use Rattle.std.proofs.lemmas.List.{get_or_append_left, get_or_past}
 use Rattle.ep_base.specs.Limits.{Limits}
 use Rattle.ep_base.specs.declared.call.Call.{Call}
-use Rattle.ep_base.specs.declared.call.Call.TheVariants.{Close, Dup, Dup2, EpollCreate, EpollCtl, EpollWait, EventFd, Exec, Exit, Fork, GetTime, Pipe as PipeCall, Plain, Read, SetTime, Shutdown, SocketPair, TimerFd, Write}
+use Rattle.ep_base.specs.declared.call.Call.TheVariants.{Close, Dup, Dup2, EpollCreate, EventFd, Exec, Exit, Fork, Pipe as PipeCall, Plain, SocketPair, TimerFd}
 use Rattle.ep_base.specs.declared.object.End.{End}
 use Rattle.ep_base.specs.declared.object.End.TheVariants.{First, Second}
 use Rattle.ep_machine.specs.Files.{Files, Place, named_by, numbers_of, object_at, place_of}
@@ -130,14 +130,7 @@ others_left limits f p busy (Close fd) objects is d = refl
 others_left limits f p busy Fork objects is d = refl
 others_left limits f p busy Exec objects is d = refl
 others_left limits f p busy Exit objects is d = refl
-others_left limits f p busy (TimerFd clock cloexec) objects is d = absurd is
-others_left limits f p busy (EpollCtl epfd op fd mask tag) objects is d = absurd is
-others_left limits f p busy (EpollWait epfd most timeout) objects is d = absurd is
-others_left limits f p busy (Read fd n) objects is d = absurd is
-others_left limits f p busy (Write fd bytes) objects is d = absurd is
-others_left limits f p busy (Shutdown fd) objects is d = absurd is
-others_left limits f p busy (SetTime fd absolute value interval) objects is d = absurd is
-others_left limits f p busy (GetTime fd) objects is d = absurd is
+others_left limits f p busy call objects is d = absurd is
 
 -- a new timer is what the next description shows
 pub timer_made : (limits : Limits) (f : Files) (p : ℕ) (busy : Bool) (clock : ℤ) (cloexec : Bool) → timer_in (files_call limits f p busy (TimerFd clock cloexec)).after (length f.descriptions) ≡ Some new_timer

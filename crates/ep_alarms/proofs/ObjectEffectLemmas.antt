@@ -1,7 +1,7 @@
 -- Which timers a call on an object leaves as they were.
 use Rattle.std.proofs.Common.{◌≡◌, ◌≢◌, ◌∙◌, ℕ, Bool, true, List, None, Option, Some, ap, is_some, refl, slice_index_or, sym, unwrap_or}
 use Rattle.ep_base.specs.declared.call.Call.{Call}
-use Rattle.ep_base.specs.declared.call.Call.TheVariants.{Close, Dup, Dup2, EpollCreate, EpollCtl, EpollWait, EventFd, Exec, Exit, Fork, GetTime, Pipe as PipeCall, Plain, Read, SetTime, Shutdown, SocketPair, TimerFd, Write}
+use Rattle.ep_base.specs.declared.call.Call.TheVariants.{GetTime, Read, SetTime, Shutdown, Write}
 use Rattle.ep_base.specs.declared.object.End.{End}
 use Rattle.ep_base.specs.declared.object.End.TheVariants.{First, Second}
 use Rattle.ep_law.proofs.EndLemmas.{set_object}
@@ -18,44 +18,24 @@ use Rattle.ep_table.specs.Value.{content_of}
 
 -- what is no timer stays none
 read_none : (x : Object) (e : End) (n now : ℕ) → timer_of x ≡ None → timer_of (read x e n now).1 ≡ None
-read_none plain e n now h = refl
-read_none (pipe p) e n now h = refl
-read_none (pair p) e n now h = refl
-read_none (counter c) e n now h = refl
 read_none (timer t) e n now h = absurd cc
-read_none instance e n now h = refl
+read_none x e n now h = refl
 
 write_none : (x : Object) (e : End) (bytes : List ℕ) → timer_of x ≡ None → timer_of (write x e bytes).1 ≡ None
-write_none plain e bytes h = refl
-write_none (pipe p) e bytes h = refl
-write_none (pair p) e bytes h = refl
-write_none (counter c) e bytes h = refl
 write_none (timer t) e bytes h = absurd cc
-write_none instance e bytes h = refl
+write_none x e bytes h = refl
 
 shutdown_none : (x : Object) (e : End) → timer_of x ≡ None → timer_of (shutdown x e).1 ≡ None
-shutdown_none plain e h = refl
-shutdown_none (pipe p) e h = refl
-shutdown_none (pair p) e h = refl
-shutdown_none (counter c) e h = refl
 shutdown_none (timer t) e h = absurd cc
-shutdown_none instance e h = refl
+shutdown_none x e h = refl
 
 settime_none : (x : Object) (absolute : Bool) (value interval now : ℕ) → timer_of x ≡ None → timer_of (settime x absolute value interval now).1 ≡ None
-settime_none plain absolute value interval now h = refl
-settime_none (pipe p) absolute value interval now h = refl
-settime_none (pair p) absolute value interval now h = refl
-settime_none (counter c) absolute value interval now h = refl
 settime_none (timer t) absolute value interval now h = absurd cc
-settime_none instance absolute value interval now h = refl
+settime_none x absolute value interval now h = refl
 
 gettime_none : (x : Object) (now : ℕ) → timer_of x ≡ None → timer_of (gettime x now).1 ≡ None
-gettime_none plain now h = refl
-gettime_none (pipe p) now h = refl
-gettime_none (pair p) now h = refl
-gettime_none (counter c) now h = refl
 gettime_none (timer t) now h = absurd cc
-gettime_none instance now h = refl
+gettime_none x now h = refl
 
 effect_none : (x : Object) (e : End) (now : ℕ) (call : Call) → timer_of x ≡ None → timer_of (object_effect x e now call).1 ≡ None
 effect_none x e now (Read fd n) h = read_none x e n now h
@@ -63,20 +43,7 @@ effect_none x e now (Write fd bytes) h = write_none x e bytes h
 effect_none x e now (Shutdown fd) h = shutdown_none x e h
 effect_none x e now (SetTime fd absolute value interval) h = settime_none x absolute value interval now h
 effect_none x e now (GetTime fd) h = gettime_none x now h
-effect_none x e now (PipeCall cloexec) h = h
-effect_none x e now (SocketPair cloexec) h = h
-effect_none x e now (EventFd init semaphore cloexec) h = h
-effect_none x e now (TimerFd clock cloexec) h = h
-effect_none x e now (Plain cloexec) h = h
-effect_none x e now (EpollCreate cloexec) h = h
-effect_none x e now (Dup fd) h = h
-effect_none x e now (Dup2 fd to) h = h
-effect_none x e now (Close fd) h = h
-effect_none x e now Fork h = h
-effect_none x e now Exec h = h
-effect_none x e now Exit h = h
-effect_none x e now (EpollCtl epfd op fd mask tag) h = h
-effect_none x e now (EpollWait epfd most timeout) h = h
+effect_none x e now call h = h
 
 -- a timer has its first end alone
 first_end : (x : Object) (e : End) (t : Timer) → timer_of x ≡ Some t → object_has x e ≡ true → e ≡ First
@@ -148,12 +115,8 @@ effect_some t e now (GetTime fd) = refl
 effect_some t e now call = refl
 
 effect_keeps : (x : Object) (e : End) (now : ℕ) (call : Call) → is_some (timer_of (object_effect x e now call).1) ≡ is_some (timer_of x)
-effect_keeps plain e now call = ap (λ (o : Option Timer). is_some o) (effect_none plain e now call refl)
-effect_keeps (pipe p) e now call = ap (λ (o : Option Timer). is_some o) (effect_none (pipe p) e now call refl)
-effect_keeps (pair p) e now call = ap (λ (o : Option Timer). is_some o) (effect_none (pair p) e now call refl)
-effect_keeps (counter c) e now call = ap (λ (o : Option Timer). is_some o) (effect_none (counter c) e now call refl)
 effect_keeps (timer t) e now call = effect_some t e now call
-effect_keeps instance e now call = ap (λ (o : Option Timer). is_some o) (effect_none instance e now call refl)
+effect_keeps x e now call = ap (λ (o : Option Timer). is_some o) (effect_none x e now call refl)
 
 -- the description of the call is a timer's where it was
 pub own_kept : (f : Files) (number now : ℕ) (call : Call) → is_some (timer_in (affected f number (object_effect (content_of f number) (side_of f number) now call)) number) ≡ is_some (timer_in f number)

@@ -2,7 +2,7 @@
 use Rattle.std.proofs.Common.{◌≡◌, ℕ, true, false, IsSome, None, Option, Some, is_some, refl, unwrap_or}
 use Rattle.ep_base.specs.declared.ids.DescId.{DescId}
 use Rattle.ep_machine.specs.Files.{Files}
-use Rattle.ep_machine.specs.Objects.{Object, counter, instance, pair, pipe, plain, timer}
+use Rattle.ep_machine.specs.Objects.{Object, timer}
 use Rattle.ep_object.specs.Next.{IsNextMoment}
 use Rattle.ep_alarms.specs.Alarms.{IsSetFor}
 use Rattle.ep_alarms.specs.Timers.{timer_at, timer_of, timer_under}
@@ -14,11 +14,7 @@ some_none x h = cc
 -- a timer's next moment
 next_set : (now : ℕ) (x : Object) (next : Option ℕ) → is_some (timer_of x) ≡ true → IsNextMoment x now next → IsSetFor (timer_of x) now (Some next)
 next_set now (timer t) next is h = h
-next_set now plain next is h = absurd cc
-next_set now (pipe p) next is h = absurd cc
-next_set now (pair p) next is h = absurd cc
-next_set now (counter p) next is h = absurd cc
-next_set now instance next is h = absurd cc
+next_set now x next is h = absurd cc
 
 next_at : (f : Files) (now : ℕ) (o : Option ℕ) (next : Option ℕ) → is_some (timer_at f o) ≡ true → IsNextMoment (content_of f (unwrap_or o 0)) now next → IsSetFor (timer_at f o) now (Some next)
 next_at f now None next is h = absurd cc

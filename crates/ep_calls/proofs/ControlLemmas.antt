@@ -1,5 +1,5 @@
 -- epoll_ctl over the parts.
-use Rattle.std.proofs.Common.{◌≡◌, ◌∙◌, ◌+◌, ◌++◌, ◌==◌, ℕ, All, Bool, List, [], ◌∷◌, None, Option, Some, true, false, ap, cond, length, map, nat_le, refl, subst, sym, unwrap_or}
+use Rattle.std.proofs.Common.{◌≡◌, ◌∙◌, ◌+◌, ◌++◌, ◌==◌, ℕ, All, Bool, List, [], ◌∷◌, Option, true, false, ap, cond, length, map, nat_le, refl, subst, sym, unwrap_or}
 use Rattle.std.specs.Prelude.{MatchBool}
 use Rattle.std.proofs.lemmas.List.Elements.{All-append, All-cons, All-filter, All-map, All-nil, All-weaker}
 use Rattle.ep_base.specs.declared.answer.Answer.{Answer}
@@ -9,7 +9,8 @@ use Rattle.ep_base.specs.declared.mask.Mask.{Mask}
 use Rattle.ep_interest.specs.Registrations.{Registrations, is_other, modified, new_entry}
 use Rattle.ep_interest.specs.declared.entry.Entry.{Entry}
 use Rattle.ep_machine.specs.Files.{named_by, object_of}
-use Rattle.ep_machine.specs.Objects.{Object, counter, instance, is_plain, pair, pipe, plain, timer}
+use Rattle.ep_view.proofs.KindLemmas.{watched_unless_plain}
+use Rattle.ep_machine.specs.Objects.{instance}
 use Rattle.ep_view.specs.AtRest.{can_be_watched}
 use Rattle.ep_machine.specs.Refusal.{ctl_refusals}
 use Rattle.ep_machine.specs.Step.{call_change}
@@ -32,15 +33,6 @@ use Rattle.ep_calls.specs.declared.control.Operation.TheVariants.{Add, Delete, M
 use Rattle.ep_calls.proofs.OutcomeLemmas.{goes_told, raises_told}
 use Rattle.ep_table.specs.Value.{Seen}
 
-shows_of : (o : Option Object) → is_plain (unwrap_or o plain) ≡ false → can_be_watched o ≡ true
-shows_of None p = cc
-shows_of (Some plain) p = cc
-shows_of (Some (pipe q)) p = refl
-shows_of (Some (pair q)) p = refl
-shows_of (Some (counter q)) p = refl
-shows_of (Some (timer q)) p = refl
-shows_of (Some instance) p = refl
-
 module _ (v : Seen) (r : Registrations) (p : ℕ) (args : Control) (named : Named) (names : Names v p args.epfd.0 args.fd.0 named) (watched : AreWatched v r) where
   abbrev IsShown : Entry → Type 0
   IsShown x = can_be_watched (object_of v.files (number_at v.keys x.desc)) ≡ true
@@ -48,7 +40,7 @@ module _ (v : Seen) (r : Registrations) (p : ℕ) (args : Control) (named : Name
   target : can_be_watched (object_of v.files (number_at v.keys named.desc)) ≡ true
   target =
       let number : number_at v.keys named.desc ≡ named_by v.files p args.fd.0 = ap (λ (o : Option ℕ). unwrap_or o 0) names.desc in
-      ap (λ (d : ℕ). can_be_watched (object_of v.files d)) number ∙ shows_of (object_of v.files (named_by v.files p args.fd.0)) (none_holds (naming_refusals v.files p args.epfd.0 args.fd.0) names.accepted).1.1.0
+      ap (λ (d : ℕ). can_be_watched (object_of v.files d)) number ∙ watched_unless_plain (object_of v.files (named_by v.files p args.fd.0)) (none_holds (naming_refusals v.files p args.epfd.0 args.fd.0) names.accepted).1.1.0
 
   modified_shown : (k : ℕ) (m : Mask) (tag : ℕ) (x : Entry) → IsShown x → IsShown (modified k m tag x)
   modified_shown k m tag x h = elim (x.number == k) as (λ b. IsShown (cond b (record x { mask = m; tag = tag; armed = true; fresh = true }) x)) [ true ↦ h | false ↦ h ]

@@ -5,7 +5,7 @@ use Rattle.ep_base.specs.Answer.{FitsInline}
 use Rattle.ep_base.specs.Limits.{Limits}
 use Rattle.ep_base.specs.declared.answer.Answer.{Answer}
 use Rattle.ep_base.specs.declared.call.Call.{Call}
-use Rattle.ep_base.specs.declared.call.Call.TheVariants.{Close, Dup, Dup2, EpollCreate, EpollCtl, EpollWait, EventFd, Exec, Exit, Fork, GetTime, Pipe as PipeCall, Plain, Read, SetTime, Shutdown, SocketPair, TimerFd, Write}
+use Rattle.ep_base.specs.declared.call.Call.TheVariants.{EpollCtl, EpollWait, GetTime, Read, SetTime, Shutdown, Write}
 use Rattle.ep_base.specs.declared.call.Event.{Event}
 use Rattle.ep_base.specs.declared.call.Event.TheVariants.{Call as CallOf, Resume, Tick}
 use Rattle.ep_base.specs.declared.errno.Errno.{Errno}
@@ -35,12 +35,6 @@ ctl_fits s p epfd op fd mask tag = if_fits (is_add op) _ _ tt (if_fits (is_del o
 
 module _ (limits : Limits) (s : State) (caller : ℕ) (o : Outcome) (kept : Bool) (asked : kept ≡ true) (none : o.spare ≡ None) where
   told_call : (p : ℕ) (call : Call) (made : Change) → call_change limits s caller p call o.picked ≡ Some made → made.0 ≡ o.answer → KeepsCall call kept o → IsInline o.answer o.picked
-  told_call p (PipeCall cloexec) made is same keeps = told_plainly o.picked _ made o.answer is same tt
-  told_call p (EventFd init semaphore cloexec) made is same keeps = told_plainly o.picked _ made o.answer is same tt
-  told_call p (TimerFd clock cloexec) made is same keeps = told_plainly o.picked _ made o.answer is same tt
-  told_call p (SocketPair cloexec) made is same keeps = told_plainly o.picked _ made o.answer is same tt
-  told_call p (Plain cloexec) made is same keeps = told_plainly o.picked _ made o.answer is same tt
-  told_call p (EpollCreate cloexec) made is same keeps = told_plainly o.picked _ made o.answer is same tt
   told_call p (EpollCtl epfd op fd mask tag) made is same keeps = told_plainly o.picked _ made o.answer is same (ctl_fits s p epfd.0 op fd.0 mask.0 tag)
   told_call p (EpollWait epfd most timeout) made is same keeps = keeps asked none
   told_call p (Read fd n) made is same keeps = keeps asked none
@@ -48,12 +42,7 @@ module _ (limits : Limits) (s : State) (caller : ℕ) (o : Outcome) (kept : Bool
   told_call p (Shutdown fd) made is same keeps = keeps asked none
   told_call p (SetTime fd absolute value interval) made is same keeps = keeps asked none
   told_call p (GetTime fd) made is same keeps = keeps asked none
-  told_call p (Dup fd) made is same keeps = told_plainly o.picked _ made o.answer is same tt
-  told_call p (Dup2 fd to) made is same keeps = told_plainly o.picked _ made o.answer is same tt
-  told_call p (Close fd) made is same keeps = told_plainly o.picked _ made o.answer is same tt
-  told_call p Fork made is same keeps = told_plainly o.picked _ made o.answer is same tt
-  told_call p Exec made is same keeps = told_plainly o.picked _ made o.answer is same tt
-  told_call p Exit made is same keeps = told_plainly o.picked _ made o.answer is same tt
+  told_call p call made is same keeps = told_plainly o.picked _ made o.answer is same tt
 
   told : (r : Option Errno) (c : Option Change) (new : Parts) → ((made : Change) → c ≡ Some made → made.0 ≡ o.answer → IsInline o.answer o.picked)
       → MatchOption r (Makes c o.answer new) (λ e. Refuses s e o.answer o.picked new) → IsInline o.answer o.picked

@@ -1,10 +1,10 @@
 -- What is registered keeps its kind, so that the graph is still that of the registrations.
-use Rattle.std.proofs.Common.{◌≡◌, ◌∙◌, ◌==◌, ℕ, All, List, [], ◌∷◌, None, Option, Some, ap, map, refl, sym, unwrap_or}
+use Rattle.std.proofs.Common.{◌≡◌, ◌∙◌, ◌==◌, ℕ, All, List, [], ◌∷◌, ap, map, sym}
 use Rattle.std.proofs.lemmas.List.Elements.{All-cons, All-head, All-nil, All-tail}
 use Rattle.ep_interest.specs.Registrations.{Registrations}
 use Rattle.ep_interest.specs.declared.entry.Entry.{Entry}
 use Rattle.ep_machine.specs.Files.{Files, object_of}
-use Rattle.ep_machine.specs.Objects.{Object, counter, instance, is_instance, pair, pipe, plain, timer}
+use Rattle.ep_view.proofs.KindLemmas.{instance_kind}
 use Rattle.ep_view.specs.KernelView.{KernelWatch}
 use Rattle.ep_view.specs.AtRest.{kind_of}
 use Rattle.ep_nest.specs.declared.link.Link.{Link}
@@ -17,15 +17,6 @@ use Rattle.ep_table.specs.Value.{Seen}
 -- Targets that keep their kind.
 abbrev pub KeepKinds : Files → Files → List KernelWatch → Type 0
 KeepKinds f g xs = All (λ w. kind_of (object_of g w.target) ≡ kind_of (object_of f w.target)) xs
-
-pub instance_kind : (o : Option Object) → is_instance (unwrap_or o plain) ≡ (kind_of o == 1)
-instance_kind None = refl
-instance_kind (Some plain) = refl
-instance_kind (Some (pipe p)) = refl
-instance_kind (Some (pair p)) = refl
-instance_kind (Some (counter c)) = refl
-instance_kind (Some (timer t)) = refl
-instance_kind (Some instance) = refl
 
 module _ (u v : Seen) where
   same_kind : (x : Entry) → number_at u.keys x.desc ≡ number_at v.keys x.desc → kind_of (object_of v.files (number_at v.keys x.desc)) ≡ kind_of (object_of u.files (number_at v.keys x.desc)) → is_nested u x ≡ is_nested v x

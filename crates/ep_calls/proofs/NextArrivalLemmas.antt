@@ -7,7 +7,7 @@ use Rattle.ep_counters.specs.Law.{NextTellsAdvance, is_by}
 use Rattle.ep_machine.specs.Bits.{IN, when}
 use Rattle.ep_machine.specs.Files.{Place, object_at, place_of}
 use Rattle.ep_machine.specs.Lists.{numbered}
-use Rattle.ep_machine.specs.Objects.{Object, advance, counter, instance, pair, pipe, plain, timer}
+use Rattle.ep_machine.specs.Objects.{Object, advance, timer}
 use Rattle.ep_machine.specs.Waits.{is_due}
 use Rattle.ep_calls.specs.Arrivals.{arrives_at, arrives_by}
 use Rattle.ep_calls.specs.Raising.{clock_bits}
@@ -118,9 +118,5 @@ never : (next : Option ℕ) (now : ℕ) → next ≡ None → false ≡ is_due n
 never next now h = ap (is_due now) (sym h)
 
 pub arrival_told : NextTellsAdvance → (x : Object) (since now : ℕ) (next : Option ℕ) → IsNextMoment x since next → nat_lt 0 (advance x since now) ≡ is_due now next
-arrival_told law plain since now next h = never next now h
-arrival_told law (pipe p) since now next h = never next now h
-arrival_told law (pair p) since now next h = never next now h
-arrival_told law (counter c) since now next h = never next now h
 arrival_told law (timer t) since now next h = ap (λ (bits : ℕ). nat_lt 0 bits) (law t since now next h) ∙ (bit_is (is_by next now) ∙ by_is_due next now)
-arrival_told law instance since now next h = never next now h
+arrival_told law x since now next h = never next now h

@@ -8,7 +8,7 @@ use Rattle.std.proofs.lemmas.Bool.Decides.{nat_tests}
 use Rattle.ep_machine.specs.Bits.{IN, when}
 use Rattle.ep_machine.specs.Files.{Files, Place, live, object_at}
 use Rattle.ep_machine.specs.Marks.{first_marked as first_of_each}
-use Rattle.ep_machine.specs.Objects.{Object, advance, counter, instance, pair, pipe, plain, timer}
+use Rattle.ep_machine.specs.Objects.{Object, advance, instance, plain, timer}
 use Rattle.ep_machine.specs.State.{State, Waiter}
 use Rattle.ep_machine.specs.Timer.{last_moment, unread}
 use Rattle.ep_machine.specs.Waits.{advance_at, is_due, is_marked_at, marked_if_due, waits_at}
@@ -44,12 +44,8 @@ module _ (since : ℕ) where
   no_bit n = grind (arith, nat_tests)
 
   no_advance : (x : Object) → nat_lt 0 (advance x since since) ≡ false
-  no_advance plain = refl
-  no_advance (pipe p) = refl
-  no_advance (pair p) = refl
-  no_advance (counter c) = refl
   no_advance (timer t) = no_bit (unread t since)
-  no_advance instance = refl
+  no_advance x = refl
 
   none_raised : (files : Files) (xs : List (ℕ × Place)) → list_any (λ x. nat_lt 0 (clock_bits files since since (Some x.1))) xs ≡ false
   none_raised files [] = refl

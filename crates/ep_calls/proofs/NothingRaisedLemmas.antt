@@ -4,7 +4,7 @@ use Rattle.std.specs.Prelude.{MatchOption}
 use Rattle.std.proofs.lemmas.Option.{none-some}
 use Rattle.ep_base.specs.Limits.{Limits}
 use Rattle.ep_base.specs.declared.call.Call.{Call}
-use Rattle.ep_base.specs.declared.call.Call.TheVariants.{Close, Dup, Dup2, EpollCreate, EpollCtl, EpollWait, EventFd, Exec, Exit, Fork, GetTime, Pipe as PipeCall, Plain, Read, SetTime, Shutdown, SocketPair, TimerFd, Write}
+use Rattle.ep_base.specs.declared.call.Call.TheVariants.{EpollCtl, EpollWait, GetTime, Read, SetTime, Shutdown, Write}
 use Rattle.ep_base.specs.declared.errno.Errno.{Errno}
 use Rattle.ep_machine.specs.Effect.{first}
 use Rattle.ep_machine.specs.Files.{named_by, object_of}
@@ -44,25 +44,8 @@ IsOffObject call = Unit {0}
 
 -- as a call on the tables alone is
 pub off_object : (call : Call) → IsTableCall call → IsOffObject call
-off_object (PipeCall cloexec) t = t
-off_object (EventFd init semaphore cloexec) t = t
-off_object (TimerFd clock cloexec) t = t
-off_object (SocketPair cloexec) t = t
-off_object (Plain cloexec) t = t
-off_object (EpollCreate cloexec) t = t
-off_object (EpollCtl epfd op fd mask tag) t = t
 off_object (EpollWait epfd most timeout) t = tt
-off_object (Read fd n) t = t
-off_object (Write fd bytes) t = t
-off_object (Shutdown fd) t = t
-off_object (SetTime fd absolute value interval) t = t
-off_object (GetTime fd) t = t
-off_object (Dup fd) t = t
-off_object (Dup2 fd to) t = t
-off_object (Close fd) t = t
-off_object Fork t = t
-off_object Exec t = t
-off_object Exit t = t
+off_object call t = t
 
 abbrev RaisesNothing : Change → Type 0
 RaisesNothing c = (d : ℕ) → can_be_watched (object_of c.1.files d) ≡ true → raised_of c.2 d ≡ 0
@@ -93,29 +76,18 @@ wait_raises s caller p e most (pos (suc k)) = λ d w. refl
 wait_raises s caller p e most (negsuc k) = λ d w. refl
 
 call_unraising : (limits : Limits) (s : State) (caller p : ℕ) (call : Call) (ks : List ℕ) → IsOffObject call → first (call_refusals limits s p call) ≡ None → Unraising (call_change limits s caller p call ks)
-call_unraising limits s caller p (PipeCall cloexec) ks t h = plain_unraising ks _ (λ d w. refl)
-call_unraising limits s caller p (EventFd init semaphore cloexec) ks t h = plain_unraising ks _ (λ d w. refl)
-call_unraising limits s caller p (TimerFd clock cloexec) ks t h = plain_unraising ks _ (λ d w. refl)
-call_unraising limits s caller p (SocketPair cloexec) ks t h = plain_unraising ks _ (λ d w. refl)
-call_unraising limits s caller p (Plain cloexec) ks t h = plain_unraising ks _ (λ d w. refl)
-call_unraising limits s caller p (EpollCreate cloexec) ks t h = plain_unraising ks _ (λ d w. refl)
 call_unraising limits s caller p (EpollWait epfd most timeout) ks t h =
     let e = named_by s.files p epfd.0 in
     if_unraising (is_ready s e) (report s e (number_in most) ks) (plainly ks (wait_for s caller p e (number_in most) timeout))
     (if_unraising (is_pick s e (number_in most) ks) _ None (some_unraising _ (λ d w. refl)) none_unraising)
     (plain_unraising ks _ (wait_raises s caller p e (number_in most) timeout))
-call_unraising limits s caller p (Dup fd) ks t h = plain_unraising ks _ (λ d w. refl)
-call_unraising limits s caller p (Dup2 fd to) ks t h = plain_unraising ks _ (λ d w. refl)
-call_unraising limits s caller p (Close fd) ks t h = plain_unraising ks _ (λ d w. refl)
-call_unraising limits s caller p Fork ks t h = plain_unraising ks _ (λ d w. refl)
-call_unraising limits s caller p Exec ks t h = plain_unraising ks _ (λ d w. refl)
-call_unraising limits s caller p Exit ks t h = plain_unraising ks _ (λ d w. refl)
 call_unraising limits s caller p (EpollCtl epfd op fd mask tag) ks t h = absurd t
 call_unraising limits s caller p (Read fd n) ks t h = absurd t
 call_unraising limits s caller p (Write fd bytes) ks t h = absurd t
 call_unraising limits s caller p (Shutdown fd) ks t h = absurd t
 call_unraising limits s caller p (SetTime fd absolute value interval) ks t h = absurd t
 call_unraising limits s caller p (GetTime fd) ks t h = absurd t
+call_unraising limits s caller p call ks t h = plain_unraising ks _ (λ d w. refl)
 
 nowhere_bits : (raising : Raising) (v : Seen) (now d : ℕ) → raising ≡ Nowhere → raised_bits raising v now d ≡ 0
 nowhere_bits raising v now d h = ap (λ (r : Raising). raised_bits r v now d) h

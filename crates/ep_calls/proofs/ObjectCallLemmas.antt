@@ -42,36 +42,22 @@ given_fits (timer t) e now n fd room h i = unless_fits (first (object_refusals (
 given_fits instance e now n fd room h i = tt
 
 taken_fits : (x : Object) (e : End) (now : ℕ) (bytes : List ℕ) (fd : ℤ) (room : SmallVec ℕ 16 Global) → FitsRoom (attempt (object_refusals x e now (Write (record { 0 = fd }) bytes)) x (object_effect x e now (Write (record { 0 = fd }) bytes))).0 room
-taken_fits plain e now bytes fd room = tt
 taken_fits (pipe p) e now bytes fd room = unless_fits (first (object_refusals (pipe p) e now (Write (record { 0 = fd }) bytes))) (pipe p) (object_effect (pipe p) e now (Write (record { 0 = fd }) bytes)) room tt
 taken_fits (pair p) e now bytes fd room = unless_fits (first (object_refusals (pair p) e now (Write (record { 0 = fd }) bytes))) (pair p) (object_effect (pair p) e now (Write (record { 0 = fd }) bytes)) room tt
 taken_fits (counter c) e now bytes fd room = unless_fits (first (object_refusals (counter c) e now (Write (record { 0 = fd }) bytes))) (counter c) (object_effect (counter c) e now (Write (record { 0 = fd }) bytes)) room tt
-taken_fits (timer t) e now bytes fd room = tt
-taken_fits instance e now bytes fd room = tt
+taken_fits x e now bytes fd room = tt
 
 shut_fits : (x : Object) (e : End) (now : ℕ) (fd : Fd) (room : SmallVec ℕ 16 Global) → FitsRoom (attempt (object_refusals x e now (Shutdown fd)) x (object_effect x e now (Shutdown fd))).0 room
-shut_fits plain e now fd room = tt
-shut_fits (pipe p) e now fd room = tt
 shut_fits (pair p) e now fd room = unless_fits (first (object_refusals (pair p) e now (Shutdown fd))) (pair p) (object_effect (pair p) e now (Shutdown fd)) room tt
-shut_fits (counter c) e now fd room = tt
-shut_fits (timer t) e now fd room = tt
-shut_fits instance e now fd room = tt
+shut_fits x e now fd room = tt
 
 set_fits : (x : Object) (e : End) (now : ℕ) (fd : Fd) (absolute : Bool) (value interval : ℕ) (room : SmallVec ℕ 16 Global) → FitsRoom (attempt (object_refusals x e now (SetTime fd absolute value interval)) x (object_effect x e now (SetTime fd absolute value interval))).0 room
-set_fits plain e now fd absolute value interval room = tt
-set_fits (pipe p) e now fd absolute value interval room = tt
-set_fits (pair p) e now fd absolute value interval room = tt
-set_fits (counter c) e now fd absolute value interval room = tt
 set_fits (timer t) e now fd absolute value interval room = unless_fits (first (object_refusals (timer t) e now (SetTime fd absolute value interval))) (timer t) (object_effect (timer t) e now (SetTime fd absolute value interval)) room tt
-set_fits instance e now fd absolute value interval room = tt
+set_fits x e now fd absolute value interval room = tt
 
 got_fits : (x : Object) (e : End) (now : ℕ) (fd : Fd) (room : SmallVec ℕ 16 Global) → FitsRoom (attempt (object_refusals x e now (GetTime fd)) x (object_effect x e now (GetTime fd))).0 room
-got_fits plain e now fd room = tt
-got_fits (pipe p) e now fd room = tt
-got_fits (pair p) e now fd room = tt
-got_fits (counter c) e now fd room = tt
 got_fits (timer t) e now fd room = unless_fits (first (object_refusals (timer t) e now (GetTime fd))) (timer t) (object_effect (timer t) e now (GetTime fd)) room tt
-got_fits instance e now fd room = tt
+got_fits x e now fd room = tt
 
 -- what such a call answers has room for a copy
 pub fits : (x : Object) (e : End) (now : ℕ) (call : Call) (room : SmallVec ℕ 16 Global) → IsSome (fd_of call) → HasRoomFor room 16 → HasRoomFor room (min (asked_of call) (object_waiting x e))

@@ -27,7 +27,7 @@ use Rattle.ep_calls.specs.Raising.{IsRaising, Raises, RaisesByCall}
 use Rattle.ep_calls.specs.Stands.{KeepsKinds}
 use Rattle.ep_calls.proofs.ObjectRaiseLemmas.{object_raises}
 use Rattle.ep_calls.proofs.FilesCallLemmas.{IsOnObject, object_called, object_keys, object_limits}
-use Rattle.ep_calls.proofs.KindLemmas.{instance_kind}
+use Rattle.ep_view.proofs.KindLemmas.{instance_kind}
 use Rattle.ep_table.specs.Value.{Seen, Sound, content_of, effect_at, number_of, number_under, unwrapped}
 use Rattle.ep_calls.proofs.KeyLemmas.{under_key}
 

@@ -45,7 +45,8 @@ use Rattle.ep_machine.specs.State.{Change, State, Waiter}
 use Rattle.ep_machine.specs.Step.{change, next_event}
 use Rattle.ep_machine.specs.Waits.{is_marked_at, is_parked, resume, waits_at}
 use Rattle.ep_order.proofs.LeftLemmas.{leaves_by_resuming}
-use Rattle.ep_order.proofs.MarkLemmas.{instance_of_kind, waiter_there}
+use Rattle.ep_view.proofs.KindLemmas.{instance_of_kind}
+use Rattle.ep_order.proofs.MarkLemmas.{waiter_there}
 use Rattle.ep_order.specs.Mark.{LeavesResumed, ResumesAt}
 use Rattle.ep_park.specs.Waiters.{is_caller}
 use Rattle.ep_table.specs.Value.{Seen, number_under as desc_number}

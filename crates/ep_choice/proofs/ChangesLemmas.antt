@@ -5,7 +5,7 @@ use Rattle.std.proofs.lemmas.Bool.{false≢true}
 use Rattle.ep_base.specs.Limits.{Limits}
 use Rattle.ep_base.specs.declared.answer.Answer.TheVariants.{Events}
 use Rattle.ep_base.specs.declared.call.Call.{Call}
-use Rattle.ep_base.specs.declared.call.Call.TheVariants.{Close, Dup, Dup2, EpollCreate, EpollCtl, EpollWait, EventFd, Exec, Exit, Fork, GetTime, Pipe as PipeCall, Plain, Read, SetTime, Shutdown, SocketPair, TimerFd, Write}
+use Rattle.ep_base.specs.declared.call.Call.TheVariants.{EpollCtl, EpollWait}
 use Rattle.ep_base.specs.declared.call.Event.{Event}
 use Rattle.ep_base.specs.declared.call.Event.TheVariants.{Call as CallOf, Resume, Tick}
 use Rattle.ep_law.proofs.StepLemmas.{left_after, resumes}
@@ -102,25 +102,9 @@ module _ (b : State) where
 
     call_leaves : (p : ℕ) (call : Call) → call_change limits b caller p call ks ≡ Some c → Leaves c
     unfolding Leaves
-    call_leaves p (PipeCall cloexec) is = same _ is refl
-    call_leaves p (EventFd init semaphore cloexec) is = same _ is refl
-    call_leaves p (TimerFd clock cloexec) is = same _ is refl
-    call_leaves p (SocketPair cloexec) is = same _ is refl
-    call_leaves p (Plain cloexec) is = same _ is refl
-    call_leaves p (EpollCreate cloexec) is = same _ is refl
     call_leaves p (EpollCtl epfd op fd mask tag) is = inl (from_plainly ks (ctl b p epfd.0 op fd.0 mask.0 tag) c is (same_ctl p epfd.0 op fd.0 mask.0 tag))
     call_leaves p (EpollWait epfd most timeout) is = inr (from_after _ c is (after_wait caller p (named_by b.files p epfd.0) (number_in most) timeout ks (is_ready b (named_by b.files p epfd.0))))
-    call_leaves p (Read fd n) is = same _ is refl
-    call_leaves p (Write fd bytes) is = same _ is refl
-    call_leaves p (Shutdown fd) is = same _ is refl
-    call_leaves p (SetTime fd absolute value interval) is = same _ is refl
-    call_leaves p (GetTime fd) is = same _ is refl
-    call_leaves p (Dup fd) is = same _ is refl
-    call_leaves p (Dup2 fd to) is = same _ is refl
-    call_leaves p (Close fd) is = same _ is refl
-    call_leaves p Fork is = same _ is refl
-    call_leaves p Exec is = same _ is refl
-    call_leaves p Exit is = same _ is refl
+    call_leaves p call is = same _ is refl
 
     event_leaves : (event : Event) → change limits b caller event ks ≡ Some c → Leaves c
     unfolding Leaves

@@ -69,7 +69,8 @@ use Rattle.ep_nest.specs.Chains.{IsAbove, LeadsBy}
 use Rattle.ep_nest.specs.Links.{edges, ends_of}
 use Rattle.ep_nest.specs.declared.link.Link.{Link}
 use Rattle.ep_nest.specs.declared.link.Way.TheVariants.{Down}
-use Rattle.ep_order.proofs.MarkLemmas.{at_any, instance_of_kind, waiter_there, waits_by}
+use Rattle.ep_view.proofs.KindLemmas.{instance_of_kind}
+use Rattle.ep_order.proofs.MarkLemmas.{at_any, waiter_there, waits_by}
 use Rattle.ep_order.specs.Event.{end_of}
 use Rattle.ep_order.specs.Mark.{HasLost, MarkedAreLookedAt}
 use Rattle.ep_table.specs.Value.{Seen, number_under as desc_number}

@@ -25,7 +25,7 @@ use Rattle.ep_law.specs.Laws.{Member}
 use Rattle.ep_machine.specs.Bits.{ERR, ET, HUP, IN, asked, has_bit, union, when}
 use Rattle.ep_machine.specs.Files.{object_of, side_of}
 use Rattle.ep_machine.specs.Lists.{is_among}
-use Rattle.ep_machine.specs.Objects.{Object, counter, instance, is_instance, pair, pipe, plain, timer}
+use Rattle.ep_machine.specs.Objects.{Object, instance, is_instance, plain}
 use Rattle.ep_machine.specs.Readiness.{present_of}
 use Rattle.ep_ready.specs.Walk.{Walk}
 use Rattle.ep_rings.specs.KeyWalk.{id_at}
@@ -46,27 +46,19 @@ module _ (d : ℕ) (e : End) (now mask : ℕ) (armed rest : Bool) where
 
   shows_on_ready : (o : Option Object) → is_instance (unwrap_or o plain) ≡ true → shows_at true o ≡ (armed && has_bit mask IN && rest)
   shows_on_ready None h = absurd (false≢true h)
-  shows_on_ready (Some plain) h = absurd (false≢true h)
-  shows_on_ready (Some (pipe p)) h = absurd (false≢true h)
-  shows_on_ready (Some (pair p)) h = absurd (false≢true h)
-  shows_on_ready (Some (counter c)) h = absurd (false≢true h)
-  shows_on_ready (Some (timer t)) h = absurd (false≢true h)
   shows_on_ready (Some instance) h = by armed where
     by : (a : Bool) → (nat_lt 0 (when a (asked mask IN)) && rest) ≡ (a && has_bit mask IN && rest)
     by true = ap (λ (b : Bool). b && rest) (asked_in mask)
     by false = refl
+  shows_on_ready o h = absurd (false≢true h)
 
   shows_on_idle : (o : Option Object) → is_instance (unwrap_or o plain) ≡ true → shows_at false o ≡ false
   shows_on_idle None h = absurd (false≢true h)
-  shows_on_idle (Some plain) h = absurd (false≢true h)
-  shows_on_idle (Some (pipe p)) h = absurd (false≢true h)
-  shows_on_idle (Some (pair p)) h = absurd (false≢true h)
-  shows_on_idle (Some (counter c)) h = absurd (false≢true h)
-  shows_on_idle (Some (timer t)) h = absurd (false≢true h)
   shows_on_idle (Some instance) h = by armed where
     by : (a : Bool) → (nat_lt 0 (when a (asked mask 0)) && rest) ≡ false
     by true = ap (λ (b : Bool). b && rest) (zero_asked mask)
     by false = refl
+  shows_on_idle o h = absurd (false≢true h)
 
 pub ready_shows : (p : Parts) (x : Entry) → is_nested p.tables x ≡ true → shows_over p true x ≡ shows_ready x
 ready_shows p x nested =

@@ -13,7 +13,7 @@ use Rattle.ep_base.specs.declared.errno.Errno.{Errno}
 use Rattle.ep_base.specs.declared.object.End.{End}
 use Rattle.ep_base.specs.declared.ids.Fd.{Fd}
 use Rattle.ep_base.specs.declared.ids.Pid.{Pid}
-use Rattle.ep_base.specs.declared.call.Call.TheVariants.{Pipe, EventFd, TimerFd, SocketPair, Plain, EpollCreate, EpollCtl, EpollWait, Read, Write, Shutdown, SetTime, GetTime, Dup, Dup2, Close, Fork, Exec, Exit}
+use Rattle.ep_base.specs.declared.call.Call.TheVariants.{EpollWait, Read, Fork, Exec, Exit}
 use Rattle.ep_base.specs.declared.call.Call.{Call}
 use Rattle.ep_base.specs.declared.call.Event.{Event}
 use Rattle.ep_base.specs.declared.ids.CallerId.{CallerId}
@@ -27,7 +27,7 @@ use Rattle.ep_machine.specs.Report.{is_pick, is_fair_to, plainly, report, find_w
 use Rattle.ep_machine.specs.State.{Change, State, Waiter, Watch}
 use Rattle.ep_machine.specs.Step.{next_event, refused_or, step}
 use Rattle.ep_machine.specs.Refusal.{refusals}
-use Rattle.ep_machine.specs.Waits.{is_due, is_parked, leave, leave_after, resume_by, resume_empty, unmarked, wait, wait_for, waiter_of}
+use Rattle.ep_machine.specs.Waits.{is_due, is_parked, leave, leave_after, resume_by, unmarked, wait, wait_for, waiter_of}
 use Rattle.ep_machine.specs.Readiness.{is_ready, reportables}
 use Rattle.ep_machine.specs.Timer.{unread}
 use Rattle.ep_base.specs.declared.errno.Errno.TheVariants.{Eperm, Enoent, Esrch, Ebadf, Eagain, Enomem, Ebusy, Eexist, Einval, Enfile, Emfile, Enospc, Epipe, Eloop, Enotsock}
@@ -197,51 +197,23 @@ by_step P limits caller event Still s t past now none some acts = some acts.pick
 
 read_fits_of : (r : FlatRequest) (given : List ℕ) (call : Call) (p : Pid) (limits : Limits) (caller : CallerId) (answer : Answer) (s t : State) (past now : List Record) (room : ℕ)
     → AsksCall r given call → r.event ≡ 9 → r.count ≤ room → Acts limits caller (CallOf p call) answer s t past now → length (bytes_of answer) ≤ room
-read_fits_of r given (Pipe cloexec) p limits caller answer s t past now room asks is fits acts = absurd (omega (arith, asks.0, is))
-read_fits_of r given (EventFd init semaphore cloexec) p limits caller answer s t past now room asks is fits acts = absurd (omega (arith, asks.0, is))
-read_fits_of r given (TimerFd clock cloexec) p limits caller answer s t past now room asks is fits acts = absurd (omega (arith, asks.0, is))
-read_fits_of r given (SocketPair cloexec) p limits caller answer s t past now room asks is fits acts = absurd (omega (arith, asks.0, is))
-read_fits_of r given (Plain cloexec) p limits caller answer s t past now room asks is fits acts = absurd (omega (arith, asks.0, is))
-read_fits_of r given (EpollCreate cloexec) p limits caller answer s t past now room asks is fits acts = absurd (omega (arith, asks.0, is))
-read_fits_of r given (EpollCtl epfd op fd mask tag) p limits caller answer s t past now room asks is fits acts = absurd (omega (arith, asks.0, is))
-read_fits_of r given (EpollWait epfd max timeout) p limits caller answer s t past now room asks is fits acts = absurd (omega (arith, asks.0, is))
 read_fits_of r given (Read fd n) p limits caller answer s t past now room asks is fits acts =
     let short : length (bytes_of answer) ≤ n = by_step (λ a. length (bytes_of a) ≤ n) limits caller (CallOf p (Read fd n)) answer s t past now (omega arith) (λ picked h. step_read limits s t caller.0 p fd n picked answer h) acts in
     omega (arith, short, asks.2, fits)
-read_fits_of r given (Write fd bytes) p limits caller answer s t past now room asks is fits acts = absurd (omega (arith, asks.0, is))
-read_fits_of r given (Shutdown fd) p limits caller answer s t past now room asks is fits acts = absurd (omega (arith, asks.0, is))
-read_fits_of r given (SetTime fd absolute value interval) p limits caller answer s t past now room asks is fits acts = absurd (omega (arith, asks.0, is))
-read_fits_of r given (GetTime fd) p limits caller answer s t past now room asks is fits acts = absurd (omega (arith, asks.0, is))
-read_fits_of r given (Dup fd) p limits caller answer s t past now room asks is fits acts = absurd (omega (arith, asks.0, is))
-read_fits_of r given (Dup2 fd to) p limits caller answer s t past now room asks is fits acts = absurd (omega (arith, asks.0, is))
-read_fits_of r given (Close fd) p limits caller answer s t past now room asks is fits acts = absurd (omega (arith, asks.0, is))
 read_fits_of r given Fork p limits caller answer s t past now room asks is fits acts = absurd (omega (arith, asks, is))
 read_fits_of r given Exec p limits caller answer s t past now room asks is fits acts = absurd (omega (arith, asks, is))
 read_fits_of r given Exit p limits caller answer s t past now room asks is fits acts = absurd (omega (arith, asks, is))
+read_fits_of r given call p limits caller answer s t past now room asks is fits acts = absurd (omega (arith, asks.0, is))
 
 wait_fits_of : (r : FlatRequest) (given : List ℕ) (call : Call) (p : Pid) (limits : Limits) (caller : CallerId) (answer : Answer) (s t : State) (past now : List Record) (room : ℕ)
     → AsksCall r given call → r.event ≡ 8 → number_in r.number ≤ room → Acts limits caller (CallOf p call) answer s t past now → length (reports_of answer) ≤ room
-wait_fits_of r given (Pipe cloexec) p limits caller answer s t past now room asks is fits acts = absurd (omega (arith, asks.0, is))
-wait_fits_of r given (EventFd init semaphore cloexec) p limits caller answer s t past now room asks is fits acts = absurd (omega (arith, asks.0, is))
-wait_fits_of r given (TimerFd clock cloexec) p limits caller answer s t past now room asks is fits acts = absurd (omega (arith, asks.0, is))
-wait_fits_of r given (SocketPair cloexec) p limits caller answer s t past now room asks is fits acts = absurd (omega (arith, asks.0, is))
-wait_fits_of r given (Plain cloexec) p limits caller answer s t past now room asks is fits acts = absurd (omega (arith, asks.0, is))
-wait_fits_of r given (EpollCreate cloexec) p limits caller answer s t past now room asks is fits acts = absurd (omega (arith, asks.0, is))
-wait_fits_of r given (EpollCtl epfd op fd mask tag) p limits caller answer s t past now room asks is fits acts = absurd (omega (arith, asks.0, is))
 wait_fits_of r given (EpollWait epfd max timeout) p limits caller answer s t past now room asks is fits acts =
     let short : length (reports_of answer) ≤ number_in max = by_step (λ a. length (reports_of a) ≤ number_in max) limits caller (CallOf p (EpollWait epfd max timeout)) answer s t past now (omega arith) (λ picked h. step_wait limits s t caller.0 p epfd max timeout picked answer h) acts in
     omega (arith, short, ap number_in asks.2, fits)
-wait_fits_of r given (Read fd n) p limits caller answer s t past now room asks is fits acts = absurd (omega (arith, asks.0, is))
-wait_fits_of r given (Write fd bytes) p limits caller answer s t past now room asks is fits acts = absurd (omega (arith, asks.0, is))
-wait_fits_of r given (Shutdown fd) p limits caller answer s t past now room asks is fits acts = absurd (omega (arith, asks.0, is))
-wait_fits_of r given (SetTime fd absolute value interval) p limits caller answer s t past now room asks is fits acts = absurd (omega (arith, asks.0, is))
-wait_fits_of r given (GetTime fd) p limits caller answer s t past now room asks is fits acts = absurd (omega (arith, asks.0, is))
-wait_fits_of r given (Dup fd) p limits caller answer s t past now room asks is fits acts = absurd (omega (arith, asks.0, is))
-wait_fits_of r given (Dup2 fd to) p limits caller answer s t past now room asks is fits acts = absurd (omega (arith, asks.0, is))
-wait_fits_of r given (Close fd) p limits caller answer s t past now room asks is fits acts = absurd (omega (arith, asks.0, is))
 wait_fits_of r given Fork p limits caller answer s t past now room asks is fits acts = absurd (omega (arith, asks, is))
 wait_fits_of r given Exec p limits caller answer s t past now room asks is fits acts = absurd (omega (arith, asks, is))
 wait_fits_of r given Exit p limits caller answer s t past now room asks is fits acts = absurd (omega (arith, asks, is))
+wait_fits_of r given call p limits caller answer s t past now room asks is fits acts = absurd (omega (arith, asks.0, is))
 
 read_fits_event : (r : FlatRequest) (given : List ℕ) (event : Event) (limits : Limits) (caller : CallerId) (answer : Answer) (s t : State) (past now : List Record) (room : ℕ)
     → Asks r given event → r.event ≡ 9 → r.count ≤ room → Acts limits caller event answer s t past now → length (bytes_of answer) ≤ room
@@ -256,25 +228,10 @@ wait_fits_event r given Resume limits caller answer s t past now room asks is fi
 wait_fits_event r given (Tick n) limits caller answer s t past now room asks is fits acts = absurd (omega (arith, asks.0, is))
 
 not_call : (r : FlatRequest) (given : List ℕ) (call : Call) → AsksCall r given call → r.event ≡ 20 → ⊥
-not_call r given (Pipe cloexec) asks is = absurd (omega (arith, asks.0, is))
-not_call r given (EventFd init semaphore cloexec) asks is = absurd (omega (arith, asks.0, is))
-not_call r given (TimerFd clock cloexec) asks is = absurd (omega (arith, asks.0, is))
-not_call r given (SocketPair cloexec) asks is = absurd (omega (arith, asks.0, is))
-not_call r given (Plain cloexec) asks is = absurd (omega (arith, asks.0, is))
-not_call r given (EpollCreate cloexec) asks is = absurd (omega (arith, asks.0, is))
-not_call r given (EpollCtl epfd op fd mask tag) asks is = absurd (omega (arith, asks.0, is))
-not_call r given (EpollWait epfd max timeout) asks is = absurd (omega (arith, asks.0, is))
-not_call r given (Read fd n) asks is = absurd (omega (arith, asks.0, is))
-not_call r given (Write fd bytes) asks is = absurd (omega (arith, asks.0, is))
-not_call r given (Shutdown fd) asks is = absurd (omega (arith, asks.0, is))
-not_call r given (SetTime fd absolute value interval) asks is = absurd (omega (arith, asks.0, is))
-not_call r given (GetTime fd) asks is = absurd (omega (arith, asks.0, is))
-not_call r given (Dup fd) asks is = absurd (omega (arith, asks.0, is))
-not_call r given (Dup2 fd to) asks is = absurd (omega (arith, asks.0, is))
-not_call r given (Close fd) asks is = absurd (omega (arith, asks.0, is))
 not_call r given Fork asks is = absurd (omega (arith, asks, is))
 not_call r given Exec asks is = absurd (omega (arith, asks, is))
 not_call r given Exit asks is = absurd (omega (arith, asks, is))
+not_call r given call asks is = absurd (omega (arith, asks.0, is))
 
 resumption_fits_event : (r : FlatRequest) (given : List ℕ) (event : Event) (limits : Limits) (answer : Answer) (s t : State) (past now : List Record) (w : Waiter)
     → Asks r given event → r.event ≡ 20 → waiter_of s r.caller ≡ Some w → Acts limits (record { 0 = r.caller }) event answer s t past now → length (reports_of answer) ≤ w.most

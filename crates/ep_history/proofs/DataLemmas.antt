@@ -6,7 +6,7 @@ use Rattle.ep_base.specs.declared.answer.Answer.{Answer}
 use Rattle.ep_base.specs.declared.answer.Answer.TheVariants.{Bytes, Done, Events, Num, Parked, Refused, Still, Time, Two}
 use Rattle.ep_base.specs.declared.answer.Report.{Report}
 use Rattle.ep_base.specs.declared.call.Call.{Call}
-use Rattle.ep_base.specs.declared.call.Call.TheVariants.{Close, Dup, Dup2, EpollCreate, EpollCtl, EpollWait, EventFd, Exec, Exit, Fork, GetTime, Pipe, Plain, Read, SetTime, Shutdown, SocketPair, TimerFd, Write}
+use Rattle.ep_base.specs.declared.call.Call.TheVariants.{Write}
 use Rattle.ep_base.specs.declared.call.Event.{Event}
 use Rattle.ep_base.specs.declared.call.Event.TheVariants.{Call as CallOf, Resume, Tick}
 use Rattle.ep_base.specs.declared.record.Record.{Record}
@@ -21,25 +21,8 @@ write_nests fd bytes true = omega arith
 write_nests fd bytes false = omega arith
 
 call_nests : (c : Call) → depth (call_data c) ≤ 2
-call_nests (Pipe cloexec) = omega arith
-call_nests (SocketPair cloexec) = omega arith
-call_nests (Plain cloexec) = omega arith
-call_nests (EpollCreate cloexec) = omega arith
-call_nests (EventFd init semaphore cloexec) = omega arith
-call_nests (TimerFd clock cloexec) = omega arith
-call_nests (EpollCtl epfd op fd mask tag) = omega arith
-call_nests (EpollWait epfd max timeout) = omega arith
-call_nests (Read fd n) = omega arith
 call_nests (Write fd bytes) = write_nests fd.0 bytes (is_run bytes)
-call_nests (Shutdown fd) = omega arith
-call_nests (SetTime fd absolute value interval) = omega arith
-call_nests (GetTime fd) = omega arith
-call_nests (Dup fd) = omega arith
-call_nests (Dup2 fd to) = omega arith
-call_nests (Close fd) = omega arith
-call_nests Fork = omega arith
-call_nests Exec = omega arith
-call_nests Exit = omega arith
+call_nests call = omega arith
 
 event_nests : (e : Event) → depth (event_data e) ≤ 3
 event_nests (CallOf pid call) =

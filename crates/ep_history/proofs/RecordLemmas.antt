@@ -19,7 +19,7 @@ use Rattle.ep_base.specs.declared.answer.Answer.{Answer}
 use Rattle.ep_base.specs.declared.answer.Answer.TheVariants.{Bytes, Done, Events, Num, Parked, Refused, Still, Time, Two}
 use Rattle.ep_base.specs.declared.answer.Report.{Report}
 use Rattle.ep_base.specs.declared.call.Call.{Call}
-use Rattle.ep_base.specs.declared.call.Call.TheVariants.{Close, Dup, Dup2, EpollCreate, EpollCtl, EpollWait, EventFd, Exec, Exit, Fork, GetTime, Pipe, Plain, Read, SetTime, Shutdown, SocketPair, TimerFd, Write}
+use Rattle.ep_base.specs.declared.call.Call.TheVariants.{Close, Dup, Dup2, EpollCtl, EpollWait, EventFd, GetTime, Read, SetTime, Shutdown, TimerFd, Write}
 use Rattle.ep_base.specs.declared.call.Event.{Event}
 use Rattle.ep_base.specs.declared.call.Event.TheVariants.{Call as CallOf, Resume, Tick}
 use Rattle.ep_base.specs.declared.errno.Errno.{Errno}
@@ -55,10 +55,6 @@ write_told fd bytes true f fits long =
 write_told fd bytes false f fits long = rw (short_fits fd f, hex_ascii bytes fits) refl
 
 call_told : (c : Call) → CallFits c → is_told (call_data c) ≡ true
-call_told (Pipe cloexec) h = refl
-call_told (SocketPair cloexec) h = refl
-call_told (Plain cloexec) h = refl
-call_told (EpollCreate cloexec) h = refl
 call_told (EventFd init semaphore cloexec) h = rw (lt-ltb init (2 ^ 64) (below_64 init h)) refl
 call_told (TimerFd clock cloexec) h = rw (short_fits clock h) refl
 call_told (EpollCtl epfd op fd mask tag) h =
@@ -72,9 +68,7 @@ call_told (GetTime fd) h = rw (short_fits fd.0 h) refl
 call_told (Dup fd) h = rw (short_fits fd.0 h) refl
 call_told (Dup2 fd to) h = rw (short_fits fd.0 h.0, short_fits to.0 h.1) refl
 call_told (Close fd) h = rw (short_fits fd.0 h) refl
-call_told Fork h = refl
-call_told Exec h = refl
-call_told Exit h = refl
+call_told call h = refl
 
 event_told : (e : Event) → EventFits e → is_told (event_data e) ≡ true
 event_told (CallOf pid call) h = rw (call_told call h.1, lt-ltb pid.0 (2 ^ 64) h.0) refl
@@ -153,10 +147,6 @@ hex_again : (bytes : List ℕ) → IsBytes bytes → hex_value (string (encode_l
 hex_again bytes h = ap accepted (decode_of-encode_lower bytes h)
 
 call_again : (c : Call) → CallFits c → call_of (call_data c) ≡ Some c
-call_again (Pipe cloexec) h = refl
-call_again (SocketPair cloexec) h = refl
-call_again (Plain cloexec) h = refl
-call_again (EpollCreate cloexec) h = refl
 call_again (EventFd init semaphore cloexec) h = rw (again_u32 init h) refl
 call_again (TimerFd clock cloexec) h = rw (again_i32 clock h) refl
 call_again (EpollCtl epfd op fd mask tag) h = ctl_again epfd op fd mask tag (again_i32 epfd.0 h.0) h.1 (again_i32 fd.0 h.2) (again_u32 mask.0 h.3)
@@ -169,9 +159,7 @@ call_again (GetTime fd) h = gettime_again fd (again_i32 fd.0 h)
 call_again (Dup fd) h = dup_again fd (again_i32 fd.0 h)
 call_again (Dup2 fd to) h = dup2_again fd to (again_i32 fd.0 h.0) (again_i32 to.0 h.1)
 call_again (Close fd) h = close_again fd (again_i32 fd.0 h)
-call_again Fork h = refl
-call_again Exec h = refl
-call_again Exit h = refl
+call_again call h = refl
 
 event_again : (e : Event) → EventFits e → event_of (event_data e) ≡ Some e
 event_again (CallOf pid call) h = rw (call_again call h.1) refl

@@ -6,7 +6,6 @@ use Rattle.std.proofs.lemmas.Bool.Decides.{nat_tests}
 use Rattle.ep_base.specs.declared.answer.Answer.{Answer}
 use Rattle.ep_base.specs.declared.answer.Answer.TheVariants.{Events, Parked, Still}
 use Rattle.ep_base.specs.declared.answer.Report.{Report}
-use Rattle.ep_base.specs.declared.object.End.{End}
 use Rattle.ep_law.proofs.DeathLemmas.{numbers}
 use Rattle.ep_law.proofs.GraphLemmas.{member_of_map}
 use Rattle.ep_law.proofs.ListLemmas.{among, among_member, each_found, filtered_member, filtered_passes, find_member, member_filter, member_map, one_number}
@@ -16,13 +15,14 @@ use Rattle.ep_law.proofs.SpreadLemmas.{spread_least}
 use Rattle.ep_law.proofs.TestLemmas.{both_true, from_test, same_nat}
 use Rattle.ep_law.specs.Sound.{Sound}
 use Rattle.ep_law.specs.Laws.{Member, is_reportable_in, passes_on_of}
-use Rattle.ep_machine.specs.Bits.{ET, ONESHOT, IN, asked, has_bit, when}
+use Rattle.ep_machine.specs.Bits.{ET, ONESHOT, asked, has_bit, when}
 use Rattle.ep_machine.specs.Deaths.{die_all, dying, named, named_in_tables, without_dead_watches}
 use Rattle.ep_machine.specs.Files.{Files, Place, is_live, object_of, side_of}
 use Rattle.ep_machine.specs.Lists.{are_distinct, is_among}
 use Rattle.ep_machine.specs.Marks.{marked_by}
-use Rattle.ep_machine.specs.Objects.{Object, counter, instance, is_instance, pair, pipe, plain, timer}
-use Rattle.ep_machine.specs.Readiness.{is_fresh, is_ready, is_ready_within, is_reportable, is_reportable_by, present_of, reportables}
+use Rattle.ep_law.proofs.ReadinessLemmas.{present_same}
+use Rattle.ep_machine.specs.Objects.{instance, is_instance, plain}
+use Rattle.ep_machine.specs.Readiness.{is_fresh, is_ready, is_ready_within, is_reportable, is_reportable_by, reportables}
 use Rattle.ep_machine.specs.Report.{find_watch, is_fair_to, is_pick, plainly, report, report_of, reported, watches_at}
 use Rattle.ep_machine.specs.Settle.{settle}
 use Rattle.ep_machine.specs.Spread.{passes_on, raised_alive, spread}
@@ -48,16 +48,6 @@ any_mapped f h g (x ∷ xs) same = let one = same x (inl refl) in let rest = any
 
 both_false : (a b c : Bool) → a ≡ false → (a && b) ≡ (a && c)
 both_false a b c h = (λ i. h i && b) ∙ sym (λ i. h i && c)
-
--- what an object shows, an instance apart, does not ask which instances are ready
-present_same : (r q : ℕ → Bool) (d : ℕ) (o : Option Object) (e : End) (now : ℕ) → (is_instance (unwrap_or o plain) ≡ true → r d ≡ q d) → present_of r d o e now ≡ present_of q d o e now
-present_same r q d None e now h = refl
-present_same r q d (Some plain) e now h = refl
-present_same r q d (Some (pipe p)) e now h = refl
-present_same r q d (Some (pair p)) e now h = refl
-present_same r q d (Some (counter c)) e now h = refl
-present_same r q d (Some (timer t)) e now h = refl
-present_same r q d (Some instance) e now h = ap (λ (b : Bool). when b IN) (h refl)
 
 -- A report at instance e.
 module _ (b : State) (legal : is_legal (links b) ≡ true) (e : ℕ) (ks : List ℕ) (ws : List Waiter) (of : (x : Watch) → Member x b.watches → is_among ks x.number ≡ true → (x.instance ≡ e) × (is_reportable b x ≡ true)) where

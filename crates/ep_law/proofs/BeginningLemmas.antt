@@ -16,7 +16,7 @@ use Rattle.ep_machine.specs.Effect.{first}
 use Rattle.ep_machine.specs.Files.{Files, Place, is_live, object_of, opening_files, place_of, side_of}
 use Rattle.ep_law.specs.Laws.{BeginningsAreSpread, EndsAreApart, HasCause, IsNoted, Member, ReportablesAreSpread, spread_of, has_instance}
 use Rattle.ep_machine.specs.Lists.{is_among}
-use Rattle.ep_machine.specs.Objects.{Object, counter, instance, is_instance, object_present, pair, pipe, plain, timer}
+use Rattle.ep_machine.specs.Objects.{Object, instance, is_instance, object_present, plain}
 use Rattle.ep_law.proofs.Present.{present_at}
 use Rattle.ep_machine.specs.Readiness.{is_ready, is_ready_within, is_reportable, is_reportable_by, present, present_by, present_of}
 use Rattle.ep_machine.specs.Refusal.{refusals}
@@ -60,21 +60,13 @@ counts_at s raised n (p ∷ ps) (suc i) lt = counts_at s raised (n + 1) ps i (om
 
 present_other : (r : ℕ → Bool) (d : ℕ) (o : Option Object) (e : End) (now : ℕ) → is_instance (unwrap_or o plain) ≡ false → present_of r d o e now ≡ object_present (unwrap_or o plain) e now
 present_other r d None e now h = refl
-present_other r d (Some plain) e now h = refl
-present_other r d (Some (pipe p)) e now h = refl
-present_other r d (Some (pair p)) e now h = refl
-present_other r d (Some (counter c)) e now h = refl
-present_other r d (Some (timer t)) e now h = refl
 present_other r d (Some instance) e now h = cc
+present_other r d o e now h = refl
 
 before_other : (r : ℕ → Bool) (d : ℕ) (o : Option Object) (e : End) (now after raised : ℕ) → Covers (object_present (unwrap_or o plain) e now) after raised → Covers (present_of r d o e now) after raised
 before_other r d None e now after raised c = c
-before_other r d (Some plain) e now after raised c = c
-before_other r d (Some (pipe p)) e now after raised c = c
-before_other r d (Some (pair p)) e now after raised c = c
-before_other r d (Some (counter k)) e now after raised c = c
-before_other r d (Some (timer t)) e now after raised c = c
 before_other r d (Some instance) e now after raised c = λ i h. elim (c i h) [ inl was ↦ absurd (no_bit i was) | inr rises ↦ inr rises ]
+before_other r d o e now after raised c = c
 
 raised_kept : (f : Files) (r : List (ℕ × ℕ)) (xs : List (ℕ × Place)) (d i : ℕ) → bit_at (raised_of r d) i ≡ 1 → bit_at (raised_of (die_all (f, r) xs).1 d) i ≡ 1
 raised_kept f r [] d i h = h

@@ -5,10 +5,9 @@ use Rattle.std.specs.Int.{bit_at}
 use Rattle.std.proofs.lemmas.Bool.{cases_Bool}
 use Rattle.std.proofs.lemmas.List.{get_or_append_left, get_or-set_same}
 use Rattle.ep_base.specs.Limits.{Limits}
-use Rattle.ep_base.specs.declared.answer.Answer.{Answer}
 use Rattle.ep_base.specs.declared.answer.Answer.TheVariants.{Events, Still}
 use Rattle.ep_base.specs.declared.call.Call.{Call}
-use Rattle.ep_base.specs.declared.call.Call.TheVariants.{Close, Dup, Dup2, EpollCreate, EpollCtl, EpollWait, EventFd, Exec, Exit, Fork, GetTime, Pipe as PipeCall, Plain, Read, SetTime, Shutdown, SocketPair, TimerFd, Write}
+use Rattle.ep_law.proofs.ShapeLemmas.{by_making, by_shape}
 use Rattle.ep_base.specs.declared.call.Event.{Event}
 use Rattle.ep_base.specs.declared.call.Event.TheVariants.{Call as CallOf, Resume, Tick}
 use Rattle.ep_base.specs.declared.errno.Errno.{Errno}
@@ -28,8 +27,9 @@ use Rattle.ep_machine.specs.Report.{is_pick, plainly, report, report_of, reporte
 use Rattle.ep_machine.specs.Spread.{raised_of}
 use Rattle.ep_machine.specs.State.{Change, State, Waiter, Watch, counts_of}
 use Rattle.ep_machine.specs.Step.{call_change, change, object_change}
-use Rattle.ep_machine.specs.Tables.{affected, create_one, create_two, dup2, new_object, same_number}
-use Rattle.ep_machine.specs.Waits.{advance_at, is_due, is_parked, leave, leave_after, resume_by, resume_empty, tick, unmarked, wait, wait_for, waiter_of}
+use Rattle.ep_machine.specs.Tables.{affected, create_one, create_two, new_object}
+use Rattle.ep_machine.specs.FilesCalls.{files_call}
+use Rattle.ep_machine.specs.Waits.{advance_at, has_parked, is_due, is_parked, leave, leave_after, resume_by, resume_empty, tick, unmarked, wait, wait_for, waiter_of}
 use Rattle.ep_machine.specs.Watches.{add, ctl, delete, has_key, is_add, is_del, looked_at, modified, modify, new_watch, number_in, with_watch}
 use Rattle.ep_law.proofs.GraphLemmas.{member_of_map}
 use Rattle.ep_law.proofs.InstanceLemmas.{FirstIsNone, Narrows, narrows_affected, narrows_one, narrows_self, narrows_two}
@@ -158,13 +158,6 @@ moves_tables b g ws d o own =
       shows = λ k p here. subst (λ (f : Files). Covers (present_at b.files b.now k) (present_at f b.now k) (raised_of [] k)) same (covers_self _ _);
       comes = λ x m. inl (kept_same b x m);
     }
-
-dup2_same : (f : Files) (p : ℕ) (fd to : ℤ) (d : ℕ) → ((dup2 f p fd to d).descriptions ≡ f.descriptions) × ((dup2 f p fd to d).objects ≡ f.objects)
-dup2_same f p fd (negsuc k) d = (refl, refl)
-dup2_same f p fd (pos k) d = of_test (same_number fd (pos k)) _ refl refl where
-  of_test : (b : Bool) (g : Files) → g.descriptions ≡ f.descriptions → g.objects ≡ f.objects → ((if b then f else g).descriptions ≡ f.descriptions) × ((if b then f else g).objects ≡ f.objects)
-  of_test true g a b = (refl, refl)
-  of_test false g a b = (a, b)
 
 -- New objects and descriptions.
 place_below : (ds : List (Option Place)) (d : ℕ) (p : Place) → get_or ds d None ≡ Some p → d < length ds
@@ -345,29 +338,25 @@ module _ (apply : ApplyLaw) (clock : AdvanceLaw) (limits : Limits) (b : State) (
   on : (p : ℕ) (fd : ℤ) (call : Call) → first (on_object b p fd call) ≡ None → Fine b (plainly ks (object_change b p fd call))
   on p fd call allowed = fine_plainly b ks _ (moves_object apply b p fd call own (first_rest (names_nothing b.files p fd) Ebadf (object_refusals (object_under b.files p fd) (side_under b.files p fd) b.now call) allowed))
 
-  tables : (a : Answer) (g : Files) → g.descriptions ≡ b.files.descriptions → g.objects ≡ b.files.objects → Fine b (plainly ks (a, record b { files = g }, []))
-  tables a g d o = fine_plainly b ks _ (moves_tables b g b.waiters d o own)
+  abbrev IsFine : Call → List (Bool × Errno) → Option Change → Type 0
+  IsFine call tests c = first tests ≡ None → Fine b c
+
+  moves_after : (p : ℕ) (call : Call) → Moves b (record b { files = (files_call limits b.files p (has_parked b p) call).after }) []
+  moves_after p call =
+      by_making limits b.files p (has_parked b p) (λ g. Moves b (record b { files = g }) [])
+      (λ x cloexec has. moves_one b p x cloexec own has)
+      (λ x cloexec has also. moves_two b p x cloexec own has also)
+      (λ g d o. moves_tables b g b.waiters d o own)
+      call
 
   fine_call : (p : ℕ) (call : Call) → first (call_refusals limits b p call) ≡ None → Fine b (call_change limits b caller p call ks)
-  fine_call p (PipeCall cloexec) allowed = fine_plainly b ks _ (moves_two b p _ cloexec own refl refl)
-  fine_call p (EventFd init semaphore cloexec) allowed = fine_plainly b ks _ (moves_one b p _ cloexec own refl)
-  fine_call p (TimerFd moments cloexec) allowed = fine_plainly b ks _ (moves_one b p _ cloexec own refl)
-  fine_call p (SocketPair cloexec) allowed = fine_plainly b ks _ (moves_two b p _ cloexec own refl refl)
-  fine_call p (Plain cloexec) allowed = fine_plainly b ks _ (moves_one b p _ cloexec own refl)
-  fine_call p (EpollCreate cloexec) allowed = fine_plainly b ks _ (moves_one b p _ cloexec own refl)
-  fine_call p (EpollCtl epfd op fd mask tag) allowed = fine_plainly b ks _ (moves_ctl b p epfd.0 op fd.0 mask.0 tag own)
-  fine_call p (EpollWait epfd most timeout) allowed = fine_wait b caller p (named_by b.files p epfd.0) (number_in most) timeout ks own
-  fine_call p (Read fd n) allowed = on p fd.0 (Read fd n) allowed
-  fine_call p (Write fd bytes) allowed = on p fd.0 (Write fd bytes) allowed
-  fine_call p (Shutdown fd) allowed = on p fd.0 (Shutdown fd) allowed
-  fine_call p (SetTime fd absolute value interval) allowed = on p fd.0 (SetTime fd absolute value interval) allowed
-  fine_call p (GetTime fd) allowed = on p fd.0 (GetTime fd) allowed
-  fine_call p (Dup fd) allowed = tables _ _ refl refl
-  fine_call p (Dup2 fd to) allowed = let same = dup2_same b.files p fd.0 to.0 (named_by b.files p fd.0) in tables _ _ same.0 same.1
-  fine_call p (Close fd) allowed = tables _ _ refl refl
-  fine_call p Fork allowed = tables _ _ refl refl
-  fine_call p Exec allowed = tables _ _ refl refl
-  fine_call p Exit allowed = tables _ _ refl refl
+  fine_call p call =
+      by_shape limits b caller p ks IsFine
+      (λ epfd op fd mask tag allowed. fine_plainly b ks _ (moves_ctl b p epfd.0 op fd.0 mask.0 tag own))
+      (λ epfd most timeout allowed. fine_wait b caller p (named_by b.files p epfd.0) (number_in most) timeout ks own)
+      (λ fd of allowed. on p fd.0 of allowed)
+      (λ of allowed. fine_plainly b ks _ (moves_after p of))
+      call
 
   fine_change : (event : Event) → first (refusals limits b caller event) ≡ None → Fine b (change limits b caller event ks)
   fine_change (CallOf p call) allowed =

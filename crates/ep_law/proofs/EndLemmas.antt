@@ -2,7 +2,7 @@
 use Rattle.std.proofs.Common.{◌≡◌, ◌≢◌, ℕ, zero, suc, ◌<◌, ◌++◌, ◌∙◌, ◌⊎◌, Bool, true, false, List, [], ◌∷◌, None, Option, Some, get_or, if◌then◌else◌, inl, inr, length, refl, ap, arith, set, subst, sym, unwrap_or}
 use Rattle.std.proofs.lemmas.List.{get_or_append_left, length_push, length-set}
 use Rattle.ep_base.specs.declared.call.Call.{Call}
-use Rattle.ep_base.specs.declared.call.Call.TheVariants.{Close, Dup, Dup2, EpollCreate, EpollCtl, EpollWait, EventFd, Exec, Exit, Fork, GetTime, Pipe as PipeCall, Plain, Read, SetTime, Shutdown, SocketPair, TimerFd, Write}
+use Rattle.ep_base.specs.declared.call.Call.TheVariants.{GetTime, Pipe as PipeCall, Read, SetTime, Shutdown, Write}
 use Rattle.ep_base.specs.declared.object.End.{End}
 use Rattle.ep_base.specs.declared.object.End.TheVariants.{First, Second}
 use Rattle.ep_machine.specs.Deaths.{kept_object}
@@ -144,69 +144,27 @@ shutdown_has instance e s = refl
 
 settime_has : (x : Object) (absolute : Bool) (value interval now : ℕ) (s : End) → object_has (settime x absolute value interval now).1 s ≡ object_has x s
 settime_has plain absolute value interval now s = refl
-settime_has (pipe p) absolute value interval now s = refl
-settime_has (pair p) absolute value interval now s = refl
-settime_has (counter c) absolute value interval now s = refl
-settime_has (timer t) absolute value interval now s = refl
-settime_has instance absolute value interval now s = refl
+settime_has x absolute value interval now s = refl
 
 gettime_has : (x : Object) (now : ℕ) (s : End) → object_has (gettime x now).1 s ≡ object_has x s
 gettime_has plain now s = refl
-gettime_has (pipe p) now s = refl
-gettime_has (pair p) now s = refl
-gettime_has (counter c) now s = refl
-gettime_has (timer t) now s = refl
-gettime_has instance now s = refl
+gettime_has x now s = refl
 
 pub effect_has : (x : Object) (e : End) (now : ℕ) (call : Call) (s : End) → object_has (object_effect x e now call).1 s ≡ object_has x s
-effect_has x e now (PipeCall cloexec) s = refl
-effect_has x e now (EventFd init semaphore cloexec) s = refl
-effect_has x e now (TimerFd clock cloexec) s = refl
-effect_has x e now (SocketPair cloexec) s = refl
-effect_has x e now (Plain cloexec) s = refl
-effect_has x e now (EpollCreate cloexec) s = refl
-effect_has x e now (EpollCtl epfd op fd mask tag) s = refl
-effect_has x e now (EpollWait epfd most timeout) s = refl
 effect_has x e now (Read fd n) s = read_has x e n now s
 effect_has x e now (Write fd bytes) s = write_has x e bytes s
 effect_has x e now (Shutdown fd) s = shutdown_has x e s
 effect_has x e now (SetTime fd absolute value interval) s = settime_has x absolute value interval now s
 effect_has x e now (GetTime fd) s = gettime_has x now s
-effect_has x e now (Dup fd) s = refl
-effect_has x e now (Dup2 fd to) s = refl
-effect_has x e now (Close fd) s = refl
-effect_has x e now Fork s = refl
-effect_has x e now Exec s = refl
-effect_has x e now Exit s = refl
+effect_has x e now call s = refl
 
 plain_effect : (e : End) (now : ℕ) (call : Call) → is_plain (object_effect plain e now call).1 ≡ true
 plain_effect e now (PipeCall cloexec) = refl
-plain_effect e now (EventFd init semaphore cloexec) = refl
-plain_effect e now (TimerFd clock cloexec) = refl
-plain_effect e now (SocketPair cloexec) = refl
-plain_effect e now (Plain cloexec) = refl
-plain_effect e now (EpollCreate cloexec) = refl
-plain_effect e now (EpollCtl epfd op fd mask tag) = refl
-plain_effect e now (EpollWait epfd most timeout) = refl
-plain_effect e now (Read fd n) = refl
-plain_effect e now (Write fd bytes) = refl
-plain_effect e now (Shutdown fd) = refl
-plain_effect e now (SetTime fd absolute value interval) = refl
-plain_effect e now (GetTime fd) = refl
-plain_effect e now (Dup fd) = refl
-plain_effect e now (Dup2 fd to) = refl
-plain_effect e now (Close fd) = refl
-plain_effect e now Fork = refl
-plain_effect e now Exec = refl
-plain_effect e now Exit = refl
+plain_effect e now call = refl
 
 pub plain_is : (x : Object) → is_plain x ≡ true → x ≡ plain
 plain_is plain h = refl
-plain_is (pipe p) h = cc
-plain_is (pair p) h = cc
-plain_is (counter c) h = cc
-plain_is (timer t) h = cc
-plain_is instance h = cc
+plain_is x h = cc
 
 pub plain_stays : (x : Object) (e : End) (now : ℕ) (call : Call) → is_plain x ≡ true → is_plain (object_effect x e now call).1 ≡ true
 plain_stays x e now call h = subst (λ (y : Object). is_plain (object_effect y e now call).1 ≡ true) (sym (plain_is x h)) (plain_effect e now call)

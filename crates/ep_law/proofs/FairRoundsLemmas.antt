@@ -9,7 +9,7 @@ use Rattle.ep_base.specs.Limits.{Limits}
 use Rattle.ep_base.specs.declared.answer.Answer.{Answer}
 use Rattle.ep_base.specs.declared.answer.Answer.TheVariants.{Events}
 use Rattle.ep_base.specs.declared.call.Call.{Call}
-use Rattle.ep_base.specs.declared.call.Call.TheVariants.{Close, Dup, Dup2, EpollCreate, EpollCtl, EpollWait, EventFd, Exec, Exit, Fork, GetTime, Pipe as PipeCall, Plain, Read, SetTime, Shutdown, SocketPair, TimerFd, Write}
+use Rattle.ep_base.specs.declared.call.Call.TheVariants.{EpollCtl, EpollWait}
 use Rattle.ep_base.specs.declared.call.Event.{Event}
 use Rattle.ep_base.specs.declared.call.Event.TheVariants.{Call as CallOf, Resume, Tick}
 use Rattle.ep_base.specs.declared.errno.Errno.{Errno}
@@ -285,27 +285,11 @@ module _ (limits : Limits) (e k m : ℕ) (told : List ℕ) (s : State) (sound : 
       (tracks_if (is_del op) _ _ (tracks_filter k m told s (λ x. not (has_key i n d x)) h) (tracks_map k m told s (modified i n d mask tag) (keeps_modified k m told i n d mask tag) h))
 
   fine_call : (caller p : ℕ) (call : Call) (ks : List ℕ) → is_among ks k ≡ false → Fine ks (call_change limits s caller p call ks)
-  fine_call caller p (PipeCall cloexec) ks left = fine_plainly ks _ (same_watches k m told s _ refl refl refl h)
-  fine_call caller p (EventFd init semaphore cloexec) ks left = fine_plainly ks _ (same_watches k m told s _ refl refl refl h)
-  fine_call caller p (TimerFd clock cloexec) ks left = fine_plainly ks _ (same_watches k m told s _ refl refl refl h)
-  fine_call caller p (SocketPair cloexec) ks left = fine_plainly ks _ (same_watches k m told s _ refl refl refl h)
-  fine_call caller p (Plain cloexec) ks left = fine_plainly ks _ (same_watches k m told s _ refl refl refl h)
-  fine_call caller p (EpollCreate cloexec) ks left = fine_plainly ks _ (same_watches k m told s _ refl refl refl h)
   fine_call caller p (EpollCtl epfd op fd mask tag) ks left = fine_plainly ks _ (tracks_ctl p epfd.0 op fd.0 mask.0 tag)
   fine_call caller p (EpollWait epfd most timeout) ks left =
       let i = named_by s.files p epfd.0 in
       fine_if ks (is_ready s i) _ _ (fine_report i (number_in most) ks left) (fine_plainly ks _ (tracks_wait_for caller p i (number_in most) timeout))
-  fine_call caller p (Read fd n) ks left = fine_plainly ks _ (same_watches k m told s _ refl refl refl h)
-  fine_call caller p (Write fd bytes) ks left = fine_plainly ks _ (same_watches k m told s _ refl refl refl h)
-  fine_call caller p (Shutdown fd) ks left = fine_plainly ks _ (same_watches k m told s _ refl refl refl h)
-  fine_call caller p (SetTime fd absolute value interval) ks left = fine_plainly ks _ (same_watches k m told s _ refl refl refl h)
-  fine_call caller p (GetTime fd) ks left = fine_plainly ks _ (same_watches k m told s _ refl refl refl h)
-  fine_call caller p (Dup fd) ks left = fine_plainly ks _ (same_watches k m told s _ refl refl refl h)
-  fine_call caller p (Dup2 fd to) ks left = fine_plainly ks _ (same_watches k m told s _ refl refl refl h)
-  fine_call caller p (Close fd) ks left = fine_plainly ks _ (same_watches k m told s _ refl refl refl h)
-  fine_call caller p Fork ks left = fine_plainly ks _ (same_watches k m told s _ refl refl refl h)
-  fine_call caller p Exec ks left = fine_plainly ks _ (same_watches k m told s _ refl refl refl h)
-  fine_call caller p Exit ks left = fine_plainly ks _ (same_watches k m told s _ refl refl refl h)
+  fine_call caller p call ks left = fine_plainly ks _ (same_watches k m told s _ refl refl refl h)
 
   IsStep : List ℕ → Option (Answer × State) → Type 0
   IsStep ks o = MatchOption o (Unit {0}) (λ c. Good ks c.1)

@@ -14,9 +14,8 @@ use Rattle.ep_machine.specs.Watches.{ends_of_chains, is_legal, links, add, ctl, 
 use Rattle.ep_law.proofs.ListLemmas.{among_member, filtered_member, filtered_passes, among, member_filter, member_map, not_empty, not_true}
 use Rattle.std.proofs.lemmas.Bool.{false≢true, cases_Bool}
 use Rattle.ep_base.specs.declared.call.Call.{Call}
-use Rattle.ep_base.specs.declared.call.Call.TheVariants.{Close, Dup, Dup2, EpollCreate, EpollCtl, EpollWait, EventFd, Exec, Exit, Fork, GetTime, Pipe as PipeCall, Plain, Read, SetTime, Shutdown, SocketPair, TimerFd, Write}
+use Rattle.ep_law.proofs.ShapeLemmas.{OfCtl, by_making, by_shape}
 use Rattle.ep_machine.specs.Deaths.{die_all, buried, dying, is_kept}
-use Rattle.ep_machine.specs.Tables.{dup2, same_number}
 use Rattle.ep_base.specs.Limits.{Limits}
 use Rattle.ep_base.specs.declared.answer.Answer.{Answer}
 use Rattle.ep_base.specs.declared.answer.Answer.TheVariants.{Events}
@@ -33,7 +32,8 @@ use Rattle.ep_machine.specs.Report.{is_pick, plainly, report, report_of, reporte
 use Rattle.ep_machine.specs.Settle.{came, reportable_numbers, settle}
 use Rattle.ep_machine.specs.Spread.{arrived}
 use Rattle.ep_machine.specs.Step.{next_event, call_change, change, refused_or, settled, step}
-use Rattle.ep_machine.specs.Waits.{leave_after, wait, wait_for}
+use Rattle.ep_machine.specs.FilesCalls.{files_call}
+use Rattle.ep_machine.specs.Waits.{has_parked, leave_after, wait, wait_for}
 use Rattle.ep_law.proofs.StepLemmas.{left_after, resumes, run_keeps}
 use Rattle.ep_law.specs.Laws.{has_instance}
 use Rattle.ep_law.proofs.InstanceLemmas.{AreMade, FirstIsNone, Narrows, instance_below, narrows_affected, narrows_deaths, narrows_one, narrows_self, narrows_two, watched_below}
@@ -384,38 +384,33 @@ linked_tables s t w d o h =
     let same : g ≡ t.files = λ i. record t.files { descriptions = sym d i; objects = sym o i } in
     linked_files s t (subst (λ (f : Files). Narrows s.files f) same (record { longer = omega arith; made = h.made; instances = λ k lt i. i; dead = λ k lt i. i; stays = λ k i l. i; first = λ i. i })) w h
 
-dup2_same : (f : Files) (p : ℕ) (fd to : ℤ) (d : ℕ) → ((dup2 f p fd to d).descriptions ≡ f.descriptions) × ((dup2 f p fd to d).objects ≡ f.objects)
-dup2_same f p fd (negsuc k) d = (refl, refl)
-dup2_same f p fd (pos k) d = of_test (same_number fd (pos k)) _ refl refl where
-  of_test : (b : Bool) (g : Files) → g.descriptions ≡ f.descriptions → g.objects ≡ f.objects → ((if b then f else g).descriptions ≡ f.descriptions) × ((if b then f else g).objects ≡ f.objects)
-  of_test true g a b = (refl, refl)
-  of_test false g a b = (a, b)
+module _ (limits : Limits) (s : State) (caller p : ℕ) (call : Call) (ks : List ℕ) (h : Linked s) where
+  abbrev IsLinked : Call → List (Bool × Errno) → Option Change → Type 0
+  IsLinked on tests c = held is_eloop tests ≡ false → held is_eperm tests ≡ false → held is_einval tests ≡ false → Fine c
 
-fine_call : (limits : Limits) (s : State) (caller p : ℕ) (call : Call) (ks : List ℕ) → held is_eloop (call_refusals limits s p call) ≡ false → held is_eperm (call_refusals limits s p call) ≡ false → held is_einval (call_refusals limits s p call) ≡ false → Linked s → Fine (call_change limits s caller p call ks)
-fine_call limits s caller p (PipeCall cloexec) ks a b c h = fine_plainly ks _ (linked_files s _ (narrows_two s.files p _ cloexec h.made) refl h)
-fine_call limits s caller p (EventFd init semaphore cloexec) ks a b c h = fine_plainly ks _ (linked_files s _ (narrows_one s.files p _ cloexec h.made) refl h)
-fine_call limits s caller p (TimerFd clock cloexec) ks a b c h = fine_plainly ks _ (linked_files s _ (narrows_one s.files p _ cloexec h.made) refl h)
-fine_call limits s caller p (SocketPair cloexec) ks a b c h = fine_plainly ks _ (linked_files s _ (narrows_two s.files p _ cloexec h.made) refl h)
-fine_call limits s caller p (Plain cloexec) ks a b c h = fine_plainly ks _ (linked_files s _ (narrows_one s.files p _ cloexec h.made) refl h)
-fine_call limits s caller p (EpollCreate cloexec) ks a b c h = fine_plainly ks _ (linked_files s _ (narrows_one s.files p _ cloexec h.made) refl h)
-fine_call limits s caller p (EpollCtl epfd op fd mask tag) ks a b c h =
-    let instances = neither _ _ c in
-    let ops = neither _ _ instances.1 in
-    let adds = neither _ _ ops.1 in
-    let mods = neither _ _ adds.1 in
-    fine_plainly ks _ (linked_ctl s p epfd.0 op fd.0 mask.0 tag h (or_none _ a) (or_none _ b) instances.0 ops.0 adds.0 mods.0)
-fine_call limits s caller p (EpollWait epfd most timeout) ks a b c h = fine_wait s caller p (named_by s.files p epfd.0) (number_in most) timeout ks h
-fine_call limits s caller p (Read fd n) ks a b c h = fine_plainly ks _ (linked_files s _ (narrows_affected s.files p fd.0 s.now (Read fd n) h.made h.first) refl h)
-fine_call limits s caller p (Write fd bytes) ks a b c h = fine_plainly ks _ (linked_files s _ (narrows_affected s.files p fd.0 s.now (Write fd bytes) h.made h.first) refl h)
-fine_call limits s caller p (Shutdown fd) ks a b c h = fine_plainly ks _ (linked_files s _ (narrows_affected s.files p fd.0 s.now (Shutdown fd) h.made h.first) refl h)
-fine_call limits s caller p (SetTime fd absolute value interval) ks a b c h = fine_plainly ks _ (linked_files s _ (narrows_affected s.files p fd.0 s.now (SetTime fd absolute value interval) h.made h.first) refl h)
-fine_call limits s caller p (GetTime fd) ks a b c h = fine_plainly ks _ (linked_files s _ (narrows_affected s.files p fd.0 s.now (GetTime fd) h.made h.first) refl h)
-fine_call limits s caller p (Dup fd) ks a b c h = fine_plainly ks _ (linked_tables s _ refl refl refl h)
-fine_call limits s caller p (Dup2 fd to) ks a b c h = let same = dup2_same s.files p fd.0 to.0 (named_by s.files p fd.0) in fine_plainly ks _ (linked_tables s _ refl same.0 same.1 h)
-fine_call limits s caller p (Close fd) ks a b c h = fine_plainly ks _ (linked_tables s _ refl refl refl h)
-fine_call limits s caller p Fork ks a b c h = fine_plainly ks _ (linked_tables s _ refl refl refl h)
-fine_call limits s caller p Exec ks a b c h = fine_plainly ks _ (linked_tables s _ refl refl refl h)
-fine_call limits s caller p Exit ks a b c h = fine_plainly ks _ (linked_tables s _ refl refl refl h)
+  linked_after : (on : Call) → Linked (record s { files = (files_call limits s.files p (has_parked s p) on).after })
+  linked_after on =
+      by_making limits s.files p (has_parked s p) (λ g. Linked (record s { files = g }))
+      (λ x cloexec has. linked_files s _ (narrows_one s.files p x cloexec h.made) refl h)
+      (λ x cloexec has also. linked_files s _ (narrows_two s.files p x cloexec h.made) refl h)
+      (λ g d o. linked_tables s _ refl d o h)
+      on
+
+  linked_by_ctl : OfCtl limits s caller p ks IsLinked
+  linked_by_ctl epfd op fd mask tag a b c =
+      let instances = neither _ _ c in
+      let ops = neither _ _ instances.1 in
+      let adds = neither _ _ ops.1 in
+      let mods = neither _ _ adds.1 in
+      fine_plainly ks _ (linked_ctl s p epfd.0 op fd.0 mask.0 tag h (or_none _ a) (or_none _ b) instances.0 ops.0 adds.0 mods.0)
+
+  fine_call : held is_eloop (call_refusals limits s p call) ≡ false → held is_eperm (call_refusals limits s p call) ≡ false → held is_einval (call_refusals limits s p call) ≡ false → Fine (call_change limits s caller p call ks)
+  fine_call =
+      by_shape limits s caller p ks IsLinked linked_by_ctl
+      (λ epfd most timeout a b c. fine_wait s caller p (named_by s.files p epfd.0) (number_in most) timeout ks h)
+      (λ fd on a b c. fine_plainly ks _ (linked_files s _ (narrows_affected s.files p fd.0 s.now on h.made h.first) refl h))
+      (λ on a b c. fine_plainly ks _ (linked_after on))
+      call
 
 fine_left : (caller : ℕ) (o : Option Change) → Fine o → Fine (leave_after caller o)
 unfolding Fine
@@ -424,7 +419,7 @@ fine_left caller o h = left_after Linked (λ t ws l. linked_tables t _ refl refl
 fine_change : (limits : Limits) (s : State) (caller : ℕ) (event : Event) (ks : List ℕ) → first (refusals limits s caller event) ≡ None → Linked s → Fine (change limits s caller event ks)
 fine_change limits s caller (CallOf p call) ks allowed h =
     let rows = refusals limits s caller (CallOf p call) in
-    fine_call limits s caller p.0 call ks (none_held is_eloop rows allowed) (none_held is_eperm rows allowed) (none_held is_einval rows allowed) h
+    fine_call limits s caller p.0 call ks h (none_held is_eloop rows allowed) (none_held is_eperm rows allowed) (none_held is_einval rows allowed)
 fine_change limits s caller Resume ks allowed h =
     let same : (t : State) (ws : List Waiter) → Linked t → Linked (record t { waiters = ws }) = λ t ws l. linked_tables t _ refl refl refl l in
     resumes Fine s caller ks (fine_plainly ks _ h) (λ w. fine_left w.caller _ (fine_report s w.instance w.most ks h)) (λ w. fine_plainly ks _ (same s _ h)) (λ w. fine_plainly ks _ (same s _ h))

@@ -5,12 +5,12 @@ use Rattle.ep_law.proofs.DeathLemmas.{get_other, same_or_not}
 use Rattle.ep_law.proofs.TestLemmas.{or_left, or_right, same_test}
 use Rattle.ep_machine.specs.Files.{Files, is_live, object_of, Place, named_by, object_at, object_number, object_under, place_of, side_under, with_object}
 use Rattle.ep_machine.specs.Lists.{numbered}
-use Rattle.ep_machine.specs.Objects.{is_instance, plain, Object, close_end, counter, gettime, instance, is_plain, object_effect, pair, pipe, read, settime, shutdown, timer, write}
+use Rattle.ep_machine.specs.Objects.{is_instance, plain, Object, close_end, gettime, is_plain, object_effect, read, settime, shutdown, write}
 use Rattle.ep_law.proofs.ListLemmas.{not_true}
 use Rattle.std.proofs.lemmas.Bool.{false≢true, cases_Bool}
 use Rattle.std.proofs.lemmas.List.{get_or_append_left, length_push, length-set}
 use Rattle.ep_base.specs.declared.call.Call.{Call}
-use Rattle.ep_base.specs.declared.call.Call.TheVariants.{Close, Dup, Dup2, EpollCreate, EpollCtl, EpollWait, EventFd, Exec, Exit, Fork, GetTime, Pipe as PipeCall, Plain, Read, SetTime, Shutdown, SocketPair, TimerFd, Write}
+use Rattle.ep_base.specs.declared.call.Call.TheVariants.{GetTime, Read, SetTime, Shutdown, Write}
 use Rattle.ep_base.specs.declared.object.End.{End}
 use Rattle.ep_base.specs.declared.object.End.TheVariants.{First, Second}
 use Rattle.ep_machine.specs.Deaths.{die, die_all, kept_object}
@@ -160,64 +160,31 @@ narrows_two f p x cloexec b =
 -- Effects keep the kind of an object.
 read_instance : (x : Object) (e : End) (n now : ℕ) → is_instance (read x e n now).1 ≡ is_instance x
 read_instance plain e n now = refl
-read_instance (pipe p) e n now = refl
-read_instance (pair p) e n now = refl
-read_instance (counter c) e n now = refl
-read_instance (timer t) e n now = refl
-read_instance instance e n now = refl
+read_instance x e n now = refl
 
 write_instance : (x : Object) (e : End) (bytes : List ℕ) → is_instance (write x e bytes).1 ≡ is_instance x
 write_instance plain e bytes = refl
-write_instance (pipe p) e bytes = refl
-write_instance (pair p) e bytes = refl
-write_instance (counter c) e bytes = refl
-write_instance (timer t) e bytes = refl
-write_instance instance e bytes = refl
+write_instance x e bytes = refl
 
 shutdown_instance : (x : Object) (e : End) → is_instance (shutdown x e).1 ≡ is_instance x
 shutdown_instance plain e = refl
-shutdown_instance (pipe p) e = refl
-shutdown_instance (pair p) e = refl
-shutdown_instance (counter c) e = refl
-shutdown_instance (timer t) e = refl
-shutdown_instance instance e = refl
+shutdown_instance x e = refl
 
 settime_instance : (x : Object) (absolute : Bool) (value interval now : ℕ) → is_instance (settime x absolute value interval now).1 ≡ is_instance x
 settime_instance plain absolute value interval now = refl
-settime_instance (pipe p) absolute value interval now = refl
-settime_instance (pair p) absolute value interval now = refl
-settime_instance (counter c) absolute value interval now = refl
-settime_instance (timer t) absolute value interval now = refl
-settime_instance instance absolute value interval now = refl
+settime_instance x absolute value interval now = refl
 
 gettime_instance : (x : Object) (now : ℕ) → is_instance (gettime x now).1 ≡ is_instance x
 gettime_instance plain now = refl
-gettime_instance (pipe p) now = refl
-gettime_instance (pair p) now = refl
-gettime_instance (counter c) now = refl
-gettime_instance (timer t) now = refl
-gettime_instance instance now = refl
+gettime_instance x now = refl
 
 effect_instance : (x : Object) (e : End) (now : ℕ) (call : Call) → is_instance (object_effect x e now call).1 ≡ is_instance x
-effect_instance x e now (PipeCall cloexec) = refl
-effect_instance x e now (EventFd init semaphore cloexec) = refl
-effect_instance x e now (TimerFd clock cloexec) = refl
-effect_instance x e now (SocketPair cloexec) = refl
-effect_instance x e now (Plain cloexec) = refl
-effect_instance x e now (EpollCreate cloexec) = refl
-effect_instance x e now (EpollCtl epfd op fd mask tag) = refl
-effect_instance x e now (EpollWait epfd most timeout) = refl
 effect_instance x e now (Read fd n) = read_instance x e n now
 effect_instance x e now (Write fd bytes) = write_instance x e bytes
 effect_instance x e now (Shutdown fd) = shutdown_instance x e
 effect_instance x e now (SetTime fd absolute value interval) = settime_instance x absolute value interval now
 effect_instance x e now (GetTime fd) = gettime_instance x now
-effect_instance x e now (Dup fd) = refl
-effect_instance x e now (Dup2 fd to) = refl
-effect_instance x e now (Close fd) = refl
-effect_instance x e now Fork = refl
-effect_instance x e now Exec = refl
-effect_instance x e now Exit = refl
+effect_instance x e now call = refl
 
 at_number : (f : Files) (o : Option Place) → is_instance (unwrap_or (object_at f o) plain) ≡ true → is_instance_at f.objects (object_number o) ≡ true
 at_number f None h = absurd (false≢true h)
@@ -237,11 +204,7 @@ narrows_affected f p fd now call b first =
 -- Deaths.
 close_instance : (x : Object) (e : End) → is_instance (close_end x e).0 ≡ is_instance x
 close_instance plain e = refl
-close_instance (pipe p) e = refl
-close_instance (pair p) e = refl
-close_instance (counter c) e = refl
-close_instance (timer t) e = refl
-close_instance instance e = refl
+close_instance x e = refl
 
 -- an object that a description names is kept
 still_named : (k : ℕ) (ds : List (Option Place)) (d : ℕ) (p : Place) → get_or ds d None ≡ Some p → list_any (λ y. y.1.object == p.object) (numbered k ds) ≡ true

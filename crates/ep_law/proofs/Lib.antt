@@ -1,5 +1,6 @@
 pub mod TestLemmas
 pub mod ListLemmas
+pub mod ShapeLemmas
 pub mod StepLemmas
 pub mod DeathLemmas
 pub mod NamedLivesLemmas

@@ -10,7 +10,7 @@ use Rattle.ep_machine.specs.Bits.{ET, IN, asked, has_bit, when}
 use Rattle.ep_machine.specs.Counts.{counted, every_shown_bit}
 use Rattle.ep_machine.specs.Files.{is_live, object_of, side_of}
 use Rattle.ep_law.specs.Laws.{IsNoted, Kept, Member, has_instance}
-use Rattle.ep_machine.specs.Objects.{Object, counter, instance, is_instance, pair, pipe, plain, timer}
+use Rattle.ep_machine.specs.Objects.{Object, instance, is_instance, plain}
 use Rattle.ep_machine.specs.Readiness.{is_fresh_since, is_ready, is_ready_within, is_reportable, is_reportable_by, present, present_by, present_of}
 use Rattle.ep_machine.specs.Spread.{is_reached, passes_on, raised_of, reaching_of, spread}
 use Rattle.ep_machine.specs.State.{State, Watch, counts_of}
@@ -45,12 +45,8 @@ pub record Leads (u left t : State) (raised : List (ℕ × ℕ)) : Type 0 where
 
 pub instance_is : (o : Option Object) → is_instance (unwrap_or o plain) ≡ true → o ≡ Some instance
 instance_is None h = cc
-instance_is (Some plain) h = cc
-instance_is (Some (pipe p)) h = cc
-instance_is (Some (pair p)) h = cc
-instance_is (Some (counter c)) h = cc
-instance_is (Some (timer t)) h = cc
 instance_is (Some instance) h = refl
+instance_is o h = cc
 
 not_zero_one : (b : ℕ) → b ≡ 0 → b ≡ 1 → ⊥
 not_zero_one b p q = absurd (omega (arith, p, q))

@@ -4,7 +4,7 @@ use Rattle.std.specs.List.{list_any}
 use Rattle.ep_base.specs.declared.object.End.{End}
 use Rattle.ep_machine.specs.Bits.{IN, ET, when, asked, has_bit}
 use Rattle.ep_machine.specs.Lists.{is_among}
-use Rattle.ep_machine.specs.Objects.{Object, plain, pipe, pair, counter, timer, instance, is_instance}
+use Rattle.ep_machine.specs.Objects.{Object, plain, instance, is_instance}
 use Rattle.ep_machine.specs.State.{State, Watch}
 use Rattle.ep_machine.specs.Files.{object_of, side_of}
 use Rattle.ep_machine.specs.Readiness.{present_of, is_reportable_by, is_fresh, is_ready_within, is_ready, is_reportable}
@@ -38,14 +38,10 @@ no_long_chain ls e legal (a, ma, ea, (b, mb, eb, (c, mc, ec, (d, md, ed, (f, mf,
     let m4 = next 3 ls d f m3 md ef in
     not_empty f.1 (ends_of_chains 5 ls) (further 4 ls f m4 mf) legal
 
-present_same : (r q : ℕ → Bool) (d : ℕ) (o : Option Object) (e : End) (now : ℕ) → (is_instance (unwrap_or o plain) ≡ true → r d ≡ q d) → present_of r d o e now ≡ present_of q d o e now
+pub present_same : (r q : ℕ → Bool) (d : ℕ) (o : Option Object) (e : End) (now : ℕ) → (is_instance (unwrap_or o plain) ≡ true → r d ≡ q d) → present_of r d o e now ≡ present_of q d o e now
 present_same r q d None e now h = refl
-present_same r q d (Some plain) e now h = refl
-present_same r q d (Some (pipe p)) e now h = refl
-present_same r q d (Some (pair p)) e now h = refl
-present_same r q d (Some (counter c)) e now h = refl
-present_same r q d (Some (timer t)) e now h = refl
 present_same r q d (Some instance) e now h = ap (λ (b : Bool). when b IN) (h refl)
+present_same r q d o e now h = refl
 
 reportable_same : (r q : ℕ → Bool) (s : State) (x : Watch) → (is_instance (unwrap_or (object_of s.files x.target) plain) ≡ true → r x.target ≡ q x.target) → is_reportable_by r s x ≡ is_reportable_by q s x
 reportable_same r q s x h =

@@ -7,7 +7,7 @@ use Rattle.ep_base.specs.Limits.{Limits}
 use Rattle.ep_base.specs.declared.answer.Answer.{Answer}
 use Rattle.ep_base.specs.declared.answer.Answer.TheVariants.{Events}
 use Rattle.ep_base.specs.declared.call.Call.{Call}
-use Rattle.ep_base.specs.declared.call.Call.TheVariants.{Close, Dup, Dup2, EpollCreate, EpollCtl, EpollWait, EventFd, Exec, Exit, Fork, GetTime, Pipe as PipeCall, Plain, Read, SetTime, Shutdown, SocketPair, TimerFd, Write}
+use Rattle.ep_base.specs.declared.call.Call.TheVariants.{EpollCtl, EpollWait}
 use Rattle.ep_base.specs.declared.call.Event.{Event}
 use Rattle.ep_base.specs.declared.call.Event.TheVariants.{Call as CallOf, Resume, Tick}
 use Rattle.ep_base.specs.declared.errno.Errno.{Errno}
@@ -155,25 +155,9 @@ sound_ctl s p epfd op fd mask tag h =
     sound_if (is_add op) _ _ (sound_add s e k d mask tag h) (sound_if (is_del op) _ _ (sound_filter s (λ x. not (has_key e k d x)) h) (sound_map s (modified e k d mask tag) (follows_modified s.n e k d mask tag) h))
 
 fine_call : (limits : Limits) (s : State) (caller p : ℕ) (call : Call) (ks : List ℕ) → Sound s → Fine (call_change limits s caller p call ks)
-fine_call limits s caller p (PipeCall cloexec) ks h = fine_plainly ks _ (same_watches s _ refl refl refl h)
-fine_call limits s caller p (EventFd init semaphore cloexec) ks h = fine_plainly ks _ (same_watches s _ refl refl refl h)
-fine_call limits s caller p (TimerFd clock cloexec) ks h = fine_plainly ks _ (same_watches s _ refl refl refl h)
-fine_call limits s caller p (SocketPair cloexec) ks h = fine_plainly ks _ (same_watches s _ refl refl refl h)
-fine_call limits s caller p (Plain cloexec) ks h = fine_plainly ks _ (same_watches s _ refl refl refl h)
-fine_call limits s caller p (EpollCreate cloexec) ks h = fine_plainly ks _ (same_watches s _ refl refl refl h)
 fine_call limits s caller p (EpollCtl epfd op fd mask tag) ks h = fine_plainly ks _ (sound_ctl s p epfd.0 op fd.0 mask.0 tag h)
 fine_call limits s caller p (EpollWait epfd most timeout) ks h = fine_wait s caller p (named_by s.files p epfd.0) (number_in most) timeout ks h
-fine_call limits s caller p (Read fd n) ks h = fine_plainly ks _ (same_watches s _ refl refl refl h)
-fine_call limits s caller p (Write fd bytes) ks h = fine_plainly ks _ (same_watches s _ refl refl refl h)
-fine_call limits s caller p (Shutdown fd) ks h = fine_plainly ks _ (same_watches s _ refl refl refl h)
-fine_call limits s caller p (SetTime fd absolute value interval) ks h = fine_plainly ks _ (same_watches s _ refl refl refl h)
-fine_call limits s caller p (GetTime fd) ks h = fine_plainly ks _ (same_watches s _ refl refl refl h)
-fine_call limits s caller p (Dup fd) ks h = fine_plainly ks _ (same_watches s _ refl refl refl h)
-fine_call limits s caller p (Dup2 fd to) ks h = fine_plainly ks _ (same_watches s _ refl refl refl h)
-fine_call limits s caller p (Close fd) ks h = fine_plainly ks _ (same_watches s _ refl refl refl h)
-fine_call limits s caller p Fork ks h = fine_plainly ks _ (same_watches s _ refl refl refl h)
-fine_call limits s caller p Exec ks h = fine_plainly ks _ (same_watches s _ refl refl refl h)
-fine_call limits s caller p Exit ks h = fine_plainly ks _ (same_watches s _ refl refl refl h)
+fine_call limits s caller p call ks h = fine_plainly ks _ (same_watches s _ refl refl refl h)
 
 fine_left : (caller : ℕ) (o : Option Change) → Fine o → Fine (leave_after caller o)
 unfolding Fine

@@ -3,7 +3,7 @@ use Rattle.std.proofs.Common.{◌≡◌, ℕ, zero, suc, ◌==◌, ◌&&◌, Boo
 use Rattle.std.specs.Prelude.{bit_or}
 use Rattle.std.specs.List.{list_any}
 use Rattle.ep_machine.specs.Bits.{IN, asked, when}
-use Rattle.ep_machine.specs.Objects.{Object, plain, pipe, pair, counter, timer, instance, is_instance}
+use Rattle.ep_machine.specs.Objects.{Object, plain, instance, is_instance}
 use Rattle.ep_machine.specs.State.{State, Watch}
 use Rattle.ep_machine.specs.Files.{object_of}
 use Rattle.ep_machine.specs.Watches.{links, is_legal}
@@ -15,12 +15,8 @@ use Rattle.ep_law.proofs.TestLemmas.{from_test}
 
 pub reaching_same : (r q : ℕ → Bool) (d : ℕ) (o : Option Object) → (is_instance (unwrap_or o plain) ≡ true → r d ≡ q d) → reaching_of r d o ≡ reaching_of q d o
 reaching_same r q d None h = refl
-reaching_same r q d (Some plain) h = refl
-reaching_same r q d (Some (pipe p)) h = refl
-reaching_same r q d (Some (pair p)) h = refl
-reaching_same r q d (Some (counter c)) h = refl
-reaching_same r q d (Some (timer t)) h = refl
 reaching_same r q d (Some instance) h = ap (λ (b : Bool). when b IN) (h refl)
+reaching_same r q d o h = refl
 
 pub passes_same : (r q : ℕ → Bool) (s : State) (raised : List (ℕ × ℕ)) (x : Watch) → (is_instance (unwrap_or (object_of s.files x.target) plain) ≡ true → r x.target ≡ q x.target) → passes_on_by r s raised x ≡ passes_on_by q s raised x
 passes_same r q s raised x h =
@@ -57,15 +53,11 @@ has_raised P xs all (r ∷ rest) d c h =
 
 has_reaching : (P : ℕ → ℕ → Type 0) (r : ℕ → Bool) (d : ℕ) (o : Option Object) → P d 0 → (r d ≡ true → P d IN) → P d (reaching_of r d o)
 has_reaching P r d None z h = z
-has_reaching P r d (Some plain) z h = z
-has_reaching P r d (Some (pipe p)) z h = z
-has_reaching P r d (Some (pair p)) z h = z
-has_reaching P r d (Some (counter c)) z h = z
-has_reaching P r d (Some (timer t)) z h = z
 has_reaching P r d (Some instance) z h =
     let Q : Bool → Type 0 = λ b. r d ≡ b → P d (when b IN) in
     let one : (b : Bool) → Q b = λ b. elim b as Q [ true ↦ λ t. h t | false ↦ λ t. z ] in
     one (r d) refl
+has_reaching P r d o z h = z
 
 has_spread : (P : ℕ → ℕ → Type 0) (r : ℕ → Bool) (s : State) (raised : List (ℕ × ℕ)) (d : ℕ) → Closed P s.watches raised → (r d ≡ true → P d IN) → P d (spread_by r s raised d)
 has_spread P r s raised d c h =

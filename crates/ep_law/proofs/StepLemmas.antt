@@ -8,7 +8,7 @@ use Rattle.ep_base.specs.declared.answer.Answer.TheVariants.{Done, Num, Two, Byt
 use Rattle.ep_base.specs.declared.call.Event.{Event}
 use Rattle.ep_base.specs.declared.record.Record.{Record}
 use Rattle.ep_machine.specs.Effect.{first}
-use Rattle.ep_base.specs.declared.call.Call.TheVariants.{Close, Dup, Dup2, EpollCreate, EpollCtl, EpollWait, EventFd, Exec, Exit, Fork, GetTime, Pipe as PipeCall, Plain, Read, SetTime, Shutdown, SocketPair, TimerFd, Write}
+use Rattle.ep_base.specs.declared.call.Call.TheVariants.{EpollCtl, EpollWait}
 use Rattle.ep_base.specs.declared.call.Event.TheVariants.{Call as CallOf, Resume, Tick}
 use Rattle.ep_machine.specs.Settle.{settle}
 use Rattle.ep_machine.specs.State.{Change, State, opening, Waiter}
@@ -169,29 +169,13 @@ keeps_report : (s : State) (e most : ℕ) (ks : List ℕ) → Keeps s.n (report 
 keeps_report s e most ks = keeps_if s.n (is_pick s e most ks) _ None (keeps_some s.n _ refl) (keeps_none s.n)
 
 pub change_n : (limits : Limits) (s : State) (caller : ℕ) (event : Event) (ks : List ℕ) → Keeps s.n (change limits s caller event ks)
-change_n limits s caller (CallOf p (PipeCall cloexec)) ks = keeps_plainly s.n ks _ refl
-change_n limits s caller (CallOf p (EventFd init semaphore cloexec)) ks = keeps_plainly s.n ks _ refl
-change_n limits s caller (CallOf p (TimerFd clock cloexec)) ks = keeps_plainly s.n ks _ refl
-change_n limits s caller (CallOf p (SocketPair cloexec)) ks = keeps_plainly s.n ks _ refl
-change_n limits s caller (CallOf p (Plain cloexec)) ks = keeps_plainly s.n ks _ refl
-change_n limits s caller (CallOf p (EpollCreate cloexec)) ks = keeps_plainly s.n ks _ refl
 change_n limits s caller (CallOf p (EpollCtl epfd op fd mask tag)) ks = keeps_plainly s.n ks _ (same_if s.n (is_add op) (is_del op) _ _ _ refl refl refl)
 change_n limits s caller (CallOf p (EpollWait epfd most timeout)) ks =
     let e = named_by s.files p.0 epfd.0 in
     keeps_if s.n (is_ready s e) (report s e (number_in most) ks) (plainly ks (wait_for s caller p.0 e (number_in most) timeout))
     (keeps_report s e (number_in most) ks)
     (keeps_plainly s.n ks _ (wait_for_n s caller p.0 e (number_in most) timeout))
-change_n limits s caller (CallOf p (Read fd n)) ks = keeps_plainly s.n ks _ refl
-change_n limits s caller (CallOf p (Write fd bytes)) ks = keeps_plainly s.n ks _ refl
-change_n limits s caller (CallOf p (Shutdown fd)) ks = keeps_plainly s.n ks _ refl
-change_n limits s caller (CallOf p (SetTime fd absolute value interval)) ks = keeps_plainly s.n ks _ refl
-change_n limits s caller (CallOf p (GetTime fd)) ks = keeps_plainly s.n ks _ refl
-change_n limits s caller (CallOf p (Dup fd)) ks = keeps_plainly s.n ks _ refl
-change_n limits s caller (CallOf p (Dup2 fd to)) ks = keeps_plainly s.n ks _ refl
-change_n limits s caller (CallOf p (Close fd)) ks = keeps_plainly s.n ks _ refl
-change_n limits s caller (CallOf p Fork) ks = keeps_plainly s.n ks _ refl
-change_n limits s caller (CallOf p Exec) ks = keeps_plainly s.n ks _ refl
-change_n limits s caller (CallOf p Exit) ks = keeps_plainly s.n ks _ refl
+change_n limits s caller (CallOf p call) ks = keeps_plainly s.n ks _ refl
 change_n limits s caller Resume ks = resumes (Keeps s.n) s caller ks (keeps_plainly s.n ks _ refl) (λ w. keeps_left s.n w.caller _ (keeps_report s w.instance w.most ks)) (λ w. keeps_plainly s.n ks _ refl) (λ w. keeps_plainly s.n ks _ refl)
 change_n limits s caller (Tick k) ks = keeps_plainly s.n ks _ refl
 

@@ -2,7 +2,7 @@
 use Rattle.std.proofs.Common.{Bool, List, None, Option, Some, [], ℕ, ◌∷◌}
 use Rattle.std.proofs.lemmas.Bool.{false≢true}
 use Rattle.std.specs.Prelude.{not}
-use Rattle.ep_base.specs.declared.call.Call.TheVariants.{Close, Dup, Dup2, EpollCreate, EpollCtl, EpollWait, EventFd, Exec, Exit, Fork, GetTime, Pipe, Plain, Read, SetTime, Shutdown, SocketPair, TimerFd, Write}
+use Rattle.ep_base.specs.declared.call.Call.TheVariants.{GetTime, Read, SetTime, Shutdown, Write}
 use Rattle.ep_base.specs.declared.errno.Errno.{Errno}
 use Rattle.ep_base.specs.declared.errno.Errno.TheVariants.{Einval, Enotsock}
 use Rattle.ep_base.specs.declared.object.End.TheVariants.{First, Second}
@@ -51,41 +51,27 @@ read_law pipes pairs counters timers e n now (timer t) =
 read_law pipes pairs counters timers e n now instance = stays now instance nothing
 
 write_law : PipeWriteLaw → PairWriteLaw → CounterWriteLaw → (e : End) (bytes : List ℕ) (now : ℕ) → CallLaw (λ x. write_refusals x e bytes) (λ x. write x e bytes) now
-write_law pipes pairs counters e bytes now plain = stays now plain nothing
 write_law pipes pairs counters e bytes now (pipe p) = within pipe now p (pipe_write p bytes) (first (pipe_write_refusals p e bytes)) (pipes p e bytes)
 write_law pipes pairs counters e bytes now (pair p) = within pair now p (pair_write p e bytes) (first (pair_write_refusals p e bytes)) (pairs p e bytes)
 write_law pipes pairs counters e bytes now (counter c) =
     let made = attempt (counter_write_refusals c bytes) c (counter_write c bytes) in
     within counter now c (counter_write c bytes) (first (counter_write_refusals c bytes)) (alone counter_present c made.1 made.2 (counters c bytes))
-write_law pipes pairs counters e bytes now (timer t) = stays now (timer t) nothing
-write_law pipes pairs counters e bytes now instance = stays now instance nothing
+write_law pipes pairs counters e bytes now x = stays now x nothing
 
 shutdown_law : PairShutdownLaw → (e : End) (now : ℕ) → CallLaw (λ x. (not (is_pair x), Enotsock) ∷ []) (λ x. shutdown x e) now
-shutdown_law pairs e now plain = stays now plain nothing
-shutdown_law pairs e now (pipe p) = stays now (pipe p) nothing
 shutdown_law pairs e now (pair p) = pairs p e
-shutdown_law pairs e now (counter c) = stays now (counter c) nothing
-shutdown_law pairs e now (timer t) = stays now (timer t) nothing
-shutdown_law pairs e now instance = stays now instance nothing
+shutdown_law pairs e now x = stays now x nothing
 
 settime_law : TimerSettimeLaw → (absolute : Bool) (value interval now : ℕ) → CallLaw (λ x. (not (is_timer x), Einval) ∷ timer_set_refusals value interval) (λ x. settime x absolute value interval now) now
-settime_law timers absolute value interval now plain = stays now plain nothing
-settime_law timers absolute value interval now (pipe p) = stays now (pipe p) nothing
-settime_law timers absolute value interval now (pair p) = stays now (pair p) nothing
-settime_law timers absolute value interval now (counter c) = stays now (counter c) nothing
 settime_law timers absolute value interval now (timer t) =
     let set = timer_settime t absolute value interval now in
     let made = attempt (timer_set_refusals value interval) t set in
     within timer now t set (first (timer_set_refusals value interval)) (alone (λ y. timer_present y now) t made.1 made.2 (timers t absolute value interval now))
-settime_law timers absolute value interval now instance = stays now instance nothing
+settime_law timers absolute value interval now x = stays now x nothing
 
 gettime_law : (now : ℕ) → CallLaw (λ x. (not (is_timer x), Einval) ∷ []) (λ x. gettime x now) now
 gettime_law now plain = stays now plain nothing
-gettime_law now (pipe p) = stays now (pipe p) nothing
-gettime_law now (pair p) = stays now (pair p) nothing
-gettime_law now (counter c) = stays now (counter c) nothing
-gettime_law now (timer t) = stays now (timer t) nothing
-gettime_law now instance = stays now instance nothing
+gettime_law now x = stays now x nothing
 
 -- the laws of the kinds
 pub record Kinds : Type 0 where
@@ -105,28 +91,12 @@ apply_law kinds x e now (Write fd bytes) = write_law kinds.pipe_write kinds.pair
 apply_law kinds x e now (Shutdown fd) = shutdown_law kinds.pair_shutdown e now x
 apply_law kinds x e now (SetTime fd absolute value interval) = settime_law kinds.timer_settime absolute value interval now x
 apply_law kinds x e now (GetTime fd) = gettime_law now x
-apply_law kinds x e now (Pipe cloexec) = stays now x nothing
-apply_law kinds x e now (EventFd init semaphore cloexec) = stays now x nothing
-apply_law kinds x e now (TimerFd clock cloexec) = stays now x nothing
-apply_law kinds x e now (SocketPair cloexec) = stays now x nothing
-apply_law kinds x e now (Plain cloexec) = stays now x nothing
-apply_law kinds x e now (EpollCreate cloexec) = stays now x nothing
-apply_law kinds x e now (EpollCtl epfd op fd mask tag) = stays now x nothing
-apply_law kinds x e now (EpollWait epfd max timeout) = stays now x nothing
-apply_law kinds x e now (Dup fd) = stays now x nothing
-apply_law kinds x e now (Dup2 fd to) = stays now x nothing
-apply_law kinds x e now (Close fd) = stays now x nothing
-apply_law kinds x e now Fork = stays now x nothing
-apply_law kinds x e now Exec = stays now x nothing
-apply_law kinds x e now Exit = stays now x nothing
+apply_law kinds x e now call = stays now x nothing
 
 pub close_law : PipeCloseLaw → PairCloseLaw → CloseLaw
-close_law pipes pairs plain e now = stays now plain nothing
 close_law pipes pairs (pipe p) e now = pipes p e
 close_law pipes pairs (pair p) e now = pairs p e
-close_law pipes pairs (counter c) e now = stays now (counter c) nothing
-close_law pipes pairs (timer t) e now = stays now (timer t) nothing
-close_law pipes pairs instance e now = stays now instance nothing
+close_law pipes pairs x e now = stays now x nothing
 
 -- only a timer looks at the clock
 pub advance_law : TimerAdvanceLaw → AdvanceLaw

@@ -25,7 +25,8 @@ use Rattle.ep_machine.specs.Deaths.{buried, dying, named_in_tables}
 use Rattle.ep_machine.specs.Effect.{first}
 use Rattle.ep_machine.specs.Files.{Files, Place, is_live, object_of, place_of, side_of}
 use Rattle.ep_machine.specs.Lists.{is_among}
-use Rattle.ep_machine.specs.Objects.{Object, counter, instance, object_present, pair, pipe, plain, timer}
+use Rattle.ep_view.proofs.KindLemmas.{instance_of_kind}
+use Rattle.ep_machine.specs.Objects.{Object, instance, object_present, plain}
 use Rattle.ep_machine.specs.Readiness.{is_fresh, is_fresh_since, is_reportable_by, present_by, present_of}
 use Rattle.ep_machine.specs.Refusal.{refusals}
 use Rattle.ep_machine.specs.Run.{run}
@@ -44,33 +45,19 @@ use Rattle.ep_order.proofs.OwnEndLemmas.{Stay, when_stays}
 use Rattle.ep_order.proofs.PresentLemmas.{Goes, Holds, change_goes, holds_deaths, holds_then}
 use Rattle.ep_order.proofs.StepLemmas.{stood}
 
--- What a description shows, by its object.
-instance_of : (o : Option Object) → kind_of o ≡ 1 → o ≡ Some instance
-instance_of None h = absurd (omega (arith, h))
-instance_of (Some plain) h = absurd (omega (arith, h))
-instance_of (Some (pipe p)) h = absurd (omega (arith, h))
-instance_of (Some (pair p)) h = absurd (omega (arith, h))
-instance_of (Some (counter c)) h = absurd (omega (arith, h))
-instance_of (Some (timer t)) h = absurd (omega (arith, h))
-instance_of (Some instance) h = refl
-
 -- what is no instance shows its own bits, whatever is said of instances
 shows_own : (r : ℕ → Bool) (d : ℕ) (o : Option Object) (e : End) (now : ℕ) → (kind_of o ≡ 1 → ⊥) → present_of r d o e now ≡ object_present (unwrap_or o plain) e now
 shows_own r d None e now h = refl
-shows_own r d (Some plain) e now h = refl
-shows_own r d (Some (pipe p)) e now h = refl
-shows_own r d (Some (pair p)) e now h = refl
-shows_own r d (Some (counter c)) e now h = refl
-shows_own r d (Some (timer t)) e now h = refl
 shows_own r d (Some instance) e now h = absurd (h refl)
+shows_own r d o e now h = refl
 
 -- the one shows IN if it is ready, the other what it showed
 shown_stays : (ready later : ℕ → Bool) (d : ℕ) (o p : Option Object) (e f : End) (old new : ℕ) → kind_of p ≡ kind_of o → (o ≡ Some instance → later d ≡ true)
     → Stay (object_present (unwrap_or p plain) f new) (object_present (unwrap_or o plain) e old) → Stay (present_of later d p f new) (present_of ready d o e old)
 shown_stays ready later d o p e f old new kind below own = elim (same_or_not (kind_of o) 1) [
   | inl at ↦
-      let before = instance_of o at in
-      subst (λ (z : Option Object). Stay (present_of later d z f new) (present_of ready d o e old)) (sym (instance_of p (kind ∙ at)))
+      let before = instance_of_kind o at in
+      subst (λ (z : Option Object). Stay (present_of later d z f new) (present_of ready d o e old)) (sym (instance_of_kind p (kind ∙ at)))
       (subst (λ (z : Option Object). Stay (when (later d) IN) (present_of ready d z e old)) (sym before) (when_stays (later d) (ready d) IN (λ h. below before)))
   | inr other ↦
       subst (λ (n : ℕ). Stay n (present_of ready d o e old)) (sym (shows_own later d p f new (λ h. other (sym kind ∙ h))))

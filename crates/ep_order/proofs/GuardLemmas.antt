@@ -1,10 +1,10 @@
 -- What an instance lost that an event leaves unguarded.
-use Rattle.std.proofs.Common.{◌≡◌, ℕ, zero, suc, ◌≤◌, ◌==◌, ◌&&◌, ◌||◌, ◌∙◌, Bool, List, None, Option, Some, true, false, not, ap, arith, inl, inr, map, refl, subst, sym, unwrap_or, nat_lt, if◌then◌else◌}
+use Rattle.std.proofs.Common.{◌≡◌, ℕ, zero, suc, ◌≤◌, ◌==◌, ◌&&◌, ◌||◌, ◌∙◌, Bool, List, None, true, false, not, ap, arith, inl, inr, map, refl, subst, sym, nat_lt, if◌then◌else◌}
 use Rattle.std.proofs.lemmas.Bool.{cases_Bool, false≢true}
 use Rattle.ep_base.specs.Limits.{Limits}
-use Rattle.ep_base.specs.declared.call.Call.TheVariants.{Close, Dup, Dup2, EpollCreate, EpollCtl, EpollWait, EventFd, Exec, Exit, Fork, GetTime, Pipe as PipeCall, Plain, Read, SetTime, Shutdown, SocketPair, TimerFd, Write}
+use Rattle.ep_base.specs.declared.call.Call.TheVariants.{EpollCtl}
 use Rattle.ep_base.specs.declared.call.Event.{Event}
-use Rattle.ep_base.specs.declared.call.Event.TheVariants.{Call as CallOf, Resume, Tick}
+use Rattle.ep_base.specs.declared.call.Event.TheVariants.{Call as CallOf}
 use Rattle.ep_base.specs.declared.errno.Errno.{Errno}
 use Rattle.ep_base.specs.declared.errno.Errno.TheVariants.{Eexist}
 use Rattle.ep_law.specs.Laws.{Member, has_instance}
@@ -15,7 +15,8 @@ use Rattle.ep_machine.specs.Effect.{first}
 use Rattle.ep_machine.specs.Exclusive.{is_guarded, is_guarded_within}
 use Rattle.ep_machine.specs.Files.{is_live, named_by, object_of}
 use Rattle.ep_machine.specs.Lists.{is_among}
-use Rattle.ep_machine.specs.Objects.{Object, counter, instance, is_instance, pair, pipe, plain, timer}
+use Rattle.ep_view.proofs.KindLemmas.{is_instance_of_kind, kind_of_instance}
+use Rattle.ep_machine.specs.Objects.{instance}
 use Rattle.ep_machine.specs.Readiness.{is_reportable}
 use Rattle.ep_machine.specs.Refusal.{refusals}
 use Rattle.ep_machine.specs.Settle.{came, reportable_numbers, settle}
@@ -144,26 +145,7 @@ module _ (limits : Limits) (b : State) (caller : ℕ) where
         ap (λ (j : ℕ). has_bit j EXCLUSIVE) m.mask ∙ and_none (is_mod op) (has_bit mask.0 EXCLUSIVE) mods.0 is,
         and_none (has_key e k d m.was) (is_exclusive m.was) (none_member (λ x. has_key e k d x && is_exclusive x) b.watches m.was none m.there) key,
       )
-  modified_plainly (CallOf p (PipeCall cloexec)) allowed y m = absurd m.mask
-  modified_plainly (CallOf p (EventFd init semaphore cloexec)) allowed y m = absurd m.mask
-  modified_plainly (CallOf p (TimerFd clock cloexec)) allowed y m = absurd m.mask
-  modified_plainly (CallOf p (SocketPair cloexec)) allowed y m = absurd m.mask
-  modified_plainly (CallOf p (Plain cloexec)) allowed y m = absurd m.mask
-  modified_plainly (CallOf p (EpollCreate cloexec)) allowed y m = absurd m.mask
-  modified_plainly (CallOf p (EpollWait epfd most timeout)) allowed y m = absurd m.mask
-  modified_plainly (CallOf p (Read fd n)) allowed y m = absurd m.mask
-  modified_plainly (CallOf p (Write fd bytes)) allowed y m = absurd m.mask
-  modified_plainly (CallOf p (Shutdown fd)) allowed y m = absurd m.mask
-  modified_plainly (CallOf p (SetTime fd absolute value interval)) allowed y m = absurd m.mask
-  modified_plainly (CallOf p (GetTime fd)) allowed y m = absurd m.mask
-  modified_plainly (CallOf p (Dup fd)) allowed y m = absurd m.mask
-  modified_plainly (CallOf p (Dup2 fd to)) allowed y m = absurd m.mask
-  modified_plainly (CallOf p (Close fd)) allowed y m = absurd m.mask
-  modified_plainly (CallOf p Fork) allowed y m = absurd m.mask
-  modified_plainly (CallOf p Exec) allowed y m = absurd m.mask
-  modified_plainly (CallOf p Exit) allowed y m = absurd m.mask
-  modified_plainly Resume allowed y m = absurd m.mask
-  modified_plainly (Tick n) allowed y m = absurd m.mask
+  modified_plainly event allowed y m = absurd m.mask
 
   -- a registration that is left of a change guards as it did
   alike_changed : Sound b → (event : Event) (ks : List ℕ) → first (refusals limits b caller event) ≡ None → (x y : Watch) → Member x b.watches → Origin b event ks y → y.number ≡ x.number → GuardsAlike x y
@@ -181,25 +163,6 @@ module _ (limits : Limits) (b : State) (caller : ℕ) where
       let number = added.number in
       let below = all_member (λ w. w.number ≤ b.added) b.watches x sound.below m in
       absurd (omega (arith, number, below, same))
-
--- An instance stays one while it lives.
-kind_one : (o : Option Object) → is_instance (unwrap_or o plain) ≡ true → kind_of o ≡ 1
-kind_one None h = absurd (false≢true h)
-kind_one (Some plain) h = absurd (false≢true h)
-kind_one (Some (pipe p)) h = absurd (false≢true h)
-kind_one (Some (pair p)) h = absurd (false≢true h)
-kind_one (Some (counter c)) h = absurd (false≢true h)
-kind_one (Some (timer t)) h = absurd (false≢true h)
-kind_one (Some instance) h = refl
-
-one_kind : (o : Option Object) → kind_of o ≡ 1 → is_instance (unwrap_or o plain) ≡ true
-one_kind None h = cc
-one_kind (Some plain) h = cc
-one_kind (Some (pipe p)) h = cc
-one_kind (Some (pair p)) h = cc
-one_kind (Some (counter c)) h = cc
-one_kind (Some (timer t)) h = cc
-one_kind (Some instance) h = refl
 
 -- the end of an event
 came_alike : (earlier : List ℕ) (a : State) (x y : Watch) → came earlier a x ≡ y → (y.number ≡ x.number) × GuardsAlike x y
@@ -233,8 +196,8 @@ loses_guard limits past s caller event picked c e is allowed made guarded free =
     (runs_are_regular limits past s is).instances
     (λ y n was. let r = from y n in
     let lives : is_live files y.target ≡ true = ap (is_live files) r.4.target ∙ second_of_and (is_live files r.0.instance) _ r.2 in
-    let one = kind_one (object_of s.files y.target) was in
-    let changed = one_kind (object_of c.1.files y.target) (extends.shows y.target (can_be (kind_of (object_of s.files y.target)) one) ∙ one) in
+    let one = kind_of_instance (object_of s.files y.target) was in
+    let changed = is_instance_of_kind (object_of c.1.files y.target) (extends.shows y.target (can_be (kind_of (object_of s.files y.target)) one) ∙ one) in
     deaths.stays y.target changed lives)
     e guarded free where
       can_be : (k : ℕ) → k ≡ 1 → nat_lt 0 k ≡ true

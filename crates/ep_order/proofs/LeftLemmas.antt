@@ -5,7 +5,7 @@ use Rattle.std.proofs.lemmas.Bool.{cases_Bool, false≢true}
 use Rattle.ep_base.specs.Limits.{Limits}
 use Rattle.ep_base.specs.declared.answer.Answer.TheVariants.{Events, Still}
 use Rattle.ep_base.specs.declared.call.Call.{Call}
-use Rattle.ep_base.specs.declared.call.Call.TheVariants.{Close, Dup, Dup2, EpollCreate, EpollCtl, EpollWait, EventFd, Exec, Exit, Fork, GetTime, Pipe as PipeCall, Plain, Read, SetTime, Shutdown, SocketPair, TimerFd, Write}
+use Rattle.ep_base.specs.declared.call.Call.TheVariants.{EpollCtl, EpollWait}
 use Rattle.ep_base.specs.declared.call.Event.{Event}
 use Rattle.ep_base.specs.declared.call.Event.TheVariants.{Call as CallOf, Resume, Tick}
 use Rattle.ep_law.proofs.ListLemmas.{any_member, member_filter}
@@ -19,8 +19,8 @@ use Rattle.ep_machine.specs.Report.{is_pick, plainly, report}
 use Rattle.ep_machine.specs.State.{Change, State, Waiter}
 use Rattle.ep_machine.specs.Step.{call_change, change, next_event}
 use Rattle.ep_machine.specs.Waits.{is_parked, leave_after, resume, resume_by, tick, unmark, wait_for, waiter_of}
-use Rattle.ep_machine.specs.Watches.{ctl, is_add, is_del, number_in}
-use Rattle.ep_order.proofs.MarkLemmas.{found_waiter, one_caller}
+use Rattle.ep_machine.specs.Watches.{number_in}
+use Rattle.ep_order.proofs.MarkLemmas.{ctl_waiters, found_waiter, one_caller}
 use Rattle.ep_order.specs.Mark.{LeavesByResuming, LeavesResumed}
 use Rattle.ep_view.proofs.AtRestLemmas.{quiet_run}
 
@@ -82,33 +82,10 @@ module _ (b : State) (but : Waiter → Bool) where
   after_wait caller p i most timeout ks true = after_report i most ks
   after_wait caller p i most timeout ks false = after_plainly ks _ (after_wait_for caller p i most timeout)
 
-  ctl_waiters : (p : ℕ) (epfd op fd : ℤ) (mask tag : ℕ) → (ctl b p epfd op fd mask tag).1.waiters ≡ b.waiters
-  ctl_waiters p epfd op fd mask tag = by (is_add op) (is_del op) _ _ _ refl refl refl where
-    by : (x y : Bool) (a d m : Change) → a.1.waiters ≡ b.waiters → d.1.waiters ≡ b.waiters → m.1.waiters ≡ b.waiters → (cond x a (cond y d m)).1.waiters ≡ b.waiters
-    by true y a d m p q r = p
-    by false true a d m p q r = q
-    by false false a d m p q r = r
-
   after_call : (limits : Limits) (caller p : ℕ) (call : Call) (ks : List ℕ) → StayAfter (call_change limits b caller p call ks)
-  after_call limits caller p (PipeCall cloexec) ks = after_same ks _ refl
-  after_call limits caller p (EventFd init semaphore cloexec) ks = after_same ks _ refl
-  after_call limits caller p (TimerFd clock cloexec) ks = after_same ks _ refl
-  after_call limits caller p (SocketPair cloexec) ks = after_same ks _ refl
-  after_call limits caller p (Plain cloexec) ks = after_same ks _ refl
-  after_call limits caller p (EpollCreate cloexec) ks = after_same ks _ refl
-  after_call limits caller p (EpollCtl epfd op fd mask tag) ks = after_same ks _ (ctl_waiters p epfd.0 op fd.0 mask.0 tag)
+  after_call limits caller p (EpollCtl epfd op fd mask tag) ks = after_same ks _ (ctl_waiters b p epfd.0 op fd.0 mask.0 tag)
   after_call limits caller p (EpollWait epfd most timeout) ks = after_wait caller p (named_by b.files p epfd.0) (number_in most) timeout ks (is_ready b (named_by b.files p epfd.0))
-  after_call limits caller p (Read fd n) ks = after_same ks _ refl
-  after_call limits caller p (Write fd bytes) ks = after_same ks _ refl
-  after_call limits caller p (Shutdown fd) ks = after_same ks _ refl
-  after_call limits caller p (SetTime fd absolute value interval) ks = after_same ks _ refl
-  after_call limits caller p (GetTime fd) ks = after_same ks _ refl
-  after_call limits caller p (Dup fd) ks = after_same ks _ refl
-  after_call limits caller p (Dup2 fd to) ks = after_same ks _ refl
-  after_call limits caller p (Close fd) ks = after_same ks _ refl
-  after_call limits caller p Fork ks = after_same ks _ refl
-  after_call limits caller p Exec ks = after_same ks _ refl
-  after_call limits caller p Exit ks = after_same ks _ refl
+  after_call limits caller p call ks = after_same ks _ refl
 
   from_after : (o : Option Change) (c : Change) → o ≡ Some c → StayAfter o → OthersStay b c.1 but
   unfolding StayAfter

@@ -15,7 +15,8 @@ use Rattle.ep_machine.specs.Waits.{waits_at}
 use Rattle.ep_object.specs.Law.{AdvanceLaw, ApplyLaw, CloseLaw}
 use Rattle.ep_order.specs.Mark.{MarkedAreLookedAt}
 use Rattle.ep_order.proofs.GuardLemmas.{loses_guard}
-use Rattle.ep_order.proofs.MarkLemmas.{at_any, instance_of_kind, unmarked_are_woken, waiter_there, waits_by}
+use Rattle.ep_view.proofs.KindLemmas.{instance_of_kind}
+use Rattle.ep_order.proofs.MarkLemmas.{at_any, unmarked_are_woken, waiter_there, waits_by}
 use Rattle.ep_view.specs.AtRest.{AtRest, kind_of, marks_at_end, standing, wakes_at_end}
 use Rattle.ep_view.specs.KernelView.{ready_now}
 use Rattle.ep_view.specs.Marking.{guarded_now}

@@ -7,12 +7,13 @@ use Rattle.ep_base.specs.Limits.{Limits}
 use Rattle.ep_base.specs.declared.counts.Counts.{Counts}
 use Rattle.ep_base.specs.declared.answer.Answer.TheVariants.{Events, Still}
 use Rattle.ep_base.specs.declared.call.Call.{Call}
-use Rattle.ep_base.specs.declared.call.Call.TheVariants.{Close, Dup, Dup2, EpollCreate, EpollCtl, EpollWait, EventFd, Exec, Exit, Fork, GetTime, Pipe as PipeCall, Plain, Read, SetTime, Shutdown, SocketPair, TimerFd, Write}
+use Rattle.ep_base.specs.declared.call.Call.TheVariants.{EpollCtl, EpollWait}
 use Rattle.ep_base.specs.declared.call.Event.{Event}
 use Rattle.ep_base.specs.declared.call.Event.TheVariants.{Call as CallOf, Resume, Tick}
 use Rattle.ep_machine.specs.Files.{named_by, object_of}
 use Rattle.ep_law.specs.Laws.{Member}
-use Rattle.ep_machine.specs.Objects.{Object, counter, instance, pair, pipe, plain, timer}
+use Rattle.ep_view.proofs.KindLemmas.{instance_of_kind}
+use Rattle.ep_machine.specs.Objects.{instance}
 use Rattle.ep_view.specs.AtRest.{AtRest, kind_of, marks_at_end}
 use Rattle.ep_machine.specs.Readiness.{is_ready, is_reportable}
 use Rattle.ep_machine.specs.Report.{is_pick, plainly, report}
@@ -41,15 +42,6 @@ use Rattle.ep_law.proofs.RegularLemmas.{changes_are_regular}
 use Rattle.ep_law.proofs.NarrowLemmas.{in_has}
 use Rattle.ep_law.proofs.GuardLemmas.{unguarded_spread}
 use Rattle.ep_law.proofs.ReachLemmas.{any_has}
-
-pub instance_of_kind : (o : Option Object) → kind_of o ≡ 1 → o ≡ Some instance
-instance_of_kind None h = cc
-instance_of_kind (Some plain) h = cc
-instance_of_kind (Some (pipe p)) h = cc
-instance_of_kind (Some (pair p)) h = cc
-instance_of_kind (Some (counter c)) h = cc
-instance_of_kind (Some (timer t)) h = cc
-instance_of_kind (Some instance) h = refl
 
 abbrev pub at_any : ℕ → List ℕ → Bool
 at_any e ks = list_any (λ k. k == e) ks
@@ -95,6 +87,14 @@ pushed_marks (v ∷ ws) w e h = elim (cases_Bool (v.instance == e && v.marked)) 
   | inr n ↦ or_right _ _ (pushed_marks ws w e (sym (ap (λ (b : Bool). b || is_marked_at ws e) n) ∙ h))
 ]
 
+-- epoll_ctl leaves who waits
+pub ctl_waiters : (b : State) (p : ℕ) (epfd op fd : ℤ) (mask tag : ℕ) → (ctl b p epfd op fd mask tag).1.waiters ≡ b.waiters
+ctl_waiters b p epfd op fd mask tag = by (is_add op) (is_del op) _ _ _ refl refl refl where
+  by : (x y : Bool) (a d m : Change) → a.1.waiters ≡ b.waiters → d.1.waiters ≡ b.waiters → m.1.waiters ≡ b.waiters → (cond x a (cond y d m)).1.waiters ≡ b.waiters
+  by true y a d m p q r = p
+  by false true a d m p q r = q
+  by false false a d m p q r = r
+
 -- One event.
 module _ (limits : Limits) (b : State) (e : ℕ) where
   StaysAfter : Option Change → Type 0
@@ -137,33 +137,10 @@ module _ (limits : Limits) (b : State) (e : ℕ) where
     | inr n ↦ subst (λ (d : Bool). StaysAfter (cond d (report b i most ks) (plainly ks (wait_for b caller p i most timeout)))) (sym n) (stays_after_plainly ks _ (stays_wait_for caller p i most timeout n))
   ]
 
-  ctl_waiters : (p : ℕ) (epfd op fd : ℤ) (mask tag : ℕ) → (ctl b p epfd op fd mask tag).1.waiters ≡ b.waiters
-  ctl_waiters p epfd op fd mask tag = by (is_add op) (is_del op) _ _ _ refl refl refl where
-    by : (x y : Bool) (a d m : Change) → a.1.waiters ≡ b.waiters → d.1.waiters ≡ b.waiters → m.1.waiters ≡ b.waiters → (cond x a (cond y d m)).1.waiters ≡ b.waiters
-    by true y a d m p q r = p
-    by false true a d m p q r = q
-    by false false a d m p q r = r
-
   stays_after_call : (caller p : ℕ) (call : Call) (ks : List ℕ) → StaysAfter (call_change limits b caller p call ks)
-  stays_after_call caller p (PipeCall cloexec) ks = stays_after_same ks _ refl
-  stays_after_call caller p (EventFd init semaphore cloexec) ks = stays_after_same ks _ refl
-  stays_after_call caller p (TimerFd clock cloexec) ks = stays_after_same ks _ refl
-  stays_after_call caller p (SocketPair cloexec) ks = stays_after_same ks _ refl
-  stays_after_call caller p (Plain cloexec) ks = stays_after_same ks _ refl
-  stays_after_call caller p (EpollCreate cloexec) ks = stays_after_same ks _ refl
-  stays_after_call caller p (EpollCtl epfd op fd mask tag) ks = stays_after_same ks _ (ctl_waiters p epfd.0 op fd.0 mask.0 tag)
+  stays_after_call caller p (EpollCtl epfd op fd mask tag) ks = stays_after_same ks _ (ctl_waiters b p epfd.0 op fd.0 mask.0 tag)
   stays_after_call caller p (EpollWait epfd most timeout) ks = stays_after_wait caller p (named_by b.files p epfd.0) (number_in most) timeout ks
-  stays_after_call caller p (Read fd n) ks = stays_after_same ks _ refl
-  stays_after_call caller p (Write fd bytes) ks = stays_after_same ks _ refl
-  stays_after_call caller p (Shutdown fd) ks = stays_after_same ks _ refl
-  stays_after_call caller p (SetTime fd absolute value interval) ks = stays_after_same ks _ refl
-  stays_after_call caller p (GetTime fd) ks = stays_after_same ks _ refl
-  stays_after_call caller p (Dup fd) ks = stays_after_same ks _ refl
-  stays_after_call caller p (Dup2 fd to) ks = stays_after_same ks _ refl
-  stays_after_call caller p (Close fd) ks = stays_after_same ks _ refl
-  stays_after_call caller p Fork ks = stays_after_same ks _ refl
-  stays_after_call caller p Exec ks = stays_after_same ks _ refl
-  stays_after_call caller p Exit ks = stays_after_same ks _ refl
+  stays_after_call caller p call ks = stays_after_same ks _ refl
 
 apart_caller : (c : ℕ) (ws : List Waiter) (v : Waiter) → AllByRecursion (λ k. nat_eq c k ≡ false) (map (λ w. w.caller) ws) → Member v ws → nat_eq c v.caller ≡ false
 apart_caller c [] v h m = absurd m

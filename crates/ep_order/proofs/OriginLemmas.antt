@@ -4,7 +4,7 @@ use Rattle.std.proofs.lemmas.Bool.{cases_Bool, false≢true}
 use Rattle.ep_base.specs.Limits.{Limits}
 use Rattle.ep_base.specs.declared.answer.Answer.TheVariants.{Events}
 use Rattle.ep_base.specs.declared.call.Call.{Call}
-use Rattle.ep_base.specs.declared.call.Call.TheVariants.{Close, Dup, Dup2, EpollCreate, EpollCtl, EpollWait, EventFd, Exec, Exit, Fork, GetTime, Pipe as PipeCall, Plain, Read, SetTime, Shutdown, SocketPair, TimerFd, Write}
+use Rattle.ep_base.specs.declared.call.Call.TheVariants.{EpollCtl, EpollWait}
 use Rattle.ep_base.specs.declared.call.Event.{Event}
 use Rattle.ep_base.specs.declared.call.Event.TheVariants.{Call as CallOf, Resume, Tick}
 use Rattle.ep_base.specs.declared.ids.Fd.{Fd}
@@ -219,25 +219,9 @@ module _ (limits : Limits) (b : State) where
       (λ keeps. good_modify b event e k d mask.0 tag refl (λ x has. (keeps, has)))
 
   fine_call : (caller : ℕ) (p : Pid) (call : Call) (ks : List ℕ) → Fine b (CallOf p call) ks (call_change limits b caller p.0 call ks)
-  fine_call caller p (PipeCall cloexec) ks = fine_moved b _ ks _ refl refl refl
-  fine_call caller p (EventFd init semaphore cloexec) ks = fine_moved b _ ks _ refl refl refl
-  fine_call caller p (TimerFd clock cloexec) ks = fine_moved b _ ks _ refl refl refl
-  fine_call caller p (SocketPair cloexec) ks = fine_moved b _ ks _ refl refl refl
-  fine_call caller p (Plain cloexec) ks = fine_moved b _ ks _ refl refl refl
-  fine_call caller p (EpollCreate cloexec) ks = fine_moved b _ ks _ refl refl refl
   fine_call caller p (EpollCtl epfd op fd mask tag) ks = fine_plainly b _ ks _ (good_ctl p epfd op fd mask tag)
   fine_call caller p (EpollWait epfd most timeout) ks = fine_wait b _ caller p.0 (named_by b.files p.0 epfd.0) (number_in most) timeout ks
-  fine_call caller p (Read fd n) ks = fine_moved b _ ks _ refl refl refl
-  fine_call caller p (Write fd bytes) ks = fine_moved b _ ks _ refl refl refl
-  fine_call caller p (Shutdown fd) ks = fine_moved b _ ks _ refl refl refl
-  fine_call caller p (SetTime fd absolute value interval) ks = fine_moved b _ ks _ refl refl refl
-  fine_call caller p (GetTime fd) ks = fine_moved b _ ks _ refl refl refl
-  fine_call caller p (Dup fd) ks = fine_moved b _ ks _ refl refl refl
-  fine_call caller p (Dup2 fd to) ks = fine_moved b _ ks _ refl refl refl
-  fine_call caller p (Close fd) ks = fine_moved b _ ks _ refl refl refl
-  fine_call caller p Fork ks = fine_moved b _ ks _ refl refl refl
-  fine_call caller p Exec ks = fine_moved b _ ks _ refl refl refl
-  fine_call caller p Exit ks = fine_moved b _ ks _ refl refl refl
+  fine_call caller p call ks = fine_moved b _ ks _ refl refl refl
 
   fine_change : (caller : ℕ) (event : Event) (ks : List ℕ) → Fine b event ks (change limits b caller event ks)
   fine_change caller (CallOf p call) ks = fine_call caller p call ks

@@ -8,7 +8,7 @@ use Rattle.std.proofs.lemmas.List.{length-drop}
 use Rattle.std.proofs.lemmas.Nat.{le-div}
 use Rattle.std.proofs.Math.Nat.{div-mul-le_self}
 use Rattle.ep_base.specs.declared.call.Call.{Call}
-use Rattle.ep_base.specs.declared.call.Call.TheVariants.{Close, Dup, Dup2, EpollCreate, EpollCtl, EpollWait, EventFd, Exec, Exit, Fork, GetTime, Pipe as PipeCall, Plain, Read, SetTime, Shutdown, SocketPair, TimerFd, Write}
+use Rattle.ep_base.specs.declared.call.Call.TheVariants.{GetTime, Read, SetTime, Shutdown, Write}
 use Rattle.ep_base.specs.declared.errno.Errno.{Errno}
 use Rattle.ep_base.specs.declared.object.End.{End}
 use Rattle.ep_base.specs.declared.object.End.TheVariants.{First, Second}
@@ -180,20 +180,12 @@ shutdown_stays (timer t) e o now ne = covers_self _ 0
 shutdown_stays instance e o now ne = covers_self _ 0
 
 settime_stays : (x : Object) (e o : End) (absolute : Bool) (value interval now : ℕ) → e ≢ o → object_has x e ≡ true → object_has x o ≡ true → Shows x (settime x absolute value interval now).1 o now now
-settime_stays plain e o absolute value interval now ne h k = covers_self _ 0
-settime_stays (pipe p) e o absolute value interval now ne h k = covers_self _ 0
-settime_stays (pair p) e o absolute value interval now ne h k = covers_self _ 0
-settime_stays (counter c) e o absolute value interval now ne h k = covers_self _ 0
 settime_stays (timer t) e o absolute value interval now ne h k = one_end e o ne h k
-settime_stays instance e o absolute value interval now ne h k = covers_self _ 0
+settime_stays x e o absolute value interval now ne h k = covers_self _ 0
 
 gettime_stays : (x : Object) (o : End) (now : ℕ) → Shows x (gettime x now).1 o now now
 gettime_stays plain o now = covers_self _ 0
-gettime_stays (pipe p) o now = covers_self _ 0
-gettime_stays (pair p) o now = covers_self _ 0
-gettime_stays (counter c) o now = covers_self _ 0
-gettime_stays (timer t) o now = covers_self _ 0
-gettime_stays instance o now = covers_self _ 0
+gettime_stays x o now = covers_self _ 0
 
 -- any call, at the other end
 pub call_stays : (x : Object) (e o : End) (now : ℕ) (call : Call) → e ≢ o → object_has x e ≡ true → object_has x o ≡ true → Shows x (attempt (object_refusals x e now call) x (object_effect x e now call)).1 o now now
@@ -203,20 +195,7 @@ call_stays x e o now (Shutdown fd) ne h k = unless_stays (first (object_refusals
 call_stays x e o now (SetTime fd absolute value interval) ne h k =
     unless_stays (first (object_refusals x e now (SetTime fd absolute value interval))) x (settime x absolute value interval now) o now (settime_stays x e o absolute value interval now ne h k)
 call_stays x e o now (GetTime fd) ne h k = unless_stays (first (object_refusals x e now (GetTime fd))) x (gettime x now) o now (gettime_stays x o now)
-call_stays x e o now (PipeCall cloexec) ne h k = covers_self _ 0
-call_stays x e o now (EventFd init semaphore cloexec) ne h k = covers_self _ 0
-call_stays x e o now (TimerFd clock cloexec) ne h k = covers_self _ 0
-call_stays x e o now (SocketPair cloexec) ne h k = covers_self _ 0
-call_stays x e o now (Plain cloexec) ne h k = covers_self _ 0
-call_stays x e o now (EpollCreate cloexec) ne h k = covers_self _ 0
-call_stays x e o now (EpollCtl epfd op fd mask tag) ne h k = covers_self _ 0
-call_stays x e o now (EpollWait epfd most timeout) ne h k = covers_self _ 0
-call_stays x e o now (Dup fd) ne h k = covers_self _ 0
-call_stays x e o now (Dup2 fd to) ne h k = covers_self _ 0
-call_stays x e o now (Close fd) ne h k = covers_self _ 0
-call_stays x e o now Fork ne h k = covers_self _ 0
-call_stays x e o now Exec ne h k = covers_self _ 0
-call_stays x e o now Exit ne h k = covers_self _ 0
+call_stays x e o now call ne h k = covers_self _ 0
 
 -- Closes.
 pub close_stays : (x : Object) (e o : End) (now : ℕ) → Shows x (close_end x e).0 o now now
@@ -256,12 +235,8 @@ timer_stays : (t : Timer) (old new : ℕ) → old ≤ new → nat_lt 0 (unread t
 timer_stays t old new le h = let more = expirations_grow t.first_moment t.interval old new le in grind (arith, nat_tests, more, h)
 
 pub clock_stays : (x : Object) (e : End) (old new : ℕ) → old ≤ new → Shows x x e old new
-clock_stays plain e old new le = covers_self _ 0
-clock_stays (pipe p) e old new le = covers_self _ 0
-clock_stays (pair p) e old new le = covers_self _ 0
-clock_stays (counter c) e old new le = covers_self _ 0
 clock_stays (timer t) e old new le = when_stays _ _ IN (timer_stays t old new le)
-clock_stays instance e old new le = covers_self _ 0
+clock_stays x e old new le = covers_self _ 0
 
 -- The laws.
 pub call_ends_here_only : CallEndsHereOnly

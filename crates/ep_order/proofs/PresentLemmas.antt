@@ -5,7 +5,7 @@ use Rattle.std.proofs.lemmas.List.{get_or_append_left}
 use Rattle.ep_base.specs.Limits.{Limits}
 use Rattle.ep_base.specs.declared.answer.Answer.TheVariants.{Events}
 use Rattle.ep_base.specs.declared.call.Call.{Call}
-use Rattle.ep_base.specs.declared.call.Call.TheVariants.{Close, Dup, Dup2, EpollCreate, EpollCtl, EpollWait, EventFd, Exec, Exit, Fork, GetTime, Pipe as PipeCall, Plain, Read, SetTime, Shutdown, SocketPair, TimerFd, Write}
+use Rattle.ep_base.specs.declared.call.Call.TheVariants.{Dup2, EpollCreate, EpollCtl, EpollWait, EventFd, GetTime, Pipe as PipeCall, Plain, Read, SetTime, Shutdown, SocketPair, TimerFd, Write}
 use Rattle.ep_base.specs.declared.call.Event.{Event}
 use Rattle.ep_base.specs.declared.call.Event.TheVariants.{Call as CallOf, Resume, Tick}
 use Rattle.ep_base.specs.declared.errno.Errno.{Errno}
@@ -243,12 +243,8 @@ module _ (limits : Limits) (b : State) (ends : HaveOwnEnds b.files) (made : AreM
   fine_call caller p (SetTime fd absolute value interval) ks allowed =
       fine_object (CallOf p (SetTime fd absolute value interval)) p.0 fd.0 (SetTime fd absolute value interval) ks allowed (λ d h. h)
   fine_call caller p (GetTime fd) ks allowed = fine_object (CallOf p (GetTime fd)) p.0 fd.0 (GetTime fd) ks allowed (λ d h. h)
-  fine_call caller p (Dup fd) ks allowed = fine_tables b _ ks _ refl (λ d q here. here) refl refl
   fine_call caller p (Dup2 fd to) ks allowed = fine_files b _ ks _ refl (holds_dup2 b.files p.0 fd.0 to.0 (named_by b.files p.0 fd.0) b.now)
-  fine_call caller p (Close fd) ks allowed = fine_tables b _ ks _ refl (λ d q here. here) refl refl
-  fine_call caller p Fork ks allowed = fine_tables b _ ks _ refl (λ d q here. here) refl refl
-  fine_call caller p Exec ks allowed = fine_tables b _ ks _ refl (λ d q here. here) refl refl
-  fine_call caller p Exit ks allowed = fine_tables b _ ks _ refl (λ d q here. here) refl refl
+  fine_call caller p call ks allowed = fine_tables b _ ks _ refl (λ d q here. here) refl refl
 
   goes_tick : (k : ℕ) → Goes b (Tick k) (tick b k).1
   goes_tick k = record { arrivals = refl; holds = λ d p uncalled here. record { place = here; shows = clock_stays (object_there b.files p.object) p.side b.now (b.now + k) (omega arith) } }

@@ -10,7 +10,6 @@ use Rattle.ep_base.specs.declared.errno.Errno.{Errno}
 use Rattle.ep_base.specs.declared.ids.CallerId.{CallerId}
 use Rattle.ep_base.specs.declared.ids.DescId.{DescId}
 use Rattle.ep_base.specs.declared.ids.EntryId.{EntryId}
-use Rattle.ep_base.specs.declared.object.End.{End}
 use Rattle.ep_base.specs.declared.record.Record.{Record}
 use Rattle.ep_calls.proofs.EndLemmas.{rested, rests_so}
 use Rattle.ep_calls.proofs.EntryLemmas.{holds_under, member_of}
@@ -38,7 +37,9 @@ use Rattle.ep_machine.specs.Bits.{ET, IN, asked, has_bit, when}
 use Rattle.ep_machine.specs.Effect.{first}
 use Rattle.ep_machine.specs.Files.{Files, Place, object_at, object_of, place_of, side_of}
 use Rattle.ep_machine.specs.Lists.{is_among}
-use Rattle.ep_machine.specs.Objects.{Object, counter, instance, pair, pipe, plain, timer}
+use Rattle.ep_law.proofs.ReachLemmas.{instance_is}
+use Rattle.ep_law.proofs.ReadinessLemmas.{present_same}
+use Rattle.ep_machine.specs.Objects.{Object, instance}
 use Rattle.ep_machine.specs.Readiness.{is_fresh, is_ready as is_ready_in, is_reportable, is_reportable_by, present_by, present_of, shown}
 use Rattle.ep_machine.specs.Refusal.{refusals}
 use Rattle.ep_machine.specs.State.{Change, State, Watch}
@@ -60,16 +61,6 @@ use Rattle.ep_table.specs.Value.{Sound as SoundTables, number_under as desc_numb
 use Rattle.ep_view.proofs.ClimbLemmas.{zero_asked}
 use Rattle.ep_view.proofs.KernelViewLemmas.{ready_kept}
 use Rattle.ep_view.specs.KernelView.{KernelWatch, kernel_watch, kernel_watches, ready_now, shows}
-
--- What is said of instances counts of an instance alone.
-same_present : (r q : ℕ → Bool) (d : ℕ) (o : Option Object) (e : End) (now : ℕ) → (o ≡ Some instance → q d ≡ r d) → present_of q d o e now ≡ present_of r d o e now
-same_present r q d None e now h = refl
-same_present r q d (Some plain) e now h = refl
-same_present r q d (Some (pipe p)) e now h = refl
-same_present r q d (Some (pair p)) e now h = refl
-same_present r q d (Some (counter c)) e now h = refl
-same_present r q d (Some (timer t)) e now h = refl
-same_present r q d (Some instance) e now h = ap (λ (b : Bool). when b IN) (h refl)
 
 -- an instance that shows something is ready
 shown_ready : (armed b : Bool) (mask : ℕ) → nat_lt 0 (when armed (asked mask (when b IN))) ≡ true → b ≡ true
@@ -217,8 +208,8 @@ module _ (law : UntouchedStayReportable) (past : List Record) (old mid left : Pa
           let stays : t ≡ b = to_state _ outcome.answer _ t b (ap (step limits s caller.0 event) (sym r.unpicked) ∙ goes) (refused_step limits s caller.0 event error refused) in
           let was : Member y s.watches = subst (λ (u : State). Member y u.watches) stays there in
           let same : present_by later s y.target ≡ present_by (is_ready_in s) s y.target =
-          same_present (is_ready_in s) later y.target (object_of s.files y.target) (side_of s.files y.target) s.now
-          (λ o. stays_ready y was number target o ∙ sym (instance_ready s y (before y was number) o)) in
+          present_same later (is_ready_in s) y.target (object_of s.files y.target) (side_of s.files y.target) s.now
+          (λ h. let o = instance_is (object_of s.files y.target) h in stays_ready y was number target o ∙ sym (instance_ready s y (before y was number) o)) in
           let then : is_reportable_by later s y ≡ true = (λ i. nat_lt 0 (when y.armed (asked y.mask (same i))) && (not (has_bit y.mask ET) || is_fresh s y)) ∙ before y was number in
           subst (λ (u : State). is_reportable_by later u y ≡ true) (sym stays) then
 

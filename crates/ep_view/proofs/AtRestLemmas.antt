@@ -1,6 +1,7 @@
 -- In each state of a run what holds at the end of each event holds, and no waiter is forgotten.
 use Rattle.std.proofs.Common.{ap, ◌≡◌, ◌==◌, ℕ, zero, suc, ◌+◌, ◌≤◌, ◌&&◌, ◌++◌, All, Bool, List, [], ◌∷◌, MatchOption, None, Option, Some, ℤ, pos, negsuc, true, false, not, arith, cond, filter, get_or, inl, inr, if◌then◌else◌, is_none, is_some, map, nat_eq, nat_lt, refl, subst, sym, ◌∙◌, unwrap_or}
 use Rattle.std.specs.List.{AllByRecursion, IsDistinct}
+use Rattle.std.proofs.lemmas.Bool.{not-false}
 use Rattle.std.proofs.lemmas.Bool.Decides.{nat_tests}
 use Rattle.std.proofs.lemmas.List.Elements.{All-filter, All-map, All-push, All-weaker}
 use Rattle.ep_base.specs.Limits.{Limits}
@@ -22,9 +23,10 @@ use Rattle.ep_machine.specs.Effect.{first}
 use Rattle.ep_machine.specs.Files.{Files, Place, is_live, named_by, names_nothing, object_at, object_number, object_of, object_under, place_of, side_under, table_of}
 use Rattle.ep_machine.specs.FilesCalls.{FilesCall, close_of, dup2_of, dup_of, epoll_create_of, eventfd_of, exec_of, exit_of, fork_of, pipe_of, plain_of, socketpair_of, timerfd_of}
 use Rattle.ep_machine.specs.Lists.{is_among}
-use Rattle.ep_machine.specs.Objects.{Object, counter, instance, is_instance, is_plain, object_effect, pair, pipe, plain, timer}
+use Rattle.ep_view.proofs.KindLemmas.{kind_of_instance, watched_unless_plain}
+use Rattle.ep_machine.specs.Objects.{Object, counter, instance, object_effect, pair, pipe, plain, timer}
 use Rattle.ep_machine.specs.Pipe.{new_pipe}
-use Rattle.ep_view.specs.AtRest.{Changed, HasSeen, IsSteady, AtRest, can_be_watched, kind_of}
+use Rattle.ep_view.specs.AtRest.{Changed, HasSeen, IsSteady, AtRest, kind_of}
 use Rattle.ep_machine.specs.Readiness.{is_ready}
 use Rattle.ep_machine.specs.Refusal.{call_refusals, ctl_refusals, refusals, wait_refusals}
 use Rattle.ep_machine.specs.Report.{is_pick, plainly, report, report_of, reported, watches_at}
@@ -136,16 +138,6 @@ quiet_object_change s p fd call h there =
     let x = (object_effect (object_under s.files p fd) (side_under s.files p fd) s.now call).1 in
     quiet_files s _ h (filed_with_object s.files k x (filed s h)) (object_extends s p fd call h there)
 
--- ADD.
-shows_from_tests : (o : Option Object) → is_plain (unwrap_or o plain) ≡ false → can_be_watched o ≡ true
-shows_from_tests None p = cc
-shows_from_tests (Some plain) p = cc
-shows_from_tests (Some (pipe q)) p = refl
-shows_from_tests (Some (pair q)) p = refl
-shows_from_tests (Some (counter q)) p = refl
-shows_from_tests (Some (timer q)) p = refl
-shows_from_tests (Some instance) p = refl
-
 quiet_watches : (s : State) (xs : List Watch) (added : ℕ) → AtRest s → All (λ x. IsSteady s.files x.instance x.target) xs → All (λ x. HasSeen x.seen (counts_of s x.target)) xs → Changed (record s { watches = xs; added = added })
 quiet_watches s xs added h steady seen = let was = weaken s h in record { now = h.now; placed = h.placed; lives = was.lives; watches = steady; seen = seen; waiting = h.waiting; callers = h.callers }
 
@@ -192,7 +184,7 @@ quiet_ctl limits s p epfd op fd mask tag h tests =
     let steady : IsSteady s.files e d = record {
       instance_lives = named_lives s.files p epfd (filed s h) tests.0;
       target_lives = named_lives s.files p fd (filed s h) tests.1.0;
-      target_shows = shows_from_tests (object_of s.files d) tests.1.1.0;
+      target_shows = watched_unless_plain (object_of s.files d) tests.1.1.0;
     } in
     quiet_if (is_add op) (add s e k d mask tag) (if is_del op then delete s e k d else modify s e k d mask tag)
     (λ _. quiet_add s e k d mask tag h steady)
@@ -283,20 +275,11 @@ quiet_wait_for s caller p e most (pos zero) h free lives one = weaken s h
 quiet_wait_for s caller p e most (pos (suc k)) h free lives one = changed_parked s _ (weaken s h) free lives one
 quiet_wait_for s caller p e most (negsuc k) h free lives one = changed_parked s _ (weaken s h) free lives one
 
-kind_instance : (o : Option Object) → not (is_instance (unwrap_or o plain)) ≡ false → kind_of o ≡ 1
-kind_instance None h = cc
-kind_instance (Some plain) h = cc
-kind_instance (Some (pipe q)) h = cc
-kind_instance (Some (pair q)) h = cc
-kind_instance (Some (counter q)) h = cc
-kind_instance (Some (timer q)) h = cc
-kind_instance (Some instance) h = refl
-
 fine_wait : (s : State) (caller p : ℕ) (epfd most timeout : ℤ) (ks : List ℕ) → AtRest s → is_parked s caller ≡ false → AllByRecursion (λ t. t.0 ≡ false) (wait_refusals s p epfd most) → Fine (wait s caller p (named_by s.files p epfd) (number_in most) timeout ks)
 fine_wait s caller p epfd most timeout ks h free tests =
     let e = named_by s.files p epfd in
     let lives = named_lives s.files p epfd (filed s h) tests.1.0 in
-    let one = kind_instance (object_of s.files e) tests.1.1.0 in
+    let one = kind_of_instance (object_of s.files e) (not-false _ tests.1.1.0) in
     fine_if (is_ready s e) _ _ (fine_report s e (number_in most) ks h) (fine_plainly ks _ (quiet_wait_for s caller p e (number_in most) timeout h free lives one))
 
 -- A resumption.
@@ -463,12 +446,8 @@ call_reaches limits s caller p (Shutdown fd) ks h allowed = reaches_plainly s.fi
 call_reaches limits s caller p (SetTime fd absolute value interval) ks h allowed =
     reaches_plainly s.files ks _ (object_extends s p fd.0 (SetTime fd absolute value interval) h (none_holds (call_refusals limits s p (SetTime fd absolute value interval)) allowed).0)
 call_reaches limits s caller p (GetTime fd) ks h allowed = reaches_plainly s.files ks _ (object_extends s p fd.0 (GetTime fd) h (none_holds (call_refusals limits s p (GetTime fd)) allowed).0)
-call_reaches limits s caller p (Dup fd) ks h allowed = reaches_plainly s.files ks _ (same_tables s.files _)
 call_reaches limits s caller p (Dup2 fd to) ks h allowed = reaches_plainly s.files ks _ (extends_dup2 s.files p fd.0 to.0 (named_by s.files p fd.0))
-call_reaches limits s caller p (Close fd) ks h allowed = reaches_plainly s.files ks _ (same_tables s.files _)
-call_reaches limits s caller p Fork ks h allowed = reaches_plainly s.files ks _ (same_tables s.files _)
-call_reaches limits s caller p Exec ks h allowed = reaches_plainly s.files ks _ (same_tables s.files _)
-call_reaches limits s caller p Exit ks h allowed = reaches_plainly s.files ks _ (same_tables s.files _)
+call_reaches limits s caller p call ks h allowed = reaches_plainly s.files ks _ (same_tables s.files _)
 
 reaches_left : (f : Files) (caller : ℕ) (o : Option Change) → Reaches f o → Reaches f (leave_after caller o)
 reaches_left f caller None h = reaches_none f

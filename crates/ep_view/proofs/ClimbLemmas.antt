@@ -6,7 +6,7 @@ use Rattle.ep_machine.specs.Bits.{ERR, HUP, IN, OUT, RDHUP, asked, has_bit, unio
 use Rattle.ep_machine.specs.Counts.{brings, every_shown_bit, holds_wanted}
 use Rattle.ep_machine.specs.Files.{Files, is_live, object_of}
 use Rattle.ep_view.specs.KernelView.{KernelWatch, carries, climbed, freshened, kernel_watches, kernel_watch, reached_now, reached_within, stays_in, watches_instance}
-use Rattle.ep_machine.specs.Objects.{Object, counter, instance, is_instance, pair, pipe, plain, timer}
+use Rattle.ep_machine.specs.Objects.{Object, instance, is_instance, plain}
 use Rattle.ep_machine.specs.Readiness.{is_fresh}
 use Rattle.ep_machine.specs.Spread.{arrived, is_reached, is_reached_within, passes_on_by, raised_alive, raised_of, reaching_of, spread}
 use Rattle.ep_machine.specs.State.{State, Watch}
@@ -17,11 +17,7 @@ use Rattle.ep_law.proofs.TestLemmas.{same_nat}
 pub reaching_is : (r : ℕ → Bool) (d : ℕ) (o : Option Object) → reaching_of r d o ≡ when (is_instance (unwrap_or o plain) && r d) IN
 reaching_is r d None = refl
 reaching_is r d (Some plain) = refl
-reaching_is r d (Some (pipe p)) = refl
-reaching_is r d (Some (pair p)) = refl
-reaching_is r d (Some (counter c)) = refl
-reaching_is r d (Some (timer t)) = refl
-reaching_is r d (Some instance) = refl
+reaching_is r d o = refl
 
 never : (p : Bool) → (p && false) ≡ false
 never true = refl

@@ -8,5 +8,6 @@ pub mod ClimbLemmas
 pub mod MarkingLemmas
 pub mod NarrowingLemmas
 pub mod RaisedLemmas
+pub mod KindLemmas
 pub mod SettleLemmas
 pub mod AtRestLemmas

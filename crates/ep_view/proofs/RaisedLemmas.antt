@@ -15,27 +15,20 @@ use Rattle.ep_law.proofs.TestLemmas.{from_test}
 use Rattle.ep_machine.specs.Bits.{IN, at_end, has_bit, nothing, when}
 use Rattle.ep_machine.specs.Deaths.{buried, die, die_all, dying, kept_object}
 use Rattle.ep_machine.specs.Files.{Files, Place, is_live, object_at, object_of, place_of, raised_at}
-use Rattle.ep_machine.specs.Objects.{Object, close_end, counter, instance, is_instance, pair, pipe, plain, timer}
+use Rattle.ep_machine.specs.Objects.{Object, close_end, instance, is_instance, pair, pipe, plain}
 use Rattle.ep_machine.specs.Spread.{is_reached, raised_alive, raised_of, reaching_of, spread}
 use Rattle.ep_machine.specs.State.{State}
 use Rattle.ep_view.proofs.FreshLemmas.{alive_raised, raised_live, raised_parts, raised_place}
 
 -- An end that closes.
 close_raises : (x : Object) (e : End) → is_instance (close_end x e).0 ≡ true → (close_end x e).1 ≡ nothing
-close_raises plain e h = refl
 close_raises (pipe p) e h = absurd (false≢true h)
 close_raises (pair p) e h = absurd (false≢true h)
-close_raises (counter c) e h = refl
-close_raises (timer t) e h = refl
-close_raises instance e h = refl
+close_raises x e h = refl
 
 close_stays : (x : Object) (e : End) → is_instance x ≡ true → is_instance (close_end x e).0 ≡ true
 close_stays plain e h = h
-close_stays (pipe p) e h = h
-close_stays (pair p) e h = h
-close_stays (counter c) e h = h
-close_stays (timer t) e h = h
-close_stays instance e h = h
+close_stays x e h = h
 
 kept_instance : (b : Bool) (x : Object) → is_instance (unwrap_or (if b then Some x else None) plain) ≡ true → is_instance x ≡ true
 kept_instance true x h = h

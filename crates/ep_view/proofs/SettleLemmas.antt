@@ -32,7 +32,8 @@ use Rattle.std.specs.List.{IsDistinct, list_any}
 use Rattle.ep_view.specs.Marking.{gets_mark_now, guarded_now, keeps_passing, left_now, narrowed_now, passing_if}
 use Rattle.ep_law.specs.Laws.{Member, has_instance}
 use Rattle.ep_law.specs.Narrow.{IsRegular}
-use Rattle.ep_machine.specs.Objects.{Object, counter, instance, is_instance, pair, pipe, plain, timer}
+use Rattle.ep_view.proofs.KindLemmas.{is_instance_of_kind}
+use Rattle.ep_machine.specs.Objects.{Object, instance, is_instance, plain}
 use Rattle.ep_machine.specs.Exclusive.{gets_mark, is_guarded, is_left, is_woken}
 use Rattle.ep_law.proofs.ListLemmas.{all_member}
 use Rattle.ep_law.proofs.ReachLemmas.{any_has}
@@ -194,16 +195,6 @@ seen_came earlier a xs h = All-map (λ x. HasSeen x.seen (counts_of a x.target))
   one : (x : Watch) → HasSeen x.seen (counts_of a x.target) → HasSeen (came earlier a x).seen (counts_of a (came earlier a x).target)
   one x h = elim (not (is_among earlier x.number) && is_reportable a x) as (λ b. HasSeen (cond b (record x { from = a.n }) x).seen (counts_of a (cond b (record x { from = a.n }) x).target)) [ true ↦ h | false ↦ h ]
 
--- an instance, which lives
-kind_instance : (o : Option Object) → kind_of o ≡ 1 → is_instance (unwrap_or o plain) ≡ true
-kind_instance None h = cc
-kind_instance (Some plain) h = cc
-kind_instance (Some (pipe p)) h = cc
-kind_instance (Some (pair p)) h = cc
-kind_instance (Some (counter c)) h = cc
-kind_instance (Some (timer t)) h = cc
-kind_instance (Some instance) h = refl
-
 instance_lives : (f : Files) (d : ℕ) → has_instance f d ≡ true → is_live f d ≡ true
 instance_lives f d h = by (place_of f d) h where
   by : (o : Option Place) → is_instance (unwrap_or (object_at f o) plain) ≡ true → is_some o ≡ true
@@ -289,7 +280,7 @@ module _ (before after : State) (raised : List (ℕ × ℕ)) (counted : (0 == af
         let v = due_member unmarked.now after.waiters w m in
         let at = all_member (λ u. kind_of (object_of (after_all after.files (dying after)) u.instance) ≡ 1) after.waiters v.0 (waits_on after h) v.1 in
         let same : left_files ≡ after_all after.files (dying after) = raised_before after.files raised (dying after) in
-        ap (has_instance left_files) (sym v.2) ∙ (ap (λ (f : Files). has_instance f v.0.instance) same ∙ kind_instance _ at)
+        ap (has_instance left_files) (sym v.2) ∙ (ap (λ (f : Files). has_instance f v.0.instance) same ∙ is_instance_of_kind _ at)
 
     abbrev due_now : List Waiter
     due_now = map (marked_if_due unmarked.now) after.waiters
