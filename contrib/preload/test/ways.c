@@ -8,6 +8,7 @@
 #include <stdlib.h>
 #include <string.h>
 #include <sys/resource.h>
+#include <sys/stat.h>
 #include <sys/wait.h>
 #include <unistd.h>
 
@@ -318,6 +319,33 @@ static void killed(void) {
     close(out[0]);
 }
 
+/* The program sleeps in the real kernel until its child has written more than a real pipe of a page holds. */
+static void in_real_wait(void) {
+    enum { ALL = 20000 };
+    char folder[] = "/tmp/nippersage-ways-XXXXXX", path[64], bytes[ALL] = {0};
+    size_t came = 0;
+    ssize_t got;
+    pid_t child;
+    int fifo;
+    snprintf(path, sizeof path, "%s/fifo", mkdtemp(folder));
+    mkfifo(path, 0600);
+    pipe(out);
+    child = fork();
+    if (child == 0) {
+        write_all(out[1], bytes, ALL);
+        write_all(open(path, O_WRONLY), "x", 1);
+        _exit(9);
+    }
+    close(out[1]);
+    fifo = open(path, O_RDONLY);
+    trace("a real wait: %ld", outcome(read(fifo, bytes, 1)));
+    while ((got = read(out[0], bytes, sizeof bytes)) > 0) came += (size_t)got;
+    trace("meanwhile came: %zu, its end: %d", came, end_of(child));
+    close(fifo), close(out[0]);
+    unlink(path);
+    rmdir(folder);
+}
+
 /* ---- beside threads ---- */
 
 static void *read_one(void *fd) {
@@ -356,6 +384,7 @@ int main(void) {
     closes_but_error();
     slowly();
     killed();
+    in_real_wait();
     beside_reader();
     by_fork_alone();
     usleep(10000);
