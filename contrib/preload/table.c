@@ -405,8 +405,8 @@ int close_range(unsigned int first, unsigned int last, int flags) {
         return refuse(EINVAL, "close_range(%u, %u): CLOSE_RANGE_UNSHARE of simulated descriptors is not simulated",
                       first, last);
     if (last < border || first > last) return next_close_range()(first, last, flags);
-    /* Above the border there is no real descriptor: that call asks for the flags alone. */
-    status = next_close_range()(first, first < border ? border - 1 : last, flags);
+    /* What is real above the border is the shim's own, and none is at the border: that call asks for the flags alone. */
+    status = next_close_range()(first < border ? first : border, first < border ? border - 1 : border, flags);
     if (status == 0) close_simulated(first < border ? border : first, last, flags);
     return (int)ANSWER(status < 0 ? -errno : 0, "close_range(%u, %u, %#x)", first, last, flags);
 }

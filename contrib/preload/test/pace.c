@@ -80,15 +80,26 @@ static void chatter(void) {
     close(out[0]);
 }
 
-/* A poll that finds nothing takes no more than its real time. */
+/* How long the machine has been up, in milliseconds: the shim leaves that alone. It goes by hundredths of a second. */
+static long real_now(void) {
+    FILE *file = fopen("/proc/uptime", "r");
+    double seconds = 0;
+    if (!file || fscanf(file, "%lf", &seconds) != 1) printf("no real time\n");
+    if (file) fclose(file);
+    return (long)(seconds * 1000);
+}
+
+/* Polls that find nothing take no more than their real time: at most a millisecond for a real one. */
 static void polls(void) {
-    int out[2];
+    int out[2], count = 0;
     pid_t child = run("sleep 0.3; echo x", out);
-    long began = clock_now(), passed;
+    long real = real_now(), began = clock_now(), passed;
     struct pollfd file = {out[0], POLLIN, 0};
-    while (poll(&file, 1, 0) == 0) continue;
+    while (poll(&file, 1, 0) == 0) count++;
     passed = clock_now() - began;
-    printf("polls: %s\n", passed > 20000 ? "far too many milliseconds" : "real milliseconds");
+    real = real_now() - real;
+    printf("polls: %s\n", count > 100 && passed > 0 && passed <= real + 20 ? "real milliseconds" : "other ones");
+    if (passed > real + 20) printf("%ld ms in %ld real ones\n", passed, real);
     waitpid(child, NULL, 0);
     close(out[0]);
 }

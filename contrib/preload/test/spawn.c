@@ -11,6 +11,7 @@
 #include <string.h>
 #include <sys/epoll.h>
 #include <sys/pidfd.h>
+#include <sys/select.h>
 #include <sys/syscall.h>
 #include <sys/wait.h>
 #include <unistd.h>
@@ -48,7 +49,8 @@ static void ask(const char *name, const char *command, posix_spawn_file_actions_
 static void files(void) {
     char *words[] = {"sh", "-c", "ls /proc/self/fd | wc -l", NULL};
     posix_spawn_file_actions_t actions;
-    int other[2];
+    char command[150];
+    int other[2], kept;
     pid_t child = -1;
     pipe(other);
     posix_spawn_file_actions_init(&actions);
@@ -60,8 +62,13 @@ static void files(void) {
     posix_spawn_file_actions_addclose(&actions, 199);
     posix_spawn_file_actions_addchdir_np(&actions, "/usr/lib");
     posix_spawn_file_actions_adddup2(&actions, other[0], 109);
-    ask("files",
-        "pwd; cd /proc/self/fd; test -e 107 && echo 7; test -e 108 || echo no 8; test -p 109 && echo 9", &actions, NULL);
+    kept = dup3(other[0], other[0] + 50, O_CLOEXEC);
+    posix_spawn_file_actions_adddup2(&actions, kept, kept);
+    snprintf(command, sizeof command,
+             "pwd; cd /proc/self/fd; test -e 107 && echo 7; test -e 108 || echo no 8; test -p 109 && echo 9;"
+             "test -p %d && echo kept", kept);
+    ask("files", command, &actions, NULL);
+    close(kept);
     posix_spawn_file_actions_destroy(&actions);
     posix_spawn_file_actions_init(&actions);
     posix_spawn_file_actions_adddup2(&actions, other[1], 1);
@@ -131,6 +138,7 @@ static void pidfds(void) {
     posix_spawn_file_actions_t actions;
     struct epoll_event wanted = {.events = EPOLLIN | EPOLLOUT}, shown[4];
     struct pollfd file;
+    fd_set set;
     siginfo_t info = {0};
     int in[2], out[2], ep = epoll_create1(0), fd, count;
     char byte;
@@ -158,6 +166,10 @@ static void pidfds(void) {
     tell_all("it said", out[0]);
     count = poll(&file, 1, 0);
     trace("poll: %d, %#x", count, file.revents);
+    FD_ZERO(&set);
+    FD_SET(fd, &set);
+    count = select(fd + 1, &set, NULL, NULL, NULL);
+    trace("select: %d, %d", count, FD_ISSET(fd, &set) != 0);
     trace("waitid: %ld, %d, %d", outcome(waitid(P_PIDFD, (id_t)fd, &info, WEXITED)), info.si_pid == child,
           info.si_status);
     trace("gone: %ld", outcome(waitid(P_PIDFD, (id_t)fd, &info, WEXITED)));
