@@ -7,7 +7,7 @@ from typing import Any, Callable, List, Optional, Sequence, Tuple
 
 from .._kernel import Kernel, Task
 from .._library import Library, Who
-from .._numbers import Report
+from .._numbers import Report, seconds
 from ._tables import Step
 from ._words import call_text
 
@@ -151,6 +151,9 @@ class KernelDoor(Door):
             raise BadTask(f"{told} of the {self.phase} sleeps, and nobody is there to wake it; a task may wait")
         return answer
 
+    def let_go(self) -> None:
+        self._task_of = lambda ident: None
+
     def _found(self, op: str, who: Who, args: Tuple[Any, ...]) -> NotATask:
         thread = threading.current_thread().name
         told = f"the thread {thread!r} is no task, and called {call_text(op, args, who.pid)} while tasks take turns"
@@ -191,4 +194,4 @@ class Caller(Task):
 
     def now(self) -> float:
         """The simulated clock, in seconds. It takes no turn."""
-        return Kernel.now(self)  # type: ignore[arg-type]
+        return seconds(self._backend.now())

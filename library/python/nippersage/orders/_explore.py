@@ -18,6 +18,7 @@ from ._tables import Step, Watch
 from ._tasks import Workers
 from ._verdict import Verdict, judge
 from ._ways import Every, Given, Pct, Random, Rising, Ways
+from ._words import answer_text
 from ._world import NotTheSame, Program, World
 
 # unittest leaves the frames of this module out of what it prints.
@@ -217,7 +218,7 @@ class Search:
     def one(self, given: Schedule) -> None:
         """Runs one order."""
         began = time.monotonic()
-        ways = Given(given.turns, self._clock, given.is_open)
+        ways = Given(given.turns, self._clock, given.is_open, is_foreign=True)
         try:
             tried = self._run(ways)
         finally:
@@ -250,6 +251,8 @@ class Search:
             if limit:
                 break
             tried = self._run(part.ways)
+            if self.result.runs == 0:
+                self._look_again(tried)
             part.ways.end(tried.turns)
             self._count(tried)
             if tried.verdict is not None and self._first is None:
@@ -258,6 +261,12 @@ class Search:
                 limit = "first failure"
                 break
         self._cover(part, limit, self.result.runs - runs)
+
+    def _look_again(self, first: Tried) -> None:
+        """Runs the first order once more, which has to come to the same."""
+        again = self._run(Given(first.turns, self._clock))
+        if (again.verdict is None) != (first.verdict is None):
+            raise self._came_not_again(again if first.verdict is None else first)
 
     def _cover(self, part: Part, limit: str, runs: int) -> None:
         """Tells what a part came to."""
@@ -281,7 +290,7 @@ class Search:
         try:
             world.run()
             return Tried(
-                world.turns, world.chosen, world.recorder.steps, world.is_cut and bool(world.passed_over),
+                world.turns, world.chosen, world.recorder.steps, world.is_cut and world.is_unfair,
                 *self._came_to(world),
             )
         finally:
@@ -292,7 +301,11 @@ class Search:
         verdict = judge(world)
         if not self._outcomes:
             return verdict, None
-        told = tuple((it.name, tuple(map(repr, it.answers)), it.is_done) for it in world.tasks)
+        answers: List[List[str]] = [[] for _ in range(self._clock + 1)]
+        for number, op, _, _, answer in world.recorder.steps:
+            if op not in ("wait", "resume") or answer is not None:
+                answers[number].append(answer_text(op, answer))
+        told = tuple((it.name, tuple(answers[it.number]), it.is_done) for it in world.tasks)
         return verdict, (told, verdict and verdict.kind)
 
     def _count(self, tried: Tried) -> None:
@@ -346,7 +359,7 @@ class Search:
 
     def _again(self, turns: Sequence[int], verdict: Verdict) -> Optional[Tried]:
         """The order of these turns, with what lacks filled, if it fails in the same way."""
-        tried = self._run(Given(turns, self._clock, True, fills=True))
+        tried = self._run(Given(turns, self._clock, fills=True))
         return tried if verdict.is_like(tried.verdict) else None
 
     def _smallest(self, tried: Tried, verdict: Verdict) -> Any:
@@ -364,8 +377,8 @@ class Search:
     def _came_not_again(self, first: Tried) -> Exception:
         assert first.verdict is not None
         return NotTheSame(
-            f"an order failed, and did not fail again, though its calls were the same: {first.verdict.text}. What the"
-            " check looks at depends on something else than the kernel's answers"
+            f"not the same again: an order failed once and once not, though its calls were the same: {first.verdict.text}."
+            " What the check looks at depends on something else than the kernel's answers"
         )
 
     def _fail(self, small: Tried, first: Tried, how: str) -> None:

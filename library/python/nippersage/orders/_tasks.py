@@ -35,7 +35,6 @@ class Sleeping:
         self.is_done, self.is_parked = False, False
         #: Why the task ended, if by no end of its own.
         self.raised: Optional[BaseException] = None
-        self.answers: List[Any] = []
         self.answer: Any = None
         self.refusal: Optional[Exception] = None
 
@@ -51,11 +50,8 @@ class Sleeping:
                 self.answer, is_wait = self.first_call()
         except (OSError, ValueError, TypeError) as refusal:
             self.answer, self.refusal = None, refusal
-            self.answers.append(str(refusal))
             return True
         self.is_parked = is_wait and self.answer is None
-        if not self.is_parked:
-            self.answers.append(tuple(self.answer) if is_wait else self.answer)
         return not self.is_parked
 
     def first_call(self) -> Tuple[Any, bool]:
@@ -100,10 +96,10 @@ class Calls:
 
     def taken(self, yielded: Any) -> Call:
         """The call that was yielded, which has to be the one that was made."""
-        if yielded is None or yielded is not self._made:
+        if self._made is None or yielded is not self._made:
             raise BadTask(f"the task {self.name!r} yielded {yielded!r}; it yields its calls, as `yield t.read(..)`")
-        self._made = None
-        return yielded
+        call, self._made = self._made, None
+        return call
 
     def at_end(self) -> None:
         if self._made is not None:
@@ -203,7 +199,7 @@ class Worker(threading.Thread):
 
     def run(self) -> None:
         while self._seat.sleep():
-            job = self._job
+            job, self._job = self._job, None
             if job is None:
                 return
             job()
@@ -313,12 +309,23 @@ class ByThread(Sleeping):
         assert who is not None
         return self.recorder.make(self.number, op, who, args), op == "wait"
 
-    def close(self, sleep: Callable[[float], bool]) -> bool:
-        """Ends the thread's task, and waits by `sleep` until it has ended. Whether it did."""
+    def close(self, sleep: Callable[[float], bool]) -> None:
+        """Ends the thread's task, and waits by `sleep` until it has ended. A thread that doesn't end is left alone."""
         if not self.is_done:
             self._is_gone = True
             self.seat.wake()
             if not sleep(_SECONDS):
-                return False
+                return
         self._workers.back(self._worker)
-        return True
+
+    def let_go(self) -> None:
+        """Forgets its order, once that is over."""
+        self._run, self._ended, self._pass_on = _nothing, _nothing, _gone
+
+
+def _nothing(task: ByThread) -> None:
+    pass
+
+
+def _gone(task: ByThread) -> None:
+    raise Gone

@@ -45,7 +45,7 @@ def judge(world: World) -> Optional[Verdict]:
         kind = type(task.raised).__name__
         return Verdict(RAISED, (task.name, kind), f"{task.name} raised {_told(task.raised)}", [], task.raised)
     if world.is_cut:
-        if world.passed_over:
+        if world.is_unfair:
             return None
         return Verdict(ENDLESS, (), f"{ENDLESS}: {world.program.most} turns, and no end", [], None)
     return _of_sleepers(world) or _of_check(world)

@@ -27,6 +27,10 @@ def pre_emptions(ready: Sequence[int], last: int, clock: int) -> List[int]:
 class Ways:
     """Chooses turns. `begin` begins the next order, unless there is none, and `end` is told what came of it."""
 
+    #: Whether the turns are a schedule that somebody gave, and how many of it have still to be.
+    is_foreign = False
+    left = 0
+
     def begin(self) -> bool:
         raise NotImplementedError
 
@@ -218,26 +222,23 @@ class Pct(Random):
 
 
 class Given(Ways):
-    """One order: these turns, and then whoever goes by itself. With `fills`, turns that can't be are left out."""
+    """One order: these turns, and if it is open then whoever goes by itself.
 
-    def __init__(self, turns: Sequence[int], clock: int, is_open: bool, fills: bool = False) -> None:
+    With `fills` turns that can't be are left out. `is_foreign` says that the turns are a schedule that somebody gave, and
+    not those of an order that was run.
+    """
+
+    def __init__(
+        self, turns: Sequence[int], clock: int, is_open: bool = True, fills: bool = False, is_foreign: bool = False,
+    ) -> None:
         self._turns, self._clock, self._is_open, self._fills = turns, clock, is_open, fills
-        self.at = 0
-        self._has_begun = False
-
-    def begin(self) -> bool:
-        is_first, self._has_begun = not self._has_begun, True
-        return is_first
-
-    @property
-    def left(self) -> int:
-        """How many of the turns have still to be."""
-        return 0 if self._fills else len(self._turns) - self.at
+        self.is_foreign = is_foreign
+        self.left = len(turns)
 
     def choose(self, ready: Sequence[int], last: int) -> int:
-        while self.at < len(self._turns):
-            who = self._turns[self.at]
-            self.at += 1
+        while self.left:
+            who = self._turns[-self.left]
+            self.left -= 1
             if who in ready or not self._fills:
                 return who
         return goes_by_itself(ready, last, self._clock) if self._is_open or self._fills else NOBODY

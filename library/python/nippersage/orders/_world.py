@@ -12,7 +12,7 @@ from ._doors import SETUP, BadTask, Caller, ExploredKernel, KernelDoor, NotATask
 from ._schedule import BadSchedule
 from ._tables import Step
 from ._tasks import ByGenerator, ByThread, Seat, ThreadDoor, Workers, is_generator
-from ._ways import NOBODY, Given, Ways, goes_by_itself
+from ._ways import NOBODY, Ways, goes_by_itself
 from ._words import call_text
 
 TheTask = Union[ByGenerator, ByThread]
@@ -66,9 +66,9 @@ class World:
         self.turns: List[int] = []
         #: Behind so many turns each goes by itself.
         self.chosen = 0
-        #: Whether the order had too many turns, and the tasks that could always go on meanwhile and never went.
-        self.is_cut = False
-        self._passed_over: Optional[Set[int]] = None
+        #: Whether the order had too many turns, and whether a task could go on for long meanwhile and never went.
+        self.is_cut, self.is_unfair = False, False
+        self._passed_over: Dict[int, int] = {}
         #: The task that has the baton, if any.
         self._turn: Optional[TheTask] = None
         self._seat = Seat()
@@ -130,22 +130,17 @@ class World:
             raise self._error
         if self._door.stranger is not None:
             raise self._door.stranger
-        wrong = self.raised and self.raised.raised
-        if isinstance(wrong, (BadTask, NotATask)) or wrong and not isinstance(wrong, Exception):
+        wrong = None if self.raised is None else self.raised.raised
+        if wrong is not None and (isinstance(wrong, (BadTask, NotATask)) or not isinstance(wrong, Exception)):
             raise wrong
-        if isinstance(self.ways, Given) and self.ways.left and self.raised is None:
-            self._left_over(self.ways)
+        if self.ways.is_foreign and self.raised is None and self.ways.left:
+            raise self._left_over()
         if self.recorder.at_end():
             raise self._not_the_same() from wrong
 
     @property
     def asleep(self) -> List[TheTask]:
         return [it for it in self.tasks if not it.is_done]
-
-    @property
-    def passed_over(self) -> List[str]:
-        """The tasks that could always go on in the second half of an order that was cut, and never went."""
-        return [self.program.names[it] for it in sorted(self._passed_over or ()) if it != self._clock]
 
     # ---------------------------------------------------------------- the turns
     def _next(self) -> Optional[TheTask]:
@@ -179,9 +174,14 @@ class World:
         if who != goes_by_itself(ready, last, self._clock):
             self.chosen = len(self.turns)
         if len(self.turns) * 2 >= self.program.most:
-            self._passed_over = set(ready) if self._passed_over is None else self._passed_over.intersection(ready)
-            self._passed_over.discard(who)
+            self._pass_over(ready, who)
         return who
+
+    def _pass_over(self, ready: List[int], who: int) -> None:
+        """Counts for how many turns each task could have gone on and didn't. For a quarter of all is unfair."""
+        others = (it for it in ready if it not in (who, self._clock))
+        self._passed_over = {it: self._passed_over.get(it, 0) + 1 for it in others}
+        self.is_unfair |= any(it * 4 >= self.program.most for it in self._passed_over.values())
 
     def _tick(self) -> bool:
         moment = self.library.next_moment()
@@ -248,6 +248,15 @@ class World:
                 task.close()
         self._door.phase = "over"
         self.library.end()
+        self._break_circles()
+
+    def _break_circles(self) -> None:
+        """Lets go of what leads back here, so that a kernel is freed as soon as nobody has it any more."""
+        self._door.let_go()
+        self._by_thread.clear()
+        for task in self.tasks:
+            if isinstance(task, ByThread):
+                task.let_go()
 
     # ------------------------------------------------------------ what is wrong
     def _look_at_calls(self) -> None:
@@ -272,11 +281,11 @@ class World:
 
     def _cannot_go(self, who: int) -> Exception:
         turn = len(self.turns) + 1
-        if who == NOBODY and isinstance(self.ways, Given):
+        if who == NOBODY and self.ways.is_foreign:
             ready = ", ".join(self.program.names[it] for it in self._ready())
             return BadSchedule(f"the schedule ends before turn {turn}, and these can go on: {ready}; write .. at its end")
         why = self._why_not(who)
-        if isinstance(self.ways, Given):
+        if self.ways.is_foreign:
             return BadSchedule(f"turn {turn} of the schedule is one of {self.program.names[who]}, which {why}")
         name = self.program.names[who] if who != NOBODY else "a task"
         return NotTheSame(f"not the same again: in turn {turn} {name} could go on before, and now {why}")
@@ -286,9 +295,9 @@ class World:
             return "can't"
         return "has come to its end" if self.tasks[who].is_done else "sleeps in a wait that nothing has ended"
 
-    def _left_over(self, given: Given) -> None:
-        turn = len(self.turns) + 1
-        raise BadSchedule(f"the schedule has {given.left} turns more, from turn {turn} on, and nobody can go on")
+    def _left_over(self) -> BadSchedule:
+        left, turn = self.ways.left, len(self.turns) + 1
+        return BadSchedule(f"the schedule has {left} more from turn {turn} on, and nobody can go on")
 
     def _stuck(self) -> Stuck:
         task = self._turn
