@@ -500,6 +500,51 @@ class Replays(unittest.TestCase):
         self.assertNotIn("_explore.py", told.stdout.partition("short test summary")[0].replace("/_explore.py:", ""))
 
 
+def page():
+    """docs/orders.md, of the repository or of a release."""
+    above = os.path.dirname(os.path.dirname(HERE))
+    for folder in (above, os.path.dirname(above)):
+        path = os.path.join(folder, "docs", "orders.md")
+        if os.path.isfile(path):
+            with open(path, encoding="utf-8") as text:
+                return text.read()
+    raise AssertionError("there is no docs/orders.md")
+
+
+@unittest.skipUnless(LIBRARY, "there is no library")
+class Page(unittest.TestCase):
+    """What docs/orders.md shows."""
+
+    def test_its_example(self):
+        """It fails with the message that follows it, but for the name of the file and the last line."""
+        text = page()
+        program, = re.findall(r"^```python\n(.*?)^```$", text, re.M | re.S)
+        shown = text.partition("which says:\n\n")[2].partition("\n\nBoth writes")[0]
+        shown = [line[4:] for line in shown.split("\n")]
+        with self.assertRaises(Failed) as caught:
+            exec(program, {"__name__": "page"})
+        told = lines_of(caught.exception)
+        self.assertEqual(told[:-2], shown[:-1])
+        self.assertTrue(told[-2].startswith(shown[-1].partition("python3")[0]))
+        mended = program.replace("t.read(e.reader, 4)", (
+            "\n        while True:\n            try:\n                t.read(e.reader, 4)\n"
+            "            except BlockingIOError:\n                break"
+        ))
+        mended = mended.replace("explore(", "result = explore(")
+        names = {"__name__": "page"}
+        exec(mended, names)
+        whole, = re.findall("`(every order was tried: [0-9]+ orders)`", text)
+        self.assertTrue(str(names["result"]).startswith(whole), names["result"])
+
+    def test_its_table_of_faults(self):
+        rows = re.findall(r"^\| .* \| `(.+)` .* \| ([0-9]+) \| ([0-9]+) \|$", page(), re.M)
+        self.assertEqual(len(rows), len(FAULTS))
+        for (order, found, orders), (faulty, right) in zip(rows, FAULTS.values()):
+            result = faulty.explore(how="rising", raises=False)
+            self.assertEqual((order, int(found)), (result.failure.order, result.runs))
+            self.assertEqual(int(orders), right.explore(how="every").runs)
+
+
 @unittest.skipUnless(LIBRARY, "there is no library")
 class Schedules(unittest.TestCase):
     def explore(self, order, **how):
