@@ -414,8 +414,8 @@ def random_example(seed):
     kinds = ["wait"] * 4 + ["write", "read", "add", "take", "arm", "close", "set"]
     chosen = [bool(chance.randrange(2)), chance.choice(masks), chance.choice(masks)]
     tasks = {}
-    for name in ("a", "b", "c")[:chance.choice((2, 2, 2, 3))]:
-        length = chance.choice((2, 3)) if len(tasks) < 2 else 1
+    for name in ("a", "b", "c")[:chance.choice((2, 2, 2, 2, 3))]:
+        length = chance.choice((2, 2, 3)) if len(tasks) < 2 else 1
         tasks[name] = task([(chance.choice(kinds), chance.randrange(2), chance.randrange(3)) for _ in range(length)])
     return Example(setup, tasks, daemons=tuple(tasks))
 

@@ -5,6 +5,7 @@ from __future__ import annotations
 import os
 import sys
 import time
+from math import ceil
 from operator import index
 from typing import Any, Callable, Collection, List, Mapping, NamedTuple, Optional, Sequence, TypeVar, Union
 
@@ -53,7 +54,7 @@ class Limits(NamedTuple):
     def reached(self, share: float, seconds: float, runs: int) -> str:
         """The limit that is reached, of this share of all, or nothing."""
         if self.runs is not None and runs >= self.runs * share:
-            return f"limit of {count(int(self.runs * share), 'order')}"
+            return f"limit of {count(ceil(self.runs * share), 'order')}"
         if self.seconds is not None and seconds >= self.seconds * share:
             return f"limit of {self.seconds * share:g} s"
         return ""
@@ -247,7 +248,8 @@ class Search:
     def _try_part(self, part: Part, limits: Limits, began: float) -> None:
         runs, limit = self.result.runs, ""
         while part.ways.begin():
-            limit = limits.reached(part.share, time.monotonic() - began, self.result.runs)
+            if self.result.runs:
+                limit = limits.reached(part.share, time.monotonic() - began, self.result.runs)
             if limit:
                 break
             tried = self._run(part.ways)
