@@ -13,8 +13,8 @@ from functools import lru_cache
 from math import comb
 
 from faults import (
-    FAULTS, Example, gives_up_example, herd_example, ignores_end_example, pipe_example, pool_example, proxy_example,
-    reads_all, reads_once,
+    FAULTS, ONE, Example, gives_up_example, herd_example, pipe_example, pool_example, proxy_example, reads_all,
+    reads_once,
 )
 from nippersage import ET, EXCLUSIVE, IN, LIBRARY, ONESHOT, OUT, Limits
 from nippersage.orders import Env, Failed, explore
@@ -158,7 +158,7 @@ class Counts(unittest.TestCase):
 
         def boss(t, e):
             for _ in range(2):
-                yield t.write(e.counter, bytes([1, 0, 0, 0, 0, 0, 0, 0]))
+                yield t.write(e.counter, ONE)
 
         example = Example(setup, {"w1": worker, "w2": worker, "boss": boss}, daemons=["w1", "w2"])
         result = example.explore(how="every", beside=False, outcomes=True)
@@ -303,7 +303,7 @@ class Ways(unittest.TestCase):
         self.assertEqual(result.bound, 1)
         self.assertTrue(str(result).startswith(
             "every order of at most 1 pre-emption: 25 orders, then the limit of 25 orders; "
-            "by chance, seed 0: 25 orders, then the limit of 50 orders; not every order was tried; 0 failures; 600 turns"
+            "by chance, seed 0: 25 orders, then the limit of 50 orders; not every order was tried; 0 failures; 600 t"
         ), result)
         self.assertFalse(example.explore(how="every", seconds=1e-9).whole)
         self.assertTrue(straight(2, 1).explore(how="every", runs=4).whole)
@@ -373,50 +373,53 @@ class Clock(unittest.TestCase):
         self.assertEqual(caught.exception.kind, "endless")
 
 
+def random_call(t, e, kind, place, number):
+    """A call on what `random_example` makes."""
+    instance = e.instances[place]
+    return {
+        "wait": lambda: t.wait(instance, 1 + number, [0, None, 0.002][number]),
+        "write": lambda: t.write(e.writer, b"a" * (number + 1)),
+        "read": lambda: t.read(e.reader, 2),
+        "add": lambda: t.write(e.counter, ONE),
+        "take": lambda: t.read(e.counter, 8),
+        "arm": lambda: t.mod(instance, e.reader, IN | ONESHOT, 2),
+        "close": lambda: t.close([e.writer, e.reader, e.counter][number]),
+        "set": lambda: t.settime(e.timer, 0.001 * number),
+    }[kind]()
+
+
+def random_task(chance, length):
+    kinds = ["wait"] * 4 + ["write", "read", "add", "take", "arm", "close", "set"]
+    calls = [(chance.choice(kinds), chance.randrange(2), chance.randrange(3)) for _ in range(length)]
+
+    def task(t, e):
+        for words in calls:
+            try:
+                yield random_call(t, e, *words)
+            except OSError:
+                pass
+
+    return task
+
+
 def random_example(seed):
     """Two or three tasks of a few calls each, on a pipe, a counter and two instances that watch them."""
     chance = random.Random(f"example {seed}")
     masks = [IN, IN | ET, IN | ONESHOT, IN | OUT | ET, IN | EXCLUSIVE]
+    is_semaphore, chosen = bool(chance.randrange(2)), [chance.choice(masks) for _ in range(2)]
 
     def setup(kernel):
-        e = Env(counter=kernel.eventfd(0, chosen[0]), timer=kernel.timerfd())
+        e = Env(counter=kernel.eventfd(0, is_semaphore), timer=kernel.timerfd())
         e.reader, e.writer = kernel.pipe()
         e.instances = [kernel.epoll(), kernel.epoll()]
-        for mask, instance in zip(chosen[1:], e.instances):
+        for mask, instance in zip(chosen, e.instances):
             kernel.add(instance, e.counter, mask, 1)
             kernel.add(instance, e.reader, mask, 2)
         return e
 
-    def calls_of(t, e, words):
-        kind, place, number = words
-        instance = e.instances[place]
-        return {
-            "wait": lambda: t.wait(instance, 1 + number, [0, None, 0.002][number]),
-            "write": lambda: t.write(e.writer, b"a" * (number + 1)),
-            "read": lambda: t.read(e.reader, 2),
-            "add": lambda: t.write(e.counter, bytes([1, 0, 0, 0, 0, 0, 0, 0])),
-            "take": lambda: t.read(e.counter, 8),
-            "arm": lambda: t.mod(instance, e.reader, IN | ONESHOT, 2),
-            "close": lambda: t.close([e.writer, e.reader, e.counter][number]),
-            "set": lambda: t.settime(e.timer, 0.001 * number),
-        }[kind]()
-
-    def task(words):
-        def run(t, e):
-            for word in words:
-                try:
-                    yield calls_of(t, e, word)
-                except OSError:
-                    pass
-
-        return run
-
-    kinds = ["wait"] * 4 + ["write", "read", "add", "take", "arm", "close", "set"]
-    chosen = [bool(chance.randrange(2)), chance.choice(masks), chance.choice(masks)]
     tasks = {}
     for name in ("a", "b", "c")[:chance.choice((2, 2, 2, 2, 3))]:
-        length = chance.choice((2, 2, 3)) if len(tasks) < 2 else 1
-        tasks[name] = task([(chance.choice(kinds), chance.randrange(2), chance.randrange(3)) for _ in range(length)])
+        tasks[name] = random_task(chance, chance.choice((2, 2, 3)) if len(tasks) < 2 else 1)
     return Example(setup, tasks, daemons=tuple(tasks))
 
 

@@ -49,9 +49,10 @@ class NotAgain(unittest.TestCase):
         with self.assertRaises(NotTheSame) as caught:
             explore(self.setup, {"counts": counts, "other": other}, how="every")
         self.assertTrue(str(caught.exception).startswith(
-            "not the same again: in turn 2 write(4, b'2') of counts, where it was write(4, b'1') of counts, after the same"
+            "not the same again: in turn 2 write(4, b'2') of counts, where it was write(4, b'1') of counts, after the"
         ), caught.exception)
-        self.expect("in turn 2 write.* of counts, where it was write.* of counts", self.setup, counts=counts, other=other)
+        pattern = "in turn 2 write.* of counts, where it was write.* of counts"
+        self.expect(pattern, self.setup, counts=counts, other=other)
 
     def test_an_earlier_end(self):
         runs = []
@@ -93,7 +94,7 @@ class NotAgain(unittest.TestCase):
                 runs.append(0)
                 assert len(runs) != place, "this time"
 
-            pattern = "failed once and once not, though its calls were the same: check: this time"
+            pattern = "failed once, and once it did not, by the same calls: check: this time"
             with self.assertRaisesRegex(NotTheSame, pattern):
                 explore(self.setup, {"a": lambda t, e: t.dup(0), "b": lambda t, e: t.dup(0)}, check=check)
 
@@ -287,7 +288,7 @@ class Threads(unittest.TestCase):
             other.join()
             t.dup(0)
 
-        with self.assertRaisesRegex(NotATask, r"the thread 'other' is no task, and called write\(4, b'a'\) while tasks"):
+        with self.assertRaisesRegex(NotATask, r"the thread 'other' is no task, and called write\(4, b'a'\) while"):
             explore(self.setup, {"a": starts})
 
     def ignore(self, call, *words):
@@ -321,7 +322,7 @@ class Threads(unittest.TestCase):
             with lock:
                 t.dup(0)
 
-        with self.assertRaisesRegex(Stuck, "made no call for 0.5 seconds, at .*: it waits for something that is not the"):
+        with self.assertRaisesRegex(Stuck, "made no call for 0.5 seconds, at .*: it waits for something that is not"):
             explore(self.setup, {"lasting": holds, "lasting2": holds}, patience=0.5)
 
     def test_both_kinds_together(self):

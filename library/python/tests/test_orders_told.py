@@ -7,6 +7,7 @@ Whose registration shows what is expected by docs/calls.md, under dup, fork and 
 
 import importlib.util
 import os
+import pickle
 import re
 import subprocess
 import sys
@@ -37,7 +38,7 @@ class Messages(unittest.TestCase):
         lines = lines_of(failure)
         shown = "fd 4 shows IN|OUT, registered IN|ET, reported to w0 in turn 3"
         self.assertEqual(lines[:2], [f"asleep beside data: w1 at 5: {shown}", "  order     boss w0*3 w1*2"])
-        self.assertRegex(lines[2], "^            6 turns, 2 switches; order 1, of 0 pre-emptions; [0-9]+ orders tried to")
+        self.assertRegex(lines[2], "^            6 turns, 2 switches; order 1, of 0 pre-emptions; [0-9]+ orders tried")
         table = [re.split("  +", line.strip()) for line in lines[3:-3]]
         self.assertEqual(table[:5], [
             ["setup", "eventfd(0, semaphore=True)", "3"], ["setup", "eventfd(0)", "4"], ["setup", "epoll()", "5"],
@@ -51,6 +52,11 @@ class Messages(unittest.TestCase):
         self.assertEqual(lines[-3], f"  asleep    w1 at 5: fd 3 shows OUT, registered IN, and {shown}")
         self.assertTrue(lines[-2].startswith(f"  replay    {VARIABLE}='boss w0*3 w1*2' python3 "), lines[-2])
         self.assertTrue(lines[-1].startswith("  tried     rising bounds: 1 order, then the first failure"))
+
+    def test_it_can_be_pickled(self):
+        failure = pool_example(False, 0).explore(raises=False).failure
+        again = pickle.loads(pickle.dumps(failure))
+        self.assertEqual((str(again), again.kind, again.order), (str(failure), failure.kind, failure.order))
 
     def test_calls_and_answers(self):
         """A line for each kind of call."""
@@ -549,14 +555,14 @@ class Schedules(unittest.TestCase):
         self.expect("turn 2 of the schedule is one of boss, which has come to its end", "boss*2 w0*3 w1*2")
         self.expect("turn 3 of the schedule is one of w0, which sleeps in a wait that nothing has ended", "w0*3")
         self.expect("turn 1 of the schedule is one of +, which can't", "+ boss")
-        self.expect("the schedule ends before turn 5, and these can go on: w1; write ..", "boss w0*3")
+        self.expect("the schedule ends before turn 5, and w1 can go on; write ..", "boss w0*3")
         self.expect("the schedule has 1 more from turn 7 on, and nobody can go on", "boss w0*3 w1*3 ..")
 
     def test_what_is_left_open(self):
         for order in ("boss w0*3 w1*2", "boss w0 ..", "..", " boss\tw0*2  w0 w1*2 ", "boss*1 .."):
             self.assertEqual(self.explore(order).failure.order, "boss w0*3 w1*2")
-        # w1 goes on while it can (2 turns), then the first that can, which is boss (1). It wakes w1, and w0 comes before
-        # that, takes the stop, and passes it on, as w1 idles (4). Then w1 takes it (2).
+        # w1 goes on while it can (2 turns), then the first that can, which is boss (1). It wakes w1, and w0 comes
+        # before that, takes the stop, and passes it on, as w1 idles (4). Then w1 takes it (2).
         result = self.explore("w1 ..")
         self.assertEqual((result.failures, result.turns), (0, 2 + 1 + 4 + 2))
 

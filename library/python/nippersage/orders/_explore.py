@@ -61,26 +61,12 @@ class Limits(NamedTuple):
 
 
 def explore(
-    setup: Callable[[Kernel], E],
-    tasks: Mapping[str, Callable[[Any, E], Any]],
-    *,
-    check: Optional[Callable[[E], object]] = None,
-    daemons: Collection[str] = (),
-    how: Optional[str] = None,
-    bound: Optional[int] = None,
-    depth: int = 3,
-    seed: Optional[int] = 0,
-    seconds: Optional[float] = None,
-    runs: Optional[int] = None,
-    clock: str = "idle",
-    beside: Union[bool, Callable[[Watch], bool]] = True,
-    most: int = 2_000,
-    limits: Optional[Sequence[int]] = None,
-    order: Optional[str] = None,
-    name: str = "",
-    stop: bool = True,
-    raises: bool = True,
-    outcomes: bool = False,
+    setup: Callable[[Kernel], E], tasks: Mapping[str, Callable[[Any, E], Any]], *,
+    check: Optional[Callable[[E], object]] = None, daemons: Collection[str] = (),
+    how: Optional[str] = None, bound: Optional[int] = None, depth: int = 3, seed: Optional[int] = 0,
+    seconds: Optional[float] = None, runs: Optional[int] = None, clock: str = "idle",
+    beside: Union[bool, Callable[[Watch], bool]] = True, most: int = 2_000, limits: Optional[Sequence[int]] = None,
+    order: Optional[str] = None, name: str = "", stop: bool = True, raises: bool = True, outcomes: bool = False,
     patience: Optional[float] = 60.0,
 ) -> Result:
     """Tries orders of what tasks do, and raises `Failed` for one that fails. Else it tells what was tried.
@@ -97,30 +83,19 @@ def explore(
 
     `clock` "idle" moves the clock if nobody can go on, "any" at any point. `order` is a schedule to run alone; the
     variable NIPPERSAGE_ORDER gives one, too. `name` tells this exploration from others there. `stop=False` goes on
-    after a failure, `raises=False` gives it in the result, `outcomes=True` counts outcomes. A task in a thread that makes
-    no call for `patience` seconds is `Stuck`; None waits for ever, as for an `order` that was given.
+    after a failure, `raises=False` gives it in the result, `outcomes=True` counts outcomes. A task in a thread that
+    makes no call for `patience` seconds is `Stuck`; None waits for ever, as for an `order` that was given.
     """
     __tracebackhide__ = True
     program = _program(setup, tasks, check, daemons, clock, beside, most, limits)
-    if name and not NAME.fullmatch(name):
-        raise ValueError(f"the name of an exploration is {name!r}; it has letters, digits and . _ -")
-    given = _given(program, order, name)
+    kept, given = _limits(how, bound, seconds, runs), _given(program, order, name)
+    seed = int.from_bytes(os.urandom(4), "little") if seed is None else index(seed)
     search = Search(program, name, stop, outcomes, None if given is not None else patience)
-    if given is not None:
-        search.one(given)
-    else:
-        seed = int.from_bytes(os.urandom(4), "little") if seed is None else index(seed)
-        kept = _limits(how, bound, seconds, runs)
-        search.all(_parts(program, how, bound, depth, seed), kept, seed)
-    result = search.result
-    if raises and result.failure is not None:
-        cause = search.cause
-        if given is not None and cause is not None:
-            # So a debugger stops where it was raised.
-            print(result.failure, file=sys.stderr)
-            raise cause
-        raise result.failure from cause
-    return result
+    search.run(given, _parts(program, how, bound, depth, seed), kept, seed)
+    failure = search.raised() if raises else None
+    if failure is not None:
+        raise failure
+    return search.result
 
 
 def _program(
@@ -137,7 +112,7 @@ def _program(
         raise BadTask(f"tasks are a dict of functions by their names, and not {tasks!r}")
     for name, task in tasks.items():
         if not isinstance(name, str) or not NAME.fullmatch(name):
-            raise BadTask(f"{name!r} names no task: a name has letters, digits and . _ -, and begins with a letter or _")
+            raise BadTask(f"{name!r} names no task: it has letters, digits and . _ -, and begins with a letter or _")
         if not callable(task):
             raise BadTask(f"the task {name!r} is no function, but {task!r}")
     if isinstance(daemons, str):
@@ -160,6 +135,8 @@ def _at_least(name: str, value: Any, least: int) -> None:
 
 def _given(program: Program, order: Optional[str], name: str) -> Optional[Schedule]:
     """The one order to run, by the parameter or else by the variable, if that means this exploration."""
+    if name and not NAME.fullmatch(name):
+        raise ValueError(f"the name of an exploration is {name!r}; it has letters, digits and . _ -")
     if order is None:
         order = os.environ.get(VARIABLE)
         if order is None:
@@ -212,13 +189,26 @@ class Search:
         self._before: Optional[Sequence[Step]] = None
         self._first: Optional[Tried] = None
         self._how = ""
+        self._is_replay = False
         self.result = Result()
-        #: The exception of the order that failed, if it failed by one.
-        self.cause: Optional[Exception] = None
 
-    def one(self, given: Schedule) -> None:
+    def run(self, given: Optional[Schedule], parts: Sequence[Part], limits: Limits, seed: int) -> None:
+        if given is not None:
+            self._one(given)
+        else:
+            self._all(parts, limits, seed)
+
+    def raised(self) -> Optional[BaseException]:
+        """What a failure is raised as: in a replay what a task raised, so that a debugger stops there."""
+        failure = self.result.failure
+        if failure is None or not self._is_replay or failure.__cause__ is None:
+            return failure
+        print(failure, file=sys.stderr)
+        return failure.__cause__
+
+    def _one(self, given: Schedule) -> None:
         """Runs one order."""
-        began = time.monotonic()
+        began, self._is_replay = time.monotonic(), True
         ways = Given(given.turns, self._clock, given.is_open, is_foreign=True)
         try:
             tried = self._run(ways)
@@ -230,7 +220,7 @@ class Search:
         if tried.verdict is not None:
             self._fail(tried, tried, "as it was given")
 
-    def all(self, parts: Sequence[Part], limits: Limits, seed: int) -> None:
+    def _all(self, parts: Sequence[Part], limits: Limits, seed: int) -> None:
         """Tries orders part after part, until there is none left, a limit is reached, or one fails."""
         began = time.monotonic()
         self.result.seed = seed
@@ -379,11 +369,9 @@ class Search:
     def _came_not_again(self, first: Tried) -> Exception:
         assert first.verdict is not None
         return NotTheSame(
-            f"not the same again: an order failed once and once not, though its calls were the same: {first.verdict.text}."
+            f"not the same again: an order failed once, and once it did not, by the same calls: {first.verdict.text}."
             " What the check looks at depends on something else than the kernel's answers"
         )
 
     def _fail(self, small: Tried, first: Tried, how: str) -> None:
-        assert small.verdict is not None
-        self.cause = small.verdict.error
         self.result.failure = failed(self._program, small, first, how, self._name, str(self.result))

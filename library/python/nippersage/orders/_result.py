@@ -42,10 +42,8 @@ class Failed(AssertionError):
     schedule, and `turns` and `switches` say how long it is. `found` is the schedule before it was made small.
     """
 
-    def __init__(self, text: str, kind: str, why: str, order: str, turns: int, switches: int, found: str) -> None:
-        super().__init__(text)
-        self.kind, self.why, self.order, self.found = kind, why, order, found
-        self.turns, self.switches = turns, switches
+    kind = why = order = found = ""
+    turns = switches = 0
 
 
 class Result:
@@ -105,7 +103,11 @@ def failed(program: Program, small: Tried, first: Tried, how: str, name: str, tr
     lines += _steps_text(program, small.steps)
     lines += [f"  asleep    {it}" for it in verdict.asleep]
     lines += [f"  replay    {replay_line(order, name)}", f"  tried     {tried}"]
-    return Failed("\n".join(lines), verdict.kind, verdict.text, order, len(small.turns), switches(small.turns), found)
+    failure = Failed("\n".join(lines))
+    failure.kind, failure.why, failure.order, failure.found = verdict.kind, verdict.text, order, found
+    failure.turns, failure.switches = len(small.turns), switches(small.turns)
+    failure.__cause__ = verdict.error
+    return failure
 
 
 def _steps_text(program: Program, steps: Sequence[Step]) -> List[str]:

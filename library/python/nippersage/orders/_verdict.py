@@ -52,7 +52,12 @@ def judge(world: World) -> Optional[Verdict]:
 
 
 def _told(error: BaseException) -> str:
-    return f"{type(error).__name__}: {error}".rstrip(": ")
+    """The first line of an exception, which is all of it but where pytest wrote it anew."""
+    return f"{type(error).__name__}: {_line(error)}".rstrip(": ")
+
+
+def _line(error: BaseException) -> str:
+    return str(error).partition("\n")[0]
 
 
 def _of_check(world: World) -> Optional[Verdict]:
@@ -64,7 +69,7 @@ def _of_check(world: World) -> Optional[Verdict]:
             return None
         return Verdict(CHECK, ("",), "check: it gave False", [], None)
     except Exception as error:
-        told = str(error) if isinstance(error, AssertionError) and str(error) else _told(error)
+        told = isinstance(error, AssertionError) and _line(error) or _told(error)
         return Verdict(CHECK, (type(error).__name__,), f"check: {told}", [], error)
 
 

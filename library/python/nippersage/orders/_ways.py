@@ -224,8 +224,8 @@ class Pct(Random):
 class Given(Ways):
     """One order: these turns, and if it is open then whoever goes by itself.
 
-    With `fills` turns that can't be are left out. `is_foreign` says that the turns are a schedule that somebody gave, and
-    not those of an order that was run.
+    With `fills` turns that can't be are left out. `is_foreign` says that the turns are a schedule that somebody gave,
+    and not those of an order that was run.
     """
 
     def __init__(

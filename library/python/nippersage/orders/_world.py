@@ -283,7 +283,7 @@ class World:
         turn = len(self.turns) + 1
         if who == NOBODY and self.ways.is_foreign:
             ready = ", ".join(self.program.names[it] for it in self._ready())
-            return BadSchedule(f"the schedule ends before turn {turn}, and these can go on: {ready}; write .. at its end")
+            return BadSchedule(f"the schedule ends before turn {turn}, and {ready} can go on; write .. at its end")
         why = self._why_not(who)
         if self.ways.is_foreign:
             return BadSchedule(f"turn {turn} of the schedule is one of {self.program.names[who]}, which {why}")
@@ -306,6 +306,6 @@ class World:
         frame = sys._current_frames().get(task.ident)
         where = f"{frame.f_code.co_filename}:{frame.f_lineno}" if frame else "nowhere"
         return Stuck(
-            f"the task {task.name!r} made no call for {self._patience:g} seconds, at {where}: it waits for something that"
-            " is not the kernel's, as a lock that another task has"
+            f"the task {task.name!r} made no call for {self._patience:g} seconds, at {where}: it waits for something"
+            " that is not the kernel's, as a lock that another task has"
         )
