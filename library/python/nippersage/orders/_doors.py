@@ -178,7 +178,7 @@ class Caller(Task):
         #: The name of the task.
         self.name = name
 
-    def wait(  # type: ignore[override]
+    def wait(
         self, ep: int, max: int = 8, timeout: Any = 0, *, by: Optional[int] = None, pid: Optional[int] = None,
     ) -> List[Report]:
         """Sleeps until the wait ends: at most `max` reports, none if its time has passed."""
