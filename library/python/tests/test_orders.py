@@ -10,6 +10,7 @@ import random
 import unittest
 from collections import Counter
 from functools import lru_cache
+from itertools import permutations
 from math import comb
 
 from faults import (
@@ -58,6 +59,11 @@ def with_pre_emptions(first, second, pre_emptions):
         return comb(calls - 1, parts - 1) if parts else 0
 
     return splits(first, more) * splits(second, less) + splits(second, more) * splits(first, less)
+
+
+def pre_emptions_of(order):
+    """How often another task goes though the one before has still a turn to come."""
+    return sum(who != after and who in order[place + 1:] for place, (who, after) in enumerate(zip(order, order[1:])))
 
 
 @lru_cache(None)
@@ -112,6 +118,14 @@ class Counts(unittest.TestCase):
                 self.assertEqual(result.runs, expected, (first, second, bound))
                 self.assertEqual(result.whole, expected == comb(first + second, first))
                 self.assertEqual(result.bound, result.bound if result.whole else bound)
+
+    def test_each_bound_of_three_tasks(self):
+        counts = (2, 1, 3)
+        orders = set(permutations([place for place, count in enumerate(counts) for _ in range(count)]))
+        self.assertEqual(len(orders), interleavings(*counts))
+        for bound in range(max(map(pre_emptions_of, orders)) + 2):
+            result = straight(*counts).explore(bound=bound)
+            self.assertEqual(result.runs, sum(pre_emptions_of(it) <= bound for it in orders))
 
     def test_loops(self):
         """34, 2,702 and 6,478 are what an explorer in C made of these loops, too."""
@@ -287,9 +301,10 @@ class Ways(unittest.TestCase):
         orders = self.orders_of(straight(2, 2, 2), 200, how="pct", depth=1)
         self.assertEqual(len(set(orders)), 6)
         self.assertTrue(all(len(set(zip(it[::4], it[2::4]))) for it in orders))
-        # One fall is one pre-emption at most.
-        orders = self.orders_of(straight(2, 2), 400, how="pct", depth=2)
-        self.assertEqual(len(set(orders)), with_pre_emptions(2, 2, 0) + with_pre_emptions(2, 2, 1))
+        # A fall is one pre-emption at most.
+        for depth in (2, 3):
+            orders = self.orders_of(straight(2, 2), 400, how="pct", depth=depth)
+            self.assertEqual(len(set(orders)), sum(with_pre_emptions(2, 2, it) for it in range(depth)))
 
     def test_limits(self):
         example = straight(6, 6)

@@ -15,7 +15,7 @@ import tempfile
 import unittest
 
 from faults import FAULTS, ONE, pipe_example, pool_example, reads_once
-from nippersage import ET, EXCLUSIVE, IN, LIBRARY, ONESHOT, OUT, Limits
+from nippersage import ET, EXCLUSIVE, IN, LIBRARY, ONESHOT, OUT, RDHUP, Limits
 from nippersage.orders import VARIABLE, BadSchedule, BadTask, Env, Failed, explore
 
 HERE = os.path.dirname(os.path.abspath(__file__))
@@ -247,8 +247,8 @@ class Reasons(unittest.TestCase):
             watching(IN | ET), forks=forks, daemon=sleeper,
         )
 
-    def test_exec_and_exit(self):
-        """exec closes the reader of the child, and its exit all the rest. The pipe is gone once no table names it."""
+    def test_exec(self):
+        """exec closes the child's reader, which fork copied with its flag. No table names it any more."""
 
         def setup(kernel):
             e = Env()
@@ -261,9 +261,59 @@ class Reasons(unittest.TestCase):
             child = yield t.fork()
             yield t.close(e.reader)
             yield t.exec(pid=child)
-            yield t.exit(pid=child)
 
         self.expect("quiet at 5, which watches nothing", setup, "asleep for good", ends=ends, quiet=quiet)
+
+    def test_exit(self):
+        def ends(t, e):
+            child = yield t.fork()
+            yield t.close(e.reader)
+            yield t.exec(pid=child)
+            yield t.exit(pid=child)
+
+        self.expect("quiet at 5, which watches nothing", watching(IN), "asleep for good", ends=ends, quiet=quiet)
+
+    def test_what_exec_leaves(self):
+        """The reader has no such flag in the child, since dup drops it."""
+
+        def setup(kernel):
+            e = Env()
+            e.reader, e.writer = kernel.pipe(cloexec=True)
+            e.instance = kernel.epoll()
+            kernel.add(e.instance, e.reader, IN)
+            return e
+
+        def ends(t, e):
+            yield t.dup2(e.reader, 9)
+            child = yield t.fork()
+            for fd in (e.reader, 9):
+                yield t.close(fd)
+            yield t.exec(pid=child)
+
+        self.expect(
+            "quiet at 5: fd 3, now fd 9 of process 2, shows nothing, registered IN", setup, "asleep for good",
+            ends=ends, quiet=quiet,
+        )
+
+    def test_what_is_not_asked_for(self):
+        """A byte is unread, but the registration asks for the end of the stream only."""
+
+        def setup(kernel):
+            e = Env(ends=kernel.socketpair(), instance=kernel.epoll())
+            kernel.add(e.instance, e.ends[0], RDHUP | ET)
+            return e
+
+        def writer(t, e):
+            yield t.write(e.ends[1], b"a")
+
+        def shuts(t, e):
+            yield t.shutdown(e.ends[1])
+
+        self.assertTrue(explore(setup, {"writer": writer, "daemon": sleeper}, daemons=["daemon"]).whole)
+        self.expect(
+            "daemon at 5: fd 3 shows IN|OUT|RDHUP, registered RDHUP|ET, reported to daemon in turn 2", setup,
+            shuts=shuts, daemon=sleeper,
+        )
 
     def test_a_wait_in_another_process(self):
         def setup(kernel):
@@ -588,6 +638,9 @@ class Schedules(unittest.TestCase):
         self.assertEqual((failure.kind, failure.order, failure.turns), ("endless", "..", 300))
         again = explore(setup, {"a": task(0), "b": task(1)}, most=300, order="..", raises=False)
         self.assertEqual((again.failure.kind, again.turns), ("endless", 300))
+        # One that begins otherwise is told so.
+        again = explore(setup, {"a": task(0), "b": task(1)}, most=300, order="a b a*2 ..", raises=False)
+        self.assertEqual(again.failure.order, "a b a ..")
 
     def test_by_the_variable(self):
         self.addCleanup(os.environ.pop, VARIABLE, None)
