@@ -14,7 +14,7 @@ import weakref
 
 from faults import FAULTS, Example
 from nippersage import LIBRARY
-from nippersage.orders import BadTask, Env, NotATask, NotTheSame, Stuck, _tasks, explore
+from nippersage.orders import BadTask, Env, NotATask, NotTheSame, Stuck, explore
 
 HERE = os.path.dirname(os.path.abspath(__file__))
 
@@ -260,7 +260,7 @@ class Threads(unittest.TestCase):
         self.assertEqual(set(seen), {False})
 
     def test_what_does_not_end(self):
-        """A task that goes on to call though its order is over is left alone."""
+        """A task that goes on to call though its order is over. Its thread is left alone."""
         def goes_on(t, e):
             while True:
                 try:
@@ -268,9 +268,36 @@ class Threads(unittest.TestCase):
                 except BaseException:
                     pass
 
-        self.addCleanup(setattr, _tasks, "_SECONDS", _tasks._SECONDS)
-        _tasks._SECONDS = 0.01
-        explore(self.setup, {"lasting": goes_on}, daemons=["lasting"])
+        def goes_on_yielding(t, e):
+            while True:
+                try:
+                    yield t.wait(e.instance, timeout=None)
+                except BaseException:
+                    pass
+
+        # Python tells of such a generator when it lets go of it.
+        self.addCleanup(setattr, sys, "unraisablehook", sys.unraisablehook)
+        sys.unraisablehook = lambda told: None
+        for task in (goes_on, goes_on_yielding):
+            with self.assertRaisesRegex(BadTask, "the task 'lasting' goes on though its order is over"):
+                explore(self.setup, {"lasting": task}, daemons=["lasting"])
+
+    def test_an_exception_of_a_cleaning(self):
+        """It comes behind the end of the order, of which it is no part."""
+        def cleans(t, e):
+            try:
+                t.wait(e.instance, timeout=None)
+            finally:
+                raise ValueError
+
+        def cleans_yielding(t, e):
+            try:
+                yield t.wait(e.instance, timeout=None)
+            finally:
+                raise ValueError
+
+        for task in (cleans, cleans_yielding):
+            self.assertEqual(explore(self.setup, {"a": task}, daemons=["a"]).failures, 0)
 
     def test_the_kernel_of_setup_in_a_task(self):
         """A call by it is a turn of the task whose thread calls."""

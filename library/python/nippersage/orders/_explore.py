@@ -281,13 +281,15 @@ class Search:
         world = World(self._program, ways, self._workers, self._before, self._patience)
         try:
             world.run()
-            return Tried(
+            tried = Tried(
                 world.turns, world.chosen, world.recorder.steps, world.is_cut and world.is_unfair,
                 *self._came_to(world),
             )
         finally:
             self._before = world.recorder.steps
             world.close()
+        world.look_at_ends()
+        return tried
 
     def _came_to(self, world: World) -> Any:
         verdict = judge(world)

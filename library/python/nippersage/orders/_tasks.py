@@ -79,6 +79,8 @@ class Calls:
         self.name = name
         self._kernel = kernel
         self._made: Optional[Call] = None
+        #: Whether the order is over, so that nobody takes a call any more.
+        self.is_over = False
 
     def shared(self, what: str, f: Optional[Callable[[], Any]] = None) -> Call:
         """A turn that is no call: others may go before what follows it. Its answer is that of `f`."""
@@ -89,7 +91,7 @@ class Calls:
         return self._kernel.now()
 
     def _make(self, op: str, args: Tuple[Any, ...], keys: Dict[str, Any]) -> Call:
-        if self._made is not None:
+        if self._made is not None and not self.is_over:
             raise BadTask(f"the task {self.name!r} made {self._made} and did not yield it; then it made {op}")
         self._made = Call(op, args, keys)
         return self._made
@@ -163,7 +165,13 @@ class ByGenerator(Sleeping):
             return None, False
 
     def close(self) -> None:
-        self._generator.close()
+        """Ends the generator. What it raises then is no part of the order."""
+        self._calls.is_over = True
+        try:
+            self._generator.close()
+        except Exception:
+            pass
+        self.is_done = self._generator.gi_frame is None
 
 
 class Seat:
@@ -295,6 +303,7 @@ class ByThread(Sleeping):
         if self._is_gone:
             self._told += 1
             if self._told > _PATIENCE:
+                self._ended(self)
                 Seat().sleep()
             raise Gone
         if op == "resume":
@@ -314,7 +323,7 @@ class ByThread(Sleeping):
         if not self.is_done:
             self._is_gone = True
             self.seat.wake()
-            if not sleep(_SECONDS):
+            if not sleep(_SECONDS) or not self.is_done:
                 return
         self._workers.back(self._worker)
 

@@ -250,6 +250,15 @@ class World:
         self.library.end()
         self._break_circles()
 
+    def look_at_ends(self) -> None:
+        """Each task has ended behind `close`, unless it didn't let what ends it pass."""
+        for task in self.tasks:
+            if not task.is_done:
+                raise BadTask(
+                    f"the task {task.name!r} goes on though its order is over. It caught what ends it, or waits for"
+                    " something that is not the kernel's; `except Exception` lets pass what ends a task"
+                )
+
     def _break_circles(self) -> None:
         """Lets go of what leads back here, so that a kernel is freed as soon as nobody has it any more."""
         self._door.let_go()
