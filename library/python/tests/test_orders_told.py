@@ -50,7 +50,7 @@ class Messages(unittest.TestCase):
             ["6", "w1", "wait(5, 1, -1)", "sleeps"],
         ])
         self.assertEqual(lines[-3], f"  asleep    w1 at 5: fd 3 shows OUT, registered IN, and {shown}")
-        self.assertTrue(lines[-2].startswith(f"  replay    {VARIABLE}='boss w0*3 w1*2' python3 "), lines[-2])
+        self.assertTrue(lines[-2].startswith(f"  replay    {VARIABLE}='boss w0*3 w1*2' "), lines[-2])
         self.assertTrue(lines[-1].startswith("  tried     rising bounds: 1 order, then the first failure"))
 
     def test_it_can_be_pickled(self):
@@ -452,8 +452,9 @@ class Replays(unittest.TestCase):
             script.write(text)
 
     def run_words(self, *words, given="", **variables):
+        around = {name: it for name, it in os.environ.items() if name not in (VARIABLE, "PYTEST_CURRENT_TEST")}
         return subprocess.run(
-            words, cwd=self.room, env={**os.environ, **variables}, input=given, stdout=subprocess.PIPE,
+            words, cwd=self.room, env={**around, **variables}, input=given, stdout=subprocess.PIPE,
             stderr=subprocess.STDOUT, universal_newlines=True,
         )
 
@@ -478,6 +479,21 @@ class Replays(unittest.TestCase):
         line, = self.replay_line(told)
         self.assertEqual(line, f"{VARIABLE}='boss w0*3 w1*2' python3 test_pool.py Pool.test_the_stop")
         self.assertIn("as it was given", self.run_line(line).stdout)
+
+    def test_of_another_folder(self):
+        """A test that was discovered is found again from where that was."""
+        folder = os.path.join(self.room, "some tests")
+        os.mkdir(folder)
+        os.rename(os.path.join(self.room, "test_pool.py"), os.path.join(folder, "test_pool.py"))
+        told = self.run_words(sys.executable, "-B", "-m", "unittest", "discover", "some tests", "-k", "the_stop")
+        line, = self.replay_line(told)
+        self.assertEqual(line, (
+            f"{VARIABLE}='boss w0*3 w1*2' python3 -m unittest discover -s 'some tests' -p test_pool.py"
+            " -k Pool.test_the_stop"
+        ))
+        told = self.run_line(line)
+        self.assertIn("6 turns, 2 switches; as it was given", told.stdout)
+        self.assertIn("Ran 1 test", told.stdout)
 
     def test_by_name(self):
         """A schedule with a name is for that exploration only; one without is for all."""

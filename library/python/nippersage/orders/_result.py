@@ -131,22 +131,31 @@ def replay_line(order: str, name: str) -> str:
     test = os.environ.get("PYTEST_CURRENT_TEST")
     if test:
         return f"{given} pytest {shlex.quote(test.rpartition(' (')[0] or test)}"
-    test = _unittest()
+    case = _unittest()
     script = sys.argv[0] if sys.argv and os.path.isfile(sys.argv[0]) else ""
-    if test and test.startswith("__main__."):
-        return f"{given} python3 {shlex.quote(script)} {shlex.quote(test[len('__main__.'):])}"
-    if test:
-        return f"{given} python3 -m unittest {shlex.quote(test)}"
+    if case is not None:
+        return f"{given} python3 {_words_of(case, script)}"
     return f"{given} python3 {shlex.quote(script)}" if script else f"explore(.., order={order!r})"
 
 
-def _unittest() -> Optional[str]:
-    """The name of the unittest that runs now: that of the next test case above."""
+def _words_of(case: Any, script: str) -> str:
+    """The words for Python that run a test case only, from this folder."""
+    module, test = type(case).__module__, f"{type(case).__qualname__}.{case._testMethodName}"
+    if module == "__main__":
+        return f"{shlex.quote(script)} {shlex.quote(test)}"
+    folder, file = os.path.split(os.path.relpath(getattr(sys.modules.get(module), "__file__", None) or ""))
+    if "." in module or not folder or not file:
+        return f"-m unittest {shlex.quote(f'{module}.{test}')}"
+    return f"-m unittest discover -s {shlex.quote(folder)} -p {shlex.quote(file)} -k {shlex.quote(test)}"
+
+
+def _unittest() -> Any:
+    """The unittest that runs now: the next test case above."""
     unittest = sys.modules.get("unittest")
     frame = sys._getframe(1) if unittest is not None else None
     while frame is not None and unittest is not None:
         test = frame.f_locals.get("self")
         if isinstance(test, unittest.TestCase) and hasattr(test, "_testMethodName"):
-            return f"{type(test).__module__}.{type(test).__qualname__}.{test._testMethodName}"
+            return test
         frame = frame.f_back
     return None
