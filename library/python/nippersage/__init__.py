@@ -15,7 +15,7 @@ process of its own. Both answer alike; what needs the library says so.
 
 A call says who makes it by `by` and `pid`; a `Task` has both. Refusals are OSError with Linux's numbers. Times are
 seconds or timedeltas, and rounded up to the kernel's unit, a microsecond. docs/calls.md says what each call answers
-and refuses.
+and refuses. `nippersage.orders` tries orders of what callers do.
 """
 
 from ._kernel import Kernel, Part, Task

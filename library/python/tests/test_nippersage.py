@@ -387,7 +387,7 @@ class Readme(unittest.TestCase):
     def test_its_programs(self):
         with open(os.path.join(FOLDER, "README.md")) as page:
             programs = re.findall(r"^```python\n(.*?)^```$", page.read(), re.M | re.S)
-        self.assertEqual(len(programs), 2)
+        self.assertEqual(len(programs), 3)
         for program in programs:
             told = run_anew(program)
             self.assertEqual((told.returncode, told.stderr), (0, b""))
