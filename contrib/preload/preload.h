@@ -45,6 +45,9 @@ static inline bool can_write(void *to, size_t size) {
     uintptr_t last = (uintptr_t)to + size - 1;
     return size == 0 || (last >= (uintptr_t)to && touch_to_write(to, (void *)last));
 }
+/* Whether it may read a text, up to its end, and a list of such, which NULL ends. NULL is no list, and may be. */
+bool can_read_text(const char *text);
+bool can_read_list(char *const texts[]);
 /* The same for one object, and for one that may be NULL. */
 #define READABLE(pointer) can_read(pointer, sizeof *(pointer))
 #define WRITABLE(pointer) can_write(pointer, sizeof *(pointer))
