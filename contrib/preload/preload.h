@@ -257,7 +257,7 @@ void end_handler_in(void *sleeper, long unused);
 void leave_waits_below(uintptr_t address);
 /* So many threads more take part, or fewer. */
 void count_threads(int more);
-/* How many of them don't sleep in wait_at, and how often one of those that did was woken. */
+/* How many of them don't sleep in wait_at, and how often one of those that did was woken, or one more took part. */
 int count_awake(unsigned long *woken);
 
 /* ---- looks.c: who of the threads sleeps ---- */
