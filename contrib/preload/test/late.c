@@ -1,7 +1,8 @@
 /* Waits with a time on locks, by so many threads that they end late: together, but by 50 microseconds for each thread
    that waits so, up to a millisecond. What else happens meanwhile isn't late. On a busy machine a wait may last for
    20 ms of real time, and then ends by itself, with all that were to end before it: some are later. So nine in ten may
-   be late by a fifth more, the last one by any time, and each is tried again. Simulated only; late.out is what it says. */
+   be late by a fifth more, the last one by any time, and each is tried again. Simulated only; late.out is what it
+   says. */
 #include "trace.h"
 
 #include <semaphore.h>
