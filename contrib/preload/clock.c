@@ -9,12 +9,13 @@
 FORWARD(clock_gettime)
 FORWARD(clock_nanosleep)
 
-static uint64_t left_at = START; /* in a child: the moment of the fork */
+/* Where there is no kernel: in a child the moment of the fork. */
+static struct timespec left_at = {.tv_sec = START / SECOND, .tv_nsec = START % SECOND * UNIT};
 
-void keep_moment(void) { left_at = moment_now(); }
+void keep_moment(void) { left_at = timespec_of(moment_now()); }
 
 uint64_t moment_now(void) {
-    struct timespec now = timespec_of(left_at);
+    struct timespec now = left_at;
     QUIET;
     nippersage_now(the_kernel(), &now);
     return (uint64_t)units_of(&now);

@@ -51,8 +51,10 @@ static const char *behind_list(const char *path) {
     return rest && (*rest == '\0' || *rest == '/') ? rest : NULL;
 }
 
+/* A path that can't be read names none: the real kernel answers EFAULT for it. */
 static const char *behind_own_list(const char *path) {
-    const char *rest = !is_outside && path && path[0] == '/' ? behind_list(path) : NULL;
+    bool may_name_one = !is_outside && can_read(path, 1) && path[0] == '/' && can_read_text(path);
+    const char *rest = may_name_one ? behind_list(path) : NULL;
     while (rest && *rest == '/') rest++;
     return rest;
 }

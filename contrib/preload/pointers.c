@@ -40,6 +40,26 @@ __asm__(".text\n"
 
 extern const char begin_of_touches[], end_of_touches[], end_of_bad_touch[];
 
+/* A page at a time: what lies behind the end of a text needn't be there. */
+bool can_read_text(const char *text) {
+    enum { PAGE = 4096 };
+    for (;;) {
+        size_t left = PAGE - ((uintptr_t)text & (PAGE - 1));
+        if (!can_read(text, 1)) return false;
+        if (memchr(text, '\0', left)) return true;
+        text += left;
+    }
+}
+
+bool can_read_list(char *const texts[]) {
+    for (; texts; texts++) {
+        if (!READABLE(texts)) return false;
+        if (!*texts) break;
+        if (!can_read_text(*texts)) return false;
+    }
+    return true;
+}
+
 bool end_bad_touch(void *context) {
     greg_t *at = &((ucontext_t *)context)->uc_mcontext.gregs[REG_RIP];
     if (*at < (greg_t)(uintptr_t)begin_of_touches || *at >= (greg_t)(uintptr_t)end_of_touches) return false;

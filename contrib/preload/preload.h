@@ -45,6 +45,9 @@ static inline bool can_write(void *to, size_t size) {
     uintptr_t last = (uintptr_t)to + size - 1;
     return size == 0 || (last >= (uintptr_t)to && touch_to_write(to, (void *)last));
 }
+/* Whether it may read a text, up to its end, and a list of such, which NULL ends. NULL is no list, and may be. */
+bool can_read_text(const char *text);
+bool can_read_list(char *const texts[]);
 /* The same for one object, and for one that may be NULL. */
 #define READABLE(pointer) can_read(pointer, sizeof *(pointer))
 #define WRITABLE(pointer) can_write(pointer, sizeof *(pointer))
@@ -254,7 +257,7 @@ void end_handler_in(void *sleeper, long unused);
 void leave_waits_below(uintptr_t address);
 /* So many threads more take part, or fewer. */
 void count_threads(int more);
-/* How many of them don't sleep in wait_at, and how often one of those that did was woken. */
+/* How many of them don't sleep in wait_at, and how often one of those that did was woken, or one more took part. */
 int count_awake(unsigned long *woken);
 
 /* ---- looks.c: who of the threads sleeps ---- */

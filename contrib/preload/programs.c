@@ -48,6 +48,7 @@ static struct plain begin_plain(char *const given[]) {
     static const char name[] = "LD_PRELOAD=";
     struct plain plain = {NULL, NULL};
     size_t count = 0, kept = 0;
+    if (!can_read_list(given)) return plain;
     while (given && given[count]) count++;
     plain.variables = malloc((count + 1) * sizeof *plain.variables);
     for (size_t i = 0; plain.variables && i < count; i++) {
@@ -76,11 +77,13 @@ static void end_plain(struct plain *plain) {
 /* ---- exec ---- */
 
 static int refuse_program(const char *path) {
+    if (!can_read_text(path)) return (int)plain_answer(-EFAULT);
     return refuse(ENOSYS, "%s can't be run in place of this program, whose history would be lost: fork first", path);
 }
 
-static int no_memory(void) {
-    errno = ENOMEM;
+/* Why there is no environment. */
+static int no_environment(char *const given[]) {
+    errno = can_read_list(given) ? ENOMEM : EFAULT;
     return -1;
 }
 
@@ -88,7 +91,7 @@ int execve(const char *path, char *const words[], char *const environment[]) {
     if (!is_outside) return refuse_program(path);
     PLAIN(environment);
     long given[6] = {(long)path, (long)words, (long)plain.variables};
-    return plain.variables ? (int)plain_answer(run_program(SYS_execve, given)) : no_memory();
+    return plain.variables ? (int)plain_answer(run_program(SYS_execve, given)) : no_environment(environment);
 }
 
 int execv(const char *path, char *const words[]) { return execve(path, words, environ); }
@@ -96,7 +99,7 @@ int execv(const char *path, char *const words[]) { return execve(path, words, en
 int execvpe(const char *path, char *const words[], char *const environment[]) {
     if (!is_outside) return refuse_program(path);
     PLAIN(environment);
-    return plain.variables ? next_execvpe()(path, words, plain.variables) : no_memory();
+    return plain.variables ? next_execvpe()(path, words, plain.variables) : no_environment(environment);
 }
 
 int execvp(const char *path, char *const words[]) { return execvpe(path, words, environ); }
@@ -104,14 +107,14 @@ int execvp(const char *path, char *const words[]) { return execvpe(path, words, 
 int fexecve(int fd, char *const words[], char *const environment[]) {
     if (!is_outside) return refuse_program(words[0]);
     PLAIN(environment);
-    return plain.variables ? next_fexecve()(fd, words, plain.variables) : no_memory();
+    return plain.variables ? next_fexecve()(fd, words, plain.variables) : no_environment(environment);
 }
 
 int execveat(int folder, const char *path, char *const words[], char *const environment[], int flags) {
     if (!is_outside) return refuse_program(path);
     PLAIN(environment);
     long given[6] = {folder, (long)path, (long)words, (long)plain.variables, flags};
-    return plain.variables ? (int)plain_answer(run_program(SYS_execveat, given)) : no_memory();
+    return plain.variables ? (int)plain_answer(run_program(SYS_execveat, given)) : no_environment(environment);
 }
 
 /* A function whose words are its arguments, with NULL at their end, and perhaps the environment behind it. */

@@ -31,15 +31,24 @@ static void end_reaping(int options, pid_t ended) {
     }
 }
 
+/* Whether a wait can tell the program so much. If not, the child is gone all the same, as on Linux. */
+static bool tell(void *to, const void *told, size_t size) {
+    if (!to) return true;
+    if (!can_write(to, size)) return false;
+    memcpy(to, told, size);
+    return true;
+}
+
 pid_t wait4(pid_t pid, int *status, int options, struct rusage *usage) {
+    struct rusage used;
     int told = 0;
     pid_t got;
     if (is_outside || !has_children()) return next_wait4()(pid, status, options, usage);
     begin_reaping(options);
-    got = next_wait4()(pid, &told, options, usage);
-    if (got > 0 && status) *status = told;
+    got = next_wait4()(pid, &told, options, &used);
     end_reaping(options, got > 0 && (WIFEXITED(told) || WIFSIGNALED(told)) ? got : 0);
-    return got;
+    if (got <= 0 || (tell(status, &told, sizeof told) && tell(usage, &used, sizeof used))) return got;
+    return (pid_t)plain_answer(-EFAULT);
 }
 
 pid_t wait3(int *status, int options, struct rusage *usage) { return wait4(-1, status, options, usage); }
@@ -62,9 +71,8 @@ int waitid(idtype_t type, id_t id, siginfo_t *info, int options) {
     memset(&told, 0, sizeof told);
     begin_reaping(options);
     got = next_waitid()(type, id, &told, options);
-    if (got == 0 && info) *info = told;
     end_reaping(options, got == 0 && is_end(&told, options) ? told.si_pid : 0);
-    return got;
+    return got != 0 || tell(info, &told, sizeof told) ? got : (int)plain_answer(-EFAULT);
 }
 
 bool call_reaping(long number, const long given[6], long *result) {

@@ -131,10 +131,11 @@ static struct sigaction real_action(int signal, const struct sigaction *asked) {
 
 /* What the program asked for of a signal. That of SA_RESETHAND is forgotten. */
 static struct sigaction take_action(int signal) {
-    struct sigaction action, none = {.sa_handler = SIG_DFL}, real = real_action(signal, &none);
+    struct sigaction action;
     pthread_mutex_lock(&lock);
     action = actions[signal];
     if (is_function(&action) && (action.sa_flags & (int)SA_RESETHAND)) {
+        struct sigaction none = {.sa_handler = SIG_DFL}, real = real_action(signal, &none);
         actions[signal].sa_handler = SIG_DFL;
         atomic_fetch_and(&handled, ~BIT(signal));
         next_sigaction()(signal, &real, NULL);

@@ -42,7 +42,7 @@ static pthread_mutex_t lock = PTHREAD_MUTEX_INITIALIZER;
 static struct sleeper *sleepers; /* in the order in which they came */
 static atomic_int count;         /* of sleepers */
 static int asleep;               /* those whose threads sleep, so that nothing but news or a signal wakes them */
-static unsigned long woken;      /* so often one of them was woken */
+static unsigned long woken;      /* so often one of them was woken, or a thread more took part */
 static int threads = 1;          /* that take part */
 
 static struct nippersage_task task_of(const struct sleeper *s) {
@@ -469,6 +469,7 @@ void count_threads(int more) {
     QUIET;
     pthread_mutex_lock(&lock);
     threads += more;
+    if (more > 0) woken++; /* while one begins to sleep, as many are awake as before: a look has to tell that */
     for (struct sleeper *s = sleepers; s && more < 0 && asleep >= threads; s = s->next)
         if (s->is_asleep) {
             wake(s);

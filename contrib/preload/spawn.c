@@ -250,7 +250,7 @@ static int hear(pid_t pid, int told) {
 }
 
 static int spawn(pid_t *made, struct order *order) {
-    int told[2], error = make_told(told);
+    int told[2], error = can_read_list(order->environment) ? make_told(told) : EFAULT;
     sigset_t all;
     pid_t pid;
     if (error != 0) return error;

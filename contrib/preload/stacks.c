@@ -193,8 +193,9 @@ struct place begin_handler_stack(const void *context) {
     return before;
 }
 
+/* The handler may have been the first to need a stack. */
 void end_handler_stack(struct place before) {
-    stacks.top = before.top;
+    stacks.top = before.top ? before.top : stacks.high;
     stacks.room = before.room;
 }
 

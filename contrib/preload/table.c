@@ -41,9 +41,12 @@ int make_table(void) {
     return table ? 0 : -ENOMEM;
 }
 
+/* Each call asks some times. A number below FIRST becomes one above all. */
 static struct entry *entry_of(int fd) {
-    struct entry *entry = table && fd >= FIRST && fd < FIRST + NUMBERS ? &table[fd - FIRST] : NULL;
-    return entry && entry->description ? entry : NULL;
+    const struct settings *set = settings();
+    unsigned int number = (unsigned int)fd - (unsigned int)set->first;
+    struct entry *all = table;
+    return all && number < set->limits.descriptors && all[number].description ? &all[number] : NULL;
 }
 
 /* ---- descriptions, under the lock ---- */

@@ -19,6 +19,7 @@ static struct timespec ask(clockid_t clock) {
 clock_t times(struct tms *used) {
     long ticks = sysconf(_SC_CLK_TCK);
     struct timespec now = ask(CLOCK_MONOTONIC);
+    if (!WRITABLE_OR_NULL(used)) return plain_answer(-EFAULT);
     if (next_times()(used) == (clock_t)-1) return -1;
     return now.tv_sec * ticks + now.tv_nsec / (1000000000 / ticks);
 }
@@ -31,6 +32,7 @@ int sysinfo(struct sysinfo *told) {
 
 int ftime(struct timeb *told) {
     struct timespec now = ask(CLOCK_REALTIME);
+    if (!WRITABLE(told)) return (int)plain_answer(-EFAULT);
     *told = (struct timeb){.time = now.tv_sec, .millitm = (unsigned short)(now.tv_nsec / 1000000)};
     return 0;
 }

@@ -2,10 +2,13 @@
    EFAULT, and nothing is lost. A program's own handler of SIGSEGV hears of its own faults only. */
 #include "trace.h"
 
+#include <fcntl.h>
 #include <poll.h>
 #include <setjmp.h>
 #include <signal.h>
+#include <spawn.h>
 #include <stdint.h>
+#include <stdio.h>
 #include <string.h>
 #include <sys/epoll.h>
 #include <sys/eventfd.h>
@@ -15,9 +18,11 @@
 #include <sys/select.h>
 #include <sys/socket.h>
 #include <sys/stat.h>
+#include <sys/syscall.h>
 #include <sys/time.h>
 #include <sys/timerfd.h>
 #include <sys/uio.h>
+#include <sys/wait.h>
 #include <unistd.h>
 
 static int instance, counter, timer, ends[2], sides[2];
@@ -54,6 +59,14 @@ static long in_nonblocking(void *bad) { return ioctl(ends[0], FIONBIO, bad); }
 static long in_timer(void *bad) { return setitimer(ITIMER_REAL, bad, NULL); }
 static long in_limit(void *bad) { return setrlimit(RLIMIT_NOFILE, bad); }
 static long in_sigsuspend(void *bad) { return sigsuspend(bad); }
+static long in_open(void *bad) { return open(bad, O_RDONLY); }
+static long in_fopen(void *bad) { return fopen(bad, "r") ? 0 : -1; }
+static long in_readlink(void *bad) { return readlink(bad, (char[8]){0}, 8); }
+static long in_execve(void *bad) { return execve(bad, (char *[]){"none", NULL}, environ); }
+static long in_environment(void *bad) {
+    errno = posix_spawn(&(pid_t){0}, "/bin/true", NULL, NULL, (char *[]){"true", NULL}, bad);
+    return errno == 0 ? 0 : -1;
+}
 
 /* ---- what is written to one ---- */
 
@@ -80,6 +93,25 @@ static long to_fstat(void *bad) { return fstat(ends[0], bad); }
 static long to_name(void *bad) { return getsockname(sides[0], bad, &(socklen_t){16}); }
 static long to_timer(void *bad) { return getitimer(ITIMER_REAL, bad); }
 static long to_limit(void *bad) { return getrlimit(RLIMIT_NOFILE, bad); }
+static long to_times(void *bad) { return syscall(SYS_times, bad); }
+
+/* As on Linux, the child is gone. */
+static long end_child(long (*wait_for)(pid_t child, void *bad), void *bad) {
+    pid_t child = fork();
+    long result;
+    if (child == 0) _exit(3);
+    result = outcome(wait_for(child, bad));
+    trace("waited: %ld, again: %ld", result, outcome(waitpid(child, NULL, 0)));
+    errno = (int)-result;
+    return result < 0 ? -1 : result;
+}
+
+static long by_wait4(pid_t child, void *bad) { return wait4(child, bad, 0, NULL); }
+static long by_wait4_usage(pid_t child, void *bad) { return wait4(child, NULL, 0, bad); }
+static long by_waitid(pid_t child, void *bad) { return waitid(P_PID, (id_t)child, bad, WEXITED); }
+static long to_wait4(void *bad) { return end_child(by_wait4, bad); }
+static long to_wait4_usage(void *bad) { return end_child(by_wait4_usage, bad); }
+static long to_waitid(void *bad) { return end_child(by_waitid, bad); }
 
 #define CALL(name) {#name, name}
 static const struct {
@@ -94,7 +126,9 @@ static const struct {
              CALL(to_poll),       CALL(to_recvmsg_part),  CALL(to_select),       CALL(to_pipe),
              CALL(to_socketpair), CALL(to_timerfd),       CALL(to_fstat),        CALL(to_timerfd_gettime),
              CALL(to_option),     CALL(to_option_size),   CALL(to_unread),       CALL(to_name),
-             CALL(to_timer),      CALL(to_limit),         CALL(in_deletion)};
+             CALL(to_timer),      CALL(to_limit),         CALL(in_deletion),     CALL(in_open),
+             CALL(in_fopen),      CALL(in_readlink),      CALL(in_execve),       CALL(in_environment),
+             CALL(to_times),      CALL(to_wait4),         CALL(to_wait4_usage),  CALL(to_waitid)};
 
 static void call_all(const char *where, void *bad, const char *kind) {
     for (size_t i = 0; i < sizeof calls / sizeof *calls; i++)
@@ -102,9 +136,14 @@ static void call_all(const char *where, void *bad, const char *kind) {
             trace("%s, %s: %ld", calls[i].name, where, outcome(calls[i].call(bad)));
 }
 
-/* A buffer that ends at a bad page is good for what there is, and one that begins there isn't. */
+/* A buffer that ends at a bad page is good for what there is, and one that begins there isn't. A path goes up to its
+   end. */
 static void at_an_end(char *page) {
-    char bytes[8];
+    char bytes[8], *path = page + 4096 - 8;
+    memcpy(path, "/dev/fd/", 8);
+    trace("a path without an end: %ld", outcome(open(path, O_RDONLY)));
+    memcpy(path, "/no/fil", 8);
+    trace("a path up to the end: %ld", outcome(open(path, O_RDONLY)));
     trace("up to the end: %ld", outcome(write(ends[1], page + 4090, 6)));
     trace("past the end: %ld", outcome(write(ends[1], page + 4090, 7)));
     trace("read of more: %ld", outcome(read(ends[0], bytes, 8)));

@@ -20,7 +20,7 @@
 #include <ucontext.h>
 #include <unistd.h>
 
-enum { COROUTINE = 8192, LARGER = 32768, ALTERNATE = 8192, PAINT = 0xa5, THREADS = 20 };
+enum { COROUTINE = 8192, LARGER = 32768, ALTERNATE = 8192, GUARD = 65536, PAINT = 0xa5, THREADS = 20, USED = 4096 };
 
 static int ends[2], sides[2], counter, timer, instance;
 static volatile int came;
@@ -110,11 +110,15 @@ static void coroutines(void) {
 
 /* ---- threads ---- */
 
+/* It has used a quarter of its stack before. */
 static void *run_thread(void *nothing) {
     struct epoll_event event = {.events = EPOLLIN}, found;
     int mine = epoll_create1(0), pair[2];
+    volatile char used[USED];
     long sum = 0;
     char byte;
+    for (int i = 0; i < USED; i++) used[i] = 0;
+    sum += used[USED - 1];
     if (pipe(pair) != 0) return nothing;
     epoll_ctl(mine, EPOLL_CTL_ADD, pair[0], &event);
     for (int i = 0; i < 20; i++) {
@@ -213,9 +217,12 @@ static void jump_about(void) {
     }
 }
 
-static void give_alternate(char *place) {
-    stack_t given = {.ss_sp = place, .ss_size = ALTERNATE};
-    if (sigaltstack(&given, NULL) != 0) trace("no alternate stack: %d", errno);
+/* Nothing may be written below it. */
+static void give_alternate(void) {
+    char *pages = mmap(NULL, GUARD + ALTERNATE, PROT_NONE, MAP_PRIVATE | MAP_ANONYMOUS, -1, 0);
+    stack_t given = {.ss_sp = pages + GUARD, .ss_size = ALTERNATE};
+    if (mprotect(given.ss_sp, ALTERNATE, PROT_READ | PROT_WRITE) != 0 || sigaltstack(&given, NULL) != 0)
+        trace("no alternate stack: %d", errno);
 }
 
 static void break_and_jump(void) {
@@ -223,17 +230,16 @@ static void break_and_jump(void) {
     jump_about();
 }
 
-static void *run_small(void *alternate) {
+static void *run_small(void *nothing) {
     sigset_t none;
     sigemptyset(&none);
     pthread_sigmask(SIG_SETMASK, &none, NULL);
-    give_alternate(alternate);
+    give_alternate();
     break_and_jump();
-    return NULL;
+    return nothing;
 }
 
 static void handlers(void) {
-    static char first[ALTERNATE], second[ALTERNATE];
     pthread_attr_t attributes;
     sigset_t all, before;
     pthread_t thread;
@@ -241,14 +247,14 @@ static void handlers(void) {
     sigemptyset(&all);
     sigaddset(&all, SIGALRM);
     sigaddset(&all, SIGUSR1);
-    run_small(first);
+    run_small(NULL);
     run_as_coroutine(break_and_jump, stack, LARGER);
     free(stack);
     /* The thread gets the signals, and this one doesn't. */
     pthread_attr_init(&attributes);
     pthread_attr_setstacksize(&attributes, 2 * PTHREAD_STACK_MIN);
     pthread_sigmask(SIG_BLOCK, &all, &before);
-    pthread_create(&thread, &attributes, run_small, second);
+    pthread_create(&thread, &attributes, run_small, NULL);
     pthread_join(thread, NULL);
     pthread_sigmask(SIG_SETMASK, &before, NULL);
     pthread_attr_destroy(&attributes);
@@ -261,9 +267,9 @@ int main(void) {
     timer = timerfd_create(CLOCK_MONOTONIC, 0);
     if (pipe(ends) != 0 || socketpair(AF_UNIX, SOCK_STREAM, 0, sides) != 0) trace("no ends");
     epoll_ctl(instance, EPOLL_CTL_ADD, ends[0], &event);
+    handlers(); /* first, while no call of this thread's has needed another stack */
     coroutines();
     threads();
-    handlers();
     trace("end");
     return 0;
 }
