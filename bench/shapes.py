@@ -18,6 +18,9 @@ PIPES = 4_000
 WRITES, FILLED = 30, 0x61
 #: Timers in one instance, and instances above it.
 TIMERS, ABOVE = 160, 160
+#: Counters of one instance, each written once, and instances over it.
+WATCHED, OUTERS = 40, 320
+ONE = '"0100000000000000"'
 #: A moment that no tick comes to.
 FAR_AHEAD = 900_000_000_000
 
@@ -68,9 +71,9 @@ def broken_lines():
             yield Shape(f"{kind} {how} last", "epsim", [], given=given, prints=bad_of(LINES))
 
 
-def record(call, answer):
-    """A record of a call as it is printed; both are compact JSON."""
-    return f'{{"answer":{answer},"caller":0,"event":{{"call":{call},"pid":1}},"picked":[]}}'
+def record(call, answer, picked=""):
+    """A record of a call as it is printed; all are compact JSON."""
+    return f'{{"answer":{answer},"caller":0,"event":{{"call":{call},"pid":1}},"picked":[{picked}]}}'
 
 
 def traffic(size, hex_pair):
@@ -299,6 +302,25 @@ def fills():
         yield Shape(f"audit of fill, {size} bytes", "epaudit", [], given=text, prints=f"ok {len(lines)} records")
 
 
+def many_outers():
+    """The audit of many instances over one that watches many counters: all their registrations come and go together."""
+    inner, counters, outers = 3, range(4, 4 + WATCHED), range(4 + WATCHED, 4 + WATCHED + OUTERS)
+    made = [(it, '"cloexec":false,"init":0,"op":"eventfd","sem":false') for it in counters]
+    made = [(inner, '"cloexec":false,"op":"epoll"'), *made, *((it, '"cloexec":false,"op":"epoll"') for it in outers)]
+    lines = [record("{%s}" % call, '{"num":%d}' % it) for it, call in made]
+    for outer, watched in [*((inner, it) for it in counters), *((it, inner) for it in outers)]:
+        call = '{"act":1,"data":%d,"ep":%d,"fd":%d,"mask":1,"op":"ctl"}' % (watched, outer, watched)
+        lines.append(record(call, '{"done":true}'))
+    for counter, outer in zip(counters, outers):
+        lines.append(record('{"fd":%d,"hex":%s,"op":"write"}' % (counter, ONE), '{"num":8}'))
+        wait_call = '{"ep":%d,"max":1,"op":"wait","timeout":0}' % outer
+        lines.append(record(wait_call, '{"events":[[1,%d]]}' % inner, WATCHED + 1 + outer - outers[0]))
+        lines.append(record('{"fd":%d,"n":8,"op":"read"}' % counter, '{"bytes":%s}' % ONE))
+    text = "".join(f"{it}\n" for it in lines)
+    name = f"audit of {OUTERS} instances over one of {WATCHED}"
+    yield Shape(name, "epaudit", [], given=text, prints=f"ok {len(lines)} records")
+
+
 def long_writes():
     """Long writes of a script by their digits, and their reads."""
     for size in (400, 8_000):
@@ -323,6 +345,7 @@ def shapes():
         ticks,
         scanned,
         fills,
+        many_outers,
         long_writes,
     )
     return [it for maker in makers for it in maker()]
