@@ -32,14 +32,19 @@ fn take(sets: &mut Interest, desc: DescId, by_key: bool) {
 
 /// Adds so many registrations, each on a description of its own. Every other one is removed by its key, the rest die
 /// with their descriptions. The answer is how many there were, and how many are left.
-pub fn add_and_remove(alloc: Global, count: u32) -> Result<(usize, usize), AllocError> {
-    let mut sets = Interest::new(alloc);
+fn come_and_go(sets: &mut Interest, count: u32) -> Result<(usize, usize), AllocError> {
     for number in 0..count {
-        add(&mut sets, DescId(number as usize + 1))?;
+        add(sets, DescId(number as usize + 1))?;
     }
     let most = sets.count();
     for number in 0..count {
-        take(&mut sets, DescId(number as usize + 1), number % 2 == 0);
+        take(sets, DescId(number as usize + 1), number % 2 == 0);
     }
     Ok((most, sets.count()))
+}
+
+/// The same, with registrations of its own.
+pub fn add_and_remove(alloc: Global, count: u32) -> Result<(usize, usize), AllocError> {
+    let mut sets = Interest::new(alloc);
+    come_and_go(&mut sets, count)
 }
