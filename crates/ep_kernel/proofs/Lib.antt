@@ -2,7 +2,7 @@ pub mod EntryLemmas
 pub mod ChooseLemmas
 pub mod TakeLemmas
 pub mod PlacesLemmas
-pub mod RoomLemmas
+pub mod BesideLemmas
 pub mod PushLemmas
 pub mod ComesLemmas
 pub mod ControlLemmas
@@ -22,6 +22,8 @@ pub mod AskedLemmas
 pub mod PrunesLemmas
 pub mod HopesGoLemmas
 pub mod StillSuitsLemmas
+pub mod RoomLemmas
+pub mod EventLemmas
 pub mod HopesForLemmas
 pub mod ReadinessLemmas
 pub mod MarkLemmas

@@ -1,5 +1,5 @@
 -- What comes to the end of lists, one after another.
-use Rattle.std.proofs.Common.{◌≡◌, ◌≢◌, ◌<◌, ◌++◌, ◌&&◌, ◌||◌, ◌==◌, ◌∙◌, ◌+◌, ℕ, zero, suc, Bool, true, false, List, [], ◌∷◌, None, Option, Some, ap, append-nil, arith, cond, get_or, inl, inr, length, nat_eq, nat_lt, refl, rules, subst, sym, take}
+use Rattle.std.proofs.Common.{◌≡◌, ◌≢◌, ◌<◌, ◌++◌, ◌&&◌, ◌||◌, ◌==◌, ◌∙◌, ◌+◌, ℕ, zero, suc, Bool, true, false, List, [], ◌∷◌, IsSome, None, Option, Some, ap, append-nil, arith, cond, get_or, inl, inr, length, nat_eq, nat_lt, refl, rules, subst, sym, take}
 use Rattle.std.specs.List.{list_any}
 use Rattle.std.specs.Option.{option_map}
 use Rattle.std.proofs.lemmas.Bool.{cases_eq}
@@ -138,11 +138,11 @@ module _ (l : Lists) (sound : IsSound l) (id : EntryId) (i : ℕ) (at : instance
     by_case false away = came
 
 -- a registration that is there has a place
-pub placed : (r : Registrations) (l : Lists) (id : EntryId) (q : Option Entry → Bool) → q None ≡ false → HavePlaces r l → q (entry_under r id) ≡ true → (i : ℕ) × (instance_at l id ≡ Some i)
+pub placed : (r : Registrations) (l : Lists) (id : EntryId) (q : Option Entry → Bool) → q None ≡ false → HavePlaces r l → q (entry_under r id) ≡ true → IsSome (instance_at l id)
 placed r l id q none have t = at (entry_under r id) t (have id) where
-  at : (o : Option Entry) → q o ≡ true → instance_at l id ≡ option_map (λ x. x.instance.0) o → (i : ℕ) × (instance_at l id ≡ Some i)
+  at : (o : Option Entry) → q o ≡ true → instance_at l id ≡ option_map (λ x. x.instance.0) o → IsSome (instance_at l id)
   at None t e = absurd (let no : false ≡ true = sym none ∙ t in cc)
-  at (Some x) t e = (x.instance.0, e)
+  at (Some x) t e = subst (λ (o : Option ℕ). IsSome o) (sym e) refl
 
 -- where a test of the registration lets it come
 pub gains_if : (q : ℕ → Bool) (id : EntryId) (old new : Lists) → q id.0 ≡ true → Gains (λ k. k == id.0) old new → Gains (λ k. k == id.0 && q k) old new

@@ -19,7 +19,7 @@ use Rattle.ep_calls.specs.declared.outcome.Outcome.{Outcome}
 use Rattle.ep_choice.proofs.LosingLemmas.{reaches_home}
 use Rattle.ep_choice.proofs.NotesLostLemmas.{notes_controlled, notes_mapped, notes_none, notes_same, stay_all, stay_more}
 use Rattle.ep_choice.proofs.SuitsLemmas.{Keeps, suits_left, were_mapped, were_same}
-use Rattle.ep_choice.specs.Lost.{NotesLost, deleted_home, with_home}
+use Rattle.ep_choice.specs.Lost.{NotesLost, deleted_by, deleted_home, with_home}
 use Rattle.ep_choice.specs.Room.{HasRoomFor, Suits}
 use Rattle.ep_choice.specs.declared.choice.Choice.{Choice}
 use Rattle.ep_climb.proofs.SetLemmas.{Sets, clears_deleted, renewed, sets_added, sets_modified}
@@ -27,11 +27,21 @@ use Rattle.ep_interest.specs.Exclusive.{is_exclusive}
 use Rattle.ep_interest.specs.Registrations.{GainsKey, IsSound, Registrations, entry_found, entry_under}
 use Rattle.ep_interest.specs.declared.entry.Entry.{Entry}
 use Rattle.ep_kernel.proofs.ControlTurnsLemmas.{IsThere, there_by}
-use Rattle.ep_kernel.specs.Choice.{LosesDeleted, LosesNone, StillSuits}
-use Rattle.ep_law.proofs.TestLemmas.{or_left}
 use Rattle.ep_machine.specs.Bits.{EXCLUSIVE, ONESHOT, has_bit}
 use Rattle.ep_machine.specs.Lists.{is_among}
 use Rattle.ep_ready.specs.Walk.{Walk}
+
+-- what has room for the registrations before has room for those after
+abbrev pub StillSuits : Registrations → Registrations → Type 0
+StillSuits old new = (c : Choice) → Suits old c → Suits new c
+
+-- nothing is lost
+abbrev pub LosesNone : Parts → Parts → Type 0
+LosesNone old new = (ks : List ℕ) → NotesLost old new ks ks
+
+-- nothing is lost but what a call of this plan deletes
+abbrev pub LosesDeleted : Plan → Parts → Parts → Type 0
+LosesDeleted plan old new = (w : Walk) → NotesLost old new w.reached (with_home (deleted_by plan old) w).reached
 
 -- Where registrations stay.
 pub suits_same : (old new : Registrations) → new ≡ old → StillSuits old new
@@ -175,28 +185,19 @@ loses_failed plan p q same = notes_same plan.operation plan.found p q (ap (λ (r
 pub suits_noted : (r : Registrations) (c : Choice) (o : Option DescId) (lost : Walk) → lost ≡ with_home o c.lost → Suits r c → Suits r (record c { lost = lost })
 suits_noted r c o lost is = suits_left r r c (record c { lost = lost }) (were_same r r refl refl) refl refl (ap (λ (w : Walk). w.room) is ∙ (reaches_home o c.lost (with_home o c.lost) refl).room)
 
--- then nothing is lost
-pub none_lost : (p q : Parts) (o : Option DescId) (w : Walk) (ls : List ℕ) → ls ≡ (with_home o w).reached → LosesNone p q → NotesLost p q w.reached ls
-none_lost p q o w ls is none =
-    let notes = none ls in
-    record { noted = notes.noted; still = λ i t. ap (λ (ks : List ℕ). is_among ks i) is ∙ ((reaches_home o w (with_home o w) refl).each i ∙ or_left (is_among w.reached i) _ t) }
-
 -- What is not done takes nothing.
 no_err : {T E : Type 0} (P : Type 0) (r : Result T E) → IsOk r → OnErr r P
 no_err P (Ok x) h = tt
 no_err P (Err e) h = absurd (false≢true h)
+
+pub at_err : {T E P : Type 0} (r : Result T E) (e : E) → r ≡ Err e → OnErr r P → P
+at_err {P = P} r e is h = subst (λ x. OnErr x P) is h
 
 pub kept_on_err : {T E : Type 0} (op : Operation) (found : Option EntryId) (p : Parts) (w lost : Walk) → lost ≡ with_home (deleted_home op found p) w → (r : Result T E) → (op ≢ Add → IsOk r) → OnErr r (lost.reached ≡ w.reached)
 kept_on_err Add found p w lost is (Ok x) spared = tt
 kept_on_err Add found p w lost is (Err e) spared = ap (λ (v : Walk). v.reached) is
 kept_on_err Delete found p w lost is r spared = no_err _ r (spared (λ e. absurd (cc)))
 kept_on_err Modify found p w lost is r spared = no_err _ r (spared (λ e. absurd (cc)))
-
--- Where nothing is deleted.
-pub none_deleted : (op : Operation) (p : Parts) (w : Walk) → with_home (deleted_home op None p) w ≡ w
-none_deleted Add p w = refl
-none_deleted Delete p w = refl
-none_deleted Modify p w = refl
 
 -- and at the start
 pub suits_opening : (limits : Limits) (p : Parts) → AreOpening limits p → (c : Choice) → Suits p.interest c

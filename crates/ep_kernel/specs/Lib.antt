@@ -5,9 +5,11 @@ pub mod Asked
 pub mod Choose
 pub mod Take
 pub mod Places
-pub mod Choice
+pub mod Beside
+pub mod Stands
 pub mod Push
 pub mod Turns
 pub mod Control
 pub mod Wait
+pub mod Event
 pub mod Running

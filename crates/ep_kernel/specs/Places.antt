@@ -1,26 +1,17 @@
 -- The places that go with registrations.
 use Rattle.std.specs.List.{list_any}
-use Rattle.std.specs.Prelude.{◌≡◌, ◌||◌, ◌<◌, Bool, List, None, Some, filter, if◌then◌else◌, map, not, ℕ}
+use Rattle.std.specs.Prelude.{◌≡◌, ◌||◌, Bool, List, None, Some, filter, if◌then◌else◌, map, not, ℕ}
 use Rattle.ep_base.specs.declared.ids.DescId.{DescId}
 use Rattle.ep_base.specs.declared.ids.EntryId.{EntryId}
 use Rattle.ep_interest.specs.Passes.{has_id}
 use Rattle.ep_interest.specs.Registrations.{Registrations, ids, is_of, is_on}
 use Rattle.ep_ready.specs.ReadyLists.{Lists, instance_at, list_at}
-use Rattle.ep_ready.specs.Walk.{Walk}
 use Rattle.ep_table.specs.Value.{Seen, number_under}
 
 -- the keys of which this holds have no place, and all else is what it was
 pub record LosesPlaces (gone : ℕ → Bool) (old new : Lists) : Type 0 where
   pub places : (id : EntryId) → instance_at new id ≡ (if gone id.0 then None else instance_at old id)
   pub lists : (i : ℕ) → list_at new i ≡ filter (λ k. not (gone k)) (list_at old i)
-
--- no registration has a place that it had not
-abbrev pub AddsNoPlace : Lists → Lists → Type 0
-AddsNoPlace old new = (id : EntryId) (i : ℕ) → instance_at new id ≡ Some i → instance_at old id ≡ Some i
-
--- a walk has room for the instance of each place
-abbrev pub HasRoomFor : Lists → Walk → Type 0
-HasRoomFor l w = (id : EntryId) (i : ℕ) → instance_at l id ≡ Some i → i < w.room
 
 -- the registrations of a description or on it
 abbrev pub touches : Registrations → DescId → ℕ → Bool

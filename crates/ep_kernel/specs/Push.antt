@@ -8,7 +8,10 @@ use Rattle.ep_calls.specs.Parts.{Parts}
 use Rattle.ep_interest.specs.Passes.{has_id}
 use Rattle.ep_interest.specs.Registrations.{entry_under, ids, is_on, lets_in}
 use Rattle.ep_interest.specs.declared.entry.Entry.{Entry}
+use Rattle.ep_climb.specs.Reach.{AreReached}
+use Rattle.ep_kernel.specs.Beside.{Alike}
 use Rattle.ep_kernel.specs.Listed.{may_stand}
+use Rattle.ep_kernel.specs.declared.beside.Beside.{Beside}
 use Rattle.ep_machine.specs.Lists.{is_among}
 use Rattle.ep_nest.specs.declared.link.Link.{Link}
 use Rattle.ep_calls.specs.Climb.{is_reached_key}
@@ -42,3 +45,10 @@ comes_by n p l k = is_reached_key n p.tables p.interest l.inner && (has_id (ids 
 -- what passes something of event n on
 abbrev pub comes_in : ℕ → Parts → ℕ → Bool
 comes_in n p k = passes_found (entry_under p.interest (entry_id k)) || list_any (λ l. comes_by n p l k) p.graph
+
+-- what passes something of event n on comes to the lists and the hopes, and what the event reaches is noted
+pub record Climbs (n : ℕ) (p : Parts) (old new : Beside) : Type 0 where
+  pub gains : Alike (Gains (comes_in n p)) old new
+  pub reached : AreReached n p.tables p.interest new.reached.reached
+  pub room : new.reached.room ≡ old.reached.room
+  pub choice : new.choice ≡ old.choice

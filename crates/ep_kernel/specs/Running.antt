@@ -6,13 +6,15 @@ use Rattle.ep_calls.specs.Ends.{Spreads}
 use Rattle.ep_calls.specs.Keeps.{Keeps}
 use Rattle.ep_calls.specs.Parts.{Parts}
 use Rattle.ep_calls.specs.declared.raising.Raising.{Raising}
-use Rattle.ep_choice.specs.Room.{Suits}
 use Rattle.ep_climb.specs.Reach.{AreReached}
 use Rattle.ep_interest.specs.Registrations.{Registrations}
+use Rattle.ep_kernel.specs.Beside.{Alike}
 use Rattle.ep_kernel.specs.Listed.{AreFair, HopesFor, IsListed, lists_of}
-use Rattle.ep_kernel.specs.Places.{HasRoomFor, LosesDying}
+use Rattle.ep_kernel.specs.Places.{LosesDying}
 use Rattle.ep_kernel.specs.Push.{Gains, comes_in}
 use Rattle.ep_kernel.specs.ReadyBook.{ReadyBook}
+use Rattle.ep_kernel.specs.Stands.{HasRoom}
+use Rattle.ep_kernel.specs.declared.beside.Beside.{Beside}
 use Rattle.ep_kernel.specs.declared.ready.ReadyKernel.TheInside.{Inside}
 use Rattle.ep_ready.specs.ReadyLists.{Lists}
 
@@ -26,17 +28,16 @@ pub record Runs (past : List Record) (p : Parts) (l : Lists) : Type 0 where
 abbrev pub book_of : Inside → ReadyBook
 book_of k = record {
   book = record { limits = k.parts.tables.limits; past = k.history.items; capacity = vec_capacity k.history };
-  lists = lists_of k.parts k.lists;
+  lists = lists_of k.parts k.beside.lists;
 }
 
--- the same, each timer has its moment, what is reportable is among the hopes, the walks have room, and nothing is lost
+-- the same, each timer has its moment, what is reportable is among the hopes, there is room, and nothing is lost
 pub record IsRunning (k : Inside) : Type 0 where
-  pub runs : Runs k.history.items k.parts k.lists
+  pub runs : Runs k.history.items k.parts k.beside.lists
   pub set : AreSet k.parts.tables k.parts.clock k.alarms
-  pub hopes : HopesFor k.parts k.notes.asked.hopes
-  pub room : HasRoomFor k.notes.asked.hopes k.notes.reached
-  pub choice : Suits k.parts.interest k.notes.choice
-  pub unlost : k.notes.choice.lost.reached ≡ []
+  pub hopes : HopesFor k.parts k.beside.asked.hopes
+  pub room : HasRoom k.parts.interest k.beside
+  pub unlost : k.beside.choice.lost.reached ≡ []
 
 -- what the spread of event n does to lists: they lose the places that go with the dead, and what passes something on
 -- comes to the end of its list
@@ -46,8 +47,7 @@ pub record ListsSpread (n : ℕ) (mid : Parts) (noted : Registrations) (buried :
   pub gains : Gains (comes_in n buried) between m
 
 -- the spread of event n, with the lists, the hopes and the instances that IN reached
-pub record SpreadsWith (n : ℕ) (raising : Raising) (mid : Parts) (l h : Lists) (left : Parts) (m k : Lists) (ks : List ℕ) : Type 0 where
+pub record SpreadsWith (n : ℕ) (raising : Raising) (mid : Parts) (b : Beside) (left : Parts) (c : Beside) : Type 0 where
   pub spreads : Spreads n raising mid left
-  pub lists : ListsSpread n mid spreads.noted spreads.buried l m
-  pub hopes : ListsSpread n mid spreads.noted spreads.buried h k
-  pub reached : AreReached n spreads.buried.tables spreads.buried.interest ks
+  pub beside : Alike (ListsSpread n mid spreads.noted spreads.buried) b c
+  pub reached : AreReached n spreads.buried.tables spreads.buried.interest c.reached.reached

@@ -3,11 +3,11 @@
 
 mod act;
 mod asked;
+mod beside;
 mod choose;
 mod climb;
 mod control;
 mod mark;
-mod notes;
 mod places;
 mod push;
 mod readiness;

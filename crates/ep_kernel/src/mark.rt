@@ -7,7 +7,7 @@ ghost use Rattle.ep_kernel.specs.Listed.{HopesFor};
 ghost use Rattle.ep_machine.specs.Marks.{marked_by};
 
 use crate::asked::Asked;
-use crate::notes::Notes;
+use crate::beside::Beside;
 use crate::readiness::is_ready;
 use ep_base::{DescId, EventNumber};
 use ep_calls::Parts;
@@ -22,28 +22,29 @@ impl Readiness for Asked {
 }
 
 /// Sets marks at the end of an event, as ep_choice does, by what the hopes tell. Each instance below those that are
-/// looked at is asked once. All that is reportable stays among the hopes.
-pub fn mark(parts: &mut Parts, notes: &mut Notes, attend: Option<DescId>, step: EventNumber)
+/// looked at is asked once. All that is reportable stays among the hopes, and the lists stay.
+pub fn mark(parts: &mut Parts, beside: &mut Beside, attend: Option<DescId>, step: EventNumber)
     requires step { 0 < step }
-    requires hopes { HopesFor parts.old notes.old.asked.hopes }
-    requires fits { Fits parts.old notes.old.reached notes.old.choice }
+    requires hopes { HopesFor parts.old beside.old.asked.hopes }
+    requires fits { Fits parts.old beside.old.reached beside.old.choice }
     requires reached { AreReached step parts.old.tables parts.old.interest
-        notes.old.reached.reached }
-    requires looked { AreLookedAt step parts.old notes.old.choice.lost.reached attend }
+        beside.old.reached.reached }
+    requires looked { AreLookedAt step parts.old beside.old.choice.lost.reached attend }
     ensures marks { parts.new.parked
         ≡ marked_by (gets_mark_key step parts.old attend) parts.old.clock parts.old.parked }
     ensures narrowed { IsNarrowed step (record parts.old { parked = due_in parts.old })
         parts.new }
-    ensures hopes { HopesFor parts.new notes.new.asked.hopes }
-    ensures fits { Fits parts.new notes.new.reached notes.new.choice }
-    ensures unlost { notes.new.choice.lost.reached ≡ [] }
+    ensures hopes { HopesFor parts.new beside.new.asked.hopes }
+    ensures fits { Fits parts.new beside.new.reached beside.new.choice }
+    ensures unlost { beside.new.choice.lost.reached ≡ [] }
+    ensures lists { beside.new.lists ≡ beside.old.lists }
 {
-    notes.asked.forget();
+    beside.asked.forget();
     ep_choice::mark(
         parts,
-        &mut notes.asked,
-        &mut notes.reached,
-        &mut notes.choice,
+        &mut beside.asked,
+        &mut beside.reached,
+        &mut beside.choice,
         attend,
         step,
     );

@@ -17,7 +17,7 @@ ghost use Rattle.ep_table.specs.Value.{Sound as SoundTables};
 ghost use Rattle.ep_view.specs.AtRest.{IsSteady, kind_of};
 
 use crate::act::{Request, act};
-use crate::notes::Notes;
+use crate::beside::Beside;
 use crate::settle::{know, rest, spread};
 use ep_alarms::{Alarms, find_called};
 use ep_base::{Answer, CallerId, Errno, Event, EventNumber, Limits, Moment, Record};
@@ -35,10 +35,9 @@ use std::marker::Model;
 #[derive(Drop)]
 pub struct ReadyKernel {
     parts: Parts,
-    lists: ReadyLists,
+    // The ready lists, the hopes, and what is noted in the course of an event and says nothing between two events.
+    beside: Beside,
     alarms: Alarms,
-    // The hopes, and what is noted in the course of an event and says nothing between two events.
-    notes: Notes,
     history: Vec<Record>,
 }
 
@@ -84,9 +83,8 @@ impl ReadyKernel {
     {
         Ok(ReadyKernel {
             parts: Parts::new(alloc, limits)?,
-            lists: ReadyLists::new(alloc),
+            beside: Beside::new(alloc),
             alarms: Alarms::new(alloc),
-            notes: Notes::new(alloc),
             history: Vec::new(alloc),
         })
     }
@@ -107,7 +105,7 @@ impl ReadyKernel {
             (state_of self.now).waiters }
     {
         know(&self.parts);
-        self.lists.known();
+        self.beside.lists.known();
     }
 
     /// One event. `kept`: what a second record of it is made of is asked for.
@@ -140,7 +138,7 @@ impl ReadyKernel {
         self.history.reserve(1)?;
         let has_room = self.alarms.make_room(&event);
         let step = EventNumber(self.history.len() as u64 + 1);
-        know_laws(&self.parts, &self.lists);
+        know_laws(&self.parts, &self.beside.lists);
         let called = find_called(&self.parts, &event);
         let resumed = resumed_at(&self.parts, caller, &event);
         let request = Request {
@@ -149,13 +147,7 @@ impl ReadyKernel {
             kept,
             has_room,
         };
-        let outcome = act(
-            &mut self.parts,
-            &mut self.lists,
-            &mut self.notes,
-            request,
-            &event,
-        )?;
+        let outcome = act(&mut self.parts, &mut self.beside, request, &event)?;
         self.alarms
             .follow(&self.parts, &event, called, &outcome, has_room);
         let raising = outcome.raising;
@@ -164,15 +156,14 @@ impl ReadyKernel {
         let raised = raising;
         spread(
             &mut self.parts,
-            &mut self.lists,
-            &mut self.notes,
+            &mut self.beside,
             &mut self.alarms,
             step,
             raised,
         );
-        self.lists.known();
+        self.beside.lists.known();
         let attended = attend(left(&self.parts, caller, resumed), raising);
-        rest(&mut self.parts, &mut self.notes, attended, step);
+        rest(&mut self.parts, &mut self.beside, attended, step);
         self.history.push_reserved(record);
         Ok((answer, spare))
     }

@@ -7,23 +7,21 @@ ghost use Rattle.ep_calls.specs.Parts.{AreCoherent};
 ghost use Rattle.ep_calls.specs.Raising.{IsRaising};
 ghost use Rattle.ep_choice.specs.Lost.{NotesLost};
 ghost use Rattle.ep_choice.specs.Marking.{AreLookedAt, Fits, gets_mark_key};
-ghost use Rattle.ep_choice.specs.Room.{HaveRoom, Suits};
 ghost use Rattle.ep_climb.specs.Reach.{AreReached};
 ghost use Rattle.ep_interest.specs.Registrations.{IsSound};
-ghost use Rattle.ep_kernel.specs.Listed.{HavePlaces, HopesFor};
-ghost use Rattle.ep_kernel.specs.Places.{HasRoomFor};
+ghost use Rattle.ep_kernel.specs.Listed.{HopesFor};
 ghost use Rattle.ep_kernel.specs.Running.{SpreadsWith};
+ghost use Rattle.ep_kernel.specs.Stands.{FitsBeside, HasRoom};
 ghost use Rattle.ep_table.specs.Value.{Sound};
 
+use crate::beside::Beside;
 use crate::climb::climb;
 use crate::mark::mark;
-use crate::notes::Notes;
 use crate::places::drop_dying;
 use ep_alarms::{Alarms, burial_leaves_alarms};
 use ep_base::{DescId, EventNumber};
 use ep_calls::{Parts, Raising};
 use ep_choice::note_dying;
-use ep_ready::ReadyLists;
 
 /// Does nothing. What holds of the parts between calls, with their registrations; a fact for proofs.
 pub fn know(parts: &Parts)
@@ -41,63 +39,50 @@ pub fn know(parts: &Parts)
 /// still to be forgotten.
 pub fn spread(
     parts: &mut Parts,
-    lists: &mut ReadyLists,
-    notes: &mut Notes,
+    beside: &mut Beside,
     alarms: &mut Alarms,
     step: EventNumber,
     raising: Raising,
 )
     requires step { 0 < step }
     requires raises { IsRaising raising parts.old.tables }
-    requires places { HavePlaces parts.old.interest lists.old }
-    requires hopes { HavePlaces parts.old.interest notes.old.asked.hopes }
-    requires room { HasRoomFor notes.old.asked.hopes notes.old.reached }
-    requires choice { Suits parts.old.interest notes.old.choice }
+    requires fits { FitsBeside parts.old beside.old }
     requires set { AreSetSince raising parts.old.tables parts.old.clock alarms.old }
-    ensures spreads { SpreadsWith step raising parts.old lists.old notes.old.asked.hopes parts.new
-        lists.new notes.new.asked.hopes notes.new.reached.reached }
-    ensures room { HasRoomFor notes.new.asked.hopes notes.new.reached }
-    ensures choice { Suits parts.new.interest notes.new.choice }
-    ensures lost { NotesLost parts.old parts.new notes.old.choice.lost.reached
-        notes.new.choice.lost.reached }
-    ensures fits { HaveRoom notes.old.choice.lost.reached notes.old.reached
-        → HaveRoom notes.new.choice.lost.reached notes.new.reached }
+    ensures spreads { SpreadsWith step raising parts.old beside.old parts.new beside.new }
+    ensures room { HasRoom parts.new.interest beside.new }
+    ensures lost { NotesLost parts.old parts.new beside.old.choice.lost.reached
+        beside.new.choice.lost.reached }
     ensures set { AreSet parts.new.tables parts.new.clock alarms.new }
 {
     know(parts);
     alarms.raise(parts, step, raising);
     know(parts);
-    drop_dying(parts, lists, &mut notes.asked.hopes);
-    note_dying(parts, &mut notes.choice.lost);
+    drop_dying(parts, beside);
+    note_dying(parts, &mut beside.choice.lost);
     burial_leaves_alarms();
     alarms.drop_dying(&parts.tables);
     parts.bury(step);
     know(parts);
-    climb(
-        parts,
-        lists,
-        &mut notes.asked.hopes,
-        &mut notes.reached,
-        step,
-    );
+    climb(parts, beside, step);
     know(parts);
 }
 
 /// Sets marks, and forgets what was passed on in an event, and what was lost. All that is reportable stays among the
-/// hopes.
+/// hopes, and the lists stay.
 #[inline(always)]
-pub fn rest(parts: &mut Parts, notes: &mut Notes, attend: Option<DescId>, step: EventNumber)
+pub fn rest(parts: &mut Parts, beside: &mut Beside, attend: Option<DescId>, step: EventNumber)
     requires step { 0 < step }
-    requires hopes { HopesFor parts.old notes.old.asked.hopes }
-    requires fits { Fits parts.old notes.old.reached notes.old.choice }
+    requires hopes { HopesFor parts.old beside.old.asked.hopes }
+    requires fits { Fits parts.old beside.old.reached beside.old.choice }
     requires reached { AreReached step parts.old.tables parts.old.interest
-        notes.old.reached.reached }
-    requires looked { AreLookedAt step parts.old notes.old.choice.lost.reached attend }
+        beside.old.reached.reached }
+    requires looked { AreLookedAt step parts.old beside.old.choice.lost.reached attend }
     ensures rests { RestsBy (gets_mark_key step parts.old attend) parts.old parts.new }
-    ensures hopes { HopesFor parts.new notes.new.asked.hopes }
-    ensures fits { Fits parts.new notes.new.reached notes.new.choice }
-    ensures unlost { notes.new.choice.lost.reached ≡ [] }
+    ensures hopes { HopesFor parts.new beside.new.asked.hopes }
+    ensures fits { Fits parts.new beside.new.reached beside.new.choice }
+    ensures unlost { beside.new.choice.lost.reached ≡ [] }
+    ensures lists { beside.new.lists ≡ beside.old.lists }
 {
-    mark(parts, notes, attend, step);
+    mark(parts, beside, attend, step);
     parts.forget_passed();
 }

@@ -5,22 +5,19 @@ ghost use Rattle.ep_base.specs.declared.call.Event.TheVariants.{Call as CallOf, 
 ghost use Rattle.ep_calls.specs.Kept.{IsKept};
 ghost use Rattle.ep_calls.specs.Last.{NothingRefuses, NothingRefusesCall};
 ghost use Rattle.ep_calls.specs.Wait.{wait_call};
-ghost use Rattle.ep_kernel.specs.Choice.{LosesNone, StillSuits};
-ghost use Rattle.ep_kernel.specs.Listed.{HopesFor, IsListed};
-ghost use Rattle.ep_kernel.specs.Places.{AddsNoPlace};
+ghost use Rattle.ep_kernel.specs.Event.{LeavesBeside, StaysBeside, TurnsInOrder};
+ghost use Rattle.ep_kernel.specs.Stands.{StandsBeside};
 ghost use Rattle.ep_alarms.specs.Changes.{LeavesFiles};
-ghost use Rattle.ep_kernel.specs.Turns.{HopesGo, Turns};
-ghost use Rattle.ep_kernel.specs.Wait.{DoesCallFairly, DoesEventFairly, ReportsInOrder};
+ghost use Rattle.ep_kernel.specs.Wait.{DoesCallFairly, DoesEventFairly};
 ghost use Rattle.ep_machine.specs.Waits.{is_positive};
 ghost use Rattle.ep_machine.specs.Watches.{number_in};
 ghost use Rattle.ep_park.specs.Waiters.{is_caller};
 
-use crate::asked::Asked;
+use crate::beside::Beside;
 use crate::choose::choose;
 use crate::take::take;
 use ep_base::{Answer, CallerId, Errno, EventNumber};
 use ep_calls::{Outcome, Parts, Raising, Wait, find_instance};
-use ep_ready::ReadyLists;
 use std::alloc::AllocError;
 
 /// How many reports are asked for.
@@ -38,33 +35,25 @@ fn most(max: i32) -> usize
 /// comes only if nothing refuses the call.
 pub fn epoll_wait(
     parts: &mut Parts,
-    lists: &mut ReadyLists,
-    asked: &mut Asked,
+    beside: &mut Beside,
     step: EventNumber,
     caller: CallerId,
     args: Wait,
 ) -> Result<Outcome, AllocError>
     requires free { list_any (is_caller caller.0) parts.old.parked ≡ false }
-    requires listed { IsListed parts.old lists.old }
-    requires hopes { HopesFor parts.old asked.old.hopes }
+    requires stands { StandsBeside parts.old beside.old }
     ensures ok { IfOk result
-        (λ outcome. DoesCallFairly lists.old step caller.0 args.pid.0 (wait_call args) outcome
-        parts.old parts.new) }
+        (λ outcome. DoesCallFairly beside.old.lists step caller.0 args.pid.0 (wait_call args)
+        outcome parts.old parts.new) }
     ensures leaves { IfOk result (λ outcome. LeavesFiles outcome.raising parts.old parts.new) }
     ensures kept { IfOk result (λ outcome. IsKept args.kept outcome) }
-    ensures turns { IfOk result
-        (λ outcome. Turns (CallOf args.pid (wait_call args)) outcome.picked parts.old lists.old
-        parts.new lists.new) }
-    ensures order { IfOk result
-        (λ outcome. ReportsInOrder lists.old step caller.0 (CallOf args.pid (wait_call args))
-        outcome parts.old parts.new lists.new) }
-    ensures hopes { HopesGo (CallOf args.pid (wait_call args)) parts.old parts.new asked.new.hopes }
-    ensures within { AddsNoPlace asked.old.hopes asked.new.hopes }
-    ensures choice { StillSuits parts.old.interest parts.new.interest }
-    ensures lost { LosesNone parts.old parts.new }
+    ensures lists { IfOk result
+        (λ outcome. TurnsInOrder step caller.0 (CallOf args.pid (wait_call args)) outcome parts.old
+        beside.old.lists parts.new beside.new.lists) }
+    ensures goes { LeavesBeside (CallOf args.pid (wait_call args)) parts.old beside.old parts.new
+        beside.new }
     ensures last { OnErr result (NothingRefusesCall parts.old args.pid.0 (wait_call args)) }
-    ensures err { OnErr result (parts.new ≡ parts.old) }
-    ensures err_lists { OnErr result (lists.new ≡ lists.old) }
+    ensures err { OnErr result (StaysBeside parts.old beside.old parts.new beside.new) }
 {
     // A copy, since the prover takes what is passed on as moved.
     let wanted = args;
@@ -74,10 +63,22 @@ pub fn epoll_wait(
     };
     parts.known();
     parts.interest.known();
-    lists.known();
-    let found = choose(parts, lists, asked, instance, most(args.max))?;
+    beside.lists.known();
+    let found = choose(
+        parts,
+        &beside.lists,
+        &mut beside.asked,
+        instance,
+        most(args.max),
+    )?;
     let outcome = parts.wait_with(step, caller, args, instance, &found.reportables)?;
-    take(&parts.interest, lists, instance, found.walked, step);
+    take(
+        &parts.interest,
+        &mut beside.lists,
+        instance,
+        found.walked,
+        step,
+    );
     Ok(outcome)
 }
 
@@ -88,30 +89,23 @@ pub fn epoll_wait(
 /// An `Err` comes only if nothing refuses it.
 pub fn resume(
     parts: &mut Parts,
-    lists: &mut ReadyLists,
-    asked: &mut Asked,
+    beside: &mut Beside,
     step: EventNumber,
     caller: CallerId,
     kept: bool,
 ) -> Result<Outcome, AllocError>
-    requires listed { IsListed parts.old lists.old }
-    requires hopes { HopesFor parts.old asked.old.hopes }
+    requires stands { StandsBeside parts.old beside.old }
     ensures ok { IfOk result
-        (λ outcome. DoesEventFairly lists.old step caller.0 Resume outcome parts.old parts.new) }
+        (λ outcome. DoesEventFairly beside.old.lists step caller.0 Resume outcome parts.old
+        parts.new) }
     ensures leaves { IfOk result (λ outcome. LeavesFiles outcome.raising parts.old parts.new) }
     ensures kept { IfOk result (λ outcome. IsKept kept outcome) }
-    ensures turns { IfOk result
-        (λ outcome. Turns Resume outcome.picked parts.old lists.old parts.new lists.new) }
-    ensures order { IfOk result
-        (λ outcome. ReportsInOrder lists.old step caller.0 Resume outcome parts.old parts.new
-        lists.new) }
-    ensures hopes { HopesGo Resume parts.old parts.new asked.new.hopes }
-    ensures within { AddsNoPlace asked.old.hopes asked.new.hopes }
-    ensures choice { StillSuits parts.old.interest parts.new.interest }
-    ensures lost { LosesNone parts.old parts.new }
+    ensures lists { IfOk result
+        (λ outcome. TurnsInOrder step caller.0 Resume outcome parts.old beside.old.lists parts.new
+        beside.new.lists) }
+    ensures goes { LeavesBeside Resume parts.old beside.old parts.new beside.new }
     ensures last { OnErr result (NothingRefuses parts.old caller.0 Resume) }
-    ensures err { OnErr result (parts.new ≡ parts.old) }
-    ensures err_lists { OnErr result (lists.new ≡ lists.old) }
+    ensures err { OnErr result (StaysBeside parts.old beside.old parts.new beside.new) }
 {
     let Some(waiter) = parts.waiters.waiter(caller) else {
         return Ok(Outcome::refused(parts.alloc, Errno::Einval));
@@ -121,9 +115,21 @@ pub fn resume(
     }
     parts.known();
     parts.interest.known();
-    lists.known();
-    let found = choose(parts, lists, asked, waiter.instance, most(waiter.max))?;
+    beside.lists.known();
+    let found = choose(
+        parts,
+        &beside.lists,
+        &mut beside.asked,
+        waiter.instance,
+        most(waiter.max),
+    )?;
     let outcome = parts.resume_with(step, caller, waiter, &found.reportables, kept)?;
-    take(&parts.interest, lists, waiter.instance, found.walked, step);
+    take(
+        &parts.interest,
+        &mut beside.lists,
+        waiter.instance,
+        found.walked,
+        step,
+    );
     Ok(outcome)
 }

@@ -1,134 +1,125 @@
-use Rattle.ep_choice.proofs.SuitsLemmas.{suits_widened}
-use Rattle.ep_kernel.proofs.StillSuitsLemmas.{loses_missed, loses_stay, suits_added, suits_stay}
-use Rattle.ep_alarms.proofs.ChangesLemmas.{controls_leave}
-use Rattle.ep_kernel.proofs.RoomLemmas.{room_gained, room_grown, room_within, within_dropped, within_same, within_settled}
-use Rattle.ep_kernel.proofs.ControlTurnsLemmas.{next_at, none_placed, same_again, settled_at, some_placed, sound_at, turns_added, vacant_at}
-use Rattle.std.proofs.Common.{List, refl, subst, sym, ℕ}
+use Rattle.std.proofs.Common.{◌≡◌, ◌∙◌, List, None, ap, refl, subst, sym, ℕ}
 use Rattle.ep_base.specs.declared.call.Event.TheVariants.{Call as CallOf}
+use Rattle.ep_alarms.proofs.ChangesLemmas.{controls_leave}
 use Rattle.ep_calls.specs.Control.{control_call}
 use Rattle.ep_calls.specs.Parts.{Parts}
+use Rattle.ep_base.specs.declared.ids.EntryId.{EntryId}
+use Rattle.ep_base.specs.declared.ids.Pid.{Pid}
+use Rattle.ep_calls.specs.declared.control.Control.{Control}
+use Rattle.ep_interest.specs.Registrations.{number_under}
+use Rattle.ep_nest.proofs.AdjacentLemmas.{on_err}
+use Rattle.ep_ready.specs.ReadyLists.{GainsPlace, IsSound, Lists, LosesPlace, Same}
 use Rattle.ep_kernel.proofs.ControlLemmas.{turns_still}
+use Rattle.ep_kernel.proofs.ControlTurnsLemmas.{next_at, none_placed, same_again, settled_at, some_placed, sound_at, turns_added, vacant_at}
+use Rattle.ep_kernel.proofs.EventLemmas.{leaves_widened}
 use Rattle.ep_kernel.proofs.HopesGoLemmas.{hopes_added, hopes_refused}
-use Rattle.ep_kernel.specs.Turns.{Turns}
+use Rattle.ep_kernel.proofs.RoomLemmas.{room_added, room_kept, room_rest, room_widened}
+use Rattle.ep_kernel.proofs.StillSuitsLemmas.{loses_missed, loses_stay, suits_added, suits_stay}
 use Rattle.ep_kernel.proofs.control.add.Goals as goal
+use Rattle.ep_kernel.specs.Beside.{KeepsRest, Widens}
+use Rattle.ep_kernel.specs.Event.{LeavesBeside}
+use Rattle.ep_kernel.specs.Listed.{HavePlaces}
+use Rattle.ep_kernel.specs.Stands.{StandsBeside}
+use Rattle.ep_kernel.specs.Turns.{Turns}
+use Rattle.ep_kernel.specs.declared.beside.Beside.{Beside}
 
-pub make_room_for-requires-clause-free : goal.make_room_for-requires-clause-free
-make_room_for-requires-clause-free c = none_placed c.args.parts.now c.args.lists.now c.requires.listed.places c.next_key-id.result (vacant_at _ _ _ c.parts.view_is c.next_key-id.ensures.vacant)
+-- the next key is free
+pub make-requires : goal.make-requires
+make-requires c =
+    let p = c.args.parts.now in
+    let b = c.args.beside.now in
+    let vacant = vacant_at _ _ _ c.parts.view_is c.next_key-id.ensures.vacant in
+    record { free = record { lists = none_placed p b.lists c.requires.stands.listed.places c.next_key-id.result vacant; hopes = none_placed p b.asked.hopes c.requires.stands.hopes.places c.next_key-id.result vacant } }
 
-pub make_room_for-requires-clause-hope : goal.make_room_for-requires-clause-hope
-make_room_for-requires-clause-hope c = none_placed c.args.parts.now c.args.notes.now.asked.hopes c.requires.hopes.places c.next_key-id.result (vacant_at _ _ _ c.parts.view_is c.next_key-id.ensures.vacant)
+pub settle-requires : goal.settle-requires
+settle-requires c =
+    let made = c.make.ensures.made c.if-not-make.false in
+    let m = c.make.new.self in
+    record { lists = some_placed m.lists c.next_key-id.result c.args.plan.named.instance.0 made.lists.here; hopes = some_placed m.asked.hopes c.next_key-id.result c.args.plan.named.instance.0 made.hopes.here }
+
+pub unmake-requires : goal.unmake-requires
+unmake-requires c =
+    let made = c.make.ensures.made c.if-not-make.false in
+    let m = c.make.new.self in
+    record { lists = some_placed m.lists c.next_key-id.result c.args.plan.named.instance.0 made.lists.here; hopes = some_placed m.asked.hopes c.next_key-id.result c.args.plan.named.instance.0 made.hopes.here }
 
 pub returns-clause-turns : goal.returns-clause-turns
 returns-clause-turns c =
-    turns_added c.args.pid c.args.args c.args.plan c.in-Ok.outcome c.args.parts.now c.control.new.self c.args.lists.now c.requires.listed c.in-Ok.ensures.controls c.known.ensures.sound (sound_at _ _ c.parts.view_is c.known-2.ensures) c.known-5.ensures.coherent (sound_at _ _ c.parts-2.view_is c.known-6.ensures) c.requires.plan c.requires.found c.make_room_for.new.lists c.settle.new.lists c.known-3.ensures c.next_key-id.result (next_at _ _ _ c.parts.view_is c.next_key-id.ensures.next) (vacant_at _ _ _ c.parts.view_is c.next_key-id.ensures.vacant) c.requires.adds (c.make_room_for.ensures.made c.if-not-make_room_for.false) (settled_at _ _ _ _ _ _ c.parts-2.view_is c.settle.ensures)
-
-pub settle-requires : goal.settle-requires
-settle-requires c = some_placed c.make_room_for.new.lists c.next_key-id.result c.args.plan.named.instance.0 (c.make_room_for.ensures.made c.if-not-make_room_for.false).here
-
-pub returns-in-Err-clause-err : goal.returns-in-Err-clause-err
-returns-in-Err-clause-err c = (c.in-Err.ensures.err, same_again c.args.lists.now c.make_room_for.new.lists c.drop_place.new.self c.next_key-id.result c.args.plan.named.instance.0 c.known-3.ensures (none_placed c.args.parts.now c.args.lists.now c.requires.listed.places c.next_key-id.result (vacant_at _ _ _ c.parts.view_is c.next_key-id.ensures.vacant)) (c.make_room_for.ensures.made c.if-not-make_room_for.false) c.drop_place.ensures)
+    turns_added c.args.pid c.args.args c.args.plan c.in-Ok.outcome c.args.parts.now c.control.new.self c.args.beside.now.lists c.requires.stands.listed c.in-Ok.ensures.controls c.known.ensures.sound (sound_at _ _ c.parts.view_is c.known-2.ensures) c.known-5.ensures.coherent (sound_at _ _ c.parts-2.view_is c.known-6.ensures) c.requires.plan c.requires.found c.make.new.self.lists c.settle.new.self.lists c.known-3.ensures c.next_key-id.result (next_at _ _ _ c.parts.view_is c.next_key-id.ensures.next) (vacant_at _ _ _ c.parts.view_is c.next_key-id.ensures.vacant) c.requires.adds (c.make.ensures.made c.if-not-make.false).lists (settled_at _ _ _ _ _ _ c.parts-2.view_is c.settle.ensures.alike.lists)
 
 pub returns-clause-leaves : goal.returns-clause-leaves
 returns-clause-leaves c = controls_leave c.args.plan c.args.args c.in-Ok.outcome c.args.parts.now c.control.new.self c.in-Ok.ensures.controls
 
--- The same of the hopes.
-pub settle-requires-2 : goal.settle-requires-2
-settle-requires-2 c = some_placed c.make_room_for.new.notes.asked.hopes c.next_key-id.result c.args.plan.named.instance.0 (c.make_room_for.ensures.hoped c.if-not-make_room_for.false).here
-
-pub returns-clause-hopes : goal.returns-clause-hopes
-returns-clause-hopes c =
-    let hoped = c.make_room_for.ensures.hoped c.if-not-make_room_for.false in
-    hopes_added c.args.pid c.args.args c.args.plan c.in-Ok.outcome c.args.parts.now c.control.new.self c.args.notes.now.asked.hopes c.requires.hopes c.in-Ok.ensures.controls c.known.ensures.sound (sound_at _ _ c.parts.view_is c.known-2.ensures) c.known-5.ensures.coherent (sound_at _ _ c.parts-2.view_is c.known-6.ensures) c.requires.plan c.requires.found c.make_room_for.new.notes.asked.hopes c.settle-2.new.lists c.known-4.ensures c.next_key-id.result (next_at _ _ _ c.parts.view_is c.next_key-id.ensures.next) (vacant_at _ _ _ c.parts.view_is c.next_key-id.ensures.vacant) c.requires.adds hoped (settled_at _ _ _ _ _ _ c.parts-2.view_is c.settle-2.ensures)
+pub returns-clause-goes : goal.returns-clause-goes
+returns-clause-goes c =
+    let p = c.args.parts.now in
+    let q = c.control.new.self in
+    let b = c.args.beside.now in
+    let m = c.make.new.self in
+    let n = c.settle.new.self in
+    let id = c.next_key-id.result in
+    let outcome = c.in-Ok.outcome in
+    let controls = c.in-Ok.ensures.controls in
+    let made = c.make.ensures.made c.if-not-make.false in
+    let widens = c.make.ensures.widens in
+    let sound = sound_at _ _ c.parts.view_is c.known-2.ensures in
+    let next = next_at _ _ _ c.parts.view_is c.next_key-id.ensures.next in
+    let rest = c.settle.ensures.rest in
+    leaves_widened (CallOf c.args.pid (control_call c.args.args)) p q b n (ap (λ (x : Beside). x.choice.lost.reached) rest ∙ widens.choice.kept)
+    (hopes_added c.args.pid c.args.args c.args.plan outcome p q b.asked.hopes c.requires.stands.hopes controls c.known.ensures.sound sound c.known-5.ensures.coherent (sound_at _ _ c.parts-2.view_is c.known-6.ensures) c.requires.plan c.requires.found m.asked.hopes n.asked.hopes c.known-4.ensures id next (vacant_at _ _ _ c.parts.view_is c.next_key-id.ensures.vacant) c.requires.adds made.hopes (settled_at _ _ _ _ _ _ c.parts-2.view_is c.settle.ensures.alike.hopes))
+    (room_rest q.interest m n rest (room_added p.interest q.interest m c.args.plan.named c.args.args.mask id.0 (suits_added c.args.pid c.args.args c.args.plan outcome p q controls sound id next c.requires.adds c.requires.found) (c.make.ensures.room c.if-not-make.false) (room_widened p.interest b m widens c.requires.stands.room)))
+    (loses_missed c.args.pid c.args.args c.args.plan outcome p q controls c.requires.found)
 
 -- Where there is no room.
-pub returns-then-not-make_room_for-clause-turns : goal.returns-then-not-make_room_for-clause-turns
-returns-then-not-make_room_for-clause-turns c =
+pub returns-then-not-make-clause-turns : goal.returns-then-not-make-clause-turns
+returns-then-not-make-clause-turns c =
     let p = c.args.parts.now in
-    let l = c.args.lists.now in
-    let m = c.make_room_for.new.lists in
+    let l = c.args.beside.now.lists in
+    let m = c.make.new.self.lists in
     let event = CallOf c.args.pid (control_call c.args.args) in
-    let same = (c.make_room_for.ensures.refused c.if-not-make_room_for.true).0 in
     subst (λ (q : Parts). Turns event c.in_ok-refused.refused.picked p l q m) (sym c.refuse.ensures.stays)
-    (subst (λ (ks : List ℕ). Turns event ks p l p m) (sym c.in_ok-refused.ensures.picked) (turns_still p p l m refl refl refl same c.args.pid c.args.args c.requires.listed))
+    (subst (λ (ks : List ℕ). Turns event ks p l p m) (sym c.in_ok-refused.ensures.picked) (turns_still p p l m refl refl refl (c.make.ensures.refused c.if-not-make.true).lists c.args.pid c.args.args c.requires.stands.listed))
 
-pub returns-then-not-make_room_for-clause-hopes : goal.returns-then-not-make_room_for-clause-hopes
-returns-then-not-make_room_for-clause-hopes c =
-    hopes_refused c.args.pid c.args.args c.args.parts.now c.refuse.new.parts c.args.notes.now.asked.hopes c.make_room_for.new.notes.asked.hopes c.refuse.ensures.stays (c.make_room_for.ensures.refused c.if-not-make_room_for.true).1 c.requires.hopes
+-- what a refusal, and want of memory, leave beside the parts
+refused : (p q : Parts) (b m : Beside) (pid : Pid) (args : Control) → q ≡ p → Widens b m → Same b.asked.hopes m.asked.hopes → StandsBeside p b → LeavesBeside (CallOf pid (control_call args)) p b q m
+refused p q b m pid args same widens hopes stands =
+    leaves_widened (CallOf pid (control_call args)) p q b m widens.choice.kept (hopes_refused pid args p q b.asked.hopes m.asked.hopes same hopes stands.hopes)
+    (room_kept p.interest q.interest m (suits_stay p q same) (room_widened p.interest b m widens stands.room)) (loses_stay p q same)
 
-pub returns-in_err-refused-clause-hopes : goal.returns-in_err-refused-clause-hopes
-returns-in_err-refused-clause-hopes c =
-    hopes_refused c.args.pid c.args.args c.args.parts.now c.refuse.new.parts c.args.notes.now.asked.hopes c.make_room_for.new.notes.asked.hopes c.refuse.ensures.stays (c.make_room_for.ensures.refused c.if-not-make_room_for.true).1 c.requires.hopes
+pub returns-then-not-make-clause-goes : goal.returns-then-not-make-clause-goes
+returns-then-not-make-clause-goes c = refused c.args.parts.now c.refuse.new.parts c.args.beside.now c.make.new.self c.args.pid c.args.args c.refuse.ensures.stays c.make.ensures.widens (c.make.ensures.refused c.if-not-make.true).hopes c.requires.stands
 
-pub returns-in-Err-clause-hopes : goal.returns-in-Err-clause-hopes
-returns-in-Err-clause-hopes c =
+pub returns-in_err-refused-clause-goes : goal.returns-in_err-refused-clause-goes
+returns-in_err-refused-clause-goes c = refused c.args.parts.now c.refuse.new.parts c.args.beside.now c.make.new.self c.args.pid c.args.args c.refuse.ensures.stays c.make.ensures.widens (c.make.ensures.refused c.if-not-make.true).hopes c.requires.stands
+
+pub returns-in_err-refused-clause-err : goal.returns-in_err-refused-clause-err
+returns-in_err-refused-clause-err c = on_err c.from_residual.result (record { parts = c.refuse.ensures.stays; lists = (c.make.ensures.refused c.if-not-make.true).lists; lost = c.make.ensures.widens.choice.kept })
+
+-- Where memory is wanting once there is room: the places that were made go again.
+again : (l m n : Lists) (id : EntryId) (i : ℕ) (p : Parts) → IsSound l → HavePlaces p.interest l → number_under p.interest id ≡ None → GainsPlace l m i id → LosesPlace m n id → Same l n
+again l m n id i p sound places vacant gains loses = same_again l m n id i sound (none_placed p l places id vacant) gains loses
+
+unmade : (b m n : Beside) → Widens b m → KeepsRest m n → Widens b n
+unmade b m n widens rest = subst (Widens b) (sym rest) (record { reached = widens.reached; choice = widens.choice })
+
+pub returns-in-Err-clause-goes : goal.returns-in-Err-clause-goes
+returns-in-Err-clause-goes c =
     let p = c.args.parts.now in
-    let h = c.args.notes.now.asked.hopes in
-    let hoped = c.make_room_for.ensures.hoped c.if-not-make_room_for.false in
-    let none = none_placed p h c.requires.hopes.places c.next_key-id.result (vacant_at _ _ _ c.parts.view_is c.next_key-id.ensures.vacant) in
-    hopes_refused c.args.pid c.args.args p c.control.new.self h c.drop_place-in-Err.new.self c.in-Err.ensures.err (same_again h c.make_room_for.new.notes.asked.hopes c.drop_place-in-Err.new.self c.next_key-id.result c.args.plan.named.instance.0 c.known-4.ensures none hoped c.drop_place-in-Err.ensures) c.requires.hopes
+    let b = c.args.beside.now in
+    let m = c.make.new.self in
+    let n = c.unmake.new.self in
+    let vacant = vacant_at _ _ _ c.parts.view_is c.next_key-id.ensures.vacant in
+    let same = again b.asked.hopes m.asked.hopes n.asked.hopes c.next_key-id.result c.args.plan.named.instance.0 p c.known-4.ensures c.requires.stands.hopes.places vacant (c.make.ensures.made c.if-not-make.false).hopes c.unmake.ensures.alike.hopes in
+    refused p c.control.new.self b n c.args.pid c.args.args c.in-Err.ensures.err (unmade b m n c.make.ensures.widens c.unmake.ensures.rest) same c.requires.stands
 
--- The room for what it names.
-pub returns-clause-room : goal.returns-clause-room
-returns-clause-room c =
-    let h = c.args.notes.now.asked.hopes in
-    let k = c.make_room_for.new.notes.asked.hopes in
-    let w = c.make_room_for.new.notes.reached in
-    let made = c.if-not-make_room_for.false in
-    let grown = room_grown h c.args.notes.now.reached w c.make_room_for.ensures.more c.requires.room in
-    let gained = room_gained h k w c.args.plan.named.instance.0 c.next_key-id.result (c.make_room_for.ensures.hoped made) (c.make_room_for.ensures.room made) grown in
-    room_within k c.settle-2.new.lists w (within_settled c.next_key-id.result _ c.in-Ok.outcome.raising k c.settle-2.new.lists c.settle-2.ensures) gained
-
-pub returns-then-not-make_room_for-clause-room : goal.returns-then-not-make_room_for-clause-room
-returns-then-not-make_room_for-clause-room c =
-    let h = c.args.notes.now.asked.hopes in
-    let k = c.make_room_for.new.notes.asked.hopes in
-    let w = c.make_room_for.new.notes.reached in
-    room_within h k w (within_same h k (c.make_room_for.ensures.refused c.if-not-make_room_for.true).1) (room_grown h c.args.notes.now.reached w c.make_room_for.ensures.more c.requires.room)
-
-pub returns-in_err-refused-clause-room : goal.returns-in_err-refused-clause-room
-returns-in_err-refused-clause-room c =
-    let h = c.args.notes.now.asked.hopes in
-    let k = c.make_room_for.new.notes.asked.hopes in
-    let w = c.make_room_for.new.notes.reached in
-    room_within h k w (within_same h k (c.make_room_for.ensures.refused c.if-not-make_room_for.true).1) (room_grown h c.args.notes.now.reached w c.make_room_for.ensures.more c.requires.room)
-
-pub returns-in-Err-clause-room : goal.returns-in-Err-clause-room
-returns-in-Err-clause-room c =
-    let h = c.args.notes.now.asked.hopes in
-    let k = c.make_room_for.new.notes.asked.hopes in
-    let w = c.make_room_for.new.notes.reached in
-    let made = c.if-not-make_room_for.false in
-    let grown = room_grown h c.args.notes.now.reached w c.make_room_for.ensures.more c.requires.room in
-    let gained = room_gained h k w c.args.plan.named.instance.0 c.next_key-id.result (c.make_room_for.ensures.hoped made) (c.make_room_for.ensures.room made) grown in
-    room_within k c.drop_place-in-Err.new.self w (within_dropped k c.drop_place-in-Err.new.self c.next_key-id.result c.drop_place-in-Err.ensures) gained
-
--- The room for a choice.
-pub returns-clause-choice : goal.returns-clause-choice
-returns-clause-choice c =
-    suits_added c.args.pid c.args.args c.args.plan c.in-Ok.outcome c.args.parts.now c.control.new.self c.in-Ok.ensures.controls (sound_at _ _ c.parts.view_is c.known-2.ensures) c.next_key-id.result (next_at _ _ _ c.parts.view_is c.next_key-id.ensures.next) c.requires.adds c.requires.found
-    c.make_room_for.new.notes.choice (c.make_room_for.ensures.choice c.if-not-make_room_for.false) (suits_widened c.args.parts.now.interest c.args.notes.now.choice c.make_room_for.new.notes.choice c.make_room_for.ensures.widens c.requires.choice)
-
-pub returns-then-not-make_room_for-clause-choice : goal.returns-then-not-make_room_for-clause-choice
-returns-then-not-make_room_for-clause-choice c =
-    suits_stay c.args.parts.now c.refuse.new.parts c.refuse.ensures.stays c.make_room_for.new.notes.choice (suits_widened c.args.parts.now.interest c.args.notes.now.choice c.make_room_for.new.notes.choice c.make_room_for.ensures.widens c.requires.choice)
-
-pub returns-in_err-refused-clause-choice : goal.returns-in_err-refused-clause-choice
-returns-in_err-refused-clause-choice c =
-    suits_stay c.args.parts.now c.refuse.new.parts c.refuse.ensures.stays c.make_room_for.new.notes.choice (suits_widened c.args.parts.now.interest c.args.notes.now.choice c.make_room_for.new.notes.choice c.make_room_for.ensures.widens c.requires.choice)
-
-pub returns-in-Err-clause-choice : goal.returns-in-Err-clause-choice
-returns-in-Err-clause-choice c =
-    suits_stay c.args.parts.now c.control.new.self c.in-Err.ensures.err c.make_room_for.new.notes.choice (suits_widened c.args.parts.now.interest c.args.notes.now.choice c.make_room_for.new.notes.choice c.make_room_for.ensures.widens c.requires.choice)
-
--- and what is lost
-pub returns-clause-lost : goal.returns-clause-lost
-returns-clause-lost c = loses_missed c.args.pid c.args.args c.args.plan c.in-Ok.outcome c.args.parts.now c.control.new.self c.in-Ok.ensures.controls c.requires.found
-
-pub returns-then-not-make_room_for-clause-lost : goal.returns-then-not-make_room_for-clause-lost
-returns-then-not-make_room_for-clause-lost c = loses_stay c.args.parts.now c.refuse.new.parts c.refuse.ensures.stays
-
-pub returns-in_err-refused-clause-lost : goal.returns-in_err-refused-clause-lost
-returns-in_err-refused-clause-lost c = loses_stay c.args.parts.now c.refuse.new.parts c.refuse.ensures.stays
-
-pub returns-in-Err-clause-lost : goal.returns-in-Err-clause-lost
-returns-in-Err-clause-lost c = loses_stay c.args.parts.now c.control.new.self c.in-Err.ensures.err
+pub returns-in-Err-clause-err : goal.returns-in-Err-clause-err
+returns-in-Err-clause-err c =
+    let b = c.args.beside.now in
+    let m = c.make.new.self in
+    let n = c.unmake.new.self in
+    let vacant = vacant_at _ _ _ c.parts.view_is c.next_key-id.ensures.vacant in
+    record {
+      parts = c.in-Err.ensures.err;
+      lists = again b.lists m.lists n.lists c.next_key-id.result c.args.plan.named.instance.0 c.args.parts.now c.known-3.ensures c.requires.stands.listed.places vacant (c.make.ensures.made c.if-not-make.false).lists c.unmake.ensures.alike.lists;
+      lost = (unmade b m n c.make.ensures.widens c.unmake.ensures.rest).choice.kept;
+    }

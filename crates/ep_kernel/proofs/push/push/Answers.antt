@@ -1,28 +1,29 @@
+use Rattle.std.proofs.Common.{ℕ, Bool, List, ap, subst, sym}
+use Rattle.std.specs.List.{list_any}
+use Rattle.ep_climb.specs.Reach.{AreLive}
 use Rattle.ep_interest.specs.Registrations.{entry_under}
-use Rattle.ep_kernel.specs.Push.{Gains, passes_found}
+use Rattle.ep_kernel.specs.Beside.{Each}
+use Rattle.ep_kernel.specs.Push.{Gains, comes_on, passes_found}
+use Rattle.ep_kernel.specs.declared.beside.Beside.{Beside}
+use Rattle.ep_kernel.proofs.BesideLemmas.{both_then, each_then}
 use Rattle.ep_kernel.proofs.ComesLemmas.{gains_in}
 use Rattle.ep_kernel.proofs.PushLemmas.{have_still}
 use Rattle.ep_kernel.proofs.push.push.Goals as goal
+use Rattle.ep_kernel.proofs.push.push.Goals.{After-push_passing}
 use Rattle.ep_ready.specs.ReadyLists.{entry_id}
 
+passed : (c : After-push_passing) → Each (Gains (λ k. passes_found (entry_under c.args.parts.now.interest (entry_id k)))) c.args.beside.now c.push_passing.new.beside
+passed c = rw (← c.parts.view_is) c.push_passing.ensures
+
 pub push_nested-requires-clause-places : goal.push_nested-requires-clause-places
-push_nested-requires-clause-places c =
-    let p = c.args.parts.now in
-    let gains : Gains (λ k. passes_found (entry_under p.interest (entry_id k))) c.args.lists.now c.push_passing.new.lists = rw (← c.parts.view_is) c.push_passing.ensures.gains in
-    have_still p.interest (λ k. passes_found (entry_under p.interest (entry_id k))) c.args.lists.now c.push_passing.new.lists c.requires.places gains
+push_nested-requires-clause-places c = both_then (have_still c.args.parts.now.interest _) c.requires.places (passed (goal.at.push_nested-requires-clause-places c).After-push_passing).alike
 
-pub push_nested-requires-clause-hopes : goal.push_nested-requires-clause-hopes
-push_nested-requires-clause-hopes c =
-    let p = c.args.parts.now in
-    let gains : Gains (λ k. passes_found (entry_under p.interest (entry_id k))) c.args.hopes.now c.push_passing.new.hopes = rw (← c.parts.view_is) c.push_passing.ensures.hopes in
-    have_still p.interest (λ k. passes_found (entry_under p.interest (entry_id k))) c.args.hopes.now c.push_passing.new.hopes c.requires.hopes gains
+pub push_nested-requires-clause-live : goal.push_nested-requires-clause-live
+push_nested-requires-clause-live c = subst (λ (b : Beside). AreLive c.args.parts.now.tables b.reached.reached) (sym c.push_passing.ensures.rest) c.requires.live
 
-pub returns-clause-gains : goal.returns-clause-gains
-returns-clause-gains c = λ n exact.
+pub returns : goal.returns
+returns c = λ n exact.
     let p = c.args.parts.now in
-    gains_in n p c.known.ensures.coherent (rw (← c.parts.view_is) c.known-2.ensures) c.args.reached.now.reached exact c.args.lists.now c.push_passing.new.lists c.push_nested.new.lists (rw (← c.parts.view_is) c.push_passing.ensures.gains) c.push_nested.ensures.gains
-
-pub returns-clause-hopes : goal.returns-clause-hopes
-returns-clause-hopes c = λ n exact.
-    let p = c.args.parts.now in
-    gains_in n p c.known.ensures.coherent (rw (← c.parts.view_is) c.known-2.ensures) c.args.reached.now.reached exact c.args.hopes.now c.push_passing.new.hopes c.push_nested.new.hopes (rw (← c.parts.view_is) c.push_passing.ensures.hopes) c.push_nested.ensures.hopes
+    let nested : List ℕ → ℕ → Bool = λ ks k. list_any (λ i. comes_on p (record { 0 = i }) k) ks in
+    each_then (gains_in n p c.known.ensures.coherent (rw (← c.parts.view_is) c.known-2.ensures) c.args.beside.now.reached.reached exact) (passed (goal.at.returns c).After-push_passing)
+    (subst (λ (ks : List ℕ). Each (Gains (nested ks)) c.push_passing.new.beside c.push_nested.new.beside) (ap (λ (b : Beside). b.reached.reached) c.push_passing.ensures.rest) c.push_nested.ensures)

@@ -1,12 +1,10 @@
 use Rattle.std.proofs.Common.{◌&&◌, take}
 use Rattle.ep_interest.specs.Passes.{has_id}
 use Rattle.ep_interest.specs.Registrations.{entry_under}
+use Rattle.ep_kernel.specs.Beside.{Each}
 use Rattle.ep_kernel.specs.Push.{Gains, passes_found}
 use Rattle.ep_kernel.proofs.push.push_passing.Given as goal
 use Rattle.ep_ready.specs.ReadyLists.{entry_id}
 
 abbrev pub invariant-loop-id : goal.invariant-loop-id
-invariant-loop-id l = record {
-  gains : Gains (λ k. has_id (take l.id-index l.id-items) k && passes_found (entry_under l.interest (entry_id k))) l.fn.lists l.lists;
-  hopes : Gains (λ k. has_id (take l.id-index l.id-items) k && passes_found (entry_under l.interest (entry_id k))) l.fn.hopes l.hopes;
-}
+invariant-loop-id l = Each (Gains (λ k. has_id (take l.id-index l.id-items) k && passes_found (entry_under l.interest (entry_id k)))) l.fn.beside l.beside

@@ -34,7 +34,7 @@ returns-clause-hopes c =
     let mid = c.mark.new.parts in
     let new = c.forget_passed.new.self in
     let forgot = c.forget_passed.ensures in
-    let hopes = c.mark.new.notes.asked.hopes in
+    let hopes = c.mark.new.beside.asked.hopes in
     subst (λ (p : Parts). HopesFor p hopes) (sym forgot.others)
     (hopes_settled mid new.interest mid.parked (ap (map settled) forgot.entries ∙ settled_twice mid.interest.entries) forgot.keys hopes c.mark.ensures.hopes)
 
@@ -43,6 +43,6 @@ returns-clause-fits c =
     let mid = c.mark.new.parts in
     let new = c.forget_passed.new.self in
     let forgot = c.forget_passed.ensures in
-    let notes = c.mark.new.notes in
+    let beside = c.mark.new.beside in
     let fits = c.mark.ensures.fits in
-    fits_settled mid new notes.reached notes.reached notes.choice notes.choice (ap (map settled) forgot.entries ∙ settled_twice mid.interest.entries) forgot.keys (ap (λ (p : Parts). p.tables) forgot.others) refl refl refl refl fits.lost fits
+    fits_settled mid new beside.reached beside.reached beside.choice beside.choice (ap (map settled) forgot.entries ∙ settled_twice mid.interest.entries) forgot.keys (ap (λ (p : Parts). p.tables) forgot.others) refl refl refl refl fits.lost fits

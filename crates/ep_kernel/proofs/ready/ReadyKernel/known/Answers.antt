@@ -15,13 +15,13 @@ returns-clause-complete c e n r =
     let keeps = c.self.invariant.runs.keeps in
     let before = ap (λ (s : State). is_reportable_in s e n) (sym (state_is k.history.items k.parts keeps)) ∙ (ap (λ (b : ReadyBook). is_reportable_in (state_of b) e n) c.self.view_is ∙ r) in
     subst (λ (b : ReadyBook). is_among (listed b e) n ≡ true) c.self.view_is
-    (complete_listed k.parts k.lists keeps.state keeps.stands c.know.ensures.coherent.linked c.know.ensures.tables c.know.ensures.interest c.known.ensures c.self.invariant.runs.listed e n before)
+    (complete_listed k.parts k.beside.lists keeps.state keeps.stands c.know.ensures.coherent.linked c.know.ensures.tables c.know.ensures.interest c.known.ensures c.self.invariant.runs.listed e n before)
 
 pub returns-clause-sound : goal.returns-clause-sound
 returns-clause-sound c e n on =
     let k = c.self.inside in
     let keeps = c.self.invariant.runs.keeps in
-    let may = sound_listed k.parts k.lists keeps.state keeps.stands c.know.ensures.coherent.linked c.know.ensures.tables c.know.ensures.interest c.known.ensures c.self.invariant.runs.listed e n (ap (λ (b : ReadyBook). is_among (listed b e) n) c.self.view_is ∙ on) in
+    let may = sound_listed k.parts k.beside.lists keeps.state keeps.stands c.know.ensures.coherent.linked c.know.ensures.tables c.know.ensures.interest c.known.ensures c.self.invariant.runs.listed e n (ap (λ (b : ReadyBook). is_among (listed b e) n) c.self.view_is ∙ on) in
     subst (λ (b : ReadyBook). MayBeListed (state_of b) e n) c.self.view_is
     (subst (λ (s : State). MayBeListed s e n) (sym (state_is k.history.items k.parts keeps)) may)
 
@@ -30,7 +30,7 @@ returns-clause-once c e =
     let k = c.self.inside in
     let keeps = c.self.invariant.runs.keeps in
     subst (λ (b : ReadyBook). are_distinct (listed b e) ≡ true) c.self.view_is
-    (once_listed k.parts k.lists keeps.state keeps.stands c.know.ensures.coherent.linked c.know.ensures.tables c.know.ensures.interest c.known.ensures c.self.invariant.runs.listed e)
+    (once_listed k.parts k.beside.lists keeps.state keeps.stands c.know.ensures.coherent.linked c.know.ensures.tables c.know.ensures.interest c.known.ensures c.self.invariant.runs.listed e)
 
 pub returns-clause-live : goal.returns-clause-live
 returns-clause-live c =

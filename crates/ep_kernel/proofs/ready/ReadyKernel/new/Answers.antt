@@ -1,31 +1,31 @@
-use Rattle.ep_ready.specs.ReadyLists.{Lists, instance_at}
-use Rattle.std.proofs.Common.{List, ap, subst, sym}
+use Rattle.std.proofs.Common.{List, subst, sym}
 use Rattle.ep_base.specs.declared.record.Record.{Record}
 use Rattle.ep_kernel.specs.Running.{Runs}
 use Rattle.ep_kernel.proofs.ReadyBookLemmas.{no_lists}
-use Rattle.ep_kernel.proofs.RoomLemmas.{room_none}
+use Rattle.ep_kernel.proofs.RoomLemmas.{room_opening}
 use Rattle.ep_kernel.proofs.RunLemmas.{hopes_opening, runs_opening}
-use Rattle.ep_kernel.proofs.StillSuitsLemmas.{suits_opening}
 use Rattle.ep_alarms.proofs.ChangesLemmas.{set_opening}
 use Rattle.ep_kernel.proofs.ready.ReadyKernel.new.Goals as goal
 
 pub invariant_of-result : goal.invariant_of-result
 invariant_of-result c =
     let p = c.in_ok-new.field-0 in
+    let opens = c.in_ok-new.ensures in
+    let b = c.new-2.result in
+    let places = c.new-2.ensures.places in
     record {
-      runs = subst (λ (rs : List Record). Runs rs p c.new-2.result) (sym c.new-5.ensures.items) (runs_opening c.args.limits p c.new-2.result c.in_ok-new.ensures c.new-2.ensures);
-      set = set_opening c.args.limits p c.new-3.result c.in_ok-new.ensures c.new-3.ensures;
-      hopes = hopes_opening c.args.limits p c.new-4.result.asked.hopes c.in_ok-new.ensures c.new-4.ensures.hopes;
-      room = room_none c.new-4.result.asked.hopes c.new-4.result.reached (λ id. ap (λ (l : Lists). instance_at l id) c.new-4.ensures.hopes);
-      choice = suits_opening c.args.limits p c.in_ok-new.ensures c.new-4.result.choice;
-      unlost = c.new-4.ensures.unlost;
+      runs = subst (λ (rs : List Record). Runs rs p b.lists) (sym c.new-4.ensures.items) (runs_opening c.args.limits p b.lists opens places.lists);
+      set = set_opening c.args.limits p c.new-3.result opens c.new-3.ensures;
+      hopes = hopes_opening c.args.limits p b.asked.hopes opens places.hopes;
+      room = room_opening c.args.limits p b opens c.new-2.ensures.unlost;
+      unlost = c.new-2.ensures.unlost;
     }
 
 -- no list is there yet
 pub returns : goal.returns
 returns c =
-    let none = no_lists c.in_ok-new.field-0 c.new-2.result c.new-2.ensures in
+    let none = no_lists c.in_ok-new.field-0 c.new-2.result.lists c.new-2.ensures.places.lists in
     λ i. record {
-      book = record { limits = c.in_ok-new.ensures.limits i; past = c.new-5.ensures.items i; capacity = c.new-5.ensures.capacity i };
+      book = record { limits = c.in_ok-new.ensures.limits i; past = c.new-4.ensures.items i; capacity = c.new-4.ensures.capacity i };
       lists = none i;
     }

@@ -1,11 +1,9 @@
 use Rattle.std.proofs.Common.{◌≡◌, ◌+◌, ◌++◌, [], ◌∷◌, ℕ, List, None, Option, ap, length, ◌∙◌, arith, subst, sym, vec_capacity}
-use Rattle.std.proofs.lemmas.Bool.{false≢true}
 use Rattle.ep_alarms.specs.Alarms.{AreSet}
 use Rattle.ep_base.specs.declared.answer.Answer.{Answer}
 use Rattle.ep_base.specs.declared.ids.DescId.{DescId}
 use Rattle.ep_base.specs.declared.record.Record.{Record}
 use Rattle.ep_machine.specs.Effect.{first}
-use Rattle.ep_machine.specs.Lists.{is_among}
 use Rattle.ep_machine.specs.Refusal.{refusals}
 use Rattle.ep_machine.specs.Step.{next_event}
 use Rattle.ep_calls.specs.Ends.{RestsBy}
@@ -27,9 +25,9 @@ use Rattle.ep_choice.proofs.ReachedLemmas.{reached_left}
 use Rattle.ep_calls.proofs.LastLemmas.{event_last}
 use Rattle.ep_nest.proofs.AdjacentLemmas.{on_err}
 use Rattle.ep_kernel.proofs.HopesGoLemmas.{hopes_again}
-use Rattle.ep_kernel.proofs.RoomLemmas.{room_placed, roomy_for}
 use Rattle.ep_kernel.proofs.RunLemmas.{added_on, adds_on, does_fairly, few_on, first_on, runs_on, runs_same}
 use Rattle.ep_alarms.proofs.ChangesLemmas.{set_same}
+use Rattle.ep_ready.specs.ReadyLists.{Lists}
 use Rattle.ep_kernel.proofs.ready.ReadyKernel.try_step.Goals as goal
 use Rattle.ep_kernel.proofs.ready.ReadyKernel.try_step.Goals.{After-attend-attended}
 
@@ -38,15 +36,14 @@ pub invariant_of-self-in_err-outcome : goal.invariant_of-self-in_err-outcome
 invariant_of-self-in_err-outcome c =
     let k = c.self.inside in
     let same = c.in_err-outcome.ensures.err in
-    let runs = runs_same k.history.items c.act.new.parts k.lists c.act.new.lists same.1 (subst (λ (p : Parts). Runs k.history.items p k.lists) (sym same.0) c.self.invariant.runs) in
+    let runs = runs_same k.history.items c.act.new.parts k.beside.lists c.act.new.beside.lists same.lists (subst (λ (p : Parts). Runs k.history.items p k.beside.lists) (sym same.parts) c.self.invariant.runs) in
     let set = set_same k.parts.tables k.parts.clock k.alarms c.make_room-has_room.new.self c.make_room-has_room.ensures.kept c.self.invariant.set in
     record {
-      runs = subst (λ (rs : List Record). Runs rs c.act.new.parts c.act.new.lists) (sym c.reserve.ensures.items) runs;
-      set = subst (λ (p : Parts). AreSet p.tables p.clock c.make_room-has_room.new.self) (sym same.0) set;
-      hopes = hopes_again c.args.event k.parts c.act.new.parts c.act.new.notes.asked.hopes same.0 c.act.ensures.hopes;
-      room = c.act.ensures.walk;
-      choice = c.act.ensures.choice;
-      unlost = c.in_err-outcome.ensures.err_lost ∙ c.self.invariant.unlost;
+      runs = subst (λ (rs : List Record). Runs rs c.act.new.parts c.act.new.beside.lists) (sym c.reserve.ensures.items) runs;
+      set = subst (λ (p : Parts). AreSet p.tables p.clock c.make_room-has_room.new.self) (sym same.parts) set;
+      hopes = hopes_again c.args.event k.parts c.act.new.parts c.act.new.beside.asked.hopes same.parts c.act.ensures.goes.hopes;
+      room = c.act.ensures.goes.room;
+      unlost = same.lost ∙ c.self.invariant.unlost;
     }
 
 pub returns-in_err-outcome-clause-err_lists : goal.returns-in_err-outcome-clause-err_lists
@@ -54,8 +51,8 @@ returns-in_err-outcome-clause-err_lists c =
     let k = c.self.inside in
     let same = c.in_err-outcome.ensures.err in
     on_err c.from_residual-in_err-outcome.result
-    (subst (λ (b : ReadyBook). lists_of c.act.new.parts c.act.new.lists ≡ b.lists) c.self.view_is
-    (ap (λ (p : Parts). lists_of p c.act.new.lists) same.0 ∙ same_lists k.parts k.lists c.act.new.lists same.1))
+    (subst (λ (b : ReadyBook). lists_of c.act.new.parts c.act.new.beside.lists ≡ b.lists) c.self.view_is
+    (ap (λ (p : Parts). lists_of p c.act.new.beside.lists) same.parts ∙ same_lists k.parts k.beside.lists c.act.new.beside.lists same.lists))
 
 pub returns-in_err-outcome-clause-last : goal.returns-in_err-outcome-clause-last
 returns-in_err-outcome-clause-last c room =
@@ -71,7 +68,7 @@ into_record-answer-requires c asked none =
     let k = c.self.inside in
     let o = c.in_ok-outcome.outcome in
     let n : c.len.result + 1 ≡ length k.history.items + 1 = omega (arith, c.len.ensures, c.reserve.ensures.len) in
-    let does = does_fairly k.history.items k.parts c.act.new.parts k.lists c.self.invariant.runs (c.len.result + 1) c.args.caller.0 c.args.event o n c.in_ok-outcome.ensures.ok in
+    let does = does_fairly k.history.items k.parts c.act.new.parts k.beside.lists c.self.invariant.runs (c.len.result + 1) c.args.caller.0 c.args.event o n c.in_ok-outcome.ensures.ok in
     inline_event k.parts.tables.limits (next_event c.self.invariant.runs.keeps.state) c.args.caller.0 o c.args.kept asked none c.args.event c.act.new.parts does.goes c.in_ok-outcome.ensures.kept
 
 -- Where marks are set.
@@ -86,22 +83,22 @@ attended c =
 
 -- what the event does
 done : (c : After-attend-attended) → DoesAt (next_event c.self.invariant.runs.keeps.state) c.args.caller.0 c.args.event c.in_ok-outcome.outcome c.self.inside.parts c.act.new.parts
-done c = does_fairly c.self.inside.history.items c.self.inside.parts c.act.new.parts c.self.inside.lists c.self.invariant.runs (c.len.result + 1) c.args.caller.0 c.args.event c.in_ok-outcome.outcome (at_step c) c.in_ok-outcome.ensures.ok
+done c = does_fairly c.self.inside.history.items c.self.inside.parts c.act.new.parts c.self.inside.beside.lists c.self.invariant.runs (c.len.result + 1) c.args.caller.0 c.args.event c.in_ok-outcome.outcome (at_step c) c.in_ok-outcome.ensures.ok
 
 -- the hopes fit
-hoped : (c : After-attend-attended) → HopesFor c.spread.new.parts c.spread.new.notes.asked.hopes
+hoped : (c : After-attend-attended) → HopesFor c.spread.new.parts c.spread.new.beside.asked.hopes
 hoped c =
     let k = c.self.inside in
     let runs = c.self.invariant.runs in
     hopes_left c.know_laws.ensures.spread k.history.items k.parts c.act.new.parts c.spread.new.parts runs.keeps c.know_laws.ensures.tables c.know_laws.ensures.interest
-    c.args.caller c.args.event c.in_ok-outcome.outcome (c.len.result + 1) (at_step c) (done c) c.in_ok-outcome.ensures.turns.ids c.in_ok-outcome.ensures.ok.keys c.spread.ensures.spreads.spreads c.act.new.notes.asked.hopes c.spread.new.notes.asked.hopes c.act.ensures.hopes c.spread.ensures.spreads.hopes
+    c.args.caller c.args.event c.in_ok-outcome.outcome (c.len.result + 1) (at_step c) (done c) c.in_ok-outcome.ensures.lists.turns.ids c.in_ok-outcome.ensures.ok.keys c.spread.ensures.spreads.spreads c.act.new.beside.asked.hopes c.spread.new.beside.asked.hopes c.act.ensures.goes.hopes c.spread.ensures.spreads.beside.hopes
 
 -- what it lost
-lost : (c : After-attend-attended) → NotesLost c.self.inside.parts c.spread.new.parts [] c.spread.new.notes.choice.lost.reached
+lost : (c : After-attend-attended) → NotesLost c.self.inside.parts c.spread.new.parts [] c.spread.new.beside.choice.lost.reached
 lost c =
     let k = c.self.inside in
     notes_event k.history.items k.parts c.act.new.parts c.spread.new.parts c.self.invariant.runs.keeps c.args.caller c.args.event c.in_ok-outcome.outcome (c.len.result + 1) (at_step c) (done c) c.in_ok-outcome.ensures.ok.keys c.know_laws.ensures.coherent c.spread.ensures.spreads.spreads
-    c.act.new.notes.choice.lost.reached c.spread.new.notes.choice.lost.reached (subst (λ (ks : List ℕ). NotesLost k.parts c.act.new.parts ks c.act.new.notes.choice.lost.reached) c.self.invariant.unlost c.act.ensures.lost) c.spread.ensures.lost
+    c.act.new.beside.choice.lost.reached c.spread.new.beside.choice.lost.reached (subst (λ (ks : List ℕ). NotesLost k.parts c.act.new.parts ks c.act.new.beside.choice.lost.reached) c.self.invariant.unlost c.act.ensures.goes.lost) c.spread.ensures.lost
 
 pub rest-requires-clause-hopes : goal.rest-requires-clause-hopes
 rest-requires-clause-hopes c = hoped (goal.at.rest-requires-clause-hopes c).After-attend-attended
@@ -110,30 +107,34 @@ pub rest-requires-clause-fits : goal.rest-requires-clause-fits
 rest-requires-clause-fits c =
     let k = c.self.inside in
     let now = (goal.at.rest-requires-clause-fits c).After-attend-attended in
-    let left = c.spread.new.parts in
-    let notes = c.spread.new.notes in
+    let room = c.spread.ensures.room in
     record {
-      instances = have_instances k.history.items k.parts c.act.new.parts left c.self.invariant.runs.keeps c.args.caller c.args.event c.in_ok-outcome.outcome (c.len.result + 1) (at_step now) (done now) c.in_ok-outcome.ensures.ok.keys c.know_laws.ensures.coherent c.spread.ensures.spreads.spreads;
-      reached = roomy_for left.interest notes.asked.hopes notes.reached (hoped now).places c.spread.ensures.room;
-      choice = c.spread.ensures.choice;
-      lost = c.spread.ensures.fits (c.act.ensures.fits (λ i t. absurd (false≢true (ap (λ (ks : List ℕ). is_among ks i) (sym c.self.invariant.unlost) ∙ t))));
+      instances = have_instances k.history.items k.parts c.act.new.parts c.spread.new.parts c.self.invariant.runs.keeps c.args.caller c.args.event c.in_ok-outcome.outcome (c.len.result + 1) (at_step now) (done now) c.in_ok-outcome.ensures.ok.keys c.know_laws.ensures.coherent c.spread.ensures.spreads.spreads;
+      reached = room.reached;
+      choice = room.choice;
+      lost = room.lost;
     }
 
 pub rest-requires-clause-reached : goal.rest-requires-clause-reached
 rest-requires-clause-reached c =
-    reached_left (c.len.result + 1) c.in_ok-outcome.outcome.raising c.act.new.parts c.spread.new.parts c.spread.ensures.spreads.spreads c.spread.new.notes.reached.reached c.spread.ensures.spreads.reached
+    reached_left (c.len.result + 1) c.in_ok-outcome.outcome.raising c.act.new.parts c.spread.new.parts c.spread.ensures.spreads.spreads c.spread.new.beside.reached.reached c.spread.ensures.spreads.reached
 
 pub rest-requires-clause-looked : goal.rest-requires-clause-looked
 rest-requires-clause-looked c =
     let k = c.self.inside in
     let now = (goal.at.rest-requires-clause-looked c).After-attend-attended in
-    let ks = c.spread.new.notes.choice.lost.reached in
+    let ks = c.spread.new.beside.choice.lost.reached in
     subst (AreLookedAt (c.len.result + 1) c.spread.new.parts ks) (sym (attended now))
     (looked_at k.history.items k.parts c.act.new.parts c.spread.new.parts c.self.invariant.runs.keeps c.args.caller c.args.event c.in_ok-outcome.outcome (c.len.result + 1) (at_step now) (done now) c.in_ok-outcome.ensures.ok.keys c.know_laws.ensures.coherent c.spread.ensures.spreads.spreads
     c.know_laws.ensures.looked ks (lost now))
 
-pub spread-requires-clause-hopes : goal.spread-requires-clause-hopes
-spread-requires-clause-hopes c = c.act.ensures.hopes.places
+pub act-requires : goal.act-requires
+act-requires c =
+    let is = c.self.invariant in
+    record { stands = record { listed = is.runs.listed; hopes = is.hopes; room = is.room } }
+
+pub spread-requires-clause-fits : goal.spread-requires-clause-fits
+spread-requires-clause-fits c = record { places = record { lists = c.in_ok-outcome.ensures.lists.turns.places; hopes = c.act.ensures.goes.hopes.places }; room = c.act.ensures.goes.room }
 
 -- the number of the event
 number : (c : goal.After-push_reserved) → c.len.result + 1 ≡ length c.self.inside.history.items + 1
@@ -153,15 +154,16 @@ rested c =
 pub invariant_of-self-2 : goal.invariant_of-self-2
 invariant_of-self-2 c =
     let k = c.self.inside in
-    let runs = subst (λ (rs : List Record). Runs rs c.rest.new.parts c.spread.new.lists) (sym (records c))
-    (runs_on c.know_laws.ensures.turns k.history.items k.parts c.act.new.parts c.rest.new.parts k.lists c.act.new.lists c.spread.new.lists c.self.invariant.runs c.know_laws.ensures.coherent c.know_laws.ensures.tables c.know_laws.ensures.interest c.know_laws.ensures.lists c.known.ensures
-    c.args.caller c.args.event c.in_ok-outcome.outcome (c.len.result + 1) (number c) c.in_ok-outcome.ensures.ok c.in_ok-outcome.ensures.turns c.spread.new.parts c.spread.ensures.spreads.spreads c.spread.ensures.spreads.lists (rested c)) in
+    let runs = subst (λ (rs : List Record). Runs rs c.rest.new.parts c.rest.new.beside.lists) (sym (records c))
+    (subst (Runs (k.history.items ++ record_of c.args.caller c.args.event c.in_ok-outcome.outcome ∷ []) c.rest.new.parts) (sym c.rest.ensures.lists)
+    (runs_on c.know_laws.ensures.turns k.history.items k.parts c.act.new.parts c.rest.new.parts k.beside.lists c.act.new.beside.lists c.spread.new.beside.lists c.self.invariant.runs c.know_laws.ensures.coherent c.know_laws.ensures.tables c.know_laws.ensures.interest c.know_laws.ensures.lists c.known.ensures
+    c.args.caller c.args.event c.in_ok-outcome.outcome (c.len.result + 1) (number c) c.in_ok-outcome.ensures.ok c.in_ok-outcome.ensures.lists.turns c.spread.new.parts c.spread.ensures.spreads.spreads c.spread.ensures.spreads.beside.lists (rested c))) in
+    let fits = c.rest.ensures.fits in
     record {
       runs = runs;
       set = subst (λ (p : Parts). AreSet p.tables p.clock c.spread.new.alarms) (sym c.rest.ensures.rests.others) c.spread.ensures.set;
       hopes = c.rest.ensures.hopes;
-      room = room_placed c.rest.new.parts.interest c.rest.new.notes.asked.hopes c.rest.new.notes.reached c.rest.ensures.hopes.places c.rest.ensures.fits.reached;
-      choice = c.rest.ensures.fits.choice;
+      room = record { reached = fits.reached; choice = fits.choice; lost = fits.lost };
       unlost = c.rest.ensures.unlost;
     }
 
@@ -171,8 +173,8 @@ returns-clause-ok c =
     let outcome = c.in_ok-outcome.outcome in
     let new : Book = record { limits = c.rest.new.parts.tables.limits; past = c.push_reserved.new.self.items; capacity = vec_capacity c.push_reserved.new.self } in
     let adds =
-    adds_on c.know_laws.ensures.turns k.history.items k.parts c.act.new.parts c.rest.new.parts k.lists c.act.new.lists c.spread.new.lists c.self.invariant.runs c.know_laws.ensures.coherent c.know_laws.ensures.tables c.know_laws.ensures.interest c.know_laws.ensures.lists c.known.ensures
-    c.args.caller c.args.event outcome (c.len.result + 1) (number c) c.in_ok-outcome.ensures.ok c.in_ok-outcome.ensures.turns c.spread.new.parts c.spread.ensures.spreads.spreads c.spread.ensures.spreads.lists (rested c) in
+    adds_on c.know_laws.ensures.turns k.history.items k.parts c.act.new.parts c.rest.new.parts k.beside.lists c.act.new.beside.lists c.spread.new.beside.lists c.self.invariant.runs c.know_laws.ensures.coherent c.know_laws.ensures.tables c.know_laws.ensures.interest c.know_laws.ensures.lists c.known.ensures
+    c.args.caller c.args.event outcome (c.len.result + 1) (number c) c.in_ok-outcome.ensures.ok c.in_ok-outcome.ensures.lists.turns c.spread.new.parts c.spread.ensures.spreads.spreads c.spread.ensures.spreads.beside.lists (rested c) in
     let old = c.args.self.now.book in
     subst (λ (a : Answer). Adds old.limits c.args.caller c.args.event a (state_of old) (state_of new) old.past new.past) (sym c.into_record-answer.ensures.answer)
     (subst (λ (b : ReadyBook). Adds b.book.limits c.args.caller c.args.event outcome.answer (state_of b.book) (state_of new) b.book.past new.past) c.self.view_is
@@ -183,23 +185,25 @@ returns-clause-lists c =
     let k = c.self.inside in
     let outcome = c.in_ok-outcome.outcome in
     let book : Book = record { limits = c.rest.new.parts.tables.limits; past = c.push_reserved.new.self.items; capacity = vec_capacity c.push_reserved.new.self } in
-    let new : ReadyBook = record { book = book; lists = lists_of c.rest.new.parts c.spread.new.lists } in
+    let with_lists : Lists → ReadyBook = λ m. record { book = book; lists = lists_of c.rest.new.parts m } in
+    let new = with_lists c.spread.new.beside.lists in
     let first =
-    first_on c.know_laws.ensures.turns k.history.items k.parts c.act.new.parts c.rest.new.parts k.lists c.act.new.lists c.spread.new.lists c.self.invariant.runs c.know_laws.ensures.coherent c.know_laws.ensures.tables c.know_laws.ensures.interest c.know_laws.ensures.lists c.known.ensures
-    c.args.caller c.args.event outcome (c.len.result + 1) (number c) c.in_ok-outcome.ensures.ok c.in_ok-outcome.ensures.turns c.spread.new.parts c.spread.ensures.spreads.spreads c.spread.ensures.spreads.lists (rested c) c.in_ok-outcome.ensures.order in
+    first_on c.know_laws.ensures.turns k.history.items k.parts c.act.new.parts c.rest.new.parts k.beside.lists c.act.new.beside.lists c.spread.new.beside.lists c.self.invariant.runs c.know_laws.ensures.coherent c.know_laws.ensures.tables c.know_laws.ensures.interest c.know_laws.ensures.lists c.known.ensures
+    c.args.caller c.args.event outcome (c.len.result + 1) (number c) c.in_ok-outcome.ensures.ok c.in_ok-outcome.ensures.lists.turns c.spread.new.parts c.spread.ensures.spreads.spreads c.spread.ensures.spreads.beside.lists (rested c) c.in_ok-outcome.ensures.lists.order in
     let few =
-    few_on c.know_laws.ensures.turns k.history.items k.parts c.act.new.parts c.rest.new.parts k.lists c.act.new.lists c.spread.new.lists c.self.invariant.runs c.know_laws.ensures.coherent c.know_laws.ensures.tables c.know_laws.ensures.interest c.know_laws.ensures.lists c.known.ensures
-    c.args.caller c.args.event outcome (c.len.result + 1) (number c) c.in_ok-outcome.ensures.ok c.in_ok-outcome.ensures.turns c.spread.new.parts c.spread.ensures.spreads.spreads c.spread.ensures.spreads.lists (rested c) c.in_ok-outcome.ensures.order in
+    few_on c.know_laws.ensures.turns k.history.items k.parts c.act.new.parts c.rest.new.parts k.beside.lists c.act.new.beside.lists c.spread.new.beside.lists c.self.invariant.runs c.know_laws.ensures.coherent c.know_laws.ensures.tables c.know_laws.ensures.interest c.know_laws.ensures.lists c.known.ensures
+    c.args.caller c.args.event outcome (c.len.result + 1) (number c) c.in_ok-outcome.ensures.ok c.in_ok-outcome.ensures.lists.turns c.spread.new.parts c.spread.ensures.spreads.spreads c.spread.ensures.spreads.beside.lists (rested c) c.in_ok-outcome.ensures.lists.order in
     let added =
-    added_on c.know_laws.ensures.turns k.history.items k.parts c.act.new.parts c.rest.new.parts k.lists c.act.new.lists c.spread.new.lists c.self.invariant.runs c.know_laws.ensures.coherent c.know_laws.ensures.tables c.know_laws.ensures.interest c.know_laws.ensures.lists c.known.ensures
-    c.args.caller c.args.event outcome (c.len.result + 1) (number c) c.in_ok-outcome.ensures.ok c.in_ok-outcome.ensures.turns c.spread.new.parts c.spread.ensures.spreads.spreads c.spread.ensures.spreads.lists (rested c) in
-    subst (λ (a : Answer). TurnsLists c.args.caller c.args.event a c.args.self.now new) (sym c.into_record-answer.ensures.answer)
-    (subst (λ (b : ReadyBook). TurnsLists c.args.caller c.args.event outcome.answer b new) c.self.view_is
+    added_on c.know_laws.ensures.turns k.history.items k.parts c.act.new.parts c.rest.new.parts k.beside.lists c.act.new.beside.lists c.spread.new.beside.lists c.self.invariant.runs c.know_laws.ensures.coherent c.know_laws.ensures.tables c.know_laws.ensures.interest c.know_laws.ensures.lists c.known.ensures
+    c.args.caller c.args.event outcome (c.len.result + 1) (number c) c.in_ok-outcome.ensures.ok c.in_ok-outcome.ensures.lists.turns c.spread.new.parts c.spread.ensures.spreads.spreads c.spread.ensures.spreads.beside.lists (rested c) in
+    subst (λ (a : Answer). TurnsLists c.args.caller c.args.event a c.args.self.now (with_lists c.rest.new.beside.lists)) (sym c.into_record-answer.ensures.answer)
+    (subst (λ (b : ReadyBook). TurnsLists c.args.caller c.args.event outcome.answer b (with_lists c.rest.new.beside.lists)) c.self.view_is
+    (subst (λ (m : Lists). TurnsLists c.args.caller c.args.event outcome.answer (book_of k) (with_lists m)) (sym c.rest.ensures.lists)
     (record {
       picked = outcome.picked;
       added = records c;
       first = first;
       few = subst (λ (rs : List Record). LeavesReportable (state_of (book_of k).book) (state_of (record book { past = rs })) c.args.caller.0 c.args.event outcome.answer (listed new)) (sym (records c)) few;
       arrives =
-          subst (λ (rs : List Record). AreAdded k.parts.tables.limits c.args.caller.0 c.args.event outcome.picked (state_of (book_of k).book) (state_of (record book { past = rs })) (list_of (lists_of k.parts k.lists)) (listed new)) (sym (records c)) added;
-    }))
+          subst (λ (rs : List Record). AreAdded k.parts.tables.limits c.args.caller.0 c.args.event outcome.picked (state_of (book_of k).book) (state_of (record book { past = rs })) (list_of (lists_of k.parts k.beside.lists)) (listed new)) (sym (records c)) added;
+    })))

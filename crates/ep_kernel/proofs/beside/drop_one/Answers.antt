@@ -1,6 +1,6 @@
 use Rattle.std.proofs.Common.{◌∙◌, sym}
 use Rattle.ep_kernel.proofs.PlacesLemmas.{loses_nothing, loses_one, placeless}
-use Rattle.ep_kernel.proofs.places.drop_one.Goals as goal
+use Rattle.ep_kernel.proofs.beside.drop_one.Goals as goal
 use Rattle.ep_ready.specs.ReadyLists.{instance_at}
 
 pub returns-then-has_place : goal.returns-then-has_place

@@ -2,7 +2,7 @@ use Rattle.std.proofs.Common.{◌∙◌, ap, sym}
 use Rattle.std.specs.Prelude.{option_copied}
 use Rattle.ep_kernel.specs.Control.{is_at_instance}
 use Rattle.ep_kernel.proofs.ControlLemmas.{settled_end}
-use Rattle.ep_kernel.proofs.control.settle.Goals as goal
+use Rattle.ep_kernel.proofs.beside.settle_one.Goals as goal
 
 pub returns-in-Instance : goal.returns-in-Instance
 returns-in-Instance c =
