@@ -325,33 +325,16 @@ static void late_reader(void) {
 }
 
 static void much(void) {
-    enum { ALL = 1000000 };
     int in[2], out[2];
-    char *bytes = malloc(ALL), room[5000];
-    size_t written = 0, came = 0, wrong = 0;
+    struct passed passed;
     pid_t child;
-    for (int i = 0; i < ALL; i++) bytes[i] = (char)(i % 251);
     pipe2(in, O_CLOEXEC);
     pipe2(out, O_CLOEXEC);
     child = RUN(in[0], out[1], -1, "cat");
     close(in[0]);
     close(out[1]);
-    fcntl(in[1], F_SETFL, O_NONBLOCK);
-    for (ssize_t got = 1; got > 0;) {
-        struct pollfd files[2] = {{out[0], POLLIN, 0}, {written < ALL ? in[1] : -1, POLLOUT, 0}};
-        poll(files, 2, -1);
-        if (files[1].revents) {
-            ssize_t taken = write(in[1], bytes + written, ALL - written);
-            if (taken > 0) written += (size_t)taken;
-            if (written == ALL) close(in[1]);
-        }
-        if (!files[0].revents) continue;
-        got = read(out[0], room, sizeof room);
-        for (ssize_t i = 0; i < got; i++) wrong += room[i] != bytes[came++];
-    }
-    trace("there and back: %zu, wrong: %zu, ended: %d", came, wrong, end_of(child));
-    close(out[0]);
-    free(bytes);
+    passed = pass_through(in[1], out[0], 1000000);
+    trace("there and back: %zu, wrong: %zu, ended: %d", passed.came, passed.wrong, end_of(child));
 }
 
 /* Two children, and a pipe between them that the parent made and closed. */

@@ -270,32 +270,15 @@ static _Noreturn void be_slow(const int in[2]) {
 }
 
 static void slowly(void) {
-    enum { ALL = 1 << 20 };
     int in[2];
-    char *bytes = malloc(ALL), room[5000];
-    size_t written = 0, came = 0, wrong = 0;
+    struct passed passed;
     pid_t child;
-    for (int i = 0; i < ALL; i++) bytes[i] = (char)(i % 253);
     pipe(in), pipe(out);
     child = fork();
     if (child == 0) be_slow(in);
     close(in[0]), close(out[1]);
-    fcntl(in[1], F_SETFL, O_NONBLOCK);
-    for (ssize_t got = 1; got > 0;) {
-        struct pollfd files[2] = {{out[0], POLLIN, 0}, {written < ALL ? in[1] : -1, POLLOUT, 0}};
-        poll(files, 2, -1);
-        if (files[1].revents) {
-            ssize_t now = write(in[1], bytes + written, ALL - written);
-            if (now > 0) written += (size_t)now;
-            if (written == ALL) close(in[1]);
-        }
-        if (!files[0].revents) continue;
-        got = read(out[0], room, sizeof room);
-        for (ssize_t i = 0; i < got; i++) wrong += room[i] != bytes[came++];
-    }
-    trace("through a slow child: %zu, wrong: %zu, its end: %d", came, wrong, end_of(child));
-    close(out[0]);
-    free(bytes);
+    passed = pass_through(in[1], out[0], 1 << 20);
+    trace("through a slow child: %zu, wrong: %zu, its end: %d", passed.came, passed.wrong, end_of(child));
 }
 
 /* One that never stops is killed. All that it wrote comes, and then the end. */

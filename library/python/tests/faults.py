@@ -298,15 +298,16 @@ def flag_example(is_right):
     return Example(setup, {"worker": worker, "boss": boss})
 
 
+def watched_pipe(kernel):
+    e = Env()
+    e.reader, e.writer = kernel.pipe()
+    e.instance = kernel.epoll()
+    kernel.add(e.instance, e.reader, IN)
+    return e
+
+
 # A loop that gives up after 5 ms and closes its end, while its peer still writes.
 def gives_up_example(is_right):
-    def setup(kernel):
-        e = Env()
-        e.reader, e.writer = kernel.pipe()
-        e.instance = kernel.epoll()
-        kernel.add(e.instance, e.reader, IN)
-        return e
-
     def loop(t, e):
         if (yield t.wait(e.instance, timeout=0.005)):
             yield t.read(e.reader, 8)
@@ -317,18 +318,11 @@ def gives_up_example(is_right):
         for data in (b"a", b"b"):
             yield t.write(e.writer, data)
 
-    return Example(setup, {"loop": loop, "peer": peer})
+    return Example(watched_pipe, {"loop": loop, "peer": peer})
 
 
 # A loop that reads what came, and does nothing about the end of the stream: it is told of that again and again.
 def ignores_end_example(is_right):
-    def setup(kernel):
-        e = Env()
-        e.reader, e.writer = kernel.pipe()
-        e.instance = kernel.epoll()
-        kernel.add(e.instance, e.reader, IN)
-        return e
-
     def loop(t, e):
         while True:
             ((bits, _),) = yield t.wait(e.instance, timeout=None)
@@ -341,7 +335,7 @@ def ignores_end_example(is_right):
         yield t.write(e.writer, b"a")
         yield t.close(e.writer)
 
-    return Example(setup, {"loop": loop, "peer": peer}, most=100)
+    return Example(watched_pipe, {"loop": loop, "peer": peer}, most=100)
 
 
 #: Each fault with what mends it, by name.
