@@ -5,25 +5,26 @@ use Rattle.std.specs.List.{list_any}
 use Rattle.std.proofs.lemmas.Bool.{cases_lt, false≢true, leb-false}
 use Rattle.std.proofs.lemmas.List.{get_or-set_same, get_or_past}
 use Rattle.std.proofs.lemmas.Option.{none-some}
-use Rattle.ep_base.specs.declared.call.Call.TheVariants.{EpollCtl, EpollWait, GetTime, Read, SetTime, Shutdown, TimerFd, Write}
+use Rattle.ep_base.specs.declared.call.Call.TheVariants.{EpollCtl, EpollWait, TimerFd}
 use Rattle.ep_base.specs.declared.call.Event.{Event}
 use Rattle.ep_base.specs.declared.call.Event.TheVariants.{Call as CallOf, Resume, Tick}
 use Rattle.ep_base.specs.declared.ids.Pid.{Pid}
 use Rattle.ep_calls.proofs.ClockLemmas.{controls_stay, nowhere_stays}
 use Rattle.ep_calls.proofs.FilesCallLemmas.{does_limits}
-use Rattle.ep_calls.specs.TableCall.{IsTableCall, called}
+use Rattle.ep_calls.specs.FileCall.{CallsAsked, CallsFiles, IsFileCall}
+use Rattle.ep_calls.specs.TableCall.{called}
 use Rattle.ep_park.specs.Waiters.{is_of}
 use Rattle.ep_calls.specs.Control.{Controls}
 use Rattle.ep_calls.specs.declared.control.Control.{Control}
 use Rattle.ep_calls.specs.declared.control.Plan.{Plan}
 use Rattle.ep_calls.specs.declared.outcome.Outcome.{Outcome}
-use Rattle.ep_machine.specs.Objects.{Object as Content, object_refusals, timer}
+use Rattle.ep_machine.specs.Objects.{Object as Content, ObjectCall, object_call, object_refusals, timer}
 use Rattle.ep_machine.specs.Tables.{create_one, one_free, one_refusals, slot}
 use Rattle.ep_alarms.proofs.AreSetLemmas.{set_but, set_kept, timer_in}
 use Rattle.ep_alarms.proofs.FilesCallLemmas.{HaveObjects, MakesNoTimer, made_alone, others_left, timer_made}
 use Rattle.ep_alarms.proofs.ObjectEffectLemmas.{object_calls_leave, own_kept}
 use Rattle.ep_alarms.specs.Alarms.{AreSet, AreSetBut, IsKept, IsSetFor}
-use Rattle.ep_alarms.specs.Called.{IsCalled, called_in}
+use Rattle.ep_alarms.specs.Called.{IsCalled, asked_in, called_in}
 use Rattle.ep_alarms.specs.Timers.{timer_at, timer_under}
 use Rattle.ep_base.specs.Limits.{Limits}
 use Rattle.ep_base.specs.declared.answer.Answer.{Answer}
@@ -34,7 +35,7 @@ use Rattle.ep_base.specs.declared.errno.Errno.TheVariants.{Ebadf, Einval, Emfile
 use Rattle.ep_base.specs.declared.ids.DescId.{DescId}
 use Rattle.ep_base.specs.declared.ids.Fd.{Fd}
 use Rattle.ep_calls.specs.Clock.{ClockStays, Sets, Ticks}
-use Rattle.ep_calls.specs.ObjectCall.{CallsObject, fd_of, object_call_of}
+use Rattle.ep_calls.specs.ObjectCall.{object_call_of}
 use Rattle.ep_calls.specs.Parts.{AreOpening, Parts}
 use Rattle.ep_calls.specs.declared.raising.Raising.{Raising}
 use Rattle.ep_calls.specs.declared.raising.Raising.TheVariants.{Clock, Instance, Nowhere, Object as ObjectOf}
@@ -154,9 +155,9 @@ module _ (p q : Parts) (a : Moments) (sound : SoundTables p.tables) (sound_now :
       (λ accepted done. left_set (λ d. ap (λ (f : Files). timer_in f d) done.files ∙ others_left limits p.tables.files pid busy call have_objects is d))
 
   -- a call on the object that a descriptor names
-  module _ (ends : HaveOwnEnds p.tables.files) (pid : ℕ) (fd : Fd) (call : Call) (answer : Answer) where
+  module _ (ends : HaveOwnEnds p.tables.files) (pid : ℕ) (fd : Fd) (asked : ObjectCall) (answer : Answer) where
     abbrev made : FilesCall
-    made = object_call_of p.tables.files pid fd.0 p.clock call
+    made = object_call_of p.tables.files pid fd.0 p.clock asked
 
     abbrev number : ℕ
     number = named_by p.tables.files pid fd.0
@@ -165,13 +166,13 @@ module _ (p q : Parts) (a : Moments) (sound : SoundTables p.tables) (sound_now :
     own_is_kept desc was is files =
         set_keeps p.tables p.clock a desc.0 are_set
         ∙ (ap (λ (o : Option ℕ). is_some (timer_at p.tables.files o)) was
-        ∙ (sym (own_kept p.tables.files number p.clock call)
+        ∙ (sym (own_kept p.tables.files number p.clock asked)
         ∙ (ap (λ (f : Files). is_some (timer_in f number)) (sym files)
         ∙ sym (ap (λ (o : Option ℕ). is_some (timer_at q.tables.files o)) is))))
 
     named_before : first made.refusals ≡ None → under p.tables.files pid fd.0 ≡ Some number
     named_before accepted =
-        let names = past_one (names_nothing p.tables.files pid fd.0) Ebadf (object_refusals (object_under p.tables.files pid fd.0) (side_under p.tables.files pid fd.0) p.clock call) accepted in
+        let names = past_one (names_nothing p.tables.files pid fd.0) Ebadf (object_refusals (object_under p.tables.files pid fd.0) (side_under p.tables.files pid fd.0) p.clock asked) accepted in
         let there = some_is (under p.tables.files pid fd.0) names.0 in
         there.1 ∙ sym (ap (λ (o : Option ℕ). Some (unwrap_or o 0)) there.1)
 
@@ -187,7 +188,7 @@ module _ (p q : Parts) (a : Moments) (sound : SoundTables p.tables) (sound_now :
         let is : number_under q.tables desc ≡ Some number = keys desc number was in
         let lives : is_live p.tables.files number ≡ true = sound.place desc number was in (
           own_is_kept desc was is done.files,
-          but_one desc.0 number is (λ d ne. ap (λ (f : Files). timer_in f d) done.files ∙ object_calls_leave p.tables.files number p.clock call ends lives d ne),
+          but_one desc.0 number is (λ d ne. ap (λ (f : Files). timer_in f d) done.files ∙ object_calls_leave p.tables.files number p.clock asked ends lives d ne),
         ))
 
     -- it named nothing
@@ -241,23 +242,10 @@ module _ (p q : Parts) (a : Moments) (sound : SoundTables p.tables) (sound_now :
         (λ accepted done. subst (λ (r : Answer). CreatesTimer r q pid a) (sym done.answers) (created few there accepted done.files))
 
 -- What a call does to the tables.
-pub as_object : (pid : ℕ) (call : Call) (fd : Fd) (answer : Answer) (p q : Parts) → fd_of call ≡ Some fd → CallsObject pid fd p.clock call answer p.tables q.tables → CallsTables pid call answer p q
-as_object pid (Read on n) fd answer p q is did = subst (λ (d : Fd). CallsObject pid d p.clock (Read on n) answer p.tables q.tables) (let same : fd ≡ on = cc in same) did
-as_object pid (Write on bytes) fd answer p q is did = subst (λ (d : Fd). CallsObject pid d p.clock (Write on bytes) answer p.tables q.tables) (let same : fd ≡ on = cc in same) did
-as_object pid (Shutdown on) fd answer p q is did = subst (λ (d : Fd). CallsObject pid d p.clock (Shutdown on) answer p.tables q.tables) (let same : fd ≡ on = cc in same) did
-as_object pid (SetTime on absolute value interval) fd answer p q is did = subst (λ (d : Fd). CallsObject pid d p.clock (SetTime on absolute value interval) answer p.tables q.tables) (let same : fd ≡ on = cc in same) did
-as_object pid (GetTime on) fd answer p q is did = subst (λ (d : Fd). CallsObject pid d p.clock (GetTime on) answer p.tables q.tables) (let same : fd ≡ on = cc in same) did
-as_object pid call fd answer p q is did = absurd (none-some fd is)
-
-pub as_table : (pid : ℕ) (call : Call) (answer : Answer) (p q : Parts) → IsTableCall call → Does (called p.tables p.parked pid call) answer p.tables q.tables → CallsTables pid call answer p q
-as_table pid (EpollCtl epfd op fd mask tag) answer p q is did = absurd is
-as_table pid (EpollWait epfd most timeout) answer p q is did = absurd is
-as_table pid (Read fd n) answer p q is did = absurd is
-as_table pid (Write fd bytes) answer p q is did = absurd is
-as_table pid (Shutdown fd) answer p q is did = absurd is
-as_table pid (SetTime fd absolute value interval) answer p q is did = absurd is
-as_table pid (GetTime fd) answer p q is did = absurd is
-as_table pid call answer p q is did = did
+pub as_files : (pid : ℕ) (call : Call) (answer : Answer) (p q : Parts) → IsFileCall call → CallsFiles pid call answer p q → CallsTables pid call answer p q
+as_files pid (EpollCtl epfd op fd mask tag) answer p q is did = absurd is
+as_files pid (EpollWait epfd most timeout) answer p q is did = absurd is
+as_files pid call answer p q is did = did
 
 -- Once an event has changed the parts.
 module _ (event : Event) (found : Option DescId) (outcome : Outcome) (has_room : Bool) (q : Parts) (a : Moments) (were : WereSet event found outcome has_room q a) (sound_now : SoundTables q.tables) where
@@ -299,14 +287,16 @@ module _ (event : Event) (found : Option DescId) (outcome : Outcome) (has_room :
     on_files same = left_set p q a were.sound sound_now were.keys were.set clock (λ d. ap (λ (f : Files). timer_in f d) same)
 
     -- on the object of a description
+    on_asked : (call : Call) (on : Option (Fd × ObjectCall)) (desc : DescId) (d : ℕ) → number_under p.tables desc ≡ Some d → number_under p.tables desc ≡ asked_in p.tables.files pid.0 on → CallsAsked pid.0 call on outcome.answer p q
+        → IsKept q.tables desc.0 a × AreSetBut q.tables q.clock desc.0 a
+    on_asked call None desc d at named did = absurd (none-some d (sym named ∙ at))
+    on_asked call (Some on) desc d at named did = object_leaves p q a were.sound sound_now were.keys were.set clock were.ends pid.0 on.0 on.1 outcome.answer did desc named
+
     on_object : (call : Call) (desc : DescId) (d : ℕ) → number_under p.tables desc ≡ Some d → number_under p.tables desc ≡ called_in p.tables.files (CallOf pid call) → CallsTables pid.0 call outcome.answer p q
         → IsKept q.tables desc.0 a × AreSetBut q.tables q.clock desc.0 a
-    on_object (Read fd n) desc d at named did = object_leaves p q a were.sound sound_now were.keys were.set clock were.ends pid.0 fd (Read fd n) outcome.answer did desc named
-    on_object (Write fd bytes) desc d at named did = object_leaves p q a were.sound sound_now were.keys were.set clock were.ends pid.0 fd (Write fd bytes) outcome.answer did desc named
-    on_object (Shutdown fd) desc d at named did = object_leaves p q a were.sound sound_now were.keys were.set clock were.ends pid.0 fd (Shutdown fd) outcome.answer did desc named
-    on_object (SetTime fd absolute value interval) desc d at named did = object_leaves p q a were.sound sound_now were.keys were.set clock were.ends pid.0 fd (SetTime fd absolute value interval) outcome.answer did desc named
-    on_object (GetTime fd) desc d at named did = object_leaves p q a were.sound sound_now were.keys were.set clock were.ends pid.0 fd (GetTime fd) outcome.answer did desc named
-    on_object call desc d at named did = absurd (none-some d (sym named ∙ at))
+    on_object (EpollCtl epfd op fd mask tag) desc d at named did = absurd (none-some d (sym named ∙ at))
+    on_object (EpollWait epfd most timeout) desc d at named did = absurd (none-some d (sym named ∙ at))
+    on_object call desc d at named did = on_asked call (object_call call) desc d at named did
 
     call_sets : (desc : DescId) (d : ℕ) → number_under p.tables desc ≡ Some d → number_under p.tables desc ≡ called_in p.tables.files (CallOf pid call)
         → (b : Moments) → (IsKept q.tables desc.0 a → AreSetBut q.tables q.clock desc.0 a → AreSet q.tables q.clock b) → AreSetSince outcome.raising q.tables q.clock b
@@ -320,16 +310,15 @@ module _ (event : Event) (found : Option DescId) (outcome : Outcome) (has_room :
     ])
 
     -- on none, and it creates no timer
+    by_asked : (call : Call) (on : Option (Fd × ObjectCall)) → MakesNoTimer call → asked_in p.tables.files pid.0 on ≡ None → CallsAsked pid.0 call on outcome.answer p q → AreSet q.tables q.clock a
+    by_asked call None creates none did = on_tables call creates did
+    by_asked call (Some on) creates none did = object_none p q a were.sound sound_now were.keys were.set clock were.ends pid.0 on.0 on.1 outcome.answer did none
+
     by_other : (call : Call) → ((kind : ℤ) (cloexec : Bool) → call ≡ TimerFd kind cloexec → ⊥) → called_in p.tables.files (CallOf pid call) ≡ None → CallsTables pid.0 call outcome.answer p q → AreSet q.tables q.clock a
     by_other (EpollCtl epfd op fd mask tag) creates none did = on_files did
     by_other (EpollWait epfd most timeout) creates none did = on_files did
-    by_other (Read fd n) creates none did = object_none p q a were.sound sound_now were.keys were.set clock were.ends pid.0 fd (Read fd n) outcome.answer did none
-    by_other (Write fd bytes) creates none did = object_none p q a were.sound sound_now were.keys were.set clock were.ends pid.0 fd (Write fd bytes) outcome.answer did none
-    by_other (Shutdown fd) creates none did = object_none p q a were.sound sound_now were.keys were.set clock were.ends pid.0 fd (Shutdown fd) outcome.answer did none
-    by_other (SetTime fd absolute value interval) creates none did = object_none p q a were.sound sound_now were.keys were.set clock were.ends pid.0 fd (SetTime fd absolute value interval) outcome.answer did none
-    by_other (GetTime fd) creates none did = object_none p q a were.sound sound_now were.keys were.set clock were.ends pid.0 fd (GetTime fd) outcome.answer did none
     by_other (TimerFd kind cloexec) creates none did = absurd (creates kind cloexec refl)
-    by_other call creates none did = on_tables call tt did
+    by_other call creates none did = by_asked call (object_call call) tt none did
 
     none_in : found ≡ None → called_in p.tables.files (CallOf pid call) ≡ None
     none_in none =

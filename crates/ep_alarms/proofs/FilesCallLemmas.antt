@@ -5,7 +5,7 @@ use Rattle.std.proofs.lemmas.Bool.{cases_eq, cases_lt}
 use Rattle.std.proofs.lemmas.List.{get_or_append_left, get_or_past}
 use Rattle.ep_base.specs.Limits.{Limits}
 use Rattle.ep_base.specs.declared.call.Call.{Call}
-use Rattle.ep_base.specs.declared.call.Call.TheVariants.{Close, Dup, Dup2, EpollCreate, EventFd, Exec, Exit, Fork, Pipe as PipeCall, Plain, SocketPair, TimerFd}
+use Rattle.ep_base.specs.declared.call.Call.TheVariants.{Dup2, EpollCreate, EventFd, Pipe as PipeCall, Plain, SocketPair, TimerFd}
 use Rattle.ep_base.specs.declared.object.End.{End}
 use Rattle.ep_base.specs.declared.object.End.TheVariants.{First, Second}
 use Rattle.ep_machine.specs.Files.{Files, Place, named_by, numbers_of, object_at, place_of}
@@ -23,20 +23,10 @@ use Rattle.ep_alarms.specs.Timers.{timer_of}
 abbrev pub HaveObjects : Files → Type 0
 HaveObjects f = (d : ℕ) (p : Place) → place_of f d ≡ Some p → IsSome (slice_index_or f.objects p.object None)
 
--- a call on the tables alone but timerfd_create
+-- any call but timerfd_create
 abbrev pub MakesNoTimer : Call → Type 0
-MakesNoTimer (PipeCall cloexec) = Unit {0}
-MakesNoTimer (EventFd init semaphore cloexec) = Unit {0}
-MakesNoTimer (SocketPair cloexec) = Unit {0}
-MakesNoTimer (Plain cloexec) = Unit {0}
-MakesNoTimer (EpollCreate cloexec) = Unit {0}
-MakesNoTimer (Dup fd) = Unit {0}
-MakesNoTimer (Dup2 fd to) = Unit {0}
-MakesNoTimer (Close fd) = Unit {0}
-MakesNoTimer Fork = Unit {0}
-MakesNoTimer Exec = Unit {0}
-MakesNoTimer Exit = Unit {0}
-MakesNoTimer call = ⊥
+MakesNoTimer (TimerFd clock cloexec) = ⊥
+MakesNoTimer call = Unit {0}
 
 within : (xs : List (Option Object)) (k : ℕ) → IsSome (slice_index_or xs k None) → k < length xs
 within xs k h = elim (cases_lt k (length xs)) [
@@ -124,13 +114,9 @@ others_left limits f p busy (SocketPair cloexec) objects is d = two_other f (pai
 others_left limits f p busy (EventFd init semaphore cloexec) objects is d = one_other f (counter (record { count = init; is_semaphore = semaphore })) p cloexec objects refl d
 others_left limits f p busy (Plain cloexec) objects is d = one_other f plain p cloexec objects refl d
 others_left limits f p busy (EpollCreate cloexec) objects is d = one_other f instance p cloexec objects refl d
-others_left limits f p busy (Dup fd) objects is d = refl
 others_left limits f p busy (Dup2 fd to) objects is d = name_again f p fd.0 to.0 (named_by f p fd.0) d
-others_left limits f p busy (Close fd) objects is d = refl
-others_left limits f p busy Fork objects is d = refl
-others_left limits f p busy Exec objects is d = refl
-others_left limits f p busy Exit objects is d = refl
-others_left limits f p busy call objects is d = absurd is
+others_left limits f p busy (TimerFd clock cloexec) objects is d = absurd is
+others_left limits f p busy call objects is d = refl
 
 -- a new timer is what the next description shows
 pub timer_made : (limits : Limits) (f : Files) (p : ℕ) (busy : Bool) (clock : ℤ) (cloexec : Bool) → timer_in (files_call limits f p busy (TimerFd clock cloexec)).after (length f.descriptions) ≡ Some new_timer

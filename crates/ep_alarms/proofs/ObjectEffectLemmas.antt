@@ -1,49 +1,34 @@
 -- Which timers a call on an object leaves as they were.
-use Rattle.std.proofs.Common.{◌≡◌, ◌≢◌, ◌∙◌, ℕ, Bool, true, List, None, Option, Some, ap, is_some, refl, slice_index_or, sym, unwrap_or}
-use Rattle.ep_base.specs.declared.call.Call.{Call}
-use Rattle.ep_base.specs.declared.call.Call.TheVariants.{GetTime, Read, SetTime, Shutdown, Write}
+use Rattle.std.proofs.Common.{◌≡◌, ◌≢◌, ◌∙◌, ◌==◌, ℕ, false, true, None, Option, Some, ap, is_some, refl, slice_index_or, sym, unwrap_or}
 use Rattle.ep_base.specs.declared.object.End.{End}
 use Rattle.ep_base.specs.declared.object.End.TheVariants.{First, Second}
 use Rattle.ep_law.proofs.EndLemmas.{set_object}
 use Rattle.ep_law.specs.Laws.{HaveOwnEnds}
 use Rattle.ep_machine.specs.Files.{Files, Place, is_live, object_at, object_number, place_of, side_of}
-use Rattle.ep_machine.specs.Objects.{Object, counter, gettime, instance, object_effect, pair, pipe, plain, read, settime, shutdown, timer, write}
+use Rattle.ep_machine.specs.Objects.{Object, ObjectCall, counter, instance, object_effect, pair, pipe, plain, timer}
 use Rattle.ep_machine.specs.Tables.{affected}
 use Rattle.ep_machine.specs.Timer.{Timer}
+use Rattle.ep_object.proofs.KindLemmas.{call_keeps, kind_number}
 use Rattle.ep_object.specs.Law.{object_has}
 use Rattle.ep_alarms.proofs.AreSetLemmas.{timer_in}
 use Rattle.ep_alarms.proofs.FilesCallLemmas.{placed_is, timer_placed}
 use Rattle.ep_alarms.specs.Timers.{timer_of}
 use Rattle.ep_table.specs.Value.{content_of}
 
--- what is no timer stays none
-read_none : (x : Object) (e : End) (n now : ℕ) → timer_of x ≡ None → timer_of (read x e n now).1 ≡ None
-read_none (timer t) e n now h = absurd cc
-read_none x e n now h = refl
+-- what is a timer stays one, and what is none stays none
+timer_by_kind : (x : Object) → is_some (timer_of x) ≡ (kind_number x == 4)
+timer_by_kind plain = refl
+timer_by_kind x = refl
 
-write_none : (x : Object) (e : End) (bytes : List ℕ) → timer_of x ≡ None → timer_of (write x e bytes).1 ≡ None
-write_none (timer t) e bytes h = absurd cc
-write_none x e bytes h = refl
+effect_keeps : (x : Object) (e : End) (now : ℕ) (asked : ObjectCall) → is_some (timer_of (object_effect x e now asked).1) ≡ is_some (timer_of x)
+effect_keeps = call_keeps (λ (y : Object). is_some (timer_of y)) 4 timer_by_kind
 
-shutdown_none : (x : Object) (e : End) → timer_of x ≡ None → timer_of (shutdown x e).1 ≡ None
-shutdown_none (timer t) e h = absurd cc
-shutdown_none x e h = refl
+none_is : (o : Option Timer) → is_some o ≡ false → o ≡ None
+none_is None h = refl
+none_is (Some t) h = absurd cc
 
-settime_none : (x : Object) (absolute : Bool) (value interval now : ℕ) → timer_of x ≡ None → timer_of (settime x absolute value interval now).1 ≡ None
-settime_none (timer t) absolute value interval now h = absurd cc
-settime_none x absolute value interval now h = refl
-
-gettime_none : (x : Object) (now : ℕ) → timer_of x ≡ None → timer_of (gettime x now).1 ≡ None
-gettime_none (timer t) now h = absurd cc
-gettime_none x now h = refl
-
-effect_none : (x : Object) (e : End) (now : ℕ) (call : Call) → timer_of x ≡ None → timer_of (object_effect x e now call).1 ≡ None
-effect_none x e now (Read fd n) h = read_none x e n now h
-effect_none x e now (Write fd bytes) h = write_none x e bytes h
-effect_none x e now (Shutdown fd) h = shutdown_none x e h
-effect_none x e now (SetTime fd absolute value interval) h = settime_none x absolute value interval now h
-effect_none x e now (GetTime fd) h = gettime_none x now h
-effect_none x e now call h = h
+effect_none : (x : Object) (e : End) (now : ℕ) (asked : ObjectCall) → timer_of x ≡ None → timer_of (object_effect x e now asked).1 ≡ None
+effect_none x e now asked h = none_is _ (effect_keeps x e now asked ∙ ap (λ (o : Option Timer). is_some o) h)
 
 -- a timer has its first end alone
 first_end : (x : Object) (e : End) (t : Timer) → timer_of x ≡ Some t → object_has x e ≡ true → e ≡ First
@@ -65,12 +50,12 @@ a_place (Some p) h = (p, refl)
 same_place : (p q : Place) → p.object ≡ q.object → p.side ≡ q.side → p ≡ q
 same_place p q a b = λ i. record { object = a i; side = b i }
 
-module _ (f : Files) (number now : ℕ) (call : Call) (own : HaveOwnEnds f) (q : Place) (its : place_of f number ≡ Some q) where
+module _ (f : Files) (number now : ℕ) (asked : ObjectCall) (own : HaveOwnEnds f) (q : Place) (its : place_of f number ≡ Some q) where
   abbrev after : Object
-  after = (object_effect (content_of f number) (side_of f number) now call).1
+  after = (object_effect (content_of f number) (side_of f number) now asked).1
 
   abbrev g : Files
-  g = affected f number (object_effect (content_of f number) (side_of f number) now call)
+  g = affected f number (object_effect (content_of f number) (side_of f number) now asked)
 
   content : content_of f number ≡ there f q.object
   content = ap (λ (o : Option Place). unwrap_or (object_at f o) plain) its
@@ -90,7 +75,7 @@ module _ (f : Files) (number now : ℕ) (call : Call) (own : HaveOwnEnds f) (q :
       let same : p.object ≡ q.object = e ∙ ap object_number its in
       let none : timer_of (there f p.object) ≡ None = no_timer d ne p is same (timer_of (there f p.object)) refl in
       let held : timer_of (content_of f number) ≡ None = ap timer_of content ∙ (ap (λ (k : ℕ). timer_of (there f k)) (sym same) ∙ none) in
-      effect_none (content_of f number) (side_of f number) now call held ∙ sym none)
+      effect_none (content_of f number) (side_of f number) now asked held ∙ sym none)
       refl
 
   by_place : (d : ℕ) → d ≢ number → (o : Option Place) → place_of f d ≡ o → timer_placed g.objects o ≡ timer_placed f.objects o
@@ -101,31 +86,18 @@ module _ (f : Files) (number now : ℕ) (call : Call) (own : HaveOwnEnds f) (q :
   other_stays d ne = placed_is g (place_of f d) ∙ (by_place d ne (place_of f d) refl ∙ sym (placed_is f (place_of f d)))
 
 -- a call on an object changes no other timer than that of its description
-pub object_calls_leave : (f : Files) (number now : ℕ) (call : Call) → HaveOwnEnds f → is_live f number ≡ true
-    → (d : ℕ) → d ≢ number → timer_in (affected f number (object_effect (content_of f number) (side_of f number) now call)) d ≡ timer_in f d
-object_calls_leave f number now call own lives d ne = let p = a_place (place_of f number) lives in other_stays f number now call own p.0 p.1 d ne
-
--- a timer stays one
-effect_some : (t : Timer) (e : End) (now : ℕ) (call : Call) → is_some (timer_of (object_effect (timer t) e now call).1) ≡ true
-effect_some t e now (Read fd n) = refl
-effect_some t e now (Write fd bytes) = refl
-effect_some t e now (Shutdown fd) = refl
-effect_some t e now (SetTime fd absolute value interval) = refl
-effect_some t e now (GetTime fd) = refl
-effect_some t e now call = refl
-
-effect_keeps : (x : Object) (e : End) (now : ℕ) (call : Call) → is_some (timer_of (object_effect x e now call).1) ≡ is_some (timer_of x)
-effect_keeps (timer t) e now call = effect_some t e now call
-effect_keeps x e now call = ap (λ (o : Option Timer). is_some o) (effect_none x e now call refl)
+pub object_calls_leave : (f : Files) (number now : ℕ) (asked : ObjectCall) → HaveOwnEnds f → is_live f number ≡ true
+    → (d : ℕ) → d ≢ number → timer_in (affected f number (object_effect (content_of f number) (side_of f number) now asked)) d ≡ timer_in f d
+object_calls_leave f number now asked own lives d ne = let p = a_place (place_of f number) lives in other_stays f number now asked own p.0 p.1 d ne
 
 -- the description of the call is a timer's where it was
-pub own_kept : (f : Files) (number now : ℕ) (call : Call) → is_some (timer_in (affected f number (object_effect (content_of f number) (side_of f number) now call)) number) ≡ is_some (timer_in f number)
-own_kept f number now call = by_place (place_of f number) refl where
+pub own_kept : (f : Files) (number now : ℕ) (asked : ObjectCall) → is_some (timer_in (affected f number (object_effect (content_of f number) (side_of f number) now asked)) number) ≡ is_some (timer_in f number)
+own_kept f number now asked = by_place (place_of f number) refl where
   after_call : Object
-  after_call = (object_effect (content_of f number) (side_of f number) now call).1
+  after_call = (object_effect (content_of f number) (side_of f number) now asked).1
 
   left : Files
-  left = affected f number (object_effect (content_of f number) (side_of f number) now call)
+  left = affected f number (object_effect (content_of f number) (side_of f number) now asked)
 
   by_place : (o : Option Place) → place_of f number ≡ o → is_some (timer_in left number) ≡ is_some (timer_in f number)
   by_place None is =
@@ -134,7 +106,7 @@ own_kept f number now call = by_place (place_of f number) refl where
       let content_is : content_of f number ≡ there f q.object = ap (λ (o : Option Place). unwrap_or (object_at f o) plain) is in
       let kept : is_some (timer_of (there left q.object)) ≡ is_some (timer_of (there f q.object)) =
       set_object (λ (y : Object). is_some (timer_of y) ≡ is_some (timer_of (there f q.object))) f.objects (object_number (place_of f number)) q.object (Some after_call)
-      (λ e. effect_keeps (content_of f number) (side_of f number) now call ∙ ap (λ (y : Object). is_some (timer_of y)) content_is)
+      (λ e. effect_keeps (content_of f number) (side_of f number) now asked ∙ ap (λ (y : Object). is_some (timer_of y)) content_is)
       refl in
       ap (λ (t : Option Timer). is_some t) (placed_is left (place_of f number) ∙ ap (timer_placed left.objects) is)
       ∙ (kept ∙ sym (ap (λ (t : Option Timer). is_some t) (placed_is f (place_of f number) ∙ ap (timer_placed f.objects) is)))

@@ -6,22 +6,22 @@ use Rattle.ep_alarms.specs.Timers.{timer_under}
 use Rattle.ep_base.specs.declared.answer.Answer.{Answer}
 use Rattle.ep_base.specs.declared.answer.Answer.TheVariants.{Num}
 use Rattle.ep_base.specs.declared.call.Call.{Call}
-use Rattle.ep_base.specs.declared.call.Call.TheVariants.{EpollCtl, EpollWait, GetTime, Read, SetTime, Shutdown, Write}
+use Rattle.ep_base.specs.declared.call.Call.TheVariants.{EpollCtl, EpollWait}
 use Rattle.ep_base.specs.declared.call.Event.{Event}
 use Rattle.ep_base.specs.declared.call.Event.TheVariants.{Call as CallOf, Tick}
 use Rattle.ep_base.specs.declared.errno.Errno.{Errno}
 use Rattle.ep_base.specs.declared.ids.DescId.{DescId}
 use Rattle.ep_calls.specs.Clock.{ClockStays}
-use Rattle.ep_calls.specs.ObjectCall.{CallsObject}
+use Rattle.ep_calls.specs.FileCall.{CallsFiles}
 use Rattle.ep_calls.specs.Parts.{Parts}
-use Rattle.ep_calls.specs.TableCall.{MakesTimer, called}
+use Rattle.ep_calls.specs.TableCall.{MakesTimer}
 use Rattle.ep_calls.specs.declared.outcome.Outcome.{Outcome}
 use Rattle.ep_calls.specs.declared.raising.Raising.{Raising}
 use Rattle.ep_calls.specs.declared.raising.Raising.TheVariants.{Clock}
 use Rattle.ep_due.specs.DueMap.{Moments, moment_of}
 use Rattle.ep_law.specs.Laws.{HaveOwnEnds}
 use Rattle.ep_machine.specs.Files.{table_of, under}
-use Rattle.ep_table.specs.Value.{Does, KeepsKeys, Refuses, Seen, Sound as SoundTables, number_under}
+use Rattle.ep_table.specs.Value.{KeepsKeys, Refuses, Seen, Sound as SoundTables, number_under}
 
 -- the descriptions and objects stay, and so does the clock
 pub record LeavesFiles (raising : Raising) (p q : Parts) : Type 0 where
@@ -32,12 +32,7 @@ pub record LeavesFiles (raising : Raising) (p q : Parts) : Type 0 where
 abbrev pub CallsTables : ℕ → Call → Answer → Parts → Parts → Type 0
 CallsTables pid (EpollCtl epfd op fd mask tag) answer p q = q.tables.files ≡ p.tables.files
 CallsTables pid (EpollWait epfd most timeout) answer p q = q.tables.files ≡ p.tables.files
-CallsTables pid (Read fd n) answer p q = CallsObject pid fd p.clock (Read fd n) answer p.tables q.tables
-CallsTables pid (Write fd bytes) answer p q = CallsObject pid fd p.clock (Write fd bytes) answer p.tables q.tables
-CallsTables pid (Shutdown fd) answer p q = CallsObject pid fd p.clock (Shutdown fd) answer p.tables q.tables
-CallsTables pid (SetTime fd absolute value interval) answer p q = CallsObject pid fd p.clock (SetTime fd absolute value interval) answer p.tables q.tables
-CallsTables pid (GetTime fd) answer p q = CallsObject pid fd p.clock (GetTime fd) answer p.tables q.tables
-CallsTables pid call answer p q = Does (called p.tables p.parked pid call) answer p.tables q.tables
+CallsTables pid call answer p q = CallsFiles pid call answer p q
 
 -- refused by an error number
 abbrev pub IsRefused : Answer → Seen → Seen → Type 0

@@ -5,16 +5,21 @@ use Rattle.ep_base.specs.Answer.{FitsInline}
 use Rattle.ep_base.specs.Limits.{Limits}
 use Rattle.ep_base.specs.declared.answer.Answer.{Answer}
 use Rattle.ep_base.specs.declared.call.Call.{Call}
-use Rattle.ep_base.specs.declared.call.Call.TheVariants.{EpollCtl, EpollWait, GetTime, Read, SetTime, Shutdown, Write}
+use Rattle.ep_base.specs.declared.call.Call.TheVariants.{EpollCtl, EpollWait, Pipe as PipeCall}
 use Rattle.ep_base.specs.declared.call.Event.{Event}
 use Rattle.ep_base.specs.declared.call.Event.TheVariants.{Call as CallOf, Resume, Tick}
 use Rattle.ep_base.specs.declared.errno.Errno.{Errno}
+use Rattle.ep_base.specs.declared.ids.Fd.{Fd}
+use Rattle.ep_machine.specs.Files.{Files}
+use Rattle.ep_machine.specs.FilesCalls.{files_call}
+use Rattle.ep_machine.specs.Objects.{ObjectCall, object_call}
 use Rattle.ep_machine.specs.Refusal.{refusals}
 use Rattle.ep_machine.specs.Report.{plainly}
 use Rattle.ep_machine.specs.State.{Change, State}
-use Rattle.ep_machine.specs.Step.{call_change, change}
+use Rattle.ep_machine.specs.Step.{call_change, change, change_on}
+use Rattle.ep_machine.specs.Waits.{has_parked}
 use Rattle.ep_machine.specs.Watches.{ctl, is_add, is_del}
-use Rattle.ep_calls.specs.Kept.{IsKept, KeepsCall, KeepsEvent}
+use Rattle.ep_calls.specs.Kept.{IsKept, KeepsAsked, KeepsCall, KeepsEvent}
 use Rattle.ep_calls.specs.KeptRecords.{IsInline}
 use Rattle.ep_calls.specs.Moves.{Goes, Makes, Refuses}
 use Rattle.ep_calls.specs.Parts.{Parts}
@@ -33,16 +38,20 @@ if_fits false x y f g = g
 ctl_fits : (s : State) (p : ℕ) (epfd op fd : ℤ) (mask tag : ℕ) → FitsInline (ctl s p epfd op fd mask tag).0
 ctl_fits s p epfd op fd mask tag = if_fits (is_add op) _ _ tt (if_fits (is_del op) _ _ tt tt)
 
+-- a call on the tables alone answers a number or two, or with no word
+files_fit : (limits : Limits) (f : Files) (p : ℕ) (busy : Bool) (call : Call) → FitsInline (files_call limits f p busy call).answer
+files_fit limits f p busy (PipeCall cloexec) = tt
+files_fit limits f p busy call = tt
+
 module _ (limits : Limits) (s : State) (caller : ℕ) (o : Outcome) (kept : Bool) (asked : kept ≡ true) (none : o.spare ≡ None) where
+  told_asked : (p : ℕ) (call : Call) (on : Option (Fd × ObjectCall)) (made : Change) → plainly o.picked (change_on limits s p call on) ≡ Some made → made.0 ≡ o.answer → KeepsAsked on kept o → IsInline o.answer o.picked
+  told_asked p call (Some on) made is same keeps = keeps asked none
+  told_asked p call None made is same keeps = told_plainly o.picked _ made o.answer is same (files_fit limits s.files p (has_parked s p) call)
+
   told_call : (p : ℕ) (call : Call) (made : Change) → call_change limits s caller p call o.picked ≡ Some made → made.0 ≡ o.answer → KeepsCall call kept o → IsInline o.answer o.picked
   told_call p (EpollCtl epfd op fd mask tag) made is same keeps = told_plainly o.picked _ made o.answer is same (ctl_fits s p epfd.0 op fd.0 mask.0 tag)
   told_call p (EpollWait epfd most timeout) made is same keeps = keeps asked none
-  told_call p (Read fd n) made is same keeps = keeps asked none
-  told_call p (Write fd bytes) made is same keeps = keeps asked none
-  told_call p (Shutdown fd) made is same keeps = keeps asked none
-  told_call p (SetTime fd absolute value interval) made is same keeps = keeps asked none
-  told_call p (GetTime fd) made is same keeps = keeps asked none
-  told_call p call made is same keeps = told_plainly o.picked _ made o.answer is same tt
+  told_call p call made is same keeps = told_asked p call (object_call call) made is same keeps
 
   told : (r : Option Errno) (c : Option Change) (new : Parts) → ((made : Change) → c ≡ Some made → made.0 ≡ o.answer → IsInline o.answer o.picked)
       → MatchOption r (Makes c o.answer new) (λ e. Refuses s e o.answer o.picked new) → IsInline o.answer o.picked
@@ -55,20 +64,15 @@ module _ (limits : Limits) (s : State) (caller : ℕ) (o : Outcome) (kept : Bool
   inline_event (Tick k) new goes keeps = told _ _ new (λ made is same. told_plainly o.picked _ made o.answer is same tt) goes
 
 -- it holds of each call where it holds at all, and of those on the tables anyway
+kept_asked : (on : Option (Fd × ObjectCall)) (kept : Bool) (o : Outcome) → IsKept kept o → KeepsAsked on kept o
+kept_asked None kept o h = tt
+kept_asked (Some on) kept o h = h
+
 pub any_call : (call : Call) (kept : Bool) (o : Outcome) → IsKept kept o → KeepsCall call kept o
 any_call (EpollWait epfd most timeout) kept o h = h
-any_call (Read fd n) kept o h = h
-any_call (Write fd bytes) kept o h = h
-any_call (Shutdown fd) kept o h = h
-any_call (SetTime fd absolute value interval) kept o h = h
-any_call (GetTime fd) kept o h = h
-any_call call kept o h = tt
+any_call call kept o h = kept_asked (object_call call) kept o h
 
 pub table_call_kept : (call : Call) (kept : Bool) (o : Outcome) → IsTableCall call → KeepsCall call kept o
+table_call_kept (EpollCtl epfd op fd mask tag) kept o h = absurd h
 table_call_kept (EpollWait epfd most timeout) kept o h = absurd h
-table_call_kept (Read fd n) kept o h = absurd h
-table_call_kept (Write fd bytes) kept o h = absurd h
-table_call_kept (Shutdown fd) kept o h = absurd h
-table_call_kept (SetTime fd absolute value interval) kept o h = absurd h
-table_call_kept (GetTime fd) kept o h = absurd h
-table_call_kept call kept o h = tt
+table_call_kept call kept o h = subst (λ (on : Option (Fd × ObjectCall)). KeepsAsked on kept o) (sym h) tt

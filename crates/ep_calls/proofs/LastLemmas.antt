@@ -6,7 +6,6 @@ use Rattle.ep_machine.specs.Lists.{is_empty}
 use Rattle.ep_machine.specs.Sockets.{is_over}
 use Rattle.std.specs.List.{list_any}
 use Rattle.ep_base.specs.declared.call.Call.{Call}
-use Rattle.ep_base.specs.declared.call.Call.TheVariants.{Read}
 use Rattle.ep_base.specs.declared.call.Event.{Event}
 use Rattle.ep_base.specs.declared.call.Event.TheVariants.{Call as CallOf, Resume}
 use Rattle.ep_base.specs.declared.ids.DescId.{DescId}
@@ -18,7 +17,7 @@ use Rattle.ep_base.specs.declared.record.Record.{Record}
 use Rattle.ep_interest.specs.Registrations.{has_key}
 use Rattle.ep_machine.specs.Effect.{first}
 use Rattle.ep_machine.specs.Files.{Files, named_by, table_of, under}
-use Rattle.ep_machine.specs.Objects.{Object, object_refusals, pair, pipe}
+use Rattle.ep_machine.specs.Objects.{Object, ObjectCall, object_call, object_refusals, pair, pipe, read_refusals, reads}
 use Rattle.ep_machine.specs.Refusal.{call_refusals, refusals}
 use Rattle.ep_machine.specs.Run.{run}
 use Rattle.ep_machine.specs.State.{State, Waiter, opening}
@@ -37,16 +36,16 @@ use Rattle.ep_calls.specs.Control.{IsPlan, code_of, control_call, is_deep_at, ro
 use Rattle.ep_calls.specs.Keeps.{Keeps}
 use Rattle.ep_calls.specs.Last.{NothingRefuses, NothingRefusesCall}
 use Rattle.ep_calls.specs.Moves.{StandFor}
-use Rattle.ep_calls.specs.ObjectCall.{fd_of, object_call_of, waiting_at}
+use Rattle.ep_calls.specs.ObjectCall.{object_call_of, waiting_at}
 use Rattle.ep_calls.specs.Parts.{AreCoherent, Parts}
 use Rattle.ep_calls.specs.Wait.{Waits, wait_call, wait_tests}
 use Rattle.ep_calls.specs.declared.control.Control.{Control}
 use Rattle.ep_calls.specs.declared.control.Plan.{Plan}
 use Rattle.ep_calls.specs.declared.wait.Wait.{Wait}
 use Rattle.ep_calls.proofs.EpollCtlLemmas.{deep_is_at, left_to_refuse}
+use Rattle.ep_calls.proofs.FilesCallLemmas.{on_object_is}
 use Rattle.ep_calls.proofs.KeepsLemmas.{state_is}
 use Rattle.ep_calls.proofs.ObjectCallLemmas.{refusals_are}
-use Rattle.ep_calls.proofs.ObjectLemmas.{on_object}
 use Rattle.ep_calls.proofs.RegistrationLemmas.{caller_waits}
 use Rattle.ep_calls.proofs.ResumeLemmas.{there}
 
@@ -59,23 +58,23 @@ not_again true empty b h = ap (λ (x : Bool). first ((x && b, Eagain) ∷ [])) h
 not_again false empty b h = refl
 
 -- a read for which more bytes wait than an answer holds in itself
-long_read : (x : Object) (e : End) (now n : ℕ) (fd : Fd) → (min n (object_waiting x e) ≤ 16 → ⊥) → first (object_refusals x e now (Read fd n)) ≡ None
-long_read (pipe p) First now n fd h = not_again (nat_lt 0 n) (is_empty p.bytes) p.has_writer (filled p.bytes n h)
-long_read (pair p) First now n fd h = not_again (nat_lt 0 n) (is_empty p.first_end.queue) (not (is_over p.second_end)) (filled p.first_end.queue n h)
-long_read (pair p) Second now n fd h = not_again (nat_lt 0 n) (is_empty p.second_end.queue) (not (is_over p.first_end)) (filled p.second_end.queue n h)
-long_read x e now n fd h = absurd (h (omega arith))
+long_read : (x : Object) (e : End) (now n : ℕ) → (min n (object_waiting x e) ≤ 16 → ⊥) → first (read_refusals x e n now) ≡ None
+long_read (pipe p) First now n h = not_again (nat_lt 0 n) (is_empty p.bytes) p.has_writer (filled p.bytes n h)
+long_read (pair p) First now n h = not_again (nat_lt 0 n) (is_empty p.first_end.queue) (not (is_over p.second_end)) (filled p.first_end.queue n h)
+long_read (pair p) Second now n h = not_again (nat_lt 0 n) (is_empty p.second_end.queue) (not (is_over p.first_end)) (filled p.second_end.queue n h)
+long_read x e now n h = absurd (h (omega arith))
 
-pub long_call : (x : Object) (e : End) (now : ℕ) (call : Call) → (min (asked_of call) (object_waiting x e) ≤ 16 → ⊥) → first (object_refusals x e now call) ≡ None
-long_call x e now (Read fd n) h = long_read x e now n fd h
-long_call x e now call h = absurd (h (omega arith))
+pub long_call : (x : Object) (e : End) (now : ℕ) (asked : ObjectCall) → (min (asked_of asked) (object_waiting x e) ≤ 16 → ⊥) → first (object_refusals x e now asked) ≡ None
+long_call x e now (reads n) h = long_read x e now n h
+long_call x e now asked h = absurd (h (omega arith))
 
 module _ (p : Parts) (pid : ℕ) where
-  pub object_last : (fd : Fd) (desc : DescId) (call : Call) → fd_of call ≡ Some fd → number_under p.tables desc ≡ under p.tables.files pid fd.0 → IsSome (number_under p.tables desc)
-      → (min (asked_of call) (waiting_at p.tables desc) ≤ 16 → ⊥) → NothingRefusesCall p pid call
-  object_last fd desc call on found lives h = λ n s at sound quiet legal stands.
-      ap first (on_object call fd on p.tables.limits s 0 pid).0
-      ∙ ((λ i. first (object_call_of (stands.files i) pid fd.0 (stands.now i) call).refusals)
-      ∙ (refusals_are p.tables pid fd.0 desc found lives p.clock call ∙ long_call _ _ p.clock call h))
+  pub object_last : (fd : Fd) (desc : DescId) (asked : ObjectCall) → number_under p.tables desc ≡ under p.tables.files pid fd.0 → IsSome (number_under p.tables desc)
+      → (min (asked_of asked) (waiting_at p.tables desc) ≤ 16 → ⊥) → (call : Call) → object_call call ≡ Some (fd, asked) → NothingRefusesCall p pid call
+  object_last fd desc asked found lives h call is = λ n s at sound quiet legal stands.
+      ap first (on_object_is call fd asked is p.tables.limits s 0 pid).0
+      ∙ ((λ i. first (object_call_of (stands.files i) pid fd.0 (stands.now i) asked).refusals)
+      ∙ (refusals_are p.tables pid fd.0 desc found lives p.clock asked ∙ long_call _ _ p.clock asked h))
 
   pub control_last : (args : Control) (plan : Plan) → AreCoherent p → Sound p.tables → IsPlan p pid args plan → list_any (has_key plan.named.instance args.fd plan.named.desc) p.interest.entries ≡ false
       → ((exclusive : Bool) → first (room_refusals (is_add (code_of plan.operation)) (is_mod (code_of plan.operation)) false exclusive (is_deep_at p.tables p.graph plan.named) p.tables.limits.watches (length p.interest.entries)) ≡ None) → NothingRefusesCall p pid (control_call args)

@@ -51,3 +51,4 @@ pub mod FirstMarkedLemmas
 pub mod SparedLemmas
 pub mod LastLemmas
 pub mod AttendLemmas
+pub mod FileCallLemmas

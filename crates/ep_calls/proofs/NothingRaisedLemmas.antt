@@ -4,17 +4,19 @@ use Rattle.std.specs.Prelude.{MatchOption}
 use Rattle.std.proofs.lemmas.Option.{none-some}
 use Rattle.ep_base.specs.Limits.{Limits}
 use Rattle.ep_base.specs.declared.call.Call.{Call}
-use Rattle.ep_base.specs.declared.call.Call.TheVariants.{EpollCtl, EpollWait, GetTime, Read, SetTime, Shutdown, Write}
+use Rattle.ep_base.specs.declared.call.Call.TheVariants.{EpollCtl, EpollWait}
 use Rattle.ep_base.specs.declared.errno.Errno.{Errno}
 use Rattle.ep_machine.specs.Effect.{first}
 use Rattle.ep_machine.specs.Files.{named_by, object_of}
 use Rattle.ep_view.specs.AtRest.{can_be_watched}
+use Rattle.ep_base.specs.declared.ids.Fd.{Fd}
+use Rattle.ep_machine.specs.Objects.{ObjectCall, object_call}
 use Rattle.ep_machine.specs.Readiness.{is_ready}
 use Rattle.ep_machine.specs.Refusal.{call_refusals}
 use Rattle.ep_machine.specs.Report.{is_pick, plainly, report}
 use Rattle.ep_machine.specs.Spread.{raised_of}
 use Rattle.ep_machine.specs.State.{Change, State}
-use Rattle.ep_machine.specs.Step.{call_change}
+use Rattle.ep_machine.specs.Step.{call_change, change_on}
 use Rattle.ep_machine.specs.Waits.{wait_for}
 use Rattle.ep_machine.specs.Watches.{number_in}
 use Rattle.ep_calls.specs.Moves.{RaisesCall}
@@ -35,16 +37,11 @@ use Rattle.ep_table.specs.Value.{Seen}
 -- any call but one on the object that a descriptor names, and epoll_ctl
 abbrev pub IsOffObject : Call → Type 0
 IsOffObject (EpollCtl epfd op fd mask tag) = ⊥
-IsOffObject (Read fd n) = ⊥
-IsOffObject (Write fd bytes) = ⊥
-IsOffObject (Shutdown fd) = ⊥
-IsOffObject (SetTime fd absolute value interval) = ⊥
-IsOffObject (GetTime fd) = ⊥
-IsOffObject call = Unit {0}
+IsOffObject call = object_call call ≡ None
 
 -- as a call on the tables alone is
 pub off_object : (call : Call) → IsTableCall call → IsOffObject call
-off_object (EpollWait epfd most timeout) t = tt
+off_object (EpollWait epfd most timeout) t = absurd t
 off_object call t = t
 
 abbrev RaisesNothing : Change → Type 0
@@ -75,6 +72,9 @@ wait_raises s caller p e most (pos zero) = λ d w. refl
 wait_raises s caller p e most (pos (suc k)) = λ d w. refl
 wait_raises s caller p e most (negsuc k) = λ d w. refl
 
+files_raise : (limits : Limits) (s : State) (p : ℕ) (call : Call) (on : Option (Fd × ObjectCall)) → on ≡ None → RaisesNothing (change_on limits s p call on)
+files_raise limits s p call on h = subst (λ (o : Option (Fd × ObjectCall)). RaisesNothing (change_on limits s p call o)) (sym h) (λ d w. refl)
+
 call_unraising : (limits : Limits) (s : State) (caller p : ℕ) (call : Call) (ks : List ℕ) → IsOffObject call → first (call_refusals limits s p call) ≡ None → Unraising (call_change limits s caller p call ks)
 call_unraising limits s caller p (EpollWait epfd most timeout) ks t h =
     let e = named_by s.files p epfd.0 in
@@ -82,12 +82,7 @@ call_unraising limits s caller p (EpollWait epfd most timeout) ks t h =
     (if_unraising (is_pick s e (number_in most) ks) _ None (some_unraising _ (λ d w. refl)) none_unraising)
     (plain_unraising ks _ (wait_raises s caller p e (number_in most) timeout))
 call_unraising limits s caller p (EpollCtl epfd op fd mask tag) ks t h = absurd t
-call_unraising limits s caller p (Read fd n) ks t h = absurd t
-call_unraising limits s caller p (Write fd bytes) ks t h = absurd t
-call_unraising limits s caller p (Shutdown fd) ks t h = absurd t
-call_unraising limits s caller p (SetTime fd absolute value interval) ks t h = absurd t
-call_unraising limits s caller p (GetTime fd) ks t h = absurd t
-call_unraising limits s caller p call ks t h = plain_unraising ks _ (λ d w. refl)
+call_unraising limits s caller p call ks t h = plain_unraising ks _ (files_raise limits s p call (object_call call) t)
 
 nowhere_bits : (raising : Raising) (v : Seen) (now d : ℕ) → raising ≡ Nowhere → raised_bits raising v now d ≡ 0
 nowhere_bits raising v now d h = ap (λ (r : Raising). raised_bits r v now d) h

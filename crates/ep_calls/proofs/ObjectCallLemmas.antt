@@ -8,66 +8,66 @@ use Rattle.std.proofs.lemmas.Option.{none-some}
 use Rattle.smallvec.specs.SmallVec.{HasRoomFor}
 use Rattle.smallvec.specs.declared.SmallVec.{SmallVec}
 use Rattle.ep_base.specs.declared.answer.Answer.{Answer}
-use Rattle.ep_base.specs.declared.call.Call.{Call}
-use Rattle.ep_base.specs.declared.call.Call.TheVariants.{GetTime, Read, SetTime, Shutdown, Write}
 use Rattle.ep_base.specs.declared.errno.Errno.{Errno}
 use Rattle.ep_base.specs.declared.errno.Errno.TheVariants.{Ebadf}
 use Rattle.ep_base.specs.declared.object.End.{End}
 use Rattle.ep_base.specs.declared.object.End.TheVariants.{First, Second}
 use Rattle.ep_machine.specs.Effect.{Effect, attempt, first, unless}
 use Rattle.ep_machine.specs.Files.{Files, Place, named_by, names_nothing, object_at, object_number, object_of, object_under, place_of, side_of, side_under, under, with_object}
-use Rattle.ep_machine.specs.Objects.{Object, counter, instance, object_effect, object_refusals, pair, pipe, plain, timer}
+use Rattle.ep_machine.specs.Objects.{Object, ObjectCall, asks_time, counter, gettime, instance, object_effect, object_refusals, pair, pipe, plain, read, read_refusals, reads, sets_time, settime, shutdown, shuts_down, timer, write, write_refusals, writes}
 use Rattle.ep_machine.specs.Tables.{affected}
 use Rattle.ep_object.specs.Memory.{asked_of, object_waiting}
 use Rattle.ep_machine.specs.FilesCalls.{FilesCall}
-use Rattle.ep_calls.specs.ObjectCall.{FitsRoom, fd_of, object_call_of}
+use Rattle.ep_calls.specs.ObjectCall.{FitsRoom, object_call_of}
 use Rattle.ep_table.specs.Value.{Does, Refuses, Seen, Succeeds, content_of, effect_at, holds_of, number_of, number_under}
 use Rattle.ep_base.specs.declared.ids.DescId.{DescId}
-use Rattle.ep_base.specs.declared.ids.Fd.{Fd}
 
 -- a refusal fits, and else what is given
 unless_fits : (refusal : Option Errno) (x : Object) (f : Effect Object) (room : SmallVec ℕ 16 Global) → FitsRoom f.0 room → FitsRoom (unless refusal x f).0 room
 unless_fits (Some e) x f room h = tt
 unless_fits None x f room h = h
 
-given_fits : (x : Object) (e : End) (now n : ℕ) (fd : ℤ) (room : SmallVec ℕ 16 Global) → HasRoomFor room 16 → HasRoomFor room (min n (object_waiting x e))
-    → FitsRoom (attempt (object_refusals x e now (Read (record { 0 = fd }) n)) x (object_effect x e now (Read (record { 0 = fd }) n))).0 room
-given_fits plain e now n fd room h i = omega (arith, h)
-given_fits (pipe p) First now n fd room h i = unless_fits (first (object_refusals (pipe p) First now (Read (record { 0 = fd }) n))) (pipe p) (object_effect (pipe p) First now (Read (record { 0 = fd }) n)) room (omega (arith, i, length-take n p.bytes))
-given_fits (pipe p) Second now n fd room h i = tt
-given_fits (pair p) First now n fd room h i = unless_fits (first (object_refusals (pair p) First now (Read (record { 0 = fd }) n))) (pair p) (object_effect (pair p) First now (Read (record { 0 = fd }) n)) room (omega (arith, i, length-take n p.first_end.queue))
-given_fits (pair p) Second now n fd room h i = unless_fits (first (object_refusals (pair p) Second now (Read (record { 0 = fd }) n))) (pair p) (object_effect (pair p) Second now (Read (record { 0 = fd }) n)) room (omega (arith, i, length-take n p.second_end.queue))
-given_fits (counter c) e now n fd room h i = unless_fits (first (object_refusals (counter c) e now (Read (record { 0 = fd }) n))) (counter c) (object_effect (counter c) e now (Read (record { 0 = fd }) n)) room (omega (arith, h))
-given_fits (timer t) e now n fd room h i = unless_fits (first (object_refusals (timer t) e now (Read (record { 0 = fd }) n))) (timer t) (object_effect (timer t) e now (Read (record { 0 = fd }) n)) room (omega (arith, h))
-given_fits instance e now n fd room h i = tt
+given_fits : (x : Object) (e : End) (now n : ℕ) (room : SmallVec ℕ 16 Global) → HasRoomFor room 16 → HasRoomFor room (min n (object_waiting x e))
+    → FitsRoom (attempt (read_refusals x e n now) x (read x e n now)).0 room
+given_fits plain e now n room h i = omega (arith, h)
+given_fits (pipe p) First now n room h i = unless_fits (first (read_refusals (pipe p) First n now)) (pipe p) (read (pipe p) First n now) room (omega (arith, i, length-take n p.bytes))
+given_fits (pipe p) Second now n room h i = tt
+given_fits (pair p) First now n room h i = unless_fits (first (read_refusals (pair p) First n now)) (pair p) (read (pair p) First n now) room (omega (arith, i, length-take n p.first_end.queue))
+given_fits (pair p) Second now n room h i = unless_fits (first (read_refusals (pair p) Second n now)) (pair p) (read (pair p) Second n now) room (omega (arith, i, length-take n p.second_end.queue))
+given_fits (counter c) e now n room h i = unless_fits (first (read_refusals (counter c) e n now)) (counter c) (read (counter c) e n now) room (omega (arith, h))
+given_fits (timer t) e now n room h i = unless_fits (first (read_refusals (timer t) e n now)) (timer t) (read (timer t) e n now) room (omega (arith, h))
+given_fits instance e now n room h i = tt
 
-taken_fits : (x : Object) (e : End) (now : ℕ) (bytes : List ℕ) (fd : ℤ) (room : SmallVec ℕ 16 Global) → FitsRoom (attempt (object_refusals x e now (Write (record { 0 = fd }) bytes)) x (object_effect x e now (Write (record { 0 = fd }) bytes))).0 room
-taken_fits (pipe p) e now bytes fd room = unless_fits (first (object_refusals (pipe p) e now (Write (record { 0 = fd }) bytes))) (pipe p) (object_effect (pipe p) e now (Write (record { 0 = fd }) bytes)) room tt
-taken_fits (pair p) e now bytes fd room = unless_fits (first (object_refusals (pair p) e now (Write (record { 0 = fd }) bytes))) (pair p) (object_effect (pair p) e now (Write (record { 0 = fd }) bytes)) room tt
-taken_fits (counter c) e now bytes fd room = unless_fits (first (object_refusals (counter c) e now (Write (record { 0 = fd }) bytes))) (counter c) (object_effect (counter c) e now (Write (record { 0 = fd }) bytes)) room tt
-taken_fits x e now bytes fd room = tt
+taken_fits : (x : Object) (e : End) (bytes : List ℕ) (room : SmallVec ℕ 16 Global) → FitsRoom (attempt (write_refusals x e bytes) x (write x e bytes)).0 room
+taken_fits (pipe p) e bytes room = unless_fits (first (write_refusals (pipe p) e bytes)) (pipe p) (write (pipe p) e bytes) room tt
+taken_fits (pair p) e bytes room = unless_fits (first (write_refusals (pair p) e bytes)) (pair p) (write (pair p) e bytes) room tt
+taken_fits (counter c) e bytes room = unless_fits (first (write_refusals (counter c) e bytes)) (counter c) (write (counter c) e bytes) room tt
+taken_fits x e bytes room = tt
 
-shut_fits : (x : Object) (e : End) (now : ℕ) (fd : Fd) (room : SmallVec ℕ 16 Global) → FitsRoom (attempt (object_refusals x e now (Shutdown fd)) x (object_effect x e now (Shutdown fd))).0 room
-shut_fits (pair p) e now fd room = unless_fits (first (object_refusals (pair p) e now (Shutdown fd))) (pair p) (object_effect (pair p) e now (Shutdown fd)) room tt
-shut_fits x e now fd room = tt
+-- what answers in a few words fits where its effect does, refused or not
+short_fits : (x : Object) (e : End) (now : ℕ) (asked : ObjectCall) (room : SmallVec ℕ 16 Global) → FitsRoom (object_effect x e now asked).0 room → FitsRoom (attempt (object_refusals x e now asked) x (object_effect x e now asked)).0 room
+short_fits x e now asked room = unless_fits (first (object_refusals x e now asked)) x (object_effect x e now asked) room
 
-set_fits : (x : Object) (e : End) (now : ℕ) (fd : Fd) (absolute : Bool) (value interval : ℕ) (room : SmallVec ℕ 16 Global) → FitsRoom (attempt (object_refusals x e now (SetTime fd absolute value interval)) x (object_effect x e now (SetTime fd absolute value interval))).0 room
-set_fits (timer t) e now fd absolute value interval room = unless_fits (first (object_refusals (timer t) e now (SetTime fd absolute value interval))) (timer t) (object_effect (timer t) e now (SetTime fd absolute value interval)) room tt
-set_fits x e now fd absolute value interval room = tt
+shut_fits : (x : Object) (e : End) (room : SmallVec ℕ 16 Global) → FitsRoom (shutdown x e).0 room
+shut_fits plain e room = tt
+shut_fits x e room = tt
 
-got_fits : (x : Object) (e : End) (now : ℕ) (fd : Fd) (room : SmallVec ℕ 16 Global) → FitsRoom (attempt (object_refusals x e now (GetTime fd)) x (object_effect x e now (GetTime fd))).0 room
-got_fits (timer t) e now fd room = unless_fits (first (object_refusals (timer t) e now (GetTime fd))) (timer t) (object_effect (timer t) e now (GetTime fd)) room tt
-got_fits x e now fd room = tt
+set_fits : (x : Object) (absolute : Bool) (value interval now : ℕ) (room : SmallVec ℕ 16 Global) → FitsRoom (settime x absolute value interval now).0 room
+set_fits plain absolute value interval now room = tt
+set_fits x absolute value interval now room = tt
+
+got_fits : (x : Object) (now : ℕ) (room : SmallVec ℕ 16 Global) → FitsRoom (gettime x now).0 room
+got_fits plain now room = tt
+got_fits x now room = tt
 
 -- what such a call answers has room for a copy
-pub fits : (x : Object) (e : End) (now : ℕ) (call : Call) (room : SmallVec ℕ 16 Global) → IsSome (fd_of call) → HasRoomFor room 16 → HasRoomFor room (min (asked_of call) (object_waiting x e))
-    → FitsRoom (attempt (object_refusals x e now call) x (object_effect x e now call)).0 room
-fits x e now (Read fd n) room t h i = given_fits x e now n fd.0 room h i
-fits x e now (Write fd bytes) room t h i = taken_fits x e now bytes fd.0 room
-fits x e now (Shutdown fd) room t h i = shut_fits x e now fd room
-fits x e now (SetTime fd absolute value interval) room t h i = set_fits x e now fd absolute value interval room
-fits x e now (GetTime fd) room t h i = got_fits x e now fd room
-fits x e now call room t h i = cc
+pub fits : (x : Object) (e : End) (now : ℕ) (asked : ObjectCall) (room : SmallVec ℕ 16 Global) → HasRoomFor room 16 → HasRoomFor room (min (asked_of asked) (object_waiting x e))
+    → FitsRoom (attempt (object_refusals x e now asked) x (object_effect x e now asked)).0 room
+fits x e now (reads n) room h i = given_fits x e now n room h i
+fits x e now (writes bytes) room h i = taken_fits x e bytes room
+fits x e now shuts_down room h i = short_fits x e now shuts_down room (shut_fits x e room)
+fits x e now (sets_time absolute value interval) room h i = short_fits x e now (sets_time absolute value interval) room (set_fits x absolute value interval now room)
+fits x e now asks_time room h i = short_fits x e now asks_time room (got_fits x now room)
 
 -- writing back what stands there changes nothing
 set_same : (xs : List (Option Object)) (k : ℕ) (x : Object) → slice_index_or xs k None ≡ Some x → slice_set xs k (Some x) ≡ xs
@@ -82,7 +82,7 @@ content_is None h = absurd (false≢true h)
 content_is (Some x) h = refl
 
 -- after a call on the object of a description, what stands there
-module _ (old new : Seen) (d now : ℕ) (call : Call) (answer : Answer) (lives : IsSome (object_of old.files d)) where
+module _ (old new : Seen) (d now : ℕ) (asked : ObjectCall) (answer : Answer) (lives : IsSome (object_of old.files d)) where
   abbrev content : Object
   content = content_of old.files d
 
@@ -90,7 +90,7 @@ module _ (old new : Seen) (d now : ℕ) (call : Call) (answer : Answer) (lives :
   side = side_of old.files d
 
   abbrev effect : Effect Object
-  effect = object_effect content side now call
+  effect = object_effect content side now asked
 
   abbrev after : Effect Object → Seen
   after f = record old { files = with_object old.files (object_number (place_of old.files d)) f.1 }
@@ -127,21 +127,21 @@ module _ (v : Seen) (p : ℕ) (fd : ℤ) (desc : DescId) (found : number_under v
   names_some : names_nothing v.files p fd ≡ false
   names_some = ap (λ (o : Option ℕ). is_none o) (sym found) ∙ named_some (number_under v desc) there
 
-  pub refusals_are : (now : ℕ) (call : Call) → first (object_call_of v.files p fd now call).refusals ≡ first (object_refusals (content_of v.files (number_of v desc)) (side_of v.files (number_of v desc)) now call)
-  refusals_are now call =
+  pub refusals_are : (now : ℕ) (asked : ObjectCall) → first (object_call_of v.files p fd now asked).refusals ≡ first (object_refusals (content_of v.files (number_of v desc)) (side_of v.files (number_of v desc)) now asked)
+  refusals_are now asked =
       let f = v.files in
-      past_first (names_nothing f p fd) Ebadf (object_refusals (object_under f p fd) (side_under f p fd) now call) names_some
-      ∙ ap (λ (d : ℕ). first (object_refusals (content_of f d) (side_of f d) now call)) number_is
+      past_first (names_nothing f p fd) Ebadf (object_refusals (object_under f p fd) (side_under f p fd) now asked) names_some
+      ∙ ap (λ (d : ℕ). first (object_refusals (content_of f d) (side_of f d) now asked)) number_is
 
-pub calls_object : (old new : Seen) (p : ℕ) (fd : ℤ) (desc : DescId) (now : ℕ) (call : Call) (answer : Answer) → number_under old desc ≡ under old.files p fd → IsSome (number_under old desc) → IsSome (object_of old.files (number_of old desc))
-    → answer ≡ (effect_at old.files (number_of old desc) now call).0
-    → new ≡ record old { files = with_object old.files (object_number (place_of old.files (number_of old desc))) (effect_at old.files (number_of old desc) now call).1 }
-    → Does (object_call_of old.files p fd now call) answer old new
-calls_object old new p fd desc now call answer found there lives is tables =
-    let c = object_call_of old.files p fd now call in
+pub calls_object : (old new : Seen) (p : ℕ) (fd : ℤ) (desc : DescId) (now : ℕ) (asked : ObjectCall) (answer : Answer) → number_under old desc ≡ under old.files p fd → IsSome (number_under old desc) → IsSome (object_of old.files (number_of old desc))
+    → answer ≡ (effect_at old.files (number_of old desc) now asked).0
+    → new ≡ record old { files = with_object old.files (object_number (place_of old.files (number_of old desc))) (effect_at old.files (number_of old desc) now asked).1 }
+    → Does (object_call_of old.files p fd now asked) answer old new
+calls_object old new p fd desc now asked answer found there lives is tables =
+    let c = object_call_of old.files p fd now asked in
     let f = old.files in
     let number = number_is old p fd desc found there in
-    let told = ap (λ (d : ℕ). (object_effect (content_of f d) (side_of f d) now call).0) number in
-    let left = ap (λ (d : ℕ). affected f d (object_effect (content_of f d) (side_of f d) now call)) number in
+    let told = ap (λ (d : ℕ). (object_effect (content_of f d) (side_of f d) now asked).0) number in
+    let left = ap (λ (d : ℕ). affected f d (object_effect (content_of f d) (side_of f d) now asked)) number in
     let P : Option Errno → Type 0 = λ r. MatchOption r (Succeeds c answer old new) (λ e. Refuses e answer old new) in
-    subst P (sym (refusals_are old p fd desc found there now call)) (does_by old new (number_of old desc) now call answer lives c told left _ is tables)
+    subst P (sym (refusals_are old p fd desc found there now asked)) (does_by old new (number_of old desc) now asked answer lives c told left _ is tables)

@@ -2,7 +2,6 @@
 use Rattle.std.proofs.Common.{◌≡◌, ◌∙◌, ◌==◌, ℕ, true, List, [], IsSome, None, Option, Some, false, ap, is_none, refl, subst, sym, unwrap_or}
 use Rattle.std.proofs.lemmas.Bool.{false≢true}
 use Rattle.ep_base.specs.declared.call.Call.{Call}
-use Rattle.ep_base.specs.declared.call.Call.TheVariants.{GetTime, Read, SetTime, Shutdown, Write}
 use Rattle.ep_base.specs.declared.errno.Errno.{Errno}
 use Rattle.ep_base.specs.declared.ids.DescId.{DescId}
 use Rattle.ep_base.specs.declared.ids.Fd.{Fd}
@@ -11,7 +10,7 @@ use Rattle.ep_law.proofs.EndLemmas.{set_object}
 use Rattle.ep_machine.specs.Bits.{nothing}
 use Rattle.ep_machine.specs.Effect.{Effect, attempt, first, unless}
 use Rattle.ep_machine.specs.Files.{Files, Place, object_at, object_number, object_of, place_of, side_of}
-use Rattle.ep_machine.specs.Objects.{Object, counter, instance, is_instance, object_effect, object_refusals, pair, pipe, plain, timer}
+use Rattle.ep_machine.specs.Objects.{Object, ObjectCall, instance, is_instance, object_call, object_effect, object_refusals, reads}
 use Rattle.ep_view.specs.AtRest.{kind_of}
 use Rattle.ep_machine.specs.Refusal.{call_refusals}
 use Rattle.ep_machine.specs.Step.{call_change}
@@ -19,80 +18,61 @@ use Rattle.ep_machine.specs.Tables.{affected}
 use Rattle.ep_view.proofs.FilesLemmas.{extends_with_object}
 use Rattle.ep_view.proofs.AtRestLemmas.{effect_kind, kind_at, kind_there}
 use Rattle.ep_calls.specs.Does.{DoesCall}
-use Rattle.ep_calls.specs.ObjectCall.{CallsObject, fd_of}
+use Rattle.ep_calls.specs.ObjectCall.{CallsObject}
 use Rattle.ep_calls.specs.Parts.{AreCoherent, Parts}
 use Rattle.ep_calls.specs.declared.outcome.Outcome.{Outcome}
 use Rattle.ep_calls.specs.Moves.{Goes}
 use Rattle.ep_calls.specs.Raising.{IsRaising, Raises, RaisesByCall}
 use Rattle.ep_calls.specs.Stands.{KeepsKinds}
 use Rattle.ep_calls.proofs.ObjectRaiseLemmas.{object_raises}
-use Rattle.ep_calls.proofs.FilesCallLemmas.{IsOnObject, object_called, object_keys, object_limits}
+use Rattle.ep_calls.proofs.FilesCallLemmas.{object_called, object_keys, object_limits, on_object_is}
 use Rattle.ep_view.proofs.KindLemmas.{instance_kind}
 use Rattle.ep_table.specs.Value.{Seen, Sound, content_of, effect_at, number_of, number_under, unwrapped}
 use Rattle.ep_calls.proofs.KeyLemmas.{under_key}
-
-pub on_object : (call : Call) (fd : Fd) → fd_of call ≡ Some fd → IsOnObject fd call
-on_object (Read f n) fd h = let e : f ≡ fd = ap (λ (o : Option Fd). unwrap_or o f) h in subst (λ (g : Fd). IsOnObject g (Read f n)) e (λ limits s caller p. (refl, refl))
-on_object (Write f bytes) fd h = let e : f ≡ fd = ap (λ (o : Option Fd). unwrap_or o f) h in subst (λ (g : Fd). IsOnObject g (Write f bytes)) e (λ limits s caller p. (refl, refl))
-on_object (Shutdown f) fd h = let e : f ≡ fd = ap (λ (o : Option Fd). unwrap_or o f) h in subst (λ (g : Fd). IsOnObject g (Shutdown f)) e (λ limits s caller p. (refl, refl))
-on_object (SetTime f absolute value interval) fd h = let e : f ≡ fd = ap (λ (o : Option Fd). unwrap_or o f) h in subst (λ (g : Fd). IsOnObject g (SetTime f absolute value interval)) e (λ limits s caller p. (refl, refl))
-on_object (GetTime f) fd h = let e : f ≡ fd = ap (λ (o : Option Fd). unwrap_or o f) h in subst (λ (g : Fd). IsOnObject g (GetTime f)) e (λ limits s caller p. (refl, refl))
-on_object call fd h = cc
-
-pub is_object_call : (call : Call) (fd : Fd) → fd_of call ≡ Some fd → IsSome (fd_of call)
-is_object_call call fd h = subst (λ (o : Option Fd). IsSome o) (sym h) refl
 
 some_not_none : {X : Type 0} (o : Option X) → IsSome o → is_none o ≡ false
 some_not_none None h = absurd (false≢true h)
 some_not_none (Some x) h = refl
 
-unless_kind : (refusal : Option Errno) (x : Object) (e : End) (now : ℕ) (call : Call) → kind_of (Some (unless refusal x (object_effect x e now call)).1) ≡ kind_of (Some x)
-unless_kind (Some error) x e now call = refl
-unless_kind None x e now call = effect_kind x e now call
+unless_kind : (refusal : Option Errno) (x : Object) (e : End) (now : ℕ) (asked : ObjectCall) → kind_of (Some (unless refusal x (object_effect x e now asked)).1) ≡ kind_of (Some x)
+unless_kind (Some error) x e now asked = refl
+unless_kind None x e now asked = effect_kind x e now asked
 
 -- a call on an object keeps the kind of what can be watched
-pub applied_kinds : (v : Seen) (key : DescId) (now : ℕ) (call : Call) → Sound v → IsSome (number_under v key) → KeepsKinds v.files (affected v.files (number_of v key) (effect_at v.files (number_of v key) now call))
-applied_kinds v key now call sound there =
+pub applied_kinds : (v : Seen) (key : DescId) (now : ℕ) (asked : ObjectCall) → Sound v → IsSome (number_under v key) → KeepsKinds v.files (affected v.files (number_of v key) (effect_at v.files (number_of v key) now asked))
+applied_kinds v key now asked sound there =
     let f = v.files in
     let d = number_of v key in
     let x = content_of f d in
     let u = under_key v.keys key there in
     let place : IsSome (place_of f d) = subst (λ (n : ℕ). IsSome (place_of f n)) (sym (ap (λ (o : Option ℕ). unwrap_or o 0) u.is)) (sound.place key u.number u.is) in
-    (extends_with_object f (object_number (place_of f d)) (effect_at f d now call).1
-    (λ shows. unless_kind (first (object_refusals x (side_of f d) now call)) x (side_of f d) now call ∙ (kind_there (object_of f d) ∙ kind_at f (place_of f d) (some_not_none (place_of f d) place)))).shows
+    (extends_with_object f (object_number (place_of f d)) (effect_at f d now asked).1
+    (λ shows. unless_kind (first (object_refusals x (side_of f d) now asked)) x (side_of f d) now asked ∙ (kind_there (object_of f d) ∙ kind_at f (place_of f d) (some_not_none (place_of f d) place)))).shows
 
 -- a call on an instance is refused
-refused_raises : (x : Object) (e : End) (now : ℕ) (call : Call) → is_instance x ≡ true → (attempt (object_refusals x e now call) x (object_effect x e now call)).2 ≡ nothing
-refused_raises plain e now call h = absurd (false≢true h)
-refused_raises (pipe p) e now call h = absurd (false≢true h)
-refused_raises (pair p) e now call h = absurd (false≢true h)
-refused_raises (counter c) e now call h = absurd (false≢true h)
-refused_raises (timer t) e now call h = absurd (false≢true h)
-refused_raises instance e now (Read fd n) h = refl
-refused_raises instance e now (Write fd bytes) h = refl
-refused_raises instance e now (Shutdown fd) h = refl
-refused_raises instance e now (SetTime fd absolute value interval) h = refl
-refused_raises instance e now (GetTime fd) h = refl
-refused_raises instance e now call h = refl
+refused_raises : (x : Object) (e : End) (now : ℕ) (asked : ObjectCall) → is_instance x ≡ true → (attempt (object_refusals x e now asked) x (object_effect x e now asked)).2 ≡ nothing
+refused_raises instance e now (reads n) h = refl
+refused_raises instance e now asked h = refl
+refused_raises x e now asked h = absurd (false≢true h)
 
 -- so it raises nothing at the object of what is an instance after it
-module _ (f : Files) (d now : ℕ) (call : Call) where
+module _ (f : Files) (d now : ℕ) (asked : ObjectCall) where
   abbrev x : Object
   x = content_of f d
 
   abbrev made : Effect Object
-  made = effect_at f d now call
+  made = effect_at f d now asked
 
   -- where that object is an instance
   abbrev RaisesNothing : Object → Type 0
   RaisesNothing y = is_instance y ≡ true → made.2 ≡ nothing
 
   old_raises : RaisesNothing x
-  old_raises = refused_raises x (side_of f d) now call
+  old_raises = refused_raises x (side_of f d) now asked
 
   new_raises : RaisesNothing made.1
   new_raises h =
-      let kind = unless_kind (first (object_refusals x (side_of f d) now call)) x (side_of f d) now call in
+      let kind = unless_kind (first (object_refusals x (side_of f d) now asked)) x (side_of f d) now asked in
       old_raises (instance_kind (Some x) ∙ (ap (λ (k : ℕ). k == 1) (sym kind) ∙ (sym (instance_kind (Some made.1)) ∙ h)))
 
   raises_at : (o : Option Place) → place_of f d ≡ o → RaisesNothing (unwrapped (object_at (affected f d made) o))
@@ -105,20 +85,20 @@ module _ (f : Files) (d now : ℕ) (call : Call) where
   instance_raises h = raises_at (place_of f d) refl h
 
 -- so the parts do what the machine does
-pub object_does : (p : Parts) (new : Seen) (pid : ℕ) (fd : Fd) (call : Call) (outcome : Outcome) → AreCoherent p → fd_of call ≡ Some fd → CallsObject pid fd p.clock call outcome.answer p.tables new
-    → RaisesByCall p.tables new pid fd.0 p.clock call outcome.raising → outcome.picked ≡ [] → IsRaising outcome.raising new
-    → (n caller : ℕ) → DoesCall n caller pid call outcome p (record p { tables = new })
-object_does p new pid fd call outcome h on calls raises picked is n caller =
+pub object_does : (p : Parts) (new : Seen) (pid : ℕ) (fd : Fd) (asked : ObjectCall) (outcome : Outcome) → AreCoherent p → CallsObject pid fd p.clock asked outcome.answer p.tables new
+    → RaisesByCall p.tables new pid fd.0 p.clock asked outcome.raising → outcome.picked ≡ [] → IsRaising outcome.raising new
+    → (n caller : ℕ) (call : Call) → object_call call ≡ Some (fd, asked) → DoesCall n caller pid call outcome p (record p { tables = new })
+object_does p new pid fd asked outcome h calls raises picked is n caller call on =
     let limits = p.tables.limits in
-    let here = on_object call fd on in
+    let here = on_object_is call fd asked on in
     record {
       moves = λ s at sound quiet legal stands.
           let P : List ℕ → Type 0 = λ ks. Goes (call_refusals limits s pid call) (call_change limits s caller pid call ks) s outcome.answer ks (record p { tables = new }) in
-          subst P (sym picked) (object_called p.tables new pid fd p.clock call outcome.answer calls p.graph limits p.interest s caller h.linked h.placed stands refl here);
+          subst P (sym picked) (object_called p.tables new pid fd p.clock asked outcome.answer calls call p.graph limits p.interest s caller h.linked h.placed stands refl here);
       raises = λ s at sound quiet legal stands.
           let P : List ℕ → Type 0 = λ ks. Raises (call_refusals limits s pid call) (call_change limits s caller pid call ks) outcome.raising new p.clock in
-          subst P (sym picked) (object_raises p.tables new pid fd p.clock call outcome.raising raises limits p.interest s caller stands here);
+          subst P (sym picked) (object_raises p.tables new pid fd p.clock asked call outcome.raising raises limits p.interest s caller stands here);
       raising = is;
-      limits = object_limits p.tables new pid fd p.clock call outcome.answer calls;
-      keys = object_keys p.tables new pid fd p.clock call outcome.answer calls;
+      limits = object_limits p.tables new pid fd p.clock asked outcome.answer calls;
+      keys = object_keys p.tables new pid fd p.clock asked outcome.answer calls;
     }

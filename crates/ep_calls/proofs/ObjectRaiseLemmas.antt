@@ -13,7 +13,7 @@ use Rattle.ep_base.specs.Limits.{Limits}
 use Rattle.ep_machine.specs.Bits.{at_end, nothing, when}
 use Rattle.ep_machine.specs.Effect.{Effect, first, unless}
 use Rattle.ep_machine.specs.Files.{Files, Place, named_by, names_nothing, object_number, object_under, place_of, side_of, side_under, under}
-use Rattle.ep_machine.specs.Objects.{Object, object_effect, object_refusals}
+use Rattle.ep_machine.specs.Objects.{Object, ObjectCall, object_effect, object_refusals}
 use Rattle.ep_machine.specs.Refusal.{call_refusals, on_object}
 use Rattle.ep_machine.specs.Spread.{raised_of}
 use Rattle.ep_machine.specs.State.{Change, State, Waiter}
@@ -43,7 +43,7 @@ nothing_bits : (k : ℕ) (o : Option Place) → object_bits k nothing o ≡ 0
 nothing_bits k None = refl
 nothing_bits k (Some q) = no_bits (q.object == k) q.side
 
-module _ (old : Seen) (desc : DescId) (now : ℕ) (call : Call) (raised : Raised) (raising : Raising) (is : raising ≡ AtObject desc raised) where
+module _ (old : Seen) (desc : DescId) (now : ℕ) (asked : ObjectCall) (raised : Raised) (raising : Raising) (is : raising ≡ AtObject desc raised) where
   abbrev d : ℕ
   d = number_of old desc
 
@@ -51,7 +51,7 @@ module _ (old : Seen) (desc : DescId) (now : ℕ) (call : Call) (raised : Raised
   content = content_of old.files d
 
   abbrev effect : Effect Object
-  effect = object_effect content (side_of old.files d) now call
+  effect = object_effect content (side_of old.files d) now asked
 
   -- the bits go by places, which such a call keeps
   bits_are : (new : Seen) → new.keys ≡ old.keys → new.files.descriptions ≡ old.files.descriptions → (t : ℕ) → raised_bits raising new now t ≡ object_bits (object_number (place_of old.files d)) raised (place_of old.files t)
@@ -74,32 +74,32 @@ module _ (old : Seen) (desc : DescId) (now : ℕ) (call : Call) (raised : Raised
   by_refusal new keys places (Some e) h = λ t.
       sym (bits_are new keys places t ∙ (ap (λ (r : Raised). object_bits (object_number (place_of old.files d)) r (place_of old.files t)) h ∙ nothing_bits (object_number (place_of old.files d)) (place_of old.files t)))
 
-  pub raises_object : (new : Seen) (p : ℕ) (fd : ℤ) → number_under old desc ≡ under old.files p fd → IsSome (number_under old desc) → new.keys ≡ old.keys → new.files.descriptions ≡ old.files.descriptions → raised ≡ (effect_at old.files d now call).2 → RaisesByCall old new p fd now call raising
+  pub raises_object : (new : Seen) (p : ℕ) (fd : ℤ) → number_under old desc ≡ under old.files p fd → IsSome (number_under old desc) → new.keys ≡ old.keys → new.files.descriptions ≡ old.files.descriptions → raised ≡ (effect_at old.files d now asked).2 → RaisesByCall old new p fd now asked raising
   raises_object new p fd found there keys places h =
       let number_is : named_by old.files p fd ≡ d = ap (λ (o : Option ℕ). unwrap_or o 0) (sym found) in
       let names_some : names_nothing old.files p fd ≡ false = ap is_none (sym found) ∙ named_some (number_under old desc) there in
-      let at : ℕ → Type 0 = λ n. MatchOption (first (object_refusals (content_of old.files n) (side_of old.files n) now call)) (AsRaised raising new now (affected_raises old.files n (object_effect (content_of old.files n) (side_of old.files n) now call))) (λ e. AsRaised raising new now []) in
-      let here : at (named_by old.files p fd) = subst at (sym number_is) (by_refusal new keys places (first (object_refusals content (side_of old.files d) now call)) h) in
-      let P : Option Errno → Type 0 = λ r. MatchOption r (AsRaised raising new now (affected_raises old.files (named_by old.files p fd) (object_effect_of old.files p fd now call))) (λ e. AsRaised raising new now []) in
-      subst P (sym (past_first (names_nothing old.files p fd) Ebadf (object_refusals (object_under old.files p fd) (side_under old.files p fd) now call) names_some)) here
+      let at : ℕ → Type 0 = λ n. MatchOption (first (object_refusals (content_of old.files n) (side_of old.files n) now asked)) (AsRaised raising new now (affected_raises old.files n (object_effect (content_of old.files n) (side_of old.files n) now asked))) (λ e. AsRaised raising new now []) in
+      let here : at (named_by old.files p fd) = subst at (sym number_is) (by_refusal new keys places (first (object_refusals content (side_of old.files d) now asked)) h) in
+      let P : Option Errno → Type 0 = λ r. MatchOption r (AsRaised raising new now (affected_raises old.files (named_by old.files p fd) (object_effect_of old.files p fd now asked))) (λ e. AsRaised raising new now []) in
+      subst P (sym (past_first (names_nothing old.files p fd) Ebadf (object_refusals (object_under old.files p fd) (side_under old.files p fd) now asked) names_some)) here
 
 -- for the machine
-abbrev Told : Seen → ℕ → ℕ → Fd → Call → Raising → ℕ → Files → Type 0
-Told new now p fd call raising at f =
-    MatchOption (first ((names_nothing f p fd.0, Ebadf) ∷ object_refusals (object_under f p fd.0) (side_under f p fd.0) at call))
-    (AsRaised raising new now (affected_raises f (named_by f p fd.0) (object_effect (object_under f p fd.0) (side_under f p fd.0) at call))) (λ e. AsRaised raising new now [])
+abbrev Told : Seen → ℕ → ℕ → Fd → ObjectCall → Raising → ℕ → Files → Type 0
+Told new now p fd asked raising at f =
+    MatchOption (first ((names_nothing f p fd.0, Ebadf) ∷ object_refusals (object_under f p fd.0) (side_under f p fd.0) at asked))
+    (AsRaised raising new now (affected_raises f (named_by f p fd.0) (object_effect (object_under f p fd.0) (side_under f p fd.0) at asked))) (λ e. AsRaised raising new now [])
 
-pub object_raises : (v new : Seen) (p : ℕ) (fd : Fd) (now : ℕ) (call : Call) (raising : Raising) → RaisesByCall v new p fd.0 now call raising
-    → {ws : List Waiter} (limits : Limits) (r : Registrations) (s : State) (caller : ℕ) → Stands v r ws now s → IsOnObject fd call → Raises (call_refusals limits s p call) (call_change limits s caller p call []) raising new now
-object_raises v new p fd now call raising h limits r s caller stands is =
+pub object_raises : (v new : Seen) (p : ℕ) (fd : Fd) (now : ℕ) (asked : ObjectCall) (call : Call) (raising : Raising) → RaisesByCall v new p fd.0 now asked raising
+    → {ws : List Waiter} (limits : Limits) (r : Registrations) (s : State) (caller : ℕ) → Stands v r ws now s → IsOnObject fd asked call → Raises (call_refusals limits s p call) (call_change limits s caller p call []) raising new now
+object_raises v new p fd now asked call raising h limits r s caller stands is =
     let both = is limits s caller p in
     let P : List (Bool × Errno) → Option Change → Type 0 = λ tests o. Raises tests o raising new now in
     subst (λ (tests : List (Bool × Errno)). P tests (call_change limits s caller p call [])) (sym both.0)
-    (subst (λ (o : Option Change). P (on_object s p fd.0 call) o) (sym both.1) (by_state (first (on_object s p fd.0 call)) moved)) where
-      moved : Told new now p fd call raising s.now s.files
-      moved = subst (λ (n : ℕ). Told new now p fd call raising n s.files) (sym stands.now) (subst (Told new now p fd call raising now) (sym stands.files) h)
+    (subst (λ (o : Option Change). P (on_object s p fd.0 asked) o) (sym both.1) (by_state (first (on_object s p fd.0 asked)) moved)) where
+      moved : Told new now p fd asked raising s.now s.files
+      moved = subst (λ (n : ℕ). Told new now p fd asked raising n s.files) (sym stands.now) (subst (Told new now p fd asked raising now) (sym stands.files) h)
 
-      by_state : (o : Option Errno) → MatchOption o (AsRaised raising new now (object_change s p fd.0 call).2) (λ e. AsRaised raising new now [])
-          → MatchOption o ((made : Change) → Some (object_change s p fd.0 call) ≡ Some made → AsRaisedIn made.1.files raising new now made.2) (λ e. AsRaised raising new now [])
-      by_state None h = λ made e d watched. ap (λ (c : Change). raised_of c.2 d) (sym (ap (λ (x : Option Change). unwrap_or x (object_change s p fd.0 call)) e)) ∙ h d
+      by_state : (o : Option Errno) → MatchOption o (AsRaised raising new now (object_change s p fd.0 asked).2) (λ e. AsRaised raising new now [])
+          → MatchOption o ((made : Change) → Some (object_change s p fd.0 asked) ≡ Some made → AsRaisedIn made.1.files raising new now made.2) (λ e. AsRaised raising new now [])
+      by_state None h = λ made e d watched. ap (λ (c : Change). raised_of c.2 d) (sym (ap (λ (x : Option Change). unwrap_or x (object_change s p fd.0 asked)) e)) ∙ h d
       by_state (Some e) h = h

@@ -1,17 +1,15 @@
 -- Which calls take no memory.
-use Rattle.std.proofs.Common.{ℕ}
+use Rattle.std.proofs.Common.{◌≡◌, Option, ℕ, subst}
 use Rattle.ep_base.specs.declared.call.Call.{Call}
-use Rattle.ep_base.specs.declared.call.Call.TheVariants.{EpollCtl, GetTime, Read, SetTime, Shutdown, Write}
+use Rattle.ep_base.specs.declared.call.Call.TheVariants.{EpollCtl, EpollWait}
+use Rattle.ep_base.specs.declared.ids.Fd.{Fd}
+use Rattle.ep_calls.specs.FileCall.{IsFileCall}
+use Rattle.ep_calls.specs.Spared.{AsksForNone, TakesNoMemory}
 use Rattle.ep_machine.specs.Files.{Files}
-use Rattle.ep_calls.specs.Spared.{Frees, TakesNoMemory}
-use Rattle.ep_calls.specs.TableCall.{IsTableCall}
+use Rattle.ep_machine.specs.Objects.{ObjectCall, object_call}
 
--- a call on the tables alone that takes none closes descriptors
-pub table_call_frees : (files : Files) (p : ℕ) (call : Call) → IsTableCall call → TakesNoMemory files p call → Frees call
-table_call_frees files p (EpollCtl epfd op fd mask tag) on h = absurd on
-table_call_frees files p (Read fd n) on h = absurd on
-table_call_frees files p (Write fd bytes) on h = absurd on
-table_call_frees files p (Shutdown fd) on h = absurd on
-table_call_frees files p (SetTime fd absolute value interval) on h = absurd on
-table_call_frees files p (GetTime fd) on h = absurd on
-table_call_frees files p call on h = h
+-- a call on files takes none as what it is taken apart into takes none
+pub takes_none : (files : Files) (p : ℕ) (call : Call) (on : Option (Fd × ObjectCall)) → IsFileCall call → object_call call ≡ on → TakesNoMemory files p call → AsksForNone files p call on
+takes_none files p (EpollCtl epfd op fd mask tag) on t is h = absurd t
+takes_none files p (EpollWait epfd most timeout) on t is h = absurd t
+takes_none files p call on t is h = subst (AsksForNone files p call) is h

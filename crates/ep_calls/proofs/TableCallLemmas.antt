@@ -1,19 +1,19 @@
 -- Calls on the tables alone, as the machine makes them whatever is registered.
-use Rattle.std.proofs.Common.{◌≡◌, ℕ, Bool, List, [], Option, Some, refl, subst, sym}
+use Rattle.std.proofs.Common.{◌≡◌, ℕ, Bool, List, [], Option, Some, ap, subst, sym}
 use Rattle.std.specs.List.{list_any}
 use Rattle.ep_base.specs.Limits.{Limits}
 use Rattle.ep_base.specs.declared.call.Call.{Call}
-use Rattle.ep_base.specs.declared.call.Call.TheVariants.{Close, Dup, Dup2, EpollCreate, EventFd, Exec, Exit, Fork, Pipe as PipeCall, Plain, SocketPair, TimerFd}
+use Rattle.ep_base.specs.declared.call.Call.TheVariants.{EpollCtl, EpollWait}
 use Rattle.ep_base.specs.declared.errno.Errno.{Errno}
-use Rattle.ep_machine.specs.Files.{Files, named_by}
+use Rattle.ep_machine.specs.Files.{Files}
 use Rattle.ep_machine.specs.FilesCalls.{files_call}
-use Rattle.ep_machine.specs.Refusal.{call_refusals}
+use Rattle.ep_base.specs.declared.ids.Fd.{Fd}
+use Rattle.ep_machine.specs.Objects.{ObjectCall}
+use Rattle.ep_machine.specs.Refusal.{call_refusals, refusals_on}
 use Rattle.ep_machine.specs.State.{Change, State}
-use Rattle.ep_machine.specs.Step.{call_change, files_change}
+use Rattle.ep_machine.specs.Step.{call_change, change_on, files_change}
 use Rattle.ep_machine.specs.Waits.{has_parked}
 use Rattle.ep_park.specs.Waiters.{is_of}
-use Rattle.ep_view.proofs.AtRestLemmas.{extends_self}
-use Rattle.ep_view.proofs.FilesLemmas.{Extends, extends_dup2, extends_one, extends_two, same_tables}
 use Rattle.ep_calls.specs.Does.{DoesCall}
 use Rattle.ep_calls.specs.Moves.{Goes}
 use Rattle.ep_calls.specs.Parts.{AreCoherent, Parts}
@@ -34,35 +34,9 @@ IsMade limits s caller p call =
     (call_refusals limits s p call ≡ c.refusals) × (call_change limits s caller p call [] ≡ Some (files_change s c))
 
 is_made : (limits : Limits) (s : State) (caller p : ℕ) (call : Call) → IsTableCall call → IsMade limits s caller p call
-is_made limits s caller p (PipeCall cloexec) h = (refl, refl)
-is_made limits s caller p (SocketPair cloexec) h = (refl, refl)
-is_made limits s caller p (EventFd init semaphore cloexec) h = (refl, refl)
-is_made limits s caller p (TimerFd clock cloexec) h = (refl, refl)
-is_made limits s caller p (Plain cloexec) h = (refl, refl)
-is_made limits s caller p (EpollCreate cloexec) h = (refl, refl)
-is_made limits s caller p (Dup fd) h = (refl, refl)
-is_made limits s caller p (Dup2 fd to) h = (refl, refl)
-is_made limits s caller p (Close fd) h = (refl, refl)
-is_made limits s caller p Fork h = (refl, refl)
-is_made limits s caller p Exec h = (refl, refl)
-is_made limits s caller p Exit h = (refl, refl)
-is_made limits s caller p call h = absurd h
-
--- what is there stays as it was
-pub extends_call : (limits : Limits) (f : Files) (p : ℕ) (busy : Bool) (call : Call) → Extends f (files_call limits f p busy call).after
-extends_call limits f p busy (PipeCall cloexec) = extends_two f p _ cloexec
-extends_call limits f p busy (SocketPair cloexec) = extends_two f p _ cloexec
-extends_call limits f p busy (EventFd init semaphore cloexec) = extends_one f p _ cloexec
-extends_call limits f p busy (TimerFd clock cloexec) = extends_one f p _ cloexec
-extends_call limits f p busy (Plain cloexec) = extends_one f p _ cloexec
-extends_call limits f p busy (EpollCreate cloexec) = extends_one f p _ cloexec
-extends_call limits f p busy (Dup fd) = same_tables f _
-extends_call limits f p busy (Dup2 fd to) = extends_dup2 f p fd.0 to.0 (named_by f p fd.0)
-extends_call limits f p busy (Close fd) = same_tables f _
-extends_call limits f p busy Fork = same_tables f _
-extends_call limits f p busy Exec = same_tables f _
-extends_call limits f p busy Exit = same_tables f _
-extends_call limits f p busy call = extends_self f
+is_made limits s caller p (EpollCtl epfd op fd mask tag) h = absurd h
+is_made limits s caller p (EpollWait epfd most timeout) h = absurd h
+is_made limits s caller p call h = (ap (refusals_on limits s p call) h, ap (λ (on : Option (Fd × ObjectCall)). Some (change_on limits s p call on)) h)
 
 -- so the parts do what the machine does
 pub table_does : (p : Parts) (new : Seen) (pid : ℕ) (call : Call) (outcome : Outcome) → AreCoherent p → IsTableCall call → Does (called p.tables p.parked pid call) outcome.answer p.tables new → outcome.picked ≡ [] → outcome.raising ≡ Nowhere

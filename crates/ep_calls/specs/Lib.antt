@@ -21,6 +21,7 @@ pub mod Climb
 pub mod Ends
 pub mod Causes
 pub mod TableCall
+pub mod FileCall
 pub mod Ids
 pub mod Arrivals
 pub mod Driver

@@ -1,13 +1,11 @@
 -- What a call on an object answers, and the room for a copy of it.
-use Rattle.std.specs.Prelude.{None, Option, Some, length, ℕ, ℤ, ◌∷◌}
+use Rattle.std.specs.Prelude.{length, ℕ, ℤ, ◌∷◌}
 use Rattle.ep_base.specs.declared.ids.Fd.{Fd}
 use Rattle.std.specs.declared.alloc.Global.{Global}
 use Rattle.smallvec.specs.SmallVec.{HasRoomFor}
 use Rattle.smallvec.specs.declared.SmallVec.{SmallVec}
 use Rattle.ep_base.specs.declared.answer.Answer.{Answer}
 use Rattle.ep_base.specs.declared.answer.Answer.TheVariants.{Bytes, Done, Num, Refused, Time}
-use Rattle.ep_base.specs.declared.call.Call.{Call}
-use Rattle.ep_base.specs.declared.call.Call.TheVariants.{GetTime, Read, SetTime, Shutdown, Write}
 use Rattle.ep_machine.specs.Effect.{Effect}
 use Rattle.ep_base.specs.declared.ids.DescId.{DescId}
 use Rattle.ep_machine.specs.Files.{Files, named_by, names_nothing, object_under, side_of, side_under}
@@ -15,35 +13,26 @@ use Rattle.ep_machine.specs.FilesCalls.{FilesCall}
 use Rattle.ep_object.specs.Memory.{object_waiting}
 use Rattle.ep_table.specs.Value.{Does, Seen, content_of, number_of}
 use Rattle.ep_base.specs.declared.errno.Errno.TheVariants.{Ebadf}
-use Rattle.ep_machine.specs.Objects.{Object, object_effect, object_refusals}
+use Rattle.ep_machine.specs.Objects.{Object, ObjectCall, object_effect, object_refusals}
 use Rattle.ep_machine.specs.Tables.{affected}
 
--- the descriptor whose object such a call is on
-abbrev pub fd_of : Call → Option Fd
-fd_of (Read fd n) = Some fd
-fd_of (Write fd bytes) = Some fd
-fd_of (Shutdown fd) = Some fd
-fd_of (SetTime fd absolute value interval) = Some fd
-fd_of (GetTime fd) = Some fd
-fd_of call = None
-
 -- what it gives where it isn't refused
-abbrev pub object_effect_of : Files → ℕ → ℤ → ℕ → Call → Effect Object
-object_effect_of files p fd now call = object_effect (object_under files p fd) (side_under files p fd) now call
+abbrev pub object_effect_of : Files → ℕ → ℤ → ℕ → ObjectCall → Effect Object
+object_effect_of files p fd now asked = object_effect (object_under files p fd) (side_under files p fd) now asked
 
 -- what the machine has of such a call
-abbrev pub object_call_of : Files → ℕ → ℤ → ℕ → Call → FilesCall
-object_call_of files p fd now call =
-    let effect = object_effect_of files p fd now call in record {
+abbrev pub object_call_of : Files → ℕ → ℤ → ℕ → ObjectCall → FilesCall
+object_call_of files p fd now asked =
+    let effect = object_effect_of files p fd now asked in record {
       refusals = (names_nothing files p fd, Ebadf)
-          ∷ object_refusals (object_under files p fd) (side_under files p fd) now call;
+          ∷ object_refusals (object_under files p fd) (side_under files p fd) now asked;
       answer = effect.0;
       after = affected files (named_by files p fd) effect;
     }
 
 -- it is made at this moment, with this answer
-abbrev pub CallsObject : ℕ → Fd → ℕ → Call → Answer → Seen → Seen → Type 0
-CallsObject p fd now call answer old new = Does (object_call_of old.files p fd.0 now call) answer old new
+abbrev pub CallsObject : ℕ → Fd → ℕ → ObjectCall → Answer → Seen → Seen → Type 0
+CallsObject p fd now asked answer old new = Does (object_call_of old.files p fd.0 now asked) answer old new
 
 -- an answer of such a call, with room for its bytes
 abbrev pub FitsRoom : Answer → SmallVec ℕ 16 Global → Type 0

@@ -1,7 +1,6 @@
 -- What an event raises before any description dies, and what that does to registrations.
 use Rattle.std.specs.Prelude.{◌≡◌, ◌≤◌, Bool, IsSome, List, MatchOption, None, Option, Some, [], map}
 use Rattle.std.specs.Prelude.{unwrap_or, true, ℕ, ℤ, ◌==◌, ◌∷◌}
-use Rattle.ep_base.specs.declared.call.Call.{Call}
 use Rattle.ep_base.specs.declared.errno.Errno.{Errno}
 use Rattle.ep_base.specs.declared.errno.Errno.TheVariants.{Ebadf}
 use Rattle.ep_base.specs.declared.ids.DescId.{DescId}
@@ -12,7 +11,7 @@ use Rattle.ep_interest.specs.declared.entry.Entry.{Entry}
 use Rattle.ep_machine.specs.Bits.{IN, at_end, nothing, when}
 use Rattle.ep_machine.specs.Effect.{first}
 use Rattle.ep_machine.specs.Files.{Files, Place, named_by, names_nothing, object_at, object_number, object_of, object_under, place_of, side_of, side_under}
-use Rattle.ep_machine.specs.Objects.{advance, is_instance, object_refusals, plain}
+use Rattle.ep_machine.specs.Objects.{ObjectCall, advance, is_instance, object_refusals, plain}
 use Rattle.ep_view.specs.AtRest.{can_be_watched}
 use Rattle.ep_machine.specs.Spread.{raised_of}
 use Rattle.ep_machine.specs.State.{Change}
@@ -99,10 +98,10 @@ abbrev pub AsRaisedIn : Files → Raising → Seen → ℕ → List (ℕ × ℕ)
 AsRaisedIn files raising v now raised = (d : ℕ) → can_be_watched (object_of files d) ≡ true → raised_of raised d ≡ raised_bits raising v now d
 
 -- of a call on the object that a descriptor names: nothing where it is refused
-abbrev pub RaisesByCall : Seen → Seen → ℕ → ℤ → ℕ → Call → Raising → Type 0
-RaisesByCall old new p fd now call raising =
-    MatchOption (first ((names_nothing old.files p fd, Ebadf) ∷ object_refusals (object_under old.files p fd) (side_under old.files p fd) now call))
-    (AsRaised raising new now (affected_raises old.files (named_by old.files p fd) (object_effect_of old.files p fd now call)))
+abbrev pub RaisesByCall : Seen → Seen → ℕ → ℤ → ℕ → ObjectCall → Raising → Type 0
+RaisesByCall old new p fd now asked raising =
+    MatchOption (first ((names_nothing old.files p fd, Ebadf) ∷ object_refusals (object_under old.files p fd) (side_under old.files p fd) now asked))
+    (AsRaised raising new now (affected_raises old.files (named_by old.files p fd) (object_effect_of old.files p fd now asked)))
     (λ e. AsRaised raising new now [])
 
 -- where a call has these refusals, and the machine this change

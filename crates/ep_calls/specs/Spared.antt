@@ -1,12 +1,14 @@
 -- Which events are not answered ENOMEM while there is room for their record.
-use Rattle.std.specs.Prelude.{◌≡◌, ◌≤◌, false, min, ℕ, ℤ}
+use Rattle.std.specs.Prelude.{◌≡◌, ◌≤◌, None, Option, Some, false, min, ℕ, ℤ}
 use Rattle.ep_base.specs.declared.call.Call.{Call}
-use Rattle.ep_base.specs.declared.call.Call.TheVariants.{Close, EpollCtl, Exec, Exit, GetTime, Read, SetTime, Shutdown, Write}
+use Rattle.ep_base.specs.declared.call.Call.TheVariants.{Close, EpollCtl, Exec, Exit}
 use Rattle.ep_base.specs.declared.call.Event.{Event}
 use Rattle.ep_base.specs.declared.call.Event.TheVariants.{Call as CallOf, Resume, Tick}
+use Rattle.ep_base.specs.declared.ids.Fd.{Fd}
 use Rattle.ep_machine.specs.Files.{Files, object_under, side_under}
+use Rattle.ep_machine.specs.Objects.{ObjectCall, object_call}
 use Rattle.ep_machine.specs.Watches.{is_add}
-use Rattle.ep_object.specs.Memory.{object_waiting}
+use Rattle.ep_object.specs.Memory.{asked_of, object_waiting}
 
 -- how many bytes wait to be read at what a descriptor number names; 0 where it names nothing
 abbrev pub waiting_under : Files → ℕ → ℤ → ℕ
@@ -21,14 +23,13 @@ Frees call = ⊥
 
 -- a call of a process that needs no memory but for its record: what was made, added or parked took the room for its
 -- end, and 16 bytes that are read stand in the answer itself
+abbrev pub AsksForNone : Files → ℕ → Call → Option (Fd × ObjectCall) → Type 0
+AsksForNone files p call None = Frees call
+AsksForNone files p call (Some on) = min (asked_of on.1) (waiting_under files p on.0.0) ≤ 16
+
 abbrev pub TakesNoMemory : Files → ℕ → Call → Type 0
 TakesNoMemory files p (EpollCtl epfd op fd mask tag) = is_add op ≡ false
-TakesNoMemory files p (Read fd n) = min n (waiting_under files p fd.0) ≤ 16
-TakesNoMemory files p (Write fd bytes) = Unit {0}
-TakesNoMemory files p (Shutdown fd) = Unit {0}
-TakesNoMemory files p (SetTime fd absolute value interval) = Unit {0}
-TakesNoMemory files p (GetTime fd) = Unit {0}
-TakesNoMemory files p call = Frees call
+TakesNoMemory files p call = AsksForNone files p call (object_call call)
 
 -- an event that is spared ENOMEM, with these files before it: it needs no memory but for its record
 abbrev pub IsSpared : Files → Event → Type 0

@@ -5,6 +5,7 @@ mod bury;
 mod clock;
 mod control;
 mod driver;
+mod file_call;
 mod forget;
 mod kernel;
 mod object_call;

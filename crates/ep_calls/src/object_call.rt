@@ -1,11 +1,13 @@
-//! Calls on the object that a descriptor names: read, write, shutdown, settime and gettime.
+//! Calls on the object that a descriptor names.
 ghost use Rattle.std.specs.Prelude.{ℕ, Some, ◌≡◌, ◌≤◌, [], IfOk, IsOk, IsSome, MatchOption, OnErr, false, min, true};
+ghost use Rattle.ep_base.specs.declared.call.Call.{Call};
+ghost use Rattle.ep_machine.specs.Objects.{object_call};
 ghost use Rattle.ep_object.specs.Memory.{asked_of};
 ghost use Rattle.ep_calls.specs.Clock.{ClockStays};
 ghost use Rattle.ep_calls.specs.Does.{DoesCall};
 ghost use Rattle.ep_calls.specs.Kept.{IsKept};
 ghost use Rattle.ep_calls.specs.Last.{NothingRefusesCall};
-ghost use Rattle.ep_calls.specs.ObjectCall.{CallsObject, FitsRoom, fd_of, waiting_at};
+ghost use Rattle.ep_calls.specs.ObjectCall.{CallsObject, FitsRoom, waiting_at};
 ghost use Rattle.ep_calls.specs.Acts.{is_no_memory};
 ghost use Rattle.ep_calls.specs.Spared.{waiting_under};
 ghost use Rattle.ep_table.specs.Value.{number_under};
@@ -13,7 +15,8 @@ ghost use Rattle.smallvec.specs.SmallVec.{HasRoomFor};
 
 use crate::raising::Raising;
 use crate::{Outcome, Parts, Spare};
-use ep_base::{Answer, Bytes, Call, DescId, Errno, Fd, Picked, Pid};
+use ep_base::{Answer, Bytes, DescId, Errno, Fd, Picked, Pid};
+use ep_object::ObjectCall;
 use ep_table::Tables;
 use smallvec::SmallVec;
 use std::alloc::{AllocError, Global};
@@ -25,7 +28,7 @@ fn room_for_copy(
     alloc: Global,
     tables: &Tables,
     desc: DescId,
-    call: &Call,
+    asked: &ObjectCall<'_>,
     wanted: bool,
 ) -> Result<SmallVec<u8, 16>, AllocError>
     requires { IsSome (number_under tables.now desc) }
@@ -33,16 +36,17 @@ fn room_for_copy(
     ensures inline { IfOk result (λ room. HasRoomFor room 16) }
     ensures room { IfOk result
         (λ room. wanted ≡ true
-        → HasRoomFor room (min (asked_of call.now) (waiting_at tables.now desc))) }
-    ensures short { min (asked_of call.now) (waiting_at tables.now desc) ≤ 16 → IsOk result }
+        → HasRoomFor room (min (asked_of asked.now) (waiting_at tables.now desc))) }
+    ensures short { min (asked_of asked.now) (waiting_at tables.now desc) ≤ 16 → IsOk result }
 {
     let mut room = SmallVec::new(alloc);
     if !wanted {
         return Ok(room);
     }
-    if let Call::Read { n, .. } = call {
+    let most = asked.most();
+    if most > 0 {
         let waiting = tables.object(desc).waiting(tables.end(desc));
-        room.reserve((*n as usize).min(waiting))?;
+        room.reserve((most as usize).min(waiting))?;
     }
     Ok(room)
 }
@@ -110,42 +114,41 @@ fn outcome_of(
 }
 
 impl Parts {
-    /// read(2), write(2), shutdown(2), timerfd_settime(2) or timerfd_gettime(2) of what a descriptor names, at the end
-    /// that it names: EBADF if it names nothing, else what the object answers. `kept`: a second record of it is
-    /// asked for.
+    /// What a call asks of the object that its descriptor names, at the end that it names: EBADF if it names nothing,
+    /// else what the object answers. `kept`: a second record of it is asked for.
     /// An `Err` is want of memory and leaves the parts. It comes only of a read of more than 16 bytes if more wait,
     /// which nothing refuses.
-    pub fn object_call(
+    pub(crate) fn object_call(
         &mut self,
         pid: Pid,
         fd: Fd,
-        call: &Call,
+        asked: &ObjectCall<'_>,
         kept: bool,
     ) -> Result<Outcome, AllocError>
-        requires { fd_of call.now ≡ Some fd }
         ensures interest { self.new.interest ≡ self.old.interest }
         ensures tables { IfOk result
-            (λ outcome. CallsObject pid.0 fd self.old.clock call.now outcome.answer self.old.tables
+            (λ outcome. CallsObject pid.0 fd self.old.clock asked.now outcome.answer self.old.tables
             self.new.tables) }
         ensures clock { IfOk result
             (λ outcome. ClockStays outcome.raising self.old.clock self.new.clock) }
         ensures picked { IfOk result (λ outcome. outcome.picked ≡ []) }
         ensures ok { IfOk result
-            (λ outcome. (n caller : ℕ)
-            → DoesCall n caller pid.0 call.now outcome self.old self.new) }
+            (λ outcome. (n caller : ℕ) (call : Call) → object_call call ≡ Some (fd, asked.now)
+            → DoesCall n caller pid.0 call outcome self.old self.new) }
         ensures kept { IfOk result (λ outcome. IsKept kept outcome) }
-        ensures short { min (asked_of call.now) (waiting_under self.old.tables.files pid.0 fd.0)
+        ensures short { min (asked_of asked.now) (waiting_under self.old.tables.files pid.0 fd.0)
             ≤ 16 → IsOk result }
-        ensures last { OnErr result (NothingRefusesCall self.old pid.0 call.now) }
+        ensures last { OnErr result ((call : Call) → object_call call ≡ Some (fd, asked.now)
+            → NothingRefusesCall self.old pid.0 call) }
         ensures err { OnErr result (self.new ≡ self.old) }
     {
         let Some(desc) = self.tables.lookup(pid, fd) else {
             return Ok(Outcome::refused(self.alloc, Errno::Ebadf));
         };
         self.tables.known();
-        let room = room_for_copy(self.alloc, &self.tables, desc, call, true)?;
-        let more = room_for_copy(self.alloc, &self.tables, desc, call, kept)?;
-        let (answer, raised) = self.tables.apply(desc, self.clock, call)?;
+        let room = room_for_copy(self.alloc, &self.tables, desc, asked, true)?;
+        let more = room_for_copy(self.alloc, &self.tables, desc, asked, kept)?;
+        let (answer, raised) = self.tables.apply(desc, self.clock, asked)?;
         let raising = Raising::Object { desc, raised };
         Ok(outcome_of(self.alloc, answer, room, more, kept, raising))
     }

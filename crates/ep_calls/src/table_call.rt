@@ -131,7 +131,7 @@ impl Parts {
     /// room for what it keeps of a timer, without which none is made. An `Err`, which comes for want of that room, of
     /// memory or of a number for what is made, leaves the parts. It comes of no close, exec or exit, and only if
     /// nothing refuses the call.
-    pub fn table_call(
+    pub(crate) fn table_call(
         &mut self,
         pid: Pid,
         call: &Call,

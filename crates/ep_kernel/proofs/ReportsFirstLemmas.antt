@@ -14,10 +14,9 @@ use Rattle.ep_base.specs.declared.ids.Pid.{Pid}
 use Rattle.ep_calls.proofs.KeyLemmas.{under_key}
 use Rattle.ep_calls.proofs.ResumeLemmas.{there}
 use Rattle.ep_calls.specs.Moves.{StandFor}
-use Rattle.ep_calls.specs.ObjectCall.{fd_of}
+use Rattle.ep_calls.specs.FileCall.{IsFileCall}
 use Rattle.ep_calls.specs.Parts.{AreCoherent, Parts}
 use Rattle.ep_calls.specs.Stands.{number_at}
-use Rattle.ep_calls.specs.TableCall.{IsTableCall}
 use Rattle.ep_calls.specs.Wait.{Waits, numbers_of, wait_call}
 use Rattle.ep_calls.specs.declared.outcome.Outcome.{Outcome}
 use Rattle.ep_calls.specs.declared.wait.Reportable.{Reportable}
@@ -54,13 +53,9 @@ other_reports l n caller (CallOf pid (EpollWait epfd max timeout)) outcome p q m
 other_reports l n caller Resume outcome p q m h = absurd (false≢true (sym h))
 other_reports l n caller event outcome p q m h = λ s at sound quiet legal stands. (λ e most reports is waits. absurd waits, λ e most reports is waits. absurd waits)
 
-pub table_waits : (pid : Pid) (call : Call) → IsTableCall call → is_wait (CallOf pid call) ≡ false
-table_waits pid (EpollWait epfd max timeout) h = absurd h
-table_waits pid call h = refl
-
-pub object_waits : (pid : Pid) (call : Call) → IsSome (fd_of call) → is_wait (CallOf pid call) ≡ false
-object_waits pid (EpollWait epfd max timeout) h = absurd (false≢true h)
-object_waits pid call h = refl
+pub files_wait : (pid : Pid) (call : Call) → IsFileCall call → is_wait (CallOf pid call) ≡ false
+files_wait pid (EpollWait epfd max timeout) h = absurd h
+files_wait pid call h = refl
 
 -- Answers that are no reports.
 

@@ -1,5 +1,5 @@
 -- What a wait, or an event that is no wait and no epoll_ctl, does to the ready lists.
-use Rattle.std.proofs.Common.{◌≡◌, ◌++◌, ◌∙◌, ◌==◌, ◌&&◌, ◌||◌, ℕ, zero, suc, Bool, true, false, IsSome, List, [], ◌∷◌, None, Option, Some, ap, append-nil, cond, drop, filter, inl, inr, map, nat_lt, not, refl, slice_index_or, subst, sym, take}
+use Rattle.std.proofs.Common.{◌≡◌, ◌++◌, ◌∙◌, ◌==◌, ◌&&◌, ◌||◌, ℕ, zero, suc, Bool, true, false, List, [], ◌∷◌, None, Option, Some, ap, append-nil, cond, drop, filter, inl, inr, map, nat_lt, not, refl, slice_index_or, subst, sym, take}
 use Rattle.std.specs.Option.{option_map}
 use Rattle.std.proofs.lemmas.Bool.{cases_Bool, false≢true}
 use Rattle.std.proofs.lemmas.List.Elements.{All-head, All-tail}
@@ -10,9 +10,8 @@ use Rattle.ep_base.specs.declared.call.Event.TheVariants.{Call as CallOf}
 use Rattle.ep_base.specs.declared.ids.EntryId.{EntryId}
 use Rattle.ep_base.specs.declared.ids.Pid.{Pid}
 use Rattle.ep_calls.proofs.MappedLemmas.{numbered_mapped}
-use Rattle.ep_calls.specs.ObjectCall.{fd_of}
+use Rattle.ep_calls.specs.FileCall.{IsFileCall}
 use Rattle.ep_calls.specs.Parts.{Parts}
-use Rattle.ep_calls.specs.TableCall.{IsTableCall}
 use Rattle.ep_calls.specs.Readiness.{entry_shows, readiness}
 use Rattle.ep_calls.specs.Wait.{AreKeyed, IsKeyed, numbers_of, with_report}
 use Rattle.ep_calls.specs.declared.wait.Reportable.{Reportable}
@@ -333,13 +332,9 @@ refused_altered event p l listed = tt
 pub refused_turns : (event : Event) (picked : List ℕ) (p : Parts) (l : Lists) → IsListed p l → picked ≡ [] → Turns event picked p l p l
 refused_turns event picked p l listed none = same_turns event picked p p l listed refl none (refused_altered event p l listed)
 
-pub table_altered : (pid : Pid) (call : Call) (p q : Parts) (l : Lists) → IsTableCall call → AlteredStand (CallOf pid call) p q l
-table_altered pid (EpollCtl epfd op fd mask tag) p q l h = absurd h
-table_altered pid call p q l h = tt
-
-pub object_altered : (pid : Pid) (call : Call) (p q : Parts) (l : Lists) → IsSome (fd_of call) → AlteredStand (CallOf pid call) p q l
-object_altered pid (EpollCtl epfd op fd mask tag) p q l h = absurd (false≢true h)
-object_altered pid call p q l h = tt
+pub files_altered : (pid : Pid) (call : Call) (p q : Parts) (l : Lists) → IsFileCall call → AlteredStand (CallOf pid call) p q l
+files_altered pid (EpollCtl epfd op fd mask tag) p q l h = absurd h
+files_altered pid call p q l h = tt
 
 pub same_lists : (l : Lists) → Same l l
 same_lists l = record { places = λ id. refl; lists = λ i. refl }

@@ -89,12 +89,7 @@ fn make_call(
             };
             epoll_wait(parts, beside, request.step, request.caller, args)
         }
-        Call::Read { fd, .. }
-        | Call::Write { fd, .. }
-        | Call::Shutdown { fd }
-        | Call::SetTime { fd, .. }
-        | Call::GetTime { fd } => parts.object_call(pid, fd, call, request.kept),
-        _ => parts.table_call(pid, call, request.has_room),
+        _ => parts.file_call(pid, call, request.kept, request.has_room),
     }
 }
 

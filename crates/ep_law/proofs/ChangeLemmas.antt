@@ -19,7 +19,7 @@ use Rattle.ep_machine.specs.Effect.{Effect, first, unless}
 use Rattle.ep_machine.specs.Files.{Files, Place, live, named_by, names_nothing, object_at, object_number, object_under, place_of, raised_at, side_under, table_of}
 use Rattle.ep_law.specs.Laws.{Kept, Member}
 use Rattle.ep_machine.specs.Lists.{is_among}
-use Rattle.ep_machine.specs.Objects.{Object, advance, is_instance, is_plain, object_effect, object_present, object_refusals, plain}
+use Rattle.ep_machine.specs.Objects.{Object, ObjectCall, advance, is_instance, is_plain, object_effect, object_present, object_refusals, plain}
 use Rattle.ep_law.proofs.Present.{present_at}
 use Rattle.ep_machine.specs.Readiness.{is_ready, is_reportable}
 use Rattle.ep_machine.specs.Refusal.{call_refusals, on_object, refusals}
@@ -38,7 +38,8 @@ use Rattle.ep_law.proofs.DeathLemmas.{get_other, same_or_not}
 use Rattle.ep_law.proofs.TestLemmas.{from_test}
 use Rattle.ep_object.specs.Law.{AdvanceLaw, ApplyLaw, object_has}
 use Rattle.ep_law.proofs.BitLemmas.{Covers, to_bits}
-use Rattle.ep_law.proofs.EndLemmas.{Own, effect_has, object_there, own_one, own_two, own_with_object, plain_is, plain_stays}
+use Rattle.ep_object.proofs.KindLemmas.{effect_has}
+use Rattle.ep_law.proofs.EndLemmas.{Own, object_there, own_one, own_two, own_with_object, plain_is, plain_stays}
 use Rattle.ep_law.proofs.RaiseLemmas.{covers_more, covers_self, live_member, no_bit, present_place, raised_member, raised_there}
 
 -- one that was looked at, as it was made or changed
@@ -195,7 +196,7 @@ under_is : (f : Files) → Own f → (o : Option Place) → unwrap_or (object_at
 under_is f own None = sym (plain_is (object_there f 0) own.first)
 under_is f own (Some p) = refl
 
-module _ (apply : ApplyLaw) (b : State) (p : ℕ) (fd : ℤ) (call : Call) (own : Own b.files) (allowed : first (object_refusals (object_under b.files p fd) (side_under b.files p fd) b.now call) ≡ None) where
+module _ (apply : ApplyLaw) (b : State) (p : ℕ) (fd : ℤ) (asked : ObjectCall) (own : Own b.files) (allowed : first (object_refusals (object_under b.files p fd) (side_under b.files p fd) b.now asked) ≡ None) where
   abbrev x : Object
   x = object_under b.files p fd
 
@@ -209,7 +210,7 @@ module _ (apply : ApplyLaw) (b : State) (p : ℕ) (fd : ℤ) (call : Call) (own 
   k = object_number o
 
   abbrev made : Effect Object
-  made = object_effect x e b.now call
+  made = object_effect x e b.now asked
 
   abbrev g : Files
   g = affected b.files (named_by b.files p fd) made
@@ -221,8 +222,8 @@ module _ (apply : ApplyLaw) (b : State) (p : ℕ) (fd : ℤ) (call : Call) (own 
   at_object d q here at =
       let has : object_has x q.side ≡ true = ap (λ (y : Object). object_has y q.side) (sym is_x) ∙ subst (λ (j : ℕ). object_has (object_there b.files j) q.side ≡ true) at (own.ends d q here) in
       let law = subst (λ (r : Option Errno). (s : End) → object_has x s ≡ true → object_has (unless r x made).1 s ≡ true → Covers (object_present x s b.now) (object_present (unless r x made).1 s b.now) (at_end (unless r x made).2 s)) allowed
-      (λ s was is. to_bits _ _ _ (apply x e b.now call s was is)) in
-      covers_more _ _ (at_end made.2 q.side) _ (λ i. raised_there b.files k made.2 d q i here at) (law q.side has (effect_has x e b.now call q.side ∙ has))
+      (λ s was is. to_bits _ _ _ (apply x e b.now asked s was is)) in
+      covers_more _ _ (at_end made.2 q.side) _ (λ i. raised_there b.files k made.2 d q i here at) (law q.side has (effect_has x e b.now asked q.side ∙ has))
 
   shows_affected : (d : ℕ) (q : Place) → place_of b.files d ≡ Some q → Covers (present_at b.files b.now d) (present_at g b.now d) (raised_of (raised_at b.files k made.2) d)
   shows_affected d q here = elim (same_or_not q.object k) [
@@ -238,11 +239,11 @@ module _ (apply : ApplyLaw) (b : State) (p : ℕ) (fd : ℤ) (call : Call) (own 
         same_shows b.files g b.now d q (raised_at b.files k made.2) here here (ap (λ (y : Option Object). unwrap_or y plain) (get_other b.files.objects k q.object (Some made.1) (λ i. other (sym i))))
   ]
 
-  moves_object : Moves b (object_change b p fd call).1 (object_change b p fd call).2
+  moves_object : Moves b (object_change b p fd asked).1 (object_change b p fd asked).2
   moves_object = record {
     arrivals = refl;
-    own = own_with_object b.files k made.1 own (λ s h. effect_has x e b.now call s ∙ (ap (λ (y : Object). object_has y s) (sym is_x) ∙ h)) (λ h. plain_stays x e b.now call (ap is_plain (sym is_x) ∙ h));
-    narrows = narrows_affected b.files p fd b.now call own.made (first_is_none b.files own);
+    own = own_with_object b.files k made.1 own (λ s h. effect_has x e b.now asked s ∙ (ap (λ (y : Object). object_has y s) (sym is_x) ∙ h)) (λ h. plain_stays x e b.now asked (ap is_plain (sym is_x) ∙ h));
+    narrows = narrows_affected b.files p fd b.now asked own.made (first_is_none b.files own);
     shows = shows_affected;
     comes = λ y m. inl (kept_same b y m);
   }
@@ -335,8 +336,8 @@ first_rest true e rows h = cc
 first_rest false e rows h = h
 
 module _ (apply : ApplyLaw) (clock : AdvanceLaw) (limits : Limits) (b : State) (caller : ℕ) (ks : List ℕ) (own : Own b.files) where
-  on : (p : ℕ) (fd : ℤ) (call : Call) → first (on_object b p fd call) ≡ None → Fine b (plainly ks (object_change b p fd call))
-  on p fd call allowed = fine_plainly b ks _ (moves_object apply b p fd call own (first_rest (names_nothing b.files p fd) Ebadf (object_refusals (object_under b.files p fd) (side_under b.files p fd) b.now call) allowed))
+  on : (p : ℕ) (fd : ℤ) (asked : ObjectCall) → first (on_object b p fd asked) ≡ None → Fine b (plainly ks (object_change b p fd asked))
+  on p fd asked allowed = fine_plainly b ks _ (moves_object apply b p fd asked own (first_rest (names_nothing b.files p fd) Ebadf (object_refusals (object_under b.files p fd) (side_under b.files p fd) b.now asked) allowed))
 
   abbrev IsFine : Call → List (Bool × Errno) → Option Change → Type 0
   IsFine call tests c = first tests ≡ None → Fine b c
@@ -354,8 +355,8 @@ module _ (apply : ApplyLaw) (clock : AdvanceLaw) (limits : Limits) (b : State) (
       by_shape limits b caller p ks IsFine
       (λ epfd op fd mask tag allowed. fine_plainly b ks _ (moves_ctl b p epfd.0 op fd.0 mask.0 tag own))
       (λ epfd most timeout allowed. fine_wait b caller p (named_by b.files p epfd.0) (number_in most) timeout ks own)
-      (λ fd of allowed. on p fd.0 of allowed)
-      (λ of allowed. fine_plainly b ks _ (moves_after p of))
+      (λ of fd asked is allowed. on p fd.0 asked allowed)
+      (λ of is allowed. fine_plainly b ks _ (moves_after p of))
       call
 
   fine_change : (event : Event) → first (refusals limits b caller event) ≡ None → Fine b (change limits b caller event ks)

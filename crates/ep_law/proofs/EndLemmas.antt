@@ -1,18 +1,17 @@
 -- Each description has an end of an object of its own, and that end is there.
 use Rattle.std.proofs.Common.{◌≡◌, ◌≢◌, ℕ, zero, suc, ◌<◌, ◌++◌, ◌∙◌, ◌⊎◌, Bool, true, false, List, [], ◌∷◌, None, Option, Some, get_or, if◌then◌else◌, inl, inr, length, refl, ap, arith, set, subst, sym, unwrap_or}
 use Rattle.std.proofs.lemmas.List.{get_or_append_left, length_push, length-set}
-use Rattle.ep_base.specs.declared.call.Call.{Call}
-use Rattle.ep_base.specs.declared.call.Call.TheVariants.{GetTime, Pipe as PipeCall, Read, SetTime, Shutdown, Write}
 use Rattle.ep_base.specs.declared.object.End.{End}
 use Rattle.ep_base.specs.declared.object.End.TheVariants.{First, Second}
 use Rattle.ep_machine.specs.Deaths.{kept_object}
 use Rattle.ep_machine.specs.Files.{Files, Place, place_of, with_object}
 use Rattle.ep_machine.specs.Lists.{are_distinct}
-use Rattle.ep_machine.specs.Objects.{Object, close_end, counter, gettime, instance, is_plain, object_effect, pair, pipe, plain, read, settime, shutdown, timer, write}
+use Rattle.ep_machine.specs.Objects.{Object, ObjectCall, close_end, is_plain, object_effect, plain}
 use Rattle.ep_machine.specs.Tables.{create_one, create_two, describe, new_object}
 use Rattle.ep_law.proofs.DeathLemmas.{ArePlaced, after_all, after_first, apart_from_rest, has_here, numbers, still_placed}
 use Rattle.ep_law.proofs.InstanceLemmas.{AreMade, narrows_death, narrows_describe, narrows_new_object}
 use Rattle.ep_law.proofs.NamedLivesLemmas.{get_none}
+use Rattle.ep_object.proofs.KindLemmas.{call_keeps, close_has, close_keeps, plain_by_kind}
 use Rattle.ep_object.specs.Law.{object_has}
 
 abbrev pub object_there : Files → ℕ → Object
@@ -106,91 +105,16 @@ own_two f p x cloexec has also own =
       | inr new ↦ first_not_second (ap (λ (z : Place). z.side) new.1 ∙ side)
     ]) (own_one f p x cloexec has own)
 
--- Calls keep the ends of objects.
-read_has : (x : Object) (e : End) (n now : ℕ) (s : End) → object_has (read x e n now).1 s ≡ object_has x s
-read_has plain e n now s = refl
-read_has (pipe p) e n now First = refl
-read_has (pipe p) e n now Second = refl
-read_has (pair p) First n now First = refl
-read_has (pair p) First n now Second = refl
-read_has (pair p) Second n now First = refl
-read_has (pair p) Second n now Second = refl
-read_has (counter c) e n now s = refl
-read_has (timer t) e n now s = refl
-read_has instance e n now s = refl
-
-write_has : (x : Object) (e : End) (bytes : List ℕ) (s : End) → object_has (write x e bytes).1 s ≡ object_has x s
-write_has plain e bytes s = refl
-write_has (pipe p) e bytes First = refl
-write_has (pipe p) e bytes Second = refl
-write_has (pair p) First bytes First = refl
-write_has (pair p) First bytes Second = refl
-write_has (pair p) Second bytes First = refl
-write_has (pair p) Second bytes Second = refl
-write_has (counter c) e bytes s = refl
-write_has (timer t) e bytes s = refl
-write_has instance e bytes s = refl
-
-shutdown_has : (x : Object) (e s : End) → object_has (shutdown x e).1 s ≡ object_has x s
-shutdown_has plain e s = refl
-shutdown_has (pipe p) e s = refl
-shutdown_has (pair p) First First = refl
-shutdown_has (pair p) First Second = refl
-shutdown_has (pair p) Second First = refl
-shutdown_has (pair p) Second Second = refl
-shutdown_has (counter c) e s = refl
-shutdown_has (timer t) e s = refl
-shutdown_has instance e s = refl
-
-settime_has : (x : Object) (absolute : Bool) (value interval now : ℕ) (s : End) → object_has (settime x absolute value interval now).1 s ≡ object_has x s
-settime_has plain absolute value interval now s = refl
-settime_has x absolute value interval now s = refl
-
-gettime_has : (x : Object) (now : ℕ) (s : End) → object_has (gettime x now).1 s ≡ object_has x s
-gettime_has plain now s = refl
-gettime_has x now s = refl
-
-pub effect_has : (x : Object) (e : End) (now : ℕ) (call : Call) (s : End) → object_has (object_effect x e now call).1 s ≡ object_has x s
-effect_has x e now (Read fd n) s = read_has x e n now s
-effect_has x e now (Write fd bytes) s = write_has x e bytes s
-effect_has x e now (Shutdown fd) s = shutdown_has x e s
-effect_has x e now (SetTime fd absolute value interval) s = settime_has x absolute value interval now s
-effect_has x e now (GetTime fd) s = gettime_has x now s
-effect_has x e now call s = refl
-
-plain_effect : (e : End) (now : ℕ) (call : Call) → is_plain (object_effect plain e now call).1 ≡ true
-plain_effect e now (PipeCall cloexec) = refl
-plain_effect e now call = refl
-
+-- Calls and deaths.
 pub plain_is : (x : Object) → is_plain x ≡ true → x ≡ plain
 plain_is plain h = refl
 plain_is x h = cc
 
-pub plain_stays : (x : Object) (e : End) (now : ℕ) (call : Call) → is_plain x ≡ true → is_plain (object_effect x e now call).1 ≡ true
-plain_stays x e now call h = subst (λ (y : Object). is_plain (object_effect y e now call).1 ≡ true) (sym (plain_is x h)) (plain_effect e now call)
-
--- Deaths.
-pub close_has : (x : Object) (e s : End) → s ≢ e → object_has x s ≡ true → object_has (close_end x e).0 s ≡ true
-close_has plain e s ne h = h
-close_has (pipe p) First First ne h = absurd (ne refl)
-close_has (pipe p) First Second ne h = h
-close_has (pipe p) Second First ne h = h
-close_has (pipe p) Second Second ne h = absurd (ne refl)
-close_has (pair p) First First ne h = absurd (ne refl)
-close_has (pair p) First Second ne h = h
-close_has (pair p) Second First ne h = h
-close_has (pair p) Second Second ne h = absurd (ne refl)
-close_has (counter c) e s ne h = h
-close_has (timer t) e s ne h = h
-close_has instance e s ne h = h
+pub plain_stays : (x : Object) (e : End) (now : ℕ) (asked : ObjectCall) → is_plain x ≡ true → is_plain (object_effect x e now asked).1 ≡ true
+plain_stays x e now asked h = call_keeps is_plain 0 plain_by_kind x e now asked ∙ h
 
 closed_plain : (b : Bool) (x : Object) (e : End) → is_plain x ≡ true → is_plain (unwrap_or (if b then Some (close_end x e).0 else None) plain) ≡ true
-closed_plain true plain e h = refl
-closed_plain true (pipe p) e h = cc
-closed_plain true (pair p) e h = cc
-closed_plain true (counter c) e h = cc
-closed_plain true (timer t) e h = cc
-closed_plain true instance e h = cc
+closed_plain true x e h = close_keeps is_plain 0 plain_by_kind x e ∙ h
 closed_plain false x e h = refl
 
 pub was_place : (ds : List (Option Place)) (k d : ℕ) (p : Place) → get_or (set ds k None) d None ≡ Some p → get_or ds d None ≡ Some p

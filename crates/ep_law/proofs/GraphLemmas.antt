@@ -408,8 +408,8 @@ module _ (limits : Limits) (s : State) (caller p : ℕ) (call : Call) (ks : List
   fine_call =
       by_shape limits s caller p ks IsLinked linked_by_ctl
       (λ epfd most timeout a b c. fine_wait s caller p (named_by s.files p epfd.0) (number_in most) timeout ks h)
-      (λ fd on a b c. fine_plainly ks _ (linked_files s _ (narrows_affected s.files p fd.0 s.now on h.made h.first) refl h))
-      (λ on a b c. fine_plainly ks _ (linked_after on))
+      (λ on fd asked is a b c. fine_plainly ks _ (linked_files s _ (narrows_affected s.files p fd.0 s.now asked h.made h.first) refl h))
+      (λ on is a b c. fine_plainly ks _ (linked_after on))
       call
 
 fine_left : (caller : ℕ) (o : Option Change) → Fine o → Fine (leave_after caller o)

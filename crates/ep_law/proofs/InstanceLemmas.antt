@@ -5,12 +5,11 @@ use Rattle.ep_law.proofs.DeathLemmas.{get_other, same_or_not}
 use Rattle.ep_law.proofs.TestLemmas.{or_left, or_right, same_test}
 use Rattle.ep_machine.specs.Files.{Files, is_live, object_of, Place, named_by, object_at, object_number, object_under, place_of, side_under, with_object}
 use Rattle.ep_machine.specs.Lists.{numbered}
-use Rattle.ep_machine.specs.Objects.{is_instance, plain, Object, close_end, gettime, is_plain, object_effect, read, settime, shutdown, write}
+use Rattle.ep_machine.specs.Objects.{is_instance, plain, Object, ObjectCall, close_end, is_plain, object_effect}
+use Rattle.ep_object.proofs.KindLemmas.{call_keeps, close_keeps, instance_by_kind}
 use Rattle.ep_law.proofs.ListLemmas.{not_true}
 use Rattle.std.proofs.lemmas.Bool.{false≢true, cases_Bool}
 use Rattle.std.proofs.lemmas.List.{get_or_append_left, length_push, length-set}
-use Rattle.ep_base.specs.declared.call.Call.{Call}
-use Rattle.ep_base.specs.declared.call.Call.TheVariants.{GetTime, Read, SetTime, Shutdown, Write}
 use Rattle.ep_base.specs.declared.object.End.{End}
 use Rattle.ep_base.specs.declared.object.End.TheVariants.{First, Second}
 use Rattle.ep_machine.specs.Deaths.{die, die_all, kept_object}
@@ -158,34 +157,6 @@ narrows_two f p x cloexec b =
     narrows_trans f (create_one f p x cloexec) (create_two f p x cloexec) one (narrows_describe (create_one f p x cloexec) p (length f.objects) Second cloexec (omega (arith, more)) one.made)
 
 -- Effects keep the kind of an object.
-read_instance : (x : Object) (e : End) (n now : ℕ) → is_instance (read x e n now).1 ≡ is_instance x
-read_instance plain e n now = refl
-read_instance x e n now = refl
-
-write_instance : (x : Object) (e : End) (bytes : List ℕ) → is_instance (write x e bytes).1 ≡ is_instance x
-write_instance plain e bytes = refl
-write_instance x e bytes = refl
-
-shutdown_instance : (x : Object) (e : End) → is_instance (shutdown x e).1 ≡ is_instance x
-shutdown_instance plain e = refl
-shutdown_instance x e = refl
-
-settime_instance : (x : Object) (absolute : Bool) (value interval now : ℕ) → is_instance (settime x absolute value interval now).1 ≡ is_instance x
-settime_instance plain absolute value interval now = refl
-settime_instance x absolute value interval now = refl
-
-gettime_instance : (x : Object) (now : ℕ) → is_instance (gettime x now).1 ≡ is_instance x
-gettime_instance plain now = refl
-gettime_instance x now = refl
-
-effect_instance : (x : Object) (e : End) (now : ℕ) (call : Call) → is_instance (object_effect x e now call).1 ≡ is_instance x
-effect_instance x e now (Read fd n) = read_instance x e n now
-effect_instance x e now (Write fd bytes) = write_instance x e bytes
-effect_instance x e now (Shutdown fd) = shutdown_instance x e
-effect_instance x e now (SetTime fd absolute value interval) = settime_instance x absolute value interval now
-effect_instance x e now (GetTime fd) = gettime_instance x now
-effect_instance x e now call = refl
-
 at_number : (f : Files) (o : Option Place) → is_instance (unwrap_or (object_at f o) plain) ≡ true → is_instance_at f.objects (object_number o) ≡ true
 at_number f None h = absurd (false≢true h)
 at_number f (Some p) h = h
@@ -194,17 +165,17 @@ from_number : (f : Files) (o : Option Place) → FirstIsNone f → is_instance_a
 from_number f None first h = absurd (false≢true (sym first.1 ∙ h))
 from_number f (Some p) first h = h
 
-pub narrows_affected : (f : Files) (p : ℕ) (fd : ℤ) (now : ℕ) (call : Call) → AreMade f → FirstIsNone f → Narrows f (affected f (named_by f p fd) (object_effect (object_under f p fd) (side_under f p fd) now call))
-narrows_affected f p fd now call b first =
+pub narrows_affected : (f : Files) (p : ℕ) (fd : ℤ) (now : ℕ) (asked : ObjectCall) → AreMade f → FirstIsNone f → Narrows f (affected f (named_by f p fd) (object_effect (object_under f p fd) (side_under f p fd) now asked))
+narrows_affected f p fd now asked b first =
     let x = object_under f p fd in
     let e = side_under f p fd in
     let o = place_of f (named_by f p fd) in
-    narrows_with_object f (object_number o) (object_effect x e now call).1 b (λ h. at_number f o (sym (effect_instance x e now call) ∙ h)) (λ h. effect_instance x e now call ∙ from_number f o first h)
+    let same = call_keeps is_instance 5 instance_by_kind x e now asked in
+    narrows_with_object f (object_number o) (object_effect x e now asked).1 b (λ h. at_number f o (sym same ∙ h)) (λ h. same ∙ from_number f o first h)
 
 -- Deaths.
 close_instance : (x : Object) (e : End) → is_instance (close_end x e).0 ≡ is_instance x
-close_instance plain e = refl
-close_instance x e = refl
+close_instance = close_keeps is_instance 5 instance_by_kind
 
 -- an object that a description names is kept
 still_named : (k : ℕ) (ds : List (Option Place)) (d : ℕ) (p : Place) → get_or ds d None ≡ Some p → list_any (λ y. y.1.object == p.object) (numbered k ds) ≡ true

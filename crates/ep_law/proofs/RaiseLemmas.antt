@@ -21,7 +21,8 @@ use Rattle.ep_law.proofs.ListLemmas.{member_filter, member_map}
 use Rattle.ep_law.proofs.TestLemmas.{from_test, same_nat}
 use Rattle.ep_object.specs.Law.{CloseLaw, object_has}
 use Rattle.ep_law.proofs.BitLemmas.{Covers, to_bits}
-use Rattle.ep_law.proofs.EndLemmas.{Own, object_there, other_end, own_death, shut_there, was_place, close_has}
+use Rattle.ep_object.proofs.KindLemmas.{close_has}
+use Rattle.ep_law.proofs.EndLemmas.{Own, object_there, other_end, own_death, shut_there, was_place}
 
 -- Bits of unions.
 left_or : (a b : ℕ) → a < 2 → b < 2 → a ≡ 1 → max a b ≡ 1

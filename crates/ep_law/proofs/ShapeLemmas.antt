@@ -1,20 +1,20 @@
 -- The shapes of calls: whoever says the same of all calls of one shape goes by these, and not by each call.
-use Rattle.std.proofs.Common.{◌≡◌, ℕ, ℤ, Bool, true, false, List, Option, refl, pos, negsuc, if◌then◌else◌}
+use Rattle.std.proofs.Common.{◌≡◌, ℕ, ℤ, Bool, true, false, List, None, Option, Some, refl, pos, negsuc, if◌then◌else◌}
 use Rattle.ep_base.specs.Limits.{Limits}
 use Rattle.ep_base.specs.declared.call.Call.{Call}
-use Rattle.ep_base.specs.declared.call.Call.TheVariants.{Dup2, EpollCreate, EpollCtl, EpollWait, EventFd, GetTime, Pipe as PipeCall, Plain, Read, SetTime, Shutdown, SocketPair, TimerFd, Write}
+use Rattle.ep_base.specs.declared.call.Call.TheVariants.{Dup2, EpollCreate, EpollCtl, EpollWait, EventFd, Pipe as PipeCall, Plain, SocketPair, TimerFd}
 use Rattle.ep_base.specs.declared.errno.Errno.{Errno}
 use Rattle.ep_base.specs.declared.object.End.TheVariants.{First, Second}
 use Rattle.ep_base.specs.declared.ids.Fd.{Fd}
 use Rattle.ep_base.specs.declared.mask.Mask.{Mask}
 use Rattle.ep_machine.specs.Files.{Files, named_by}
 use Rattle.ep_machine.specs.FilesCalls.{files_call}
-use Rattle.ep_machine.specs.Objects.{Object}
+use Rattle.ep_machine.specs.Objects.{Object, ObjectCall, object_call}
 use Rattle.ep_object.specs.Law.{object_has}
-use Rattle.ep_machine.specs.Refusal.{call_refusals, ctl_refusals, on_object, wait_refusals}
+use Rattle.ep_machine.specs.Refusal.{call_refusals, ctl_refusals, on_object, refusals_on, wait_refusals}
 use Rattle.ep_machine.specs.Report.{plainly}
 use Rattle.ep_machine.specs.State.{Change, State}
-use Rattle.ep_machine.specs.Step.{call_change, files_change, object_change}
+use Rattle.ep_machine.specs.Step.{call_change, change_on, files_change, object_change}
 use Rattle.ep_machine.specs.Tables.{create_one, create_two, dup2, same_number}
 use Rattle.ep_machine.specs.Waits.{has_parked, wait}
 use Rattle.ep_machine.specs.Watches.{ctl, number_in}
@@ -28,20 +28,19 @@ module _ (limits : Limits) (s : State) (caller p : ℕ) (ks : List ℕ) (P : Cal
   OfWait = (epfd : Fd) (most timeout : ℤ) → P (EpollWait epfd most timeout) (wait_refusals s p epfd.0 most) (wait s caller p (named_by s.files p epfd.0) (number_in most) timeout ks)
 
   abbrev pub OfObject : Type 0
-  OfObject = (fd : Fd) (call : Call) → P call (on_object s p fd.0 call) (plainly ks (object_change s p fd.0 call))
+  OfObject = (call : Call) (fd : Fd) (asked : ObjectCall) → object_call call ≡ Some (fd, asked) → P call (on_object s p fd.0 asked) (plainly ks (object_change s p fd.0 asked))
 
   abbrev pub OfFiles : Type 0
-  OfFiles = (call : Call) → P call (files_call limits s.files p (has_parked s p) call).refusals (plainly ks (files_change s (files_call limits s.files p (has_parked s p) call)))
+  OfFiles = (call : Call) → object_call call ≡ None → P call (files_call limits s.files p (has_parked s p) call).refusals (plainly ks (files_change s (files_call limits s.files p (has_parked s p) call)))
+
+  by_asked : OfObject → OfFiles → (call : Call) (on : Option (Fd × ObjectCall)) → object_call call ≡ on → P call (refusals_on limits s p call on) (plainly ks (change_on limits s p call on))
+  by_asked o f call (Some on) is = o call on.0 on.1 is
+  by_asked o f call None is = f call is
 
   pub by_shape : OfCtl → OfWait → OfObject → OfFiles → (call : Call) → P call (call_refusals limits s p call) (call_change limits s caller p call ks)
   by_shape c w o f (EpollCtl epfd op fd mask tag) = c epfd op fd mask tag
   by_shape c w o f (EpollWait epfd most timeout) = w epfd most timeout
-  by_shape c w o f (Read fd n) = o fd (Read fd n)
-  by_shape c w o f (Write fd bytes) = o fd (Write fd bytes)
-  by_shape c w o f (Shutdown fd) = o fd (Shutdown fd)
-  by_shape c w o f (SetTime fd absolute value interval) = o fd (SetTime fd absolute value interval)
-  by_shape c w o f (GetTime fd) = o fd (GetTime fd)
-  by_shape c w o f call = f call
+  by_shape c w o f call = by_asked o f call (object_call call) refl
 
 pub dup2_same : (f : Files) (p : ℕ) (fd to : ℤ) (d : ℕ) → ((dup2 f p fd to d).descriptions ≡ f.descriptions) × ((dup2 f p fd to d).objects ≡ f.objects)
 dup2_same f p fd (negsuc k) d = (refl, refl)

@@ -1,10 +1,11 @@
 -- The six kinds of object. What an instance shows is judged in Readiness.
-use Rattle.std.specs.Prelude.{Bool, List, [], false, length, not, true, ℕ, ◌∷◌}
+use Rattle.std.specs.Prelude.{Bool, List, None, Option, Some, [], false, length, not, true, ℕ, ◌∷◌}
 use Rattle.ep_base.specs.declared.answer.Answer.TheVariants.{Bytes, Done, Num}
 use Rattle.ep_base.specs.declared.call.Call.{Call}
 use Rattle.ep_base.specs.declared.call.Call.TheVariants.{GetTime, Read, SetTime, Shutdown, Write}
 use Rattle.ep_base.specs.declared.errno.Errno.{Errno}
 use Rattle.ep_base.specs.declared.errno.Errno.TheVariants.{Einval, Enotsock}
+use Rattle.ep_base.specs.declared.ids.Fd.{Fd}
 use Rattle.ep_base.specs.declared.object.End.{End}
 use Rattle.ep_base.specs.declared.object.Raised.{Raised}
 use Rattle.ep_machine.specs.Bits.{nothing}
@@ -95,23 +96,38 @@ abbrev pub gettime : Object → ℕ → Effect Object
 gettime (timer t) now = (timer_setting t now, timer t, nothing)
 gettime x now = (Done, x, nothing)
 
--- the refusals of a call on an end of an object, in order
-abbrev pub object_refusals : Object → End → ℕ → Call → List (Bool × Errno)
-object_refusals x e now (Read fd n) = read_refusals x e n now
-object_refusals x e now (Write fd bytes) = write_refusals x e bytes
-object_refusals x e now (Shutdown fd) = (not (is_pair x), Enotsock) ∷ []
-object_refusals x e now (SetTime fd absolute value interval) = (not (is_timer x), Einval) ∷ timer_set_refusals value interval
-object_refusals x e now (GetTime fd) = (not (is_timer x), Einval) ∷ []
-object_refusals x e now call = []
+-- what a call asks of an object
+pub data ObjectCall : Type 0 where
+  reads : ℕ → ObjectCall
+  writes : List ℕ → ObjectCall
+  shuts_down : ObjectCall
+  sets_time : Bool → ℕ → ℕ → ObjectCall
+  asks_time : ObjectCall
 
--- what such a call does where it isn't refused; any other call does nothing here
-abbrev pub object_effect : Object → End → ℕ → Call → Effect Object
-object_effect x e now (Read fd n) = read x e n now
-object_effect x e now (Write fd bytes) = write x e bytes
-object_effect x e now (Shutdown fd) = shutdown x e
-object_effect x e now (SetTime fd absolute value interval) = settime x absolute value interval now
-object_effect x e now (GetTime fd) = gettime x now
-object_effect x e now call = (Done, x, nothing)
+-- the descriptor on whose object a call is, and what it asks of that; any other call has neither
+abbrev pub object_call : Call → Option (Fd × ObjectCall)
+object_call (Read fd n) = Some (fd, reads n)
+object_call (Write fd bytes) = Some (fd, writes bytes)
+object_call (Shutdown fd) = Some (fd, shuts_down)
+object_call (SetTime fd absolute value interval) = Some (fd, sets_time absolute value interval)
+object_call (GetTime fd) = Some (fd, asks_time)
+object_call call = None
+
+-- the refusals of a call on an end of an object, in order
+abbrev pub object_refusals : Object → End → ℕ → ObjectCall → List (Bool × Errno)
+object_refusals x e now (reads n) = read_refusals x e n now
+object_refusals x e now (writes bytes) = write_refusals x e bytes
+object_refusals x e now shuts_down = (not (is_pair x), Enotsock) ∷ []
+object_refusals x e now (sets_time absolute value interval) = (not (is_timer x), Einval) ∷ timer_set_refusals value interval
+object_refusals x e now asks_time = (not (is_timer x), Einval) ∷ []
+
+-- what such a call does where it isn't refused
+abbrev pub object_effect : Object → End → ℕ → ObjectCall → Effect Object
+object_effect x e now (reads n) = read x e n now
+object_effect x e now (writes bytes) = write x e bytes
+object_effect x e now shuts_down = shutdown x e
+object_effect x e now (sets_time absolute value interval) = settime x absolute value interval now
+object_effect x e now asks_time = gettime x now
 
 -- what the clock's going on raises
 abbrev pub advance : Object → ℕ → ℕ → ℕ

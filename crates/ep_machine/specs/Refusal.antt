@@ -1,16 +1,17 @@
 -- Every refusal of every call, in order. The first that holds is answered.
-use Rattle.std.specs.Prelude.{Bool, List, [], is_none, length, nat_le, nat_lt, not, ℕ, ℤ, ◌&&◌, ◌+◌, ◌==◌, ◌||◌, ◌∷◌}
+use Rattle.std.specs.Prelude.{Bool, List, None, Option, Some, [], is_none, length, nat_le, nat_lt, not, ℕ, ℤ, ◌&&◌, ◌+◌, ◌==◌, ◌||◌, ◌∷◌}
 use Rattle.ep_base.specs.Limits.{Limits}
 use Rattle.ep_base.specs.declared.call.Call.{Call}
-use Rattle.ep_base.specs.declared.call.Call.TheVariants.{EpollCtl, EpollWait, GetTime, Read, SetTime, Shutdown, Write}
+use Rattle.ep_base.specs.declared.call.Call.TheVariants.{EpollCtl, EpollWait}
 use Rattle.ep_base.specs.declared.call.Event.{Event}
 use Rattle.ep_base.specs.declared.call.Event.TheVariants.{Call as CallOf, Resume, Tick}
 use Rattle.ep_base.specs.declared.errno.Errno.{Errno}
 use Rattle.ep_base.specs.declared.errno.Errno.TheVariants.{Ebadf, Ebusy, Eexist, Einval, Eloop, Enoent, Enospc, Eperm, Esrch}
+use Rattle.ep_base.specs.declared.ids.Fd.{Fd}
 use Rattle.ep_machine.specs.Bits.{EXCLUSIVE, exclusive_bits, has_bit, has_only}
 use Rattle.ep_machine.specs.Files.{named_by, names_nothing, object_under, side_under, table_of}
 use Rattle.ep_machine.specs.FilesCalls.{files_call}
-use Rattle.ep_machine.specs.Objects.{is_instance, is_plain, object_refusals}
+use Rattle.ep_machine.specs.Objects.{ObjectCall, is_instance, is_plain, object_call, object_refusals}
 use Rattle.ep_machine.specs.State.{State}
 use Rattle.ep_machine.specs.Timer.{last_moment}
 use Rattle.ep_machine.specs.Waits.{has_parked, is_parked, is_positive}
@@ -42,18 +43,18 @@ wait_refusals s p epfd most =
     ∷ (not (is_instance (object_under s.files p epfd)), Einval) ∷ []
 
 -- of a call on the object under a descriptor number
-abbrev pub on_object : State → ℕ → ℤ → Call → List (Bool × Errno)
-on_object s p fd call = (names_nothing s.files p fd, Ebadf) ∷ object_refusals (object_under s.files p fd) (side_under s.files p fd) s.now call
+abbrev pub on_object : State → ℕ → ℤ → ObjectCall → List (Bool × Errno)
+on_object s p fd asked = (names_nothing s.files p fd, Ebadf) ∷ object_refusals (object_under s.files p fd) (side_under s.files p fd) s.now asked
+
+-- of such a call, or of one on the tables alone
+abbrev pub refusals_on : Limits → State → ℕ → Call → Option (Fd × ObjectCall) → List (Bool × Errno)
+refusals_on limits s p call (Some on) = on_object s p on.0.0 on.1
+refusals_on limits s p call None = (files_call limits s.files p (has_parked s p) call).refusals
 
 abbrev pub call_refusals : Limits → State → ℕ → Call → List (Bool × Errno)
 call_refusals limits s p (EpollCtl epfd op fd mask tag) = ctl_refusals limits s p epfd.0 op fd.0 mask.0
 call_refusals limits s p (EpollWait epfd most timeout) = wait_refusals s p epfd.0 most
-call_refusals limits s p (Read fd n) = on_object s p fd.0 (Read fd n)
-call_refusals limits s p (Write fd bytes) = on_object s p fd.0 (Write fd bytes)
-call_refusals limits s p (Shutdown fd) = on_object s p fd.0 (Shutdown fd)
-call_refusals limits s p (SetTime fd absolute value interval) = on_object s p fd.0 (SetTime fd absolute value interval)
-call_refusals limits s p (GetTime fd) = on_object s p fd.0 (GetTime fd)
-call_refusals limits s p call = (files_call limits s.files p (has_parked s p) call).refusals
+call_refusals limits s p call = refusals_on limits s p call (object_call call)
 
 abbrev pub refusals : Limits → State → ℕ → Event → List (Bool × Errno)
 refusals limits s caller (CallOf p call) = (is_none (table_of s.files p.0), Esrch) ∷ (is_parked s caller, Ebusy) ∷ call_refusals limits s p.0 call

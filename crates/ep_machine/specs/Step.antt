@@ -4,13 +4,14 @@ use Rattle.ep_base.specs.Limits.{Limits}
 use Rattle.ep_base.specs.declared.answer.Answer.{Answer}
 use Rattle.ep_base.specs.declared.answer.Answer.TheVariants.{Refused}
 use Rattle.ep_base.specs.declared.call.Call.{Call}
-use Rattle.ep_base.specs.declared.call.Call.TheVariants.{EpollCtl, EpollWait, GetTime, Read, SetTime, Shutdown, Write}
+use Rattle.ep_base.specs.declared.call.Call.TheVariants.{EpollCtl, EpollWait}
 use Rattle.ep_base.specs.declared.call.Event.{Event}
 use Rattle.ep_base.specs.declared.call.Event.TheVariants.{Call as CallOf, Resume, Tick}
 use Rattle.ep_base.specs.declared.errno.Errno.{Errno}
+use Rattle.ep_base.specs.declared.ids.Fd.{Fd}
 use Rattle.ep_machine.specs.Files.{named_by, object_under, side_under}
 use Rattle.ep_machine.specs.FilesCalls.{FilesCall, files_call}
-use Rattle.ep_machine.specs.Objects.{object_effect}
+use Rattle.ep_machine.specs.Objects.{ObjectCall, object_call, object_effect}
 use Rattle.ep_machine.specs.Effect.{first}
 use Rattle.ep_machine.specs.Refusal.{refusals}
 use Rattle.ep_machine.specs.Report.{plainly}
@@ -21,26 +22,26 @@ use Rattle.ep_machine.specs.Waits.{has_parked, resume, tick, wait}
 use Rattle.ep_machine.specs.Watches.{ctl, number_in}
 
 -- of a call on the object under a descriptor number
-abbrev pub object_change : State → ℕ → ℤ → Call → Change
-object_change s p fd call =
+abbrev pub object_change : State → ℕ → ℤ → ObjectCall → Change
+object_change s p fd asked =
     let d = named_by s.files p fd in
-    let f = object_effect (object_under s.files p fd) (side_under s.files p fd) s.now call in
+    let f = object_effect (object_under s.files p fd) (side_under s.files p fd) s.now asked in
     (f.0, record s { files = affected s.files d f }, affected_raises s.files d f)
 
 -- of a call on the tables alone
 abbrev pub files_change : State → FilesCall → Change
 files_change s c = (c.answer, record s { files = c.after }, [])
 
+-- of the one or the other
+abbrev pub change_on : Limits → State → ℕ → Call → Option (Fd × ObjectCall) → Change
+change_on limits s p call (Some on) = object_change s p on.0.0 on.1
+change_on limits s p call None = files_change s (files_call limits s.files p (has_parked s p) call)
+
 -- of a call that isn't refused
 abbrev pub call_change : Limits → State → ℕ → ℕ → Call → List ℕ → Option Change
 call_change limits s caller p (EpollCtl epfd op fd mask tag) picked = plainly picked (ctl s p epfd.0 op fd.0 mask.0 tag)
 call_change limits s caller p (EpollWait epfd most timeout) picked = wait s caller p (named_by s.files p epfd.0) (number_in most) timeout picked
-call_change limits s caller p (Read fd n) picked = plainly picked (object_change s p fd.0 (Read fd n))
-call_change limits s caller p (Write fd bytes) picked = plainly picked (object_change s p fd.0 (Write fd bytes))
-call_change limits s caller p (Shutdown fd) picked = plainly picked (object_change s p fd.0 (Shutdown fd))
-call_change limits s caller p (SetTime fd absolute value interval) picked = plainly picked (object_change s p fd.0 (SetTime fd absolute value interval))
-call_change limits s caller p (GetTime fd) picked = plainly picked (object_change s p fd.0 (GetTime fd))
-call_change limits s caller p call picked = plainly picked (files_change s (files_call limits s.files p (has_parked s p) call))
+call_change limits s caller p call picked = plainly picked (change_on limits s p call (object_call call))
 
 abbrev pub change : Limits → State → ℕ → Event → List ℕ → Option Change
 change limits s caller (CallOf p call) picked = call_change limits s caller p.0 call picked

@@ -2,7 +2,6 @@
 use Rattle.std.proofs.Common.{Bool, List, None, Option, Some, [], ℕ, ◌∷◌}
 use Rattle.std.proofs.lemmas.Bool.{false≢true}
 use Rattle.std.specs.Prelude.{not}
-use Rattle.ep_base.specs.declared.call.Call.TheVariants.{GetTime, Read, SetTime, Shutdown, Write}
 use Rattle.ep_base.specs.declared.errno.Errno.{Errno}
 use Rattle.ep_base.specs.declared.errno.Errno.TheVariants.{Einval, Enotsock}
 use Rattle.ep_base.specs.declared.object.End.TheVariants.{First, Second}
@@ -12,7 +11,7 @@ use Rattle.ep_counters.specs.Law.{CounterReadLaw, CounterWriteLaw, TimerAdvanceL
 use Rattle.ep_machine.specs.Bits.{IsCovered, at_end, nothing}
 use Rattle.ep_machine.specs.Counters.{counter_present, counter_read, counter_read_refusals, counter_write, counter_write_refusals}
 use Rattle.ep_machine.specs.Effect.{Effect, attempt, first, unless}
-use Rattle.ep_machine.specs.Objects.{Object, counter, effect_on, gettime, instance, is_pair, is_timer, object_present, pair, pipe, plain, read, read_refusals, settime, shutdown, timer, write, write_refusals}
+use Rattle.ep_machine.specs.Objects.{Object, asks_time, counter, effect_on, gettime, instance, is_pair, is_timer, object_present, pair, pipe, plain, read, read_refusals, reads, sets_time, settime, shutdown, shuts_down, timer, write, write_refusals, writes}
 use Rattle.ep_machine.specs.Pipe.{pipe_present, pipe_read, pipe_read_refusals, pipe_write, pipe_write_refusals}
 use Rattle.ep_machine.specs.Sockets.{pair_present, pair_read, pair_read_refusals, pair_write, pair_write_refusals}
 use Rattle.ep_machine.specs.Timer.{timer_present, timer_read, timer_read_refusals, timer_set_refusals, timer_settime}
@@ -86,12 +85,11 @@ pub record Kinds : Type 0 where
   pub timer_settime : TimerSettimeLaw
 
 pub apply_law : Kinds → ApplyLaw
-apply_law kinds x e now (Read fd n) = read_law kinds.pipe_read kinds.pair_read kinds.counter_read kinds.timer_read e n now x
-apply_law kinds x e now (Write fd bytes) = write_law kinds.pipe_write kinds.pair_write kinds.counter_write e bytes now x
-apply_law kinds x e now (Shutdown fd) = shutdown_law kinds.pair_shutdown e now x
-apply_law kinds x e now (SetTime fd absolute value interval) = settime_law kinds.timer_settime absolute value interval now x
-apply_law kinds x e now (GetTime fd) = gettime_law now x
-apply_law kinds x e now call = stays now x nothing
+apply_law kinds x e now (reads n) = read_law kinds.pipe_read kinds.pair_read kinds.counter_read kinds.timer_read e n now x
+apply_law kinds x e now (writes bytes) = write_law kinds.pipe_write kinds.pair_write kinds.counter_write e bytes now x
+apply_law kinds x e now shuts_down = shutdown_law kinds.pair_shutdown e now x
+apply_law kinds x e now (sets_time absolute value interval) = settime_law kinds.timer_settime absolute value interval now x
+apply_law kinds x e now asks_time = gettime_law now x
 
 pub close_law : PipeCloseLaw → PairCloseLaw → CloseLaw
 close_law pipes pairs (pipe p) e now = pipes p e

@@ -1,11 +1,10 @@
 -- The law of what is raised: a bit that begins to hold at an end of an object is raised there.
 use Rattle.std.specs.Prelude.{Bool, IsTrue, false, true, ℕ}
-use Rattle.ep_base.specs.declared.call.Call.{Call}
 use Rattle.ep_base.specs.declared.object.End.{End}
 use Rattle.ep_base.specs.declared.object.End.TheVariants.{First, Second}
 use Rattle.ep_machine.specs.Bits.{IsCovered, at_end, raises}
 use Rattle.ep_machine.specs.Effect.{attempt}
-use Rattle.ep_machine.specs.Objects.{Object, advance, close_end, object_effect, object_present, object_refusals, pair, pipe}
+use Rattle.ep_machine.specs.Objects.{Object, ObjectCall, advance, close_end, object_effect, object_present, object_refusals, pair, pipe}
 use Rattle.ep_stream.specs.Law.{RaisesArrivals, pair_has, pipe_has}
 
 -- an object that is no pipe and no pair has the first end alone
@@ -23,8 +22,8 @@ abbrev pub present_at : ℕ → Object → End → ℕ
 present_at now x e = object_present x e now
 
 abbrev pub ApplyLaw : Type 0
-ApplyLaw = (x : Object) (e : End) (now : ℕ) (call : Call)
-    → let effect = attempt (object_refusals x e now call) x (object_effect x e now call) in
+ApplyLaw = (x : Object) (e : End) (now : ℕ) (asked : ObjectCall)
+    → let effect = attempt (object_refusals x e now asked) x (object_effect x e now asked) in
     RaisesArrivals object_has (present_at now) x effect.1 effect.2
 
 abbrev pub CloseLaw : Type 0

@@ -1,3 +1,4 @@
+pub mod Asked
 pub mod Content
 pub mod Memory
 pub mod Next

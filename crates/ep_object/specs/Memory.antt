@@ -1,9 +1,7 @@
 -- How many bytes a call could give, which decides whether it takes memory.
 use Rattle.std.specs.Prelude.{ℕ}
-use Rattle.ep_base.specs.declared.call.Call.TheVariants.{Read}
-use Rattle.ep_base.specs.declared.call.Call.{Call}
 use Rattle.ep_base.specs.declared.object.End.{End}
-use Rattle.ep_machine.specs.Objects.{Object, pair, pipe}
+use Rattle.ep_machine.specs.Objects.{Object, ObjectCall, pair, pipe, reads}
 use Rattle.ep_stream.specs.Waiting.{pair_waiting, pipe_waiting}
 
 -- how many bytes a read at this end could give
@@ -13,6 +11,6 @@ object_waiting (pair p) e = pair_waiting p e
 object_waiting x e = 0
 
 -- how many bytes the call asks for
-abbrev pub asked_of : Call → ℕ
-asked_of (Read fd n) = n
-asked_of call = 0
+abbrev pub asked_of : ObjectCall → ℕ
+asked_of (reads n) = n
+asked_of asked = 0

@@ -3,6 +3,8 @@
 
 mod law;
 mod object;
+mod object_call;
 
 pub use crate::law::arrivals_are_raised;
 pub use crate::object::Object;
+pub use crate::object_call::ObjectCall;

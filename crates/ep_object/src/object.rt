@@ -9,7 +9,8 @@ ghost use Rattle.ep_machine.specs.Timer.{new_timer, timer_set_refusals};
 ghost use Rattle.ep_object.specs.Memory.{asked_of, object_waiting};
 ghost use Rattle.ep_object.specs.Next.{IsNextMoment};
 
-use ep_base::{Answer, Buffer, Bytes, Call, Errno, Mask, Moment, Span};
+use crate::object_call::{Asked, ObjectCall};
+use ep_base::{Answer, Buffer, Bytes, Errno, Mask, Moment, Span};
 use ep_counters::{EventFd, Timer};
 use ep_stream::{End, Pipe, Raised, SockPair};
 use std::alloc::{AllocError, Global};
@@ -194,32 +195,29 @@ impl Object {
     /// - timerfd_settime(2) and timerfd_gettime(2) answer the setting that the timer had: EINVAL of
     ///   anything but a timer, and for a `value` or `interval` above `LAST_MOMENT`.
     ///
-    /// Any other call is no call on an object: it answers `Done`, and changes and raises nothing.
     /// An `AllocError` leaves the object, and comes only from a read of a pipe or a socket pair of more
     /// than 16 bytes where more than 16 wait.
     pub fn apply(
         &mut self,
         end: End,
         now: Moment,
-        call: &Call,
+        call: &ObjectCall<'_>,
     ) -> Result<(Answer, Raised), AllocError>
         ensures ok { IfOk result (λ r. (r.0, self.new, r.1) ≡
             attempt (object_refusals self.old end now call.now) self.old (object_effect self.old end now call.now)) }
         ensures err { OnErr result (self.new ≡ self.old) }
         ensures inline { min (asked_of call.now) (object_waiting self.old end) ≤ 16 → IsOk result }
     {
-        match *call {
-            Call::Read { n, .. } => self.read(end, now, n),
-            Call::Write { ref bytes, .. } => Ok(self.write(end, bytes)),
-            Call::Shutdown { .. } => Ok(self.shutdown(end)),
-            Call::SetTime {
+        match call.asked {
+            Asked::Read { n } => self.read(end, now, n),
+            Asked::Write { bytes } => Ok(self.write(end, bytes)),
+            Asked::Shutdown => Ok(self.shutdown(end)),
+            Asked::SetTime {
                 absolute,
                 value,
                 interval,
-                ..
             } => Ok(self.settime(now, absolute, value, interval)),
-            Call::GetTime { .. } => Ok(self.gettime(now)),
-            _ => Ok((Answer::Done, NOTHING)),
+            Asked::GetTime => Ok(self.gettime(now)),
         }
     }
 

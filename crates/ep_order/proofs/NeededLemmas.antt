@@ -17,7 +17,7 @@ use Rattle.ep_law.specs.Laws.{Member}
 use Rattle.ep_machine.specs.Effect.{attempt, first}
 use Rattle.ep_machine.specs.Files.{object_of}
 use Rattle.ep_machine.specs.Lists.{is_among}
-use Rattle.ep_machine.specs.Objects.{Object, close_end, counter, instance, object_effect, object_refusals, pipe, timer}
+use Rattle.ep_machine.specs.Objects.{Object, ObjectCall, close_end, counter, instance, object_effect, object_refusals, pipe, reads, timer}
 use Rattle.ep_machine.specs.Pipe.{new_pipe}
 use Rattle.ep_machine.specs.Readiness.{is_ready, is_reportable_by}
 use Rattle.ep_machine.specs.Refusal.{refusals}
@@ -37,30 +37,30 @@ abbrev fd : ℕ → Fd
 fd k = record { 0 = pos k }
 
 -- The law of objects.
-module _ (now : ℕ) (call : Call) where
+module _ (now : ℕ) (asked : ObjectCall) where
   abbrev after_call : Object → End → Object
-  after_call x e = (attempt (object_refusals x e now call) x (object_effect x e now call)).1
+  after_call x e = (attempt (object_refusals x e now asked) x (object_effect x e now asked)).1
 
 -- not at the called end
 CallEndsNothing : Type 0
-CallEndsNothing = (x : Object) (e o : End) (now : ℕ) (call : Call)
-    → e ≡ o → IsTrue (object_has x e) → IsTrue (object_has x o) → EndsNothing x (after_call now call x e) o now now
+CallEndsNothing = (x : Object) (e o : End) (now : ℕ) (asked : ObjectCall)
+    → e ≡ o → IsTrue (object_has x e) → IsTrue (object_has x o) → EndsNothing x (after_call now asked x e) o now now
 
 abbrev of_one : Object
 of_one = counter (record { count = 1; is_semaphore = false })
 
 read_ends_here : CallEndsNothing → ⊥
 unfolding CallEndsNothing
-read_ends_here law = no_number 0 (law of_one First First 0 (Read (fd 3) 8) refl refl refl)
+read_ends_here law = no_number 0 (law of_one First First 0 (reads 8) refl refl refl)
 
 -- nor where the called end is not there
 AbsentEndsNothing : Type 0
-AbsentEndsNothing = (x : Object) (e o : End) (now : ℕ) (call : Call)
-    → e ≢ o → IsTrue (object_has x o) → EndsNothing x (after_call now call x e) o now now
+AbsentEndsNothing = (x : Object) (e o : End) (now : ℕ) (asked : ObjectCall)
+    → e ≢ o → IsTrue (object_has x o) → EndsNothing x (after_call now asked x e) o now now
 
 absent_end_ends : AbsentEndsNothing → ⊥
 unfolding AbsentEndsNothing
-absent_end_ends law = no_number 0 (law of_one Second First 0 (Read (fd 3) 8) (λ e. cc) refl)
+absent_end_ends law = no_number 0 (law of_one Second First 0 (reads 8) (λ e. cc) refl)
 
 -- nor as the clock goes back
 BackwardsEndsNothing : Type 0

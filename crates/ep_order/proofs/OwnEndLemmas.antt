@@ -7,8 +7,6 @@ use Rattle.std.proofs.lemmas.Bool.Decides.{nat_tests}
 use Rattle.std.proofs.lemmas.List.{length-drop}
 use Rattle.std.proofs.lemmas.Nat.{le-div}
 use Rattle.std.proofs.Math.Nat.{div-mul-le_self}
-use Rattle.ep_base.specs.declared.call.Call.{Call}
-use Rattle.ep_base.specs.declared.call.Call.TheVariants.{GetTime, Read, SetTime, Shutdown, Write}
 use Rattle.ep_base.specs.declared.errno.Errno.{Errno}
 use Rattle.ep_base.specs.declared.object.End.{End}
 use Rattle.ep_base.specs.declared.object.End.TheVariants.{First, Second}
@@ -17,7 +15,7 @@ use Rattle.ep_law.proofs.RaiseLemmas.{covers_self, either_bit, first_bit, last_b
 use Rattle.ep_machine.specs.Bits.{ERR, HUP, IN, OUT, RDHUP, when}
 use Rattle.ep_machine.specs.Effect.{Effect, attempt, first, unless}
 use Rattle.ep_machine.specs.Lists.{is_empty}
-use Rattle.ep_machine.specs.Objects.{Object, close_end, counter, gettime, instance, object_effect, object_present, object_refusals, pair, pipe, plain, read, read_refusals, settime, shutdown, timer, write, write_refusals}
+use Rattle.ep_machine.specs.Objects.{Object, ObjectCall, asks_time, close_end, counter, gettime, instance, object_effect, object_present, object_refusals, pair, pipe, plain, read, read_refusals, reads, sets_time, settime, shutdown, shuts_down, timer, write, write_refusals, writes}
 use Rattle.ep_machine.specs.Pipe.{Pipe, pipe_present, pipe_room, pipe_taken}
 use Rattle.ep_machine.specs.Sockets.{Socket, is_over, socket_present}
 use Rattle.ep_machine.specs.Timer.{Timer, expirations_from, unread}
@@ -188,14 +186,13 @@ gettime_stays plain o now = covers_self _ 0
 gettime_stays x o now = covers_self _ 0
 
 -- any call, at the other end
-pub call_stays : (x : Object) (e o : End) (now : ℕ) (call : Call) → e ≢ o → object_has x e ≡ true → object_has x o ≡ true → Shows x (attempt (object_refusals x e now call) x (object_effect x e now call)).1 o now now
-call_stays x e o now (Read fd n) ne h k = read_stays x e o n now ne h k
-call_stays x e o now (Write fd bytes) ne h k = write_stays x e o bytes now ne h k
-call_stays x e o now (Shutdown fd) ne h k = unless_stays (first (object_refusals x e now (Shutdown fd))) x (shutdown x e) o now (shutdown_stays x e o now ne)
-call_stays x e o now (SetTime fd absolute value interval) ne h k =
-    unless_stays (first (object_refusals x e now (SetTime fd absolute value interval))) x (settime x absolute value interval now) o now (settime_stays x e o absolute value interval now ne h k)
-call_stays x e o now (GetTime fd) ne h k = unless_stays (first (object_refusals x e now (GetTime fd))) x (gettime x now) o now (gettime_stays x o now)
-call_stays x e o now call ne h k = covers_self _ 0
+pub call_stays : (x : Object) (e o : End) (now : ℕ) (asked : ObjectCall) → e ≢ o → object_has x e ≡ true → object_has x o ≡ true → Shows x (attempt (object_refusals x e now asked) x (object_effect x e now asked)).1 o now now
+call_stays x e o now (reads n) ne h k = read_stays x e o n now ne h k
+call_stays x e o now (writes bytes) ne h k = write_stays x e o bytes now ne h k
+call_stays x e o now shuts_down ne h k = unless_stays (first (object_refusals x e now shuts_down)) x (shutdown x e) o now (shutdown_stays x e o now ne)
+call_stays x e o now (sets_time absolute value interval) ne h k =
+    unless_stays (first (object_refusals x e now (sets_time absolute value interval))) x (settime x absolute value interval now) o now (settime_stays x e o absolute value interval now ne h k)
+call_stays x e o now asks_time ne h k = unless_stays (first (object_refusals x e now asks_time)) x (gettime x now) o now (gettime_stays x o now)
 
 -- Closes.
 pub close_stays : (x : Object) (e o : End) (now : ℕ) → Shows x (close_end x e).0 o now now

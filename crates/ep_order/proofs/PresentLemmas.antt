@@ -5,34 +5,36 @@ use Rattle.std.proofs.lemmas.List.{get_or_append_left}
 use Rattle.ep_base.specs.Limits.{Limits}
 use Rattle.ep_base.specs.declared.answer.Answer.TheVariants.{Events}
 use Rattle.ep_base.specs.declared.call.Call.{Call}
-use Rattle.ep_base.specs.declared.call.Call.TheVariants.{Dup2, EpollCreate, EpollCtl, EpollWait, EventFd, GetTime, Pipe as PipeCall, Plain, Read, SetTime, Shutdown, SocketPair, TimerFd, Write}
 use Rattle.ep_base.specs.declared.call.Event.{Event}
 use Rattle.ep_base.specs.declared.call.Event.TheVariants.{Call as CallOf, Resume, Tick}
 use Rattle.ep_base.specs.declared.errno.Errno.{Errno}
 use Rattle.ep_base.specs.declared.errno.Errno.TheVariants.{Ebadf, Ebusy, Esrch}
+use Rattle.ep_base.specs.declared.ids.Fd.{Fd}
 use Rattle.ep_base.specs.declared.ids.Pid.{Pid}
 use Rattle.ep_law.specs.Laws.{HaveOwnEnds}
 use Rattle.ep_law.proofs.DeathLemmas.{has_here}
 use Rattle.ep_law.proofs.EndLemmas.{object_there, set_object}
 use Rattle.ep_law.proofs.InstanceLemmas.{AreMade}
 use Rattle.ep_law.proofs.RaiseLemmas.{covers_self, covers_then, lived_before}
+use Rattle.ep_law.proofs.ShapeLemmas.{by_making, by_shape}
 use Rattle.ep_law.proofs.StepLemmas.{left_after, resumes}
 use Rattle.ep_law.proofs.TestLemmas.{same_test}
 use Rattle.ep_machine.specs.Deaths.{die, die_all, kept_object}
 use Rattle.ep_machine.specs.Effect.{Effect, first, unless}
 use Rattle.ep_machine.specs.Files.{Files, Place, named_by, names_nothing, object_at, object_number, object_under, place_of, side_in, side_under, table_of, with_object}
-use Rattle.ep_machine.specs.Objects.{Object, close_end, object_effect, object_present, object_refusals, plain}
+use Rattle.ep_machine.specs.FilesCalls.{files_call}
+use Rattle.ep_machine.specs.Objects.{Object, ObjectCall, close_end, object_effect, object_present, object_refusals, plain}
 use Rattle.ep_machine.specs.Readiness.{is_ready}
 use Rattle.ep_machine.specs.Refusal.{call_refusals, on_object, refusals}
 use Rattle.ep_machine.specs.Report.{is_pick, plainly, report, report_of, reported, watches_at}
 use Rattle.ep_machine.specs.State.{Change, State}
 use Rattle.ep_machine.specs.Step.{call_change, change, object_change}
-use Rattle.ep_machine.specs.Tables.{create_one, create_two, dup2, same_number}
-use Rattle.ep_machine.specs.Waits.{is_parked, leave_after, resume, tick, wait_for}
+use Rattle.ep_machine.specs.Tables.{create_one, create_two}
+use Rattle.ep_machine.specs.Waits.{has_parked, is_parked, leave_after, resume, tick, wait_for}
 use Rattle.ep_machine.specs.Watches.{add, ctl, delete, is_add, is_del, modify, number_in}
 use Rattle.ep_view.proofs.FilesLemmas.{Filed, named_lives}
 use Rattle.ep_object.specs.Law.{object_has}
-use Rattle.ep_order.specs.Ending.{is_called}
+use Rattle.ep_order.specs.Ending.{is_called, is_object_of}
 use Rattle.ep_order.proofs.OwnEndLemmas.{Shows, call_stays, clock_stays, close_stays}
 
 -- description d stays at its place from files f to g, and what holds there goes on holding
@@ -53,10 +55,6 @@ holds_then f g h old mid new d p one two =
     let after = object_present (object_there h p.object) p.side new in
     record { place = two.place; shows = covers_then after between before 0 0 0 (λ i at. at) (λ i at. at) two.shows one.shows }
 
-holds_if : (b : Bool) (f g h : Files) (old new d : ℕ) (p : Place) → Holds f g old new d p → Holds f h old new d p → Holds f (if b then g else h) old new d p
-holds_if true f g h old new d p one two = one
-holds_if false f g h old new d p one two = two
-
 -- New objects and descriptions.
 still_there : (ds : List (Option Place)) (more : List (Option Place)) (d : ℕ) (p : Place) → get_or ds d None ≡ Some p → get_or (ds ++ more) d None ≡ Some p
 still_there [] more d p e = cc
@@ -73,29 +71,25 @@ module _ (f : Files) (made : AreMade f) (now p : ℕ) (x : Object) (cloexec : Bo
   holds_two : Holds f (create_two f p x cloexec) now now d q
   holds_two = holds_same f (create_two f p x cloexec) now d q (still_there (create_one f p x cloexec).descriptions _ d q (still_there f.descriptions _ d q here)) old_object
 
-holds_dup2 : (f : Files) (p : ℕ) (fd to : ℤ) (k now d : ℕ) (q : Place) → place_of f d ≡ Some q → Holds f (dup2 f p fd to k) now now d q
-holds_dup2 f p fd (negsuc i) k now d q here = holds_self f now d q here
-holds_dup2 f p fd (pos i) k now d q here = holds_if (same_number fd (pos i)) f f _ now now d q (holds_self f now d q here) (holds_same f _ now d q here refl)
-
 -- A call on the object at another place.
-module _ (f : Files) (ends : HaveOwnEnds f) (now d : ℕ) (q : Place) (here : place_of f d ≡ Some q) (call : Call) where
+module _ (f : Files) (ends : HaveOwnEnds f) (now d : ℕ) (q : Place) (here : place_of f d ≡ Some q) (asked : ObjectCall) where
   module _ (k : ℕ) (r : Place) (there : place_of f k ≡ Some r) (other : k ≢ d) where
     abbrev x : Object
     x = object_there f r.object
 
     abbrev made : Effect Object
-    made = object_effect x r.side now call
+    made = object_effect x r.side now asked
 
     -- of one object they are two ends
     other_side : q.object ≡ r.object → r.side ≢ q.side
     other_side at side = let same : q ≡ r = λ i. record { object = at i; side = sym side i } in other (ends.apart k d q (there ∙ ap Some (sym same)) here)
 
-    shows_beside : first (object_refusals x r.side now call) ≡ None → q.object ≡ r.object → Shows x made.1 q.side now now
+    shows_beside : first (object_refusals x r.side now asked) ≡ None → q.object ≡ r.object → Shows x made.1 q.side now now
     shows_beside allowed at =
         let has = subst (λ (j : ℕ). object_has (object_there f j) q.side ≡ true) at (ends.ends d q here) in
-        subst (λ (e : Option Errno). Shows x (unless e x made).1 q.side now now) allowed (call_stays x r.side q.side now call (other_side at) (ends.ends k r there) has)
+        subst (λ (e : Option Errno). Shows x (unless e x made).1 q.side now now) allowed (call_stays x r.side q.side now asked (other_side at) (ends.ends k r there) has)
 
-    holds_beside : first (object_refusals x r.side now call) ≡ None → Holds f (with_object f r.object made.1) now now d q
+    holds_beside : first (object_refusals x r.side now asked) ≡ None → Holds f (with_object f r.object made.1) now now d q
     holds_beside allowed =
         let y = made.1 in
         let called : q.object ≡ r.object → Shows (object_there f q.object) y q.side now now = λ at. subst (λ (j : ℕ). Shows (object_there f j) y q.side now now) (sym at) (shows_beside allowed at) in
@@ -105,8 +99,8 @@ module _ (f : Files) (ends : HaveOwnEnds f) (now d : ℕ) (q : Place) (here : pl
   object_in o = unwrap_or (object_at f o) plain
 
   -- by what names the object
-  holds_by : (k : ℕ) (o : Option Place) → place_of f k ≡ o → is_some o ≡ true → k ≢ d → first (object_refusals (object_in o) (side_in o) now call) ≡ None
-      → Holds f (with_object f (object_number o) (object_effect (object_in o) (side_in o) now call).1) now now d q
+  holds_by : (k : ℕ) (o : Option Place) → place_of f k ≡ o → is_some o ≡ true → k ≢ d → first (object_refusals (object_in o) (side_in o) now asked) ≡ None
+      → Holds f (with_object f (object_number o) (object_effect (object_in o) (side_in o) now asked).1) now now d q
   holds_by k None there lives other allowed = absurd (false≢true lives)
   holds_by k (Some r) there lives other allowed = holds_beside k r there other allowed
 
@@ -202,12 +196,6 @@ module _ (b : State) (event : Event) where
   fine_files : (ks : List ℕ) (c : Change) → c.1.arrivals ≡ b.arrivals → ((d : ℕ) (p : Place) → place_of b.files d ≡ Some p → Holds b.files c.1.files b.now c.1.now d p) → Fine (plainly ks c)
   fine_files ks c arrivals holds = fine_plainly ks c (record { arrivals = arrivals; holds = λ d p uncalled here. holds d p here })
 
-  fine_tables : (ks : List ℕ) (c : Change) → c.1.arrivals ≡ b.arrivals → ((d : ℕ) (p : Place) → place_of b.files d ≡ Some p → place_of c.1.files d ≡ Some p)
-      → c.1.files.objects ≡ b.files.objects → c.1.now ≡ b.now → Fine (plainly ks c)
-  fine_tables ks c arrivals places objects now = fine_files ks c arrivals (λ d p here.
-      subst (λ (n : ℕ). Holds b.files c.1.files b.now n d p) (sym now)
-      (holds_same b.files c.1.files b.now d p (places d p here) (ap (λ (os : List (Option Object)). unwrap_or (get_or os p.object None) plain) objects)))
-
 first_passes : (t : Bool) (e : Errno) (rows : List (Bool × Errno)) → first ((t, e) ∷ rows) ≡ None → (t ≡ false) × (first rows ≡ None)
 first_passes true e rows h = cc
 first_passes false e rows h = (refl, h)
@@ -217,34 +205,34 @@ unlike a b h e = absurd (false≢true (sym h ∙ same_test a b e))
 
 module _ (limits : Limits) (b : State) (ends : HaveOwnEnds b.files) (made : AreMade b.files) (filed : Filed b.files) where
   -- a call on the object under a descriptor number
-  fine_object : (event : Event) (p : ℕ) (fd : ℤ) (call : Call) (ks : List ℕ) → first (on_object b p fd call) ≡ None
-      → ((d : ℕ) → is_called b event d ≡ false → (named_by b.files p fd == d) ≡ false) → Fine b event (plainly ks (object_change b p fd call))
-  fine_object event p fd call ks allowed other =
+  fine_object : (event : Event) (p : ℕ) (fd : ℤ) (asked : ObjectCall) (ks : List ℕ) → first (on_object b p fd asked) ≡ None
+      → ((d : ℕ) → is_called b event d ≡ false → (named_by b.files p fd == d) ≡ false) → Fine b event (plainly ks (object_change b p fd asked))
+  fine_object event p fd asked ks allowed other =
       let k = named_by b.files p fd in
-      let rows = object_refusals (object_under b.files p fd) (side_under b.files p fd) b.now call in
+      let rows = object_refusals (object_under b.files p fd) (side_under b.files p fd) b.now asked in
       let passes = first_passes (names_nothing b.files p fd) Ebadf rows allowed in
       fine_plainly b event ks _ (record {
         arrivals = refl;
-        holds = λ d q uncalled here. holds_by b.files ends b.now d q here call k (place_of b.files k) refl (named_lives b.files p fd filed passes.0) (unlike k d (other d uncalled)) passes.1;
+        holds = λ d q uncalled here. holds_by b.files ends b.now d q here asked k (place_of b.files k) refl (named_lives b.files p fd filed passes.0) (unlike k d (other d uncalled)) passes.1;
       })
 
+  -- a call on the tables alone
+  holds_after : (p : ℕ) (call : Call) (d : ℕ) (q : Place) → place_of b.files d ≡ Some q → Holds b.files (files_call limits b.files p (has_parked b p) call).after b.now b.now d q
+  holds_after p call d q here =
+      by_making limits b.files p (has_parked b p) (λ g. Holds b.files g b.now b.now d q)
+      (λ x cloexec has. holds_one b.files made b.now p x cloexec d q here)
+      (λ x cloexec has also. holds_two b.files made b.now p x cloexec d q here)
+      (λ g places objects. holds_same b.files g b.now d q (ap (λ (ds : List (Option Place)). get_or ds d None) places ∙ here) (ap (λ (os : List (Option Object)). unwrap_or (get_or os q.object None) plain) objects))
+      call
+
   fine_call : (caller : ℕ) (p : Pid) (call : Call) (ks : List ℕ) → first (call_refusals limits b p.0 call) ≡ None → Fine b (CallOf p call) (call_change limits b caller p.0 call ks)
-  fine_call caller p (PipeCall cloexec) ks allowed = fine_files b _ ks _ refl (holds_two b.files made b.now p.0 _ cloexec)
-  fine_call caller p (EventFd init semaphore cloexec) ks allowed = fine_files b _ ks _ refl (holds_one b.files made b.now p.0 _ cloexec)
-  fine_call caller p (TimerFd clock cloexec) ks allowed = fine_files b _ ks _ refl (holds_one b.files made b.now p.0 _ cloexec)
-  fine_call caller p (SocketPair cloexec) ks allowed = fine_files b _ ks _ refl (holds_two b.files made b.now p.0 _ cloexec)
-  fine_call caller p (Plain cloexec) ks allowed = fine_files b _ ks _ refl (holds_one b.files made b.now p.0 _ cloexec)
-  fine_call caller p (EpollCreate cloexec) ks allowed = fine_files b _ ks _ refl (holds_one b.files made b.now p.0 _ cloexec)
-  fine_call caller p (EpollCtl epfd op fd mask tag) ks allowed = fine_plainly b _ ks _ (goes_ctl b _ p.0 epfd.0 op fd.0 mask.0 tag)
-  fine_call caller p (EpollWait epfd most timeout) ks allowed = fine_wait b _ caller p.0 (named_by b.files p.0 epfd.0) (number_in most) timeout ks
-  fine_call caller p (Read fd n) ks allowed = fine_object (CallOf p (Read fd n)) p.0 fd.0 (Read fd n) ks allowed (λ d h. h)
-  fine_call caller p (Write fd bytes) ks allowed = fine_object (CallOf p (Write fd bytes)) p.0 fd.0 (Write fd bytes) ks allowed (λ d h. h)
-  fine_call caller p (Shutdown fd) ks allowed = fine_object (CallOf p (Shutdown fd)) p.0 fd.0 (Shutdown fd) ks allowed (λ d h. h)
-  fine_call caller p (SetTime fd absolute value interval) ks allowed =
-      fine_object (CallOf p (SetTime fd absolute value interval)) p.0 fd.0 (SetTime fd absolute value interval) ks allowed (λ d h. h)
-  fine_call caller p (GetTime fd) ks allowed = fine_object (CallOf p (GetTime fd)) p.0 fd.0 (GetTime fd) ks allowed (λ d h. h)
-  fine_call caller p (Dup2 fd to) ks allowed = fine_files b _ ks _ refl (holds_dup2 b.files p.0 fd.0 to.0 (named_by b.files p.0 fd.0) b.now)
-  fine_call caller p call ks allowed = fine_tables b _ ks _ refl (λ d q here. here) refl refl
+  fine_call caller p call ks =
+      by_shape limits b caller p.0 ks (λ on tests c. first tests ≡ None → Fine b (CallOf p on) c)
+      (λ epfd op fd mask tag allowed. fine_plainly b _ ks _ (goes_ctl b _ p.0 epfd.0 op fd.0 mask.0 tag))
+      (λ epfd most timeout allowed. fine_wait b _ caller p.0 (named_by b.files p.0 epfd.0) (number_in most) timeout ks)
+      (λ on fd asked is allowed. fine_object (CallOf p on) p.0 fd.0 asked ks allowed (λ d uncalled. sym (ap (λ (o : Option (Fd × ObjectCall)). is_object_of b p.0 o d) is) ∙ uncalled))
+      (λ on is allowed. fine_files b _ ks _ refl (holds_after p.0 on))
+      call
 
   goes_tick : (k : ℕ) → Goes b (Tick k) (tick b k).1
   goes_tick k = record { arrivals = refl; holds = λ d p uncalled here. record { place = here; shows = clock_stays (object_there b.files p.object) p.side b.now (b.now + k) (omega arith) } }

@@ -1,10 +1,9 @@
 -- What an event doesn't touch stays reportable: a bit ends only at the end of an object on which a call is made.
-use Rattle.std.specs.Prelude.{◌≡◌, ◌≢◌, ◌≤◌, ◌==◌, Bool, IsTrue, List, None, Some, false, true, ℕ}
+use Rattle.std.specs.Prelude.{◌≡◌, ◌≢◌, ◌≤◌, ◌==◌, Bool, IsTrue, List, None, Option, Some, false, true, ℕ}
 use Rattle.ep_base.specs.Limits.{Limits}
-use Rattle.ep_base.specs.declared.call.Call.{Call}
-use Rattle.ep_base.specs.declared.call.Call.TheVariants.{GetTime, Read, SetTime, Shutdown, Write}
 use Rattle.ep_base.specs.declared.call.Event.{Event}
 use Rattle.ep_base.specs.declared.call.Event.TheVariants.{Call as CallOf}
+use Rattle.ep_base.specs.declared.ids.Fd.{Fd}
 use Rattle.ep_base.specs.declared.object.End.{End}
 use Rattle.ep_base.specs.declared.record.Record.{Record}
 use Rattle.ep_law.specs.Laws.{Member}
@@ -12,7 +11,7 @@ use Rattle.ep_machine.specs.Bits.{IsCovered}
 use Rattle.ep_machine.specs.Effect.{attempt, first}
 use Rattle.ep_machine.specs.Files.{named_by, object_of}
 use Rattle.ep_machine.specs.Lists.{is_among}
-use Rattle.ep_machine.specs.Objects.{Object, close_end, instance, object_effect, object_present, object_refusals}
+use Rattle.ep_machine.specs.Objects.{Object, ObjectCall, close_end, instance, object_call, object_effect, object_present, object_refusals}
 use Rattle.ep_machine.specs.Readiness.{is_reportable_by}
 use Rattle.ep_machine.specs.Refusal.{refusals}
 use Rattle.ep_machine.specs.Run.{run}
@@ -27,9 +26,9 @@ EndsNothing x y e old new = IsCovered (object_present y e new) (object_present x
 
 -- a call on one end of an object ends no bit at the other end
 abbrev pub CallEndsHereOnly : Type 0
-CallEndsHereOnly = (x : Object) (e o : End) (now : ℕ) (call : Call)
+CallEndsHereOnly = (x : Object) (e o : End) (now : ℕ) (asked : ObjectCall)
     → e ≢ o → IsTrue (object_has x e) → IsTrue (object_has x o)
-    → EndsNothing x (attempt (object_refusals x e now call) x (object_effect x e now call)).1 o now now
+    → EndsNothing x (attempt (object_refusals x e now asked) x (object_effect x e now asked)).1 o now now
 
 -- a close of one end ends no bit at either
 abbrev pub CloseEndsNothing : Type 0
@@ -39,13 +38,13 @@ CloseEndsNothing = (x : Object) (e o : End) (now : ℕ) → EndsNothing x (close
 abbrev pub ClockEndsNothing : Type 0
 ClockEndsNothing = (x : Object) (e : End) (old new : ℕ) → old ≤ new → EndsNothing x x e old new
 
--- the event is a call on the object of this description
+-- a call that is taken apart so is on the object of this description, and so is an event
+abbrev pub is_object_of : State → ℕ → Option (Fd × ObjectCall) → ℕ → Bool
+is_object_of s p None d = false
+is_object_of s p (Some on) d = named_by s.files p on.0.0 == d
+
 abbrev pub is_called : State → Event → ℕ → Bool
-is_called s (CallOf p (Read fd n)) d = named_by s.files p.0 fd.0 == d
-is_called s (CallOf p (Write fd bytes)) d = named_by s.files p.0 fd.0 == d
-is_called s (CallOf p (Shutdown fd)) d = named_by s.files p.0 fd.0 == d
-is_called s (CallOf p (SetTime fd absolute value interval)) d = named_by s.files p.0 fd.0 == d
-is_called s (CallOf p (GetTime fd)) d = named_by s.files p.0 fd.0 == d
+is_called s (CallOf p call) d = is_object_of s p.0 (object_call call) d
 is_called s event d = false
 
 -- an event that picks these numbers doesn't touch registration x, if `later` says which instances are ready at its end

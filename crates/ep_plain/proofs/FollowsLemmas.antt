@@ -1,6 +1,6 @@
 -- What an event does to the dates that reports, or that changes no registration.
-use Rattle.std.proofs.Common.{◌≡◌, ◌<◌, ◌∙◌, ◌==◌, ◌&&◌, ℕ, All, Bool, true, false, IsSome, List, [], ◌∷◌, Option, ap, arith, cond, inl, inr, map, not, refl, subst, sym}
-use Rattle.std.proofs.lemmas.Bool.{cases_Bool, false≢true}
+use Rattle.std.proofs.Common.{◌≡◌, ◌<◌, ◌∙◌, ◌==◌, ◌&&◌, ℕ, All, Bool, true, false, List, [], ◌∷◌, Option, ap, arith, cond, inl, inr, map, not, refl, subst, sym}
+use Rattle.std.proofs.lemmas.Bool.{cases_Bool}
 use Rattle.std.proofs.lemmas.Bool.Decides.{nat_tests}
 use Rattle.std.proofs.lemmas.List.Elements.{All-map, All-weaker}
 use Rattle.ep_base.specs.declared.call.Call.{Call}
@@ -9,9 +9,8 @@ use Rattle.ep_base.specs.declared.call.Event.{Event}
 use Rattle.ep_base.specs.declared.call.Event.TheVariants.{Call as CallOf}
 use Rattle.ep_base.specs.declared.ids.EntryId.{EntryId}
 use Rattle.ep_base.specs.declared.ids.Pid.{Pid}
-use Rattle.ep_calls.specs.ObjectCall.{fd_of}
+use Rattle.ep_calls.specs.FileCall.{IsFileCall}
 use Rattle.ep_calls.specs.Parts.{Parts}
-use Rattle.ep_calls.specs.TableCall.{IsTableCall}
 use Rattle.ep_calls.specs.Wait.{with_report}
 use Rattle.ep_choice.proofs.NotesLostLemmas.{notes_mapped}
 use Rattle.ep_dates.specs.Dates.{Dates}
@@ -134,10 +133,6 @@ module _ (n : ℕ) (event : Event) (picked : List ℕ) (old new : Parts) (d : Da
   same_follow unnamed = reports_follow n event picked old new d exact (ap (λ (r : Registrations). r.keys) same) entries_same unnamed
 
 -- What is no epoll_ctl names no registration.
-pub object_unnamed : (p : Parts) (pid : Pid) (call : Call) → IsSome (fd_of call) → (x : Entry) → IsNamed p.tables (CallOf pid call) x → ⊥
-object_unnamed p pid (EpollCtl epfd op fd mask tag) h x named = absurd (false≢true h)
-object_unnamed p pid call h x named = named
-
-pub table_unnamed : (p : Parts) (pid : Pid) (call : Call) → IsTableCall call → (x : Entry) → IsNamed p.tables (CallOf pid call) x → ⊥
-table_unnamed p pid (EpollCtl epfd op fd mask tag) h x named = absurd h
-table_unnamed p pid call h x named = named
+pub files_unnamed : (p : Parts) (pid : Pid) (call : Call) → IsFileCall call → (x : Entry) → IsNamed p.tables (CallOf pid call) x → ⊥
+files_unnamed p pid (EpollCtl epfd op fd mask tag) h x named = absurd h
+files_unnamed p pid call h x named = named

@@ -1,8 +1,10 @@
 -- What the descriptors of an event name, by the keys of registrations after its change.
-use Rattle.std.proofs.Common.{◌≡◌, ◌∙◌, ◌==◌, ◌&&◌, ℕ, ℤ, true, false, IsSome, MatchOption, None, Option, Some, ap, is_none, negsuc, pos, refl, slice_index_or, sym, unwrap_or}
+use Rattle.std.proofs.Common.{◌≡◌, ◌∙◌, ◌==◌, ◌&&◌, ℕ, ℤ, Bool, true, false, IsSome, MatchOption, None, Option, Some, ap, is_none, negsuc, pos, refl, slice_index_or, sym, unwrap_or}
 use Rattle.std.proofs.lemmas.Bool.{false≢true}
+use Rattle.std.specs.List.{AllByRecursion}
 use Rattle.ep_base.specs.Limits.{Limits}
-use Rattle.ep_base.specs.declared.call.Call.TheVariants.{EpollCtl, GetTime, Read, SetTime, Shutdown, Write}
+use Rattle.ep_base.specs.declared.call.Call.{Call}
+use Rattle.ep_base.specs.declared.call.Call.TheVariants.{EpollCtl, EpollWait}
 use Rattle.ep_base.specs.declared.call.Event.{Event}
 use Rattle.ep_base.specs.declared.call.Event.TheVariants.{Call as CallOf}
 use Rattle.ep_base.specs.declared.ids.DescId.{DescId}
@@ -13,12 +15,13 @@ use Rattle.ep_interest.specs.declared.entry.Entry.{Entry}
 use Rattle.ep_law.proofs.TestLemmas.{both_true, from_test}
 use Rattle.ep_machine.specs.Effect.{first}
 use Rattle.ep_machine.specs.Files.{Files, named_by, names_nothing, under}
-use Rattle.ep_machine.specs.Refusal.{refusals}
+use Rattle.ep_machine.specs.Objects.{ObjectCall, object_call}
+use Rattle.ep_machine.specs.Refusal.{refusals, refusals_on}
 use Rattle.ep_machine.specs.State.{State, Watch}
 use Rattle.ep_machine.specs.Watches.{number_in}
-use Rattle.ep_order.specs.Ending.{is_called}
+use Rattle.ep_order.specs.Ending.{is_called, is_object_of}
 use Rattle.ep_order.specs.Event.{IsAltered}
-use Rattle.ep_alarms.specs.Called.{IsCalled}
+use Rattle.ep_alarms.specs.Called.{IsCalled, asked_in}
 use Rattle.ep_plain.specs.Exact.{IsNamed}
 use Rattle.ep_table.specs.Value.{Seen, Sound as SoundTables, number_under as desc_number}
 use Rattle.ep_view.proofs.AtRestLemmas.{none_holds}
@@ -88,11 +91,16 @@ module _ (old mid : Seen) (keys : KeepsKeys old mid) (was : SoundTables old) (so
       found (Some desc) it = (desc, refl, was.one a desc (named_by old.files p fd) (here ∙ is_some) (it ∙ is_some))
 
     -- what it is a call on is what was found
-    pub is_found : (event : Event) → first (refusals limits b caller event) ≡ None → (called : Option DescId) → IsCalled old event called
-        → (a : DescId) (d : ℕ) → IsSome (desc_number mid a) → number_at mid.keys a ≡ d → is_called from event d ≡ true → (desc : DescId) × (called ≡ Some desc) × (a.0 ≡ desc.0)
-    is_found (CallOf p (Read fd n)) allowed called is = by_call called p.0 fd.0 is (none_holds (refusals limits b caller (CallOf p (Read fd n))) allowed).1.1.0
-    is_found (CallOf p (Write fd bytes)) allowed called is = by_call called p.0 fd.0 is (none_holds (refusals limits b caller (CallOf p (Write fd bytes))) allowed).1.1.0
-    is_found (CallOf p (Shutdown fd)) allowed called is = by_call called p.0 fd.0 is (none_holds (refusals limits b caller (CallOf p (Shutdown fd))) allowed).1.1.0
-    is_found (CallOf p (SetTime fd absolute value interval)) allowed called is = by_call called p.0 fd.0 is (none_holds (refusals limits b caller (CallOf p (SetTime fd absolute value interval))) allowed).1.1.0
-    is_found (CallOf p (GetTime fd)) allowed called is = by_call called p.0 fd.0 is (none_holds (refusals limits b caller (CallOf p (GetTime fd))) allowed).1.1.0
+    abbrev pub Found : Option DescId → (ℕ → Bool) → Type 0
+    Found called is_on = (a : DescId) (d : ℕ) → IsSome (desc_number mid a) → number_at mid.keys a ≡ d → is_on d ≡ true → (desc : DescId) × (called ≡ Some desc) × (a.0 ≡ desc.0)
+
+    asked_found : (p : ℕ) (call : Call) (on : Option (Fd × ObjectCall)) → AllByRecursion (λ t. t.0 ≡ false) (refusals_on limits b p call on) → (called : Option DescId)
+        → MatchOption called (asked_in old.files p on ≡ None) (λ desc. desc_number old desc ≡ asked_in old.files p on) → Found called (is_object_of from p on)
+    asked_found p call None tests called is = λ a d lives number on. absurd (false≢true on)
+    asked_found p call (Some at) tests called is = by_call called p at.0.0 is tests.0
+
+    pub is_found : (event : Event) → first (refusals limits b caller event) ≡ None → (called : Option DescId) → IsCalled old event called → Found called (is_called from event)
+    is_found (CallOf p (EpollCtl epfd op fd mask tag)) allowed called is = λ a d lives number on. absurd (false≢true on)
+    is_found (CallOf p (EpollWait epfd max timeout)) allowed called is = λ a d lives number on. absurd (false≢true on)
+    is_found (CallOf p call) allowed called is = asked_found p.0 call (object_call call) (none_holds (refusals limits b caller (CallOf p call)) allowed).1.1 called is
     is_found event allowed called is = λ a d lives number on. absurd (false≢true on)

@@ -82,12 +82,7 @@ fn make_call(
             };
             epoll_wait(parts, stamp, args, dating)
         }
-        Call::Read { fd, .. }
-        | Call::Write { fd, .. }
-        | Call::Shutdown { fd }
-        | Call::SetTime { fd, .. }
-        | Call::GetTime { fd } => parts.object_call(pid, fd, call, kept),
-        _ => parts.table_call(pid, call, stamp.has_room),
+        _ => parts.file_call(pid, call, kept, stamp.has_room),
     }
 }
 

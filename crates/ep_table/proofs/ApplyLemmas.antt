@@ -2,19 +2,18 @@
 use Rattle.std.proofs.Common.{Err, IfOk, List, None, Ok, OnErr, OnOk, Option, Result, Some, [], ap, get_or, inl, inr, refl, slice_set, subst, suc, sym, zero, ℕ, ◌∙◌, ◌∷◌, ◌≡◌}
 use Rattle.std.specs.declared.alloc.AllocError.{AllocError}
 use Rattle.ep_base.specs.declared.answer.Answer.{Answer}
-use Rattle.ep_base.specs.declared.call.Call.{Call}
 use Rattle.ep_base.specs.declared.ids.DescId.{DescId}
 use Rattle.ep_base.specs.declared.object.End.{End}
 use Rattle.ep_base.specs.declared.object.End.TheVariants.{First, Second}
 use Rattle.ep_base.specs.declared.object.Raised.{Raised}
 use Rattle.ep_machine.specs.Effect.{Effect, attempt}
 use Rattle.ep_machine.specs.Files.{object_number, place_of}
-use Rattle.ep_machine.specs.Objects.{Object, object_effect, object_refusals}
+use Rattle.ep_machine.specs.Objects.{Object, ObjectCall, object_effect, object_refusals}
 use Rattle.ep_machine.specs.Tables.{affected}
 use Rattle.ep_table.specs.ByNumber.{NumberedBy}
 use Rattle.ep_table.specs.Stored.{AllBacked, AllOwned, IsStore, key_at as end_key, object_in, object_number_in, objects, things}
 use Rattle.ep_table.specs.Value.{Seen, Things, effect_at, files_in, number_of, thing_number, unwrapped}
-use Rattle.ep_table.specs.View.{value_of}
+use Rattle.ep_table.specs.View.{IsTables, value_of}
 use Rattle.ep_table.specs.declared.store.Store.TheInside.{Inside}
 use Rattle.ep_table.specs.declared.tables.Tables.TheInside.{Inside as Tables}
 use Rattle.ep_table.specs.declared.words.Description.{Description}
@@ -74,7 +73,7 @@ module _ (ds : List (Option Description)) (os : List (Option Shared)) (m at : �
 
 -- a call at a description under a key
 module _ {A : Type 0} (k : Inside A) (v : Things) (inv : IsStore k) (same : things k ≡ v) (key : DescId) (d : Description) (is : get_or k.descriptions.slots key.0 None ≡ Some d) (s : Shared) (at : get_or k.objects.slots d.object None ≡ Some s) where
-  pub effect_is : (now : ℕ) (call : Call) → attempt (object_refusals s.object d.end now call) s.object (object_effect s.object d.end now call) ≡ effect_at (files_in v) (thing_number v key) now call
+  pub effect_is : (now : ℕ) (call : ObjectCall) → attempt (object_refusals s.object d.end now call) s.object (object_effect s.object d.end now call) ≡ effect_at (files_in v) (thing_number v key) now call
   effect_is now call =
       let o = object_found k v inv same key d is s at in
       let e = sym (side_is k v inv same key d is) in
@@ -121,7 +120,7 @@ ok_same (Ok p) A B f h = f h
 ok_same (Err p) A B f h = tt
 
 -- the tables with the store after the call
-module _ {A : Type 0} (k : Tables A) (v : Seen) (same : value_of k ≡ v) (key : DescId) (now : ℕ) (call : Call) where
+module _ {A : Type 0} (k : Tables A) (v : Seen) (same : value_of k ≡ v) (key : DescId) (now : ℕ) (call : ObjectCall) where
   abbrev after_call : Things → Things
   after_call s = record s { objects = (affected (files_in s) (thing_number s key) (effect_at (files_in s) (thing_number s key) now call)).objects }
 
@@ -129,3 +128,8 @@ module _ {A : Type 0} (k : Tables A) (v : Seen) (same : value_of k ≡ v) (key :
   value_applied t h =
       let P : Seen → Type 0 = λ w. value_of (record k { store = t }) ≡ record w { files = affected w.files (number_of w key) (effect_at w.files (number_of w key) now call) } in
       subst P same (ap (λ (s : Things). value_of (record k { store = s })) h)
+
+-- a store with other contents of objects leaves what always holds of the tables
+pub still_tables : {A : Type 0} (k : Tables A) (r : Result (Answer × Raised) AllocError) (t : Things) (os : List (Option Object)) → IsTables k → OnOk r (t ≡ record k.store { objects = os }) → OnErr r (t ≡ k.store) → IsTables (record k { store = t })
+still_tables k (Ok p) t os inv ok err = subst (λ (s : Things). IsTables (record k { store = s })) (sym ok) (record { live = inv.live; counts = inv.counts; living = inv.living })
+still_tables k (Err p) t os inv ok err = subst (λ (s : Things). IsTables (record k { store = s })) (sym err) inv

@@ -6,7 +6,6 @@ use Rattle.std.specs.Prelude.{unwrap_or, ℕ, ℤ, ◌+◌, ◌≡◌, ◌≢◌
 use Rattle.ep_base.specs.Limits.{Limits}
 use Rattle.ep_base.specs.declared.answer.Answer.{Answer}
 use Rattle.ep_base.specs.declared.answer.Answer.TheVariants.{Refused}
-use Rattle.ep_base.specs.declared.call.Call.{Call}
 use Rattle.ep_base.specs.declared.errno.Errno.{Errno}
 use Rattle.ep_base.specs.declared.ids.DescId.{DescId}
 use Rattle.ep_machine.specs.Effect.{Effect, attempt, first}
@@ -14,7 +13,7 @@ use Rattle.ep_machine.specs.Deaths.{named_in_tables}
 use Rattle.ep_machine.specs.Files.{Files, Place, is_live, numbers_of, object_of, place_of, side_of, under}
 use Rattle.ep_machine.specs.FilesCalls.{FilesCall}
 use Rattle.ep_machine.specs.Lists.{are_distinct, is_among, place_at}
-use Rattle.ep_machine.specs.Objects.{Object, object_effect, object_refusals, plain}
+use Rattle.ep_machine.specs.Objects.{Object, ObjectCall, object_effect, object_refusals, plain}
 use Rattle.ep_machine.specs.Tables.{affected, create_one, create_two, slot, with_table}
 use Rattle.ep_object.specs.Memory.{object_waiting}
 
@@ -129,7 +128,7 @@ abbrev pub content_of : Files → ℕ → Object
 content_of s d = unwrapped (object_of s d)
 
 -- what a call on the object of a description gives, at the description's end
-abbrev pub effect_at : Files → ℕ → ℕ → Call → Effect Object
+abbrev pub effect_at : Files → ℕ → ℕ → ObjectCall → Effect Object
 effect_at s d now call =
     let x = content_of s d in let e = side_of s d in
     attempt (object_refusals x e now call) x (object_effect x e now call)
@@ -139,10 +138,10 @@ abbrev pub waiting_at : Files → ℕ → ℕ
 waiting_at s d = object_waiting (content_of s d) (side_of s d)
 
 -- the same under a key, and the files after it
-abbrev pub effect_under : Seen → DescId → ℕ → Call → Effect Object
+abbrev pub effect_under : Seen → DescId → ℕ → ObjectCall → Effect Object
 effect_under v key now call = effect_at v.files (number_of v key) now call
 
-abbrev pub files_after : Seen → DescId → ℕ → Call → Files
+abbrev pub files_after : Seen → DescId → ℕ → ObjectCall → Files
 files_after v key now call = affected v.files (number_of v key) (effect_under v key now call)
 
 -- the files once a number of a process names what is under a key
@@ -185,10 +184,10 @@ abbrev pub thing_number : Things → DescId → ℕ
 thing_number v key = unwrap_or (number_at v.keys key) 0
 
 -- what a call on the object under a key gives, and the objects after it
-abbrev pub thing_effect : Things → DescId → ℕ → Call → Effect Object
+abbrev pub thing_effect : Things → DescId → ℕ → ObjectCall → Effect Object
 thing_effect v key now call = effect_at (files_in v) (thing_number v key) now call
 
-abbrev pub objects_after : Things → DescId → ℕ → Call → List (Option Object)
+abbrev pub objects_after : Things → DescId → ℕ → ObjectCall → List (Option Object)
 objects_after v key now call = (affected (files_in v) (thing_number v key) (thing_effect v key now call)).objects
 
 -- how many bytes a read could give there

@@ -14,8 +14,8 @@ ghost use Rattle.ep_table.specs.Value.{InsertsOne, InsertsTwo, SoundThings, coun
 use crate::dying_keys::DyingKeys;
 use crate::live::Live;
 use crate::words::{Dead, Description, Dying, Shared};
-use ep_base::{Answer, Call, DescId, End, Moment, Raised};
-use ep_object::Object;
+use ep_base::{Answer, DescId, End, Moment, Raised};
+use ep_object::{Object, ObjectCall};
 use slab::Slab;
 use std::alloc::{AllocError, Allocator};
 use std::marker::Model;
@@ -271,7 +271,7 @@ impl<A: Allocator> Store<A> {
         &mut self,
         key: DescId,
         now: Moment,
-        call: &Call,
+        call: &ObjectCall<'_>,
     ) -> Result<(Answer, Raised), AllocError>
         requires live { IsSome (number_at self.old.keys key) }
         ensures answer { IfOk result (λ r. r.0 ≡ (thing_effect self.old key now call.now).0) }

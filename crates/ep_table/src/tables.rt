@@ -26,8 +26,8 @@ use crate::processes::{
 use crate::store::Store;
 use crate::table::Table;
 use crate::words::{Dead, Descriptor};
-use ep_base::{Answer, Call, DescId, End, Errno, Fd, Limits, Mask, Moment, Pid, Raised};
-use ep_object::Object;
+use ep_base::{Answer, DescId, End, Errno, Fd, Limits, Mask, Moment, Pid, Raised};
+use ep_object::{Object, ObjectCall};
 use std::alloc::{AllocError, Allocator, Global};
 use std::marker::Model;
 
@@ -630,7 +630,7 @@ impl<A: Allocator> Tables<A> {
         &mut self,
         desc: DescId,
         now: Moment,
-        call: &Call,
+        call: &ObjectCall<'_>,
     ) -> Result<(Answer, Raised), AllocError>
         requires live { IsSome (number_under self.old desc) }
         ensures answer { IfOk result (λ r. r.0 ≡ (effect_under self.old desc now call.now).0) }

@@ -8,7 +8,7 @@ use Rattle.ep_base.specs.Limits.{Limits}
 use Rattle.ep_base.specs.declared.answer.Answer.{Answer}
 use Rattle.ep_base.specs.declared.answer.Answer.TheVariants.{Events}
 use Rattle.ep_base.specs.declared.call.Call.{Call}
-use Rattle.ep_base.specs.declared.call.Call.TheVariants.{Close, Dup, Dup2, EpollCreate, EpollCtl, EpollWait, EventFd, Exec, Exit, Fork, GetTime, Pipe as PipeCall, Plain, Read, SetTime, Shutdown, SocketPair, TimerFd, Write}
+use Rattle.ep_base.specs.declared.call.Call.TheVariants.{Close, Dup, Dup2, EpollCreate, EventFd, Exec, Exit, Fork, Pipe as PipeCall, Plain, SocketPair, TimerFd}
 use Rattle.ep_base.specs.declared.call.Event.{Event}
 use Rattle.ep_base.specs.declared.call.Event.TheVariants.{Call as CallOf, Resume, Tick}
 use Rattle.ep_base.specs.declared.errno.Errno.{Errno}
@@ -17,18 +17,20 @@ use Rattle.ep_base.specs.declared.object.End.{End}
 use Rattle.ep_base.specs.declared.record.Record.{Record}
 use Rattle.ep_machine.specs.Run.{run}
 use Rattle.ep_machine.specs.Settle.{settle}
+use Rattle.ep_law.proofs.ShapeLemmas.{by_making, by_shape}
 use Rattle.ep_law.proofs.StepLemmas.{run_keeps, resumes, change_counted}
 use Rattle.ep_machine.specs.Bits.{ONESHOT, has_bit}
 use Rattle.ep_machine.specs.Effect.{first}
 use Rattle.ep_machine.specs.Files.{Files, Place, is_live, named_by, names_nothing, object_at, object_number, object_of, object_under, place_of, side_under, table_of}
-use Rattle.ep_machine.specs.FilesCalls.{FilesCall, close_of, dup2_of, dup_of, epoll_create_of, eventfd_of, exec_of, exit_of, fork_of, pipe_of, plain_of, socketpair_of, timerfd_of}
+use Rattle.ep_machine.specs.FilesCalls.{FilesCall, files_call}
 use Rattle.ep_machine.specs.Lists.{is_among}
 use Rattle.ep_view.proofs.KindLemmas.{kind_of_instance, watched_unless_plain}
-use Rattle.ep_machine.specs.Objects.{Object, counter, instance, object_effect, pair, pipe, plain, timer}
+use Rattle.ep_machine.specs.Objects.{Object, ObjectCall, counter, instance, object_effect, pair, pipe, plain, timer}
+use Rattle.ep_object.proofs.KindLemmas.{call_keeps_kind, kind_number}
 use Rattle.ep_machine.specs.Pipe.{new_pipe}
 use Rattle.ep_view.specs.AtRest.{Changed, HasSeen, IsSteady, AtRest, kind_of}
 use Rattle.ep_machine.specs.Readiness.{is_ready}
-use Rattle.ep_machine.specs.Refusal.{call_refusals, ctl_refusals, refusals, wait_refusals}
+use Rattle.ep_machine.specs.Refusal.{call_refusals, ctl_refusals, on_object, refusals, wait_refusals}
 use Rattle.ep_machine.specs.Report.{is_pick, plainly, report, report_of, reported, watches_at}
 use Rattle.ep_machine.specs.State.{Change, State, Waiter, Watch, counts_of, opening}
 use Rattle.ep_machine.specs.Sockets.{new_pair}
@@ -79,38 +81,12 @@ quiet_files s g h k e = record {
 }
 
 -- A call on an object keeps its kind.
-pub effect_kind : (x : Object) (e : End) (now : ℕ) (call : Call) → kind_of (Some (object_effect x e now call).1) ≡ kind_of (Some x)
-effect_kind plain e now (Read fd n) = refl
-effect_kind (pipe p) e now (Read fd n) = refl
-effect_kind (pair p) e now (Read fd n) = refl
-effect_kind (counter c) e now (Read fd n) = refl
-effect_kind (timer t) e now (Read fd n) = refl
-effect_kind instance e now (Read fd n) = refl
-effect_kind plain e now (Write fd bytes) = refl
-effect_kind (pipe p) e now (Write fd bytes) = refl
-effect_kind (pair p) e now (Write fd bytes) = refl
-effect_kind (counter c) e now (Write fd bytes) = refl
-effect_kind (timer t) e now (Write fd bytes) = refl
-effect_kind instance e now (Write fd bytes) = refl
-effect_kind plain e now (Shutdown fd) = refl
-effect_kind (pipe p) e now (Shutdown fd) = refl
-effect_kind (pair p) e now (Shutdown fd) = refl
-effect_kind (counter c) e now (Shutdown fd) = refl
-effect_kind (timer t) e now (Shutdown fd) = refl
-effect_kind instance e now (Shutdown fd) = refl
-effect_kind plain e now (SetTime fd absolute value interval) = refl
-effect_kind (pipe p) e now (SetTime fd absolute value interval) = refl
-effect_kind (pair p) e now (SetTime fd absolute value interval) = refl
-effect_kind (counter c) e now (SetTime fd absolute value interval) = refl
-effect_kind (timer t) e now (SetTime fd absolute value interval) = refl
-effect_kind instance e now (SetTime fd absolute value interval) = refl
-effect_kind plain e now (GetTime fd) = refl
-effect_kind (pipe p) e now (GetTime fd) = refl
-effect_kind (pair p) e now (GetTime fd) = refl
-effect_kind (counter c) e now (GetTime fd) = refl
-effect_kind (timer t) e now (GetTime fd) = refl
-effect_kind instance e now (GetTime fd) = refl
-effect_kind x e now call = refl
+kind_by_number : (x : Object) → kind_of (Some x) ≡ cond (kind_number x == 0) 0 (cond (kind_number x == 5) 1 2)
+kind_by_number plain = refl
+kind_by_number x = refl
+
+pub effect_kind : (x : Object) (e : End) (now : ℕ) (asked : ObjectCall) → kind_of (Some (object_effect x e now asked).1) ≡ kind_of (Some x)
+effect_kind x e now asked = kind_by_number (object_effect x e now asked).1 ∙ (ap (λ (k : ℕ). cond (k == 0) 0 (cond (k == 5) 1 2)) (call_keeps_kind x e now asked) ∙ sym (kind_by_number x))
 
 pub kind_there : (o : Option Object) → kind_of (Some (unwrap_or o plain)) ≡ kind_of o
 kind_there None = refl
@@ -124,19 +100,19 @@ some_is_no_none : {X : Type 0} (o : Option X) → is_some o ≡ true → is_none
 some_is_no_none None h = cc
 some_is_no_none (Some x) h = refl
 
-pub object_extends : (s : State) (p : ℕ) (fd : ℤ) (call : Call) → AtRest s → names_nothing s.files p fd ≡ false → Extends s.files (object_change s p fd call).1.files
-object_extends s p fd call h there =
+pub object_extends : (s : State) (p : ℕ) (fd : ℤ) (asked : ObjectCall) → AtRest s → names_nothing s.files p fd ≡ false → Extends s.files (object_change s p fd asked).1.files
+object_extends s p fd asked h there =
     let d = named_by s.files p fd in
     let k = object_number (place_of s.files d) in
-    let x = (object_effect (object_under s.files p fd) (side_under s.files p fd) s.now call).1 in
+    let x = (object_effect (object_under s.files p fd) (side_under s.files p fd) s.now asked).1 in
     let live = some_is_no_none (place_of s.files d) (named_lives s.files p fd (filed s h) there) in
-    extends_with_object s.files k x (λ shows. effect_kind _ (side_under s.files p fd) s.now call ∙ (kind_there (object_of s.files d) ∙ kind_at s.files (place_of s.files d) live))
+    extends_with_object s.files k x (λ shows. effect_kind _ (side_under s.files p fd) s.now asked ∙ (kind_there (object_of s.files d) ∙ kind_at s.files (place_of s.files d) live))
 
-quiet_object_change : (s : State) (p : ℕ) (fd : ℤ) (call : Call) → AtRest s → names_nothing s.files p fd ≡ false → Changed (object_change s p fd call).1
-quiet_object_change s p fd call h there =
+quiet_object_change : (s : State) (p : ℕ) (fd : ℤ) (asked : ObjectCall) → AtRest s → names_nothing s.files p fd ≡ false → Changed (object_change s p fd asked).1
+quiet_object_change s p fd asked h there =
     let k = object_number (place_of s.files (named_by s.files p fd)) in
-    let x = (object_effect (object_under s.files p fd) (side_under s.files p fd) s.now call).1 in
-    quiet_files s _ h (filed_with_object s.files k x (filed s h)) (object_extends s p fd call h there)
+    let x = (object_effect (object_under s.files p fd) (side_under s.files p fd) s.now asked).1 in
+    quiet_files s _ h (filed_with_object s.files k x (filed s h)) (object_extends s p fd asked h there)
 
 quiet_watches : (s : State) (xs : List Watch) (added : ℕ) → AtRest s → All (λ x. IsSteady s.files x.instance x.target) xs → All (λ x. HasSeen x.seen (counts_of s x.target)) xs → Changed (record s { watches = xs; added = added })
 quiet_watches s xs added h steady seen = let was = weaken s h in record { now = h.now; placed = h.placed; lives = was.lives; watches = steady; seen = seen; waiting = h.waiting; callers = h.callers }
@@ -298,29 +274,42 @@ fine_files : (s : State) (c : FilesCall) (ks : List ℕ) → AtRest s → Filed 
 fine_files s c ks h filed extends = fine_plainly ks _ (quiet_files s c.after h filed extends)
 
 -- The calls.
-fine_call : (limits : Limits) (s : State) (caller p : ℕ) (call : Call) (ks : List ℕ) → AtRest s → Filed s.files → is_parked s caller ≡ false → AllByRecursion (λ t. t.0 ≡ false) ((is_none (get_or s.files.tables p None), Esrch) ∷ call_refusals limits s p call) → Fine (call_change limits s caller p call ks)
-fine_call limits s caller p (PipeCall cloexec) ks h f free tests = fine_files s (pipe_of limits s.files p cloexec) ks h (filed_two s.files p (pipe (new_pipe limits.pipe_bytes)) cloexec tests.0 f) (extends_two s.files p (pipe (new_pipe limits.pipe_bytes)) cloexec)
-fine_call limits s caller p (EventFd init semaphore cloexec) ks h f free tests = fine_files s (eventfd_of limits s.files p init semaphore cloexec) ks h (filed_one s.files p (counter (record { count = init; is_semaphore = semaphore })) cloexec tests.0 f) (extends_one s.files p (counter (record { count = init; is_semaphore = semaphore })) cloexec)
-fine_call limits s caller p (TimerFd clock cloexec) ks h f free tests = fine_files s (timerfd_of limits s.files p clock cloexec) ks h (filed_one s.files p (timer new_timer) cloexec tests.0 f) (extends_one s.files p (timer new_timer) cloexec)
-fine_call limits s caller p (SocketPair cloexec) ks h f free tests = fine_files s (socketpair_of limits s.files p cloexec) ks h (filed_two s.files p (pair (new_pair limits.sock_bytes)) cloexec tests.0 f) (extends_two s.files p (pair (new_pair limits.sock_bytes)) cloexec)
-fine_call limits s caller p (Plain cloexec) ks h f free tests = fine_files s (plain_of limits s.files p cloexec) ks h (filed_one s.files p plain cloexec tests.0 f) (extends_one s.files p plain cloexec)
-fine_call limits s caller p (EpollCreate cloexec) ks h f free tests = fine_files s (epoll_create_of limits s.files p cloexec) ks h (filed_one s.files p instance cloexec tests.0 f) (extends_one s.files p instance cloexec)
-fine_call limits s caller p (EpollCtl epfd op fd mask tag) ks h f free tests = fine_plainly ks _ (quiet_ctl limits s p epfd.0 op fd.0 mask.0 tag h tests.1)
-fine_call limits s caller p (EpollWait epfd most timeout) ks h f free tests = fine_wait s caller p epfd.0 most timeout ks h free tests.1
-fine_call limits s caller p (Read fd n) ks h f free tests = fine_plainly ks _ (quiet_object_change s p fd.0 (Read fd n) h tests.1.0)
-fine_call limits s caller p (Write fd bytes) ks h f free tests = fine_plainly ks _ (quiet_object_change s p fd.0 (Write fd bytes) h tests.1.0)
-fine_call limits s caller p (Shutdown fd) ks h f free tests = fine_plainly ks _ (quiet_object_change s p fd.0 (Shutdown fd) h tests.1.0)
-fine_call limits s caller p (SetTime fd absolute value interval) ks h f free tests = fine_plainly ks _ (quiet_object_change s p fd.0 (SetTime fd absolute value interval) h tests.1.0)
-fine_call limits s caller p (GetTime fd) ks h f free tests = fine_plainly ks _ (quiet_object_change s p fd.0 (GetTime fd) h tests.1.0)
-fine_call limits s caller p (Dup fd) ks h f free tests = fine_files s (dup_of limits s.files p fd.0) ks h (filed_dup s.files p (named_by s.files p fd.0) f (named_lives s.files p fd.0 f tests.1.0)) (same_tables s.files _)
-fine_call limits s caller p (Dup2 fd to) ks h f free tests =
-    let d = named_by s.files p fd.0 in
-    let lives = named_lives s.files p fd.0 f tests.1.0 in
-    fine_files s (dup2_of limits s.files p fd.0 to.0) ks h (filed_dup2 s.files p fd.0 to.0 d f lives) (extends_dup2 s.files p fd.0 to.0 d)
-fine_call limits s caller p (Close fd) ks h f free tests = fine_files s (close_of s.files p fd.0) ks h (filed_close s.files p fd.0 f) (same_tables s.files _)
-fine_call limits s caller p Fork ks h f free tests = fine_files s (fork_of limits s.files p) ks h (filed_fork s.files p f) (same_tables s.files _)
-fine_call limits s caller p Exec ks h f free tests = fine_files s (exec_of s.files p (has_parked s p)) ks h (filed_exec s.files p f) (same_tables s.files _)
-fine_call limits s caller p Exit ks h f free tests = fine_files s (exit_of s.files p (has_parked s p)) ks h (filed_exit s.files p f) (same_tables s.files _)
+module _ (limits : Limits) (s : State) (caller p : ℕ) (ks : List ℕ) (h : AtRest s) (f : Filed s.files) (free : is_parked s caller ≡ false) where
+  abbrev IsFine : Call → List (Bool × Errno) → Option Change → Type 0
+  IsFine call tests c = AllByRecursion (λ t. t.0 ≡ false) ((is_none (get_or s.files.tables p None), Esrch) ∷ tests) → Fine c
+
+  abbrev on_files : Call → FilesCall
+  on_files call = files_call limits s.files p (has_parked s p) call
+
+  fine_on_files : (call : Call) → Filed (on_files call).after → Extends s.files (on_files call).after → Fine (plainly ks (files_change s (on_files call)))
+  fine_on_files call = fine_files s (on_files call) ks h
+
+  files_are_fine : (call : Call) → IsFine call (on_files call).refusals (plainly ks (files_change s (on_files call)))
+  files_are_fine (PipeCall cloexec) tests = fine_on_files (PipeCall cloexec) (filed_two s.files p (pipe (new_pipe limits.pipe_bytes)) cloexec tests.0 f) (extends_two s.files p (pipe (new_pipe limits.pipe_bytes)) cloexec)
+  files_are_fine (EventFd init semaphore cloexec) tests = fine_on_files (EventFd init semaphore cloexec) (filed_one s.files p (counter (record { count = init; is_semaphore = semaphore })) cloexec tests.0 f) (extends_one s.files p (counter (record { count = init; is_semaphore = semaphore })) cloexec)
+  files_are_fine (TimerFd clock cloexec) tests = fine_on_files (TimerFd clock cloexec) (filed_one s.files p (timer new_timer) cloexec tests.0 f) (extends_one s.files p (timer new_timer) cloexec)
+  files_are_fine (SocketPair cloexec) tests = fine_on_files (SocketPair cloexec) (filed_two s.files p (pair (new_pair limits.sock_bytes)) cloexec tests.0 f) (extends_two s.files p (pair (new_pair limits.sock_bytes)) cloexec)
+  files_are_fine (Plain cloexec) tests = fine_on_files (Plain cloexec) (filed_one s.files p plain cloexec tests.0 f) (extends_one s.files p plain cloexec)
+  files_are_fine (EpollCreate cloexec) tests = fine_on_files (EpollCreate cloexec) (filed_one s.files p instance cloexec tests.0 f) (extends_one s.files p instance cloexec)
+  files_are_fine (Dup fd) tests = fine_on_files (Dup fd) (filed_dup s.files p (named_by s.files p fd.0) f (named_lives s.files p fd.0 f tests.1.0)) (same_tables s.files _)
+  files_are_fine (Dup2 fd to) tests =
+      let d = named_by s.files p fd.0 in
+      let lives = named_lives s.files p fd.0 f tests.1.0 in
+      fine_on_files (Dup2 fd to) (filed_dup2 s.files p fd.0 to.0 d f lives) (extends_dup2 s.files p fd.0 to.0 d)
+  files_are_fine (Close fd) tests = fine_on_files (Close fd) (filed_close s.files p fd.0 f) (same_tables s.files _)
+  files_are_fine Fork tests = fine_on_files Fork (filed_fork s.files p f) (same_tables s.files _)
+  files_are_fine Exec tests = fine_on_files Exec (filed_exec s.files p f) (same_tables s.files _)
+  files_are_fine Exit tests = fine_on_files Exit (filed_exit s.files p f) (same_tables s.files _)
+  files_are_fine call tests = fine_on_files call f (same_tables s.files s.files.tables)
+
+  fine_call : (call : Call) → IsFine call (call_refusals limits s p call) (call_change limits s caller p call ks)
+  fine_call call =
+      by_shape limits s caller p ks IsFine
+      (λ epfd op fd mask tag tests. fine_plainly ks _ (quiet_ctl limits s p epfd.0 op fd.0 mask.0 tag h tests.1))
+      (λ epfd most timeout tests. fine_wait s caller p epfd.0 most timeout ks h free tests.1)
+      (λ on fd asked is tests. fine_plainly ks _ (quiet_object_change s p fd.0 asked h tests.1.0))
+      (λ on is tests. files_are_fine on tests)
+      call
 
 -- The clock goes on within its range.
 not_above : (a b : ℕ) → nat_lt a b ≡ false → b ≤ a
@@ -333,7 +322,7 @@ fine_tick s k ks h allowed =
 fine_change : (limits : Limits) (s : State) (caller : ℕ) (event : Event) (ks : List ℕ) → AtRest s → first (refusals limits s caller event) ≡ None → Fine (change limits s caller event ks)
 fine_change limits s caller (CallOf p call) ks h allowed =
     let tests = none_holds (refusals limits s caller (CallOf p call)) allowed in
-    fine_call limits s caller p.0 call ks h (filed s h) tests.1.0 (tests.0, tests.1.1)
+    fine_call limits s caller p.0 ks h (filed s h) tests.1.0 call (tests.0, tests.1.1)
 fine_change limits s caller Resume ks h allowed = fine_resume s caller ks h
 fine_change limits s caller (Tick k) ks h allowed = fine_tick s k ks h (none_holds (refusals limits s caller (Tick k)) allowed).0
 
@@ -397,6 +386,14 @@ quiet_run limits past s e = (run_keeps (λ t. WellMade t × AtRest t) limits (λ
 pub extends_self : (f : Files) → Extends f f
 extends_self f = record { lives = λ d e. e; shows = λ d e. refl }
 
+extends_same : (f g : Files) → g.descriptions ≡ f.descriptions → g.objects ≡ f.objects → Extends f g
+extends_same f g places objects = subst (Extends f) (λ i. record g { descriptions = sym places i; objects = sym objects i }) (same_tables f g.tables)
+
+-- a call on the tables alone leaves what is there as it was
+pub extends_call : (limits : Limits) (f : Files) (p : ℕ) (busy : Bool) (call : Call) → Extends f (files_call limits f p busy call).after
+extends_call limits f p busy =
+    by_making limits f p busy (Extends f) (λ x cloexec has. extends_one f p x cloexec) (λ x cloexec has also. extends_two f p x cloexec) (extends_same f)
+
 abbrev Reaches : Files → Option Change → Type 0
 Reaches f o = (made : Change) → o ≡ Some made → Extends f made.1.files
 
@@ -428,26 +425,17 @@ reports_reach : (s : State) (e most : ℕ) (ks : List ℕ) → Reaches s.files (
 reports_reach s e most ks = reaches_if s.files (is_pick s e most ks) _ None (reaches_some s.files _ (extends_self s.files)) (reaches_none s.files)
 
 call_reaches : (limits : Limits) (s : State) (caller p : ℕ) (call : Call) (ks : List ℕ) → AtRest s → first (call_refusals limits s p call) ≡ None → Reaches s.files (call_change limits s caller p call ks)
-call_reaches limits s caller p (PipeCall cloexec) ks h allowed = reaches_plainly s.files ks _ (extends_two s.files p _ cloexec)
-call_reaches limits s caller p (EventFd init semaphore cloexec) ks h allowed = reaches_plainly s.files ks _ (extends_one s.files p _ cloexec)
-call_reaches limits s caller p (TimerFd clock cloexec) ks h allowed = reaches_plainly s.files ks _ (extends_one s.files p _ cloexec)
-call_reaches limits s caller p (SocketPair cloexec) ks h allowed = reaches_plainly s.files ks _ (extends_two s.files p _ cloexec)
-call_reaches limits s caller p (Plain cloexec) ks h allowed = reaches_plainly s.files ks _ (extends_one s.files p _ cloexec)
-call_reaches limits s caller p (EpollCreate cloexec) ks h allowed = reaches_plainly s.files ks _ (extends_one s.files p _ cloexec)
-call_reaches limits s caller p (EpollCtl epfd op fd mask tag) ks h allowed = reaches_plainly s.files ks _ (one_of s.files (is_add op) (is_del op) _ _ _ (extends_self s.files) (extends_self s.files) (extends_self s.files))
-call_reaches limits s caller p (EpollWait epfd most timeout) ks h allowed =
+call_reaches limits s caller p call ks h =
+    by_shape limits s caller p ks (λ on tests c. first tests ≡ None → Reaches s.files c)
+    (λ epfd op fd mask tag allowed. reaches_plainly s.files ks _ (one_of s.files (is_add op) (is_del op) _ _ _ (extends_self s.files) (extends_self s.files) (extends_self s.files)))
+    (λ epfd most timeout allowed.
     let e = named_by s.files p epfd.0 in
     reaches_if s.files (is_ready s e) (report s e (number_in most) ks) (plainly ks (wait_for s caller p e (number_in most) timeout))
     (reports_reach s e (number_in most) ks)
-    (reaches_plainly s.files ks _ (waits_extend s caller p e (number_in most) timeout))
-call_reaches limits s caller p (Read fd n) ks h allowed = reaches_plainly s.files ks _ (object_extends s p fd.0 (Read fd n) h (none_holds (call_refusals limits s p (Read fd n)) allowed).0)
-call_reaches limits s caller p (Write fd bytes) ks h allowed = reaches_plainly s.files ks _ (object_extends s p fd.0 (Write fd bytes) h (none_holds (call_refusals limits s p (Write fd bytes)) allowed).0)
-call_reaches limits s caller p (Shutdown fd) ks h allowed = reaches_plainly s.files ks _ (object_extends s p fd.0 (Shutdown fd) h (none_holds (call_refusals limits s p (Shutdown fd)) allowed).0)
-call_reaches limits s caller p (SetTime fd absolute value interval) ks h allowed =
-    reaches_plainly s.files ks _ (object_extends s p fd.0 (SetTime fd absolute value interval) h (none_holds (call_refusals limits s p (SetTime fd absolute value interval)) allowed).0)
-call_reaches limits s caller p (GetTime fd) ks h allowed = reaches_plainly s.files ks _ (object_extends s p fd.0 (GetTime fd) h (none_holds (call_refusals limits s p (GetTime fd)) allowed).0)
-call_reaches limits s caller p (Dup2 fd to) ks h allowed = reaches_plainly s.files ks _ (extends_dup2 s.files p fd.0 to.0 (named_by s.files p fd.0))
-call_reaches limits s caller p call ks h allowed = reaches_plainly s.files ks _ (same_tables s.files _)
+    (reaches_plainly s.files ks _ (waits_extend s caller p e (number_in most) timeout)))
+    (λ on fd asked is allowed. reaches_plainly s.files ks _ (object_extends s p fd.0 asked h (none_holds (on_object s p fd.0 asked) allowed).0))
+    (λ on is allowed. reaches_plainly s.files ks _ (extends_call limits s.files p (has_parked s p) on))
+    call
 
 reaches_left : (f : Files) (caller : ℕ) (o : Option Change) → Reaches f o → Reaches f (leave_after caller o)
 reaches_left f caller None h = reaches_none f

@@ -3,8 +3,8 @@
 use crate::counters::{at, is_value};
 use crate::streams::{MANY, are_many};
 use ep_base::End::{First, Second};
-use ep_base::{Answer, Buffer, Call, Fd, Mask, Span};
-use ep_object::Object;
+use ep_base::{Answer, Buffer, Call, End, Fd, Mask, Moment, Raised, Span};
+use ep_object::{Object, ObjectCall};
 use std::alloc::{AllocError, Global};
 use std::process::Abort;
 use std::test::Fail;
@@ -20,6 +20,17 @@ fn read(n: u32) -> Call {
     Call::Read { fd: Fd(3), n }
 }
 
+/// What an object answers to a call at one end.
+fn ask(
+    object: &mut Object,
+    end: End,
+    now: Moment,
+    call: &Call,
+) -> Result<(Answer, Raised), AllocError> {
+    let (_, asked) = ObjectCall::of(call).ok_or(AllocError)?;
+    object.apply(end, now, &asked)
+}
+
 /// Bytes that are written at the second end are read at the first; then the second is closed, which raises these bits
 /// there, and those hold then.
 fn carries(
@@ -29,9 +40,9 @@ fn carries(
     present: Mask,
 ) -> Result<(), AllocError> {
     let mut object = made?;
-    let (written, _) = object.apply(Second, at(0), &write(rt.alloc())?)?;
+    let (written, _) = ask(&mut object, Second, at(0), &write(rt.alloc())?)?;
     assert!(rt; written == Answer::Num(20) && object.waiting(First) == 20);
-    let (given, _) = object.apply(First, at(0), &read(64))?;
+    let (given, _) = ask(&mut object, First, at(0), &read(64))?;
     assert!(rt; are_many(&given));
     assert!(rt;
         object.close_end(Second).first == raised && object.present(First, at(0)) == present
@@ -49,7 +60,7 @@ fn a_pipe_and_a_pair_carry_bytes(rt: HostRuntime) -> Result<(), Fail> {
 #[test]
 fn a_counter_is_read(rt: HostRuntime) -> Result<(), Fail> {
     let mut counter = Object::counter(rt.alloc(), 2, false);
-    let (given, raised) = counter.apply(First, at(0), &read(8))?;
+    let (given, raised) = ask(&mut counter, First, at(0), &read(8))?;
     assert!(rt; is_value(&given, 2) && raised.first == Mask::OUT);
     Ok(())
 }
@@ -63,7 +74,7 @@ fn a_timer_expires(rt: HostRuntime) -> Result<(), Fail> {
         value: Span(5),
         interval: Span(0),
     };
-    timer.apply(First, at(10), &set)?;
+    ask(&mut timer, First, at(10), &set)?;
     assert!(rt; timer.next(at(10)) == Some(15) && timer.advance(at(10), at(15)).first == Mask::IN);
     Ok(())
 }
@@ -72,7 +83,7 @@ fn a_timer_expires(rt: HostRuntime) -> Result<(), Fail> {
 fn plain_objects_and_instances_are_told_apart(rt: HostRuntime) -> Result<(), Fail> {
     let mut plain = Object::plain(rt.alloc());
     assert!(rt; plain.is_plain() && Object::instance().is_instance());
-    let (written, _) = plain.apply(First, at(0), &write(rt.alloc())?)?;
+    let (written, _) = ask(&mut plain, First, at(0), &write(rt.alloc())?)?;
     assert!(rt; written == Answer::Num(20));
     Ok(())
 }

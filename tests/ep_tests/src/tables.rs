@@ -3,7 +3,7 @@
 
 use crate::counters::at;
 use ep_base::{Answer, Call, DescId, End, Fd, Limits, Mask, Pid, Span};
-use ep_object::Object;
+use ep_object::{Object, ObjectCall};
 use ep_table::Tables;
 use std::alloc::{AllocError, Global};
 use std::process::Abort;
@@ -95,7 +95,8 @@ fn expires(rt: &impl Abort, tables: &mut Tables, desc: DescId) -> Result<(), All
         value: Span(5),
         interval: Span(0),
     };
-    tables.apply(desc, at(0), &set)?;
+    let (_, asked) = ObjectCall::of(&set).ok_or(AllocError)?;
+    tables.apply(desc, at(0), &asked)?;
     assert!(rt; tables.lookup(FIRST, Fd(3)) == Some(desc));
     assert!(rt;
         tables.next(desc, at(0)) == Some(5) && tables.advance(desc, at(0), at(5)).first == Mask::IN

@@ -1,47 +1,42 @@
-use Rattle.std.proofs.Common.{◌≡◌, ◌∙◌, ℤ, IsSome, OnErr, Some, ap, refl, rules, subst, sym, w32}
+use Rattle.std.proofs.Common.{◌≡◌, ◌∙◌, ℤ, OnErr, ap, refl, rules, subst, sym, w32}
 use Rattle.std.proofs.lemmas.Int.{to_z-of_z}
 use Rattle.std.proofs.lemmas.Result.{IfOk-weaker, on_err_weaker}
 use mir.Val.{SFits}
-use Rattle.ep_alarms.proofs.ChangesLemmas.{as_object, as_table}
+use Rattle.ep_alarms.proofs.ChangesLemmas.{as_files}
 use Rattle.ep_alarms.specs.Changes.{CallsTables}
 use Rattle.ep_base.specs.declared.call.Call.{Call}
 use Rattle.ep_base.specs.declared.call.Call.TheVariants.{EpollCtl}
 use Rattle.ep_calls.specs.Does.{DoesCall}
 use Rattle.ep_calls.specs.Kept.{KeepsCall}
 use Rattle.ep_calls.specs.Last.{NothingRefusesCall}
-use Rattle.ep_calls.specs.ObjectCall.{fd_of}
-use Rattle.ep_calls.specs.TableCall.{IsTableCall}
+use Rattle.ep_calls.specs.FileCall.{IsFileCall}
 use Rattle.ep_base.specs.declared.call.Event.TheVariants.{Call as CallOf}
 use Rattle.ep_interest.specs.declared.entry.Entry.{Entry}
-use Rattle.ep_plain.proofs.FollowsLemmas.{object_unnamed, reports_follow, same_follow, table_unnamed}
+use Rattle.ep_plain.proofs.FollowsLemmas.{files_unnamed, reports_follow, same_follow}
 use Rattle.ep_plain.proofs.RoomLemmas.{grows_none}
 use Rattle.ep_plain.specs.Exact.{Follows, IsNamed}
 use Rattle.ep_table.specs.Value.{Seen}
-use Rattle.ep_calls.proofs.KeptLemmas.{any_call, table_call_kept}
-use Rattle.ep_calls.proofs.SparedLemmas.{table_call_frees}
+use Rattle.ep_calls.proofs.KeptLemmas.{any_call}
 use Rattle.ep_plain.proofs.act.make_call.Goals as goal
 
 pub returns-in_default : goal.returns-in_default
 returns-in_default c =
-    let on_tables : IsTableCall c.args.call.now = search rules in
+    let p = c.args.parts.now in
+    let q = c.file_call.new.self in
+    let call = c.args.call.now in
+    let on_files : IsFileCall call = search rules in
     record {
-      ok = IfOk-weaker c.table_call.result _ _ (λ outcome h. h c.args.stamp.step c.args.stamp.caller.0) c.table_call.ensures.ok;
-      kept = IfOk-weaker c.table_call.result _ _ (λ outcome h. table_call_kept c.args.call.now c.args.kept outcome on_tables) c.table_call.ensures.ok;
-      spared = λ h. c.table_call.ensures.frees (table_call_frees c.args.parts.now.tables.files c.args.pid.0 c.args.call.now on_tables h);
-      tables = IfOk-weaker c.table_call.result _ _ (λ outcome did. as_table c.args.pid.0 c.args.call.now outcome.answer c.args.parts.now c.table_call.new.self on_tables did) c.table_call.ensures.tables;
-      clock = c.table_call.ensures.clock;
-      timers = c.table_call.ensures.room;
-      follows = IfOk-weaker c.table_call.result _ _ (λ outcome none. same_follow c.args.stamp.step (CallOf c.args.pid c.args.call.now) outcome.picked c.args.parts.now c.table_call.new.self c.args.dating.now c.requires.exact c.table_call.ensures.interest none (table_unnamed c.args.parts.now c.args.pid c.args.call.now on_tables)) c.table_call.ensures.picked;
-      last = c.table_call.ensures.last;
-      err = c.table_call.ensures.err;
-      grows = on_err_weaker c.table_call.result (λ none. grows_none c.args.dating.now c.args.dating.now refl) c.table_call.ensures.err;
+      ok = IfOk-weaker c.file_call.result _ _ (λ outcome h. h c.args.stamp.step c.args.stamp.caller.0) c.file_call.ensures.ok;
+      kept = c.file_call.ensures.kept;
+      spared = c.file_call.ensures.spared;
+      tables = IfOk-weaker c.file_call.result _ _ (λ outcome did. as_files c.args.pid.0 call outcome.answer p q on_files did) c.file_call.ensures.tables;
+      clock = c.file_call.ensures.clock;
+      timers = c.file_call.ensures.room;
+      follows = IfOk-weaker c.file_call.result _ _ (λ outcome none. same_follow c.args.stamp.step (CallOf c.args.pid call) outcome.picked p q c.args.dating.now c.requires.exact c.file_call.ensures.interest none (files_unnamed p c.args.pid call on_files)) c.file_call.ensures.picked;
+      last = c.file_call.ensures.last;
+      err = c.file_call.ensures.err;
+      grows = on_err_weaker c.file_call.result (λ none. grows_none c.args.dating.now c.args.dating.now refl) c.file_call.ensures.err;
     }
-
-pub returns-in-Read-clause-ok : goal.returns-in-Read-clause-ok
-returns-in-Read-clause-ok c = IfOk-weaker c.object_call.result _ _ (λ outcome h. h c.args.stamp.step c.args.stamp.caller.0) c.object_call.ensures.ok
-
-pub returns-in-Read-clause-kept : goal.returns-in-Read-clause-kept
-returns-in-Read-clause-kept c = IfOk-weaker c.object_call.result _ _ (λ outcome h. any_call c.args.call.now c.args.kept outcome h) c.object_call.ensures.kept
 
 pub returns-in-EpollWait-clause-kept : goal.returns-in-EpollWait-clause-kept
 returns-in-EpollWait-clause-kept c = IfOk-weaker c.epoll_wait.result _ _ (λ outcome h. any_call c.args.call.now c.args.kept outcome h) c.epoll_wait.ensures.kept
@@ -56,16 +51,6 @@ returns-in-EpollCtl-clause-ok c =
     IfOk-weaker c.epoll_ctl.result _ _ (λ outcome h.
     let P : Call → Type 0 = λ call. DoesCall c.args.stamp.step c.args.stamp.caller.0 c.args.pid.0 call outcome c.args.parts.now c.epoll_ctl.new.parts in
     subst P (sym x.is) (subst (λ (z : ℤ). P (EpollCtl x.epfd z x.fd x.mask x.tag)) (to_z-of_z w32 x.op fits) (h c.args.stamp.step c.args.stamp.caller.0))) c.epoll_ctl.ensures.ok
-
-pub returns-in-Read-clause-follows : goal.returns-in-Read-clause-follows
-returns-in-Read-clause-follows c =
-    let p = c.args.parts.now in
-    let call = c.args.call.now in
-    let on : IsSome (fd_of call) = search rules in
-    IfOk-weaker c.object_call.result _ _ (λ outcome none. same_follow c.args.stamp.step (CallOf c.args.pid call) outcome.picked p c.object_call.new.self c.args.dating.now c.requires.exact c.object_call.ensures.interest none (object_unnamed p c.args.pid call on)) c.object_call.ensures.picked
-
-pub returns-in-Read-clause-grows : goal.returns-in-Read-clause-grows
-returns-in-Read-clause-grows c = on_err_weaker c.object_call.result (λ same. grows_none c.args.dating.now c.args.dating.now refl) c.object_call.ensures.err
 
 pub returns-in-EpollWait-clause-follows : goal.returns-in-EpollWait-clause-follows
 returns-in-EpollWait-clause-follows c =
@@ -96,15 +81,6 @@ returns-in-EpollCtl-clause-last c =
     let x = c.in-EpollCtl in
     let fits : SFits w32 x.op = search rules in
     subst (λ (call : Call). OnErr c.epoll_ctl.result (NothingRefusesCall c.args.parts.now c.args.pid.0 call)) (ap (λ (z : ℤ). EpollCtl x.epfd z x.fd x.mask x.tag) (to_z-of_z w32 x.op fits) ∙ sym x.is) c.epoll_ctl.ensures.last
-
-pub returns-in-Read-clause-tables : goal.returns-in-Read-clause-tables
-returns-in-Read-clause-tables c =
-    let p = c.args.parts.now in
-    let q = c.object_call.new.self in
-    let call = c.args.call.now in
-    let fd = c.in-Read-1.fd in
-    let on : fd_of call ≡ Some fd = search rules in
-    IfOk-weaker c.object_call.result _ _ (λ outcome did. as_object c.args.pid.0 call fd outcome.answer p q on did) c.object_call.ensures.tables
 
 pub returns-in-EpollCtl-clause-tables : goal.returns-in-EpollCtl-clause-tables
 returns-in-EpollCtl-clause-tables c =

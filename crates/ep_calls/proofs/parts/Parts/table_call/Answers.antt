@@ -1,10 +1,11 @@
 use Rattle.std.specs.List.{list_any}
 use Rattle.ep_park.specs.Waiters.{is_of}
+use Rattle.ep_view.proofs.AtRestLemmas.{extends_call}
 use Rattle.ep_calls.specs.Parts.{Parts}
 use Rattle.ep_calls.specs.TableCall.{called}
 use Rattle.ep_calls.proofs.FilesCallLemmas.{does_holds, does_keys, does_kinds}
 use Rattle.ep_calls.proofs.PartsLemmas.{coherent_kept}
-use Rattle.ep_calls.proofs.TableCallLemmas.{extends_call, table_does}
+use Rattle.ep_calls.proofs.TableCallLemmas.{table_does}
 use Rattle.std.proofs.Common.{subst, sym}
 use Rattle.ep_base.specs.declared.answer.Answer.{Answer}
 use Rattle.ep_table.specs.Value.{Does}

@@ -1,0 +1,53 @@
+//! Calls on files: each is taken apart here, into what it asks of an object, or else is one on the tables alone.
+ghost use Rattle.std.specs.Prelude.{ℕ, ◌≡◌, [], IfOk, IsOk, OnErr, false, is_some, true};
+ghost use Rattle.ep_machine.specs.Files.{table_of};
+ghost use Rattle.ep_calls.specs.Clock.{ClockStays};
+ghost use Rattle.ep_calls.specs.Does.{DoesCall};
+ghost use Rattle.ep_calls.specs.FileCall.{CallsFiles, IsFileCall};
+ghost use Rattle.ep_calls.specs.Kept.{KeepsCall};
+ghost use Rattle.ep_calls.specs.Last.{NothingRefusesCall};
+ghost use Rattle.ep_calls.specs.Spared.{TakesNoMemory};
+ghost use Rattle.ep_calls.specs.TableCall.{MakesTimer};
+
+use crate::{Outcome, Parts};
+use ep_base::{Call, Pid};
+use ep_object::ObjectCall;
+use std::alloc::AllocError;
+
+impl Parts {
+    /// A call on files: on the object that its descriptor names, or on the tables alone. `kept`: a second record of it
+    /// is asked for. `has_room`: the kernel has room for what it keeps of a timer, without which none is made.
+    /// An `Err` is want of memory, of that room, or of a number for what is made. It leaves the parts, and comes only
+    /// if nothing refuses the call, and of none that `TakesNoMemory` names.
+    #[inline(always)]
+    pub fn file_call(
+        &mut self,
+        pid: Pid,
+        call: &Call,
+        kept: bool,
+        has_room: bool,
+    ) -> Result<Outcome, AllocError>
+        requires call { IsFileCall call.now }
+        requires process { is_some (table_of self.old.tables.files pid.0) ≡ true }
+        ensures interest { self.new.interest ≡ self.old.interest }
+        ensures tables { IfOk result
+            (λ outcome. CallsFiles pid.0 call.now outcome.answer self.old self.new) }
+        ensures clock { IfOk result
+            (λ outcome. ClockStays outcome.raising self.old.clock self.new.clock) }
+        ensures picked { IfOk result (λ outcome. outcome.picked ≡ []) }
+        ensures ok { IfOk result
+            (λ outcome. (n caller : ℕ)
+            → DoesCall n caller pid.0 call.now outcome self.old self.new) }
+        ensures kept { IfOk result (λ outcome. KeepsCall call.now kept outcome) }
+        ensures room { has_room ≡ false → MakesTimer call.now
+            → self.new.tables ≡ self.old.tables }
+        ensures spared { TakesNoMemory self.old.tables.files pid.0 call.now → IsOk result }
+        ensures last { OnErr result (NothingRefusesCall self.old pid.0 call.now) }
+        ensures err { OnErr result (self.new ≡ self.old) }
+    {
+        match ObjectCall::of(call) {
+            Some((fd, asked)) => self.object_call(pid, fd, &asked, kept),
+            None => self.table_call(pid, call, has_room),
+        }
+    }
+}
