@@ -1,11 +1,13 @@
 -- What a call asks of an object, as contracts see it.
-use Rattle.ep_machine.specs.Objects.{ObjectCall, asks_time, reads, sets_time, shuts_down, writes}
-use Rattle.ep_object.specs.declared.object_call.Asked.{Asked}
-use Rattle.ep_object.specs.declared.object_call.Asked.TheVariants.{GetTime, Read, SetTime, Shutdown, Write}
+use Rattle.std.specs.Prelude.{None, Option, Some}
+use Rattle.ep_base.specs.declared.call.Call.{Call}
+use Rattle.ep_base.specs.declared.ids.Fd.{Fd}
+use Rattle.ep_machine.specs.Objects.{ObjectCall, asks_time, object_call}
 
-abbrev pub asked_by : Asked → ObjectCall
-asked_by (Read n) = reads n
-asked_by (Write bytes) = writes bytes.now
-asked_by Shutdown = shuts_down
-asked_by (SetTime absolute value interval) = sets_time absolute value interval
-asked_by GetTime = asks_time
+-- what a call on an object asks of it; any other call stands for a question that nobody puts
+abbrev pub asked_in : Option (Fd × ObjectCall) → ObjectCall
+asked_in None = asks_time
+asked_in (Some on) = on.1
+
+abbrev pub asked_by : Call → ObjectCall
+asked_by call = asked_in (object_call call)

@@ -9,8 +9,8 @@ ghost use Rattle.ep_machine.specs.Timer.{new_timer, timer_set_refusals};
 ghost use Rattle.ep_object.specs.Memory.{asked_of, object_waiting};
 ghost use Rattle.ep_object.specs.Next.{IsNextMoment};
 
-use crate::object_call::{Asked, ObjectCall};
-use ep_base::{Answer, Buffer, Bytes, Errno, Mask, Moment, Span};
+use crate::object_call::ObjectCall;
+use ep_base::{Answer, Buffer, Bytes, Call, Errno, Mask, Moment, Span};
 use ep_counters::{EventFd, Timer};
 use ep_stream::{End, Pipe, Raised, SockPair};
 use std::alloc::{AllocError, Global};
@@ -208,16 +208,18 @@ impl Object {
         ensures err { OnErr result (self.new ≡ self.old) }
         ensures inline { min (asked_of call.now) (object_waiting self.old end) ≤ 16 → IsOk result }
     {
-        match call.asked {
-            Asked::Read { n } => self.read(end, now, n),
-            Asked::Write { bytes } => Ok(self.write(end, bytes)),
-            Asked::Shutdown => Ok(self.shutdown(end)),
-            Asked::SetTime {
+        match *call.call {
+            Call::Read { n, .. } => self.read(end, now, n),
+            Call::Write { ref bytes, .. } => Ok(self.write(end, bytes)),
+            Call::Shutdown { .. } => Ok(self.shutdown(end)),
+            Call::SetTime {
                 absolute,
                 value,
                 interval,
+                ..
             } => Ok(self.settime(now, absolute, value, interval)),
-            Asked::GetTime => Ok(self.gettime(now)),
+            Call::GetTime { .. } => Ok(self.gettime(now)),
+            _ => unreachable!(),
         }
     }
 
