@@ -1,7 +1,8 @@
 //! Scripts that end too soon.
 
+use crate::difference::found_in;
 use crate::make::Make;
-use crate::script::is_answered;
+use crate::script::fault_of;
 use ep_base::Limits;
 use std::alloc::{AllocError, Global};
 
@@ -27,18 +28,21 @@ fn answers_of_cut(
     Ok(wanted)
 }
 
-/// Whether the script is answered as it is to be wherever it ends.
-pub(crate) fn is_answered_when_cut<K: Make>(
+/// Tells where the script ends that is not answered as it is to be, and which line; `None` where it
+/// is wherever it ends.
+pub(crate) fn fault_when_cut<K: Make>(
     alloc: Global,
     script: &str,
     answers: &str,
-) -> Result<bool, AllocError> {
+) -> Result<Option<String>, AllocError> {
     for count in 0..=script.len() {
         let wanted = answers_of_cut(alloc, script, answers, count)?;
         let part = script.get(..count).unwrap_or("");
-        if !is_answered::<K>(alloc, Limits::default(), part, wanted.as_str())? {
-            return Ok(false);
+        let told = fault_of::<K>(alloc, Limits::default(), part, wanted.as_str())?;
+        if told.is_some() {
+            let place = format!(in alloc; "cut after {count} bytes")?;
+            return found_in(alloc, place.as_str(), told);
         }
     }
-    Ok(true)
+    Ok(None)
 }

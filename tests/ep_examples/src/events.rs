@@ -1,5 +1,6 @@
 //! Makes the events of a script as one list, in place of line by line.
 
+use crate::difference::difference;
 use crate::script::{is_bad, is_header};
 use ep_base::{Answer, CallerId, Event};
 use ep_plain::{Kernel, run};
@@ -36,27 +37,32 @@ fn text_of(alloc: Global, version: Version, answers: &[Answer]) -> Result<String
     Ok(text)
 }
 
-/// The lines that answer commands.
-fn to_commands(alloc: Global, answers: &str) -> Result<String, AllocError> {
+/// The answers to commands, and among them the wanted lines that answer none.
+fn among_others(alloc: Global, given: &str, wanted: &str) -> Result<String, AllocError> {
     let mut text = String::new(alloc);
-    for line in answers.split_inclusive('\n') {
-        if !is_bad(line) && !is_header(line) {
-            text.push_str(line)?;
-        }
+    let mut own = given.split_inclusive('\n');
+    for line in wanted.split_inclusive('\n') {
+        let is_other = is_bad(line) || is_header(line);
+        let next = if is_other { Some(line) } else { own.next() };
+        text.push_str(next.unwrap_or(""))?;
+    }
+    for line in own {
+        text.push_str(line)?;
     }
     Ok(text)
 }
 
-/// Whether the events of the script, asked of the kernel at once, are answered so.
-pub(crate) fn are_events_answered<K: Kernel>(
+/// Tells the first line of the script that is answered otherwise where its events are asked of the
+/// kernel at once; `None` where none is.
+pub(crate) fn fault_of_events<K: Kernel>(
     alloc: Global,
     kernel: &mut K,
     script: &str,
     answers: &str,
-) -> Result<bool, AllocError> {
+) -> Result<Option<String>, AllocError> {
     let version = version_of(alloc, script)?;
     let given = run(kernel, events_of(alloc, version, script)?)?;
     let found = text_of(alloc, version, &given)?;
-    let wanted = to_commands(alloc, answers)?;
-    Ok(found.as_str() == wanted.as_str())
+    let found = among_others(alloc, found.as_str(), answers)?;
+    difference(alloc, script, answers, found.as_str())
 }

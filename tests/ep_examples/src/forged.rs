@@ -1,5 +1,6 @@
 //! Forged histories: the history of an example, turned here and there, and what the audit says of it.
 
+use crate::difference::difference;
 use ep_audit::{AuditFault, audit};
 use ep_base::{Limits, Record};
 use ep_history::{print_record, read_record};
@@ -110,28 +111,40 @@ impl Forgery {
     }
 }
 
-/// Whether the audit says of each forgery of the history what the text says. Each begins with the history and ends with
-/// the line of its verdict.
-pub(crate) fn are_verdicts(
+/// What the audit says of each forgery of the history, among the lines of the text that forge. Each begins with the
+/// history and ends with the line of its verdict.
+fn with_verdicts(
     alloc: Global,
     limits: Limits,
     history: &[Record],
     text: &str,
-) -> Result<bool, AllocError> {
+) -> Result<String, AllocError> {
+    let mut found = String::new(alloc);
     let mut forgery = Forgery {
         limits,
         records: copies_of(alloc, history)?,
     };
     for line in text.lines() {
-        if !forgery.forge(alloc, line)? {
-            if forgery.verdict(alloc)?.as_str() != line {
-                return Ok(false);
-            }
-            forgery = Forgery {
-                limits,
-                records: copies_of(alloc, history)?,
-            };
+        if forgery.forge(alloc, line)? {
+            write!(found, "{line}\n")?;
+            continue;
         }
+        write!(found, "{}\n", forgery.verdict(alloc)?)?;
+        forgery = Forgery {
+            limits,
+            records: copies_of(alloc, history)?,
+        };
     }
-    Ok(true)
+    Ok(found)
+}
+
+/// Tells the first line of the text that is not what the audit says; `None` where there is none.
+pub(crate) fn fault_of_verdicts(
+    alloc: Global,
+    limits: Limits,
+    history: &[Record],
+    text: &str,
+) -> Result<Option<String>, AllocError> {
+    let found = with_verdicts(alloc, limits, history, text)?;
+    difference(alloc, text, text, found.as_str())
 }

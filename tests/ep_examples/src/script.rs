@@ -1,9 +1,10 @@
 //! Runs a script over a new kernel.
 
-use crate::events::are_events_answered;
-use crate::forged::are_verdicts;
+use crate::difference::{difference, found_in, push_part};
+use crate::events::fault_of_events;
+use crate::forged::fault_of_verdicts;
 use crate::make::Make;
-use ep_audit::audit;
+use ep_audit::{AuditFault, audit};
 use ep_base::Limits;
 use ep_plain::Kernel;
 use ep_script::{ScriptFault, Summary, Watched, run_script};
@@ -46,61 +47,102 @@ fn summary_of(answers: &str) -> Summary {
     summary
 }
 
-/// Whether the audit finds the kernel's history to be a run under its limits.
-pub(crate) fn is_legal<K: Kernel>(alloc: Global, kernel: &K) -> bool {
-    audit(alloc, kernel.limits(), kernel.history()).is_ok()
+/// The line of the script that the record in this place was made of, both counted from 0.
+fn line_of_record(answers: &str, place: usize) -> Option<usize> {
+    let commands = answers.lines().enumerate();
+    let mut commands = commands.filter(|(_, it)| !is_bad(it) && !is_header(it));
+    Some(commands.nth(place)?.0)
 }
 
-/// Whether the script is run to its end, writes these answers and nothing else, counts them, and
-/// leaves the new kernel a record for each line that is a command, and a legal history.
-fn is_answered_by<K: Kernel>(alloc: Global, kernel: &mut K, script: &str, answers: &str) -> bool {
+/// Tells which line made the record that the audit refuses; `None` where the kernel's history is a
+/// run under its limits.
+fn fault_of_history<K: Kernel>(
+    alloc: Global,
+    kernel: &K,
+    script: &str,
+    answers: &str,
+) -> Result<Option<String>, AllocError> {
+    let place = match audit(alloc, kernel.limits(), kernel.history()) {
+        Ok(()) => return Ok(None),
+        Err(AuditFault::Memory) => return Ok(Some(format!(in alloc; "the audit had no memory")?)),
+        Err(AuditFault::Illegal(place)) => place,
+    };
+    let at = line_of_record(answers, place).unwrap_or(place);
+    let number = at.saturating_add(1);
+    let mut told = format!(in alloc; "line {number}: ")?;
+    push_part(&mut told, script.lines().nth(at), 0)?;
+    told.push_str("\n    the audit refuses its record, with this answer: ")?;
+    push_part(&mut told, answers.lines().nth(at), 0)?;
+    Ok(Some(told))
+}
+
+/// Tells what the run was not as it is to be: a line was answered otherwise, or it counted other
+/// lines and records, or the audit refuses its history. `None` where all is well.
+fn fault_on<K: Kernel>(
+    alloc: Global,
+    kernel: &mut K,
+    script: &str,
+    answers: &str,
+) -> Result<Option<String>, AllocError> {
     let (outcome, written) = run(alloc, kernel, script);
+    let written = std::str::from_utf8(written.as_slice()).unwrap_or("");
+    let told = difference(alloc, script, answers, written)?;
+    if told.is_some() {
+        return Ok(told);
+    }
     let wanted = summary_of(answers);
     let records = kernel.history().len() as u64;
-    let is_written = written.as_slice() == answers.as_bytes();
-    outcome == Ok(wanted) && records == wanted.records && is_written && is_legal(alloc, kernel)
+    if outcome != Ok(wanted) || records != wanted.records {
+        let told = format!(in alloc; "the run: {outcome:?}, {records} records, not {wanted:?}")?;
+        return Ok(Some(told));
+    }
+    fault_of_history(alloc, kernel, script, answers)
 }
 
 /// The same of a new kernel of these limits.
-pub(crate) fn is_answered<K: Make>(
+pub(crate) fn fault_of<K: Make>(
     alloc: Global,
     limits: Limits,
     script: &str,
     answers: &str,
-) -> Result<bool, AllocError> {
+) -> Result<Option<String>, AllocError> {
     let mut kernel = K::make(alloc, limits)?;
-    Ok(is_answered_by(alloc, &mut kernel, script, answers))
+    fault_on(alloc, &mut kernel, script, answers)
 }
 
-/// Whether a new kernel of these limits answers the commands of the script so where they are asked of it as one list.
-pub(crate) fn is_list_answered<K: Make>(
+/// Tells the first line that a new kernel of these limits answers otherwise where the commands of
+/// the script are asked of it as one list; `None` where it answers none so.
+pub(crate) fn fault_of_list<K: Make>(
     alloc: Global,
     limits: Limits,
     script: &str,
     answers: &str,
-) -> Result<bool, AllocError> {
+) -> Result<Option<String>, AllocError> {
     let mut kernel = K::make(alloc, limits)?;
-    are_events_answered(alloc, &mut kernel, script, answers)
+    let told = fault_of_events(alloc, &mut kernel, script, answers)?;
+    found_in(alloc, "as one list of events", told)
 }
 
-/// Whether the audit says of the forgeries of what the kernel does in the script what the text says.
-fn are_verdicts_on<K: Kernel>(
+/// Tells the first forgery of what the kernel does in the script of which the audit says anything
+/// but what the text says; `None` where there is none.
+fn fault_of_verdicts_on<K: Kernel>(
     alloc: Global,
     kernel: &mut K,
     script: &str,
     wanted: &str,
-) -> Result<bool, AllocError> {
+) -> Result<Option<String>, AllocError> {
     let _ = run(alloc, kernel, script);
-    are_verdicts(alloc, *kernel.limits(), kernel.history(), wanted)
+    fault_of_verdicts(alloc, *kernel.limits(), kernel.history(), wanted)
 }
 
 /// The same of a new kernel of these limits.
-pub(crate) fn are_forgeries<K: Make>(
+pub(crate) fn fault_of_forgeries<K: Make>(
     alloc: Global,
     limits: Limits,
     script: &str,
     wanted: &str,
-) -> Result<bool, AllocError> {
+) -> Result<Option<String>, AllocError> {
     let mut kernel = K::make(alloc, limits)?;
-    are_verdicts_on(alloc, &mut kernel, script, wanted)
+    let told = fault_of_verdicts_on(alloc, &mut kernel, script, wanted)?;
+    found_in(alloc, "its file .forged", told)
 }

@@ -1,5 +1,6 @@
 //! Who is parked and who is marked after each line of a script.
 
+use crate::difference::{difference, found_in};
 use crate::make::Make;
 use crate::script::run;
 use ep_base::{CallerId, Limits};
@@ -50,24 +51,16 @@ fn waiters_on<K: Kernel>(
     Ok(text)
 }
 
-/// Whether who is parked and who is marked on the kernel after each line of the script is so.
-fn are_waiters_on<K: Kernel>(
-    alloc: Global,
-    kernel: &mut K,
-    script: &str,
-    wanted: &str,
-) -> Result<bool, AllocError> {
-    let found = waiters_on(alloc, kernel, script)?;
-    Ok(found.as_str() == wanted)
-}
-
-/// The same of a new kernel of these limits.
-pub(crate) fn are_waiters<K: Make>(
+/// Tells the first line of the script after which anybody else is parked or marked on a new kernel
+/// of these limits; `None` where there is none.
+pub(crate) fn fault_of_waiters<K: Make>(
     alloc: Global,
     limits: Limits,
     script: &str,
     wanted: &str,
-) -> Result<bool, AllocError> {
+) -> Result<Option<String>, AllocError> {
     let mut kernel = K::make(alloc, limits)?;
-    are_waiters_on(alloc, &mut kernel, script, wanted)
+    let found = waiters_on(alloc, &mut kernel, script)?;
+    let told = difference(alloc, script, wanted, found.as_str())?;
+    found_in(alloc, "who waits", told)
 }
