@@ -1,7 +1,5 @@
 //! Makes calls on a new kernel, some of them again and again: `rounds [--plain] [--limits TEXT] SETUP ROUNDS`. Standard
 //! input has lines as those of a script. The first SETUP are made once, all behind them ROUNDS times in turn.
-ghost use Rattle.std.specs.Prelude.{◌*◌, ◌+◌, ◌<◌, ◌^◌, ◌≡◌, IfOk, IfSome, length};
-ghost use Rattle.ep_bench.specs.Makes.{Makes, script};
 
 use crate::fault::{Fault, number};
 use crate::lines::read_lines;
@@ -33,10 +31,7 @@ struct Counts {
 }
 
 /// How many calls are made of `setup` calls and of `round` calls so many times; `None` if that is no number of 64 bits.
-fn calls_of(setup: usize, round: usize, rounds: usize) -> Option<usize>
-    ensures calls { IfSome result (λ calls. calls ≡ setup + rounds * round) }
-    ensures fits { IfSome result (λ calls. calls < 2 ^ 64) }
-{
+fn calls_of(setup: usize, round: usize, rounds: usize) -> Option<usize> {
     rounds.checked_mul(round)?.checked_add(setup)
 }
 
@@ -46,14 +41,7 @@ fn run_on<K: Kernel>(
     kernel: &mut K,
     asked: Asked,
     events: &[(CallerId, Event)],
-) -> Result<Counts, Fault>
-    ensures made { IfOk result
-        (λ counts. Makes (K.bounds kernel.old) (script asked.setup asked.rounds events.now)
-        counts.refused (K.state kernel.old) (K.state kernel.new) (K.past kernel.old)
-        (K.past kernel.new)) }
-    ensures calls { IfOk result
-        (λ counts. counts.calls ≡ length (script asked.setup asked.rounds events.now)) }
-{
+) -> Result<Counts, Fault> {
     let Some((setup, round)) = events.split_at_checked(asked.setup) else {
         return Err(Fault::FewLines);
     };

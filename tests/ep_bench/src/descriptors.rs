@@ -1,5 +1,4 @@
 //! Descriptors come and go.
-ghost use Rattle.std.specs.Prelude.{◌<◌, ◌^◌};
 
 use ep_base::{Answer, Fd, Limits, Pid};
 use ep_object::Object;
@@ -38,9 +37,7 @@ fn open_all(tables: &mut Tables, count: u32) -> Result<u32, AllocError> {
 }
 
 /// Closes the numbers below `end`, and ends each description with its last.
-fn close_below(tables: &mut Tables, end: u32)
-    requires { end < 2 ^ 31 }
-{
+fn close_below(tables: &mut Tables, end: u32) {
     for number in 0..end {
         if tables.has_process(PROCESS) {
             tables.close(PROCESS, Fd(number as i32));

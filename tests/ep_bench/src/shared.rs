@@ -1,5 +1,4 @@
 //! Makes calls through the lock: `shared THREADS CALLS`. For 0 threads one caller makes them on the kernel alone.
-ghost use Rattle.std.specs.Prelude.{◌≡◌, ◌<◌, IfOk, []};
 
 use crate::fault::{Fault, number};
 use ep_base::{Call, CallerId, Event, Fd, Limits, Pid};
@@ -63,13 +62,7 @@ fn calls_shared<K: Kernel + Drop + Send, L: Ledger + Send + Sync, R: Threads + W
     kernel: K,
     threads: u32,
     calls: u32,
-) -> Option<usize>
-    requires name { blank.name ≡ L.name }
-    requires parts { blank.parts ≡ L.parts }
-    requires each { blank.parts ≡ threads }
-    requires some { 0 < threads }
-    requires empty { K.past kernel ≡ [] }
-{
+) -> Option<usize> {
     let (shared, sessions) = Shared::<K, L>::start(alloc, blank, kernel, threads).ok()?;
     let work = |session: Session<L>| calls_of(rt, &shared, session, calls / threads);
     let back = thread::map_vec(rt, sessions, &work).ok()?;
@@ -84,9 +77,7 @@ fn make_calls<K: Kernel + Drop + Send, R: Threads + Wait + Sync>(
     made: Result<K, AllocError>,
     threads: u32,
     calls: u32,
-) -> Option<usize>
-    requires { IfOk made (λ kernel. K.past kernel ≡ []) }
-{
+) -> Option<usize> {
     let kernel = made.ok()?;
     if threads == 0 {
         return Some(calls_alone(kernel, calls));

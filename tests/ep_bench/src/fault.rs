@@ -7,7 +7,7 @@ use thiserror::Error;
 #[derive(Clone, Copy, Debug, Drop, PartialEq, Eq, Error)]
 pub(crate) enum Fault {
     /// The words of the command line are others than these.
-    #[error("usage: ep_bench parts|rounds|shared|records|audit|crowd|each .., as bench/README.md says")]
+    #[error("usage: ep_bench parts|rounds|shared|records|audit|each .., as bench/README.md says")]
     Words,
     /// The word behind `parts` names none and is no number.
     #[error("the parts: registrations, descriptors, raises, lists, moments, deaths, nests, ticks")]

@@ -1,15 +1,13 @@
-//! Times calls, and shows threads on one kernel. The first word says what:
+//! Times calls. The first word says what:
 //!
 //! - `parts [PART] COUNT [CALLS]`: calls of the parts of a kernel, which `bench/parts_growth` times
 //! - `rounds [--plain] [--limits TEXT] SETUP ROUNDS`: calls on a kernel, some of them again and again, which
 //!   `bench/kernel_rounds` times
 //! - `shared THREADS CALLS`: calls through the lock, which `bench/shared_calls` times
 //! - `records COUNT` and `audit COUNT`: records that are made, and audited too, which `bench/audit` times
-//! - `crowd`: four sessions with a thread each on one kernel, which `docs/threads.md` shows
 //! - `each`: all of these in small, which the gate runs
 #![tactic(auto)]
 
-mod crowd;
 mod descriptors;
 mod fault;
 mod idle;
@@ -24,7 +22,6 @@ mod registrations;
 mod rounds;
 mod shared;
 
-use crate::crowd::print_crowd;
 use crate::fault::Fault;
 use crate::kernels::print_rounds;
 use crate::parts::print_parts;
@@ -41,13 +38,12 @@ use std::thread::Threads;
 const FAILED: u8 = 2;
 
 /// What `each` does, in turn.
-const EACH: [&[&str]; 6] = [
+const EACH: [&[&str]; 5] = [
     &["parts", "1000", "100000"],
     &["rounds", "3", "100"],
     &["shared", "2", "1000"],
     &["records", "300"],
     &["audit", "300"],
-    &["crowd"],
 ];
 
 /// Does what the words ask for.
@@ -64,7 +60,6 @@ fn run<R: Threads + Wait + Sync + Input + Print + AllocGlobal>(
         "shared" => print_shared(rt, rest),
         "records" => print_records(rt, rest),
         "audit" => print_audit(rt, rest),
-        "crowd" => print_crowd(rt, rest),
         _ => Err(Fault::Words),
     }
 }
