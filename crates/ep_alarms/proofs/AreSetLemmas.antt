@@ -7,7 +7,8 @@ use Rattle.ep_machine.specs.Objects.{plain}
 use Rattle.ep_machine.specs.Timer.{Timer}
 use Rattle.ep_alarms.proofs.SetLemmas.{some_none}
 use Rattle.ep_alarms.specs.Alarms.{AreSet, AreSetBut, IsSetFor}
-use Rattle.ep_alarms.specs.Timers.{timer_at, timer_of, timer_under}
+use Rattle.ep_alarms.specs.Timers.{timer_at, timer_under}
+use Rattle.ep_object.specs.Next.{timer_of}
 use Rattle.ep_table.specs.Live.{key_of}
 use Rattle.ep_table.specs.Value.{KeepsKeys, Seen, Sound, content_of, number_under}
 

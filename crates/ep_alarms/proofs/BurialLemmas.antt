@@ -5,7 +5,6 @@ use Rattle.std.proofs.lemmas.Bool.{cases_Bool, cases_lt, false≢true}
 use Rattle.std.proofs.lemmas.Bool.Decides.{eqb_tells}
 use Rattle.std.proofs.lemmas.List.{get_or_past, get_or-set_same}
 use Rattle.ep_base.specs.declared.ids.DescId.{DescId}
-use Rattle.ep_base.specs.declared.object.End.{End}
 use Rattle.ep_calls.specs.Burial.{Burial}
 use Rattle.ep_due.specs.DueMap.{Moments, moment_of}
 use Rattle.ep_interest.specs.Registrations.{Registrations}
@@ -20,7 +19,9 @@ use Rattle.ep_machine.specs.Objects.{Object, close_end, plain}
 use Rattle.ep_machine.specs.Timer.{Timer}
 use Rattle.ep_alarms.proofs.SetLemmas.{some_none}
 use Rattle.ep_alarms.specs.Alarms.{AreSet, IsSetFor, LosesDying}
-use Rattle.ep_alarms.specs.Timers.{timer_at, timer_of, timer_under}
+use Rattle.ep_alarms.specs.Timers.{timer_at, timer_under}
+use Rattle.ep_object.proofs.TimerLemmas.{close_keeps_timer}
+use Rattle.ep_object.specs.Next.{timer_of}
 use Rattle.ep_table.specs.Live.{key_of}
 use Rattle.ep_table.specs.Value.{Seen, Sound, number_under}
 
@@ -30,11 +31,6 @@ member_any f (y ∷ ys) x m h = elim m [
   | inl e ↦ or_left (f y) (list_any f ys) (ap f (sym e) ∙ h)
   | inr rest ↦ or_right (f y) (list_any f ys) (member_any f ys x rest h)
 ]
-
--- a timer stays what it is, whichever end closes
-closed_timer : (x : Object) (e : End) → timer_of (close_end x e).0 ≡ timer_of x
-closed_timer plain e = refl
-closed_timer x e = refl
 
 abbrev timer_there : Files → ℕ → Option Timer
 timer_there f k = timer_of (unwrap_or (slice_index_or f.objects k None) plain)
@@ -61,7 +57,7 @@ module _ (f : Files) (raised : List (ℕ × ℕ)) (x : ℕ × Place) where
     | inl l ↦
         ap (λ (o : Option Object). timer_of (unwrap_or (get_or (set f.objects k o) k None) plain)) (kept d p here at)
         ∙ (ap (λ (o : Option Object). timer_of (unwrap_or o plain)) (get_or-set_same f.objects k (Some closed) None l)
-        ∙ closed_timer (unwrap_or (slice_index_or f.objects k None) plain) x.1.side)
+        ∙ close_keeps_timer (unwrap_or (slice_index_or f.objects k None) plain) x.1.side)
     | inr past ↦
         let o = kept_object rest k closed in
         ap (λ (y : Option Object). timer_of (unwrap_or y plain)) (get_or_past (set f.objects k o) k None (omega (arith, past, length-set f.objects k o)) ∙ sym (get_or_past f.objects k None past))

@@ -18,7 +18,7 @@ use Rattle.ep_calls.specs.Control.{Controls}
 use Rattle.ep_calls.specs.declared.control.Control.{Control}
 use Rattle.ep_calls.specs.declared.control.Plan.{Plan}
 use Rattle.ep_calls.specs.declared.outcome.Outcome.{Outcome}
-use Rattle.ep_machine.specs.Objects.{Object as Content, ObjectCall, object_call, object_refusals, timer}
+use Rattle.ep_machine.specs.Objects.{ObjectCall, object_call, object_refusals, plain}
 use Rattle.ep_machine.specs.Tables.{create_one, one_free, one_refusals, slot}
 use Rattle.ep_alarms.proofs.AreSetLemmas.{set_but, set_kept, timer_in}
 use Rattle.ep_alarms.proofs.FilesCallLemmas.{HaveObjects, MakesNoTimer, made_alone, others_left, timer_made}
@@ -46,7 +46,7 @@ use Rattle.ep_machine.specs.Effect.{first}
 use Rattle.ep_machine.specs.Files.{Files, Place, Slot, Table, description_in, is_live, live, named_by, names_nothing, numbers_of, object_at, opening_files, object_under, place_of, side_under, table_of, under}
 use Rattle.ep_machine.specs.FilesCalls.{FilesCall, files_call, is_clock}
 use Rattle.ep_machine.specs.Lists.{enter, lowest_free}
-use Rattle.ep_machine.specs.Timer.{Timer, last_moment, new_timer}
+use Rattle.ep_machine.specs.Timer.{Timer, last_moment}
 use Rattle.ep_table.specs.Live.{key_of}
 use Rattle.ep_table.specs.Value.{Does, KeepsKeys, Refuses, Seen, Sound as SoundTables, Succeeds, number_under}
 
@@ -122,8 +122,9 @@ table_within ts p h = elim (cases_lt p (length ts)) [
   | inr past ↦ absurd (false≢true (sym (ap (λ (o : Option Table). is_some o) (get_or_past ts p None past)) ∙ h))
 ]
 
-created_under : (f : Files) (p : ℕ) (x : Content) (cloexec : Bool) → is_some (table_of f p) ≡ true → under (create_one f p x cloexec) p (pos (one_free (numbers_of f p))) ≡ Some (length f.descriptions)
-created_under f p x cloexec there =
+-- which object it has plays no part
+created_under : (f : Files) (p : ℕ) (cloexec : Bool) → is_some (table_of f p) ≡ true → under (create_one f p plain cloexec) p (pos (one_free (numbers_of f p))) ≡ Some (length f.descriptions)
+created_under f p cloexec there =
     let entry = slot (length f.descriptions) cloexec in
     ap (λ (o : Option Table). description_in (slice_index_or (unwrap_or o []) (one_free (numbers_of f p)) None)) (get_or-set_same f.tables p (Some (enter (numbers_of f p) entry)) None (table_within f.tables p there))
     ∙ ap (λ (o : Option Slot). description_in o) (entered (numbers_of f p) entry)
@@ -222,7 +223,7 @@ module _ (p q : Parts) (a : Moments) (sound : SoundTables p.tables) (sound_now :
     created few there accepted files =
         let clocks = past_one (not (is_clock kind)) Einval (one_refusals limits f pid) accepted in
         let free = past_one (nat_le limits.descriptors n) Emfile ((nat_lt limits.files (length (live f) + 1), Enfile) ∷ []) clocks.1 in
-        let now : under q.tables.files pid (pos n) ≡ Some (length f.descriptions) = ap (λ (g : Files). under g pid (pos n)) files ∙ created_under f pid (timer new_timer) cloexec there in
+        let now : under q.tables.files pid (pos n) ≡ Some (length f.descriptions) = ap (λ (g : Files). under g pid (pos n)) files ∙ created_under f pid cloexec there in
         record {
           small = small_number n limits.descriptors free.0 few;
           there = ap (λ (o : Option ℕ). is_some o) now;

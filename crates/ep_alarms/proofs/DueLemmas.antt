@@ -15,13 +15,14 @@ use Rattle.ep_due.specs.Tick.{is_due}
 use Rattle.ep_interest.specs.Registrations.{Registrations, raised_on}
 use Rattle.ep_machine.specs.Bits.{IN, when}
 use Rattle.ep_machine.specs.Files.{Files}
-use Rattle.ep_machine.specs.Objects.{Object, advance, counter, instance, pair, pipe, plain, timer}
-use Rattle.ep_machine.specs.Timer.{Timer, timer_advance}
-use Rattle.ep_object.specs.Next.{IsNextMoment}
+use Rattle.ep_machine.specs.Objects.{Object, advance}
+use Rattle.ep_machine.specs.Timer.{Timer}
+use Rattle.ep_object.proofs.TimerLemmas.{next_tells, no_timer_raises}
+use Rattle.ep_object.specs.Next.{IsNextMoment, IsNextOf, timer_of}
 use Rattle.ep_alarms.proofs.LeftLemmas.{count_due, each_less, each_none, each_same, fewer_due}
-use Rattle.ep_alarms.proofs.SetLemmas.{some_none}
+use Rattle.ep_alarms.proofs.SetLemmas.{set_next, set_none, some_none}
 use Rattle.ep_alarms.specs.Alarms.{AreSet, IsSetFor}
-use Rattle.ep_alarms.specs.Timers.{timer_at, timer_of, timer_under}
+use Rattle.ep_alarms.specs.Timers.{timer_at, timer_under}
 use Rattle.ep_table.specs.Live.{live_ids}
 use Rattle.ep_table.specs.Value.{Seen, content_of, number_of, number_under}
 
@@ -48,18 +49,13 @@ by_test true k h = refl
 by_test false k h = ap bits_of (sym h)
 
 module _ (since now : ℕ) (tells : NextTellsAdvance) where
-  by_next : (t : Timer) (next : Option ℕ) → IsNextArrival t since next → cond (is_due now (Some next)) (bits_of (timer_advance t since now)) (bits_of 0) ≡ bits_of (timer_advance t since now)
-  by_next t None h = by_test false (timer_advance t since now) (tells t since now None h)
-  by_next t (Some m) h = by_test (nat_le m now) (timer_advance t since now) (tells t since now (Some m) h)
+  by_next : (x : Object) (next : Option ℕ) → IsNextMoment x since next → cond (is_due now (Some next)) (bits_of (advance x since now)) (bits_of 0) ≡ bits_of (advance x since now)
+  by_next x None h = by_test false (advance x since now) (next_tells tells x since now None h)
+  by_next x (Some m) h = by_test (nat_le m now) (advance x since now) (next_tells tells x since now (Some m) h)
 
   by_object : (x : Object) (o : Option (Option ℕ)) → IsSetFor (timer_of x) since o → cond (is_due now o) (bits_of (advance x since now)) (bits_of 0) ≡ bits_of (advance x since now)
-  by_object (timer t) None h = absurd h
-  by_object (timer t) (Some next) h = by_next t next h
-  by_object plain o h = ap (λ (p : Option (Option ℕ)). cond (is_due now p) (bits_of 0) (bits_of 0)) h
-  by_object (pipe p) o h = ap (λ (p : Option (Option ℕ)). cond (is_due now p) (bits_of 0) (bits_of 0)) h
-  by_object (pair p) o h = ap (λ (p : Option (Option ℕ)). cond (is_due now p) (bits_of 0) (bits_of 0)) h
-  by_object (counter p) o h = ap (λ (p : Option (Option ℕ)). cond (is_due now p) (bits_of 0) (bits_of 0)) h
-  by_object instance o h = ap (λ (p : Option (Option ℕ)). cond (is_due now p) (bits_of 0) (bits_of 0)) h
+  by_object x None h = ap bits_of (sym (no_timer_raises x since now (set_none (timer_of x) since h)))
+  by_object x (Some next) h = by_next x next (set_next (timer_of x) since next h)
 
   by_number : (f : Files) (d : Option ℕ) (o : Option (Option ℕ)) → IsSome d → IsSetFor (timer_at f d) since o
       → cond (is_due now o) (bits_of (advance (content_of f (unwrap_or d 0)) since now)) (bits_of 0) ≡ bits_of (advance (content_of f (unwrap_or d 0)) since now)
@@ -109,13 +105,13 @@ record Next (t : Option Timer) (now : ℕ) (next : Option ℕ) : Type 0 where
   pub off : is_due now (Some next) ≡ false
   pub set : IsSetSince t now (Some next)
 
-next_of : (x : Object) (now m : ℕ) (o : Option (Option ℕ)) (next : Option ℕ) → o ≡ Some (Some m) → IsSetSince (timer_of x) now o → IsNextMoment x now next → Next (timer_of x) now next
-next_of (timer t) now m o next is h n = record { off = not_by t now next n; set = λ not. n }
-next_of x now m o next is h n = absurd (some_none (Some m) (sym is ∙ h))
+next_of : (t : Option Timer) (now m : ℕ) (o : Option (Option ℕ)) (next : Option ℕ) → o ≡ Some (Some m) → IsSetSince t now o → IsNextOf t now next → Next t now next
+next_of None now m o next is h n = absurd (some_none (Some m) (sym is ∙ h))
+next_of (Some t) now m o next is h n = record { off = not_by t now next n; set = λ not. n }
 
 next_under : (f : Files) (d : Option ℕ) (now m : ℕ) (o : Option (Option ℕ)) (next : Option ℕ) → o ≡ Some (Some m) → IsSetSince (timer_at f d) now o → IsNextMoment (content_of f (unwrap_or d 0)) now next → Next (timer_at f d) now next
 next_under f None now m o next is h n = absurd (some_none (Some m) (sym is ∙ h))
-next_under f (Some d) now m o next is h n = next_of (content_of f d) now m o next is h n
+next_under f (Some d) now m o next is h n = next_of (timer_of (content_of f d)) now m o next is h n
 
 a_number : (d : Option ℕ) → IsSome d → (k : ℕ) × (d ≡ Some k)
 a_number None h = absurd cc

@@ -7,11 +7,14 @@ use Rattle.ep_counters.specs.Law.{NextTellsAdvance}
 use Rattle.ep_due.specs.DueMap.{HasNoMoment, IsEarliest, Moments, moment_of}
 use Rattle.ep_due.specs.Tick.{is_due as has_come}
 use Rattle.ep_machine.specs.Files.{Files}
-use Rattle.ep_machine.specs.Objects.{Object, advance, counter, instance, pair, pipe, plain, timer}
+use Rattle.ep_machine.specs.Objects.{Object, advance}
 use Rattle.ep_machine.specs.Waits.{is_due}
 use Rattle.ep_alarms.proofs.DueLemmas.{not_come}
+use Rattle.ep_alarms.proofs.SetLemmas.{set_next, set_none}
 use Rattle.ep_alarms.specs.Alarms.{AreSet, IsSetFor}
-use Rattle.ep_alarms.specs.Timers.{timer_at, timer_of}
+use Rattle.ep_alarms.specs.Timers.{timer_at}
+use Rattle.ep_object.proofs.TimerLemmas.{no_timer_raises}
+use Rattle.ep_object.specs.Next.{timer_of}
 use Rattle.ep_table.specs.Live.{key_of}
 use Rattle.ep_table.specs.Value.{Seen, Sound, content_of, number_under}
 
@@ -25,13 +28,8 @@ module _ (law : NextTellsAdvance) (since now : ℕ) where
   never_comes o h = ap (has_come now) (sym h)
 
   raises_as : (x : Object) (o : Option (Option ℕ)) → IsSetFor (timer_of x) since o → nat_lt 0 (advance x since now) ≡ has_come now o
-  raises_as (timer t) None h = absurd h
-  raises_as (timer t) (Some next) h = arrival_told law (timer t) since now next h ∙ same_come next
-  raises_as plain o h = never_comes o h
-  raises_as (pipe p) o h = never_comes o h
-  raises_as (pair p) o h = never_comes o h
-  raises_as (counter p) o h = never_comes o h
-  raises_as instance o h = never_comes o h
+  raises_as x None h = ap (nat_lt 0) (no_timer_raises x since now (set_none (timer_of x) since h))
+  raises_as x (Some next) h = arrival_told law x since now next (set_next (timer_of x) since next h) ∙ same_come next
 
   raises_at : (f : Files) (d : Option ℕ) (n : ℕ) (o : Option (Option ℕ)) → d ≡ Some n → IsSetFor (timer_at f d) since o → nat_lt 0 (advance (content_of f (unwrap_or d 0)) since now) ≡ has_come now o
   raises_at f None n o is h = absurd (cc)

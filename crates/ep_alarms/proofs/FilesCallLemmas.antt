@@ -11,13 +11,11 @@ use Rattle.ep_base.specs.declared.object.End.TheVariants.{First, Second}
 use Rattle.ep_machine.specs.Files.{Files, Place, named_by, numbers_of, object_at, place_of}
 use Rattle.ep_machine.specs.FilesCalls.{files_call}
 use Rattle.ep_machine.specs.Lists.{place_at}
-use Rattle.ep_machine.specs.Objects.{Object, counter, instance, pair, pipe, plain, timer}
+use Rattle.ep_machine.specs.Objects.{Object, plain}
 use Rattle.ep_machine.specs.Tables.{create_one, create_two, describe, dup2, new_object, same_number, slot, with_table}
-use Rattle.ep_machine.specs.Pipe.{new_pipe}
-use Rattle.ep_machine.specs.Sockets.{new_pair}
 use Rattle.ep_machine.specs.Timer.{Timer, new_timer}
 use Rattle.ep_alarms.proofs.AreSetLemmas.{timer_in}
-use Rattle.ep_alarms.specs.Timers.{timer_of}
+use Rattle.ep_object.specs.Next.{timer_of}
 
 -- each description that is there has an object
 abbrev pub HaveObjects : Files → Type 0
@@ -109,20 +107,20 @@ name_again f p fd (pos k) e d = by_test (same_number fd (pos k)) where
 
 -- a call that makes no timer leaves each
 pub others_left : (limits : Limits) (f : Files) (p : ℕ) (busy : Bool) (call : Call) → HaveObjects f → MakesNoTimer call → (d : ℕ) → timer_in (files_call limits f p busy call).after d ≡ timer_in f d
-others_left limits f p busy (PipeCall cloexec) objects is d = two_other f (pipe (new_pipe limits.pipe_bytes)) p cloexec objects refl d
-others_left limits f p busy (SocketPair cloexec) objects is d = two_other f (pair (new_pair limits.sock_bytes)) p cloexec objects refl d
-others_left limits f p busy (EventFd init semaphore cloexec) objects is d = one_other f (counter (record { count = init; is_semaphore = semaphore })) p cloexec objects refl d
-others_left limits f p busy (Plain cloexec) objects is d = one_other f plain p cloexec objects refl d
-others_left limits f p busy (EpollCreate cloexec) objects is d = one_other f instance p cloexec objects refl d
+others_left limits f p busy (PipeCall cloexec) objects is d = two_other f _ p cloexec objects refl d
+others_left limits f p busy (SocketPair cloexec) objects is d = two_other f _ p cloexec objects refl d
+others_left limits f p busy (EventFd init semaphore cloexec) objects is d = one_other f _ p cloexec objects refl d
+others_left limits f p busy (Plain cloexec) objects is d = one_other f _ p cloexec objects refl d
+others_left limits f p busy (EpollCreate cloexec) objects is d = one_other f _ p cloexec objects refl d
 others_left limits f p busy (Dup2 fd to) objects is d = name_again f p fd.0 to.0 (named_by f p fd.0) d
 others_left limits f p busy (TimerFd clock cloexec) objects is d = absurd is
 others_left limits f p busy call objects is d = refl
 
 -- a new timer is what the next description shows
 pub timer_made : (limits : Limits) (f : Files) (p : ℕ) (busy : Bool) (clock : ℤ) (cloexec : Bool) → timer_in (files_call limits f p busy (TimerFd clock cloexec)).after (length f.descriptions) ≡ Some new_timer
-timer_made limits f p busy clock cloexec = one_is f (timer new_timer) p cloexec
+timer_made limits f p busy clock cloexec = one_is f _ p cloexec
 
 -- and no other changes
 pub made_alone : (limits : Limits) (f : Files) (p : ℕ) (busy : Bool) (clock : ℤ) (cloexec : Bool) → HaveObjects f
     → (d : ℕ) → d ≢ length f.descriptions → timer_in (files_call limits f p busy (TimerFd clock cloexec)).after d ≡ timer_in f d
-made_alone limits f p busy clock cloexec objects d ne = one_made f (timer new_timer) p cloexec objects d ne
+made_alone limits f p busy clock cloexec objects d ne = one_made f _ p cloexec objects d ne

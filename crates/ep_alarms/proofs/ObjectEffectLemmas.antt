@@ -1,44 +1,24 @@
 -- Which timers a call on an object leaves as they were.
-use Rattle.std.proofs.Common.{◌≡◌, ◌≢◌, ◌∙◌, ◌==◌, ℕ, false, true, None, Option, Some, ap, is_some, refl, slice_index_or, sym, unwrap_or}
+use Rattle.std.proofs.Common.{◌≡◌, ◌≢◌, ◌∙◌, ℕ, false, true, None, Option, Some, ap, is_some, refl, slice_index_or, sym, unwrap_or}
 use Rattle.ep_base.specs.declared.object.End.{End}
-use Rattle.ep_base.specs.declared.object.End.TheVariants.{First, Second}
 use Rattle.ep_law.proofs.EndLemmas.{set_object}
 use Rattle.ep_law.specs.Laws.{HaveOwnEnds}
 use Rattle.ep_machine.specs.Files.{Files, Place, is_live, object_at, object_number, place_of, side_of}
-use Rattle.ep_machine.specs.Objects.{Object, ObjectCall, counter, instance, object_effect, pair, pipe, plain, timer}
+use Rattle.ep_machine.specs.Objects.{Object, ObjectCall, object_effect, plain}
 use Rattle.ep_machine.specs.Tables.{affected}
 use Rattle.ep_machine.specs.Timer.{Timer}
-use Rattle.ep_object.proofs.KindLemmas.{call_keeps, kind_number}
-use Rattle.ep_object.specs.Law.{object_has}
+use Rattle.ep_object.proofs.TimerLemmas.{call_keeps_timer, timer_has_first}
+use Rattle.ep_object.specs.Next.{timer_of}
 use Rattle.ep_alarms.proofs.AreSetLemmas.{timer_in}
 use Rattle.ep_alarms.proofs.FilesCallLemmas.{placed_is, timer_placed}
-use Rattle.ep_alarms.specs.Timers.{timer_of}
 use Rattle.ep_table.specs.Value.{content_of}
-
--- what is a timer stays one, and what is none stays none
-timer_by_kind : (x : Object) → is_some (timer_of x) ≡ (kind_number x == 4)
-timer_by_kind plain = refl
-timer_by_kind x = refl
-
-effect_keeps : (x : Object) (e : End) (now : ℕ) (asked : ObjectCall) → is_some (timer_of (object_effect x e now asked).1) ≡ is_some (timer_of x)
-effect_keeps = call_keeps (λ (y : Object). is_some (timer_of y)) 4 timer_by_kind
 
 none_is : (o : Option Timer) → is_some o ≡ false → o ≡ None
 none_is None h = refl
 none_is (Some t) h = absurd cc
 
 effect_none : (x : Object) (e : End) (now : ℕ) (asked : ObjectCall) → timer_of x ≡ None → timer_of (object_effect x e now asked).1 ≡ None
-effect_none x e now asked h = none_is _ (effect_keeps x e now asked ∙ ap (λ (o : Option Timer). is_some o) h)
-
--- a timer has its first end alone
-first_end : (x : Object) (e : End) (t : Timer) → timer_of x ≡ Some t → object_has x e ≡ true → e ≡ First
-first_end (timer u) First t is h = refl
-first_end (timer u) Second t is h = absurd cc
-first_end plain e t is h = absurd cc
-first_end (pipe p) e t is h = absurd cc
-first_end (pair p) e t is h = absurd cc
-first_end (counter c) e t is h = absurd cc
-first_end instance e t is h = absurd cc
+effect_none x e now asked h = none_is _ (call_keeps_timer x e now asked ∙ ap (λ (o : Option Timer). is_some o) h)
 
 abbrev there : Files → ℕ → Object
 there f k = unwrap_or (slice_index_or f.objects k None) plain
@@ -64,7 +44,7 @@ module _ (f : Files) (number now : ℕ) (asked : ObjectCall) (own : HaveOwnEnds 
   no_timer d ne p is same None at = refl
   no_timer d ne p is same (Some t) at =
       let at_q : timer_of (there f q.object) ≡ Some t = ap (λ (k : ℕ). timer_of (there f k)) (sym same) ∙ at in
-      let sides : p.side ≡ q.side = first_end (there f p.object) p.side t at (own.ends d p is) ∙ sym (first_end (there f q.object) q.side t at_q (own.ends number q its)) in
+      let sides : p.side ≡ q.side = timer_has_first (there f p.object) p.side t at (own.ends d p is) ∙ sym (timer_has_first (there f q.object) q.side t at_q (own.ends number q its)) in
       absurd (ne (own.apart d number q (is ∙ ap (λ (r : Place). Some r) (same_place p q same sides)) its))
 
   timer_stays : (d : ℕ) → d ≢ number → (p : Place) → place_of f d ≡ Some p → timer_of (there g p.object) ≡ timer_of (there f p.object)
@@ -106,7 +86,7 @@ own_kept f number now asked = by_place (place_of f number) refl where
       let content_is : content_of f number ≡ there f q.object = ap (λ (o : Option Place). unwrap_or (object_at f o) plain) is in
       let kept : is_some (timer_of (there left q.object)) ≡ is_some (timer_of (there f q.object)) =
       set_object (λ (y : Object). is_some (timer_of y) ≡ is_some (timer_of (there f q.object))) f.objects (object_number (place_of f number)) q.object (Some after_call)
-      (λ e. effect_keeps (content_of f number) (side_of f number) now asked ∙ ap (λ (y : Object). is_some (timer_of y)) content_is)
+      (λ e. call_keeps_timer (content_of f number) (side_of f number) now asked ∙ ap (λ (y : Object). is_some (timer_of y)) content_is)
       refl in
       ap (λ (t : Option Timer). is_some t) (placed_is left (place_of f number) ∙ ap (timer_placed left.objects) is)
       ∙ (kept ∙ sym (ap (λ (t : Option Timer). is_some t) (placed_is f (place_of f number) ∙ ap (timer_placed f.objects) is)))

@@ -1,14 +1,10 @@
 -- The live timers of the tables.
 use Rattle.std.specs.Prelude.{None, Option, Some, ℕ}
 use Rattle.ep_machine.specs.Files.{Files}
-use Rattle.ep_machine.specs.Objects.{Object, timer}
 use Rattle.ep_machine.specs.Timer.{Timer}
+use Rattle.ep_object.specs.Next.{timer_of}
 use Rattle.ep_table.specs.Live.{key_of}
 use Rattle.ep_table.specs.Value.{Seen, content_of, number_under}
-
-abbrev pub timer_of : Object → Option Timer
-timer_of (timer t) = Some t
-timer_of x = None
 
 -- the timer of a description, where it is one
 abbrev pub timer_at : Files → Option ℕ → Option Timer

@@ -12,7 +12,7 @@ use Rattle.ep_calls.specs.Raising.{IsRaising, clock_bits, object_bits, raised_bi
 use Rattle.ep_calls.specs.declared.raising.Raising.{Raising}
 use Rattle.ep_calls.specs.declared.raising.Raising.TheVariants.{Clock, Instance, Nowhere, Object as AtObject}
 use Rattle.ep_law.proofs.NarrowLemmas.{has_in}
-use Rattle.ep_law.proofs.RaiseLemmas.{no_bit}
+use Rattle.ep_object.proofs.BitLemmas.{no_bit}
 use Rattle.ep_law.proofs.TestLemmas.{from_test}
 use Rattle.ep_machine.specs.Bits.{IN, at_end, has_bit, nothing, when}
 use Rattle.ep_machine.specs.Files.{Place, object_at, object_number, object_of, place_of}

@@ -10,7 +10,6 @@ use Rattle.ep_interest.specs.Registrations.{Registrations, is_other, modified, n
 use Rattle.ep_interest.specs.declared.entry.Entry.{Entry}
 use Rattle.ep_machine.specs.Files.{named_by, object_of}
 use Rattle.ep_view.proofs.KindLemmas.{watched_unless_plain}
-use Rattle.ep_machine.specs.Objects.{instance}
 use Rattle.ep_view.specs.AtRest.{can_be_watched}
 use Rattle.ep_machine.specs.Refusal.{ctl_refusals}
 use Rattle.ep_machine.specs.Step.{call_change}

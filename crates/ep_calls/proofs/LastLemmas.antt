@@ -1,9 +1,7 @@
 -- That nothing refuses a call or an event which wants memory.
-use Rattle.std.proofs.Common.{◌≡◌, ◌∙◌, ◌≤◌, ◌&&◌, ◌∷◌, [], ℕ, Bool, IsSome, List, None, Option, Some, ap, arith, false, true, find, is_none, is_some, length, min, not, refl, sym, unwrap_or}
-use Rattle.std.specs.Prelude.{nat_lt}
-use Rattle.ep_base.specs.declared.errno.Errno.TheVariants.{Eagain, Ebusy, Esrch}
-use Rattle.ep_machine.specs.Lists.{is_empty}
-use Rattle.ep_machine.specs.Sockets.{is_over}
+use Rattle.std.proofs.Common.{◌≡◌, ◌∙◌, ◌≤◌, ◌∷◌, ℕ, Bool, IsSome, List, None, Option, Some, ap, arith, false, true, find, is_none, is_some, length, min, refl, sym, unwrap_or}
+use Rattle.std.proofs.Math.Nat.{lt_of_not-le}
+use Rattle.ep_base.specs.declared.errno.Errno.TheVariants.{Ebusy, Esrch}
 use Rattle.std.specs.List.{list_any}
 use Rattle.ep_base.specs.declared.call.Call.{Call}
 use Rattle.ep_base.specs.declared.call.Event.{Event}
@@ -11,19 +9,19 @@ use Rattle.ep_base.specs.declared.call.Event.TheVariants.{Call as CallOf, Resume
 use Rattle.ep_base.specs.declared.ids.DescId.{DescId}
 use Rattle.ep_base.specs.declared.ids.Fd.{Fd}
 use Rattle.ep_base.specs.declared.ids.Pid.{Pid}
-use Rattle.ep_base.specs.declared.object.End.TheVariants.{First, Second}
 use Rattle.ep_base.specs.declared.object.End.{End}
 use Rattle.ep_base.specs.declared.record.Record.{Record}
 use Rattle.ep_interest.specs.Registrations.{has_key}
 use Rattle.ep_machine.specs.Effect.{first}
 use Rattle.ep_machine.specs.Files.{Files, named_by, table_of, under}
-use Rattle.ep_machine.specs.Objects.{Object, ObjectCall, object_call, object_refusals, pair, pipe, read_refusals, reads}
+use Rattle.ep_machine.specs.Objects.{Object, ObjectCall, object_call, object_refusals}
 use Rattle.ep_machine.specs.Refusal.{call_refusals, refusals}
 use Rattle.ep_machine.specs.Run.{run}
 use Rattle.ep_machine.specs.State.{State, Waiter, opening}
 use Rattle.ep_machine.specs.Step.{next_event}
 use Rattle.ep_machine.specs.Waits.{is_parked}
 use Rattle.ep_machine.specs.Watches.{is_add, is_exclusive_there, is_mod, number_in}
+use Rattle.ep_object.proofs.AnswerLemmas.{waiting_is_given}
 use Rattle.ep_object.specs.Memory.{asked_of, object_waiting}
 use Rattle.ep_park.specs.Waiters.{is_caller, parked}
 use Rattle.ep_park.specs.declared.waiter.Waiter.{Waiter as ParkedWaiter}
@@ -49,24 +47,9 @@ use Rattle.ep_calls.proofs.ObjectCallLemmas.{refusals_are}
 use Rattle.ep_calls.proofs.RegistrationLemmas.{caller_waits}
 use Rattle.ep_calls.proofs.ResumeLemmas.{there}
 
-filled : (bytes : List ℕ) (n : ℕ) → (min n (length bytes) ≤ 16 → ⊥) → is_empty bytes ≡ false
-filled [] n h = absurd (h (omega arith))
-filled (b ∷ bs) n h = refl
-
-not_again : (a empty b : Bool) → empty ≡ false → first ((a && empty && b, Eagain) ∷ []) ≡ None
-not_again true empty b h = ap (λ (x : Bool). first ((x && b, Eagain) ∷ [])) h
-not_again false empty b h = refl
-
--- a read for which more bytes wait than an answer holds in itself
-long_read : (x : Object) (e : End) (now n : ℕ) → (min n (object_waiting x e) ≤ 16 → ⊥) → first (read_refusals x e n now) ≡ None
-long_read (pipe p) First now n h = not_again (nat_lt 0 n) (is_empty p.bytes) p.has_writer (filled p.bytes n h)
-long_read (pair p) First now n h = not_again (nat_lt 0 n) (is_empty p.first_end.queue) (not (is_over p.second_end)) (filled p.first_end.queue n h)
-long_read (pair p) Second now n h = not_again (nat_lt 0 n) (is_empty p.second_end.queue) (not (is_over p.first_end)) (filled p.second_end.queue n h)
-long_read x e now n h = absurd (h (omega arith))
-
-pub long_call : (x : Object) (e : End) (now : ℕ) (asked : ObjectCall) → (min (asked_of asked) (object_waiting x e) ≤ 16 → ⊥) → first (object_refusals x e now asked) ≡ None
-long_call x e now (reads n) h = long_read x e now n h
-long_call x e now asked h = absurd (h (omega arith))
+-- a call that may want memory: more bytes are asked for, and wait, than an answer holds in itself
+long_call : (x : Object) (e : End) (now : ℕ) (asked : ObjectCall) → (min (asked_of asked) (object_waiting x e) ≤ 16 → ⊥) → first (object_refusals x e now asked) ≡ None
+long_call x e now asked h = let long = lt_of_not-le h in waiting_is_given x e now asked (omega (arith, long))
 
 module _ (p : Parts) (pid : ℕ) where
   pub object_last : (fd : Fd) (desc : DescId) (asked : ObjectCall) → number_under p.tables desc ≡ under p.tables.files pid fd.0 → IsSome (number_under p.tables desc)

@@ -7,11 +7,12 @@ use Rattle.ep_counters.specs.Law.{NextTellsAdvance, is_by}
 use Rattle.ep_machine.specs.Bits.{IN, when}
 use Rattle.ep_machine.specs.Files.{Place, object_at, place_of}
 use Rattle.ep_machine.specs.Lists.{numbered}
-use Rattle.ep_machine.specs.Objects.{Object, advance, timer}
+use Rattle.ep_machine.specs.Objects.{Object, advance}
 use Rattle.ep_machine.specs.Waits.{is_due}
 use Rattle.ep_calls.specs.Arrivals.{arrives_at, arrives_by}
 use Rattle.ep_calls.specs.Raising.{clock_bits}
 use Rattle.ep_law.proofs.TestLemmas.{or_right}
+use Rattle.ep_object.proofs.TimerLemmas.{next_tells}
 use Rattle.ep_object.specs.Next.{IsNextMoment}
 use Rattle.ep_table.specs.Live.{key_of}
 use Rattle.ep_table.specs.Value.{Seen, Sound, number_under, unwrapped}
@@ -114,9 +115,5 @@ by_is_due : (next : Option ℕ) (now : ℕ) → is_by next now ≡ is_due now ne
 by_is_due None now = refl
 by_is_due (Some moment) now = refl
 
-never : (next : Option ℕ) (now : ℕ) → next ≡ None → false ≡ is_due now next
-never next now h = ap (is_due now) (sym h)
-
 pub arrival_told : NextTellsAdvance → (x : Object) (since now : ℕ) (next : Option ℕ) → IsNextMoment x since next → nat_lt 0 (advance x since now) ≡ is_due now next
-arrival_told law (timer t) since now next h = ap (λ (bits : ℕ). nat_lt 0 bits) (law t since now next h) ∙ (bit_is (is_by next now) ∙ by_is_due next now)
-arrival_told law x since now next h = never next now h
+arrival_told law x since now next h = ap (nat_lt 0) (next_tells law x since now next h) ∙ (bit_is (is_by next now) ∙ by_is_due next now)

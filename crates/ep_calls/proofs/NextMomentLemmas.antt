@@ -1,17 +1,17 @@
 -- The first moment that has an effect.
-use Rattle.std.proofs.Common.{◌≡◌, ◌∙◌, ◌+◌, ◌-◌, ◌<◌, ◌≤◌, ◌&&◌, ◌||◌, ◌==◌, ℕ, Bool, true, false, not, List, [], ◌∷◌, None, Option, Some, ap, arith, map, nat_le, nat_lt, refl, subst, sym, unwrap_or}
+use Rattle.std.proofs.Common.{◌≡◌, ◌∙◌, ◌+◌, ◌-◌, ◌<◌, ◌≤◌, ◌&&◌, ◌||◌, ℕ, Bool, true, false, not, List, [], ◌∷◌, None, Option, Some, ap, arith, map, nat_le, nat_lt, refl, subst, sym, unwrap_or}
 use Rattle.std.specs.Prelude.{◌↔◌, IfSome, IsSome}
 use Rattle.std.proofs.Math.Nat.{lt_of_not-le}
 use Rattle.std.proofs.lemmas.Bool.{false≢true}
 use Rattle.std.specs.List.{list_any}
 use Rattle.std.proofs.lemmas.Bool.Decides.{nat_tests}
-use Rattle.ep_machine.specs.Bits.{IN, when}
 use Rattle.ep_machine.specs.Files.{Files, Place, live, object_at}
 use Rattle.ep_machine.specs.Marks.{first_marked as first_of_each}
-use Rattle.ep_machine.specs.Objects.{Object, advance, instance, plain, timer}
+use Rattle.ep_machine.specs.Objects.{Object, advance, plain}
 use Rattle.ep_machine.specs.State.{State, Waiter}
-use Rattle.ep_machine.specs.Timer.{last_moment, unread}
+use Rattle.ep_machine.specs.Timer.{last_moment}
 use Rattle.ep_machine.specs.Waits.{advance_at, is_due, is_marked_at, marked_if_due, waits_at}
+use Rattle.ep_object.proofs.TimerLemmas.{still_raises_nothing}
 use Rattle.ep_view.proofs.WaiterLemmas.{any_at}
 use Rattle.ep_view.specs.AtRest.{AtRest, needs_mark}
 use Rattle.ep_calls.specs.Arrivals.{arrives_by}
@@ -40,12 +40,8 @@ effect_of p s k stands = λ i. raises i || marks i
 
 -- No tick of 0 has an effect at rest.
 module _ (since : ℕ) where
-  no_bit : (n : ℕ) → nat_lt 0 (when (n == 0 && nat_lt 0 n) IN) ≡ false
-  no_bit n = grind (arith, nat_tests)
-
   no_advance : (x : Object) → nat_lt 0 (advance x since since) ≡ false
-  no_advance (timer t) = no_bit (unread t since)
-  no_advance x = refl
+  no_advance x = ap (nat_lt 0) (still_raises_nothing x since)
 
   none_raised : (files : Files) (xs : List (ℕ × Place)) → list_any (λ x. nat_lt 0 (clock_bits files since since (Some x.1))) xs ≡ false
   none_raised files [] = refl

@@ -1,73 +1,48 @@
 -- Calls on the object that a descriptor names.
-use Rattle.std.proofs.Common.{◌≡◌, ℕ, ℤ, Bool, false, true, List, ◌∷◌, Option, Some, None, IsSome, is_none, min, slice_index_or, slice_set, unwrap_or, refl, ap, sym, ◌∙◌, arith, subst}
+use Rattle.std.proofs.Common.{◌≡◌, ℕ, ℤ, Bool, false, true, List, ◌∷◌, Option, Some, None, IsSome, is_none, max, min, slice_index_or, slice_set, unwrap_or, refl, ap, sym, ◌∙◌, arith, subst}
 use Rattle.std.specs.Prelude.{MatchOption}
 use Rattle.std.specs.declared.alloc.Global.{Global}
 use Rattle.std.proofs.lemmas.Bool.{false≢true}
-use Rattle.std.proofs.lemmas.List.{length-take, set-get_or}
+use Rattle.std.proofs.lemmas.List.{set-get_or}
 use Rattle.std.proofs.lemmas.Option.{none-some}
 use Rattle.smallvec.specs.SmallVec.{HasRoomFor}
 use Rattle.smallvec.specs.declared.SmallVec.{SmallVec}
 use Rattle.ep_base.specs.declared.answer.Answer.{Answer}
+use Rattle.ep_base.specs.declared.answer.Answer.TheVariants.{Bytes, Done, Num, Refused, Time}
 use Rattle.ep_base.specs.declared.errno.Errno.{Errno}
 use Rattle.ep_base.specs.declared.errno.Errno.TheVariants.{Ebadf}
 use Rattle.ep_base.specs.declared.object.End.{End}
-use Rattle.ep_base.specs.declared.object.End.TheVariants.{First, Second}
 use Rattle.ep_machine.specs.Effect.{Effect, attempt, first, unless}
 use Rattle.ep_machine.specs.Files.{Files, Place, named_by, names_nothing, object_at, object_number, object_of, object_under, place_of, side_of, side_under, under, with_object}
-use Rattle.ep_machine.specs.Objects.{Object, ObjectCall, asks_time, counter, gettime, instance, object_effect, object_refusals, pair, pipe, plain, read, read_refusals, reads, sets_time, settime, shutdown, shuts_down, timer, write, write_refusals, writes}
+use Rattle.ep_machine.specs.Objects.{Object, ObjectCall, object_effect, object_refusals, plain}
 use Rattle.ep_machine.specs.Tables.{affected}
-use Rattle.ep_object.specs.Memory.{asked_of, object_waiting}
+use Rattle.ep_object.proofs.AnswerLemmas.{gives_few}
+use Rattle.ep_object.specs.Memory.{GivesAtMost, asked_of, object_waiting}
 use Rattle.ep_machine.specs.FilesCalls.{FilesCall}
 use Rattle.ep_calls.specs.ObjectCall.{FitsRoom, object_call_of}
 use Rattle.ep_table.specs.Value.{Does, Refuses, Seen, Succeeds, content_of, effect_at, holds_of, number_of, number_under}
 use Rattle.ep_base.specs.declared.ids.DescId.{DescId}
 
--- a refusal fits, and else what is given
-unless_fits : (refusal : Option Errno) (x : Object) (f : Effect Object) (room : SmallVec ℕ 16 Global) → FitsRoom f.0 room → FitsRoom (unless refusal x f).0 room
+-- what is given has room for a copy
+given_fits : (answer : Answer) (asked waiting : ℕ) (room : SmallVec ℕ 16 Global) → GivesAtMost (min asked (max 16 waiting)) answer → HasRoomFor room 16 → HasRoomFor room (min asked waiting) → FitsRoom answer room
+given_fits (Bytes bytes) asked waiting room few h i = omega (arith, few, h, i)
+given_fits (Num k) asked waiting room few h i = tt
+given_fits (Time value interval) asked waiting room few h i = tt
+given_fits (Refused e) asked waiting room few h i = tt
+given_fits Done asked waiting room few h i = tt
+given_fits answer asked waiting room few h i = few
+
+-- and so has a refusal
+unless_fits : (refusal : Option Errno) (x : Object) (f : Effect Object) (room : SmallVec ℕ 16 Global) → (refusal ≡ None → FitsRoom f.0 room) → FitsRoom (unless refusal x f).0 room
 unless_fits (Some e) x f room h = tt
-unless_fits None x f room h = h
-
-given_fits : (x : Object) (e : End) (now n : ℕ) (room : SmallVec ℕ 16 Global) → HasRoomFor room 16 → HasRoomFor room (min n (object_waiting x e))
-    → FitsRoom (attempt (read_refusals x e n now) x (read x e n now)).0 room
-given_fits plain e now n room h i = omega (arith, h)
-given_fits (pipe p) First now n room h i = unless_fits (first (read_refusals (pipe p) First n now)) (pipe p) (read (pipe p) First n now) room (omega (arith, i, length-take n p.bytes))
-given_fits (pipe p) Second now n room h i = tt
-given_fits (pair p) First now n room h i = unless_fits (first (read_refusals (pair p) First n now)) (pair p) (read (pair p) First n now) room (omega (arith, i, length-take n p.first_end.queue))
-given_fits (pair p) Second now n room h i = unless_fits (first (read_refusals (pair p) Second n now)) (pair p) (read (pair p) Second n now) room (omega (arith, i, length-take n p.second_end.queue))
-given_fits (counter c) e now n room h i = unless_fits (first (read_refusals (counter c) e n now)) (counter c) (read (counter c) e n now) room (omega (arith, h))
-given_fits (timer t) e now n room h i = unless_fits (first (read_refusals (timer t) e n now)) (timer t) (read (timer t) e n now) room (omega (arith, h))
-given_fits instance e now n room h i = tt
-
-taken_fits : (x : Object) (e : End) (bytes : List ℕ) (room : SmallVec ℕ 16 Global) → FitsRoom (attempt (write_refusals x e bytes) x (write x e bytes)).0 room
-taken_fits (pipe p) e bytes room = unless_fits (first (write_refusals (pipe p) e bytes)) (pipe p) (write (pipe p) e bytes) room tt
-taken_fits (pair p) e bytes room = unless_fits (first (write_refusals (pair p) e bytes)) (pair p) (write (pair p) e bytes) room tt
-taken_fits (counter c) e bytes room = unless_fits (first (write_refusals (counter c) e bytes)) (counter c) (write (counter c) e bytes) room tt
-taken_fits x e bytes room = tt
-
--- what answers in a few words fits where its effect does, refused or not
-short_fits : (x : Object) (e : End) (now : ℕ) (asked : ObjectCall) (room : SmallVec ℕ 16 Global) → FitsRoom (object_effect x e now asked).0 room → FitsRoom (attempt (object_refusals x e now asked) x (object_effect x e now asked)).0 room
-short_fits x e now asked room = unless_fits (first (object_refusals x e now asked)) x (object_effect x e now asked) room
-
-shut_fits : (x : Object) (e : End) (room : SmallVec ℕ 16 Global) → FitsRoom (shutdown x e).0 room
-shut_fits plain e room = tt
-shut_fits x e room = tt
-
-set_fits : (x : Object) (absolute : Bool) (value interval now : ℕ) (room : SmallVec ℕ 16 Global) → FitsRoom (settime x absolute value interval now).0 room
-set_fits plain absolute value interval now room = tt
-set_fits x absolute value interval now room = tt
-
-got_fits : (x : Object) (now : ℕ) (room : SmallVec ℕ 16 Global) → FitsRoom (gettime x now).0 room
-got_fits plain now room = tt
-got_fits x now room = tt
+unless_fits None x f room h = h refl
 
 -- what such a call answers has room for a copy
 pub fits : (x : Object) (e : End) (now : ℕ) (asked : ObjectCall) (room : SmallVec ℕ 16 Global) → HasRoomFor room 16 → HasRoomFor room (min (asked_of asked) (object_waiting x e))
     → FitsRoom (attempt (object_refusals x e now asked) x (object_effect x e now asked)).0 room
-fits x e now (reads n) room h i = given_fits x e now n room h i
-fits x e now (writes bytes) room h i = taken_fits x e bytes room
-fits x e now shuts_down room h i = short_fits x e now shuts_down room (shut_fits x e room)
-fits x e now (sets_time absolute value interval) room h i = short_fits x e now (sets_time absolute value interval) room (set_fits x absolute value interval now room)
-fits x e now asks_time room h i = short_fits x e now asks_time room (got_fits x now room)
+fits x e now asked room h i =
+    unless_fits (first (object_refusals x e now asked)) x (object_effect x e now asked) room
+    (λ none. given_fits (object_effect x e now asked).0 (asked_of asked) (object_waiting x e) room (gives_few x e now asked none) h i)
 
 -- writing back what stands there changes nothing
 set_same : (xs : List (Option Object)) (k : ℕ) (x : Object) → slice_index_or xs k None ≡ Some x → slice_set xs k (Some x) ≡ xs

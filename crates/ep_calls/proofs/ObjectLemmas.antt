@@ -16,7 +16,7 @@ use Rattle.ep_machine.specs.Refusal.{call_refusals}
 use Rattle.ep_machine.specs.Step.{call_change}
 use Rattle.ep_machine.specs.Tables.{affected}
 use Rattle.ep_view.proofs.FilesLemmas.{extends_with_object}
-use Rattle.ep_view.proofs.AtRestLemmas.{effect_kind, kind_at, kind_there}
+use Rattle.ep_view.proofs.AtRestLemmas.{kind_at, kind_there}
 use Rattle.ep_calls.specs.Does.{DoesCall}
 use Rattle.ep_calls.specs.ObjectCall.{CallsObject}
 use Rattle.ep_calls.specs.Parts.{AreCoherent, Parts}
@@ -26,7 +26,7 @@ use Rattle.ep_calls.specs.Raising.{IsRaising, Raises, RaisesByCall}
 use Rattle.ep_calls.specs.Stands.{KeepsKinds}
 use Rattle.ep_calls.proofs.ObjectRaiseLemmas.{object_raises}
 use Rattle.ep_calls.proofs.FilesCallLemmas.{object_called, object_keys, object_limits, on_object_is}
-use Rattle.ep_view.proofs.KindLemmas.{instance_kind}
+use Rattle.ep_view.proofs.KindLemmas.{effect_kind, instance_kind}
 use Rattle.ep_table.specs.Value.{Seen, Sound, content_of, effect_at, number_of, number_under, unwrapped}
 use Rattle.ep_calls.proofs.KeyLemmas.{under_key}
 

@@ -23,7 +23,7 @@ use mathlib.Core.Bool.{beq}
 use Rattle.ep_interest.specs.Registrations.{IsSound}
 use Rattle.ep_machine.specs.Bits.{ET, asked, has_bit, when}
 use Rattle.ep_machine.specs.Files.{object_of, side_of}
-use Rattle.ep_machine.specs.Objects.{Object, counter, instance, pair, pipe, plain, timer}
+use Rattle.ep_machine.specs.Objects.{Object, instance}
 use Rattle.ep_machine.specs.Readiness.{present_of}
 use Rattle.ep_view.proofs.ClimbLemmas.{zero_asked}
 use Rattle.ep_ready.specs.Walk.{Walk, with_reached}
@@ -96,13 +96,9 @@ row_ready v i ks j ne = ap (λ (l : List ℕ). is_some (first_in l)) (row_else v
 -- what shows something although what it watches is not ready shows it in any case
 shows_by_object : (o : Option Object) (d : ℕ) (e : End) (now mask : ℕ) (armed rest : Bool) → (nat_lt 0 (when armed (asked mask (present_of (λ k. false) d o e now))) && rest) ≡ true → (nat_lt 0 (when armed (asked mask (present_of (λ k. true) d o e now))) && rest) ≡ true
 shows_by_object None d e now mask armed rest h = h
-shows_by_object (Some plain) d e now mask armed rest h = h
-shows_by_object (Some (pipe p)) d e now mask armed rest h = h
-shows_by_object (Some (pair p)) d e now mask armed rest h = h
-shows_by_object (Some (counter c)) d e now mask armed rest h = h
-shows_by_object (Some (timer t)) d e now mask armed rest h = h
 shows_by_object (Some instance) d e now mask true rest h = absurd (false≢true (sym (ap (λ (b : Bool). b && rest) (zero_asked mask)) ∙ h))
 shows_by_object (Some instance) d e now mask false rest h = absurd (false≢true h)
+shows_by_object o d e now mask armed rest h = h
 
 pub shows_rises : (p : Parts) (x : Entry) → shows_over p false x ≡ true → shows_over p true x ≡ true
 shows_rises p x h =

@@ -4,7 +4,7 @@ use Rattle.ep_machine.specs.Lists.{are_distinct}
 use Rattle.std.specs.Option.{is_some}
 use Rattle.std.proofs.lemmas.Bool.{ltb-false, eqb-true}
 use Rattle.std.specs.Prelude.{is_none}
-use Rattle.std.proofs.Common.{arith, refl, sym, ap, subst, true≢false, ◌≡◌, ◌≤◌, ◌==◌, ◌&&◌, ◌||◌, nat_lt, Bool, true, false, if◌then◌else◌, List, [], ◌∷◌, length, take, map, min, ℕ, ℤ, pos, negsuc, suc, zero, Option, None, Some, not}
+use Rattle.std.proofs.Common.{arith, refl, sym, ap, subst, true≢false, ◌≡◌, ◌≤◌, ◌==◌, ◌&&◌, ◌||◌, nat_lt, Bool, true, false, if◌then◌else◌, List, [], ◌∷◌, length, map, min, ℕ, ℤ, pos, negsuc, suc, zero, Option, None, Some, not}
 use Rattle.ep_base.specs.Limits.{Limits}
 use Rattle.ep_base.specs.declared.answer.Answer.{Answer}
 use Rattle.ep_base.specs.declared.answer.Answer.TheVariants.{Done, Num, Two, Refused, Bytes, Events, Time, Parked, Still}
@@ -22,14 +22,15 @@ use Rattle.ep_calls.specs.Acts.{Acts}
 use Rattle.ep_flat.specs.declared.flat.FlatRequest.{FlatRequest}
 use Rattle.ep_base.specs.declared.call.Event.TheVariants.{Call as CallOf, Resume, Tick}
 use Rattle.ep_machine.specs.Effect.{first}
-use Rattle.ep_machine.specs.Objects.{Object, plain, pipe, pair, counter, timer, instance, read, read_refusals}
+use Rattle.ep_machine.specs.Objects.{Object, read, read_refusals, reads}
+use Rattle.ep_object.proofs.AnswerLemmas.{gives_few}
+use Rattle.ep_object.specs.Memory.{GivesAtMost}
 use Rattle.ep_machine.specs.Report.{is_pick, is_fair_to, plainly, report, find_watch, watches_at, report_of}
 use Rattle.ep_machine.specs.State.{Change, State, Waiter, Watch}
 use Rattle.ep_machine.specs.Step.{next_event, refused_or, step}
 use Rattle.ep_machine.specs.Refusal.{refusals}
 use Rattle.ep_machine.specs.Waits.{is_due, is_parked, leave, leave_after, resume_by, unmarked, wait, wait_for, waiter_of}
 use Rattle.ep_machine.specs.Readiness.{is_ready, reportables}
-use Rattle.ep_machine.specs.Timer.{unread}
 use Rattle.ep_base.specs.declared.errno.Errno.TheVariants.{Eperm, Enoent, Esrch, Ebadf, Eagain, Enomem, Ebusy, Eexist, Einval, Enfile, Emfile, Enospc, Epipe, Eloop, Enotsock}
 use Rattle.ep_machine.specs.Watches.{number_in}
 use Rattle.ep_machine.specs.Files.{named_by, names_nothing, table_of, object_under, side_under}
@@ -40,22 +41,14 @@ first_rest : (b : Bool) (e : Errno) (rest : List (Bool × Errno)) → first ((b,
 first_rest true e rest h = absurd (true≢false (ap is_some h))
 first_rest false e rest h = h
 
-first_false : (b : Bool) (e : Errno) (rest : List (Bool × Errno)) → first ((b, e) ∷ rest) ≡ None → b ≡ false
-first_false true e rest h = absurd (true≢false (ap is_some h))
-first_false false e rest h = refl
-
-take_short : (n : ℕ) (xs : List ℕ) → length (take n xs) ≤ n
-take_short zero xs = omega arith
-take_short (suc n) [] = omega arith
-take_short (suc n) (x ∷ xs) = omega (arith, take_short n xs)
+short : (most : ℕ) (answer : Answer) → GivesAtMost most answer → length (bytes_of answer) ≤ most
+short most (Bytes xs) few = few
+short most answer few = omega arith
 
 read_short : (x : Object) (e : End) (n now : ℕ) → first (read_refusals x e n now) ≡ None → length (bytes_of (read x e n now).0) ≤ n
-read_short plain e n now h = omega arith
-read_short (pipe p) e n now h = take_short n _
-read_short (pair p) e n now h = take_short n _
-read_short (counter c) e n now h = ltb-false n 8 (first_false (nat_lt n 8) Einval ((c.count == 0, Eagain) ∷ []) h)
-read_short (timer t) e n now h = ltb-false n 8 (first_false (nat_lt n 8) Einval ((unread t now == 0, Eagain) ∷ []) h)
-read_short instance e n now h = omega arith
+read_short x e n now h =
+    let few = short _ (read x e n now).0 (gives_few x e now (reads n) h) in
+    omega (arith, few)
 
 abbrev answer_in : Option (Answer × State) → Answer
 answer_in None = Done

@@ -34,10 +34,10 @@ use Rattle.ep_law.proofs.NamedLivesLemmas.{dying_distinct, dying_placed}
 use Rattle.ep_law.proofs.MarkLemmas.{ready_same}
 use Rattle.ep_law.proofs.StepLemmas.{run_keeps}
 use Rattle.ep_object.specs.Law.{AdvanceLaw, ApplyLaw, CloseLaw, object_has}
-use Rattle.ep_law.proofs.BitLemmas.{Covers, from_bits}
+use Rattle.ep_object.proofs.BitLemmas.{Covers, covers_more, covers_self, first_bit, from_bits, no_bit}
 use Rattle.ep_law.proofs.ChangeLemmas.{Moves, kept_same, moves_change}
 use Rattle.ep_law.proofs.EndLemmas.{Own, object_there, own_deaths}
-use Rattle.ep_law.proofs.RaiseLemmas.{covers_more, covers_self, deaths_cover, first_bit, live_place, lived_before, no_bit, raised_first, raised_stays}
+use Rattle.ep_law.proofs.RaiseLemmas.{deaths_cover, live_place, lived_before, raised_first, raised_stays}
 use Rattle.ep_law.proofs.ReachLemmas.{Leads, all_covered, instance_is, passes, reach}
 
 place_below : (ds : List (Option Place)) (d : ℕ) (p : Place) → get_or ds d None ≡ Some p → d < length ds
@@ -58,7 +58,8 @@ counts_at s raised n (p ∷ ps) (suc i) lt = counts_at s raised (n + 1) ps i (om
   shift : (k j : ℕ) → k + 1 + j ≡ k + suc j
   shift k j = omega arith
 
-present_other : (r : ℕ → Bool) (d : ℕ) (o : Option Object) (e : End) (now : ℕ) → is_instance (unwrap_or o plain) ≡ false → present_of r d o e now ≡ object_present (unwrap_or o plain) e now
+-- what is no instance shows its own bits, whatever is said of instances
+pub present_other : (r : ℕ → Bool) (d : ℕ) (o : Option Object) (e : End) (now : ℕ) → is_instance (unwrap_or o plain) ≡ false → present_of r d o e now ≡ object_present (unwrap_or o plain) e now
 present_other r d None e now h = refl
 present_other r d (Some instance) e now h = cc
 present_other r d o e now h = refl

@@ -1,5 +1,5 @@
 -- What a change does to what holds at descriptions, and to registrations.
-use Rattle.std.proofs.Common.{◌≡◌, ℕ, zero, suc, ◌+◌, ◌<◌, ◌==◌, ◌&&◌, ◌||◌, ◌++◌, ◌∙◌, ◌⊎◌, Bool, true, false, List, [], ◌∷◌, None, Option, Some, MatchOption, ℤ, pos, negsuc, not, cond, filter, get_or, if◌then◌else◌, inl, inr, is_none, length, map, refl, ap, arith, subst, sym, unwrap_or}
+use Rattle.std.proofs.Common.{◌≡◌, ℕ, zero, suc, ◌+◌, ◌<◌, ◌==◌, ◌&&◌, ◌||◌, ◌++◌, ◌∙◌, ◌⊎◌, Bool, true, false, List, [], ◌∷◌, None, Option, Some, MatchOption, ℤ, pos, negsuc, not, cond, filter, get_or, inl, inr, is_none, length, map, refl, ap, arith, subst, sym, unwrap_or}
 use Rattle.std.specs.List.{list_any}
 use Rattle.std.specs.Int.{bit_at}
 use Rattle.std.proofs.lemmas.Bool.{cases_Bool}
@@ -37,10 +37,10 @@ use Rattle.ep_law.proofs.ListLemmas.{filtered_member, first_of_and, member_filte
 use Rattle.ep_law.proofs.DeathLemmas.{get_other, same_or_not}
 use Rattle.ep_law.proofs.TestLemmas.{from_test}
 use Rattle.ep_object.specs.Law.{AdvanceLaw, ApplyLaw, object_has}
-use Rattle.ep_law.proofs.BitLemmas.{Covers, to_bits}
-use Rattle.ep_object.proofs.KindLemmas.{effect_has}
-use Rattle.ep_law.proofs.EndLemmas.{Own, object_there, own_one, own_two, own_with_object, plain_is, plain_stays}
-use Rattle.ep_law.proofs.RaiseLemmas.{covers_more, covers_self, live_member, no_bit, present_place, raised_member, raised_there}
+use Rattle.ep_object.proofs.BitLemmas.{Covers, covers_more, covers_self, no_bit, to_bits}
+use Rattle.ep_object.proofs.KindLemmas.{call_keeps_plain, effect_has, plain_is}
+use Rattle.ep_law.proofs.EndLemmas.{Own, object_there, own_one, own_two, own_with_object}
+use Rattle.ep_law.proofs.RaiseLemmas.{live_member, present_place, raised_member, raised_there}
 
 -- one that was looked at, as it was made or changed
 abbrev pub IsLooked : State → List (ℕ × ℕ) → Watch → Type 0
@@ -242,7 +242,7 @@ module _ (apply : ApplyLaw) (b : State) (p : ℕ) (fd : ℤ) (asked : ObjectCall
   moves_object : Moves b (object_change b p fd asked).1 (object_change b p fd asked).2
   moves_object = record {
     arrivals = refl;
-    own = own_with_object b.files k made.1 own (λ s h. effect_has x e b.now asked s ∙ (ap (λ (y : Object). object_has y s) (sym is_x) ∙ h)) (λ h. plain_stays x e b.now asked (ap is_plain (sym is_x) ∙ h));
+    own = own_with_object b.files k made.1 own (λ s h. effect_has x e b.now asked s ∙ (ap (λ (y : Object). object_has y s) (sym is_x) ∙ h)) (λ h. call_keeps_plain x e b.now asked ∙ (ap is_plain (sym is_x) ∙ h));
     narrows = narrows_affected b.files p fd b.now asked own.made (first_is_none b.files own);
     shows = shows_affected;
     comes = λ y m. inl (kept_same b y m);

@@ -5,27 +5,12 @@ use Rattle.std.proofs.lemmas.Bool.{false≢true}
 use Rattle.std.proofs.lemmas.Bool.Decides.{nat_tests}
 use Rattle.std.proofs.lemmas.List.{set_comm}
 use Rattle.ep_base.specs.declared.object.End.{End}
-use Rattle.ep_base.specs.declared.object.End.TheVariants.{First, Second}
 use Rattle.ep_machine.specs.Deaths.{die, die_all}
 use Rattle.ep_machine.specs.Files.{Files, Place, place_of}
 use Rattle.ep_machine.specs.Lists.{are_distinct, is_among, numbered}
-use Rattle.ep_machine.specs.Objects.{Object, close_end, counter, instance, pair, pipe, plain, timer}
+use Rattle.ep_machine.specs.Objects.{Object, close_end, plain}
+use Rattle.ep_object.proofs.KindLemmas.{closes_commute}
 use Rattle.ep_law.proofs.TestLemmas.{both_true, same_nat}
-
--- Two ends close in any order.
-closed_twice : (x : Object) (a b : End) → (close_end (close_end x a).0 b).0 ≡ (close_end (close_end x b).0 a).0
-closed_twice plain a b = refl
-closed_twice (pipe p) First First = refl
-closed_twice (pipe p) First Second = refl
-closed_twice (pipe p) Second First = refl
-closed_twice (pipe p) Second Second = refl
-closed_twice (pair p) First First = refl
-closed_twice (pair p) First Second = refl
-closed_twice (pair p) Second First = refl
-closed_twice (pair p) Second Second = refl
-closed_twice (counter c) a b = refl
-closed_twice (timer t) a b = refl
-closed_twice instance a b = refl
 
 -- Lists.
 set_twice : (xs : List (Option Object)) (k : ℕ) (a b : Option Object) → set (set xs k a) k b ≡ set xs k b
@@ -175,7 +160,7 @@ module _ (s : Files) (x y : ℕ × Place) (apart : x.0 ≢ y.0) (x_is : place_of
       let keep : List (Option Place) → ℕ → Object → List (Option Object) = λ rest k o. set s.objects k (keeps s x y apart x_is y_is rest k o) in
       let o = unwrap_or (get_or s.objects x.1.object None) plain in
       of_one s x y apart x_is y_is same
-      ∙ ((λ i. keep (moved i) x.1.object (closed_twice o x.1.side y.1.side i))
+      ∙ ((λ i. keep (moved i) x.1.object (closes_commute o x.1.side y.1.side i))
       ∙ ((λ i. keep there (sym same i) (close_end (close_end (unwrap_or (get_or s.objects (sym same i) None) plain) y.1.side).0 x.1.side).0)
       ∙ sym (of_one s y x other_way y_is x_is (sym same))))
 

@@ -6,12 +6,12 @@ use Rattle.ep_base.specs.declared.object.End.TheVariants.{First, Second}
 use Rattle.ep_machine.specs.Deaths.{kept_object}
 use Rattle.ep_machine.specs.Files.{Files, Place, place_of, with_object}
 use Rattle.ep_machine.specs.Lists.{are_distinct}
-use Rattle.ep_machine.specs.Objects.{Object, ObjectCall, close_end, is_plain, object_effect, plain}
+use Rattle.ep_machine.specs.Objects.{Object, close_end, is_plain, plain}
 use Rattle.ep_machine.specs.Tables.{create_one, create_two, describe, new_object}
 use Rattle.ep_law.proofs.DeathLemmas.{ArePlaced, after_all, after_first, apart_from_rest, has_here, numbers, still_placed}
 use Rattle.ep_law.proofs.InstanceLemmas.{AreMade, narrows_death, narrows_describe, narrows_new_object}
 use Rattle.ep_law.proofs.NamedLivesLemmas.{get_none}
-use Rattle.ep_object.proofs.KindLemmas.{call_keeps, close_has, close_keeps, plain_by_kind}
+use Rattle.ep_object.proofs.KindLemmas.{close_has, close_keeps_plain}
 use Rattle.ep_object.specs.Law.{object_has}
 
 abbrev pub object_there : Files → ℕ → Object
@@ -106,15 +106,8 @@ own_two f p x cloexec has also own =
     ]) (own_one f p x cloexec has own)
 
 -- Calls and deaths.
-pub plain_is : (x : Object) → is_plain x ≡ true → x ≡ plain
-plain_is plain h = refl
-plain_is x h = cc
-
-pub plain_stays : (x : Object) (e : End) (now : ℕ) (asked : ObjectCall) → is_plain x ≡ true → is_plain (object_effect x e now asked).1 ≡ true
-plain_stays x e now asked h = call_keeps is_plain 0 plain_by_kind x e now asked ∙ h
-
 closed_plain : (b : Bool) (x : Object) (e : End) → is_plain x ≡ true → is_plain (unwrap_or (if b then Some (close_end x e).0 else None) plain) ≡ true
-closed_plain true x e h = close_keeps is_plain 0 plain_by_kind x e ∙ h
+closed_plain true x e h = close_keeps_plain x e ∙ h
 closed_plain false x e h = refl
 
 pub was_place : (ds : List (Option Place)) (k d : ℕ) (p : Place) → get_or (set ds k None) d None ≡ Some p → get_or ds d None ≡ Some p

@@ -1,5 +1,5 @@
 -- The graph of instances stays legal.
-use Rattle.std.proofs.Common.{◌≡◌, ℕ, zero, suc, Bool, true, List, [], ◌∷◌, map, filter, inl, inr, refl, sym, subst, unwrap_or, ◌<◌, ◌++◌, ◌∙◌, false, None, Option, Some, ℤ, if◌then◌else◌, length, ap, arith, ◌&&◌, ◌||◌, ◌⊎◌, ◌==◌, MatchOption, pos, negsuc, not, cond}
+use Rattle.std.proofs.Common.{◌≡◌, ℕ, zero, suc, Bool, true, List, [], ◌∷◌, map, filter, inl, inr, refl, sym, subst, unwrap_or, ◌<◌, ◌++◌, ◌∙◌, false, None, Option, Some, ℤ, length, ap, arith, ◌&&◌, ◌||◌, ◌⊎◌, ◌==◌, MatchOption, pos, negsuc, not, cond}
 use Rattle.std.specs.Prelude.{bit_and}
 use Rattle.std.proofs.lemmas.Nat.{and_assoc}
 use Rattle.std.specs.Int.Bits.{and_zero_r}

@@ -6,7 +6,7 @@ use Rattle.ep_law.proofs.TestLemmas.{or_left, or_right, same_test}
 use Rattle.ep_machine.specs.Files.{Files, is_live, object_of, Place, named_by, object_at, object_number, object_under, place_of, side_under, with_object}
 use Rattle.ep_machine.specs.Lists.{numbered}
 use Rattle.ep_machine.specs.Objects.{is_instance, plain, Object, ObjectCall, close_end, is_plain, object_effect}
-use Rattle.ep_object.proofs.KindLemmas.{call_keeps, close_keeps, instance_by_kind}
+use Rattle.ep_object.proofs.KindLemmas.{call_keeps_instance, close_keeps_instance}
 use Rattle.ep_law.proofs.ListLemmas.{not_true}
 use Rattle.std.proofs.lemmas.Bool.{false≢true, cases_Bool}
 use Rattle.std.proofs.lemmas.List.{get_or_append_left, length_push, length-set}
@@ -170,13 +170,10 @@ narrows_affected f p fd now asked b first =
     let x = object_under f p fd in
     let e = side_under f p fd in
     let o = place_of f (named_by f p fd) in
-    let same = call_keeps is_instance 5 instance_by_kind x e now asked in
+    let same = call_keeps_instance x e now asked in
     narrows_with_object f (object_number o) (object_effect x e now asked).1 b (λ h. at_number f o (sym same ∙ h)) (λ h. same ∙ from_number f o first h)
 
 -- Deaths.
-close_instance : (x : Object) (e : End) → is_instance (close_end x e).0 ≡ is_instance x
-close_instance = close_keeps is_instance 5 instance_by_kind
-
 -- an object that a description names is kept
 still_named : (k : ℕ) (ds : List (Option Place)) (d : ℕ) (p : Place) → get_or ds d None ≡ Some p → list_any (λ y. y.1.object == p.object) (numbered k ds) ≡ true
 still_named k [] d p e = cc
@@ -185,7 +182,7 @@ still_named k (None ∷ ds) (suc d) p e = still_named (k + 1) ds d p e
 still_named k (Some q ∷ ds) zero p e = let same : q ≡ p = cc in or_left _ _ (same_test q.object p.object (ap (λ (x : Place). x.object) same))
 still_named k (Some q ∷ ds) (suc d) p e = or_right _ _ (still_named (k + 1) ds d p e)
 
-kept_instance : (b : Bool) (x : Object) → is_instance (unwrap_or (if b then Some x else None) plain) ≡ true → is_instance x ≡ true
+pub kept_instance : (b : Bool) (x : Object) → is_instance (unwrap_or (if b then Some x else None) plain) ≡ true → is_instance x ≡ true
 kept_instance true x h = h
 kept_instance false x h = absurd (false≢true h)
 
@@ -218,7 +215,7 @@ module _ (f : Files) (x : ℕ × Place) (b : AreMade f) where
 
   objects_after : (j : ℕ) → is_instance_at g.objects j ≡ true → is_instance_at f.objects j ≡ true
   objects_after j = set_instance f.objects k j (kept_object rest k shut) (λ h.
-      sym (close_instance (unwrap_or (get_or f.objects k None) plain) x.1.side) ∙ kept_instance _ shut h)
+      sym (close_keeps_instance (unwrap_or (get_or f.objects k None) plain) x.1.side) ∙ kept_instance _ shut h)
 
   instance_before : (d : ℕ) (o : Option Place) → place_of g d ≡ o → is_instance (unwrap_or (object_at f o) plain) ≡ true → has_instance f d ≡ true
   instance_before d None e h = absurd (false≢true h)
@@ -230,7 +227,7 @@ module _ (f : Files) (x : ℕ × Place) (b : AreMade f) where
     | inl same ↦
         let named : list_any (λ y. y.1.object == k) (numbered 0 rest.descriptions) ≡ true = subst (λ (i : ℕ). list_any (λ y. y.1.object == i) (numbered 0 rest.descriptions) ≡ true) (sym same) (still_named 0 rest.descriptions d p e) in
         set_stays f.objects k p.object (kept_object rest k shut) (λ t.
-        ap (λ (b : Bool). is_instance (unwrap_or (if b then Some shut else None) plain)) named ∙ (close_instance (unwrap_or (get_or f.objects k None) plain) x.1.side ∙ t)) h
+        ap (λ (b : Bool). is_instance (unwrap_or (if b then Some shut else None) plain)) named ∙ (close_keeps_instance (unwrap_or (get_or f.objects k None) plain) x.1.side ∙ t)) h
     | inr apart ↦ ap (λ (o : Option Object). is_instance (unwrap_or o plain)) (get_other f.objects k p.object (kept_object rest k shut) apart) ∙ h
   ]
 

@@ -13,7 +13,6 @@ pub mod InstanceLemmas
 pub mod GraphLemmas
 pub mod FairRoundsLemmas
 pub mod Present
-pub mod BitLemmas
 pub mod MaskLemmas
 pub mod ReachLemmas
 pub mod EndLemmas

@@ -9,7 +9,7 @@ use Rattle.ep_base.specs.declared.counts.Counts.{Counts}
 use Rattle.ep_machine.specs.Bits.{ERR, HUP, IN, OUT, RDHUP, asked, has_bit, union, when}
 use Rattle.ep_machine.specs.Counts.{arrived_since, counted, every_shown_bit}
 use Rattle.ep_machine.specs.Readiness.{is_fresh_since}
-use Rattle.ep_law.proofs.BitLemmas.{Covers, zero_or_one}
+use Rattle.ep_object.proofs.BitLemmas.{Covers, zero_or_one}
 
 pub none_or_some : (n : ℕ) → (n ≡ 0) ⊎ (nat_lt 0 n ≡ true)
 none_or_some zero = inl refl

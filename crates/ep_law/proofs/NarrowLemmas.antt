@@ -13,11 +13,11 @@ use Rattle.ep_machine.specs.State.{State, Waiter, Watch}
 use Rattle.ep_machine.specs.Watches.{is_exclusive, is_legal, links}
 use Rattle.ep_law.specs.Laws.{Member, has_instance}
 use Rattle.ep_law.specs.Narrow.{IsRegular, WokenIsNarrowed, is_chosen, is_number_of, narrowed}
-use Rattle.ep_law.proofs.BitLemmas.{Covers}
+use Rattle.ep_object.proofs.BitLemmas.{Covers, either_bit, first_bit, last_bit}
 use Rattle.ep_law.proofs.GraphLemmas.{legal_within, link_from, link_in}
 use Rattle.ep_law.proofs.ListLemmas.{any_member, filtered_member, filtered_passes, first_of_and, member_filter, one_number, second_of_and}
 use Rattle.ep_law.proofs.MaskLemmas.{asked_begins, bit_of, none_or_some}
-use Rattle.ep_law.proofs.RaiseLemmas.{either_bit, first_bit, last_bit, raised_member}
+use Rattle.ep_law.proofs.RaiseLemmas.{raised_member}
 use Rattle.ep_law.proofs.ReachLemmas.{any_has, in_bit, instance_is}
 use Rattle.ep_law.proofs.SpreadLemmas.{reached_equation, spread_least}
 use Rattle.ep_law.proofs.TestLemmas.{from_test, or_left, or_right, same_nat}

@@ -1,11 +1,9 @@
 -- What deaths raise: each bit that begins to hold where an end is closed.
-use Rattle.std.proofs.Common.{◌≡◌, ℕ, zero, suc, ◌+◌, ◌<◌, ◌==◌, ◌++◌, ◌∙◌, ◌⊎◌, Bool, true, false, List, [], ◌∷◌, None, Option, Some, cond, get_or, inl, inr, is_some, length, max, refl, ap, arith, set, subst, sym, unwrap_or}
-use Rattle.std.specs.Prelude.{bit_or}
+use Rattle.std.proofs.Common.{◌≡◌, ℕ, zero, suc, ◌+◌, ◌<◌, ◌==◌, ◌++◌, ◌∙◌, Bool, true, false, List, [], ◌∷◌, None, Option, Some, cond, get_or, inl, inr, is_some, length, refl, ap, arith, set, subst, sym, unwrap_or}
 use Rattle.std.specs.Int.{bit_at}
 use Rattle.std.proofs.lemmas.Bool.{false≢true}
 use Rattle.std.proofs.lemmas.Bool.Decides.{nat_tests}
 use Rattle.std.proofs.lemmas.List.{get_or-set_same}
-use Rattle.std.proofs.lemmas.Nat.Bits.{bit_at_or, bit_at-lt, bit_at-zero}
 use Rattle.ep_base.specs.declared.object.Raised.{Raised}
 use Rattle.ep_machine.specs.Bits.{at_end, when}
 use Rattle.ep_machine.specs.Deaths.{die, die_all, kept_object}
@@ -20,56 +18,9 @@ use Rattle.ep_law.proofs.DeathLemmas.{ArePlaced, after_all, apart_from_rest, get
 use Rattle.ep_law.proofs.ListLemmas.{member_filter, member_map}
 use Rattle.ep_law.proofs.TestLemmas.{from_test, same_nat}
 use Rattle.ep_object.specs.Law.{CloseLaw, object_has}
-use Rattle.ep_law.proofs.BitLemmas.{Covers, to_bits}
+use Rattle.ep_object.proofs.BitLemmas.{Covers, covers_more, covers_self, covers_then, either_bit, first_bit, last_bit, no_bit, to_bits}
 use Rattle.ep_object.proofs.KindLemmas.{close_has}
 use Rattle.ep_law.proofs.EndLemmas.{Own, object_there, other_end, own_death, shut_there, was_place}
-
--- Bits of unions.
-left_or : (a b : ℕ) → a < 2 → b < 2 → a ≡ 1 → max a b ≡ 1
-left_or zero b p q e = absurd (omega (arith, e))
-left_or (suc zero) zero p q e = refl
-left_or (suc zero) (suc zero) p q e = refl
-left_or (suc zero) (suc (suc b)) p q e = absurd (omega (arith, q))
-left_or (suc (suc a)) b p q e = absurd (omega (arith, p))
-
-right_or : (a b : ℕ) → a < 2 → b < 2 → b ≡ 1 → max a b ≡ 1
-right_or a zero p q e = absurd (omega (arith, e))
-right_or zero (suc zero) p q e = refl
-right_or (suc zero) (suc zero) p q e = refl
-right_or (suc (suc a)) (suc b) p q e = absurd (omega (arith, p))
-right_or a (suc (suc b)) p q e = absurd (omega (arith, q))
-
-either_or : (a b : ℕ) → a < 2 → b < 2 → max a b ≡ 1 → (a ≡ 1) ⊎ (b ≡ 1)
-either_or (suc zero) b p q e = inl refl
-either_or zero (suc zero) p q e = inr refl
-either_or zero zero p q e = absurd (omega (arith, e))
-either_or zero (suc (suc b)) p q e = absurd (omega (arith, q))
-either_or (suc (suc a)) b p q e = absurd (omega (arith, p))
-
-pub first_bit : (a b i : ℕ) → bit_at a i ≡ 1 → bit_at (bit_or a b) i ≡ 1
-first_bit a b i h = bit_at_or a b i ∙ left_or _ _ (bit_at-lt a i) (bit_at-lt b i) h
-
-pub last_bit : (a b i : ℕ) → bit_at b i ≡ 1 → bit_at (bit_or a b) i ≡ 1
-last_bit a b i h = bit_at_or a b i ∙ right_or _ _ (bit_at-lt a i) (bit_at-lt b i) h
-
-pub either_bit : (a b i : ℕ) → bit_at (bit_or a b) i ≡ 1 → (bit_at a i ≡ 1) ⊎ (bit_at b i ≡ 1)
-either_bit a b i h = either_or _ _ (bit_at-lt a i) (bit_at-lt b i) (sym (bit_at_or a b i) ∙ h)
-
-pub no_bit : (i : ℕ) → bit_at 0 i ≡ 1 → ⊥
-no_bit i h = let none = bit_at-zero i in absurd (omega (arith, none, h))
-
--- What covers.
-pub covers_self : (a raised : ℕ) → Covers a a raised
-covers_self a raised i e = inl e
-
-pub covers_more : (a b r q : ℕ) → ((i : ℕ) → bit_at r i ≡ 1 → bit_at q i ≡ 1) → Covers a b r → Covers a b q
-covers_more a b r q more h i e = elim (h i e) [ inl was ↦ inl was | inr rises ↦ inr (more i rises) ]
-
-pub covers_then : (a b c r q s : ℕ) → ((i : ℕ) → bit_at r i ≡ 1 → bit_at s i ≡ 1) → ((i : ℕ) → bit_at q i ≡ 1 → bit_at s i ≡ 1) → Covers a b r → Covers b c q → Covers a c s
-covers_then a b c r q s one two h k i e = elim (k i e) [
-  | inl was ↦ elim (h i was) [ inl before ↦ inl before | inr rises ↦ inr (one i rises) ]
-  | inr rises ↦ inr (two i rises)
-]
 
 -- What is raised at a description.
 pub raised_first : (xs ys : List (ℕ × ℕ)) (d i : ℕ) → bit_at (raised_of xs d) i ≡ 1 → bit_at (raised_of (xs ++ ys) d) i ≡ 1

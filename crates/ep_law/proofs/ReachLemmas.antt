@@ -19,7 +19,7 @@ use Rattle.ep_law.proofs.SpreadLemmas.{reached_equation}
 use Rattle.ep_law.proofs.ReadinessLemmas.{ready_equation}
 use Rattle.ep_law.proofs.ListLemmas.{any_member, first_of_and, second_of_and}
 use Rattle.ep_law.proofs.TestLemmas.{from_test}
-use Rattle.ep_law.proofs.BitLemmas.{Covers}
+use Rattle.ep_object.proofs.BitLemmas.{Covers}
 use Rattle.ep_law.proofs.MaskLemmas.{asked_begins, fresh_begins, no_some, not_fresh}
 
 -- what was raised holds IN at this instance

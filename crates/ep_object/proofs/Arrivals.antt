@@ -7,7 +7,7 @@ use Rattle.ep_base.specs.declared.errno.Errno.TheVariants.{Einval, Enotsock}
 use Rattle.ep_base.specs.declared.object.End.TheVariants.{First, Second}
 use Rattle.ep_base.specs.declared.object.End.{End}
 use Rattle.ep_base.specs.declared.object.Raised.{Raised}
-use Rattle.ep_counters.specs.Law.{CounterReadLaw, CounterWriteLaw, TimerAdvanceLaw, TimerReadLaw, TimerSettimeLaw}
+use Rattle.ep_counters.specs.Law.{CounterReadLaw, CounterWriteLaw, NextTellsAdvance, TimerAdvanceLaw, TimerReadLaw, TimerSettimeLaw}
 use Rattle.ep_machine.specs.Bits.{IsCovered, at_end, nothing}
 use Rattle.ep_machine.specs.Counters.{counter_present, counter_read, counter_read_refusals, counter_write, counter_write_refusals}
 use Rattle.ep_machine.specs.Effect.{Effect, attempt, first, unless}
@@ -79,10 +79,14 @@ pub record Kinds : Type 0 where
   pub pair_read : PairReadLaw
   pub pair_write : PairWriteLaw
   pub pair_shutdown : PairShutdownLaw
+  pub pipe_close : PipeCloseLaw
+  pub pair_close : PairCloseLaw
   pub counter_read : CounterReadLaw
   pub counter_write : CounterWriteLaw
   pub timer_read : TimerReadLaw
   pub timer_settime : TimerSettimeLaw
+  pub timer_advance : TimerAdvanceLaw
+  pub timer_next : NextTellsAdvance
 
 pub apply_law : Kinds → ApplyLaw
 apply_law kinds x e now (reads n) = read_law kinds.pipe_read kinds.pair_read kinds.counter_read kinds.timer_read e n now x

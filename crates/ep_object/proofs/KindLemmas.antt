@@ -2,31 +2,18 @@
 use Rattle.std.proofs.Common.{◌≡◌, ◌≢◌, ◌==◌, ◌∙◌, ℕ, Bool, true, List, ap, refl, sym}
 use Rattle.ep_base.specs.declared.object.End.{End}
 use Rattle.ep_base.specs.declared.object.End.TheVariants.{First, Second}
-use Rattle.ep_machine.specs.Objects.{Object, ObjectCall, asks_time, close_end, counter, gettime, instance, is_instance, is_plain, object_effect, pair, pipe, plain, read, reads, sets_time, settime, shutdown, shuts_down, timer, write, writes}
+use Rattle.ep_machine.specs.Objects.{Object, ObjectCall, close_end, instance, is_instance, is_plain, object_effect, pair, pipe, plain, read, reads, shutdown, shuts_down, write, writes}
+use Rattle.ep_object.specs.Kinds.{kind_number}
 use Rattle.ep_object.specs.Law.{object_has}
 
 -- Kinds.
-abbrev pub kind_number : Object → ℕ
-kind_number plain = 0
-kind_number (pipe p) = 1
-kind_number (pair p) = 2
-kind_number (counter c) = 3
-kind_number (timer t) = 4
-kind_number instance = 5
-
 pub call_keeps_kind : (x : Object) (e : End) (now : ℕ) (asked : ObjectCall) → kind_number (object_effect x e now asked).1 ≡ kind_number x
 call_keeps_kind plain e now (reads n) = refl
+call_keeps_kind plain e now asked = refl
 call_keeps_kind x e now (reads n) = refl
-call_keeps_kind plain e now (writes bytes) = refl
-call_keeps_kind x e now (writes bytes) = refl
-call_keeps_kind plain e now shuts_down = refl
-call_keeps_kind x e now shuts_down = refl
-call_keeps_kind plain e now (sets_time absolute value interval) = refl
-call_keeps_kind x e now (sets_time absolute value interval) = refl
-call_keeps_kind plain e now asks_time = refl
-call_keeps_kind x e now asks_time = refl
+call_keeps_kind x e now asked = refl
 
-close_keeps_kind : (x : Object) (e : End) → kind_number (close_end x e).0 ≡ kind_number x
+pub close_keeps_kind : (x : Object) (e : End) → kind_number (close_end x e).0 ≡ kind_number x
 close_keeps_kind plain e = refl
 close_keeps_kind x e = refl
 
@@ -35,16 +22,36 @@ module _ (test : Object → Bool) (n : ℕ) (by_kind : (x : Object) → test x �
   pub call_keeps : (now : ℕ) (asked : ObjectCall) → test (object_effect x e now asked).1 ≡ test x
   call_keeps now asked = by_kind (object_effect x e now asked).1 ∙ (ap (λ (k : ℕ). k == n) (call_keeps_kind x e now asked) ∙ sym (by_kind x))
 
-  pub close_keeps : test (close_end x e).0 ≡ test x
+  close_keeps : test (close_end x e).0 ≡ test x
   close_keeps = by_kind (close_end x e).0 ∙ (ap (λ (k : ℕ). k == n) (close_keeps_kind x e) ∙ sym (by_kind x))
 
-pub plain_by_kind : (x : Object) → is_plain x ≡ (kind_number x == 0)
+plain_by_kind : (x : Object) → is_plain x ≡ (kind_number x == 0)
 plain_by_kind plain = refl
 plain_by_kind x = refl
 
-pub instance_by_kind : (x : Object) → is_instance x ≡ (kind_number x == 5)
+pub call_keeps_plain : (x : Object) (e : End) (now : ℕ) (asked : ObjectCall) → is_plain (object_effect x e now asked).1 ≡ is_plain x
+call_keeps_plain = call_keeps is_plain 0 plain_by_kind
+
+pub close_keeps_plain : (x : Object) (e : End) → is_plain (close_end x e).0 ≡ is_plain x
+close_keeps_plain = close_keeps is_plain 0 plain_by_kind
+
+instance_by_kind : (x : Object) → is_instance x ≡ (kind_number x == 5)
 instance_by_kind plain = refl
 instance_by_kind x = refl
+
+pub call_keeps_instance : (x : Object) (e : End) (now : ℕ) (asked : ObjectCall) → is_instance (object_effect x e now asked).1 ≡ is_instance x
+call_keeps_instance = call_keeps is_instance 5 instance_by_kind
+
+pub close_keeps_instance : (x : Object) (e : End) → is_instance (close_end x e).0 ≡ is_instance x
+close_keeps_instance = close_keeps is_instance 5 instance_by_kind
+
+pub plain_is : (x : Object) → is_plain x ≡ true → x ≡ plain
+plain_is plain h = refl
+plain_is x h = cc
+
+pub instance_is : (x : Object) → is_instance x ≡ true → x ≡ instance
+instance_is instance h = refl
+instance_is x h = cc
 
 -- Ends.
 read_has : (x : Object) (e : End) (n now : ℕ) (s : End) → object_has (read x e n now).1 s ≡ object_has x s
@@ -72,20 +79,12 @@ shutdown_has (pair p) Second First = refl
 shutdown_has (pair p) Second Second = refl
 shutdown_has x e s = refl
 
-settime_has : (x : Object) (absolute : Bool) (value interval now : ℕ) (s : End) → object_has (settime x absolute value interval now).1 s ≡ object_has x s
-settime_has plain absolute value interval now s = refl
-settime_has x absolute value interval now s = refl
-
-gettime_has : (x : Object) (now : ℕ) (s : End) → object_has (gettime x now).1 s ≡ object_has x s
-gettime_has plain now s = refl
-gettime_has x now s = refl
-
 pub effect_has : (x : Object) (e : End) (now : ℕ) (asked : ObjectCall) (s : End) → object_has (object_effect x e now asked).1 s ≡ object_has x s
 effect_has x e now (reads n) s = read_has x e n now s
 effect_has x e now (writes bytes) s = write_has x e bytes s
 effect_has x e now shuts_down s = shutdown_has x e s
-effect_has x e now (sets_time absolute value interval) s = settime_has x absolute value interval now s
-effect_has x e now asks_time s = gettime_has x now s
+effect_has plain e now asked s = refl
+effect_has x e now asked s = refl
 
 pub close_has : (x : Object) (e s : End) → s ≢ e → object_has x s ≡ true → object_has (close_end x e).0 s ≡ true
 close_has (pipe p) First First ne h = absurd (ne refl)
@@ -97,3 +96,15 @@ close_has (pair p) First Second ne h = h
 close_has (pair p) Second First ne h = h
 close_has (pair p) Second Second ne h = absurd (ne refl)
 close_has x e s ne h = h
+
+-- in whichever order two ends close
+pub closes_commute : (x : Object) (a b : End) → (close_end (close_end x a).0 b).0 ≡ (close_end (close_end x b).0 a).0
+closes_commute (pipe p) First First = refl
+closes_commute (pipe p) First Second = refl
+closes_commute (pipe p) Second First = refl
+closes_commute (pipe p) Second Second = refl
+closes_commute (pair p) First First = refl
+closes_commute (pair p) First Second = refl
+closes_commute (pair p) Second First = refl
+closes_commute (pair p) Second Second = refl
+closes_commute x a b = refl

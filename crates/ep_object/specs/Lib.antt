@@ -1,5 +1,6 @@
 pub mod Asked
 pub mod Content
+pub mod Kinds
 pub mod Memory
 pub mod Next
 pub mod Law

@@ -5,6 +5,6 @@ mod law;
 mod object;
 mod object_call;
 
-pub use crate::law::arrivals_are_raised;
+pub use crate::law::{arrivals_are_raised, objects_keep_laws};
 pub use crate::object::Object;
 pub use crate::object_call::ObjectCall;

@@ -8,7 +8,8 @@ use Rattle.ep_base.specs.declared.object.End.{End}
 use Rattle.ep_base.specs.declared.record.Record.{Record}
 use Rattle.ep_law.specs.Laws.{EndsAreApart, IsNoted, Member}
 use Rattle.ep_law.proofs.RegularLemmas.{well_made_run}
-use Rattle.ep_law.proofs.DeathLemmas.{raised_before, same_or_not}
+use Rattle.ep_law.proofs.BeginningLemmas.{present_other}
+use Rattle.ep_law.proofs.DeathLemmas.{differs, raised_before, same_or_not}
 use Rattle.ep_law.proofs.EndLemmas.{object_there}
 use Rattle.ep_law.proofs.GraphLemmas.{linked_run}
 use Rattle.ep_law.proofs.ListLemmas.{all_member, first_of_and, one_number, second_of_and}
@@ -25,7 +26,7 @@ use Rattle.ep_machine.specs.Deaths.{buried, dying, named_in_tables}
 use Rattle.ep_machine.specs.Effect.{first}
 use Rattle.ep_machine.specs.Files.{Files, Place, is_live, object_of, place_of, side_of}
 use Rattle.ep_machine.specs.Lists.{is_among}
-use Rattle.ep_view.proofs.KindLemmas.{instance_of_kind}
+use Rattle.ep_view.proofs.KindLemmas.{instance_kind, instance_of_kind}
 use Rattle.ep_machine.specs.Objects.{Object, instance, object_present, plain}
 use Rattle.ep_machine.specs.Readiness.{is_fresh, is_fresh_since, is_reportable_by, present_by, present_of}
 use Rattle.ep_machine.specs.Refusal.{refusals}
@@ -41,15 +42,12 @@ use Rattle.ep_view.proofs.FreshLemmas.{fresh_arrived}
 use Rattle.ep_order.specs.Event.{IsAltered, end_of}
 use Rattle.ep_order.specs.Ending.{IsUntouched, UntouchedStayReportable, is_called}
 use Rattle.ep_order.proofs.OriginLemmas.{Origin, origins}
-use Rattle.ep_order.proofs.OwnEndLemmas.{Stay, when_stays}
+use Rattle.ep_object.proofs.OwnEndLemmas.{Stay, when_stays}
 use Rattle.ep_order.proofs.PresentLemmas.{Goes, Holds, change_goes, holds_deaths, holds_then}
 use Rattle.ep_order.proofs.StepLemmas.{stood}
 
--- what is no instance shows its own bits, whatever is said of instances
 shows_own : (r : ℕ → Bool) (d : ℕ) (o : Option Object) (e : End) (now : ℕ) → (kind_of o ≡ 1 → ⊥) → present_of r d o e now ≡ object_present (unwrap_or o plain) e now
-shows_own r d None e now h = refl
-shows_own r d (Some instance) e now h = absurd (h refl)
-shows_own r d o e now h = refl
+shows_own r d o e now h = present_other r d o e now (instance_kind o ∙ differs (kind_of o) 1 h)
 
 -- the one shows IN if it is ready, the other what it showed
 shown_stays : (ready later : ℕ → Bool) (d : ℕ) (o p : Option Object) (e f : End) (old new : ℕ) → kind_of p ≡ kind_of o → (o ≡ Some instance → later d ≡ true)

@@ -16,7 +16,6 @@ use Rattle.ep_machine.specs.Exclusive.{is_guarded, is_guarded_within}
 use Rattle.ep_machine.specs.Files.{is_live, named_by, object_of}
 use Rattle.ep_machine.specs.Lists.{is_among}
 use Rattle.ep_view.proofs.KindLemmas.{is_instance_of_kind, kind_of_instance}
-use Rattle.ep_machine.specs.Objects.{instance}
 use Rattle.ep_machine.specs.Readiness.{is_reportable}
 use Rattle.ep_machine.specs.Refusal.{refusals}
 use Rattle.ep_machine.specs.Settle.{came, reportable_numbers, settle}

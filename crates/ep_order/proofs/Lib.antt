@@ -6,7 +6,6 @@ pub mod ReachLemmas
 pub mod MarkLemmas
 pub mod GuardLemmas
 pub mod EventLemmas
-pub mod OwnEndLemmas
 pub mod PresentLemmas
 pub mod EndingLemmas
 pub mod NeededLemmas

@@ -15,7 +15,8 @@ use Rattle.ep_law.specs.Laws.{HaveOwnEnds}
 use Rattle.ep_law.proofs.DeathLemmas.{has_here}
 use Rattle.ep_law.proofs.EndLemmas.{object_there, set_object}
 use Rattle.ep_law.proofs.InstanceLemmas.{AreMade}
-use Rattle.ep_law.proofs.RaiseLemmas.{covers_self, covers_then, lived_before}
+use Rattle.ep_law.proofs.RaiseLemmas.{lived_before}
+use Rattle.ep_object.proofs.BitLemmas.{covers_self, covers_then}
 use Rattle.ep_law.proofs.ShapeLemmas.{by_making, by_shape}
 use Rattle.ep_law.proofs.StepLemmas.{left_after, resumes}
 use Rattle.ep_law.proofs.TestLemmas.{same_test}
@@ -35,7 +36,7 @@ use Rattle.ep_machine.specs.Watches.{add, ctl, delete, is_add, is_del, modify, n
 use Rattle.ep_view.proofs.FilesLemmas.{Filed, named_lives}
 use Rattle.ep_object.specs.Law.{object_has}
 use Rattle.ep_order.specs.Ending.{is_called, is_object_of}
-use Rattle.ep_order.proofs.OwnEndLemmas.{Shows, call_stays, clock_stays, close_stays}
+use Rattle.ep_object.proofs.OwnEndLemmas.{Shows, call_stays, clock_stays, close_stays}
 
 -- description d stays at its place from files f to g, and what holds there goes on holding
 pub record Holds (f g : Files) (old new d : ℕ) (p : Place) : Type 0 where

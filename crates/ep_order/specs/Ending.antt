@@ -1,42 +1,22 @@
 -- What an event doesn't touch stays reportable: a bit ends only at the end of an object on which a call is made.
-use Rattle.std.specs.Prelude.{◌≡◌, ◌≢◌, ◌≤◌, ◌==◌, Bool, IsTrue, List, None, Option, Some, false, true, ℕ}
+use Rattle.std.specs.Prelude.{◌≡◌, ◌==◌, Bool, List, None, Option, Some, false, true, ℕ}
 use Rattle.ep_base.specs.Limits.{Limits}
 use Rattle.ep_base.specs.declared.call.Event.{Event}
 use Rattle.ep_base.specs.declared.call.Event.TheVariants.{Call as CallOf}
 use Rattle.ep_base.specs.declared.ids.Fd.{Fd}
-use Rattle.ep_base.specs.declared.object.End.{End}
 use Rattle.ep_base.specs.declared.record.Record.{Record}
 use Rattle.ep_law.specs.Laws.{Member}
-use Rattle.ep_machine.specs.Bits.{IsCovered}
-use Rattle.ep_machine.specs.Effect.{attempt, first}
+use Rattle.ep_machine.specs.Effect.{first}
 use Rattle.ep_machine.specs.Files.{named_by, object_of}
 use Rattle.ep_machine.specs.Lists.{is_among}
-use Rattle.ep_machine.specs.Objects.{Object, ObjectCall, close_end, instance, object_call, object_effect, object_present, object_refusals}
+use Rattle.ep_machine.specs.Objects.{ObjectCall, instance, object_call}
 use Rattle.ep_machine.specs.Readiness.{is_reportable_by}
 use Rattle.ep_machine.specs.Refusal.{refusals}
 use Rattle.ep_machine.specs.Run.{run}
 use Rattle.ep_machine.specs.State.{Change, State, Watch, opening}
 use Rattle.ep_machine.specs.Step.{change, next_event}
-use Rattle.ep_object.specs.Law.{object_has}
+pub use Rattle.ep_object.specs.Law.{CallEndsHereOnly, ClockEndsNothing, CloseEndsNothing}
 use Rattle.ep_order.specs.Event.{IsAltered, end_of}
-
--- each bit that holds at this end of object x at the old moment holds there at the new one, x having become y
-abbrev pub EndsNothing : Object → Object → End → ℕ → ℕ → Type 0
-EndsNothing x y e old new = IsCovered (object_present y e new) (object_present x e old) 0
-
--- a call on one end of an object ends no bit at the other end
-abbrev pub CallEndsHereOnly : Type 0
-CallEndsHereOnly = (x : Object) (e o : End) (now : ℕ) (asked : ObjectCall)
-    → e ≢ o → IsTrue (object_has x e) → IsTrue (object_has x o)
-    → EndsNothing x (attempt (object_refusals x e now asked) x (object_effect x e now asked)).1 o now now
-
--- a close of one end ends no bit at either
-abbrev pub CloseEndsNothing : Type 0
-CloseEndsNothing = (x : Object) (e o : End) (now : ℕ) → EndsNothing x (close_end x e).0 o now now
-
--- as the clock goes on, no bit ends
-abbrev pub ClockEndsNothing : Type 0
-ClockEndsNothing = (x : Object) (e : End) (old new : ℕ) → old ≤ new → EndsNothing x x e old new
 
 -- a call that is taken apart so is on the object of this description, and so is an event
 abbrev pub is_object_of : State → ℕ → Option (Fd × ObjectCall) → ℕ → Bool

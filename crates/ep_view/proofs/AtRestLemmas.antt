@@ -13,7 +13,6 @@ use Rattle.ep_base.specs.declared.call.Event.{Event}
 use Rattle.ep_base.specs.declared.call.Event.TheVariants.{Call as CallOf, Resume, Tick}
 use Rattle.ep_base.specs.declared.errno.Errno.{Errno}
 use Rattle.ep_base.specs.declared.errno.Errno.TheVariants.{Esrch, Ebusy}
-use Rattle.ep_base.specs.declared.object.End.{End}
 use Rattle.ep_base.specs.declared.record.Record.{Record}
 use Rattle.ep_machine.specs.Run.{run}
 use Rattle.ep_machine.specs.Settle.{settle}
@@ -24,18 +23,15 @@ use Rattle.ep_machine.specs.Effect.{first}
 use Rattle.ep_machine.specs.Files.{Files, Place, is_live, named_by, names_nothing, object_at, object_number, object_of, object_under, place_of, side_under, table_of}
 use Rattle.ep_machine.specs.FilesCalls.{FilesCall, files_call}
 use Rattle.ep_machine.specs.Lists.{is_among}
-use Rattle.ep_view.proofs.KindLemmas.{kind_of_instance, watched_unless_plain}
-use Rattle.ep_machine.specs.Objects.{Object, ObjectCall, counter, instance, object_effect, pair, pipe, plain, timer}
-use Rattle.ep_object.proofs.KindLemmas.{call_keeps_kind, kind_number}
-use Rattle.ep_machine.specs.Pipe.{new_pipe}
+use Rattle.ep_view.proofs.KindLemmas.{effect_kind, kind_of_instance, watched_unless_plain}
+use Rattle.ep_machine.specs.Objects.{Object, ObjectCall, object_effect, plain}
 use Rattle.ep_view.specs.AtRest.{Changed, HasSeen, IsSteady, AtRest, kind_of}
 use Rattle.ep_machine.specs.Readiness.{is_ready}
 use Rattle.ep_machine.specs.Refusal.{call_refusals, ctl_refusals, on_object, refusals, wait_refusals}
 use Rattle.ep_machine.specs.Report.{is_pick, plainly, report, report_of, reported, watches_at}
 use Rattle.ep_machine.specs.State.{Change, State, Waiter, Watch, counts_of, opening}
-use Rattle.ep_machine.specs.Sockets.{new_pair}
 use Rattle.ep_machine.specs.Step.{next_event, call_change, change, files_change, object_change, refused_or, settled, step}
-use Rattle.ep_machine.specs.Timer.{last_moment, new_timer}
+use Rattle.ep_machine.specs.Timer.{last_moment}
 use Rattle.ep_machine.specs.Waits.{has_parked, is_parked, leave_after, resume, tick, unmark, unmarked, wait, wait_for, leave}
 use Rattle.ep_machine.specs.Watches.{add, ctl, delete, has_key, is_add, is_del, modified, modify, new_watch, number_in}
 use Rattle.ep_machine.specs.Deaths.{named_in_tables}
@@ -81,13 +77,6 @@ quiet_files s g h k e = record {
 }
 
 -- A call on an object keeps its kind.
-kind_by_number : (x : Object) → kind_of (Some x) ≡ cond (kind_number x == 0) 0 (cond (kind_number x == 5) 1 2)
-kind_by_number plain = refl
-kind_by_number x = refl
-
-pub effect_kind : (x : Object) (e : End) (now : ℕ) (asked : ObjectCall) → kind_of (Some (object_effect x e now asked).1) ≡ kind_of (Some x)
-effect_kind x e now asked = kind_by_number (object_effect x e now asked).1 ∙ (ap (λ (k : ℕ). cond (k == 0) 0 (cond (k == 5) 1 2)) (call_keeps_kind x e now asked) ∙ sym (kind_by_number x))
-
 pub kind_there : (o : Option Object) → kind_of (Some (unwrap_or o plain)) ≡ kind_of o
 kind_there None = refl
 kind_there (Some x) = refl
@@ -285,12 +274,12 @@ module _ (limits : Limits) (s : State) (caller p : ℕ) (ks : List ℕ) (h : AtR
   fine_on_files call = fine_files s (on_files call) ks h
 
   files_are_fine : (call : Call) → IsFine call (on_files call).refusals (plainly ks (files_change s (on_files call)))
-  files_are_fine (PipeCall cloexec) tests = fine_on_files (PipeCall cloexec) (filed_two s.files p (pipe (new_pipe limits.pipe_bytes)) cloexec tests.0 f) (extends_two s.files p (pipe (new_pipe limits.pipe_bytes)) cloexec)
-  files_are_fine (EventFd init semaphore cloexec) tests = fine_on_files (EventFd init semaphore cloexec) (filed_one s.files p (counter (record { count = init; is_semaphore = semaphore })) cloexec tests.0 f) (extends_one s.files p (counter (record { count = init; is_semaphore = semaphore })) cloexec)
-  files_are_fine (TimerFd clock cloexec) tests = fine_on_files (TimerFd clock cloexec) (filed_one s.files p (timer new_timer) cloexec tests.0 f) (extends_one s.files p (timer new_timer) cloexec)
-  files_are_fine (SocketPair cloexec) tests = fine_on_files (SocketPair cloexec) (filed_two s.files p (pair (new_pair limits.sock_bytes)) cloexec tests.0 f) (extends_two s.files p (pair (new_pair limits.sock_bytes)) cloexec)
-  files_are_fine (Plain cloexec) tests = fine_on_files (Plain cloexec) (filed_one s.files p plain cloexec tests.0 f) (extends_one s.files p plain cloexec)
-  files_are_fine (EpollCreate cloexec) tests = fine_on_files (EpollCreate cloexec) (filed_one s.files p instance cloexec tests.0 f) (extends_one s.files p instance cloexec)
+  files_are_fine (PipeCall cloexec) tests = fine_on_files (PipeCall cloexec) (filed_two s.files p _ cloexec tests.0 f) (extends_two s.files p _ cloexec)
+  files_are_fine (EventFd init semaphore cloexec) tests = fine_on_files (EventFd init semaphore cloexec) (filed_one s.files p _ cloexec tests.0 f) (extends_one s.files p _ cloexec)
+  files_are_fine (TimerFd clock cloexec) tests = fine_on_files (TimerFd clock cloexec) (filed_one s.files p _ cloexec tests.0 f) (extends_one s.files p _ cloexec)
+  files_are_fine (SocketPair cloexec) tests = fine_on_files (SocketPair cloexec) (filed_two s.files p _ cloexec tests.0 f) (extends_two s.files p _ cloexec)
+  files_are_fine (Plain cloexec) tests = fine_on_files (Plain cloexec) (filed_one s.files p _ cloexec tests.0 f) (extends_one s.files p _ cloexec)
+  files_are_fine (EpollCreate cloexec) tests = fine_on_files (EpollCreate cloexec) (filed_one s.files p _ cloexec tests.0 f) (extends_one s.files p _ cloexec)
   files_are_fine (Dup fd) tests = fine_on_files (Dup fd) (filed_dup s.files p (named_by s.files p fd.0) f (named_lives s.files p fd.0 f tests.1.0)) (same_tables s.files _)
   files_are_fine (Dup2 fd to) tests =
       let d = named_by s.files p fd.0 in

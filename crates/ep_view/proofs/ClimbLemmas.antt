@@ -6,7 +6,7 @@ use Rattle.ep_machine.specs.Bits.{ERR, HUP, IN, OUT, RDHUP, asked, has_bit, unio
 use Rattle.ep_machine.specs.Counts.{brings, every_shown_bit, holds_wanted}
 use Rattle.ep_machine.specs.Files.{Files, is_live, object_of}
 use Rattle.ep_view.specs.KernelView.{KernelWatch, carries, climbed, freshened, kernel_watches, kernel_watch, reached_now, reached_within, stays_in, watches_instance}
-use Rattle.ep_machine.specs.Objects.{Object, instance, is_instance, plain}
+use Rattle.ep_machine.specs.Objects.{Object, is_instance, plain}
 use Rattle.ep_machine.specs.Readiness.{is_fresh}
 use Rattle.ep_machine.specs.Spread.{arrived, is_reached, is_reached_within, passes_on_by, raised_alive, raised_of, reaching_of, spread}
 use Rattle.ep_machine.specs.State.{State, Watch}

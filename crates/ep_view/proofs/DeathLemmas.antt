@@ -6,10 +6,11 @@ use Rattle.ep_base.specs.declared.object.End.TheVariants.{First, Second}
 use Rattle.ep_machine.specs.Deaths.{kept_object, die_all}
 use Rattle.ep_machine.specs.Files.{Files, Place, is_live, object_at, object_of, place_of, raised_at}
 use Rattle.ep_machine.specs.Lists.{are_distinct, is_among}
-use Rattle.ep_machine.specs.Objects.{Object, close_end, counter, instance, pair, pipe, plain, timer}
+use Rattle.ep_machine.specs.Objects.{Object, close_end, plain}
 use Rattle.ep_view.specs.AtRest.{can_be_watched, is_backed, kind_of}
 use Rattle.ep_law.proofs.DeathLemmas.{ArePlaced, after_all, after_first, apart_from_rest, get_other, get_place, has_here, numbers, same_or_not, still_placed, differs, raised_before, same_dead}
 use Rattle.ep_law.proofs.NamedLivesLemmas.{get_none, if_twice, place_after, places_left}
+use Rattle.ep_view.proofs.KindLemmas.{closed_kind}
 use Rattle.ep_view.proofs.FilesLemmas.{some_set, watched_same, watched_set}
 use Rattle.std.specs.Int.Bits.{or_zero_r}
 use Rattle.std.specs.List.{list_any}
@@ -31,13 +32,7 @@ pub record Buried (f g : Files) (xs : List (ℕ × Place)) : Type 0 where
 
 close_watch : (o : Option Object) (e : End) → can_be_watched o ≡ true → kind_of (Some (close_end (unwrap_or o plain) e).0) ≡ kind_of o
 close_watch None e h = absurd (false≢true h)
-close_watch (Some plain) e h = refl
-close_watch (Some (pipe p)) First h = refl
-close_watch (Some (pipe p)) Second h = refl
-close_watch (Some (pair p)) e h = refl
-close_watch (Some (counter c)) e h = refl
-close_watch (Some (timer t)) e h = refl
-close_watch (Some instance) e h = refl
+close_watch (Some x) e h = closed_kind x e
 
 -- one death
 module _ (f : Files) (x : ℕ × Place) (is : place_of f x.0 ≡ Some x.1) (backed : (d : ℕ) → is_backed f (place_of f d) ≡ true) where

@@ -1,38 +1,33 @@
 -- What is raised at an instance: deaths raise nothing there, so IN in its spread comes from below, or the change raised
 -- it.
-use Rattle.std.proofs.Common.{◌≡◌, ◌∙◌, ◌⊎◌, ◌<◌, ◌==◌, ℕ, zero, suc, Bool, true, false, List, [], ◌∷◌, None, Option, Some, ap, arith, get_or, if◌then◌else◌, inl, inr, is_some, length, refl, set, subst, sym, unwrap_or}
+use Rattle.std.proofs.Common.{◌≡◌, ◌∙◌, ◌⊎◌, ◌<◌, ◌==◌, ℕ, zero, suc, Bool, true, false, List, [], ◌∷◌, None, Option, Some, ap, arith, get_or, inl, inr, is_some, length, refl, set, subst, sym, unwrap_or}
 use Rattle.std.specs.Int.{bit_at}
 use Rattle.std.proofs.lemmas.Bool.{false≢true}
 use Rattle.ep_base.specs.declared.object.End.{End}
 use Rattle.ep_base.specs.declared.object.End.TheVariants.{First, Second}
 use Rattle.ep_base.specs.declared.object.Raised.{Raised}
 use Rattle.ep_law.proofs.EndLemmas.{set_object}
-use Rattle.ep_law.proofs.InstanceLemmas.{AreMade, narrows_death, narrows_deaths}
+use Rattle.ep_law.proofs.InstanceLemmas.{AreMade, kept_instance, narrows_death, narrows_deaths}
 use Rattle.ep_law.specs.Laws.{has_instance}
 use Rattle.ep_law.proofs.NarrowLemmas.{has_in, in_has}
-use Rattle.ep_law.proofs.RaiseLemmas.{either_bit, first_bit, lived_before, no_bit}
+use Rattle.ep_law.proofs.RaiseLemmas.{lived_before}
+use Rattle.ep_object.proofs.BitLemmas.{either_bit, first_bit, no_bit}
 use Rattle.ep_law.proofs.TestLemmas.{from_test}
 use Rattle.ep_machine.specs.Bits.{IN, at_end, has_bit, nothing, when}
 use Rattle.ep_machine.specs.Deaths.{buried, die, die_all, dying, kept_object}
 use Rattle.ep_machine.specs.Files.{Files, Place, is_live, object_at, object_of, place_of, raised_at}
-use Rattle.ep_machine.specs.Objects.{Object, close_end, instance, is_instance, pair, pipe, plain}
+use Rattle.ep_machine.specs.Objects.{Object, close_end, instance, is_instance, plain}
+use Rattle.ep_object.proofs.KindLemmas.{close_keeps_instance, instance_is}
 use Rattle.ep_machine.specs.Spread.{is_reached, raised_alive, raised_of, reaching_of, spread}
 use Rattle.ep_machine.specs.State.{State}
 use Rattle.ep_view.proofs.FreshLemmas.{alive_raised, raised_live, raised_parts, raised_place}
 
 -- An end that closes.
 close_raises : (x : Object) (e : End) → is_instance (close_end x e).0 ≡ true → (close_end x e).1 ≡ nothing
-close_raises (pipe p) e h = absurd (false≢true h)
-close_raises (pair p) e h = absurd (false≢true h)
-close_raises x e h = refl
+close_raises x e h = ap (λ (y : Object). (close_end y e).1) (instance_is x (sym (close_keeps_instance x e) ∙ h))
 
 close_stays : (x : Object) (e : End) → is_instance x ≡ true → is_instance (close_end x e).0 ≡ true
-close_stays plain e h = h
-close_stays x e h = h
-
-kept_instance : (b : Bool) (x : Object) → is_instance (unwrap_or (if b then Some x else None) plain) ≡ true → is_instance x ≡ true
-kept_instance true x h = h
-kept_instance false x h = absurd (false≢true h)
+close_stays x e h = close_keeps_instance x e ∙ h
 
 no_end : (e : End) → at_end nothing e ≡ 0
 no_end First = refl

@@ -33,7 +33,7 @@ use Rattle.ep_view.specs.Marking.{gets_mark_now, guarded_now, keeps_passing, lef
 use Rattle.ep_law.specs.Laws.{Member, has_instance}
 use Rattle.ep_law.specs.Narrow.{IsRegular}
 use Rattle.ep_view.proofs.KindLemmas.{is_instance_of_kind}
-use Rattle.ep_machine.specs.Objects.{Object, instance, is_instance, plain}
+use Rattle.ep_machine.specs.Objects.{Object, is_instance, plain}
 use Rattle.ep_machine.specs.Exclusive.{gets_mark, is_guarded, is_left, is_woken}
 use Rattle.ep_law.proofs.ListLemmas.{all_member}
 use Rattle.ep_law.proofs.ReachLemmas.{any_has}

@@ -1,4 +1,4 @@
-use Rattle.ep_order.proofs.OwnEndLemmas.{call_ends_here_only, clock_ends_nothing, close_ends_nothing}
+use Rattle.ep_object.proofs.OwnEndLemmas.{call_ends_here_only, clock_ends_nothing, close_ends_nothing}
 use Rattle.ep_order.proofs.law.bits_end_where_called.Goals as goal
 
 pub returns-clause-call : goal.returns-clause-call

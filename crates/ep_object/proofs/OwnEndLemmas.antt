@@ -10,17 +10,15 @@ use Rattle.std.proofs.Math.Nat.{div-mul-le_self}
 use Rattle.ep_base.specs.declared.errno.Errno.{Errno}
 use Rattle.ep_base.specs.declared.object.End.{End}
 use Rattle.ep_base.specs.declared.object.End.TheVariants.{First, Second}
-use Rattle.ep_law.proofs.BitLemmas.{Covers, from_bits}
-use Rattle.ep_law.proofs.RaiseLemmas.{covers_self, either_bit, first_bit, last_bit, no_bit}
 use Rattle.ep_machine.specs.Bits.{ERR, HUP, IN, OUT, RDHUP, when}
 use Rattle.ep_machine.specs.Effect.{Effect, attempt, first, unless}
 use Rattle.ep_machine.specs.Lists.{is_empty}
-use Rattle.ep_machine.specs.Objects.{Object, ObjectCall, asks_time, close_end, counter, gettime, instance, object_effect, object_present, object_refusals, pair, pipe, plain, read, read_refusals, reads, sets_time, settime, shutdown, shuts_down, timer, write, write_refusals, writes}
+use Rattle.ep_machine.specs.Objects.{Object, ObjectCall, asks_time, close_end, gettime, instance, object_effect, object_present, object_refusals, pair, pipe, plain, read, read_refusals, reads, sets_time, settime, shutdown, shuts_down, timer, write, write_refusals, writes}
 use Rattle.ep_machine.specs.Pipe.{Pipe, pipe_present, pipe_room, pipe_taken}
 use Rattle.ep_machine.specs.Sockets.{Socket, is_over, socket_present}
 use Rattle.ep_machine.specs.Timer.{Timer, expirations_from, unread}
-use Rattle.ep_object.specs.Law.{object_has}
-use Rattle.ep_order.specs.Ending.{CallEndsHereOnly, ClockEndsNothing, CloseEndsNothing}
+use Rattle.ep_object.proofs.BitLemmas.{Covers, covers_self, either_bit, first_bit, from_bits, last_bit, no_bit}
+use Rattle.ep_object.specs.Law.{CallEndsHereOnly, ClockEndsNothing, CloseEndsNothing, object_has}
 
 -- each bit of the old ones is among the new
 abbrev pub Stay : ℕ → ℕ → Type 0
@@ -141,7 +139,6 @@ one_end First Second ne h k = absurd (false≢true k)
 one_end Second o ne h k = absurd (false≢true h)
 
 read_stays : (x : Object) (e o : End) (n now : ℕ) → e ≢ o → object_has x e ≡ true → object_has x o ≡ true → Shows x (attempt (read_refusals x e n now) x (read x e n now)).1 o now now
-read_stays plain e o n now ne h k = covers_self _ 0
 read_stays (pipe p) First First n now ne h k = absurd (ne refl)
 read_stays (pipe p) First Second n now ne h k = unless_stays _ (pipe p) (read (pipe p) First n now) Second now (pipe_reader p n)
 read_stays (pipe p) Second o n now ne h k = covers_self _ 0
@@ -149,12 +146,9 @@ read_stays (pair p) First First n now ne h k = absurd (ne refl)
 read_stays (pair p) First Second n now ne h k = unless_stays _ (pair p) (read (pair p) First n now) Second now (peer_reads p.capacity p.second_end p.first_end n)
 read_stays (pair p) Second First n now ne h k = unless_stays _ (pair p) (read (pair p) Second n now) First now (peer_reads p.capacity p.first_end p.second_end n)
 read_stays (pair p) Second Second n now ne h k = absurd (ne refl)
-read_stays (counter c) e o n now ne h k = one_end e o ne h k
-read_stays (timer t) e o n now ne h k = one_end e o ne h k
-read_stays instance e o n now ne h k = covers_self _ 0
+read_stays x e o n now ne h k = one_end e o ne h k
 
 write_stays : (x : Object) (e o : End) (bytes : List ℕ) (now : ℕ) → e ≢ o → object_has x e ≡ true → object_has x o ≡ true → Shows x (attempt (write_refusals x e bytes) x (write x e bytes)).1 o now now
-write_stays plain e o bytes now ne h k = covers_self _ 0
 write_stays (pipe p) First o bytes now ne h k = covers_self _ 0
 write_stays (pipe p) Second First bytes now ne h k = unless_stays (first (write_refusals (pipe p) Second bytes)) (pipe p) (write (pipe p) Second bytes) First now (pipe_writer p _)
 write_stays (pipe p) Second Second bytes now ne h k = absurd (ne refl)
@@ -162,20 +156,14 @@ write_stays (pair p) First First bytes now ne h k = absurd (ne refl)
 write_stays (pair p) First Second bytes now ne h k = unless_stays (first (write_refusals (pair p) First bytes)) (pair p) (write (pair p) First bytes) Second now (peer_writes p.capacity p.second_end p.first_end _)
 write_stays (pair p) Second First bytes now ne h k = unless_stays (first (write_refusals (pair p) Second bytes)) (pair p) (write (pair p) Second bytes) First now (peer_writes p.capacity p.first_end p.second_end _)
 write_stays (pair p) Second Second bytes now ne h k = absurd (ne refl)
-write_stays (counter c) e o bytes now ne h k = one_end e o ne h k
-write_stays (timer t) e o bytes now ne h k = one_end e o ne h k
-write_stays instance e o bytes now ne h k = covers_self _ 0
+write_stays x e o bytes now ne h k = one_end e o ne h k
 
 shutdown_stays : (x : Object) (e o : End) (now : ℕ) → e ≢ o → Shows x (shutdown x e).1 o now now
-shutdown_stays plain e o now ne = covers_self _ 0
-shutdown_stays (pipe p) e o now ne = covers_self _ 0
 shutdown_stays (pair p) First First now ne = absurd (ne refl)
 shutdown_stays (pair p) First Second now ne = peer_shuts p.capacity p.second_end p.first_end
 shutdown_stays (pair p) Second First now ne = peer_shuts p.capacity p.first_end p.second_end
 shutdown_stays (pair p) Second Second now ne = absurd (ne refl)
-shutdown_stays (counter c) e o now ne = covers_self _ 0
-shutdown_stays (timer t) e o now ne = covers_self _ 0
-shutdown_stays instance e o now ne = covers_self _ 0
+shutdown_stays x e o now ne = covers_self _ 0
 
 settime_stays : (x : Object) (e o : End) (absolute : Bool) (value interval now : ℕ) → e ≢ o → object_has x e ≡ true → object_has x o ≡ true → Shows x (settime x absolute value interval now).1 o now now
 settime_stays (timer t) e o absolute value interval now ne h k = one_end e o ne h k
@@ -196,18 +184,11 @@ call_stays x e o now asks_time ne h k = unless_stays (first (object_refusals x e
 
 -- Closes.
 pub close_stays : (x : Object) (e o : End) (now : ℕ) → Shows x (close_end x e).0 o now now
-close_stays plain e o now = covers_self _ 0
-close_stays (pipe p) First First now = covers_self _ 0
 close_stays (pipe p) First Second now = or_stays _ _ _ _ (covers_self _ 0) (or_stays _ _ _ _ (when_stays true (not p.has_reader) ERR (λ h. refl)) (covers_self _ 0))
 close_stays (pipe p) Second First now = or_stays _ _ _ _ (covers_self _ 0) (or_stays _ _ _ _ (when_stays true (not p.has_writer) HUP (λ h. refl)) (covers_self _ 0))
-close_stays (pipe p) Second Second now = covers_self _ 0
-close_stays (pair p) First First now = covers_self _ 0
 close_stays (pair p) First Second now = peer_closes p.capacity p.second_end p.first_end
 close_stays (pair p) Second First now = peer_closes p.capacity p.first_end p.second_end
-close_stays (pair p) Second Second now = covers_self _ 0
-close_stays (counter c) e o now = covers_self _ 0
-close_stays (timer t) e o now = covers_self _ 0
-close_stays instance e o now = covers_self _ 0
+close_stays x e o now = covers_self _ 0
 
 -- The clock.
 div_grows : (a b k : ℕ) → 0 < k → a ≤ b → a / k ≤ b / k
