@@ -35,9 +35,6 @@ module _ (v w : Seen) (now : ℕ) (a : Moments) (sound : Sound v) (sound_now : S
     | inr out_of ↦ out_of
   ]
 
-  under : (f : Files) (o : Option ℕ) (d : ℕ) → o ≡ Some d → timer_at f o ≡ timer_in f d
-  under f o d is = ap (timer_at f) is
-
   by_old : (d : ℕ) → number_under w (key_of k) ≡ Some d → (o : Option ℕ) → number_under v (key_of k) ≡ o → timer_in v.files d ≡ timer_under v k
   by_old d is None was = dead_timer v.files d (was_free d is was) ∙ sym (ap (timer_at v.files) was)
   by_old d is (Some e) was =

@@ -183,12 +183,3 @@ module _ (v : Seen) (since now n : ℕ) (old : Registrations) (a : Moments) (new
 
   pub due_told : new.entries ≡ raised_each (due_bits v since now) n (live_ids v.keys) old.entries
   due_told = sym (each_none (left_bits v since now a) n (live_ids v.keys) new.entries (each_off (live_ids v.keys))) ∙ h.told
-
-  by_moment : (t : Option Timer) (o : Option (Option ℕ)) → IsSetSince t now o → is_due now o ≡ false → IsSetFor t now o
-  by_moment None o s late = s
-  by_moment (Some t) None s late = absurd s
-  by_moment (Some t) (Some None) s late = s refl
-  by_moment (Some t) (Some (Some m)) s late = s late
-
-  pub due_set : AreSet v now a
-  due_set k = by_moment (timer_under v k) (moment_of a k) (h.set k) (not_come now (moment_of a k) (λ m. none k m))

@@ -75,14 +75,3 @@ module _ (old new : List Waiter) (same : map place new ≡ map place old) where
 
   pub held_same : (v : Seen) → AreHeld v old → AreHeld v new
   held_same v h = λ d. h d ∙ ap (λ (ks : List ℕ). length (filter (λ k. k == d) ks)) (sym (numbers_same v.keys))
-
--- marks leave instances as they are
-module _ (v : Seen) (ready : ℕ → Bool) (now : ℕ) (ws : List Waiter) where
-  places_kept : map place (marked_by ready now ws) ≡ map place ws
-  places_kept = marked_parts ready place (λ w b. refl) now ws
-
-  pub held_marked : AreHeld v ws → AreHeld v (marked_by ready now ws)
-  held_marked h = held_same ws (marked_by ready now ws) places_kept v h
-
-  pub placed_marked : ArePlaced v ws → ArePlaced v (marked_by ready now ws)
-  placed_marked h = placed_same ws (marked_by ready now ws) places_kept v.keys h

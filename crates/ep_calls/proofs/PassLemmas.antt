@@ -15,7 +15,7 @@ use Rattle.ep_law.specs.Laws.{Member, passes_on_of}
 use Rattle.ep_machine.specs.Deaths.{buried as buried_of, die_all, dying, is_kept}
 use Rattle.ep_machine.specs.Files.{Files}
 use Rattle.ep_machine.specs.Settle.{settle}
-use Rattle.ep_machine.specs.Spread.{is_reached, passes_on_by, raised_alive}
+use Rattle.ep_machine.specs.Spread.{passes_on_by, raised_alive}
 use Rattle.ep_machine.specs.State.{Change, State, Watch}
 use Rattle.ep_view.proofs.ClimbLemmas.{passes_as_noted, reached_same}
 use Rattle.ep_view.proofs.KernelViewLemmas.{kept_filter}
@@ -45,10 +45,6 @@ module _ (n : ℕ) (raising : Raising) (mid : Parts) (noted : Registrations) (bu
 
   pub kept_watches : map (freshened n by_machine) (kernel_watches c.1 (buried_of c.1 c.2).0.watches) ≡ map (watch_at buried.tables.keys) buried.interest.entries
   kept_watches = ap (map (freshened n by_machine)) (kept_filter c.1 (stays_in files) c.1.watches) ∙ left_watches
-
-  -- IN reaches from below the same instances
-  pub reached_is : is_reached (buried_of c.1 c.2).0 (raised_alive (buried_of c.1 c.2).0 by_machine) ≡ reached_now buried.tables.files n (map (watch_at buried.tables.keys) buried.interest.entries)
-  reached_is = reached_same c.1 files n by_machine counted ∙ (λ i. reached_now (same_files i) n (kept_watches i))
 
   -- a registration that outlives the deaths
   pub left_member : (x : Watch) → Member x (buried_of c.1 c.2).0.watches → Member (noted_watch x) (map (watch_at buried.tables.keys) buried.interest.entries)

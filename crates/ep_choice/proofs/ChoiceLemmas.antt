@@ -99,18 +99,3 @@ module _ (v : Seen) (now : ℕ) (r : Registrations) (ws : List Waiter) (n : ℕ)
           told = same_found r.entries linked;
           each = All-filter (λ p. is_exclusive p.1) (IsKept v r) (with_ids r (filter (is_on desc) r.entries)) (kept_all sound_r linked instances (filter (is_on desc) r.entries) (λ x m. filtered_member (is_on desc) r.entries x m));
         })
-
-  pub choose_on : (p : EntryId × Entry) (left : List (EntryId × Entry)) → Chooses v now r ws n desc (p ∷ left) → is_found v now r ws n p.1 ≡ false → Chooses v now r ws n desc left
-  choose_on p left h f = record {
-    told = sym (ap (λ (b : Bool). number_found (cond b (Some p) (find (λ q. is_found v now r ws n q.1) left))) f) ∙ h.told;
-    each = All-tail (IsKept v r) p left h.each;
-  }
-
-  pub choose_found : (p : EntryId × Entry) (left : List (EntryId × Entry)) → Chooses v now r ws n desc (p ∷ left) → is_found v now r ws n p.1 ≡ true → Some p.1.number ≡ chosen_number v now r ws n desc
-  choose_found p left h t = sym (ap (λ (b : Bool). number_found (cond b (Some p) (find (λ q. is_found v now r ws n q.1) left))) t) ∙ h.told
-
-  pub choose_kept : (p : EntryId × Entry) (left : List (EntryId × Entry)) → Chooses v now r ws n desc (p ∷ left) → IsKept v r p
-  choose_kept p left h = All-head (IsKept v r) p left h.each
-
-pub passed : (a b : ℕ) (f c : Bool) → a ≡ b → f ≡ c → (a == b && c) ≡ f
-passed a b f c e h = ap (λ (t : Bool). t && c) (same_test a b e) ∙ sym h

@@ -1,5 +1,5 @@
 -- The exclusive registrations on a description that pass something on.
-use Rattle.std.proofs.Common.{◌≡◌, ◌∙◌, ◌==◌, ◌&&◌, ◌++◌, ◌<◌, ℕ, All, Bool, true, false, IsSome, List, [], ◌∷◌, None, Option, Some, ap, append-nil, cond, filter, find, inl, inr, map, refl, subst, sym}
+use Rattle.std.proofs.Common.{◌≡◌, ◌∙◌, ◌==◌, ◌&&◌, ◌++◌, ℕ, All, Bool, true, false, IsSome, List, [], ◌∷◌, None, Option, Some, ap, cond, filter, find, inl, inr, map, refl, subst, sym}
 use Rattle.std.specs.Option.{option_map}
 use Rattle.std.proofs.lemmas.Bool.{false≢true}
 use Rattle.std.proofs.lemmas.List.Elements.{All-cons, All-filter, All-head, All-nil, All-tail}
@@ -9,7 +9,7 @@ use Rattle.ep_calls.proofs.EntryKeyLemmas.{IsFound, IsKeyed, each_found, each_ke
 use Rattle.ep_choice.proofs.ChoiceLemmas.{IsKept, choose_begins, first_found}
 use Rattle.ep_calls.specs.Stands.{AreLinked}
 use Rattle.ep_choice.proofs.WalkLemmas.{reached_alike}
-use Rattle.ep_choice.specs.Choose.{AreCandidates, AreKeys, HasKeys, finds_entry, finds_key, finds_under, is_found, passing_keys, with_candidate, AreOfInstances, chosen_number}
+use Rattle.ep_choice.specs.Choose.{AreCandidates, AreKeys, finds_entry, finds_key, finds_under, is_found, passing_keys, with_candidate, AreOfInstances, chosen_number}
 use Rattle.ep_climb.proofs.WalkLemmas.{reaches_one}
 use Rattle.ep_interest.specs.Exclusive.{exclusive_of, is_exclusive}
 use Rattle.ep_interest.specs.Registrations.{IsSound, Registrations, entry_found, entry_under, id_of, is_on, number_under as entry_number, with_ids}
@@ -70,9 +70,6 @@ module _ (r : Registrations) (target : DescId) (n : ℕ) (old : Walk) where
         (ap (entry_found r.entries) (all_member (IsKeyed r) r.entries x (each_keyed r sound) m) ∙ all_member (IsFound r) r.entries x (each_found r sound) m)
         (all_there xs (λ y n. within y (inr n)))
 
-  pub gathers_room : (p : EntryId × Entry) (left : List (EntryId × Entry)) (mid : Walk) → HasKeys r old → Gathers r target n old (p ∷ left) mid → p.0.0 < mid.room
-  gathers_room p left mid keys h = subst (λ (m : ℕ). p.0.0 < m) (sym h.room) (keys p.0 p.1 (All-head (λ (q : EntryId × Entry). entry_under r q.0 ≡ Some q.1) p left h.under) (All-head IsExclusive p left h.each))
-
   room_same : (b : Bool) (k : ℕ) (w : Walk) → (cond b (with_reached w k) w).room ≡ w.room
   room_same true k w = by (is_among w.reached k) where
     by : (b : Bool) → (cond b w (record w { reached = w.reached ++ k ∷ [] })).room ≡ w.room
@@ -99,10 +96,6 @@ module _ (r : Registrations) (target : DescId) (n : ℕ) (old : Walk) where
         ≡ find test (mid.reached ++ map (λ (q : EntryId × Entry). q.0.0) (cond b (p ∷ filter (λ (q : EntryId × Entry). q.1.passes_in == n) left) (filter (λ (q : EntryId × Entry). q.1.passes_in == n) left)))
     by test true = reached_alike test p.0.0 mid (passing_keys n left)
     by test false = refl
-
-  pub gathers_end : (left : List (EntryId × Entry)) (new : Walk) → [] ≡ left → Gathers r target n old left new → AreCandidates r target n new.reached
-  gathers_end left new none h test =
-      sym (ap (find test) (append-nil new.reached)) ∙ (ap (λ (ps : List (EntryId × Entry)). find test (new.reached ++ passing_keys n ps)) none ∙ h.told test)
 
 -- The number of the registration under a key.
 abbrev pub key_number : Registrations → Option ℕ → Option ℕ

@@ -102,14 +102,6 @@ module _ (es : List (ℕ × ℕ)) where
   over i k j a (inr b) = join i k j a b
 
   module _ (j : ℕ) (w : Walk) where
-    pub ascends_early : IsClosed es w.reached → is_among w.reached j ≡ true → (new : Walk) → new ≡ with_reached w j → Ascends es j w new
-    ascends_early closed t new is =
-        subst (Ascends es j w) (sym (is ∙ ap (λ (b : Bool). cond b w (record w { reached = w.reached ++ j ∷ [] })) t))
-        (record { room = refl; grown = not_grown w.reached; exact = λ i. (λ h. inl h, λ h. back i h) }) where
-          back : (i : ℕ) → (is_among w.reached i ≡ true) ⊎ IsFrom es i j → is_among w.reached i ≡ true
-          back i (inl old) = old
-          back i (inr (inl e)) = subst (λ (k : ℕ). is_among w.reached k ≡ true) (sym e) t
-          back i (inr (inr up)) = closed i j t up
 
     pub ascends_far : (mid new : Walk) (ks : List ℕ) → mid ≡ with_reached w j → ((i : ℕ) → (is_among ks i ≡ true) ↔ IsAbove es i j) → Reaches (is_among ks) mid new → Ascends es j w new
     ascends_far mid new ks is above a = record { room = both.room; grown = both.grown; exact = λ i. (forth i, back i) } where
@@ -129,26 +121,6 @@ module _ (es : List (ℕ × ℕ)) where
       back i (inl old) = both.each i ∙ or_left (is_among w.reached i) (i == j || is_among ks i) old
       back i (inr (inl e)) = both.each i ∙ or_right (is_among w.reached i) (i == j || is_among ks i) (or_left (i == j) (is_among ks i) (same_test i j e))
       back i (inr (inr up)) = both.each i ∙ or_right (is_among w.reached i) (i == j || is_among ks i) (or_right (i == j) (is_among ks i) ((above i).1 up))
-
-  -- from the instance that there is, or from none
-  pub from_some : (d : DescId) (o : Option DescId) (old new : Walk) → o ≡ Some d → Ascends es d.0 old new → AscendsFrom es o old new
-  from_some d o old new is a = record { room = a.room; exact = λ i. (λ h. forth i ((a.exact i).0 h), λ h. (a.exact i).1 (back i h)) } where
-    forth : (i : ℕ) → (is_among old.reached i ≡ true) ⊎ IsFrom es i d.0 → (is_among old.reached i ≡ true) ⊎ ((e : DescId) × (o ≡ Some e) × IsFrom es i e.0)
-    forth i (inl h) = inl h
-    forth i (inr f) = inr (d, is, f)
-
-    same : (e : DescId) → o ≡ Some e → e ≡ d
-    same e h = let s : Some e ≡ Some d = sym h ∙ is in cc
-
-    back : (i : ℕ) → (is_among old.reached i ≡ true) ⊎ ((e : DescId) × (o ≡ Some e) × IsFrom es i e.0) → (is_among old.reached i ≡ true) ⊎ IsFrom es i d.0
-    back i (inl h) = inl h
-    back i (inr f) = inr (subst (λ (e : DescId). IsFrom es i e.0) (same f.0 f.1) f.2)
-
-  pub from_none : (o : Option DescId) (w : Walk) → o ≡ None → AscendsFrom es o w w
-  from_none o w is = record { room = refl; exact = λ i. (λ h. inl h, λ h. back i h) } where
-    back : (i : ℕ) → (is_among w.reached i ≡ true) ⊎ ((e : DescId) × (o ≡ Some e) × IsFrom es i e.0) → is_among w.reached i ≡ true
-    back i (inl h) = h
-    back i (inr f) = absurd (let no : None ≡ Some f.0 = sym is ∙ f.1 in cc)
 
   closed_from : (o : Option DescId) (old new : Walk) → IsClosed es old.reached → AscendsFrom es o old new → IsClosed es new.reached
   closed_from o old new closed a i j t up = (a.exact i).1 (by ((a.exact j).0 t)) where

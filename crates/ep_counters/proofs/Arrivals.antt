@@ -26,9 +26,6 @@ IsNextArrival-later t now moment e later =
 pub IsNextArrival-past : (t : Timer) (now moment : ℕ) → expiration_after t t.taken ≡ Some moment → moment ≤ now → IsNextArrival t now None
 IsNextArrival-past t now moment e past = λ k after arrives. omega (arith, unread-from t (k - 1) moment e (omega arith), arrives.0)
 
-pub IsNextArrival-none : (t : Timer) (now : ℕ) → expiration_after t t.taken ≡ None → IsNextArrival t now None
-IsNextArrival-none t now e = λ k after arrives. omega (arith, unread-none t k e, arrives.1)
-
 -- where the clock raises nothing
 advance-quiet : (before after : ℕ) → after ≡ 0 → when (before == 0 && nat_lt 0 after) IN ≡ 0
 advance-quiet before after none = grind (arith, nat_tests)

@@ -11,7 +11,7 @@ use Rattle.ep_calls.proofs.FindLemmas.{same_bools}
 use Rattle.ep_dates.proofs.KeptLemmas.{apart_one, ended_changes, event_else, event_here, kept_changed, same_one}
 use Rattle.ep_dates.proofs.OrderLemmas.{ended_rows, order_changed}
 use Rattle.ep_dates.proofs.RowLemmas.{end_here, or_assoc, or_false, row_else}
-use Rattle.ep_dates.specs.Dates.{Dates, ended, event_at, is_dated, is_ready, noted}
+use Rattle.ep_dates.specs.Dates.{Dates, ended, event_at, is_ready, noted}
 use Rattle.ep_dates.specs.Ask.{is_on, watches}
 use Rattle.ep_dates.specs.Drop.{Drops, is_in, is_in_found, touches, touches_any, touches_found}
 use Rattle.ep_dates.specs.Kept.{AreKept}
@@ -151,15 +151,6 @@ module _ (r : Registrations) where
       order = λ n o. order_changed n r (one_under r sound) d kept o id x at 0 new changes (λ j. inl (ended_rows r d kept id x at j));
     }
 
-  none_is : (k : ℕ) → nat_lt 0 k ≡ false → k ≡ 0
-  none_is k h = grind (arith, nat_tests, h)
-
-  -- one that isn't stays so
-  pub drops_idle : (d : Dates) → AreKept r d → (id : EntryId) → ((x : Entry) → entry_under r id ≡ Some x → is_dated d x ≡ false) → Drops r (λ k. k == id.0) d d
-  drops_idle d kept id idle = drops_none (λ k. k == id.0) d kept (λ j x at h.
-      let same : j ≡ id = let e = from_test j.0 id.0 h in λ q. record { 0 = e q } in
-      none_is (event_at d.since x.number) (idle x (ap (entry_under r) (sym same) ∙ at)))
-
 -- Those whose keys are listed.
 has_where : (f : Entry → EntryId) (xs : List Entry) (k : ℕ) → has_id (map f xs) k ≡ true → (y : Entry) × Member y xs × ((f y).0 ≡ k)
 has_where f [] k h = absurd (false≢true h)
@@ -235,9 +226,6 @@ module _ (r : Registrations) where
   touching_both desc a b c s t =
       drops_same r (λ k. is_in r desc k || watches r desc k) (touches r desc) a c (λ id x at. ap (touches_found desc) at ∙ sym (ap (λ (o : Option Entry). is_in_found desc o || is_on desc o) at))
       (drops_both r (is_in r desc) (watches r desc) a b c s t)
-
-  pub dying_none : (d : Dates) → AreKept r d → Drops r (touches_any r []) d d
-  dying_none d kept = drops_none r (touches_any r []) d kept (λ id x at h. absurd (false≢true h))
 
   pub dying_next : (done : List DescId) (desc : DescId) (a b c : Dates) → Drops r (touches_any r done) a b → Drops r (touches r desc.0) b c → Drops r (touches_any r (done ++ desc ∷ [])) a c
   dying_next done desc a b c s t =

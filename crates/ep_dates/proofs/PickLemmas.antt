@@ -1,5 +1,5 @@
 -- Of which registrations a report may be, by flags.
-use Rattle.std.proofs.Common.{◌≡◌, None, Option, ◌<◌, ◌≤◌, ◌+◌, ◌++◌, ◌==◌, ◌&&◌, ◌||◌, ◌∙◌, ◌⊎◌, ℕ, Bool, List, [], ◌∷◌, Some, ap, arith, drop, false, get_or, inl, inr, length, map, min, not, refl, subst, sym, take, true}
+use Rattle.std.proofs.Common.{◌≡◌, None, Option, ◌<◌, ◌≤◌, ◌+◌, ◌++◌, ◌==◌, ◌&&◌, ◌||◌, ◌∙◌, ◌⊎◌, ℕ, Bool, List, [], ◌∷◌, Some, ap, arith, drop, false, get_or, inl, inr, length, map, not, refl, subst, sym, take, true}
 use Rattle.std.proofs.lemmas.Bool.{cases_Bool, false≢true}
 use Rattle.std.proofs.lemmas.List.{drop_more, take-append-drop, take_more}
 use Rattle.ep_base.specs.declared.ids.EntryId.{EntryId}
@@ -171,25 +171,6 @@ module _ (r : Registrations) (sound : IsSound r) (d : Dates) (kept : AreKept r d
 
 -- What is flagged and counted is a pick, and only that.
 module _ (r : Registrations) (sound : IsSound r) (d : Dates) (kept : AreKept r d) (instance most : ℕ) (ks : List ℕ) (latest : ℕ) (w : Walk) (f : Flags r d instance ks latest w) where
-  pub told_pick : length ks ≡ min most (length (keys_at d.rows instance)) → AreLate r d instance w.reached latest → IsPick r d instance most ks
-  told_pick many late = record {
-    distinct = f.distinct;
-    each = λ k t. let e = f.each k t in (e.0, e.1, e.2);
-    many = many;
-    fair = λ i j x y it out at there.
-        let on : is_among (keys_at d.rows instance) i.0 ≡ true = ap (λ (n : ℕ). is_among (keys_at d.rows n) i.0) (sym it.instance) ∙ (kept.listed i x it.under ∙ it.dated) in
-        let off : is_among w.reached i.0 ≡ false = elim (cases_Bool (is_among w.reached i.0)) [
-          | inr n ↦ n
-          | inl t ↦
-              let g = f.only i.0 t in
-              let same : g.0 ≡ x = one_entry g.0 x (sym g.1 ∙ (ap (entry_under r) (id_is (key_of i.0) i refl) ∙ it.under)) in
-              absurd (false≢true (sym out ∙ (ap (λ (z : Entry). is_among ks z.number) (sym same) ∙ g.2)))
-        ] in
-        let from = late i.0 on off in
-        let date : date_under r d i.0 ≡ event_at d.since x.number = ap (date_found d) (ap (entry_under r) (id_is (key_of i.0) i refl) ∙ it.under) in
-        let top = f.bound j y at there in
-        omega (arith, from, date, top);
-  }
 
   pub pick_late : IsPick r d instance most ks → AreLate r d instance w.reached latest
   pick_late pick k on off =

@@ -1,6 +1,6 @@
 -- Registrations are dated anew, one after another.
 use Rattle.std.proofs.Common.{◌≡◌, ◌≢◌, ◌<◌, ◌+◌, ◌++◌, ◌==◌, ◌&&◌, ◌||◌, ◌∙◌, ◌⊎◌, ℕ, Bool, List, [], ◌∷◌, Some, ap, arith, cond, false, filter, get_or, inl, inr, is_some, length, nat_lt, not, refl, rules, subst, sym, take, true}
-use Rattle.std.proofs.lemmas.Bool.{cases_Bool, cases_eq, false≢true}
+use Rattle.std.proofs.lemmas.Bool.{cases_eq, false≢true}
 use Rattle.std.proofs.lemmas.List.{length-set, take_more}
 use Rattle.ep_base.specs.declared.ids.EntryId.{EntryId}
 use Rattle.ep_calls.proofs.EntryLemmas.{one_under, within as number_within}
@@ -12,16 +12,12 @@ use Rattle.ep_dates.specs.Kept.{AreKept}
 use Rattle.ep_dates.specs.Renew.{Renews}
 use Rattle.ep_interest.specs.Registrations.{IsSound, Registrations, entry_under}
 use Rattle.ep_interest.specs.declared.entry.Entry.{Entry}
-use Rattle.ep_law.proofs.TestLemmas.{both_true, from_test, same_test}
+use Rattle.ep_law.proofs.TestLemmas.{same_test}
 use Rattle.ep_machine.specs.Lists.{is_among}
 use Rattle.ep_rings.specs.PlacedRows.{first_in, keys_at, without_key}
 
 if_not : (b : Bool) (n m : ℕ) → b ≡ false → m ≡ cond b n m
 if_not b n m f = sym (ap (λ (c : Bool). cond c n m) f)
-
-strip : (b : Bool) → (b || false) ≡ true → b ≡ true
-strip true h = refl
-strip false h = h
 
 module _ (n : ℕ) (r : Registrations) where
   pub renews_none : (d : Dates) → AreKept r d → Renews n r [] d d
@@ -38,26 +34,6 @@ module _ (n : ℕ) (r : Registrations) where
     and_false : (b : Bool) → (b && false) ≡ false
     and_false true = refl
     and_false false = refl
-
-  -- no registration with this number is dated
-  pub renews_nothing : (k : ℕ) (d : Dates) → AreKept r d → ((id : EntryId) (x : Entry) → entry_under r id ≡ Some x → x.number ≡ k → is_dated d x ≡ true → ⊥) → Renews n r (k ∷ []) d d
-  renews_nothing k d kept never = record {
-    kept = kept;
-    turned = refl;
-    rows = refl;
-    since = refl;
-    later = λ j lt. refl;
-    order = λ o. o;
-    ready = λ i. refl;
-    each = λ id x at. if_not (is_dated d x && is_among (k ∷ []) x.number) n (event_at d.since x.number) (elim (cases_Bool (is_dated d x && is_among (k ∷ []) x.number)) [
-      | inl t ↦ let both = both_true (is_dated d x) (is_among (k ∷ []) x.number) t in absurd (never id x at (from_test x.number k (strip (x.number == k) both.1)) both.0)
-      | inr f ↦ f
-    ]);
-  }
-
-  -- the key that is kept under a number is that of its registration, if that is dated
-  pub key_kept : (k : ℕ) (d : Dates) → AreKept r d → (id : EntryId) (x : Entry) → entry_under r id ≡ Some x → x.number ≡ k → is_dated d x ≡ true → entry_under r (id_at d.ids k) ≡ Some x
-  key_kept k d kept id x at number dated = ap (entry_under r) (ap (id_at d.ids) (sym number) ∙ kept.ids id x at dated) ∙ at
 
   module _ (sound : IsSound r) (up : nat_lt 0 n ≡ true) (d : Dates) (kept : AreKept r d) (id : EntryId) (x : Entry) (at : entry_under r id ≡ Some x) (dated : is_dated d x ≡ true) (key : id_at d.ids x.number ≡ id) where
     abbrev new : Dates

@@ -1,16 +1,13 @@
 -- A written item, a place that ends and a place that begins.
-use Rattle.std.proofs.Common.{◌≡◌, ◌≢◌, ℕ, suc, ◌+◌, ◌/◌, ◌<◌, ◌≤◌, List, [], ◌∷◌, ◌++◌, length, get_or, set, Option, Some, None, refl, sym, ap, ◌∙◌, subst, inl, inr, arith, length-set, length-append, IsSome, if◌then◌else◌}
+use Rattle.std.proofs.Common.{◌≡◌, ◌≢◌, ℕ, ◌+◌, ◌<◌, ◌≤◌, List, [], ◌∷◌, ◌++◌, length, get_or, set, Option, Some, None, refl, sym, ap, ◌∙◌, subst, inl, inr, arith, length-append, IsSome, if◌then◌else◌}
 use Rattle.std.proofs.lemmas.Bool.{cases_eq, cases_lt, lt-ltb, le-ltb}
 use Rattle.std.proofs.lemmas.List.{get_or-set_same, get_or-set_other, get_or_append_left, ext_get_or}
 use Rattle.std.proofs.Math.Seq.{get_or-append_seam}
 use Rattle.ep_due.specs.declared.heap.Item.{Item}
-use Rattle.ep_due.specs.Order.{NoLater}
-use Rattle.ep_due.specs.Heap.{item_at, key, index_of, ArePaired, SwapsItems, IsOrdered, LooseAt}
+use Rattle.ep_due.specs.Heap.{item_at, key, index_of, ArePaired, SwapsItems}
 use Rattle.ep_due.specs.DueQueue.{moment_in_use, moments, moment_at, IsHeap, HasFreePlace}
 use Rattle.ep_due.proofs.MapLemmas.{Extends}
-use Rattle.ep_due.proofs.OrderLemmas.{no_later_none}
 use Rattle.ep_due.proofs.ViewLemmas.{used, in_use, out_of_use, same_in_use, moments_in, moments_out, moments_set, length-moments}
-use Rattle.ep_due.proofs.SiftLemmas.{order_of, loose_by}
 
 some_of : (o : Option (Option ℕ)) → IsSome o → (x : Option ℕ) × (o ≡ Some x)
 some_of None h = absurd (cc)
@@ -31,29 +28,11 @@ module _ (heap : List Item) (places : List ℕ) (h : ArePaired heap places) (at 
   pub other_item : (k : ℕ) → k ≢ at → item_at with_t k ≡ item_at heap k
   other_item k ne = get_or-set_other heap at k t _ ne
 
-  pub same_place : (k : ℕ) → (item_at with_t k).place ≡ (item_at heap k).place
-  same_place k = elim (cases_eq k at) [
-    | inl is ↦ ap (λ n. (item_at with_t n).place) is ∙ (ap (λ (u : Item). u.place) t_at ∙ (own ∙ ap (λ n. (item_at heap n).place) (sym is)))
-    | inr ne ↦ ap (λ (u : Item). u.place) (other_item k ne)
-  ]
-
-  pub write_paired : ArePaired with_t places
-  write_paired =
-      let len = length-set heap at t in
-      record {
-        same = len ∙ h.same;
-        back = λ k l. subst (λ (p : ℕ). (p < length places) × (index_of places p ≡ k)) (sym (same_place k)) (h.back k (omega (arith, l, len)));
-        forth = λ p l. (omega (arith, (h.forth p l).0, len), same_place (index_of places p) ∙ (h.forth p l).1);
-      }
-
   pub write_moments : (live : ℕ) → at < live → moments live with_t places ≡ set (moments live heap places) t.place (Some t.moment)
   write_moments live u =
       let own_spot : index_of places t.place ≡ at = ap (index_of places) own ∙ (h.back at la).1 in
       let within : t.place < length places = subst (λ (p : ℕ). p < length places) (sym own) (h.back at la).0 in
       moments_set live live heap with_t places places t.place (Some t.moment) within refl (ap (moment_in_use live with_t) own_spot ∙ (in_use live with_t at u ∙ ap (λ (v : Item). Some v.moment) t_at)) (λ q lq ne. same_in_use live live heap with_t (index_of places q) (λ x. x) (λ x. x) (ap (λ (v : Item). v.moment) (other_item (index_of places q) (λ same. ne (one_place heap places h q t.place lq within (same ∙ sym own_spot))))))
-
-  pub write_loose : (live : ℕ) → IsOrdered live heap → at < live → LooseAt live with_t at
-  write_loose live o u = loose_by live live heap with_t at o (omega arith) u (λ k l ne. ap (λ (v : Item). v.moment) (other_item k ne))
 
 -- the last item in use goes
 pub cut_moments : (last : ℕ) (heap : List Item) (places : List ℕ) (p : ℕ) → ArePaired heap places → p < length places → index_of places p ≡ last → moments last heap places ≡ set (moments (last + 1) heap places) p None
@@ -73,15 +52,6 @@ withdraw_moments heap heap' places places' at last p h h' s l within is same =
     let inside : p < length places' = omega (arith, within, l, h.same, h'.same, s.same) in
     cut_moments last heap' places' p h' inside (swapped_spot heap heap' places places' at last p h h' s l within is) ∙ ap (λ v. set v p None) same
 
--- the order of the first items stays where one more comes that has no moment
-pub ordered_more : (live : ℕ) (heap heap' : List Item) → IsOrdered live heap → ((k : ℕ) → k < live → item_at heap' k ≡ item_at heap k) → key heap' live ≡ None → IsOrdered (live + 1) heap'
-ordered_more live heap heap' o same none = record {
-  order = λ i l. elim (cases_eq (suc i) live) [
-    | inl is ↦ subst (λ (v : Option ℕ). NoLater (key heap' (i / 2)) v) (sym (ap (key heap') is ∙ none)) (no_later_none (key heap' (i / 2)))
-    | inr ne ↦ order_of heap heap' (i / 2) (suc i) (i / 2) (suc i) (ap (λ (t : Item). t.moment) (same (i / 2) (omega arith))) (ap (λ (t : Item). t.moment) (same (suc i) (omega arith))) (o.order i (omega arith))
-  ];
-}
-
 -- an item that is not in use begins
 module _ (live : ℕ) (heap : List Item) (places : List ℕ) (h : IsHeap live heap places) (room : live < length heap) (t : Item) (own : t.place ≡ (item_at heap live).place) (none : t.moment ≡ None) where
   own_spot : index_of places t.place ≡ live
@@ -89,13 +59,6 @@ module _ (live : ℕ) (heap : List Item) (places : List ℕ) (h : IsHeap live he
 
   within : t.place < length places
   within = subst (λ (p : ℕ). p < length places) (sym own) (h.paired.back live room).0
-
-  pub reuse_heap : IsHeap (live + 1) (set heap live t) places
-  reuse_heap = record {
-    paired = write_paired heap places h.paired live room t own;
-    within = let len = length-set heap live t in omega arith;
-    ordered = ordered_more live heap (set heap live t) h.ordered (λ k l. get_or-set_other heap live k t _ (λ e. omega arith)) (ap (λ (v : Item). v.moment) (get_or-set_same heap live t _ room) ∙ none);
-  }
 
   reused : moments (live + 1) (set heap live t) places ≡ set (moments live heap places) t.place (Some None)
   reused = moments_set live (live + 1) heap (set heap live t) places places t.place (Some None) within refl (ap (moment_in_use (live + 1) (set heap live t)) own_spot ∙ (in_use (live + 1) (set heap live t) live (omega arith) ∙ ap (λ (o : Option ℕ). Some o) (ap (λ (v : Item). v.moment) (get_or-set_same heap live t _ room) ∙ none))) (λ q lq ne.
@@ -134,44 +97,6 @@ module _ (live : ℕ) (heap : List Item) (places : List ℕ) (h : IsHeap live he
 
   new_spot : (p : ℕ) → p ≡ length places → index_of longer p ≡ t.place
   new_spot p is = ap (index_of longer) is ∙ get_or-append_seam places t.place [] 0
-
-  abbrev Named : ℕ → ℕ → Type 0
-  Named k p = (p < length longer) × (index_of longer p ≡ k)
-
-  abbrev IsAt : ℕ → ℕ → Type 0
-  IsAt p n = (n < length more) × ((item_at more n).place ≡ p)
-
-  pub grow_paired : ArePaired more longer
-  grow_paired =
-      let len = length-append heap (t ∷ []) in
-      let len' = length-append places (t.place ∷ []) in
-      let same = h.paired.same in
-      record {
-        same = omega (arith, len, len', same);
-        back = λ k l. elim (cases_lt k (length heap)) [
-          | inl old ↦
-              let mine = h.paired.back k old in
-              subst (Named k) (sym (ap (λ (u : Item). u.place) (old_item k old))) (omega (arith, mine.0, len'), old_spot (item_at heap k).place mine.0 ∙ mine.1)
-          | inr new ↦
-              let is : k ≡ length heap = omega (arith, l, len, new) in
-              subst (Named k) (sym (ap (λ (u : Item). u.place) (new_item k is))) (omega (arith, own, same, len'), new_spot t.place (own ∙ same) ∙ (own ∙ sym is))
-        ];
-        forth = λ p l. elim (cases_lt p (length places)) [
-          | inl old ↦
-              let mine = h.paired.forth p old in
-              subst (IsAt p) (sym (old_spot p old)) (omega (arith, mine.0, len), ap (λ (u : Item). u.place) (old_item (index_of places p) mine.0) ∙ mine.1)
-          | inr new ↦
-              let is : p ≡ length places = omega (arith, l, len', new) in
-              subst (IsAt p) (sym (new_spot p is)) (omega (arith, own, len), ap (λ (u : Item). u.place) (new_item t.place own) ∙ (own ∙ (same ∙ sym is)))
-        ];
-      }
-
-  pub grow_heap : IsHeap (live + 1) more longer
-  grow_heap = record {
-    paired = grow_paired;
-    within = let len = length-append heap (t ∷ []) in let a = all in omega arith;
-    ordered = ordered_more live heap more h.ordered (λ k l. old_item k (let a = all in omega arith)) (ap (λ (v : Item). v.moment) (new_item live all) ∙ none);
-  }
 
   view_length : length (moments live heap places) ≡ t.place
   view_length = length-moments live heap places ∙ (sym h.paired.same ∙ sym own)

@@ -1,9 +1,8 @@
 -- Runs of one byte.
-use Rattle.std.proofs.Common.{List, ap, ap₂, arith, bytes_eq, false, length, replicate, slice_index, suc, sym, true, zero, ℕ, ◌&&◌, ◌≡◌, ◌<◌, ◌≤◌}
+use Rattle.std.proofs.Common.{List, ap, ap₂, arith, bytes_eq, false, length, replicate, slice_index, sym, true, ℕ, ◌&&◌, ◌≡◌, ◌<◌, ◌≤◌}
 use Rattle.std.proofs.lemmas.Bool.{and_parts, le-leb, lt-leb}
 use Rattle.std.proofs.lemmas.List.{get_or-replicate, length-replicate}
 use Rattle.std.proofs.lemmas.Slice.Eq.{bytes_eq-Decides}
-use Rattle.hex.specs.Hex.{IsBytes}
 use Rattle.ep_history.specs.Bytes.{is_run}
 
 pub run_is_filled : (bytes : List ℕ) → is_run bytes ≡ true → replicate (length bytes) (slice_index bytes 0) ≡ bytes
@@ -19,8 +18,3 @@ fill_is_a_run count byte long =
     let first : slice_index bytes 0 ≡ byte = get_or-replicate count 0 byte 0 (omega (arith, long)) in
     let same : bytes ≡ replicate (length bytes) (slice_index bytes 0) = sym (ap₂ replicate len first) in
     ap₂ ◌&&◌ (le-leb 16 (length bytes) (omega (arith, long, len))) ((bytes_eq-Decides bytes _).1 same)
-
-pub fill_is_bytes : (count byte : ℕ) → byte < 256 → IsBytes (replicate count byte)
-fill_is_bytes zero byte small i = omega arith
-fill_is_bytes (suc n) byte small zero = small
-fill_is_bytes (suc n) byte small (suc i) = fill_is_bytes n byte small i

@@ -1,9 +1,9 @@
 -- What a closure leaves that is called at each registration, and what an arrival keeps.
-use Rattle.std.proofs.Common.{if◌then◌else◌, ◌≡◌, ◌∙◌, ◌+◌, ◌<◌, ◌≤◌, ◌==◌, ◌&&◌, ◌||◌, ℕ, zero, suc, Bool, true, false, List, [], ◌∷◌, length, vec_capacity, None, Option, Some, MutBor, ap, cond, get_or, map, nat_lt, refl, subst, sym, unwrap_or, count_by}
+use Rattle.std.proofs.Common.{if◌then◌else◌, ◌≡◌, ◌∙◌, ◌<◌, ◌≤◌, ◌==◌, ◌&&◌, ◌||◌, ℕ, zero, suc, Bool, true, false, List, [], ◌∷◌, length, vec_capacity, None, Option, Some, MutBor, ap, cond, get_or, map, nat_lt, refl, subst, sym, unwrap_or, count_by}
 use Rattle.std.proofs.lemmas.Option.{none-some}
 use Rattle.std.specs.List.{cons_option, filter_map, range_with_len}
 use Rattle.std.specs.Option.{option_map}
-use Rattle.slab.specs.Slab.{Slab, CalledAt, RetainsFrom}
+use Rattle.slab.specs.Slab.{Slab, CalledAt}
 use Rattle.ep_base.specs.declared.ids.DescId.{DescId}
 use Rattle.ep_base.specs.declared.mask.Mask.{Mask}
 use Rattle.ep_machine.specs.Bits.{asked}
@@ -21,17 +21,6 @@ use Rattle.ep_interest.specs.declared.entry.Entry.{Entry}
 use Rattle.ep_interest.specs.declared.passes.Passes.{Passes}
 use Rattle.ep_interest.proofs.GuardsLemmas.{count_changed}
 use Rattle.ep_interest.proofs.KeysWithLemmas.{rows_changed}
-
-module _ {F : Type 0} (step : F → ℕ → MutBor Entry → Bool → MutBor Entry → F → Type 0) (P : F → Type 0) (g : Entry → Entry)
-    (each : (f : F) (key : ℕ) (old : Entry) (keep : Bool) (new : Entry) (next : F) → P f → CalledAt step f key old keep new next → (keep ≡ true) × (new ≡ g old) × P next) where
-  pub retained_map : (f : F) (key : ℕ) (old new : List (Option Entry)) → P f → RetainsFrom step f key old new → new ≡ map (option_map g) old
-  retained_map f key [] new h r = r
-  retained_map f key (None ∷ old) new h r = r.1 ∙ ap (λ (xs : List (Option Entry)). None ∷ xs) (retained_map f (key + 1) old r.0 h r.2)
-  retained_map f key (Some x ∷ old) new h r =
-      let one = each f key x r.0 r.1 r.2 h r.3 in
-      r.5
-      ∙ (ap (λ (b : Bool). cond b (Some r.1) None ∷ r.4) one.0
-      ∙ ((λ i. Some (one.1 i) ∷ r.4) ∙ ap (λ (xs : List (Option Entry)). Some (g x) ∷ xs) (retained_map r.2 (key + 1) old r.4 one.2 r.6)))
 
 -- Each registration changed in place, with its number kept.
 module _ (f : Entry → Entry) (number : (x : Entry) → (f x).number ≡ x.number) where

@@ -121,10 +121,3 @@ count_held (Some x ∷ slots) n num =
 -- so this is how many of the registrations are exclusive
 pub guards_are : (slots : List (Option Entry)) (n : ℕ) → NumberedBy slots n → count_by is_exclusive_slot slots ≡ length (filter is_exclusive (in_order slots n))
 guards_are slots n num = sym (length-filter is_exclusive (in_order slots n) ∙ count_held slots n num)
-
-few_found : (f : ℕ → Option Entry) (a n : ℕ) → length (filter_map f (range_with_len a n)) ≤ n
-few_found f a zero = omega arith
-few_found f a (suc n) = by (f a) (few_found f (a + 1) n) where
-  by : (o : Option Entry) → length (filter_map f (range_with_len (a + 1) n)) ≤ n → length (cons_option o (filter_map f (range_with_len (a + 1) n))) ≤ suc n
-  by None le = omega (arith, le)
-  by (Some x) le = omega (arith, le)

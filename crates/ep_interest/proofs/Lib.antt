@@ -10,7 +10,6 @@ pub mod RowLemmas
 pub mod KeysWithLemmas
 pub mod ListedLemmas
 pub mod ChangeLemmas
-pub mod EntriesLemmas
 pub mod PurgeLemmas
 pub mod InTurnLemmas
 pub mod GuardsLemmas

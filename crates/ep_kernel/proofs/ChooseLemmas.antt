@@ -77,30 +77,8 @@ module _ (p : Parts) (keys : List ℕ) (most : ℕ) where
         keyed = f.keyed;
       }
 
-  -- before the end there is room for one more
-  pub walked_within : (found : List Reportable) (walked : ℕ) (rest : List EntryId) → Finds found walked rest → walked ≤ length keys
-  walked_within found walked rest f = omega (arith, f.at.len, ap length f.at.split, length-append f.at.before f.at.after)
-
   pub walked_less : (found : List Reportable) (walked : ℕ) (id : EntryId) (rest : List EntryId) → Finds found walked (id ∷ rest) → walked < length keys
   walked_less found walked id rest f =
       let n = next_left f.at.after id rest f.at.left in
       let more : length f.at.after ≡ length n.0 + 1 = ap length n.1 ∙ omega arith in
       omega (arith, f.at.len, ap length f.at.split, length-append f.at.before f.at.after, more)
-
-  pub found_is : (found : List Reportable) (walked : ℕ) (rest : List EntryId) → Finds found walked rest → (length found ≡ most) ⊎ (walked ≡ length keys) → IsFound p keys most found walked
-  found_is found walked rest f all = record {
-    first = f.first ∙ ap (filter (key_shows p)) (sym (ap (take walked) f.at.split ∙ (ap (λ (n : ℕ). take n (f.at.before ++ f.at.after)) (sym f.at.len) ∙ take-append_seam f.at.before f.at.after)));
-    within = walked_within found walked rest f;
-    few = f.few;
-    all = all;
-    keyed = f.keyed;
-  }
-
-  pub all_walked : (found : List Reportable) (walked : ℕ) → Finds found walked [] → walked ≡ length keys
-  all_walked found walked f =
-      let none : f.at.after ≡ [] = empty f.at.after f.at.left in
-      let n : length f.at.after ≡ 0 = ap length none in
-      omega (arith, f.at.len, ap length f.at.split, length-append f.at.before f.at.after, n) where
-        empty : (after : List ℕ) → [] ≡ ids after → after ≡ []
-        empty [] h = refl
-        empty (k ∷ more) h = absurd (cc)

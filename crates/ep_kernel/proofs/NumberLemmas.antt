@@ -269,24 +269,6 @@ module _ (p : Parts) (s : State) (stands_for : Stands p.tables p.interest p.park
       pub distinct_order : (i : ℕ) → are_distinct (order_at p.interest l i) ≡ true
       distinct_order i = distinct_numbers p.interest sound (list_at l i) (list_numbered i) (lists.once i)
 
-      -- a number on a list is that of a registration of its instance
-      pub order_entry : (i n : ℕ) → is_among (order_at p.interest l i) n ≡ true → (x : Entry) × (numbered p.interest.entries n ≡ Some x) × (x.instance.0 ≡ i)
-      order_entry i n there =
-          let w = number_member p.interest (list_at l i) n (among_member (order_at p.interest l i) n there) in
-          let x = entry_at i w.0 w.1 in
-          let u = is_under p.interest (entry_id w.0) x.0 x.1 in
-          let number : x.0.number ≡ n = sym (ap (λ (o : Option ℕ). unwrap_or o 0) u.number) ∙ w.2 in
-          (x.0, subst (λ (m : ℕ). numbered p.interest.entries m ≡ Some x.0) number u.there, x.2)
-
-      -- so it is on no other
-      pub apart_orders : (i j n : ℕ) → i ≢ j → is_among (order_at p.interest l i) n ≡ true → is_among (order_at p.interest l j) n ≡ false
-      apart_orders i j n other there = not_true _ (λ t.
-          let x = order_entry i n there in
-          let y = order_entry j n t in
-          let one : Some x.0 ≡ Some y.0 = sym x.1 ∙ y.1 in
-          let same : x.0 ≡ y.0 = cc in
-          other (sym x.2 ∙ (ap (λ (z : Entry). z.instance.0) same ∙ y.2)))
-
       -- on the list of an instance a key shows where its number does
       pub shows_at : (i : DescId) (k : ℕ) → Member k (list_at l i.0) → key_shows p k ≡ is_reportable_in s (number_at p.tables.keys i) (unwrap_or (number_under p.interest (entry_id k)) 0)
       shows_at i k m =

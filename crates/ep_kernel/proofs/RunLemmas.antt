@@ -6,7 +6,7 @@ use Rattle.ep_base.specs.declared.call.Event.{Event}
 use Rattle.ep_base.specs.declared.ids.CallerId.{CallerId}
 use Rattle.ep_base.specs.declared.ids.EntryId.{EntryId}
 use Rattle.ep_base.specs.declared.record.Record.{Record}
-use Rattle.ep_calls.proofs.KeepsLemmas.{DoesAt, SettlesMarks, adds_marked, keeps_opening, record_of, state_is, step_marked}
+use Rattle.ep_calls.proofs.KeepsLemmas.{DoesAt, SettlesMarks, adds_marked, keeps_opening, record_of, state_is}
 use Rattle.ep_calls.specs.Acts.{Adds}
 use Rattle.ep_calls.proofs.MappedLemmas.{sound_settled}
 use Rattle.ep_calls.specs.Does.{DoesEventIf}
@@ -38,7 +38,7 @@ use Rattle.ep_machine.specs.Files.{is_live}
 use Rattle.ep_machine.specs.Lists.{is_among}
 use Rattle.ep_machine.specs.Run.{run}
 use Rattle.ep_machine.specs.State.{State, opening}
-use Rattle.ep_machine.specs.Step.{next_event, step}
+use Rattle.ep_machine.specs.Step.{next_event}
 use Rattle.ep_order.proofs.EventLemmas.{beginning_keeps_turns}
 use Rattle.ep_order.specs.Event.{ListsGoOn}
 use Rattle.ep_order.specs.Order.{IsFairOrder, Turns as Order}
@@ -142,9 +142,6 @@ module _ (law : ListsGoOn) (past : List Record) (old mid new : Parts) (l0 l1 l3 
 
   pub adds_on : Adds old.tables.limits caller event outcome.answer (unwrap_or (run old.tables.limits opening past) opening) (unwrap_or (run new.tables.limits opening (past ++ record_of caller event outcome ∷ [])) opening) past (past ++ record_of caller event outcome ∷ [])
   adds_on = adds_marked past old mid noted spreads.buried climbed new runs.keeps caller event outcome n at does_at settled_so
-
-  pub step_on : step old.tables.limits runs.keeps.state caller.0 event outcome.picked ≡ Some (outcome.answer, unwrap_or (run new.tables.limits opening (past ++ record_of caller event outcome ∷ [])) opening)
-  step_on = step_marked past old mid noted spreads.buried climbed new runs.keeps caller event outcome n at does_at settled_so
 
   -- it reports in the order of the lists
   pub first_on : ReportsInOrder l0 n caller.0 event outcome old mid l1 → ReportsFirst (unwrap_or (run old.tables.limits opening past) opening) caller.0 event outcome.answer outcome.picked (list_of (lists_of old l0))

@@ -81,12 +81,6 @@ taken_more stays xs j lt =
     ∙ (append_assoc (drop (suc j) xs) done (filter stays (r.0 ∷ []))
     ∙ ap (λ (ys : List ℕ). drop (suc j) xs ++ ys) (sym (filter-append stays (take j xs) (r.0 ∷ [])) ∙ ap (filter stays) (sym r.2)))
 
-pub taken_none : (stays : ℕ → Bool) (xs : List ℕ) → taken stays 0 xs ≡ xs
-taken_none stays xs = append-nil xs
-
-pub takes_none : (stays : ℕ → Bool) (l : Lists) (i : ℕ) → SetsList l l i (taken stays 0 (list_at l i))
-takes_none stays l i = record { here = sym (taken_none stays (list_at l i)); others = λ j other. refl; places = λ id. refl }
-
 next_count : (j : ℕ) → suc j ≡ j + 1
 next_count j = omega arith
 

@@ -60,11 +60,6 @@ taken_member (suc n) [] k m = m
 taken_member (suc n) (x ∷ xs) k (inl e) = inl e
 taken_member (suc n) (x ∷ xs) k (inr m) = inr (taken_member n xs k m)
 
-dropped_member : (n : ℕ) (xs : List ℕ) (k : ℕ) → Member k (drop n xs) → Member k xs
-dropped_member zero xs k m = m
-dropped_member (suc n) [] k m = m
-dropped_member (suc n) (x ∷ xs) k m = inr (dropped_member n xs k m)
-
 -- of a list that has none twice, what is not among the first so many is what comes behind them
 left_behind : (n : ℕ) (xs : List ℕ) → are_distinct xs ≡ true → filter (λ k. not (is_among (take n xs) k)) xs ≡ drop n xs
 left_behind zero xs h = none_left_out xs
@@ -335,6 +330,3 @@ refused_turns event picked p l listed none = same_turns event picked p p l liste
 pub files_altered : (pid : Pid) (call : Call) (p q : Parts) (l : Lists) → IsFileCall call → AlteredStand (CallOf pid call) p q l
 files_altered pid (EpollCtl epfd op fd mask tag) p q l h = absurd h
 files_altered pid call p q l h = tt
-
-pub same_lists : (l : Lists) → Same l l
-same_lists l = record { places = λ id. refl; lists = λ i. refl }

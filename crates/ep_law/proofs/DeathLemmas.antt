@@ -84,9 +84,6 @@ module _ (s : Files) (x y : ℕ × Place) (apart : x.0 ≢ y.0) (x_is : place_of
   abbrev without_x : List (Option Place)
   without_x = set ds x.0 None
 
-  abbrev without_y : List (Option Place)
-  without_y = set ds y.0 None
-
   abbrev left : List (Option Place)
   left = set without_x y.0 None
 
@@ -99,9 +96,6 @@ module _ (s : Files) (x y : ℕ × Place) (apart : x.0 ≢ y.0) (x_is : place_of
   -- the objects once the first has died, and then the second
   abbrev keeps : List (Option Place) → ℕ → Object → Option Object
   keeps rest k o = if has_one k 0 rest then Some o else None
-
-  descriptions_same : set without_x y.0 None ≡ set without_y x.0 None
-  descriptions_same = set_comm ds x.0 y.0 None None apart
 
   abbrev once : List (Option Object)
   once = set s.objects x.1.object (keeps without_x x.1.object (shut x.1.object x.1.side))

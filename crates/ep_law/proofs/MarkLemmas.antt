@@ -105,15 +105,6 @@ module _ (r : ℕ → Bool) where
     | inr f ↦ newly_marked ws [] ws e f ready refl (sym (waits_same ws [] ws e) ∙ waits)
   ]
 
-  -- and who is due is marked
-  first_due : (now : ℕ) (all before ws : List Waiter) → All (λ w. is_due now w.deadline ≡ true → w.marked ≡ true) (first_marked r all before (map (marked_if_due now) ws))
-  first_due now all before [] = λ k w lt. absurd (omega (arith, lt))
-  first_due now all before (w ∷ ws) =
-      All-cons (λ v. is_due now v.deadline ≡ true → v.marked ≡ true) _ (first_marked r all (marked_if_due now w ∷ before) (map (marked_if_due now) ws)) (λ e. or_left _ _ (or_right w.marked _ e)) (first_due now all (marked_if_due now w ∷ before) ws)
-
-  pub all_due : (now : ℕ) (ws : List Waiter) → All (λ w. is_due now w.deadline ≡ true → w.marked ≡ true) (marked_by r now ws)
-  all_due now ws = first_due now (map (marked_if_due now) ws) [] ws
-
   -- Marks set again.
   due_again : (now : ℕ) (all before ws : List Waiter) → map (marked_if_due now) (first_marked r all before (map (marked_if_due now) ws)) ≡ first_marked r all before (map (marked_if_due now) ws)
   due_again now all before [] = refl

@@ -120,9 +120,6 @@ module _ (ws : List Watch) (p : Watch → Bool) (found : List Watch) (distinct :
   found_in : (xs : List Watch) → All (λ w. find_watch xs w.number ≡ Some w) (filter p ws) → (most : ℕ) → watches_at xs (numbers (take most found)) ≡ take most found
   found_in xs each most = watches_at_all xs (take most found) (All-take (λ w. find_watch xs w.number ≡ Some w) most found (All-permutation (λ w. find_watch xs w.number ≡ Some w) _ found moved each))
 
-  pub found_at : (most : ℕ) → watches_at ws (numbers (take most found)) ≡ take most found
-  found_at = found_in ws (All-filter p (λ w. find_watch ws w.number ≡ Some w) ws (λ k d lt. find_at ws k d distinct lt))
-
   found_among : (most : ℕ) → watches_at (filter p ws) (numbers (take most found)) ≡ take most found
   found_among = found_in (filter p ws) (λ k d lt. find_at (filter p ws) k d (distinct_filter p ws distinct) lt)
 

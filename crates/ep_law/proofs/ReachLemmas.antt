@@ -77,10 +77,6 @@ any_has f (y ∷ ys) x (inr m) t = ap (λ (b : Bool). f y || b) (any_has f ys x 
   last true = refl
   last false = refl
 
-or_second : (a b : Bool) → (not a || b) ≡ true → (not a || b) ≡ true → b ≡ false → a ≡ false
-or_second true b h g e = absurd (false≢true (sym e ∙ h))
-or_second false b h g e = refl
-
 neither : (a b : Bool) → (not a || b) ≡ false → (a ≡ true) × (b ≡ false)
 neither true b h = (refl, h)
 neither false b h = absurd (false≢true (sym h))

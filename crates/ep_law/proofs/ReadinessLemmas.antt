@@ -52,9 +52,6 @@ pub and_same : (a b c : Bool) → (a ≡ true → b ≡ c) → (a && b) ≡ (a &
 and_same true b c h = h refl
 and_same false b c h = refl
 
-link_of : Watch → ℕ × ℕ
-link_of x = (x.instance, x.target)
-
 pub enough : (k : ℕ) (s : State) (e : ℕ) → (Goes k (links s) e → ⊥) → is_ready_within k s e ≡ is_ready_within (suc k) s e
 enough zero s e h = absurd (h tt)
 enough (suc k) s e h = any_same _ _ s.watches (λ x m.

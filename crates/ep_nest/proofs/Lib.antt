@@ -14,7 +14,6 @@ pub mod DepthLemmas
 pub mod MayAddLemmas
 pub mod PurgeLemmas
 pub mod RuleLemmas
-pub mod RenameLemmas
 pub mod NoteLemmas
 pub mod AscentLemmas
 pub mod DescentLemmas

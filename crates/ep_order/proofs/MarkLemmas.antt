@@ -68,11 +68,6 @@ stays_same b u e h = record {
   marks = λ t. ap (λ (ws : List Waiter). is_marked_at ws e) h ∙ t;
 }
 
-or_nothing : (a c : Bool) → (a || (c || false)) ≡ true → c ≡ false → a ≡ true
-or_nothing true c h e = refl
-or_nothing false true h e = cc
-or_nothing false false h e = cc
-
 pushed_waits : (ws : List Waiter) (w : Waiter) (e : ℕ) → waits_at (ws ++ w ∷ []) e ≡ true → (w.instance == e) ≡ false → waits_at ws e ≡ true
 pushed_waits [] w e h f = absurd (false≢true (sym (ap (λ (b : Bool). b || false) f) ∙ h))
 pushed_waits (v ∷ ws) w e h f = elim (cases_Bool (v.instance == e)) [

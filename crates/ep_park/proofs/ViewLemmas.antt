@@ -1,5 +1,5 @@
 -- The list of waiters, read and changed through the map by caller.
-use Rattle.std.proofs.Common.{◌≡◌, ℕ, suc, Bool, true, false, length, List, [], ◌∷◌, ◌++◌, Option, Some, None, refl, sym, ap, ◌∙◌, inl, inr, ◌⊎◌, map, nat_eq, eqb, is_some, if◌then◌else◌}
+use Rattle.std.proofs.Common.{◌≡◌, ℕ, Bool, true, false, List, [], ◌∷◌, ◌++◌, Option, Some, None, refl, sym, ap, ◌∙◌, inl, inr, ◌⊎◌, map, nat_eq, eqb, is_some, if◌then◌else◌}
 use Rattle.std.proofs.lemmas.Bool.{eq-eqb, eqb-true}
 use Rattle.std.proofs.lemmas.Bool.Decides.{eqb_tells}
 use Rattle.std.proofs.lemmas.Cmp.{nat_eq_equiv}
@@ -102,7 +102,3 @@ found_any p w (x ∷ xs) at = elim (either (p x)) [
   | inl y ↦ rw y refl
   | inr n ↦ let rest : find p xs ≡ Some w = rw n at at in rw n (found_any p w xs rest)
 ]
-
-pub length_listed : (es : List (ℕ × Waiter)) → length es ≡ length (listed es)
-length_listed [] = refl
-length_listed (e ∷ es) = ap suc (length_listed es)

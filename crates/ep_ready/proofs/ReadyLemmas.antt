@@ -209,11 +209,6 @@ module _ (v : Rings) (ps : List (Option PlaceId)) where
 
 -- the same places and lists
 module _ (v v' : Rings) (ps ps' : List (Option PlaceId)) (a : SameLists v v') (b : (z : ℕ) → id_at_key ps' z ≡ id_at_key ps z) where
-  pub tied_same : IsTied v.places ps → IsTied v'.places ps'
-  tied_same tied = record {
-    fits = λ z m h. ap entry_in (sym (a.places m)) ∙ tied.fits z m (sym (b z) ∙ h);
-    back = λ z m h. b z ∙ tied.back z m (ap entry_in (a.places m) ∙ h);
-  }
 
   inst_same : (o : Option PlaceId) → instance_of v.places o ≡ instance_of v'.places o
   inst_same None = refl

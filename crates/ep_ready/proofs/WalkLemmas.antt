@@ -1,17 +1,13 @@
 -- Marks and the list of what is reached, after one write of each.
 use Rattle.std.proofs.Common.{◌≡◌, ◌≢◌, ℕ, zero, suc, ◌+◌, ◌<◌, ◌≤◌, Bool, true, false, eqb, ◌||◌, cond, List, [], ◌∷◌, ◌++◌, length, get_or, set, count_by, refl, sym, ap, ◌∙◌, inl, inr, arith, length-set}
 use Rattle.std.proofs.lemmas.Bool.{cases_eq, cases_lt, cases_Bool}
-use Rattle.std.proofs.lemmas.List.{get_or-set_same, get_or-set_other, get_or_past, get_or_append_left, get_or_push, length_push}
+use Rattle.std.proofs.lemmas.List.{get_or-set_same, get_or-set_other, get_or_past, length_push}
 use Rattle.std.proofs.lemmas.List.Sums.{count_by-le-length, sum_by-cons, sum_by-set}
 use Rattle.ep_machine.specs.Lists.{are_distinct, is_among}
 use Rattle.ep_ready.specs.Walk.{IsWalk}
 
 abbrev marks_in : List Bool → ℕ
 marks_in marks = count_by (λ m. m) marks
-
-marks_push : (marks : List Bool) → marks_in (marks ++ false ∷ []) ≡ marks_in marks
-marks_push [] = refl
-marks_push (m ∷ marks) = omega (arith, marks_push marks, sum_by-cons (λ m. cond {A = ℕ} m 1 0) m marks, sum_by-cons (λ m. cond {A = ℕ} m 1 0) m (marks ++ false ∷ []))
 
 among_push : (xs : List ℕ) (i j : ℕ) → j ≢ i → is_among (xs ++ i ∷ []) j ≡ is_among xs j
 among_push [] i j ne = grind (arith)
@@ -69,8 +65,6 @@ less_than_all (m ∷ marks) (suc i) l h =
     omega (arith, rest, most, sum_by-cons (λ m. cond {A = ℕ} m 1 0) m marks)
 
 module _ (marks : List Bool) (reached : List ℕ) (capacity : ℕ) (w : IsWalk marks reached capacity) where
-  pub few : length reached ≤ length marks
-  few = omega (arith, w.counted, count_by-le-length (λ m. m) marks)
 
   -- what is reached has a mark
   pub marked_within : (i : ℕ) → is_among reached i ≡ true → i < length marks
@@ -78,25 +72,6 @@ module _ (marks : List Bool) (reached : List ℕ) (capacity : ℕ) (w : IsWalk m
     | inl l ↦ l
     | inr g ↦ absurd (let no : false ≡ true = sym (get_or_past marks i false g) ∙ (w.marked i ∙ h) in cc)
   ]
-
-  pub walk_room : (capacity' : ℕ) → length marks ≤ capacity' → IsWalk marks reached capacity'
-  walk_room capacity' le = record { marked = w.marked; once = w.once; counted = w.counted; room = le }
-
-  pub walk_grown : (capacity' : ℕ) → length marks + 1 ≤ capacity' → IsWalk (marks ++ false ∷ []) reached capacity'
-  walk_grown capacity' le = record {
-    marked = λ i. elim (cases_lt i (length marks)) [
-      | inl l ↦ get_or_append_left marks (false ∷ []) false i l ∙ w.marked i
-      | inr g ↦
-          let past = sym (get_or_past marks i false g) ∙ w.marked i in
-          elim (cases_eq i (length marks)) [
-            | inl is ↦ get_or_push marks false false i (sym is) ∙ past
-            | inr ne ↦ get_or_past (marks ++ false ∷ []) i false (omega (arith, ne, g, length_push marks false)) ∙ past
-          ]
-    ];
-    once = w.once;
-    counted = omega (arith, w.counted, marks_push marks);
-    room = omega (arith, le, length_push marks false);
-  }
 
   -- an instance without a mark is reached
   module _ (i : ℕ) (l : i < length marks) (off : get_or marks i false ≡ false) where

@@ -8,10 +8,6 @@ use Rattle.ep_script.specs.Outcome.{IsHeldOf}
 use Rattle.ep_script.specs.Steps.{Behind, IsTooLong, TakesLine}
 use Rattle.ep_script.specs.Unread.{unread}
 
-pub starts : (k : Option (List ℕ)) (line : List ℕ) → line ≡ [] → Leads k k (λ xs ys. xs ≡ line ++ ys)
-starts None line e = tt
-starts (Some xs) line e = ap (λ l. l ++ xs) (sym e)
-
 -- a piece that ends the line
 pub ends : (k l m : Option (List ℕ)) (line u line' v : List ℕ) → Leads k l (λ xs ys. xs ≡ line ++ ys) → Leads l (prepend_known u m) (λ xs ys. xs ≡ ys)
     → line ++ u ≡ line' ++ 10 ∷ v → IsPlain line' → Leads k (prepend_known v m) (λ xs ys. TakesLine xs line' ys)
@@ -22,15 +18,6 @@ ends (Some xs) (Some ys) (Some zs) line u line' v p q e plain = record {
   plain = plain;
   cut = inl (p ∙ ap (λ y. line ++ y) q ∙ sym (append_assoc line u zs) ∙ ap (λ y. y ++ zs) e ∙ append_assoc line' (10 ∷ v) zs);
 }
-
--- a piece that does not
-pub goes_on : (k l m : Option (List ℕ)) (line u line' v : List ℕ) → Leads k l (λ xs ys. xs ≡ line ++ ys) → Leads l (prepend_known u m) (λ xs ys. xs ≡ ys)
-    → line' ≡ line ++ u → v ≡ [] → Leads k (prepend_known v m) (λ xs ys. xs ≡ line' ++ ys)
-goes_on None l m line u line' v p q e n = tt
-goes_on (Some xs) None m line u line' v p q e n = absurd p
-goes_on (Some xs) (Some ys) None line u line' v p q e n = q
-goes_on (Some xs) (Some ys) (Some zs) line u line' v p q e n =
-    p ∙ ap (λ y. line ++ y) q ∙ sym (append_assoc line u zs) ∙ ap (λ y. y ++ zs) (sym e) ∙ ap (λ y. line' ++ (y ++ zs)) (sym n)
 
 pub unread_few : (i : Input) → length (unread i) ≤ most_read
 unread_few i = omega (arith, length-take (i.end - i.start) (drop i.start i.chunk.items), i.within, i.is_full_size)

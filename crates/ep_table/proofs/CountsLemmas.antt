@@ -94,9 +94,6 @@ module _ (ds : List (Option Description)) (n key : ℕ) (d : Description) (is : 
     | inr ne ↦ omega (arith, lt, h k x (sym (apart k ne) ∙ at))
   ]
 
-  below : d.number < n
-  below = num.below key d is
-
   -- what the counts are now
   pub names_here : count_at (counts names_in recounted n) d.number ≡ a
   names_here = count_there names_in recounted n numbered_counted key e here

@@ -69,7 +69,3 @@ module _ {A : Type 0} (k : Inside A) (v : Seen) (inv : IsTables k) (same : value
       let q = r.same in
       (λ i. record { limits = k.limits; files = record { tables = pushed i; descriptions = (q i).descriptions; objects = (q i).objects }; keys = (q i).keys; holds = (q i).holds; dying = (q i).dying })
       ∙ ap (λ (w : Seen). record w { files = fork w.files p }) same
-
-length_map : {A B : Type 0} (f : A → B) (xs : List A) → length (map f xs) ≡ length xs
-length_map f [] = refl
-length_map f (x ∷ xs) = ap suc (length_map f xs)

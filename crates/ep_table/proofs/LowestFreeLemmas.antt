@@ -39,30 +39,6 @@ second_from (None ∷ xs) x (suc zero) h = omega arith
 second_from (None ∷ xs) x (suc (suc i)) h = absurd (omega arith)
 second_from (Some y ∷ xs) x (suc i) h = omega (arith, second_from xs x i (omega arith))
 
--- one number further
-pub next_some : {X : Type 0} (xs : List (Option X)) (i j : ℕ) → j ≡ i + 1 → i < length xs → is_some (get_or xs i None) ≡ true → i + lowest_free (drop i xs) ≡ j + lowest_free (drop j xs)
-next_some [] i j f h e = absurd (omega arith)
-next_some (x ∷ xs) i zero f h e = absurd (omega arith)
-next_some (None ∷ xs) zero (suc j) f h e = absurd cc
-next_some (Some x ∷ xs) zero (suc zero) f h e = omega arith
-next_some (Some x ∷ xs) zero (suc (suc j)) f h e = absurd (omega arith)
-next_some (x ∷ xs) (suc i) (suc j) f h e = omega (arith, next_some xs i j (omega arith) (omega arith) e)
-
--- it is free
-pub next_none : {X : Type 0} (xs : List (Option X)) (i : ℕ) → is_some (get_or xs i None) ≡ false → lowest_free (drop i xs) ≡ 0
-next_none [] zero e = refl
-next_none [] (suc i) e = refl
-next_none (None ∷ xs) zero e = refl
-next_none (Some x ∷ xs) zero e = absurd cc
-next_none (x ∷ xs) (suc i) e = next_none xs i e
-
--- or past the end
-pub next_end : {X : Type 0} (xs : List (Option X)) (i : ℕ) → length xs ≤ i → lowest_free (drop i xs) ≡ 0
-next_end [] zero h = refl
-next_end [] (suc i) h = refl
-next_end (x ∷ xs) zero h = absurd (omega arith)
-next_end (x ∷ xs) (suc i) h = next_end xs i (omega arith)
-
 pub low_set : {X : Type 0} (xs : List (Option X)) (i m : ℕ) → m ≤ i → m ≤ lowest_free xs → m ≤ lowest_free (slice_set xs i None)
 low_set [] i m a b = b
 low_set (None ∷ xs) zero m a b = b
@@ -70,8 +46,3 @@ low_set (None ∷ xs) (suc i) m a b = b
 low_set (Some y ∷ xs) zero m a b = omega arith
 low_set (Some y ∷ xs) (suc i) zero a b = omega arith
 low_set (Some y ∷ xs) (suc i) (suc m) a b = omega (arith, low_set xs i m (omega arith) (omega arith))
-
-pub set_past : {A : Type 0} (xs : List A) (i : ℕ) (x : A) → length xs ≤ i → slice_set xs i x ≡ xs
-set_past [] i x h = refl
-set_past (y ∷ xs) zero x h = absurd (omega arith)
-set_past (y ∷ xs) (suc i) x h = ap (λ r. y ∷ r) (set_past xs i x (omega arith))

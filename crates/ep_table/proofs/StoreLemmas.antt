@@ -52,12 +52,3 @@ record There (slots : List (Option Description)) (key d : ℕ) : Type 0 where
   pub it : Description
   pub is : get_or slots key None ≡ Some it
   pub number : it.number ≡ d
-
-there_of : (slots : List (Option Description)) (key d : ℕ) (o : Option Description) → get_or slots key None ≡ o → key_number o ≡ Some d → There slots key d
-there_of slots key d None e h = absurd cc
-there_of slots key d (Some x) e h = record { it = x; is = e; number = cc }
-
-there : {A : Type 0} (k : Inside A) (v : Things) → things k ≡ v → (key : DescId) (d : ℕ) → number_at v.keys key ≡ Some d → There k.descriptions.slots key.0 d
-there k v same key d h =
-    there_of k.descriptions.slots key.0 d (get_or k.descriptions.slots key.0 None) refl
-    (sym (key_at k.descriptions.slots key.0) ∙ (ap (λ (w : Things). number_at w.keys key) same ∙ h))

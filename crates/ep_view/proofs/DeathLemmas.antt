@@ -183,12 +183,6 @@ module _ (f : Files) (x : ℕ × Place) (d : ℕ) (p : Place) (is : place_of f x
   side_is : x.1.side ≡ across_from p.side
   side_is = other_end p.side x.1.side sides
 
-  two_ends : (a b c : End) → b ≡ across_from a → (c ≡ a) → (c ≢ b)
-  two_ends First b First e i = λ j. cc
-  two_ends Second b Second e i = λ j. cc
-  two_ends First b Second e i = cc
-  two_ends Second b First e i = cc
-
   which_end : (a c : End) → c ≢ a → c ≡ across_from a
   which_end First First n = absurd (n refl)
   which_end First Second n = refl

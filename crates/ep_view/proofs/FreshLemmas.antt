@@ -271,14 +271,6 @@ fresh_parts n rs qs (x ∷ xs) =
     (λ i. stirred n (arrives i) (passes i) x) ∙ joined n (brings x.mask a) (brings x.mask b) (x.armed && nat_lt 0 (asked x.mask a)) (x.armed && nat_lt 0 (asked x.mask b)) x in
     λ i. one i ∷ fresh_parts n rs qs xs i
 
--- where the same is raised at each target
-pub fresh_same : (n : ℕ) (rs qs : List (ℕ × ℕ)) (xs : List KernelWatch) → All (λ x. raised_of rs x.target ≡ raised_of qs x.target) xs → map (freshened n rs) xs ≡ map (freshened n qs) xs
-fresh_same n rs qs [] h = refl
-fresh_same n rs qs (x ∷ xs) h =
-    let one : freshened n rs x ≡ freshened n qs x = ap (λ (k : ℕ). stirred n (brings x.mask k) (x.armed && nat_lt 0 (asked x.mask k)) x) (h 0 x (omega arith)) in
-    let rest = fresh_same n rs qs xs (λ k d lt. h (suc k) d (omega arith)) in
-    λ i. one i ∷ rest i
-
 -- which registrations stay has nothing to do with what is noted
 pub fresh_filter : (n : ℕ) (f : Files) (rs : List (ℕ × ℕ)) (xs : List KernelWatch) → filter (stays_in f) (map (freshened n rs) xs) ≡ map (freshened n rs) (filter (stays_in f) xs)
 fresh_filter n f rs [] = refl

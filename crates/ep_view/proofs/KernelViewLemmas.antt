@@ -67,10 +67,3 @@ pub reportables_kept : (s : State) (e : ℕ) → kernel_watches s (reportables s
 reportables_kept s e =
     ap (kernel_watches s) (filter_where (λ x. x.instance == e && is_reportable s x) (λ x. shows_in (readiness s) s.files s.now e (kernel_watch s x)) s.watches (λ x. in_instance e x (reportable_kept s x)))
     ∙ kept_filter s (shows_in (readiness s) s.files s.now e) s.watches
-
--- an instance is ready where one of its registrations shows something
-pub any_kept : (s : State) (e : ℕ) → is_legal (links s) ≡ true → is_ready s e ≡ list_any (shows_in (readiness s) s.files s.now e) (kernel_watches s s.watches)
-any_kept s e legal =
-    ready_equation s e legal
-    ∙ (any_where (λ x. x.instance == e && is_reportable s x) (λ x. shows_in (readiness s) s.files s.now e (kernel_watch s x)) s.watches (λ x. in_instance e x (reportable_kept s x))
-    ∙ kept_any s (shows_in (readiness s) s.files s.now e) s.watches)

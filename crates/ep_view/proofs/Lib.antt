@@ -6,7 +6,6 @@ pub mod FreshLemmas
 pub mod DeathLemmas
 pub mod ClimbLemmas
 pub mod MarkingLemmas
-pub mod NarrowingLemmas
 pub mod RaisedLemmas
 pub mod KindLemmas
 pub mod SettleLemmas

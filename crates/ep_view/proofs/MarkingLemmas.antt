@@ -259,23 +259,7 @@ pub climbed_rests : (r : ℕ → Bool) (files : Files) (xs : List KernelWatch) �
 climbed_rests r files [] = refl
 climbed_rests r files (x ∷ xs) = ap (λ (ys : List KernelWatch). climbed r files x ∷ ys) (climbed_rests r files xs)
 
--- between two events
-kept_seen : (s : State) (xs : List Watch) → AreSeen 1 [] xs (kernel_watches s xs)
-kept_seen s [] = tt
-kept_seen s (x ∷ xs) = (
-  record {
-    number = refl;
-    instance_of = refl;
-    target = refl;
-    mask = refl;
-    armed = refl;
-    passes_on = ap (λ (b : Bool). x.armed && b) (zero_asked x.mask) ∙ never x.armed;
-  },
-  kept_seen s xs,
 ) where
   never : (p : Bool) → (p && false) ≡ false
   never true = refl
   never false = refl
-
-pub guarded_kept : (s : State) (e : ℕ) → is_guarded s e ≡ guarded_now (kernel_watches s s.watches) e
-guarded_kept s e = guarded_seen 1 [] s (kernel_watches s s.watches) (kept_seen s s.watches) e

@@ -18,9 +18,9 @@ use Rattle.ep_machine.specs.Spread.{arrived, raised_alive, raised_of}
 use Rattle.ep_machine.specs.State.{State, Waiter, Watch, counts_of}
 use Rattle.ep_machine.specs.Timer.{last_moment}
 use Rattle.ep_machine.specs.Marks.{marked_by}
-use Rattle.ep_machine.specs.Waits.{is_due, is_marked_at, marked_if_due, waits_at}
+use Rattle.ep_machine.specs.Waits.{marked_if_due}
 use Rattle.ep_view.proofs.DeathLemmas.{Buried, all_buried}
-use Rattle.ep_law.proofs.MarkLemmas.{all_due, marked_all, marked_parts, none_forgotten, marks_stay, guarded_same, ready_same as law_ready_same}
+use Rattle.ep_law.proofs.MarkLemmas.{marked_all, marked_parts, marks_stay, guarded_same, ready_same as law_ready_same}
 use Rattle.ep_law.proofs.NamedLivesLemmas.{live_left, dying_distinct, dying_placed, dying_unnamed, unnamed_dying}
 use Rattle.ep_law.proofs.DeathLemmas.{ArePlaced, after_all, differs, numbers, raised_before, same_or_not}
 use Rattle.ep_view.proofs.FilesLemmas.{among_second, among_waits, watched_same}
@@ -37,7 +37,7 @@ use Rattle.ep_machine.specs.Objects.{Object, is_instance, plain}
 use Rattle.ep_machine.specs.Exclusive.{gets_mark, is_guarded, is_left, is_woken}
 use Rattle.ep_law.proofs.ListLemmas.{all_member}
 use Rattle.ep_law.proofs.ReachLemmas.{any_has}
-use Rattle.ep_view.proofs.MarkingLemmas.{AreSeen, IsSeen, climbed_rests, due_member, first_same, gets_seen, guarded_kept, guarded_rests, marks_same, ready_rests, guarded_seen, woken_seen}
+use Rattle.ep_view.proofs.MarkingLemmas.{AreSeen, IsSeen, climbed_rests, due_member, first_same, gets_seen, guarded_rests, marks_same, ready_rests, guarded_seen, woken_seen}
 use Rattle.ep_view.proofs.RaisedLemmas.{raised_in_same}
 use Rattle.ep_law.proofs.InstanceLemmas.{AreMade}
 
@@ -513,15 +513,3 @@ settled_quiet s counted h = record {
   waiters = sym h.marks ∙ marks_same (needs_mark s) (marks_at_end s.waiters s [] s) s.now s.waiters (λ w m. quiet_marks s counted h w.instance);
   seen = h.seen;
 }
-
--- No waiter is forgotten at an unguarded instance.
-module _ (s : State) (h : AtRest s) where
-  pub ready_has_mark : (e : ℕ) → waits_at s.waiters e ≡ true → is_ready s e ≡ true → is_guarded s e ≡ false → is_marked_at s.waiters e ≡ true
-  ready_has_mark e waits ready free =
-      let r = needs_mark s in
-      let due = map (marked_if_due s.now) s.waiters in
-      ap (λ (ws : List Waiter). is_marked_at ws e) (sym h.marks)
-      ∙ none_forgotten r due e (ap (λ (ws : List Waiter). waits_at ws e) h.marks ∙ waits) (λ i. (sym (ready_kept s e) ∙ ready) i && not ((sym (guarded_kept s e) ∙ free) i))
-
-  pub due_is_marked : All (λ w. is_due s.now w.deadline ≡ true → w.marked ≡ true) s.waiters
-  due_is_marked = subst (λ (ws : List Waiter). All (λ w. is_due s.now w.deadline ≡ true → w.marked ≡ true) ws) h.marks (all_due (needs_mark s) s.now s.waiters)
