@@ -1,6 +1,6 @@
 /* What the C client hands on. The expected answers are those of examples/ and docs/calls.md. */
 #define _GNU_SOURCE
-#include "nippersage.h"
+#include "nippersage_client.h"
 #include <sys/stat.h>
 
 static int failures;
@@ -241,6 +241,20 @@ static void older(void) {
     EXPECT(nippersage_end(&kernel) == 0);
 }
 
+/* No program: a start fails at once, and leaves neither a child nor a descriptor. */
+static void no_program(void) {
+    struct nippersage kernel;
+    int before = open("/dev/null", O_RDONLY), after;
+    FILE *text = fopen("text", "w");
+    EXPECT(close(before) == 0 && text && fclose(text) == 0);
+    errno = 0;
+    EXPECT(nippersage_start(&kernel, "./missing", NULL) == -1 && errno == ENOENT);
+    EXPECT(nippersage_start_recording(&kernel, "./text", NULL, "kept.history") == -1 && errno == EACCES);
+    EXPECT(waitpid(-1, NULL, WNOHANG) == -1 && errno == ECHILD);
+    after = open("/dev/null", O_RDONLY);
+    EXPECT(after == before && close(after) == 0);
+}
+
 /* The first of two kernels ends while the second one lives. */
 static void two_kernels(const char *path) {
     struct nippersage first, second;
@@ -302,6 +316,7 @@ int main(int count, char **words) {
     no_times(words[1]);
     timeouts(words[1]);
     older();
+    no_program();
     exclusive(words[1]);
     processes(words[1]);
     other_objects(words[1]);

@@ -1,6 +1,6 @@
 """Runs the programs that README.md and docs/clients.md show: each block that begins with ```python or ```c.
 
-Each is a whole program of assertions but for the C ones, which get their headers and `main`. They run
+Each is a whole program, but for C without a `main`, which gets one and its headers. They run
 in an empty folder with `./epsim` and `./epaudit` in it, as they would at the top of the repository.
 """
 
@@ -18,7 +18,7 @@ from nippersage import AUDITOR, PROGRAM
 
 HERE = os.path.dirname(os.path.abspath(__file__))
 AROUND = """#define _GNU_SOURCE
-#include "nippersage.h"
+#include "nippersage_client.h"
 #include <assert.h>
 #include <errno.h>
 int main(void) {
@@ -63,7 +63,7 @@ class Page:
     def test_c(self):
         for program in self.programs("c"):
             with open(os.path.join(self.room, "page.c"), "w") as text:
-                text.write(AROUND % program)
+                text.write(program if "int main" in program else AROUND % program)
             words = ["-std=c11", "-Wall", "-Wextra", "-Werror", "-I", HERE, "-o", "page", "page.c"]
             self.run_words(os.environ.get("CC", "cc"), *words)
             self.run_words("./page")

@@ -21,10 +21,13 @@
 #define MOST_READ ((size_t)1048576)
 #define MOST_VECTORS 1024
 
-/* A parked caller, and the most reports of its wait. */
+/* A parked caller, and its wait: the most reports, and the timeout in microseconds, -1 where there is no end. */
 struct parked {
     uint32_t caller;
+    uint64_t pid;
+    int epfd;
     int most;
+    int64_t timeout;
 };
 
 /* A thread that sleeps in a wait. It lies on that thread's stack, and is read and changed under the lock. */
@@ -168,6 +171,21 @@ int nippersage_open(const struct nippersage_limits *limits, struct nippersage_ke
     }
     *kernel = made;
     return 0;
+}
+
+const char *nippersage_bad_limit(const struct nippersage_limits *limits) {
+    if (!limits) return NULL;
+    const struct {
+        const char *name;
+        uint32_t value, least, most;
+    } all[] = {
+        {"descriptors", limits->descriptors, 3, 65536},     {"files", limits->files, 1, 1000000},
+        {"processes", limits->processes, 1, 10000},         {"watches", limits->watches, 0, 1000000},
+        {"pipe_bytes", limits->pipe_bytes, 4096, 1048576},  {"sock_bytes", limits->sock_bytes, 1, 1048576},
+    };
+    for (size_t i = 0; i < sizeof all / sizeof *all; i++)
+        if (all[i].value < all[i].least || all[i].value > all[i].most) return all[i].name;
+    return NULL;
 }
 
 void nippersage_free(struct nippersage_kernel *kernel) {
@@ -392,9 +410,16 @@ static int start(struct nippersage_task task, int epfd, struct epoll_event *even
     if (!has_room(kernel)) return -ENOMEM;
     x.reports = most > 0 ? (size_t)most : 0;
     result = make(task, &x);
-    if (result == EP_PARKED) kernel->parked[kernel->parked_count++] = (struct parked){task.caller, most};
+    if (result == EP_PARKED)
+        kernel->parked[kernel->parked_count++] = (struct parked){task.caller, task.pid, epfd, most, timeout};
     put_events(kernel, result, events);
     return (int)result;
+}
+
+/* Takes a caller out, and lets the others stay in their order. */
+static void forget_parked(struct nippersage_kernel *kernel, struct parked *gone) {
+    const struct parked *end = kernel->parked + kernel->parked_count--;
+    memmove(gone, gone + 1, (size_t)(end - (gone + 1)) * sizeof *gone);
 }
 
 /* Asks whether a wait has ended, under the lock. */
@@ -409,7 +434,7 @@ static int resume(struct nippersage_task task, struct epoll_event *events, int m
     result = make(task, &x);
     if (parked && result >= 0) {
         put_events(kernel, result, events);
-        *parked = kernel->parked[--kernel->parked_count];
+        forget_parked(kernel, parked);
     }
     return (int)result;
 }
@@ -599,6 +624,28 @@ int nippersage_is_marked(struct nippersage_kernel *kernel, uint32_t caller) {
     result = ep_is_marked(&kernel->handle, caller);
     leave(kernel);
     return result;
+}
+
+static struct nippersage_waiter waiter_of(const struct parked *parked) {
+    return (struct nippersage_waiter){
+        .caller = parked->caller,
+        .pid = parked->pid,
+        .epfd = parked->epfd,
+        .maxevents = parked->most,
+        .has_timeout = parked->timeout >= 0,
+        .timeout = timespec_of(parked->timeout >= 0 ? (uint64_t)parked->timeout : 0),
+    };
+}
+
+int nippersage_waiters(struct nippersage_kernel *kernel, struct nippersage_waiter *waiters, int room) {
+    int count;
+    if (!kernel || room < 0) return -EINVAL;
+    if (!waiters && room > 0) return -EFAULT;
+    enter(kernel);
+    count = (int)kernel->parked_count;
+    for (int i = 0; i < count && i < room; i++) waiters[i] = waiter_of(&kernel->parked[i]);
+    leave(kernel);
+    return count;
 }
 
 /* ---- the history ---- */

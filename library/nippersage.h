@@ -71,12 +71,26 @@ struct nippersage_task {
     uint64_t pid;
 };
 
+/* A parked caller, and its wait. */
+struct nippersage_waiter {
+    uint32_t caller;
+    uint64_t pid;
+    int epfd;
+    int maxevents;           /* as the kernel took it: `watches` at most */
+    int has_timeout;         /* 0 where the wait has no end; then `timeout` is 0 */
+    struct timespec timeout; /* as the wait asked for, rounded up to a microsecond */
+};
+
 /* What a wait by hand answers while its caller is parked. It is no error number. */
 #define NIPPERSAGE_PARKED (-4096)
 
 /* A new kernel. NULL limits are those by default. -EINVAL where a limit is out of its range, -ENOMEM; then *kernel
  * stays. */
 int nippersage_open(const struct nippersage_limits *limits, struct nippersage_kernel **kernel);
+
+/* The first of the limits that is out of its range, by its name in the struct, as "descriptors". NULL if none is, or for
+ * NULL limits, which are those by default. It says what -EINVAL of nippersage_open is about. */
+const char *nippersage_bad_limit(const struct nippersage_limits *limits);
 
 /* Ends a kernel, while no call on it runs. NULL is let be. */
 void nippersage_free(struct nippersage_kernel *kernel);
@@ -118,8 +132,9 @@ int nippersage_epoll_ctl(struct nippersage_task task, int epfd, int op, int fd, 
  * threads may use the kernel. As soon as each thread that is inside a call of this kernel is in such a wait, and none
  * of them is about to end, the clock goes on by itself to the next moment at which something happens. So a wait for an
  * hour comes back at once if no other thread does anything. -EDEADLK where there is no such moment: then every such
- * wait answers it. Its caller is still parked, as after -ENOMEM, and ends its wait by nippersage_resume. A thread that
- * is between two calls counts only by nippersage_tasks. maxevents above `watches` is taken as that. */
+ * wait answers it, and nippersage_waiters tells who waits at what. Its caller is still parked, as after -ENOMEM, and
+ * ends its wait by nippersage_resume. A thread that is between two calls counts only by nippersage_tasks. maxevents
+ * above `watches` is taken as that. */
 int nippersage_epoll_wait(struct nippersage_task task, int epfd, struct epoll_event *events, int maxevents,
                           int timeout);
 
@@ -161,6 +176,10 @@ int nippersage_first_marked(struct nippersage_kernel *kernel, uint32_t *caller);
 /* Whether a caller is parked; whether it is parked and marked: 1 or 0. */
 int nippersage_is_parked(struct nippersage_kernel *kernel, uint32_t caller);
 int nippersage_is_marked(struct nippersage_kernel *kernel, uint32_t caller);
+
+/* Tells the parked callers and their waits, the one that was parked first at the beginning, as many as have room. How
+ * many are parked, which may be more. A caller counts until its wait was resumed. -EINVAL for room below 0. */
+int nippersage_waiters(struct nippersage_kernel *kernel, struct nippersage_waiter *waiters, int room);
 
 /* read(2), write(2), readv(2), writev(2). At most 0x7ffff000 bytes go in one call, as on Linux. -EAGAIN, -EPIPE; no
  * signal. */

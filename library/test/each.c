@@ -12,6 +12,38 @@ static void version(void) {
     IS(strcmp(made + length, ", unproved") == 0 || strncmp(made + length, ", proved in logic ", 18) == 0, 1);
 }
 
+/* Each limit at both ends of its range, and one beyond: the kernel and the name agree. */
+static void limits_by_name(void) {
+    static const struct {
+        const char *name;
+        size_t place;
+        uint32_t least, most;
+    } all[] = {
+        {"descriptors", offsetof(struct nippersage_limits, descriptors), 3, 65536},
+        {"files", offsetof(struct nippersage_limits, files), 1, 1000000},
+        {"processes", offsetof(struct nippersage_limits, processes), 1, 10000},
+        {"watches", offsetof(struct nippersage_limits, watches), 0, 1000000},
+        {"pipe_bytes", offsetof(struct nippersage_limits, pipe_bytes), 4096, 1048576},
+        {"sock_bytes", offsetof(struct nippersage_limits, sock_bytes), 1, 1048576},
+    };
+    IS(nippersage_bad_limit(NULL) == NULL, 1);
+    for (size_t i = 0; i < sizeof all / sizeof *all; i++) {
+        const uint32_t values[] = {all[i].least, all[i].most, all[i].most + 1, all[i].least - 1};
+        for (int j = 0; j < (all[i].least > 0 ? 4 : 3); j++) {
+            struct nippersage_limits limits = {1024, 4096, 64, 4096, 65536, 65536};
+            struct nippersage_kernel *made = NULL;
+            const char *name;
+            int is_within = j < 2;
+            memcpy((char *)&limits + all[i].place, &values[j], sizeof values[j]);
+            name = nippersage_bad_limit(&limits);
+            IS(!name, is_within);
+            IS(is_within || strcmp(name, all[i].name) == 0, 1);
+            IS(nippersage_open(&limits, &made), is_within ? 0 : -EINVAL);
+            nippersage_free(made);
+        }
+    }
+}
+
 static void opening(void) {
     struct nippersage_limits limits = {2, 4096, 64, 4096, 65536, 65536};
     struct nippersage_kernel *none = NULL;
@@ -21,6 +53,7 @@ static void opening(void) {
     IS(nippersage_open(&limits, &none), -EINVAL);
     IS(none == NULL, 1);
     IS(nippersage_open(NULL, NULL), -EFAULT);
+    limits_by_name();
     IS(nippersage_open(NULL, &kernel), 0);
     one = (struct nippersage_task){kernel, 1, 1};
     two = (struct nippersage_task){kernel, 2, 1};
@@ -381,6 +414,56 @@ static void exclusive(void) {
     IS(nippersage_close(one, second), 0);
 }
 
+/* So many are parked, and this one for the longest time. */
+static void is_first_waiter(struct nippersage_waiter wanted, int count) {
+    struct nippersage_waiter found = {0};
+    IS(nippersage_waiters(kernel, NULL, 0), count);
+    IS(nippersage_waiters(kernel, &found, 1), count);
+    IS(found.caller, wanted.caller);
+    IS(found.pid, wanted.pid);
+    IS(found.epfd, wanted.epfd);
+    IS(found.maxevents, wanted.maxevents);
+    IS(found.has_timeout, wanted.has_timeout);
+    IS(nanoseconds(found.timeout), nanoseconds(wanted.timeout));
+}
+
+/* Ends the wait of a caller without end, which has room for 4,096 reports. */
+static void leave_by_report(struct nippersage_task task, int ep) {
+    static struct epoll_event found[4096];
+    struct epoll_event event = {.events = EPOLLIN};
+    int counter = nippersage_eventfd(one, 1, 0);
+    IS(nippersage_epoll_ctl(one, ep, EPOLL_CTL_ADD, counter, &event), 0);
+    IS(nippersage_resume(task, found, 4096), 1);
+    IS(nippersage_close(one, counter), 0);
+}
+
+/* Who waits at what, the one that was parked first before the others, also if one between them has gone. */
+static void waiters(void) {
+    struct epoll_event found[4];
+    struct timespec nanosecond = {0, 1};
+    struct nippersage_waiter all[3];
+    struct nippersage_task three = {kernel, 3, 1};
+    int ep = nippersage_epoll_create1(one, 0);
+    IS(nippersage_wait_start(one, ep, found, 2, 250), NIPPERSAGE_PARKED);
+    IS(nippersage_pwait2_start(two, ep, found, 4, &nanosecond), NIPPERSAGE_PARKED);
+    IS(nippersage_wait_start(three, ep, found, 5000, -1), NIPPERSAGE_PARKED);
+    is_first_waiter((struct nippersage_waiter){1, 1, ep, 2, 1, {0, 250000000}}, 3);
+    IS(nippersage_tick((struct nippersage_task){kernel, 4, 1}, &(struct timespec){0, 1000}), 0);
+    IS(nippersage_resume(two, found, 4), 0);
+    IS(nippersage_waiters(kernel, all, 3), 2);
+    IS(all[0].caller, 1);
+    IS(all[1].caller, 3);
+    IS(all[1].maxevents, 4096);
+    IS(all[1].has_timeout, 0);
+    IS(nippersage_tick((struct nippersage_task){kernel, 4, 1}, &(struct timespec){0, 249999000}), 0);
+    IS(nippersage_resume(one, found, 2), 0);
+    is_first_waiter((struct nippersage_waiter){3, 1, ep, 4096, 0, {0, 0}}, 1);
+    leave_by_report(three, ep);
+    IS(nippersage_waiters(kernel, all, -1), -EINVAL);
+    IS(nippersage_waiters(kernel, NULL, 1), -EFAULT);
+    IS(nippersage_waiters(NULL, all, 1), -EINVAL);
+}
+
 /* Waits that move the clock by themselves. */
 static void by_itself(void) {
     struct epoll_event event = {.events = EPOLLIN, .data.u64 = 9}, found;
@@ -405,9 +488,11 @@ static void by_itself(void) {
     IS(nanoseconds(moment) - nanoseconds(before), 3600250001000);
     IS(nippersage_epoll_pwait2(one, ep, &found, 1, NULL), -EDEADLK);
     IS(nippersage_is_parked(kernel, 1), 1);
+    is_first_waiter((struct nippersage_waiter){1, 1, ep, 1, 0, {0, 0}}, 1);
     IS(nippersage_timerfd_settime(two, fd, 0, &hour, NULL), 0);
     IS(nippersage_tick(two, &hour.it_value), 0);
     IS(nippersage_resume(one, &found, 1), 1);
+    IS(nippersage_waiters(kernel, NULL, 0), 0);
     IS(nippersage_epoll_wait(one, fd, &found, 1, 0), -EINVAL);
     IS(nippersage_tasks(kernel, 2), 0);
     IS(nippersage_tasks(kernel, -3), -EINVAL);
@@ -475,6 +560,7 @@ int main(int argc, char **argv) {
     timeouts();
     long_waits();
     exclusive();
+    waiters();
     by_itself();
     many();
     history();

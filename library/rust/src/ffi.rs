@@ -34,6 +34,18 @@ pub struct Itimerspec {
     pub value: Timespec,
 }
 
+/// A parked caller, and its wait.
+#[repr(C)]
+#[derive(Clone, Copy)]
+pub struct Waiter {
+    pub caller: u32,
+    pub pid: u64,
+    pub epfd: c_int,
+    pub most: c_int,
+    pub has_timeout: c_int,
+    pub timeout: Timespec,
+}
+
 /// `struct epoll_event`, which Linux packs on x86-64.
 #[cfg_attr(target_arch = "x86_64", repr(C, packed))]
 #[cfg_attr(not(target_arch = "x86_64"), repr(C))]
@@ -45,6 +57,7 @@ pub struct EpollEvent {
 
 extern "C" {
     pub fn nippersage_open(limits: *const crate::Limits, kernel: *mut *mut Kernel) -> c_int;
+    pub fn nippersage_bad_limit(limits: *const crate::Limits) -> *const c_char;
     pub fn nippersage_free(kernel: *mut Kernel);
 
     pub fn nippersage_pipe2(task: Task, ends: *mut c_int, flags: c_int) -> c_int;
@@ -99,6 +112,7 @@ extern "C" {
     pub fn nippersage_first_marked(kernel: *mut Kernel, caller: *mut u32) -> c_int;
     pub fn nippersage_is_parked(kernel: *mut Kernel, caller: u32) -> c_int;
     pub fn nippersage_is_marked(kernel: *mut Kernel, caller: u32) -> c_int;
+    pub fn nippersage_waiters(kernel: *mut Kernel, waiters: *mut Waiter, room: c_int) -> c_int;
 
     pub fn nippersage_read(task: Task, fd: c_int, bytes: *mut c_void, count: usize) -> isize;
     pub fn nippersage_write(task: Task, fd: c_int, bytes: *const c_void, count: usize) -> isize;

@@ -1,9 +1,11 @@
 //! A kernel, and what is asked of it rather than of one of its tasks.
 
 use crate::errno::checked;
-use crate::{ffi, time, Errno, Pid, Task};
+use crate::{ffi, time, Errno, Fd, Pid, Task};
+use std::ffi::CStr;
 use std::io::{self, Write};
 use std::os::fd::{AsFd, AsRawFd};
+use std::os::raw::c_int;
 use std::os::unix::net::UnixStream;
 use std::ptr::{self, NonNull};
 use std::thread;
@@ -47,6 +49,53 @@ impl Default for Limits {
     }
 }
 
+impl Limits {
+    /// The name of the first limit that is out of its range, if one is: what EINVAL of
+    /// [`Kernel::with_limits`] is about.
+    ///
+    /// ```
+    /// use nippersage::Limits;
+    ///
+    /// let limits = Limits { descriptors: 2, ..Limits::default() };
+    /// assert_eq!(limits.out_of_range(), Some("descriptors"));
+    /// ```
+    pub fn out_of_range(&self) -> Option<&'static str> {
+        // SAFETY: the pointer is to a live value, and the answer NULL or a text of the library's
+        // own, which lives as long as it does, and ends with a 0.
+        unsafe {
+            let name = ffi::nippersage_bad_limit(self);
+            (!name.is_null()).then(|| CStr::from_ptr(name).to_str().unwrap_or_default())
+        }
+    }
+}
+
+/// A parked caller, and its wait, as [`Kernel::waiters`] tells it.
+#[derive(Clone, Copy, Debug, PartialEq, Eq)]
+pub struct Waiter {
+    /// The number of the caller.
+    pub caller: u32,
+    /// Its process.
+    pub pid: Pid,
+    /// The instance.
+    pub epfd: Fd,
+    /// How many reports the wait takes at most.
+    pub most: usize,
+    /// The timeout that it was given, rounded up to a microsecond. `None` for a wait without end.
+    pub timeout: Option<Duration>,
+}
+
+impl From<ffi::Waiter> for Waiter {
+    fn from(raw: ffi::Waiter) -> Waiter {
+        Waiter {
+            caller: raw.caller,
+            pid: Pid(raw.pid),
+            epfd: Fd(raw.epfd),
+            most: usize::try_from(raw.most).unwrap_or_default(),
+            timeout: (raw.has_timeout != 0).then(|| time::duration(raw.timeout)),
+        }
+    }
+}
+
 /// A simulated kernel. Any thread may use it; the library has a lock, which each call takes once.
 ///
 /// A kernel begins with one process, [`Pid::FIRST`], whose descriptors 0, 1 and 2 name one file
@@ -67,7 +116,8 @@ impl Kernel {
         Kernel::with_limits(&Limits::default())
     }
 
-    /// A new kernel. EINVAL if a limit is out of its range, ENOMEM.
+    /// A new kernel. EINVAL if a limit is out of its range, which [`Limits::out_of_range`] names,
+    /// ENOMEM.
     pub fn with_limits(limits: &Limits) -> Result<Kernel, Errno> {
         let mut raw = ptr::null_mut();
         // SAFETY: both pointers are to live values of their types.
@@ -117,6 +167,24 @@ impl Kernel {
     pub fn is_marked(&self, caller: u32) -> bool {
         // SAFETY: the kernel lives.
         unsafe { ffi::nippersage_is_marked(self.raw(), caller) == 1 }
+    }
+
+    /// The parked callers with their waits, the one that was parked first at the beginning. A caller
+    /// counts until its wait was resumed. After EDEADLK it tells who waits at what.
+    pub fn waiters(&self) -> Vec<Waiter> {
+        let mut room = Vec::new();
+        loop {
+            let most = c_int::try_from(room.capacity()).unwrap_or(c_int::MAX);
+            // SAFETY: the kernel lives, and there is room for so many.
+            let count = unsafe { ffi::nippersage_waiters(self.raw(), room.as_mut_ptr(), most) };
+            let count = usize::try_from(count).unwrap_or_default();
+            if count <= room.capacity() {
+                // SAFETY: so many were written.
+                unsafe { room.set_len(count) };
+                return room.into_iter().map(Waiter::from).collect();
+            }
+            room.reserve_exact(count);
+        }
     }
 
     /// Says that one thread more takes part, until what comes back is dropped.

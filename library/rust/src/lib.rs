@@ -62,7 +62,7 @@ mod time;
 
 pub use errno::Errno;
 pub use events::{Event, Events};
-pub use kernel::{Kernel, Limits, Part};
+pub use kernel::{Kernel, Limits, Part, Waiter};
 pub use owned::Owned;
 pub use task::{Clock, Fd, Flags, Pid, Task};
 pub use time::Setting;

@@ -377,8 +377,8 @@ impl Task<'_> {
     /// kernel sleep in such waits, the clock goes on to the next moment at which something happens.
     /// So a wait for an hour comes back at once if nobody does anything.
     ///
-    /// EBADF, EINVAL. EDEADLK if nothing can end the wait; then the caller is still parked, and
-    /// ends its wait by [`resume`](Task::resume). A thread that is between two calls is waited for
+    /// EBADF, EINVAL. EDEADLK if nothing can end the wait: [`Kernel::waiters`] tells who waits at
+    /// what. Then the caller is still parked, and ends its wait by [`resume`](Task::resume). A thread that is between two calls is waited for
     /// if it [takes part](Kernel::take_part).
     pub fn epoll_wait(
         self,

@@ -1,6 +1,6 @@
 //! Each call once as it is meant to be, and once refused. Answers are those of the manual pages and of docs/calls.md.
 
-use nippersage::{Clock, Errno, Event, Events, Fd, Flags, Kernel, Limits, Pid, Setting};
+use nippersage::{Clock, Errno, Event, Events, Fd, Flags, Kernel, Limits, Pid, Setting, Waiter};
 use std::io::{self, IoSlice, IoSliceMut, Write};
 use std::net::Shutdown;
 use std::task::Poll;
@@ -52,6 +52,8 @@ fn limits() {
         ..small
     };
     assert_eq!(Kernel::with_limits(&none).map(drop), Err(Errno::EINVAL));
+    assert_eq!(none.out_of_range(), Some("descriptors"));
+    assert_eq!(small.out_of_range(), None);
 }
 
 #[test]
@@ -412,6 +414,26 @@ fn waits_by_themselves() {
         Err(Errno::EDEADLK)
     );
     assert!(kernel.is_parked(0));
+    let endless = Waiter {
+        caller: 0,
+        pid: Pid::FIRST,
+        epfd: instance,
+        most: 2,
+        timeout: None,
+    };
+    assert_eq!(kernel.waiters(), [endless]);
+    let thread = kernel.task(7);
+    assert_eq!(
+        thread.wait_start(instance, &mut events[..1], Some(Duration::from_nanos(1))),
+        Ok(Poll::Pending)
+    );
+    let finer = Waiter {
+        caller: 7,
+        most: 1,
+        timeout: Some(us(1)),
+        ..endless
+    };
+    assert_eq!(kernel.waiters(), [endless, finer]);
     assert_eq!(task.resume(&mut events), Ok(Poll::Pending));
     assert_eq!(
         kernel.task(1).epoll_wait(timer, &mut events, None),
