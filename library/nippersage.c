@@ -64,7 +64,7 @@ static int enter_in_turn(struct nippersage_task task) {
     int status = 0;
     enter(task.kernel);
     turns = task.kernel->turns;
-    if (turns && turns->order && !turns->is_over && !turns_is_mine(turns)) status = order_no_task(turns->order, task);
+    if (turns && turns->order && !turns->is_over) status = order_may_stand(turns->order, task, turns_is_mine(turns));
     if (status == 0 && turns && (turns->order || task.kernel->tasks > 0)) status = turns_stand(turns, task.caller, 0);
     if (status < 0) leave(task.kernel);
     return status;

@@ -50,12 +50,25 @@ static void text_call_of(struct text *text, const struct exchange *x) {
     text_call(text, &step);
 }
 
-static int stranger(struct order *order, struct nippersage_task task, const struct exchange *x) {
-    struct text *text = fault(order, NIPPERSAGE_BAD_TASK);
-    text_call_of(text, x);
-    text_add(text, " was called as caller %" PRIu32 " in a turn of %s, which is caller %d", task.caller,
-             name_of(&order->search->names, order->going), order->going + 1);
+static int no_task(struct order *order, struct nippersage_task task) {
+    text_add(fault(order, NIPPERSAGE_BAD_TASK),
+             "a thread that is no task made a call as caller %" PRIu32 " while tasks take turns", task.caller);
     return -EPERM;
+}
+
+static int another_caller(struct order *order, struct nippersage_task task) {
+    text_add(fault(order, NIPPERSAGE_BAD_TASK), "a call was made as caller %" PRIu32 " in a turn of %s, which is caller %d",
+             task.caller, name_of(&order->search->names, order->going), order->going + 1);
+    return -EPERM;
+}
+
+static int is_caller_of(const struct order *order, struct nippersage_task task) {
+    return order->going != NOBODY && task.caller == (uint32_t)order->going + 1;
+}
+
+int order_may_stand(struct order *order, struct nippersage_task task, int is_going) {
+    if (!is_going) return no_task(order, task);
+    return is_caller_of(order, task) ? 0 : another_caller(order, task);
 }
 
 static int second_call(struct order *order, const struct exchange *x) {
@@ -67,8 +80,8 @@ static int second_call(struct order *order, const struct exchange *x) {
 
 int order_may_call(struct order *order, struct nippersage_task task, const struct exchange *x) {
     if (order->phase != IN_TASKS || order->going == order->search->names.count) return 0;
-    if (order->is_by_turn && !pthread_equal(order->owner, pthread_self())) return order_no_task(order, task);
-    if (order->going == NOBODY || task.caller != (uint32_t)order->going + 1) return stranger(order, task, x);
+    if (order->is_by_turn && !pthread_equal(order->owner, pthread_self())) return no_task(order, task);
+    if (!is_caller_of(order, task)) return another_caller(order, task);
     if (order->is_by_turn && order->calls > 0) return second_call(order, x);
     return 0;
 }
@@ -163,12 +176,6 @@ int order_share(struct order *order, struct nippersage_task task, const char *wh
     status = order_may_call(order, task, &x);
     if (status == 0) order_note(order, task, &x, 0);
     return status;
-}
-
-int order_no_task(struct order *order, struct nippersage_task task) {
-    text_add(fault(order, NIPPERSAGE_BAD_TASK),
-             "a thread that is no task made a call as caller %" PRIu32 " while tasks take turns", task.caller);
-    return -EPERM;
 }
 
 /* ---- turns ---- */

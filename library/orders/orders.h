@@ -256,8 +256,8 @@ int order_may_call(struct order *order, struct nippersage_task task, const struc
 void order_note(struct order *order, struct nippersage_task task, const struct exchange *x, int64_t result);
 /* A turn without a call, with its name. */
 int order_share(struct order *order, struct nippersage_task task, const char *what);
-/* A thread that is no task made a call: -EPERM. */
-int order_no_task(struct order *order, struct nippersage_task task);
+/* Before a thread stands at a call: 0, or -EPERM if it isn't the one that goes on, or calls as another task. */
+int order_may_stand(struct order *order, struct nippersage_task task, int is_going);
 int order_is_asleep(const struct order *order, struct nippersage_task task);
 int order_is_by_turn(const struct order *order);
 /* Makes turns of the clock until a task is to go: its number, or NOBODY if the order is over. */
