@@ -1,14 +1,11 @@
 /* nippersage.h over the functions of the crate ep_exports. A kernel has a lock, which each call takes once; a wait
  * that moves the clock by itself sleeps on the condition variable beside it. */
-#define _GNU_SOURCE
-#include "nippersage.h"
-#include "exports.h"
+#include "orders/orders.h"
+#include "turns.h"
 
 #include <errno.h>
 #include <fcntl.h>
 #include <limits.h>
-#include <pthread.h>
-#include <stdatomic.h>
 #include <stdlib.h>
 #include <string.h>
 #include <sys/eventfd.h>
@@ -21,48 +18,7 @@
 #define MOST_READ ((size_t)1048576)
 #define MOST_VECTORS 1024
 
-/* A parked caller, and its wait: the most reports, and the timeout in microseconds, -1 where there is no end. */
-struct parked {
-    uint32_t caller;
-    uint64_t pid;
-    int epfd;
-    int most;
-    int64_t timeout;
-};
-
-/* A thread that sleeps in a wait. It lies on that thread's stack, and is read and changed under the lock. */
-struct sleeper {
-    uint32_t caller;
-    int status; /* what its wait answers if it is to end without its caller's: -EDEADLK */
-    struct sleeper *next;
-};
-
 _Static_assert(NIPPERSAGE_PARKED == EP_PARKED, "a wait by hand hands the answer of the export on");
-
-struct nippersage_kernel {
-    pthread_mutex_t lock;
-    pthread_cond_t changed;
-    struct ep_handle handle;
-    atomic_uint inside; /* threads inside calls, also those that wait for the lock */
-    unsigned int asleep;
-    int tasks; /* threads that take part, also between two calls; 0 or more */
-    struct sleeper *sleepers;
-    struct parked *parked;
-    size_t parked_count, parked_room;
-    struct ep_report *reports; /* the room of each wait, one at a time */
-    int most_reports;
-};
-
-/* What goes to the kernel and what comes back, beside numbers. */
-struct exchange {
-    struct ep_request request;
-    struct ep_reply reply;
-    const void *given;
-    size_t given_length;
-    void *bytes;
-    size_t bytes_length;
-    size_t reports;
-};
 
 static void enter(struct nippersage_kernel *kernel) {
     atomic_fetch_add(&kernel->inside, 1);
@@ -75,24 +31,63 @@ static void leave(struct nippersage_kernel *kernel) {
     pthread_mutex_unlock(&kernel->lock);
 }
 
-/* One event, under the lock. */
-static int64_t make(struct nippersage_task task, struct exchange *x) {
+int kernel_has_reports(struct nippersage_kernel *kernel, size_t most) {
+    struct ep_report *more;
+    if (most <= kernel->reports_room) return 1;
+    more = realloc(kernel->reports, most * sizeof *more);
+    if (!more) return 0;
+    kernel->reports = more;
+    kernel->reports_room = most;
+    return 1;
+}
+
+int64_t kernel_make(struct nippersage_task task, struct exchange *x) {
     static const uint8_t nothing;
+    static struct ep_report no_reports;
+    struct nippersage_kernel *kernel = task.kernel;
     uint8_t none;
-    int32_t status;
+    int64_t status;
     x->request.caller = task.caller;
     x->request.pid = task.pid;
-    status = ep_call(&task.kernel->handle, &x->request, x->given ? x->given : &nothing, x->given_length, &x->reply,
-                     x->bytes ? x->bytes : &none, x->bytes_length, task.kernel->reports, x->reports);
-    return status < 0 ? status : x->reply.result;
+    if (kernel->order && (status = order_may_call(kernel->order, task, x)) < 0) return status;
+    status = ep_call(&kernel->handle, &x->request, x->given ? x->given : &nothing, x->given_length, &x->reply,
+                     x->bytes ? x->bytes : &none, x->bytes_length, x->reports > 0 ? kernel->reports : &no_reports,
+                     x->reports);
+    if (status >= 0) status = x->reply.result;
+    if (kernel->order) order_note(kernel->order, task, x, status);
+    return status;
+}
+
+/* Takes the lock for a call, and where threads take turns only in the caller's. */
+static int enter_in_turn(struct nippersage_task task) {
+    struct turns *turns;
+    int status = 0;
+    enter(task.kernel);
+    turns = task.kernel->turns;
+    if (turns && turns->order && !turns->is_over) status = order_may_stand(turns->order, task, turns_is_mine(turns));
+    if (status == 0 && turns && (turns->order || task.kernel->tasks > 0)) status = turns_stand(turns, task.caller, 0);
+    if (status < 0) leave(task.kernel);
+    return status;
+}
+
+int nippersage_shared(struct nippersage_task task, const char *what) {
+    int status;
+    if (!task.kernel) return -EINVAL;
+    if (!what) return -EFAULT;
+    status = enter_in_turn(task);
+    if (status < 0) return status;
+    if (task.kernel->order) status = order_share(task.kernel->order, task, what);
+    leave(task.kernel);
+    return status;
 }
 
 /* One event. */
 static int64_t ask(struct nippersage_task task, struct exchange *x) {
     int64_t result;
     if (!task.kernel) return -EINVAL;
-    enter(task.kernel);
-    result = make(task, x);
+    result = enter_in_turn(task);
+    if (result < 0) return result;
+    result = kernel_make(task, x);
     leave(task.kernel);
     return result;
 }
@@ -131,15 +126,12 @@ static struct nippersage_kernel *new_kernel(uint32_t watches) {
     struct nippersage_kernel *kernel = calloc(1, sizeof *kernel);
     if (!kernel) return NULL;
     kernel->most_reports = watches > 0 ? (int)watches : 1;
-    kernel->reports = calloc((size_t)kernel->most_reports, sizeof *kernel->reports);
-    if (!kernel->reports || pthread_mutex_init(&kernel->lock, NULL) != 0) {
-        free(kernel->reports);
+    if (pthread_mutex_init(&kernel->lock, NULL) != 0) {
         free(kernel);
         return NULL;
     }
     if (pthread_cond_init(&kernel->changed, NULL) != 0) {
         pthread_mutex_destroy(&kernel->lock);
-        free(kernel->reports);
         free(kernel);
         return NULL;
     }
@@ -193,6 +185,10 @@ void nippersage_free(struct nippersage_kernel *kernel) {
     ep_close(&kernel->handle);
     pthread_cond_destroy(&kernel->changed);
     pthread_mutex_destroy(&kernel->lock);
+    if (kernel->turns && !kernel->turns->order) {
+        turns_free(kernel->turns);
+        free(kernel->turns);
+    }
     free(kernel->parked);
     free(kernel->reports);
     free(kernel);
@@ -407,9 +403,9 @@ static int start(struct nippersage_task task, int epfd, struct epoll_event *even
     struct exchange x = {.request = {.event = EP_WAIT, .fd = epfd, .number = most, .timeout = timeout}};
     int64_t result;
     if (!events && maxevents > 0) return -EFAULT;
-    if (!has_room(kernel)) return -ENOMEM;
     x.reports = most > 0 ? (size_t)most : 0;
-    result = make(task, &x);
+    if (!has_room(kernel) || !kernel_has_reports(kernel, x.reports)) return -ENOMEM;
+    result = kernel_make(task, &x);
     if (result == EP_PARKED)
         kernel->parked[kernel->parked_count++] = (struct parked){task.caller, task.pid, epfd, most, timeout};
     put_events(kernel, result, events);
@@ -431,7 +427,7 @@ static int resume(struct nippersage_task task, struct epoll_event *events, int m
     if (parked && maxevents < parked->most) return -EMSGSIZE;
     if (parked && !events) return -EFAULT;
     x.reports = parked ? (size_t)parked->most : 0;
-    result = make(task, &x);
+    result = kernel_make(task, &x);
     if (parked && result >= 0) {
         put_events(kernel, result, events);
         forget_parked(kernel, parked);
@@ -444,7 +440,8 @@ static int start_by_hand(struct nippersage_task task, int epfd, struct epoll_eve
                          int64_t timeout) {
     int result;
     if (!task.kernel) return -EINVAL;
-    enter(task.kernel);
+    result = enter_in_turn(task);
+    if (result < 0) return result;
     result = start(task, epfd, events, maxevents, timeout);
     leave(task.kernel);
     return result;
@@ -465,7 +462,8 @@ int nippersage_pwait2_start(struct nippersage_task task, int epfd, struct epoll_
 int nippersage_resume(struct nippersage_task task, struct epoll_event *events, int maxevents) {
     int result;
     if (!task.kernel) return -EINVAL;
-    enter(task.kernel);
+    result = enter_in_turn(task);
+    if (result < 0) return result;
     result = resume(task, events, maxevents);
     leave(task.kernel);
     return result;
@@ -482,19 +480,23 @@ static int is_still(struct nippersage_kernel *kernel) {
     return 1;
 }
 
-/* Moves the clock to the next moment; where there is none, each wait that sleeps is to end with -EDEADLK. */
-static int go_on(struct nippersage_task task) {
+int kernel_go_on(struct nippersage_task task, int64_t *result) {
     struct nippersage_kernel *kernel = task.kernel;
     struct exchange x = {.request = {.event = EP_TICK}};
     uint64_t moment = 0, now = 0;
+    if (ep_next_moment(&kernel->handle, &moment) != 1) return 0;
+    ep_now(&kernel->handle, &now);
+    x.request.value = moment - now;
+    *result = kernel_make(task, &x);
+    return 1;
+}
+
+/* Moves the clock to the next moment; where there is none, each wait that sleeps is to end with -EDEADLK. */
+static int go_on(struct nippersage_task task) {
+    struct nippersage_kernel *kernel = task.kernel;
     int64_t result = 0;
-    if (ep_next_moment(&kernel->handle, &moment) == 1) {
-        ep_now(&kernel->handle, &now);
-        x.request.value = moment - now;
-        result = make(task, &x);
-    } else {
+    if (!kernel_go_on(task, &result))
         for (struct sleeper *s = kernel->sleepers; s; s = s->next) s->status = -EDEADLK;
-    }
     pthread_cond_broadcast(&kernel->changed);
     return (int)result;
 }
@@ -529,13 +531,32 @@ static int sleep_in_wait(struct nippersage_task task, struct epoll_event *events
     return result;
 }
 
+/* The same where threads take turns. */
+static int stand_in_wait(struct nippersage_task task, struct epoll_event *events, int maxevents) {
+    int result = EP_PARKED;
+    while (result == EP_PARKED) {
+        result = turns_stand(task.kernel->turns, task.caller, 1);
+        if (result == 0) result = resume(task, events, maxevents);
+    }
+    return result;
+}
+
 static int wait_for(struct nippersage_task task, int epfd, struct epoll_event *events, int maxevents, int64_t timeout) {
+    struct nippersage_kernel *kernel = task.kernel;
     int result;
-    if (!task.kernel) return -EINVAL;
-    enter(task.kernel);
-    result = start(task, epfd, events, maxevents, timeout);
-    if (result == EP_PARKED) result = sleep_in_wait(task, events, maxevents);
-    leave(task.kernel);
+    if (!kernel) return -EINVAL;
+    result = enter_in_turn(task);
+    if (result < 0) return result;
+    if (kernel->order && order_is_asleep(kernel->order, task)) {
+        result = resume(task, events, maxevents);
+    } else {
+        result = start(task, epfd, events, maxevents, timeout);
+        if (result == EP_PARKED && kernel->turns && (kernel->turns->order || kernel->tasks > 0))
+            result = stand_in_wait(task, events, maxevents);
+        else if (result == EP_PARKED && !(kernel->order && order_is_by_turn(kernel->order)))
+            result = sleep_in_wait(task, events, maxevents);
+    }
+    leave(kernel);
     return result;
 }
 
@@ -559,6 +580,7 @@ int nippersage_tasks(struct nippersage_kernel *kernel, int more) {
         result = -EINVAL;
     } else {
         kernel->tasks += more;
+        if (kernel->turns && !kernel->turns->order) turns_pass(kernel->turns);
     }
     leave(kernel);
     return result;

@@ -221,6 +221,134 @@ int nippersage_history(struct nippersage_kernel *kernel, int fd);
  * doesn't allow the history. It can't come of a library that is proved (nippersage_version). */
 int nippersage_check(struct nippersage_kernel *kernel);
 
+/* ---- threads that take turns ---- */
+
+/* Makes a run of threads the same each time: from now on, while nippersage_tasks says that threads take part, one of
+ * them goes on from one call to the next, and the others stand at their calls. Who goes is chosen by the seed, once so
+ * many stand as take part. So the same seed gives the same history, if what threads do depends on nothing but the
+ * kernel's answers and what they share. A thread that takes part and waits for something that is not the kernel's stops
+ * all. A caller is one thread's: another's call as it meanwhile answers -EBUSY.
+ * -EBUSY if threads take part already, or it was called before. -ENOMEM. */
+int nippersage_take_turns(struct nippersage_kernel *kernel, uint64_t seed);
+
+/* A turn that is no call: others may go before what follows it. It stands before what a task does to something that it
+ * shares with others, beside the kernel. `what` is its name, for the message. Where no turns are taken it does nothing.
+ * 0, or -ECANCELED as any call once the order is over. */
+int nippersage_shared(struct nippersage_task task, const char *what);
+
+/* ---- every order (docs/orders.md) ---- */
+
+/* A task of a program. The first is caller 1, the second caller 2, all in process 1. It has one of two functions:
+ *
+ * `turn` makes one call each time it is called, and answers 1 to be called again, 0 at its end, or minus an error number
+ * if it failed. A wait by nippersage_epoll_wait that sleeps answers NIPPERSAGE_PARKED. Then the turn is over; once the
+ * wait may end, the task is called again and makes the same call again, which ends it.
+ *
+ * `run` runs in a thread of its own, one thread at a time, and makes any number of calls. Its waits sleep. It answers 0
+ * at its end, or minus an error number if it failed. Once the order is over its calls answer -ECANCELED, and it returns.
+ *
+ * If one task of a program has `run`, all run in threads. */
+struct nippersage_program_task {
+    const char *name; /* letters, digits and . _ -, with a letter or _ in front */
+    int (*turn)(struct nippersage_task task, void *shared);
+    int (*run)(struct nippersage_task task, void *shared);
+    int is_daemon; /* it may be asleep at the end */
+};
+
+/* What is explored: `setup` is called for each order, makes what the tasks need, and sets `shared` to its beginning. It
+ * answers 0, or minus an error number. Then each task makes its calls. `check`, if there is one, is called at the end,
+ * and tells what is wrong, or NULL. */
+struct nippersage_program {
+    int (*setup)(struct nippersage_kernel *kernel, void *shared);
+    const struct nippersage_program_task *tasks;
+    size_t count; /* 1 to 63 */
+    const char *(*check)(struct nippersage_kernel *kernel, void *shared);
+};
+
+/* Which orders are tried. */
+enum nippersage_how {
+    NIPPERSAGE_BY_DEFAULT, /* rising bounds for half of the limits, then orders by chance */
+    NIPPERSAGE_RISING,     /* every order: those of no pre-emption, then those of one, and so on */
+    NIPPERSAGE_BOUND,      /* every order of at most `bound` pre-emptions */
+    NIPPERSAGE_EVERY,      /* every order, depth first */
+    NIPPERSAGE_RANDOM,     /* by chance: the n-th depends on the seed and n only */
+    NIPPERSAGE_PCT         /* priorities by chance, which change at `depth` - 1 turns */
+};
+
+/* A registration that somebody sleeps beside. */
+struct nippersage_watch {
+    int fd;
+    uint32_t events; /* that it asks for */
+    uint64_t data;
+    uint32_t shown; /* by its file */
+};
+
+/* All 0 is what is meant if nothing is said. */
+struct nippersage_options {
+    enum nippersage_how how;
+    int bound, depth; /* depth 0 is 3 */
+    uint64_t seed;
+    double seconds; /* limits; if there is none, 4 seconds by default, and 1,000 orders by chance */
+    uint64_t runs;
+    int clock_any;  /* the clock moves at any point, not only if nobody can go on */
+    int not_beside; /* nobody fails who sleeps beside data; or it is asked which registrations count */
+    int (*beside)(const struct nippersage_watch *watch, void *shared);
+    uint32_t most; /* turns of an order; 0 is 2,000 */
+    const struct nippersage_limits *limits;
+    const char *order;  /* a schedule to run alone; NULL asks the variable NIPPERSAGE_ORDER */
+    const char *name;   /* tells this exploration from others there */
+    const char *replay; /* what the message writes behind that variable; NULL is the program's name */
+    int goes_on;        /* behind a failure */
+    double patience;    /* seconds that a thread may make no call; 0 is 60 */
+    /* Starts and joins the thread of a task, in place of pthreads: run(argument) in it. 0 or minus an error number. */
+    int (*start)(void *given, int number, const char *name, void *(*run)(void *), void *argument);
+    void (*join)(void *given, int number);
+    void *given;
+};
+
+/* Why an order failed, or what is wrong with what was given. */
+enum nippersage_kind {
+    NIPPERSAGE_NO_FAILURE,
+    NIPPERSAGE_BESIDE,   /* a task, daemon or not, sleeps beside data */
+    NIPPERSAGE_FOR_GOOD, /* a task that is no daemon sleeps, and nothing can end it */
+    NIPPERSAGE_ENDLESS,  /* more than `most` turns */
+    NIPPERSAGE_FAILED,   /* a task failed */
+    NIPPERSAGE_CHECK,    /* the check told something */
+    NIPPERSAGE_BAD_PROGRAM,
+    NIPPERSAGE_BAD_TASK,
+    NIPPERSAGE_BAD_OPTION,
+    NIPPERSAGE_BAD_SCHEDULE, /* it is none, or of another program */
+    NIPPERSAGE_NOT_THE_SAME, /* a task didn't make the same call again */
+    NIPPERSAGE_STUCK         /* a thread waits for something that is not the kernel's */
+};
+
+struct nippersage_result {
+    enum nippersage_kind kind;
+    char *message; /* the failure, what is wrong, or what was tried; NULL for want of memory */
+    char *order;   /* the schedule that failed, made small; NULL if none did */
+    char *found;   /* before it was made small */
+    int is_whole;  /* every order was tried */
+    int bound;     /* every order of at most so many pre-emptions was tried, -1 if that isn't known */
+    uint64_t runs, failures, turns;
+    uint64_t cut; /* orders that were cut, as a task went on and on while another could have gone */
+    uint64_t seed;
+    double seconds;
+};
+
+/* Tries orders of what tasks do, each from `setup` to its end, where nobody can go on, and makes the first small that
+ * fails. 0 if none failed, 1 if one did. -EINVAL for what is wrong with the program, an option or a schedule, or if a
+ * task doesn't make the same call again; -ETIMEDOUT if a thread is stuck: it is left alone, and so is its kernel.
+ * -ENOMEM. In each case result->message tells. A limit that was reached is told there, too. */
+int nippersage_explore(const struct nippersage_program *program, void *shared, const struct nippersage_options *options,
+                       struct nippersage_result *result);
+
+/* Frees the texts of a result. */
+void nippersage_result_free(struct nippersage_result *result);
+
+/* Says why a task fails, for the message: `return nippersage_fail(task, "a short write");`. It answers an error number,
+ * with which the task is to end. */
+int nippersage_fail(struct nippersage_task task, const char *why);
+
 #ifdef __cplusplus
 }
 #endif

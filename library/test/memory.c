@@ -1,6 +1,6 @@
 /* Each allocation fails in turn: a call answers -ENOMEM, and asked again what it would have answered; nothing is lost.
    Linked with --wrap for malloc, calloc and realloc. */
-#include "check.h"
+#include "faults.h"
 
 void *__real_malloc(size_t size);
 void *__real_calloc(size_t count, size_t size);
@@ -57,6 +57,27 @@ static void calls(struct nippersage_kernel *kernel) {
     close(sink);
 }
 
+/* An exploration answers something, and loses no memory. A call of its tasks may be the one that is refused. */
+static int explores(const struct example *example, const struct nippersage_options *options) {
+    struct shared shared = {.example = example};
+    struct nippersage_program program = program_of(example);
+    struct nippersage_result result;
+    int status = nippersage_explore(&program, &shared, options, &result);
+    nippersage_result_free(&result);
+    return status;
+}
+
+static void explore_without_memory(const struct example *example, const struct nippersage_options *options, int wanted) {
+    for (failed = 1, left = 0; failed > 0; left++) {
+        long turn = left;
+        failed = 0;
+        IS(explores(example, options) <= 1, 1);
+        left = turn;
+    }
+    left = -1;
+    IS(explores(example, options), wanted);
+}
+
 int main(void) {
     long turn = 0;
     do {
@@ -69,5 +90,8 @@ int main(void) {
         nippersage_free(kernel);
     } while (failed > 0);
     IS(turn > 20, 1);
+    explore_without_memory(&FAULTS[0], &(struct nippersage_options){.order = "peer*3 loop*3"}, 1);
+    explore_without_memory(&FAULTS[1], &(struct nippersage_options){.how = NIPPERSAGE_RISING, .runs = 2}, 0);
+    explore_without_memory(&FAULTS[1], &(struct nippersage_options){.how = NIPPERSAGE_PCT, .runs = 1}, 0);
     return 0;
 }

@@ -1,5 +1,6 @@
 /* Eight threads on one kernel: four pairs, each a writer that sends numbers over a pipe, with pauses of the simulated
-   clock, and a reader that waits for them. Argument: the file that the history goes to. */
+   clock, and a reader that waits for them. Then the same by turns, of which a seed makes one history. Arguments: the
+   file that the first history goes to, and `short`, which leaves the turns out. */
 #include "check.h"
 #include <pthread.h>
 
@@ -54,11 +55,14 @@ static void open_pair(struct pair *pair, uint32_t number) {
     IS(nippersage_epoll_ctl(pair->reader, pair->ep, EPOLL_CTL_ADD, pair->ends[0], &event), 0);
 }
 
-int main(int argc, char **argv) {
+/* What the eight threads do, in turns by the seed or as they come. The history goes to this descriptor. */
+static void run(const uint64_t *seed, int fd) {
     static struct pair pairs[PAIRS];
     pthread_t threads[2 * PAIRS];
     struct timespec moment;
     IS(nippersage_open(NULL, &kernel), 0);
+    if (seed) IS(nippersage_take_turns(kernel, *seed), 0);
+    memset(pairs, 0, sizeof pairs);
     for (uint32_t i = 0; i < PAIRS; i++) open_pair(&pairs[i], i);
     IS(nippersage_tasks(kernel, 2 * PAIRS), 0);
     for (int i = 0; i < PAIRS; i++) {
@@ -70,11 +74,69 @@ int main(int argc, char **argv) {
     IS(nippersage_now(kernel, &moment), 0);
     IS(nanoseconds(moment) > 0, 1);
     IS(nippersage_check(kernel), 0);
-    if (argc > 1) {
-        int fd = open(argv[1], O_CREAT | O_TRUNC | O_WRONLY, 0600);
-        IS(nippersage_history(kernel, fd), 0);
-        close(fd);
-    }
+    if (fd >= 0) IS(nippersage_history(kernel, fd), 0);
     nippersage_free(kernel);
+}
+
+/* The history of a run by this seed, and its length. To be freed. */
+static char *history_of(uint64_t seed, size_t *length) {
+    FILE *file = tmpfile();
+    char *bytes;
+    run(&seed, fileno(file));
+    fseek(file, 0, SEEK_END);
+    *length = (size_t)ftell(file);
+    rewind(file);
+    bytes = malloc(*length + 1);
+    IS(fread(bytes, 1, *length, file), *length);
+    fclose(file);
+    return bytes;
+}
+
+static int is_same(uint64_t one, uint64_t other) {
+    size_t first_length, second_length;
+    char *first = history_of(one, &first_length), *second = history_of(other, &second_length);
+    int result = first_length == second_length && memcmp(first, second, first_length) == 0;
+    free(first);
+    free(second);
+    return result;
+}
+
+/* A thread that waits for what nobody writes. */
+static void *waits_in_vain(void *argument) {
+    struct pair *pair = argument;
+    struct epoll_event found;
+    IS(nippersage_epoll_wait(pair->reader, pair->ep, &found, 1, -1), -EDEADLK);
+    IS(nippersage_resume(pair->reader, &found, 1), NIPPERSAGE_PARKED);
+    IS(nippersage_tasks(kernel, -1), 0);
+    return NULL;
+}
+
+static void deadlock(void) {
+    static struct pair pair;
+    pthread_t thread;
+    IS(nippersage_open(NULL, &kernel), 0);
+    open_pair(&pair, 0);
+    IS(nippersage_take_turns(kernel, 1), 0);
+    IS(nippersage_take_turns(kernel, 1), -EBUSY);
+    IS(nippersage_take_turns(NULL, 1), -EINVAL);
+    IS(nippersage_tasks(kernel, 1), 0);
+    IS(pthread_create(&thread, NULL, waits_in_vain, &pair), 0);
+    IS(pthread_join(thread, NULL), 0);
+    nippersage_free(kernel);
+    IS(nippersage_open(NULL, &kernel), 0);
+    IS(nippersage_tasks(kernel, 1), 0);
+    IS(nippersage_take_turns(kernel, 1), -EBUSY);
+    nippersage_free(kernel);
+}
+
+int main(int argc, char **argv) {
+    int fd = argc > 1 ? open(argv[1], O_CREAT | O_TRUNC | O_WRONLY, 0600) : -1;
+    run(NULL, fd);
+    if (fd >= 0) close(fd);
+    if (argc > 2) return 0;
+    IS(is_same(1, 1), 1);
+    IS(is_same(7, 7), 1);
+    IS(is_same(1, 7), 0);
+    deadlock();
     return 0;
 }

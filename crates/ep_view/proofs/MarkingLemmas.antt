@@ -258,8 +258,3 @@ guarded_rests xs e = any_rests guards (λ r x. refl) 5 xs e
 pub climbed_rests : (r : ℕ → Bool) (files : Files) (xs : List KernelWatch) → map (climbed r files) xs ≡ map resting (map (climbing r files) xs)
 climbed_rests r files [] = refl
 climbed_rests r files (x ∷ xs) = ap (λ (ys : List KernelWatch). climbed r files x ∷ ys) (climbed_rests r files xs)
-
-) where
-  never : (p : Bool) → (p && false) ≡ false
-  never true = refl
-  never false = refl

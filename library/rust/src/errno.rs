@@ -49,10 +49,12 @@ numbers! {
     EPIPE = 32, "broken pipe";
     EDEADLK = 35, "resource deadlock avoided";
     ELOOP = 40, "too many levels of links";
+    EPROTO = 71, "protocol error";
     EBADMSG = 74, "bad message";
     ENOTSOCK = 88, "socket operation on non-socket";
     EMSGSIZE = 90, "message too long";
     EOPNOTSUPP = 95, "operation not supported";
+    ECANCELED = 125, "operation canceled";
 }
 
 impl Errno {
@@ -95,9 +97,13 @@ impl From<Errno> for io::Error {
     }
 }
 
-/// The result of a function of the library: 0 or more, or minus an error number.
+/// The result of a function of the library: 0 or more, or minus an error number. It doesn't come
+/// back to a task whose order is over (`orders`).
 pub(crate) fn checked(result: impl Into<i64>) -> Result<i64, Errno> {
     let result = result.into();
+    if result == -i64::from(Errno::ECANCELED.0) {
+        crate::orders::leave();
+    }
     // No error number is above 4,095.
     if result < 0 {
         Err(Errno(-result as i32))

@@ -1,7 +1,8 @@
 //! What `nippersage.h` declares.
 
 use std::ffi::c_void;
-use std::os::raw::{c_char, c_int, c_uint};
+use std::os::raw::{c_char, c_double, c_int, c_uint};
+use std::ptr;
 
 /// What a wait by hand answers while its caller is parked.
 pub const PARKED: c_int = -4096;
@@ -55,7 +56,111 @@ pub struct EpollEvent {
     pub data: u64,
 }
 
+/// A function of a task that runs in a thread.
+pub type Run = extern "C" fn(task: Task, shared: *mut c_void) -> c_int;
+
+#[repr(C)]
+pub struct ProgramTask {
+    pub name: *const c_char,
+    pub turn: Option<Run>,
+    pub run: Option<Run>,
+    pub is_daemon: c_int,
+}
+
+#[repr(C)]
+pub struct Program {
+    pub setup: extern "C" fn(kernel: *mut Kernel, shared: *mut c_void) -> c_int,
+    pub tasks: *const ProgramTask,
+    pub count: usize,
+    pub check: Option<extern "C" fn(kernel: *mut Kernel, shared: *mut c_void) -> *const c_char>,
+}
+
+#[repr(C)]
+pub struct Watch {
+    pub fd: c_int,
+    pub events: u32,
+    pub data: u64,
+    pub shown: u32,
+}
+
+/// The function of a thread, and what it is given.
+pub type Main = extern "C" fn(argument: *mut c_void) -> *mut c_void;
+
+/// Starts a thread: `start(given, number, name, run, argument)`.
+pub type Start =
+    extern "C" fn(*mut c_void, c_int, *const c_char, run: Main, argument: *mut c_void) -> c_int;
+
+#[repr(C)]
+pub struct Options {
+    pub how: c_int,
+    pub bound: c_int,
+    pub depth: c_int,
+    pub seed: u64,
+    pub seconds: c_double,
+    pub runs: u64,
+    pub clock_any: c_int,
+    pub not_beside: c_int,
+    pub beside: Option<extern "C" fn(watch: *const Watch, shared: *mut c_void) -> c_int>,
+    pub most: u32,
+    pub limits: *const crate::Limits,
+    pub order: *const c_char,
+    pub name: *const c_char,
+    pub replay: *const c_char,
+    pub goes_on: c_int,
+    pub patience: c_double,
+    pub start: Option<Start>,
+    pub join: Option<extern "C" fn(given: *mut c_void, number: c_int)>,
+    pub given: *mut c_void,
+}
+
+/// What an exploration came to. Texts are C's own.
+#[repr(C)]
+pub struct Explored {
+    pub kind: c_int,
+    pub message: *mut c_char,
+    pub order: *mut c_char,
+    pub found: *mut c_char,
+    pub is_whole: c_int,
+    pub bound: c_int,
+    pub runs: u64,
+    pub failures: u64,
+    pub turns: u64,
+    pub cut: u64,
+    pub seed: u64,
+    pub seconds: c_double,
+}
+
+impl Default for Explored {
+    fn default() -> Explored {
+        Explored {
+            kind: 0,
+            message: ptr::null_mut(),
+            order: ptr::null_mut(),
+            found: ptr::null_mut(),
+            is_whole: 0,
+            bound: -1,
+            runs: 0,
+            failures: 0,
+            turns: 0,
+            cut: 0,
+            seed: 0,
+            seconds: 0.0,
+        }
+    }
+}
+
 extern "C" {
+    pub fn nippersage_take_turns(kernel: *mut Kernel, seed: u64) -> c_int;
+    pub fn nippersage_shared(task: Task, what: *const c_char) -> c_int;
+    pub fn nippersage_explore(
+        program: *const Program,
+        shared: *mut c_void,
+        options: *const Options,
+        result: *mut Explored,
+    ) -> c_int;
+    pub fn nippersage_result_free(result: *mut Explored);
+    pub fn nippersage_fail(task: Task, why: *const c_char) -> c_int;
+
     pub fn nippersage_open(limits: *const crate::Limits, kernel: *mut *mut Kernel) -> c_int;
     pub fn nippersage_bad_limit(limits: *const crate::Limits) -> *const c_char;
     pub fn nippersage_free(kernel: *mut Kernel);

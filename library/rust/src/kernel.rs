@@ -4,6 +4,7 @@ use crate::errno::checked;
 use crate::{ffi, time, Errno, Fd, Pid, Task};
 use std::ffi::CStr;
 use std::io::{self, Write};
+use std::mem::ManuallyDrop;
 use std::os::fd::{AsFd, AsRawFd};
 use std::os::raw::c_int;
 use std::os::unix::net::UnixStream;
@@ -198,6 +199,15 @@ impl Kernel {
         Ok(Part { kernel: self })
     }
 
+    /// Lets the threads that [take part](Kernel::take_part) take turns from now on: one goes on from
+    /// one call to the next, and meanwhile the others stand at their calls. The seed chooses who
+    /// goes. So the same seed makes the same history, if what threads do depends on nothing but the
+    /// kernel's answers and what they share. EBUSY if a thread takes part already. ENOMEM.
+    pub fn take_turns(&self, seed: u64) -> Result<(), Errno> {
+        // SAFETY: the kernel lives.
+        checked(unsafe { ffi::nippersage_take_turns(self.raw(), seed) }).map(drop)
+    }
+
     /// Makes room in the history for so many events more, so that none of them asks for memory for
     /// its record. ENOMEM.
     pub fn reserve(&self, events: usize) -> Result<(), Errno> {
@@ -251,6 +261,17 @@ impl Kernel {
         // SAFETY: the kernel lives, and the descriptor is open.
         checked(unsafe { ffi::nippersage_history(self.raw(), fd) })?;
         Ok(())
+    }
+
+    /// A kernel of the library's own, which isn't freed when what comes back is dropped.
+    ///
+    /// # Safety
+    ///
+    /// The kernel lives as long as what comes back is used.
+    pub(crate) unsafe fn borrowed(raw: *mut ffi::Kernel) -> ManuallyDrop<Kernel> {
+        ManuallyDrop::new(Kernel {
+            raw: NonNull::new(raw).expect("the library gives its kernel"),
+        })
     }
 
     pub(crate) fn raw(&self) -> *mut ffi::Kernel {

@@ -43,6 +43,8 @@
 //! The kernel's unit is the microsecond. Each time that it takes is rounded up to one, and each that
 //! it gives is a whole number of them. Its clock goes up to 1,000,000,000 seconds.
 //!
+//! **Every order.** [`orders`] tries the orders of what tasks do, and shows the first that fails.
+//!
 //! **What is proved.** Behind the answers is a kernel of which a prover has shown that a reference
 //! model allows every answer. That this crate and the C library below it ask for what their
 //! functions' names say is tested and not proved.
@@ -56,6 +58,7 @@ mod errno;
 mod events;
 mod ffi;
 mod kernel;
+pub mod orders;
 mod owned;
 mod task;
 mod time;

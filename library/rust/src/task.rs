@@ -2,6 +2,7 @@
 
 use crate::errno::checked;
 use crate::{ffi, time, Errno, Event, Events, Kernel, Owned, Setting};
+use std::ffi::CString;
 use std::fmt;
 use std::io::{IoSlice, IoSliceMut};
 use std::net::Shutdown;
@@ -125,12 +126,21 @@ impl<'k> Task<'k> {
         Task { pid, ..self }
     }
 
+    /// A turn that is no call, if tasks take turns ([`orders`](crate::orders),
+    /// [`Kernel::take_turns`]): others may go before what follows it. It stands before what the task
+    /// does to something that it shares with others, beside the kernel.
+    pub fn shared(self, what: &str) {
+        let what = CString::new(what.replace('\0', "")).unwrap_or_default();
+        // SAFETY: the text lives, and ends with a 0. It is refused only if the order is over.
+        let _ = checked(unsafe { ffi::nippersage_shared(self.raw(), what.as_ptr()) });
+    }
+
     /// Makes this task close the descriptor when what comes back is dropped.
     pub fn own(self, fd: Fd) -> Owned<'k> {
         Owned::new(self, fd)
     }
 
-    fn raw(self) -> ffi::Task {
+    pub(crate) fn raw(self) -> ffi::Task {
         ffi::Task {
             kernel: self.kernel.raw(),
             caller: self.caller,

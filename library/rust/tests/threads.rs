@@ -88,3 +88,39 @@ fn each_thread_sees_its_own_moments() {
     assert_eq!(kernel.now(), Duration::from_secs(40));
     assert_eq!(kernel.check(), Ok(()));
 }
+
+/// The history of two threads that wake each other and a third that sleeps by a timer, in turns by this seed.
+fn history_of(seed: u64) -> Vec<u8> {
+    let kernel = Kernel::new().unwrap();
+    let test = kernel.task(0);
+    let first = test.eventfd(1, Flags::NONE).unwrap();
+    let second = test.eventfd(0, Flags::NONE).unwrap();
+    kernel.take_turns(seed).unwrap();
+    let parts = [(); 3].map(|()| kernel.take_part().unwrap());
+    thread::scope(|scope| {
+        for (part, caller) in parts.into_iter().zip(1..) {
+            let kernel = &kernel;
+            scope.spawn(move || {
+                let _part = part;
+                match caller {
+                    1 => pass_on(kernel.task(1), first, second),
+                    2 => pass_on(kernel.task(2), second, first),
+                    _ => drop(sleep_on(kernel.task(3), Duration::from_secs(1))),
+                }
+            });
+        }
+    });
+    assert_eq!(kernel.check(), Ok(()));
+    let mut lines = Vec::new();
+    kernel.history(&mut lines).unwrap();
+    lines
+}
+
+#[test]
+fn threads_that_take_turns_make_one_history_by_a_seed() {
+    assert_eq!(history_of(3), history_of(3));
+    assert_ne!(history_of(3), history_of(4));
+    let kernel = Kernel::new().unwrap();
+    let _part = kernel.take_part().unwrap();
+    assert_eq!(kernel.take_turns(1), Err(nippersage::Errno::EBUSY));
+}

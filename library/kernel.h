@@ -1,0 +1,70 @@
+/* A kernel as the files of this library know it. Nobody else includes this header. */
+#ifndef NIPPERSAGE_KERNEL_H
+#define NIPPERSAGE_KERNEL_H
+
+#ifndef _GNU_SOURCE
+#define _GNU_SOURCE
+#endif
+#include "exports.h"
+#include "nippersage.h"
+
+#include <pthread.h>
+#include <stdatomic.h>
+
+struct order;
+struct turns;
+
+/* A parked caller, and its wait: the most reports, and the timeout in microseconds, -1 where there is no end. */
+struct parked {
+    uint32_t caller;
+    uint64_t pid;
+    int epfd;
+    int most;
+    int64_t timeout;
+};
+
+/* A thread that sleeps in a wait. It lies on that thread's stack, and is read and changed under the lock. */
+struct sleeper {
+    uint32_t caller;
+    int status; /* what its wait answers if it is to end without its caller's: -EDEADLK */
+    struct sleeper *next;
+};
+
+struct nippersage_kernel {
+    pthread_mutex_t lock;
+    pthread_cond_t changed;
+    struct ep_handle handle;
+    atomic_uint inside; /* threads inside calls, also those that wait for the lock */
+    unsigned int asleep;
+    int tasks; /* threads that take part, also between two calls; 0 or more */
+    struct sleeper *sleepers;
+    struct parked *parked;
+    size_t parked_count, parked_room;
+    struct ep_report *reports; /* the room of each wait, one at a time */
+    size_t reports_room;
+    int most_reports;
+    struct turns *turns; /* of threads that take turns, or NULL */
+    struct order *order; /* the order whose calls these are, or NULL */
+};
+
+/* What goes to the kernel and what comes back, beside numbers. */
+struct exchange {
+    struct ep_request request;
+    struct ep_reply reply;
+    const void *given;
+    size_t given_length;
+    void *bytes;
+    size_t bytes_length;
+    size_t reports;
+};
+
+/* One event, under the lock. */
+int64_t kernel_make(struct nippersage_task task, struct exchange *x);
+
+/* Room for the reports of a wait, under the lock: 1, or 0 for want of memory. */
+int kernel_has_reports(struct nippersage_kernel *kernel, size_t most);
+
+/* Moves the clock to the next moment, under the lock, as a call of this task; 0 if no tick has an effect. */
+int kernel_go_on(struct nippersage_task task, int64_t *result);
+
+#endif

@@ -1,0 +1,198 @@
+/* Calls, answers and masks as a reader knows them. */
+#include "orders.h"
+
+#include <errno.h>
+#include <fcntl.h>
+#include <inttypes.h>
+#include <stdio.h>
+#include <stdlib.h>
+#include <string.h>
+
+int steps_put(struct steps *steps, const struct step *step) {
+    if (!has_place((void **)&steps->all, steps->count, &steps->room, sizeof *steps->all)) return -ENOMEM;
+    steps->all[steps->count++] = *step;
+    return 0;
+}
+
+void steps_free(struct steps *steps) {
+    free(steps->all);
+    free(steps->reports);
+}
+
+int is_same_call(const struct step *one, const struct step *other) {
+    const struct ep_request *a = &one->request, *b = &other->request;
+    return one->number == other->number && a->event == b->event && a->pid == b->pid && a->value == b->value &&
+           a->interval == b->interval && a->timeout == b->timeout && a->fd == b->fd && a->target == b->target &&
+           a->number == b->number && a->count == b->count && a->flags == b->flags &&
+           one->given_length == other->given_length && one->given_hash == other->given_hash;
+}
+
+const char *error_name(int64_t number) {
+    static const struct {
+        int number;
+        const char *name;
+    } errors[] = {
+        {EPERM, "EPERM"},   {ENOENT, "ENOENT"}, {ESRCH, "ESRCH"},   {EBADF, "EBADF"},     {EAGAIN, "EAGAIN"},
+        {ENOMEM, "ENOMEM"}, {EFAULT, "EFAULT"}, {EBUSY, "EBUSY"},   {EEXIST, "EEXIST"},   {EINVAL, "EINVAL"},
+        {ENFILE, "ENFILE"}, {EMFILE, "EMFILE"}, {ENOSPC, "ENOSPC"}, {EPIPE, "EPIPE"},     {EDEADLK, "EDEADLK"},
+        {ELOOP, "ELOOP"},   {EPROTO, "EPROTO"}, {EIO, "EIO"},       {ENOTSOCK, "ENOTSOCK"}, {EBADMSG, "EBADMSG"},
+        {EMSGSIZE, "EMSGSIZE"}, {EOPNOTSUPP, "EOPNOTSUPP"}, {ECANCELED, "ECANCELED"}, {ETIMEDOUT, "ETIMEDOUT"},
+    };
+    for (size_t i = 0; i < sizeof errors / sizeof errors[0]; i++)
+        if (errors[i].number == number) return errors[i].name;
+    return "an error";
+}
+
+void text_bits(struct text *text, uint32_t mask) {
+    static const struct {
+        uint32_t bit;
+        const char *name;
+    } bits[] = {
+        {EPOLLIN, "IN"},     {EPOLLPRI, "PRI"},     {EPOLLOUT, "OUT"},         {EPOLLERR, "ERR"},
+        {EPOLLHUP, "HUP"},   {EPOLLRDHUP, "RDHUP"}, {EPOLLEXCLUSIVE, "EXCLUSIVE"}, {EPOLLWAKEUP, "WAKEUP"},
+        {EPOLLONESHOT, "ONESHOT"}, {EPOLLET, "ET"},
+    };
+    const char *between = "";
+    for (size_t i = 0; i < sizeof bits / sizeof bits[0]; i++) {
+        if (!(mask & bits[i].bit)) continue;
+        text_add(text, "%s%s", between, bits[i].name);
+        mask &= ~bits[i].bit;
+        between = "|";
+    }
+    if (mask != 0 || *between == 0) text_add(text, mask != 0 ? "%s%#" PRIx32 : "%s%" PRIx32, between, mask);
+}
+
+/* So many microseconds in seconds. */
+static void text_time(struct text *text, uint64_t time) {
+    char digits[32];
+    int length;
+    text_add(text, "%" PRIu64, time / 1000000);
+    if (time % 1000000 == 0) return;
+    length = snprintf(digits, sizeof digits, "%06" PRIu64, time % 1000000);
+    while (length > 0 && digits[length - 1] == '0') digits[--length] = 0;
+    text_add(text, ".%s", digits);
+}
+
+static void text_bytes(struct text *text, const uint8_t *bytes, uint64_t count) {
+    text_add(text, "\"");
+    for (uint64_t i = 0; i < count && i < SHOWN; i++) {
+        if (bytes[i] == '"' || bytes[i] == '\\')
+            text_add(text, "\\%c", bytes[i]);
+        else if (bytes[i] >= 32 && bytes[i] < 127)
+            text_add(text, "%c", bytes[i]);
+        else
+            text_add(text, "\\x%02x", bytes[i]);
+    }
+    text_add(text, count > SHOWN ? "\".. (%" PRIu64 " bytes)" : "\"", count);
+}
+
+static void text_flag(struct text *text, const struct ep_request *request, uint32_t flag, const char *word) {
+    if (request->flags & flag) text_add(text, "%s%s", text->bytes[text->length - 1] == '(' ? "" : ", ", word);
+}
+
+static void text_wait(struct text *text, const struct ep_request *request) {
+    text_add(text, "epoll_wait(%d, %d, ", request->fd, request->number);
+    if (request->timeout < 0)
+        text_add(text, "-1");
+    else
+        text_time(text, (uint64_t)request->timeout);
+}
+
+static void text_ctl(struct text *text, const struct ep_request *request) {
+    static const char *const acts[] = {"", "ADD", "DEL", "MOD"};
+    int is_known = request->number >= EPOLL_CTL_ADD && request->number <= EPOLL_CTL_MOD;
+    text_add(text, "epoll_ctl(%d, ", request->fd);
+    if (is_known)
+        text_add(text, "%s", acts[request->number]);
+    else
+        text_add(text, "%d", request->number);
+    text_add(text, ", %d", request->target);
+    if (request->number == EPOLL_CTL_DEL) return;
+    text_add(text, ", ");
+    text_bits(text, request->count);
+    text_add(text, ", %" PRIu64, request->value);
+}
+
+static void text_settime(struct text *text, const struct ep_request *request) {
+    text_add(text, "timerfd_settime(%d, ", request->fd);
+    text_time(text, request->value);
+    text_add(text, ", ");
+    text_time(text, request->interval);
+    text_flag(text, request, EP_ABSOLUTE, "ABSTIME");
+}
+
+/* The name of a call with its words, up to the closing bracket. */
+static void text_words(struct text *text, const struct step *step) {
+    static const char *const names[] = {
+        [EP_PIPE] = "pipe2",       [EP_TIMERFD] = "timerfd_create", [EP_SOCKETPAIR] = "socketpair",
+        [EP_PLAIN] = "plain",      [EP_CREATE] = "epoll_create1",   [EP_SHUTDOWN] = "shutdown",
+        [EP_DUP] = "dup",          [EP_CLOSE] = "close",            [EP_FORK] = "fork",
+        [EP_EXEC] = "execve",      [EP_EXIT] = "exit",              [EP_RESUME] = "resume",
+        [EP_GETTIME] = "timerfd_gettime",
+    };
+    const struct ep_request *request = &step->request;
+    switch (request->event) {
+    case 0: text_add(text, "shared(%.*s", (int)(step->given_length < SHOWN ? step->given_length : SHOWN), step->given); break;
+    case EP_EVENTFD: text_add(text, "eventfd(%" PRIu32, request->count); break;
+    case EP_CTL: text_ctl(text, request); break;
+    case EP_WAIT: text_wait(text, request); break;
+    case EP_READ: text_add(text, "read(%d, %" PRIu32, request->fd, request->count); break;
+    case EP_WRITE:
+        text_add(text, "write(%d, ", request->fd);
+        text_bytes(text, step->given, step->given_length);
+        break;
+    case EP_SETTIME: text_settime(text, request); break;
+    case EP_DUP2: text_add(text, "dup2(%d, %d", request->fd, request->target); break;
+    case EP_TICK:
+        text_add(text, "tick(");
+        text_time(text, request->value);
+        break;
+    case EP_SHUTDOWN: case EP_DUP: case EP_CLOSE: case EP_GETTIME:
+        text_add(text, "%s(%d", names[request->event], request->fd);
+        break;
+    default: text_add(text, "%s(", names[request->event]);
+    }
+}
+
+void text_call(struct text *text, const struct step *step) {
+    text_words(text, step);
+    text_flag(text, &step->request, EP_SEMAPHORE, "SEMAPHORE");
+    text_flag(text, &step->request, EP_CLOEXEC, "CLOEXEC");
+    text_add(text, ")");
+    if (step->request.pid != 1) text_add(text, " in process %" PRIu64, step->request.pid);
+}
+
+static void text_reports(struct text *text, const struct steps *steps, const struct step *step) {
+    text_add(text, "[");
+    for (size_t i = 0; i < (size_t)step->result; i++) {
+        const struct ep_report *report = &steps->reports[step->reports + i];
+        text_add(text, i > 0 ? ", (" : "(");
+        text_bits(text, report->events);
+        text_add(text, ", %" PRIu64 ")", report->tag);
+    }
+    text_add(text, "]");
+}
+
+void text_answer(struct text *text, const struct steps *steps, const struct step *step) {
+    uint32_t event = step->request.event;
+    if (step->result == EP_PARKED) {
+        text_add(text, event == EP_WAIT ? "sleeps" : "sleeps on");
+    } else if (step->result < 0) {
+        text_add(text, "%s", error_name(-step->result));
+    } else if (event == EP_PIPE || event == EP_SOCKETPAIR) {
+        text_add(text, "(%d, %d)", step->first, step->second);
+    } else if (event == EP_WAIT || event == EP_RESUME) {
+        text_reports(text, steps, step);
+    } else if (event == EP_READ) {
+        text_bytes(text, step->got, (uint64_t)step->result);
+    } else if (event == EP_SETTIME || event == EP_GETTIME) {
+        text_add(text, "(");
+        text_time(text, step->value);
+        text_add(text, ", ");
+        text_time(text, step->interval);
+        text_add(text, ")");
+    } else if (event == EP_EVENTFD || event == EP_TIMERFD || event == EP_PLAIN || event == EP_CREATE ||
+               event == EP_WRITE || event == EP_DUP || event == EP_DUP2 || event == EP_FORK) {
+        text_add(text, "%" PRId64, step->result);
+    }
+}

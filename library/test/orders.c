@@ -1,0 +1,442 @@
+/* Every order: how many there are, which fail, and what is refused. Numbers of orders are counted here by binomials, or
+   by a recursion over what the manual pages say of the calls. */
+#include "faults.h"
+
+static struct nippersage_result explore(const struct example *example, const struct nippersage_options *options,
+                                        int wanted) {
+    static struct shared shared;
+    struct nippersage_program program = program_of(example);
+    struct nippersage_options given = options ? *options : (struct nippersage_options){0};
+    struct nippersage_result result;
+    int status;
+    shared.example = example;
+    given.most = example->most;
+    status = nippersage_explore(&program, &shared, &given, &result);
+    if (status != wanted) {
+        fprintf(stderr, "%s: %d\n%s\n", example->name ? example->name : "", status, result.message);
+        exit(1);
+    }
+    return result;
+}
+
+static void is_text(const char *found, const char *wanted) {
+    if (found && strcmp(found, wanted) == 0) return;
+    fprintf(stderr, "found  %s\nwanted %s\n", found ? found : "nothing", wanted);
+    exit(1);
+}
+
+static void has_text(const char *found, const char *wanted) {
+    if (found && strstr(found, wanted)) return;
+    fprintf(stderr, "found  %s\nwanted %s\n", found ? found : "nothing", wanted);
+    exit(1);
+}
+
+/* ---- numbers of orders ---- */
+
+enum { AT_WAIT, AT_READ, ASLEEP };
+
+/* In how many orders an edge-triggered loop and its peer go, from here on: so many messages are unread, the last came
+   behind the last report or not, and so many will be written. */
+static long orders_of_loop(int at, int unread, int is_fresh, int left, int once) {
+    long sum = left > 0 ? orders_of_loop(at, unread + 1, 1, left - 1, once) : 0;
+    if (at == AT_READ && once)
+        sum += orders_of_loop(AT_WAIT, unread - 1, is_fresh, left, once);
+    else if (at == AT_READ)
+        sum += unread > 0 ? orders_of_loop(AT_READ, unread - 1, is_fresh, left, once)
+                          : orders_of_loop(AT_WAIT, 0, is_fresh, left, once);
+    else if (is_fresh && unread > 0)
+        sum += orders_of_loop(AT_READ, unread, 0, left, once);
+    else if (at == AT_WAIT)
+        sum += orders_of_loop(ASLEEP, unread, is_fresh, left, once);
+    return sum > 0 ? sum : 1;
+}
+
+static void counts_of_loops(int is_short) {
+    static const struct {
+        int once, writes;
+        long orders;
+    } loops[] = {{1, 3, 34}, {1, 6, 2702}, {0, 6, 6478}, {0, 3, 0}, {1, 1, 0}};
+    for (size_t i = 0; i < sizeof loops / sizeof loops[0]; i++) {
+        if (is_short && loops[i].writes > 3) continue;
+        struct example example = {PIPE(loops[i].once ? reads_once : reads_all, EPOLLIN | EPOLLET, loops[i].writes, 1)};
+        long by_hand = orders_of_loop(AT_WAIT, 0, 0, loops[i].writes, loops[i].once);
+        enum nippersage_how hows[] = {NIPPERSAGE_EVERY, NIPPERSAGE_RISING};
+        if (loops[i].orders) IS(by_hand, loops[i].orders);
+        for (int k = 0; k < 2; k++) {
+            struct nippersage_options options = {.how = hows[k], .goes_on = 1};
+            struct nippersage_result result = explore(&example, &options, loops[i].once && loops[i].writes > 1);
+            IS(result.runs, by_hand);
+            IS(result.is_whole, 1);
+            if (loops[i].once && loops[i].writes == 3) IS(result.failures, 16);
+            if (loops[i].once && loops[i].writes == 6) IS(result.failures, 2216);
+            nippersage_result_free(&result);
+        }
+    }
+}
+
+/* ---- tasks that wait for nothing ---- */
+
+static int lines(struct nippersage_kernel *kernel, void *shared) {
+    struct shared *e = start(shared);
+    for (int i = 0; i < MOST; i++) e->eps[i] = nippersage_eventfd((struct nippersage_task){kernel, 0, 1}, 0, 0);
+    return 0;
+}
+
+static int writes_on(struct nippersage_task task, void *shared, int most) {
+    struct shared *e = shared;
+    int me = (int)task.caller - 1;
+    ssize_t count = nippersage_write(task, e->eps[me], &ONE, 8);
+    return count < 0 ? (int)count : ++e->count[me] < most;
+}
+
+static int twice(struct nippersage_task task, void *shared) { return writes_on(task, shared, 2); }
+static int six_times(struct nippersage_task task, void *shared) { return writes_on(task, shared, 6); }
+
+static const struct example THREE = {
+    .setup = lines, .tasks = {{.name = "a", .turn = twice}, {.name = "b", .turn = twice}, {.name = "c", .turn = twice}},
+    .count = 3};
+static const struct example SIX = {
+    .setup = lines, .tasks = {{.name = "a", .turn = six_times}, {.name = "b", .turn = six_times}}, .count = 2};
+
+/* 6!/(2!2!2!) orders of three tasks; of two with 6 calls each 2 have no pre-emption, 10 have one and 50 have two. */
+static void counts_of_lines(void) {
+    static const long up_to[] = {2, 12, 62};
+    struct nippersage_options every = {.how = NIPPERSAGE_EVERY};
+    struct nippersage_result result = explore(&THREE, &every, 0);
+    IS(result.runs, 90);
+    IS(result.turns, 540);
+    nippersage_result_free(&result);
+    for (int bound = 0; bound < 3; bound++) {
+        struct nippersage_options options = {.how = NIPPERSAGE_BOUND, .bound = bound};
+        result = explore(&SIX, &options, 0);
+        IS(result.runs, up_to[bound]);
+        IS(result.bound, bound);
+        IS(result.is_whole, 0);
+        nippersage_result_free(&result);
+    }
+    result = explore(&SIX, &(struct nippersage_options){.how = NIPPERSAGE_RISING}, 0);
+    IS(result.runs, 924); /* 12!/(6!6!) */
+    IS(result.is_whole, 1);
+    nippersage_result_free(&result);
+}
+
+static void limits(void) {
+    enum nippersage_how hows[] = {NIPPERSAGE_RISING, NIPPERSAGE_EVERY, NIPPERSAGE_RANDOM, NIPPERSAGE_PCT};
+    struct nippersage_result result;
+    for (int i = 0; i < 4; i++) {
+        struct nippersage_options options = {.how = hows[i], .runs = 50, .seed = 3};
+        result = explore(&SIX, &options, 0);
+        IS(result.runs, 50);
+        IS(result.is_whole, 0);
+        has_text(result.message, "then the limit of 50 orders; not every order was tried; 0 failures; 600 turns, ");
+        nippersage_result_free(&result);
+    }
+    result = explore(&SIX, &(struct nippersage_options){.runs = 50}, 0);
+    IS(result.runs, 50);
+    IS(result.bound, 1);
+    has_text(result.message, "every order of at most 1 pre-emption: 25 orders, then the limit of 25 orders; "
+                             "by chance, seed 0: 25 orders, then the limit of 50 orders; not every order was tried; ");
+    nippersage_result_free(&result);
+    result = explore(&SIX, &(struct nippersage_options){.how = NIPPERSAGE_EVERY, .seconds = 1e-9}, 0);
+    IS(result.is_whole, 0);
+    nippersage_result_free(&result);
+}
+
+/* ---- faults ---- */
+
+static struct example in_threads(const struct example *example);
+
+static void look_at_fault(const struct example *example) {
+    struct nippersage_options rising = {.how = NIPPERSAGE_RISING};
+    struct nippersage_result result = explore(example, &rising, example->kind != 0);
+    if (example->kind) {
+        is_text(result.order, example->smallest);
+        IS(result.kind, example->kind);
+        IS(result.runs, example->runs);
+        IS(result.bound <= 1, 1);
+    } else {
+        IS(result.runs, example->whole);
+        IS(result.is_whole, 1);
+    }
+    nippersage_result_free(&result);
+}
+
+static void look_at_replay(const struct example *example) {
+    struct nippersage_options replay = {.order = example->smallest};
+    struct nippersage_result result = explore(example, &replay, 1);
+    is_text(result.order, example->smallest);
+    IS(result.kind, example->kind);
+    IS(result.runs, 1);
+    IS(result.is_whole, 0);
+    nippersage_result_free(&result);
+}
+
+static void look_by_chance(const struct example *example) {
+    enum nippersage_how hows[] = {NIPPERSAGE_RANDOM, NIPPERSAGE_PCT};
+    for (int i = 0; i < 2; i++) {
+        struct nippersage_options options = {.how = hows[i], .seed = 5};
+        struct nippersage_result result = explore(example, &options, 1), again = explore(example, &options, 1);
+        IS(result.kind, example->kind);
+        is_text(result.found, again.found);
+        is_text(result.order, again.order);
+        IS(result.runs, again.runs);
+        nippersage_result_free(&result);
+        nippersage_result_free(&again);
+    }
+}
+
+static void faults(void) {
+    for (int i = 0; i < FAULTS_COUNT; i++) {
+        struct example threads = in_threads(&FAULTS[i]);
+        look_at_fault(&FAULTS[i]);
+        look_at_fault(&threads);
+        if (!FAULTS[i].kind) continue;
+        look_at_replay(&FAULTS[i]);
+        look_at_replay(&threads);
+        look_by_chance(&FAULTS[i]);
+    }
+}
+
+static void message(void) {
+    struct nippersage_options rising = {.how = NIPPERSAGE_RISING, .replay = "./test_loop"};
+    struct nippersage_result result = explore(&FAULTS[0], &rising, 1);
+    has_text(result.message,
+             "asleep beside data: loop at 5: fd 3 shows IN, registered IN|ET, reported to loop in turn 4\n"
+             "  order     peer*3 loop*3\n"
+             "            6 turns, 1 switch; found with 7 turns, 2 switches; order 1, of 0 pre-emptions; ");
+    has_text(result.message,
+             " tried to make it small\n"
+             "        setup  pipe2()                         (3, 4)\n"
+             "        setup  epoll_create1()                 5\n"
+             "        setup  epoll_ctl(5, ADD, 3, IN|ET, 7)\n"
+             "     1  peer   write(4, \"ping\")                4\n"
+             "     2  peer   write(4, \"ping\")                4\n"
+             "     3  peer   write(4, \"ping\")                4\n"
+             "     4  loop   epoll_wait(5, 1, -1)            [(IN, 7)]\n"
+             "     5  loop   read(3, 4)                      \"ping\"\n"
+             "     6  loop   epoll_wait(5, 1, -1)            sleeps\n"
+             "  asleep    loop at 5: fd 3 shows IN, registered IN|ET, reported to loop in turn 4\n"
+             "  replay    NIPPERSAGE_ORDER='peer*3 loop*3' ./test_loop\n"
+             "  tried     rising bounds: 1 order, then the first failure; not every order was tried; 1 failure; 7 turns, ");
+    nippersage_result_free(&result);
+}
+
+/* The clock of its own accord: 6 orders if it goes only when nobody can, and 12 if at any point, of which 2 close the
+   reader's end before a write. library/python/tests/test_orders.py counts them by hand. Three of the 12 close in some
+   place once the time has passed before a; without a close these are one. */
+static void clocks(void) {
+    struct example faulty = {GIVES_UP(0)}, right = {GIVES_UP(1)};
+    struct nippersage_options every = {.how = NIPPERSAGE_EVERY, .goes_on = 1};
+    struct nippersage_result result = explore(&faulty, &every, 0);
+    IS(result.runs, 6);
+    nippersage_result_free(&result);
+    every.clock_any = 1;
+    result = explore(&faulty, &every, 1);
+    IS(result.runs, 12);
+    IS(result.failures, 2);
+    is_text(result.order, "loop + loop*2 peer");
+    has_text(result.message, "peer failed: EPIPE");
+    nippersage_result_free(&result);
+    result = explore(&right, &every, 0);
+    IS(result.runs, 10);
+    nippersage_result_free(&result);
+}
+
+static int not_seven(const struct nippersage_watch *watch, void *shared) {
+    (void)shared;
+    IS(watch->fd, 3);
+    IS(watch->events, EPOLLIN | EPOLLET);
+    IS(watch->shown, EPOLLIN);
+    return watch->data != 7;
+}
+
+static void beside(void) {
+    struct example faulty = FAULTS[0];
+    struct nippersage_result result;
+    faulty.check = NULL;
+    result = explore(&faulty, &(struct nippersage_options){.how = NIPPERSAGE_EVERY, .not_beside = 1}, 0);
+    IS(result.runs, 34);
+    nippersage_result_free(&result);
+    result = explore(&faulty, &(struct nippersage_options){.how = NIPPERSAGE_EVERY, .beside = not_seven}, 0);
+    IS(result.runs, 34);
+    nippersage_result_free(&result);
+}
+
+/* ---- threads ---- */
+
+static int (*turn_of[MOST])(struct nippersage_task task, void *shared);
+
+/* Makes the calls of a task that is called back, in a thread. */
+static int run_on(struct nippersage_task task, void *shared) {
+    int result = 1;
+    while (result > 0) result = turn_of[task.caller - 1](task, shared);
+    return result;
+}
+
+static struct example in_threads(const struct example *example) {
+    struct example threads = *example;
+    for (size_t i = 0; i < example->count; i++) {
+        turn_of[i] = example->tasks[i].turn;
+        threads.tasks[i].turn = NULL;
+        threads.tasks[i].run = run_on;
+    }
+    return threads;
+}
+
+/* ---- what is refused ---- */
+
+static int varies(struct nippersage_task task, void *shared) {
+    static int calls;
+    const struct shared *e = shared;
+    char digit = (char)('0' + calls++ % 10);
+    return nippersage_write(task, e->writer, &digit, 1) < 0 ? -EIO : 0;
+}
+
+static int no_call(struct nippersage_task task, void *shared) {
+    (void)task;
+    (void)shared;
+    return 1;
+}
+
+static int two_calls(struct nippersage_task task, void *shared) {
+    nippersage_write(task, ((const struct shared *)shared)->writer, "a", 1);
+    nippersage_write(task, ((const struct shared *)shared)->writer, "b", 1);
+    return 0;
+}
+
+static int another_caller(struct nippersage_task task, void *shared) {
+    task.caller = 9;
+    nippersage_write(task, ((const struct shared *)shared)->writer, "a", 1);
+    return 0;
+}
+
+static int says_why(struct nippersage_task task, void *shared) {
+    nippersage_write(task, ((const struct shared *)shared)->writer, "a", 1);
+    return nippersage_fail(task, "nobody likes it");
+}
+
+static void refused(struct example example, const struct nippersage_options *options, int status,
+                    enum nippersage_kind kind, const char *text) {
+    for (int i = 0; i < 2; i++) {
+        struct nippersage_result result = explore(&example, options, status);
+        IS(result.kind, kind);
+        has_text(result.message, text);
+        nippersage_result_free(&result);
+        if (!example.tasks[0].turn || example.tasks[0].turn == no_call || example.tasks[0].turn == two_calls) return;
+        example = in_threads(&example);
+    }
+}
+
+static struct example one_task(int (*turn)(struct nippersage_task task, void *shared)) {
+    return (struct example){.setup = watched_pipe, .tasks = {{.name = "t", .turn = turn}}, .count = 1, .mask = EPOLLIN};
+}
+
+static void bad_tasks(void) {
+    struct example none = one_task(no_call);
+    refused(one_task(varies), NULL, -EINVAL, NIPPERSAGE_NOT_THE_SAME,
+            "\") of t, after the same turns. A task depends on something else than the kernel's answers");
+    refused(none, NULL, -EINVAL, NIPPERSAGE_BAD_TASK, "the task t made no call in its turn");
+    refused(one_task(two_calls), NULL, -EINVAL, NIPPERSAGE_BAD_TASK,
+            "the task t made a second call in one turn: write(4, \"b\")");
+    refused(one_task(another_caller), NULL, -EINVAL, NIPPERSAGE_BAD_TASK,
+            "a call was made as caller 9 in a turn of t, which is caller 1");
+    refused(one_task(says_why), NULL, 1, NIPPERSAGE_FAILED, "t failed: nobody likes it");
+    none.tasks[0].name = "a b";
+    refused(none, NULL, -EINVAL, NIPPERSAGE_BAD_TASK, "'a b' names no task");
+    none.tasks[0].name = "t";
+    none.tasks[0].run = no_call;
+    refused(none, NULL, -EINVAL, NIPPERSAGE_BAD_TASK, "the task 't' has one function, turn or run");
+    none.count = 0;
+    refused(none, NULL, -EINVAL, NIPPERSAGE_BAD_PROGRAM, "a program has a setup, and 1 to 63 tasks");
+}
+
+static void bad_schedules(void) {
+    static const char *const bad[][2] = {
+        {"", "the schedule '' has no turns"},
+        {"peer*3 lop", "word 2 of the schedule 'peer*3 lop' names 'lop', and the tasks are loop, peer"},
+        {"peer*0", "word 1 of the schedule 'peer*0' has no number of turns: it has 1 to 10000000"},
+        {"peer*10000001", "has no number of turns"},
+        {"peer*", "word 1 of the schedule 'peer*' is 'peer*', and no turns of a task: those are a name, or a name and"},
+        {"2", "word 1 of the schedule '2' is '2', and no turns of a task"},
+        {".. peer", "word 1 of the schedule '.. peer' is '..', which stands at the end only"},
+        {"loop[1,0]", "and what a wait reports can't be chosen in this version"},
+        {"peer*4", "turn 4 of the schedule is one of peer, which has come to its end"},
+        {"loop*2", "turn 2 of the schedule is one of loop, which sleeps in a wait that nothing has ended"},
+        {"+", "turn 1 of the schedule is one of +, which can't"},
+        {"peer*2", "the schedule ends before turn 3, and loop, peer can go on; write .. at its end"},
+        {"peer*3 loop*4", "the schedule has 1 more from turn 7 on, and nobody can go on"},
+        {"1: peer", "the schedule '1: peer' has no name before its colon"},
+    };
+    for (size_t i = 0; i < sizeof bad / sizeof bad[0]; i++)
+        refused(FAULTS[0], &(struct nippersage_options){.order = bad[i][0]}, -EINVAL, NIPPERSAGE_BAD_SCHEDULE, bad[i][1]);
+    refused(SIX, &(struct nippersage_options){.order = "a*6 b*6 a"}, -EINVAL, NIPPERSAGE_BAD_SCHEDULE,
+            "the schedule has 1 more from turn 13 on, and nobody can go on");
+}
+
+static void bad_options(void) {
+    static const struct nippersage_limits none = {0};
+    static const struct {
+        struct nippersage_options options;
+        const char *text;
+    } bad[] = {
+        {{.how = (enum nippersage_how)99}, "how is none"}, {{.bound = 1}, "bound is for"}, {{.bound = -1}, "bound is 0 at"},
+        {{.depth = -1}, "depth is 1 at least"}, {{.seconds = -1}, "seconds are more than 0"}, {{.name = "a b"}, "the name of"},
+        {{.limits = &none}, "a limit of the kernel is out of its range"},
+    };
+    for (size_t i = 0; i < sizeof bad / sizeof bad[0]; i++)
+        refused(FAULTS[1], &bad[i].options, -EINVAL, NIPPERSAGE_BAD_OPTION, bad[i].text);
+}
+
+static void by_variable(void) {
+    struct nippersage_options options = {.how = NIPPERSAGE_RISING, .name = "loops"};
+    struct nippersage_result result;
+    setenv("NIPPERSAGE_ORDER", "loops: peer*3 ..", 1);
+    result = explore(&FAULTS[0], &options, 1);
+    IS(result.runs, 1);
+    is_text(result.order, FAULTS[0].smallest);
+    has_text(result.message, "NIPPERSAGE_ORDER='loops: peer*3 loop*3'");
+    nippersage_result_free(&result);
+    options.name = "others";
+    result = explore(&FAULTS[1], &options, 0);
+    IS(result.runs, FAULTS[1].whole);
+    nippersage_result_free(&result);
+    unsetenv("NIPPERSAGE_ORDER");
+}
+
+/* Whether nippersage_check and a history are what they are without an order. Its name is NULL if none is asked for. */
+static const char *history;
+
+static const char *writes_history(struct nippersage_kernel *kernel, void *shared) {
+    int fd = open(history, O_CREAT | O_TRUNC | O_WRONLY, 0600);
+    (void)shared;
+    IS(nippersage_check(kernel), 0);
+    IS(nippersage_history(kernel, fd), 0);
+    close(fd);
+    return NULL;
+}
+
+static void histories(void) {
+    struct example example = in_threads(&FAULTS[1]);
+    struct nippersage_result result;
+    example.check = writes_history;
+    result = explore(&example, NULL, 0);
+    nippersage_result_free(&result);
+}
+
+/* Arguments: the file that the history of an order goes to, and `short`, which leaves the large trees out. */
+int main(int argc, char **argv) {
+    counts_of_loops(argc > 2);
+    counts_of_lines();
+    limits();
+    faults();
+    message();
+    clocks();
+    beside();
+    bad_tasks();
+    bad_schedules();
+    bad_options();
+    by_variable();
+    history = argc > 1 ? argv[1] : "/dev/null";
+    histories();
+    return 0;
+}
