@@ -37,6 +37,15 @@ absent_end_ends : AbsentEndsNothing → ⊥
 unfolding AbsentEndsNothing
 absent_end_ends law = no_number 0 (law of_one Second First 0 (reads 8) (λ e. cc) refl)
 
+-- nor at an end that is not there
+LostEndsNothing : Type 0
+LostEndsNothing = (x : Object) (e o : End) (now : ℕ) (asked : ObjectCall)
+    → e ≢ o → IsTrue (object_has x e) → EndsNothing x (after_call now asked x e) o now now
+
+lost_end_ends : LostEndsNothing → ⊥
+unfolding LostEndsNothing
+lost_end_ends law = no_number 0 (law of_one First Second 0 (reads 8) (λ e. cc) refl)
+
 -- nor as the clock goes back
 BackwardsEndsNothing : Type 0
 BackwardsEndsNothing = (x : Object) (e : End) (old new : ℕ) → new ≤ old → EndsNothing x x e old new

@@ -89,7 +89,7 @@ pub record ObjectLaws : Type 0 where
   pub next_tells : (x : Object) (old now : ℕ) (next : Option ℕ)
       → IsNextMoment x old next → advance x old now ≡ when (is_by next now) IN
   pub still_raises_nothing : (x : Object) (now : ℕ) → advance x now now ≡ 0
-  -- a call that isn't refused gives no more bytes than it asks for, nor more than wait there, or 16
+  -- a call that isn't refused gives no more bytes than it asks for, and above 16 no more than wait
   pub gives_few : (x : Object) (e : End) (now : ℕ) (asked : ObjectCall) → first (object_refusals x e now asked) ≡ None
       → GivesAtMost (min (asked_of asked) (max 16 (object_waiting x e))) (object_effect x e now asked).0
   -- and it isn't refused if it asks for bytes and some wait

@@ -1,9 +1,10 @@
 //! The laws of objects of every kind.
 ghost use Rattle.ep_object.specs.Law.{AdvanceLaw, ApplyLaw, CloseLaw, ObjectLaws};
 
-/// What holds of objects of every kind: what calls and closes keep, what they and the clock raise and
-/// end, what is a timer and when it is next raised at, and how much a call gives. This does nothing: its contract
-/// is the laws, of every object, and rests on those of the kinds.
+/// The laws of objects, whatever their kind. Calls and closes keep the kind and the ends. What begins
+/// to hold is raised, and what holds ends only at the end on which a call is made. The clock raises
+/// something at timers only, once it has come to the next moment. A call gives no more than it asks for
+/// and than waits. This does nothing: its contract is the laws, and rests on those of the kinds.
 pub fn objects_keep_laws()
     ensures laws { ObjectLaws }
 {
