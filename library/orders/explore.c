@@ -361,6 +361,8 @@ static int run_search(struct search *search, struct found *found, struct text *m
     if (status < 0) return status;
     fill_options(search);
     is_given = status = read_order(search, &schedule);
+    /* A debugger may stop a task for as long as somebody looks. */
+    if (is_given == 1) search->options.patience = 1e9;
     if (status >= 0) status = is_given ? run_given(search, found, &schedule) : try_parts(search, found);
     free(schedule.turns.all);
     search->result->seconds = now_in_seconds() - search->began;
