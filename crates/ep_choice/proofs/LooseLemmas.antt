@@ -28,7 +28,6 @@ admitted_all (l ∷ ls) = ap (λ (ks : List Link). l ∷ ks) (admitted_all ls)
 
 -- What is above these, once some were gone through.
 module _ (es : List (ℕ × ℕ)) where
-
   pub above_next : (ks : List ℕ) (i k : ℕ) (mid new : Walk) → i < length ks → slice_get ks i ≡ Some k → AreAbove es (take i ks) mid.reached → Ascends es k mid new → AreAbove es (take (i + 1) ks) new.reached
   above_next ks i k mid new lt is above a e = (λ t. to ((a.exact e).0 t), from) where
     among_more : (j : ℕ) → is_among (take (i + 1) ks) j ≡ (is_among (take i ks) j || j == k)

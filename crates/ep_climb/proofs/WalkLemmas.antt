@@ -102,7 +102,6 @@ module _ (es : List (ℕ × ℕ)) where
   over i k j a (inr b) = join i k j a b
 
   module _ (j : ℕ) (w : Walk) where
-
     pub ascends_far : (mid new : Walk) (ks : List ℕ) → mid ≡ with_reached w j → ((i : ℕ) → (is_among ks i ≡ true) ↔ IsAbove es i j) → Reaches (is_among ks) mid new → Ascends es j w new
     ascends_far mid new ks is above a = record { room = both.room; grown = both.grown; exact = λ i. (forth i, back i) } where
       both : Reaches (λ i. i == j || is_among ks i) w new

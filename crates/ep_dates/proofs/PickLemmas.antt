@@ -171,7 +171,6 @@ module _ (r : Registrations) (sound : IsSound r) (d : Dates) (kept : AreKept r d
 
 -- What is flagged and counted is a pick, and only that.
 module _ (r : Registrations) (sound : IsSound r) (d : Dates) (kept : AreKept r d) (instance most : ℕ) (ks : List ℕ) (latest : ℕ) (w : Walk) (f : Flags r d instance ks latest w) where
-
   pub pick_late : IsPick r d instance most ks → AreLate r d instance w.reached latest
   pick_late pick k on off =
       let g = kept.only instance k on in

@@ -209,7 +209,6 @@ module _ (v : Rings) (ps : List (Option PlaceId)) where
 
 -- the same places and lists
 module _ (v v' : Rings) (ps ps' : List (Option PlaceId)) (a : SameLists v v') (b : (z : ℕ) → id_at_key ps' z ≡ id_at_key ps z) where
-
   inst_same : (o : Option PlaceId) → instance_of v.places o ≡ instance_of v'.places o
   inst_same None = refl
   inst_same (Some m) = ap owner_of (a.places m.0)

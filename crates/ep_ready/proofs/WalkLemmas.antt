@@ -65,7 +65,6 @@ less_than_all (m ∷ marks) (suc i) l h =
     omega (arith, rest, most, sum_by-cons (λ m. cond {A = ℕ} m 1 0) m marks)
 
 module _ (marks : List Bool) (reached : List ℕ) (capacity : ℕ) (w : IsWalk marks reached capacity) where
-
   -- what is reached has a mark
   pub marked_within : (i : ℕ) → is_among reached i ≡ true → i < length marks
   marked_within i h = elim (cases_lt i (length marks)) [
