@@ -12,13 +12,17 @@
 
 FORWARD(syscall)
 
+/* A thread is counted as asleep under the lock of sleepers.c. It then gives that lock back, and wakes the one that waits
+   for it. Until that is done, the one that waits seems to be at rest: so a look takes nobody for asleep who is FALLING. */
+enum descent { UP, FALLING, DOWN };
+
 /* A thread that takes part. It outlives its thread until a look finds that the real kernel has no such thread. */
 struct seat {
     long thread;                  /* the real kernel's number */
     int file;                     /* its file in /proc that tells in which call it sleeps; looks only */
     const struct thread_state *of;
     bool has_left;                /* the thread is about to end */
-    atomic_bool is_asleep;        /* in a wait of the simulated kernel */
+    _Atomic enum descent descent; /* to its sleep in a wait of the simulated kernel */
     _Atomic uint64_t asked;       /* the moment at which it asked in vain for the last time */
     enum rest seen;               /* what the last look found that it did; looks only */
     uint64_t seen_run;            /* so long it had run until then */
@@ -72,7 +76,13 @@ void leave_seat(void) {
 }
 
 void mark_asleep(struct seat *seat, bool is_asleep) {
-    if (seat) atomic_store(&seat->is_asleep, is_asleep);
+    if (seat) atomic_store(&seat->descent, is_asleep ? FALLING : UP);
+}
+
+/* Unless it was woken meanwhile. */
+void mark_down(struct seat *seat) {
+    enum descent expected = FALLING;
+    if (seat) atomic_compare_exchange_strong(&seat->descent, &expected, DOWN);
 }
 
 void mark_asking(uint64_t moment) {
@@ -204,13 +214,16 @@ struct looked {
     bool has_left;
 };
 static struct looked *list;
-static size_t room, count, awake; /* in the list; of them, those whose threads aren't counted and haven't left */
+static size_t room, count;    /* in the list */
+static size_t awake, falling; /* so many are UP and haven't left, and so many are FALLING */
 static atomic_flag is_looking = ATOMIC_FLAG_INIT;
 
 static bool copy_seat(struct seat *seat, const uint64_t *moment) {
-    bool is_counted = atomic_load(&seat->is_asleep);
+    enum descent descent = atomic_load(&seat->descent);
+    bool is_counted = descent == DOWN;
     if (seat->of == &this_thread) return true;
-    if (!is_counted && !seat->has_left) awake++;
+    if (descent == UP && !seat->has_left) awake++;
+    if (descent == FALLING) falling++;
     if (is_counted && !has_handlers()) return true;
     if (moment && !seat->has_left && atomic_load(&seat->asked) == *moment) return true;
     if (count == room) return false;
@@ -231,7 +244,7 @@ static bool copy_seats(const uint64_t *moment) {
         list = more;
         room = 2 * needed;
     }
-    count = awake = 0;
+    count = awake = falling = 0;
     pthread_mutex_lock(&lock);
     for (struct seat *seat = seats; seat && fits; seat = seat->next) fits = copy_seat(seat, moment);
     pthread_mutex_unlock(&lock);
@@ -316,7 +329,7 @@ static bool are_undisturbed(void) {
     return true;
 }
 
-/* Nobody can have woken the only one that isn't counted. */
+/* Nobody can have woken the only one that isn't counted, for those that are have nobody to wake. */
 static struct look look_at_copies(void) {
     struct look look = {.rest = AT_REST};
     bool are_new;
@@ -340,6 +353,7 @@ static struct look look(const uint64_t *moment) {
     struct look look;
     if (not_counted == own) return (struct look){.rest = own > 0 ? AT_REST : AWAKE};
     if (!copy_seats(moment) || awake + own != not_counted) return (struct look){.rest = AWAKE, .is_partial = true};
+    if (falling > 0) return awake_look;
     look = look_at_copies();
     return (size_t)count_awake(&woken_then) == not_counted && woken_then == woken ? look : awake_look;
 }

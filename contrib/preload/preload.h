@@ -265,8 +265,10 @@ int count_awake(unsigned long *woken);
 /* The thread that calls is one of those that are looked at, and is one no more. */
 void take_seat(void);
 void leave_seat(void);
-/* Whether a thread sleeps in wait_at; a seat may be NULL. */
+/* Whether a thread begins to sleep in wait_at; and that it has given the lock back, and all but sleeps. A seat may be
+   NULL. */
 void mark_asleep(struct seat *seat, bool is_asleep);
+void mark_down(struct seat *seat);
 /* The thread that calls asks in vain at this moment. */
 void mark_asking(uint64_t moment);
 /* How many times threads that take part called self: what didn't change it made no call. */
