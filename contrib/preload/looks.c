@@ -26,6 +26,7 @@ struct seat {
     _Atomic uint64_t asked;       /* the moment at which it asked in vain for the last time */
     enum rest seen;               /* what the last look found that it did; looks only */
     uint64_t seen_run;            /* so long it had run until then */
+    uint64_t noted_run;           /* and until note_runs; looks only */
     struct seat *next;
 };
 
@@ -36,6 +37,7 @@ static int files; /* that are open; looks only */
 static pthread_mutex_t lock = PTHREAD_MUTEX_INITIALIZER;
 static struct seat *seats;
 static size_t seat_count;
+static atomic_bool lacks_seats; /* there was no memory for one */
 static atomic_ulong left_calls; /* of threads that have ended */
 
 /* ---- the list ---- */
@@ -51,7 +53,10 @@ void take_seat(void) {
     QUIET;
     if (this_thread.seat) return;
     made = calloc(1, sizeof *made);
-    if (!made) return; /* then the looks don't tell all, and the watcher asks of each thread */
+    if (!made) {
+        atomic_store(&lacks_seats, true); /* then the looks don't tell all, and the watcher asks of each thread */
+        return;
+    }
     made->thread = next_syscall()(SYS_gettid);
     made->of = &this_thread;
     made->file = NOT_YET;
@@ -366,4 +371,39 @@ struct look look_at_others(const uint64_t *moment) {
     found = look(moment);
     atomic_flag_clear(&is_looking);
     return found;
+}
+
+/* ---- threads that compute ---- */
+
+bool note_runs(void) {
+    bool fits;
+    QUIET;
+    if (atomic_flag_test_and_set(&is_looking)) return false;
+    fits = copy_seats(NULL);
+    for (size_t i = 0; i < count && fits; i++) list[i].seat->noted_run = run_of(list[i].seat->thread);
+    atomic_flag_clear(&is_looking);
+    return fits;
+}
+
+static bool has_run(struct seat *seat, uint64_t least) {
+    return run_of(seat->thread) - seat->noted_run >= least || rest_of(seat) != AWAKE;
+}
+
+static bool have_run(uint64_t least) {
+    unsigned long woken;
+    size_t not_counted = (size_t)count_awake(&woken);
+    if (atomic_load(&lacks_seats)) return true;
+    if (!copy_seats(NULL) || awake != not_counted) return false;
+    for (size_t i = 0; i < count; i++)
+        if (!list[i].is_counted && !has_run(list[i].seat, least)) return false;
+    return true;
+}
+
+bool have_others_run(uint64_t units) {
+    bool so;
+    QUIET;
+    if (atomic_flag_test_and_set(&is_looking)) return false;
+    so = have_run(units * UNIT);
+    atomic_flag_clear(&is_looking);
+    return so;
 }

@@ -285,6 +285,10 @@ struct look {
 };
 /* Looks at all that take part but this one. Who asked in vain at the moment, if one is given, counts as one at rest. */
 struct look look_at_others(const uint64_t *moment);
+/* Notes how long each of the others has run; whether it could. Whether each that doesn't sleep has run for so many UNITs
+   since then. */
+bool note_runs(void);
+bool have_others_run(uint64_t units);
 
 /* ---- log.c: a line for each call, as strace writes it ---- */
 
