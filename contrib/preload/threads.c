@@ -650,7 +650,7 @@ long call_futex(const long given[6]) {
     long bits = is_until ? given[5] : (long)FUTEX_BITSET_MATCH_ANY, status;
     struct timespec end;
     struct timed timed;
-    bool has_slept = false;
+    bool has_slept = false, has_changed = false;
     int error = 0;
     if (is_outside || !time || !READABLE(time) || !(is_until || (is_for && units_of(time) >= 0)))
         return next_syscall()(SYS_futex, given[0], given[1], given[2], given[3], given[4], given[5]);
@@ -660,11 +660,12 @@ long call_futex(const long given[6]) {
         status = next_syscall()(SYS_futex, given[0], operation, given[2], &timed.until, given[4], bits);
         if (status < 0) error = errno == ETIMEDOUT ? error_of_timed(&timed, ETIMEDOUT) : errno;
         /* Who wakes it has changed the word, perhaps between two of its sleeps. */
-        if (status < 0 && error == EAGAIN && has_slept) status = 0;
+        has_changed = status < 0 && error == EAGAIN && has_slept;
         has_slept = true;
         /* Woken by the watcher, it looks at the word and at the time once more. */
     } while (status < 0 ? error == SLEEP_ON : is_over(&timed));
     end_timed(&timed);
+    if (has_changed) return 0;
     if (status < 0) errno = error;
     return status;
 }
