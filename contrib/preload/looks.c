@@ -12,16 +12,21 @@
 
 FORWARD(syscall)
 
+/* A thread is counted as asleep under the lock of sleepers.c. It then gives that lock back, and wakes the one that waits
+   for it. Until that is done, the one that waits seems to be at rest: so a look takes nobody for asleep who is FALLING. */
+enum descent { UP, FALLING, DOWN };
+
 /* A thread that takes part. It outlives its thread until a look finds that the real kernel has no such thread. */
 struct seat {
     long thread;                  /* the real kernel's number */
     int file;                     /* its file in /proc that tells in which call it sleeps; looks only */
     const struct thread_state *of;
     bool has_left;                /* the thread is about to end */
-    atomic_bool is_asleep;        /* in a wait of the simulated kernel */
+    _Atomic enum descent descent; /* to its sleep in a wait of the simulated kernel */
     _Atomic uint64_t asked;       /* the moment at which it asked in vain for the last time */
     enum rest seen;               /* what the last look found that it did; looks only */
     uint64_t seen_run;            /* so long it had run until then */
+    uint64_t noted_run;           /* and until note_runs; looks only */
     struct seat *next;
 };
 
@@ -32,6 +37,7 @@ static int files; /* that are open; looks only */
 static pthread_mutex_t lock = PTHREAD_MUTEX_INITIALIZER;
 static struct seat *seats;
 static size_t seat_count;
+static atomic_bool lacks_seats; /* there was no memory for one */
 static atomic_ulong left_calls; /* of threads that have ended */
 
 /* ---- the list ---- */
@@ -47,7 +53,10 @@ void take_seat(void) {
     QUIET;
     if (this_thread.seat) return;
     made = calloc(1, sizeof *made);
-    if (!made) return; /* then the looks don't tell all, and the watcher asks of each thread */
+    if (!made) {
+        atomic_store(&lacks_seats, true); /* then the looks don't tell all, and the watcher asks of each thread */
+        return;
+    }
     made->thread = next_syscall()(SYS_gettid);
     made->of = &this_thread;
     made->file = NOT_YET;
@@ -72,7 +81,13 @@ void leave_seat(void) {
 }
 
 void mark_asleep(struct seat *seat, bool is_asleep) {
-    if (seat) atomic_store(&seat->is_asleep, is_asleep);
+    if (seat) atomic_store(&seat->descent, is_asleep ? FALLING : UP);
+}
+
+/* Unless it was woken meanwhile. */
+void mark_down(struct seat *seat) {
+    enum descent expected = FALLING;
+    if (seat) atomic_compare_exchange_strong(&seat->descent, &expected, DOWN);
 }
 
 void mark_asking(uint64_t moment) {
@@ -204,13 +219,16 @@ struct looked {
     bool has_left;
 };
 static struct looked *list;
-static size_t room, count, awake; /* in the list; of them, those whose threads aren't counted and haven't left */
+static size_t room, count;    /* in the list */
+static size_t awake, falling; /* so many are UP and haven't left, and so many are FALLING */
 static atomic_flag is_looking = ATOMIC_FLAG_INIT;
 
 static bool copy_seat(struct seat *seat, const uint64_t *moment) {
-    bool is_counted = atomic_load(&seat->is_asleep);
+    enum descent descent = atomic_load(&seat->descent);
+    bool is_counted = descent == DOWN;
     if (seat->of == &this_thread) return true;
-    if (!is_counted && !seat->has_left) awake++;
+    if (descent == UP && !seat->has_left) awake++;
+    if (descent == FALLING) falling++;
     if (is_counted && !has_handlers()) return true;
     if (moment && !seat->has_left && atomic_load(&seat->asked) == *moment) return true;
     if (count == room) return false;
@@ -231,7 +249,7 @@ static bool copy_seats(const uint64_t *moment) {
         list = more;
         room = 2 * needed;
     }
-    count = awake = 0;
+    count = awake = falling = 0;
     pthread_mutex_lock(&lock);
     for (struct seat *seat = seats; seat && fits; seat = seat->next) fits = copy_seat(seat, moment);
     pthread_mutex_unlock(&lock);
@@ -316,7 +334,7 @@ static bool are_undisturbed(void) {
     return true;
 }
 
-/* Nobody can have woken the only one that isn't counted. */
+/* Nobody can have woken the only one that isn't counted, for those that are have nobody to wake. */
 static struct look look_at_copies(void) {
     struct look look = {.rest = AT_REST};
     bool are_new;
@@ -340,6 +358,7 @@ static struct look look(const uint64_t *moment) {
     struct look look;
     if (not_counted == own) return (struct look){.rest = own > 0 ? AT_REST : AWAKE};
     if (!copy_seats(moment) || awake + own != not_counted) return (struct look){.rest = AWAKE, .is_partial = true};
+    if (falling > 0) return awake_look;
     look = look_at_copies();
     return (size_t)count_awake(&woken_then) == not_counted && woken_then == woken ? look : awake_look;
 }
@@ -352,4 +371,39 @@ struct look look_at_others(const uint64_t *moment) {
     found = look(moment);
     atomic_flag_clear(&is_looking);
     return found;
+}
+
+/* ---- threads that compute ---- */
+
+bool note_runs(void) {
+    bool fits;
+    QUIET;
+    if (atomic_flag_test_and_set(&is_looking)) return false;
+    fits = copy_seats(NULL);
+    for (size_t i = 0; i < count && fits; i++) list[i].seat->noted_run = run_of(list[i].seat->thread);
+    atomic_flag_clear(&is_looking);
+    return fits;
+}
+
+static bool has_run(struct seat *seat, uint64_t least) {
+    return run_of(seat->thread) - seat->noted_run >= least || rest_of(seat) != AWAKE;
+}
+
+static bool have_run(uint64_t least) {
+    unsigned long woken;
+    size_t not_counted = (size_t)count_awake(&woken);
+    if (atomic_load(&lacks_seats)) return true;
+    if (!copy_seats(NULL) || awake != not_counted) return false;
+    for (size_t i = 0; i < count; i++)
+        if (!list[i].is_counted && !has_run(list[i].seat, least)) return false;
+    return true;
+}
+
+bool have_others_run(uint64_t units) {
+    bool so;
+    QUIET;
+    if (atomic_flag_test_and_set(&is_looking)) return false;
+    so = have_run(units * UNIT);
+    atomic_flag_clear(&is_looking);
+    return so;
 }

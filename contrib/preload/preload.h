@@ -265,8 +265,10 @@ int count_awake(unsigned long *woken);
 /* The thread that calls is one of those that are looked at, and is one no more. */
 void take_seat(void);
 void leave_seat(void);
-/* Whether a thread sleeps in wait_at; a seat may be NULL. */
+/* Whether a thread begins to sleep in wait_at; and that it has given the lock back, and all but sleeps. A seat may be
+   NULL. */
 void mark_asleep(struct seat *seat, bool is_asleep);
+void mark_down(struct seat *seat);
 /* The thread that calls asks in vain at this moment. */
 void mark_asking(uint64_t moment);
 /* How many times threads that take part called self: what didn't change it made no call. */
@@ -283,6 +285,10 @@ struct look {
 };
 /* Looks at all that take part but this one. Who asked in vain at the moment, if one is given, counts as one at rest. */
 struct look look_at_others(const uint64_t *moment);
+/* Notes how long each of the others has run; whether it could. Whether each that doesn't sleep has run for so many UNITs
+   since then. */
+bool note_runs(void);
+bool have_others_run(uint64_t units);
 
 /* ---- log.c: a line for each call, as strace writes it ---- */
 

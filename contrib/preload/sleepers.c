@@ -244,6 +244,7 @@ static bool sleep_once(struct sleeper *s, const struct timespec *most, bool slee
     int quiet = this_thread.quiet, depth = this_thread.depth, awake = threads - asleep;
     bool is_over = false;
     pthread_mutex_unlock(&lock);
+    if (sleeps && !s->awaits_children) mark_down(s->seat);
     if (sleeps && awake > 0) tell_watcher(awake);
     if (depth + 1 < MOST_DEPTH) {
         this_thread.innermost = s;

@@ -28,6 +28,8 @@ static atomic_bool is_watching;
 enum { MORE = 20 * MILLISECOND, SLACK = 50 };
 /* So many turns of the watcher, each of a millisecond of real time. */
 enum { A_SECOND = 1000 };
+/* So long has a thread to have run that computes, and is not kept from running by a busy machine. */
+enum { A_WHILE = SECOND / 10 };
 
 static pthread_mutex_t timed_lock = PTHREAD_MUTEX_INITIALIZER;
 static struct timed *all_timed;
@@ -169,13 +171,24 @@ struct watch {
     int64_t last_turn;    /* in real time */
     unsigned long before; /* calls until then */
     int quiet, still;     /* so many turns without a call, and so many in which all slept, too */
+    bool has_noted;       /* how long each thread had run in the middle of the quiet turns */
     uint32_t pokes;
     int64_t pause; /* so long it sleeps next, whatever happens; 0 is until a poke */
 };
 
+/* A thread that computes for a second without a call may wait for another one that sleeps. One that a busy machine
+   doesn't let run isn't: so in the second half of that time each has to have run for a while. */
+static bool computes(struct watch *watch) {
+    if (watch->quiet < A_SECOND / 2) {
+        watch->has_noted = false;
+    } else if (!watch->has_noted) {
+        watch->has_noted = note_runs();
+    }
+    return watch->quiet > A_SECOND && watch->has_noted && have_others_run(A_WHILE);
+}
+
 /* All sleep, and only time or something outside can wake them: so they did a millisecond ago, and made no call in
-   between. A thread that computes for a second without a call may wait for another one that sleeps: then time goes on,
-   too. */
+   between. While a thread computes for long, time goes on, too. */
 static bool take_turn(struct watch *watch, struct look look, int64_t *pause) {
     enum rest rest = look.rest;
     bool moves;
@@ -184,7 +197,7 @@ static bool take_turn(struct watch *watch, struct look look, int64_t *pause) {
     watch->quiet = calls() == watch->before ? watch->quiet + 1 : 0;
     watch->still = watch->quiet > 0 && rest != AWAKE ? watch->still + 1 : 0;
     end_timed_waits(moment_now());
-    moves = (watch->still > 1 || watch->quiet > A_SECOND) && move_clock(pause);
+    moves = (computes(watch) || watch->still > 1) && move_clock(pause);
     if (moves) {
         watch->quiet = watch->still = 0;
     } else {
@@ -637,7 +650,7 @@ long call_futex(const long given[6]) {
     long bits = is_until ? given[5] : (long)FUTEX_BITSET_MATCH_ANY, status;
     struct timespec end;
     struct timed timed;
-    bool has_slept = false;
+    bool has_slept = false, has_changed = false;
     int error = 0;
     if (is_outside || !time || !READABLE(time) || !(is_until || (is_for && units_of(time) >= 0)))
         return next_syscall()(SYS_futex, given[0], given[1], given[2], given[3], given[4], given[5]);
@@ -647,11 +660,12 @@ long call_futex(const long given[6]) {
         status = next_syscall()(SYS_futex, given[0], operation, given[2], &timed.until, given[4], bits);
         if (status < 0) error = errno == ETIMEDOUT ? error_of_timed(&timed, ETIMEDOUT) : errno;
         /* Who wakes it has changed the word, perhaps between two of its sleeps. */
-        if (status < 0 && error == EAGAIN && has_slept) status = 0;
+        has_changed = status < 0 && error == EAGAIN && has_slept;
         has_slept = true;
         /* Woken by the watcher, it looks at the word and at the time once more. */
     } while (status < 0 ? error == SLEEP_ON : is_over(&timed));
     end_timed(&timed);
+    if (has_changed) return 0;
     if (status < 0) errno = error;
     return status;
 }

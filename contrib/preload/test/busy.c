@@ -79,10 +79,37 @@ static void wake_futex(void) {
     pthread_join(thread, NULL);
 }
 
+enum { TOGETHER = 8, ROUNDS = 20 };
+static pthread_barrier_t together;
+
+/* Whose wait ends first changes the word on which the others are about to look once more. */
+static void *wait_and_change(void *unused) {
+    struct timespec time = {0, 10000000};
+    for (int i = 0; i < ROUNDS; i++) {
+        uint32_t seen = shared_word;
+        pthread_barrier_wait(&together);
+        syscall(SYS_futex, &shared_word, FUTEX_WAIT_PRIVATE, seen, &time, NULL, 0);
+        shared_word++;
+        pthread_barrier_wait(&together);
+    }
+    return unused;
+}
+
+/* Waits on one word that end at one moment. */
+static void end_together(void) {
+    pthread_t threads[TOGETHER];
+    shared_word = 0;
+    pthread_barrier_init(&together, NULL, TOGETHER);
+    for (int i = 0; i < TOGETHER; i++) pthread_create(&threads[i], NULL, wait_and_change, NULL);
+    for (int i = 0; i < TOGETHER; i++) pthread_join(threads[i], NULL);
+    trace("waits that ended: %u", shared_word);
+}
+
 int main(void) {
     wait_for_timer();
     look_and_work();
     wait_on_futex();
     wake_futex();
+    end_together();
     return 0;
 }
