@@ -7,7 +7,7 @@
 #include <stdlib.h>
 #include <time.h>
 
-/* The most seconds that a thread may take to end once it was told that its order is over. */
+/* The most seconds that a thread may make no call once it was told that its order is over. */
 #define SECONDS_TO_END 5.0
 
 /* ---- tasks that are called back ---- */
@@ -191,12 +191,13 @@ static int start_threads(struct search *search, struct threads *threads) {
 /* Lets each task that sleeps come to its end, one after another. */
 static void end_threads(struct search *search, struct threads *threads) {
     pthread_mutex_t *lock = &search->order.kernel->lock;
+    double patience = search->options.patience < SECONDS_TO_END ? search->options.patience : SECONDS_TO_END;
     turns_end(&threads->turns);
     for (int i = 0; i < search->names.count && !search->is_abandoned; i++) {
         struct thread *thread = &threads->all[i];
         if (!thread->has_started) continue;
         turns_dismiss(&threads->turns, (uint32_t)i + 1);
-        if (wait_until(threads, has_ended, i, SECONDS_TO_END) < 0) {
+        if (wait_until(threads, has_ended, i, patience) < 0) {
             goes_on(search, i);
             return;
         }

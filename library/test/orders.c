@@ -1,6 +1,8 @@
 /* Every order: how many there are, which fail, and what is refused. Numbers of orders are counted here by binomials, or
    by a recursion over what the manual pages say of the calls. */
 #include "faults.h"
+#include <pthread.h>
+#include <unistd.h>
 
 static struct nippersage_result explore(const struct example *example, const struct nippersage_options *options,
                                         int wanted) {
@@ -283,6 +285,25 @@ static struct example in_threads(const struct example *example) {
     return threads;
 }
 
+/* A task that waits by hand has as many orders. */
+static int waits_by_hand(struct nippersage_task task, void *shared) {
+    struct shared *e = shared;
+    int me = (int)task.caller - 1, count;
+    struct epoll_event event;
+    if (e->at[me] == 1) return reads_all(task, shared);
+    count = e->count[me] ? nippersage_resume(task, &event, 1) : nippersage_wait_start(task, e->ep, &event, 1, -1);
+    e->count[me] = count == NIPPERSAGE_PARKED;
+    if (count == NIPPERSAGE_PARKED) return 1;
+    return next_at(task, e, count, 1);
+}
+
+static void by_hand(void) {
+    struct example example = {PIPE(waits_by_hand, EPOLLIN | EPOLLET, 3, 1)};
+    struct nippersage_result result = explore(&example, &(struct nippersage_options){.how = NIPPERSAGE_EVERY}, 0);
+    IS(result.runs, 50);
+    nippersage_result_free(&result);
+}
+
 /* ---- what is refused ---- */
 
 static int varies(struct nippersage_task task, void *shared) {
@@ -348,6 +369,33 @@ static void bad_tasks(void) {
     refused(none, NULL, -EINVAL, NIPPERSAGE_BAD_TASK, "the task 't' has one function, turn or run");
     none.count = 0;
     refused(none, NULL, -EINVAL, NIPPERSAGE_BAD_PROGRAM, "a program has a setup, and 1 to 63 tasks");
+}
+
+static pthread_mutex_t lock = PTHREAD_MUTEX_INITIALIZER;
+
+static int calls_under_a_lock(struct nippersage_task task, void *shared) {
+    pthread_mutex_lock(&lock);
+    nippersage_write(task, ((const struct shared *)shared)->writer, "a", 1);
+    pthread_mutex_unlock(&lock);
+    return 0;
+}
+
+static int never_ends(struct nippersage_task task, void *shared) {
+    struct epoll_event event;
+    nippersage_epoll_wait(task, ((const struct shared *)shared)->ep, &event, 1, -1);
+    while (pause()) continue;
+    return 0;
+}
+
+/* Threads that can't be ended are left alone, with what they use. */
+static void threads_that_stay(void) {
+    struct example locks = {.setup = watched_pipe, .mask = EPOLLIN, .count = 2,
+                            .tasks = {{.name = "a", .run = calls_under_a_lock}, {.name = "b", .run = calls_under_a_lock}}};
+    struct example stays = {.setup = watched_pipe, .mask = EPOLLIN, .count = 1,
+                            .tasks = {{.name = "a", .run = never_ends, .is_daemon = 1}}};
+    struct nippersage_options options = {.patience = 0.1};
+    refused(locks, &options, -ETIMEDOUT, NIPPERSAGE_STUCK, "the task b made no call for 0.1 seconds: it waits for something");
+    refused(stays, &options, -EINVAL, NIPPERSAGE_BAD_TASK, "the task a goes on though its order is over");
 }
 
 static void bad_schedules(void) {
@@ -432,11 +480,13 @@ int main(int argc, char **argv) {
     message();
     clocks();
     beside();
+    by_hand();
     bad_tasks();
     bad_schedules();
     bad_options();
     by_variable();
     history = argc > 1 ? argv[1] : "/dev/null";
     histories();
+    if (argc <= 2) threads_that_stay();
     return 0;
 }
