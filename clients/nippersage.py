@@ -21,10 +21,27 @@ import os
 import re
 import subprocess
 from datetime import timedelta
+from enum import IntFlag
 from fractions import Fraction
 
-IN, PRI, OUT, ERR, HUP, RDHUP = 1, 2, 4, 8, 16, 8192
-EXCLUSIVE, WAKEUP, ONESHOT, ET = 1 << 28, 1 << 29, 1 << 30, 1 << 31
+
+class Mask(IntFlag):
+    """Bits of epoll: what a registration asks for, and what a report shows. They are numbers, too."""
+
+    IN, PRI, OUT, ERR, HUP, RDHUP = 1, 2, 4, 8, 16, 8192
+    EXCLUSIVE, WAKEUP, ONESHOT, ET = 1 << 28, 1 << 29, 1 << 30, 1 << 31
+
+
+IN, PRI, OUT, ERR, HUP, RDHUP = Mask.IN, Mask.PRI, Mask.OUT, Mask.ERR, Mask.HUP, Mask.RDHUP
+EXCLUSIVE, WAKEUP, ONESHOT, ET = Mask.EXCLUSIVE, Mask.WAKEUP, Mask.ONESHOT, Mask.ET
+
+#: The numbers that each key of a line may have, as docs/script.md has them.
+_INT, _UINT, _ULONG = (-(1 << 31), (1 << 31) - 1), (0, (1 << 32) - 1), (0, (1 << 64) - 1)
+_RANGES = {
+    **dict.fromkeys(("ep", "fd", "to", "max", "clock"), _INT),
+    **dict.fromkeys(("by", "init", "mask"), _UINT),
+    **dict.fromkeys(("pid", "data", "value", "interval"), _ULONG),
+}
 
 #: The most calls of one Kernel. A run of the program has at most 100,000 lines, and the header is one.
 MOST_CALLS = 99_999
@@ -69,6 +86,16 @@ def audit(history, limits=None, program=None):
     if place[2] is not None:
         raise Illegal(int(place[2]), text.strip())
     return int(place[1])
+
+
+def _unfit(keys):
+    """Of the keys of a call those whose values don't fit, or all if no range tells which."""
+    unfit = {}
+    for key, value in keys.items():
+        least, most = _RANGES.get(key, (None, None))
+        if least is not None and not (isinstance(value, int) and least <= value <= most):
+            unfit[key] = value
+    return ", ".join(f"{key}: {value!r}" for key, value in (unfit or keys).items())
 
 
 def _limits_words(limits):
@@ -170,7 +197,7 @@ class Kernel:
         if "err" in answer:
             raise OSError(*answer["err"])
         if "bad" in answer:
-            raise ValueError(f"{op} takes no such values: {keys}")
+            raise ValueError(f"{op} takes no such {_unfit(keys)}")
         return answer
 
     def pipe(self, cloexec=False, *, by=0, pid=1):
@@ -210,7 +237,7 @@ class Kernel:
         self._call("ctl", ep=ep, act="del", fd=fd, by=by, pid=pid)
 
     def wait(self, ep, max=8, timeout=0, *, by=0, pid=1):
-        """A list of (bits, data), at most `max`, or None if the caller is parked.
+        """A list of (Mask, data), at most `max`, or None if the caller is parked.
 
         A `timeout` of 0 never parks, and one of less than 0 or None parks without a deadline."""
         end = _timeout(timeout)
@@ -222,7 +249,7 @@ class Kernel:
 
     @staticmethod
     def _reports(answer):
-        return [tuple(report) for report in answer["events"]] if "events" in answer else None
+        return [(Mask(bits), data) for bits, data in answer["events"]] if "events" in answer else None
 
     def read(self, fd, n, *, by=0, pid=1):
         """At most n bytes; b"" at the end of a stream."""

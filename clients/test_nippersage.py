@@ -147,8 +147,16 @@ class Client(unittest.TestCase):
 
     def test_what_is_no_call(self):
         with Kernel() as kernel:
-            with self.assertRaises(ValueError):
-                kernel.dup(1 << 31)
+            for call, words, key in (
+                (kernel.dup, (1 << 31,), "fd: 2147483648"),
+                (kernel.dup2, (0, "4"), "to: '4'"),
+                (kernel.add, (3, 4, 1 << 32), "mask: 4294967296"),
+                (kernel.add, (3, 4, 1, -1), "data: -1"),
+                (kernel.eventfd, (-1,), "init: -1"),
+            ):
+                with self.assertRaises(ValueError) as caught:
+                    call(*words)
+                self.assertTrue(str(caught.exception).endswith(f" takes no such {key}"))
             with self.assertRaises(ValueError):
                 kernel.write(1, bytes(40_000))
             self.assertEqual(kernel.dup(0), 3)

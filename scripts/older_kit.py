@@ -1,4 +1,4 @@
-"""What ./check-edits calls of the kit's rt, for a kit whose rt lacks it. rattle-kit-13b tries the edits of a crate one
+"""What scripts/check-edits calls of the kit's rt, for a kit whose rt lacks it. rattle-kit-13b tries the edits of a crate one
 after another and has no seed, so this makes one, as rattle-kit-13f does."""
 import os
 import shutil
@@ -58,5 +58,5 @@ class OlderKit:
 
 
 def completed(rt):
-    """Returns the kit's rt with all that ./check-edits calls of it."""
+    """Returns the kit's rt with all that scripts/check-edits calls of it."""
     return rt if hasattr(rt, "seeded") else OlderKit(rt)

@@ -1,5 +1,5 @@
-"""How ./check-edits tries edits, by the kit's rt, which is loaded as a module: where an edit is, which edits are
-tried in one check, and what each comes to. The head of ./check-edits says what counts as refused."""
+"""How scripts/check-edits tries edits, by the kit's rt, which is loaded as a module: where an edit is, which edits are
+tried in one check, and what each comes to. The head of scripts/check-edits says what counts as refused."""
 import collections
 import importlib.machinery
 import importlib.util

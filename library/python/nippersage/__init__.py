@@ -20,15 +20,17 @@ and refuses. `nippersage.orders` tries orders of what callers do.
 
 from ._kernel import Kernel, Part, Task
 from ._library import LIBRARY, library_version
-from ._numbers import (
-    ERR, ET, EXCLUSIVE, HUP, IN, ONESHOT, OUT, PRI, RDHUP, WAKEUP, Ended, Illegal, Limits,
-)
+from ._numbers import Ended, Illegal, Limits, Mask, Waiter
 from ._program import AUDITOR, LONGEST_LINE, MOST_CALLS, PROGRAM, audit
+from ._selector import Selector
 
 __version__ = "0.2.0"
 
+IN, PRI, OUT, ERR, HUP, RDHUP = Mask.IN, Mask.PRI, Mask.OUT, Mask.ERR, Mask.HUP, Mask.RDHUP
+EXCLUSIVE, WAKEUP, ONESHOT, ET = Mask.EXCLUSIVE, Mask.WAKEUP, Mask.ONESHOT, Mask.ET
+
 __all__ = [
-    "IN", "PRI", "OUT", "ERR", "HUP", "RDHUP", "EXCLUSIVE", "WAKEUP", "ONESHOT", "ET",
-    "Kernel", "Task", "Part", "Limits", "Ended", "Illegal", "audit",
+    "IN", "PRI", "OUT", "ERR", "HUP", "RDHUP", "EXCLUSIVE", "WAKEUP", "ONESHOT", "ET", "Mask",
+    "Kernel", "Task", "Part", "Selector", "Limits", "Waiter", "Ended", "Illegal", "audit",
     "library_version", "LIBRARY", "PROGRAM", "AUDITOR", "MOST_CALLS", "LONGEST_LINE",
 ]

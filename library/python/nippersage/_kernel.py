@@ -8,7 +8,7 @@ from typing import Any, List, Optional, Sequence, Tuple, Type, Union
 
 from . import _library
 from ._library import Library
-from ._numbers import Report, Time, long, number, seconds, units, unsigned, within
+from ._numbers import Report, Time, Waiter, long, masked, number, octets, seconds, units, unsigned, within
 from ._program import Program
 
 _ADD, _DEL, _MOD = 1, 2, 3
@@ -92,23 +92,25 @@ class Task:
         self, ep: int, act: int, fd: int, mask: int, data: int, by: Optional[int], pid: Optional[int],
     ) -> None:
         who, mask, data = self._who(by, pid), unsigned("mask", mask), long("data", data)
-        self._backend.ctl(who, number("ep", ep), act, number("fd", fd), mask, data)
+        self._backend.ctl(who, number("ep", ep), act, number("fd", fd), int(mask), data)
 
     def wait(
         self, ep: int, max: int = 8, timeout: Optional[Time] = 0,
         *, by: Optional[int] = None, pid: Optional[int] = None,
     ) -> Optional[List[Report]]:
-        """A wait by hand: at most `max` reports, each a tuple (bits, data), or None if the caller is parked.
+        """A wait by hand: at most `max` reports, each a tuple (Mask, data), or None if the caller is parked.
 
         A `timeout` of 0 never parks, and one of less than 0 or None parks without an end. A caller that is parked makes
         no call but `resume`.
         """
         who = self._who(by, pid)
-        return self._backend.wait(who, number("ep", ep), number("max", max), _timeout(timeout))
+        found = self._backend.wait(who, number("ep", ep), number("max", max), _timeout(timeout))
+        return None if found is None else masked(found)
 
     def resume(self, *, by: Optional[int] = None) -> Optional[List[Report]]:
         """What the parked wait of the caller reports, or None if it is still parked."""
-        return self._backend.resume(self._who(by, None))
+        found = self._backend.resume(self._who(by, None))
+        return None if found is None else masked(found)
 
     def epoll_wait(
         self, ep: int, max: int = 8, timeout: Optional[Time] = None,
@@ -118,11 +120,12 @@ class Task:
 
         Other threads may use the kernel meanwhile. As soon as all that are inside of a call sleep in such waits, the
         clock goes on to the next moment at which something happens. So a wait for an hour comes back at once if nobody
-        does anything. EDEADLK if nothing can end it: then the caller is still parked. A thread that is between two
-        calls is waited for if it takes part (`Kernel.take_part`). It needs the library.
+        does anything. EDEADLK if nothing can end it, and its text says who waits at what: then the caller is still
+        parked. A thread that is between two calls is waited for if it takes part (`Kernel.take_part`). It needs the
+        library.
         """
         who = self._who(by, pid)
-        return self._backend.epoll_wait(who, number("ep", ep), number("max", max), _timeout(timeout))
+        return masked(self._backend.epoll_wait(who, number("ep", ep), number("max", max), _timeout(timeout)))
 
     def read(self, fd: int, n: int, *, by: Optional[int] = None, pid: Optional[int] = None) -> bytes:
         """At most n bytes; b"" at the end of a stream."""
@@ -130,7 +133,7 @@ class Task:
 
     def write(self, fd: int, data: bytes, *, by: Optional[int] = None, pid: Optional[int] = None) -> int:
         """How many of the bytes were taken. A kernel that is a program takes some 32,000 bytes at once: see `fill`."""
-        return self._backend.write(self._who(by, pid), number("fd", fd), bytes(data))
+        return self._backend.write(self._who(by, pid), number("fd", fd), octets("data", data))
 
     def fill(self, fd: int, byte: int, count: int, *, by: Optional[int] = None, pid: Optional[int] = None) -> int:
         """Writes a byte so many times, at most 1,048,576."""
@@ -185,7 +188,7 @@ class Task:
 class Kernel(Task):
     """A kernel in its opening state, and of its tasks the one of caller 0 in process 1.
 
-    `limits` are `Limits`, or six numbers. `history` is the path of a file, made anew, that gets the history, a line
+    `limits` are `Limits`, or six numbers. One that is out of its range is an OSError with EINVAL. `history` is the path of a file, made anew, that gets the history, a line
     for each event: from the library at the end, from a program as it goes.
 
     It runs in this process by the library, `LIBRARY`. If there is none, or a `program` is named, it is a program in a
@@ -234,6 +237,13 @@ class Kernel(Task):
     def is_marked(self, by: int) -> bool:
         """Whether this caller is parked and marked: its wait may have ended, and `resume` tells."""
         return self._backend.is_marked(unsigned("by", by))
+
+    def waiters(self) -> List[Waiter]:
+        """The parked callers with their waits, the one that was parked first at the beginning.
+
+        A caller counts until its wait was resumed.
+        """
+        return self._backend.waiters()
 
     def take_part(self) -> Part:
         """Says that one thread more takes part, until what comes back has ended.
@@ -287,6 +297,8 @@ def _timeout(timeout: Optional[Time]) -> int:
         return 0
     if timeout is None or timeout == float("inf"):
         return -1
+    if isinstance(timeout, str):
+        return units("timeout", timeout)  # which refuses it by its name
     is_negative = timeout < _NO_TIME if isinstance(timeout, timedelta) else timeout < 0
     return -1 if is_negative else units("timeout", timeout)
 

@@ -11,12 +11,14 @@ from ctypes import (
 )
 from typing import Any, Dict, List, Optional, Sequence, Tuple
 
-from ._numbers import UNITS, Ended, Limits, Report, refusal
+from ._numbers import UNITS, Ended, Limits, Waiter, limits_of, refusal, seconds
 
 _HERE = os.path.dirname(os.path.abspath(__file__))
 
 _PARKED = -4096
-_EINVAL = 22
+_EINVAL, _EDEADLK = 22, 35
+#: Of how many callers EDEADLK tells where they wait.
+_MOST_TOLD = 8
 _CLOEXEC, _SEMAPHORE, _ABSTIME = 0o2000000, 1, 1
 _AF_UNIX, _SOCK_STREAM, _SHUT_WR = 1, 1, 1
 #: No read gives more bytes: the largest capacity of a pipe or socket.
@@ -66,6 +68,16 @@ class _Itimerspec(ctypes.Structure):
     _fields_ = [("interval", _Timespec), ("value", _Timespec)]
 
 
+class _Waiter(ctypes.Structure):
+    _fields_ = [
+        ("caller", c_uint32), ("pid", c_uint64), ("epfd", c_int), ("most", c_int), ("has_timeout", c_int),
+        ("timeout", _Timespec),
+    ]
+
+
+#: One report of a wait: the bits, and the data.
+_Report = Tuple[int, int]
+
 #: What each function takes; all but the last few answer an int.
 _TAKEN: Dict[str, Tuple[Any, ...]] = {
     "open": (POINTER(_Limits), POINTER(c_void_p)),
@@ -88,6 +100,7 @@ _TAKEN: Dict[str, Tuple[Any, ...]] = {
     "first_marked": (c_void_p, POINTER(c_uint32)),
     "is_parked": (c_void_p, c_uint32),
     "is_marked": (c_void_p, c_uint32),
+    "waiters": (c_void_p, c_void_p, c_int),
     "shutdown": (Who, c_int, c_int),
     "dup": (Who, c_int),
     "dup2": (Who, c_int, c_int),
@@ -152,10 +165,10 @@ class Library:
 
     def __init__(self, limits: Optional[Sequence[int]], history: Optional[str]) -> None:
         assert LIBRARY is not None
+        own = limits_of(limits)
         f = self._f = _load(LIBRARY)
-        own = Limits(*limits) if limits is not None else Limits()
         pointer = c_void_p()
-        status = f.open(byref(_limits(own)), byref(pointer))
+        status = f.open(byref(_Limits(*own)), byref(pointer))
         if status < 0:
             raise refusal(-status)
         self._holder = _Holder(f, pointer.value or 0)
@@ -195,6 +208,8 @@ class Library:
             return result
         if self._ended and result == -_EINVAL:
             raise Ended("the kernel has ended")
+        if result == -_EDEADLK:
+            raise OSError(_EDEADLK, _deadlock(self.waiters()))
         raise refusal(-result)
 
     def pipe(self, who: Who, cloexec: bool) -> Tuple[int, int]:
@@ -224,17 +239,17 @@ class Library:
     def ctl(self, who: Who, ep: int, act: int, fd: int, mask: int, data: int) -> None:
         self._done(self._f.epoll_ctl(who, ep, act, fd, _EVENT.pack(mask, data)))
 
-    def wait(self, who: Who, ep: int, max: int, timeout: int) -> Optional[List[Report]]:
+    def wait(self, who: Who, ep: int, max: int, timeout: int) -> Optional[List[_Report]]:
         most = self._most_of(who, max)
         events = _room(_EVENT.size * most)
         return self._reports(self._f.pwait2_start(who, ep, events, most, _end(timeout)), events)
 
-    def epoll_wait(self, who: Who, ep: int, max: int, timeout: int) -> List[Report]:
+    def epoll_wait(self, who: Who, ep: int, max: int, timeout: int) -> List[_Report]:
         most = self._most_of(who, max)
         events = _room(_EVENT.size * most)
         return self._reports(self._f.epoll_pwait2(who, ep, events, most, _end(timeout)), events) or []
 
-    def resume(self, who: Who) -> Optional[List[Report]]:
+    def resume(self, who: Who) -> Optional[List[_Report]]:
         most = self._rooms.get(who.caller, 1)
         events = _room(_EVENT.size * most)
         return self._reports(self._f.resume(who, events, most), events)
@@ -246,7 +261,7 @@ class Library:
             self._rooms[who.caller] = most
         return most
 
-    def _reports(self, result: int, events: Any) -> Optional[List[Report]]:
+    def _reports(self, result: int, events: Any) -> Optional[List[_Report]]:
         if result == _PARKED:
             return None
         size = self._done(result) * _EVENT.size
@@ -318,6 +333,14 @@ class Library:
     def is_marked(self, by: int) -> bool:
         return self._done(self._f.is_marked(self._pointer(), by)) == 1
 
+    def waiters(self) -> List[Waiter]:
+        pointer, room = self._pointer(), (_Waiter * 0)()
+        count = self._done(self._f.waiters(pointer, None, 0))
+        while count > len(room):
+            room = (_Waiter * count)()
+            count = self._done(self._f.waiters(pointer, room, len(room)))
+        return [_waiter(it) for it in room[:count]]
+
     def tasks(self, more: int) -> None:
         self._done(self._f.tasks(self._pointer(), more))
 
@@ -339,11 +362,17 @@ def _room(size: int) -> Any:
     return (c_char * (size if size > 0 else 1))()
 
 
-def _limits(limits: Limits) -> _Limits:
-    """Limits that no number of C holds are none of the kernel's either."""
-    if not all(0 <= limit < 1 << 32 for limit in limits):
-        raise refusal(_EINVAL)
-    return _Limits(*limits)
+def _waiter(found: _Waiter) -> Waiter:
+    timeout = seconds(_units(found.timeout)) if found.has_timeout else None
+    return Waiter(found.caller, found.pid, found.epfd, found.most, timeout)
+
+
+def _deadlock(waiters: List[Waiter]) -> str:
+    """What EDEADLK says: who waits at what."""
+    told = [str(it) for it in waiters[:_MOST_TOLD]]
+    if len(waiters) > _MOST_TOLD:
+        told.append(f"and {len(waiters) - _MOST_TOLD} more wait")
+    return f"EDEADLK: no event can end the waits: {', '.join(told)}"
 
 
 def _end(timeout: int) -> Any:

@@ -2,16 +2,50 @@
 
 from __future__ import annotations
 
+import errno
 from datetime import timedelta
+from enum import IntFlag
 from fractions import Fraction
 from operator import index
-from typing import NamedTuple, Tuple, Union
+from typing import Dict, Iterable, List, NamedTuple, Optional, Sequence, Tuple, Union
 
+#: The bits of epoll as plain numbers. `Mask` has them for callers.
 IN, PRI, OUT, ERR, HUP, RDHUP = 1, 2, 4, 8, 16, 8192
 EXCLUSIVE, WAKEUP, ONESHOT, ET = 1 << 28, 1 << 29, 1 << 30, 1 << 31
 
+
+class Mask(IntFlag):
+    """Bits of epoll: what a registration asks for, and what a report shows. They are numbers, too."""
+
+    IN, PRI, OUT, ERR, HUP, RDHUP = IN, PRI, OUT, ERR, HUP, RDHUP
+    EXCLUSIVE, WAKEUP, ONESHOT, ET = EXCLUSIVE, WAKEUP, ONESHOT, ET
+
+    def __repr__(self) -> str:
+        """The names of the bits, as they are written in a call: `IN|ET`."""
+        value = int(self)
+        names = [name for name, bit in Mask.__members__.items() if value & int(bit)]
+        rest = value & ~sum(int(bit) for bit in Mask.__members__.values())
+        return "|".join(names + ([hex(rest)] if rest or not names else []))
+
+
+class _Masks(Dict[int, Mask]):
+    """The masks of numbers, each made once."""
+
+    def __missing__(self, bits: int) -> Mask:
+        mask = self[bits] = Mask(bits)
+        return mask
+
+
+_masks = _Masks()
+
 #: One report of a wait: the bits that are shown, and the data of the registration.
-Report = Tuple[int, int]
+Report = Tuple[Mask, int]
+
+
+def masked(reports: Iterable[Tuple[int, int]]) -> List[Report]:
+    """Reports, whose bits were numbers."""
+    return [(_masks[bits], data) for bits, data in reports]
+
 
 #: A time: seconds, or a timedelta.
 Time = Union[float, timedelta]
@@ -53,21 +87,64 @@ class Limits(NamedTuple):
     sock_bytes: int = 65_536
 
 
+#: The least and the most of each limit.
+RANGES = Limits(
+    (3, 65_536), (1, 1_000_000), (1, 10_000), (0, 1_000_000), (4_096, 1_048_576), (1, 1_048_576),  # type: ignore
+)
+
+
+def limits_of(limits: Optional[Sequence[int]]) -> Limits:
+    """The limits, or those by default. OSError with EINVAL for one that is out of its range, by its name."""
+    if limits is None:
+        return Limits()
+    if len(limits) != len(Limits._fields):
+        raise ValueError(f"limits are {len(Limits._fields)} numbers, {', '.join(Limits._fields)}, and not {len(limits)}")
+    own = Limits(*limits)
+    for name, value, (least, most) in zip(Limits._fields, own, RANGES):  # type: ignore
+        if not least <= whole(name, value) <= most:
+            raise OSError(errno.EINVAL, f"EINVAL: {name} is {value}, and goes from {least} to {most}")
+    return own
+
+
+class Waiter(NamedTuple):
+    """A parked caller, and its wait, as `Kernel.waiters` tells it."""
+
+    by: int
+    pid: int
+    ep: int
+    max: int
+    #: In seconds, rounded up to a microsecond. None for a wait without end.
+    timeout: Optional[float]
+
+    def __str__(self) -> str:
+        of_process = "" if self.pid == 1 else f" of process {self.pid}"
+        end = "without a timeout" if self.timeout is None else f"with a timeout of {self.timeout} s"
+        return f"caller {self.by}{of_process} waits at instance {self.ep} {end}"
+
+
 def refusal(number: int) -> OSError:
     """The error of a number of Linux: as BlockingIOError for EAGAIN, as OSError if there is no class of its own."""
     return OSError(number, NAMES.get(number, f"error number {number}"))
 
 
+def whole(name: str, value: int) -> int:
+    """The value, which has to be a whole number."""
+    try:
+        return index(value)
+    except TypeError:
+        raise TypeError(f"{name} is a whole number, and not {value!r}") from None
+
+
 def within(name: str, value: int, least: int, most: int) -> int:
     """The value, which has to be a whole number of this range."""
-    if not least <= index(value) <= most:
+    if not least <= whole(name, value) <= most:
         raise ValueError(f"{name} is a number from {least} to {most}, and not {value}")
     return value
 
 
 def number(name: str, value: int) -> int:
     """A number of 32 bits with a sign."""
-    if -0x8000_0000 <= index(value) <= 0x7FFF_FFFF:
+    if type(value) is int and -0x8000_0000 <= value <= 0x7FFF_FFFF:
         return value
     return within(name, value, -0x8000_0000, 0x7FFF_FFFF)
 
@@ -82,6 +159,13 @@ def long(name: str, value: int) -> int:
     return within(name, value, 0, (1 << 64) - 1)
 
 
+def octets(name: str, value: bytes) -> bytes:
+    """Bytes, or what can be seen as such, as a bytearray."""
+    if isinstance(value, (int, str)):
+        raise TypeError(f"{name} is bytes, and not {value!r}")
+    return bytes(value)
+
+
 def units(name: str, time: Time) -> int:
     """So many of the kernel's units, rounded up.
 
@@ -90,6 +174,8 @@ def units(name: str, time: Time) -> int:
     three floats may be, to one part in 2^51. In 26 days that is a nanosecond. Any other float is rounded up.
     """
     exact = Fraction(time // _UNIT, UNITS) if isinstance(time, timedelta) else time
+    if not hasattr(exact, "as_integer_ratio"):
+        raise TypeError(f"{name} is a time in seconds or a timedelta, and not {time!r}")
     if not 0 <= exact <= _LONGEST:
         raise ValueError(f"{name} is a time of 0 to {_LONGEST} seconds, and not {time}")
     whole, parts = exact.as_integer_ratio()

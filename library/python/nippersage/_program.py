@@ -9,7 +9,7 @@ import shutil
 import subprocess
 from typing import Any, Dict, List, Optional, Sequence, Tuple
 
-from ._numbers import Ended, Illegal, Report
+from ._numbers import Ended, Illegal, limits_of
 
 #: The first line of a run, which is its own answer: the times of the others are in microseconds.
 _HEADER = b'{"version":2}\n'
@@ -40,7 +40,7 @@ AUDITOR = _find("epaudit", "NIPPERSAGE_EPAUDIT")
 
 #: What a program can't be asked.
 _OF_THE_LIBRARY = {
-    "epoll_wait", "next_moment", "first_marked", "is_parked", "is_marked", "tasks", "reserve", "history", "check",
+    "epoll_wait", "next_moment", "first_marked", "is_parked", "is_marked", "waiters", "tasks", "reserve", "history", "check",
 }
 
 Who = Dict[str, int]
@@ -74,6 +74,7 @@ class Program:
     """A kernel in a process of its own. Each call is a line of JSON, and so is its answer."""
 
     def __init__(self, limits: Optional[Sequence[int]], program: Optional[str], history: Optional[str]) -> None:
+        limits_of(limits)  # one that is out of its range is told at once
         words = [program or PROGRAM] + _limits_words(limits)
         if history is not None:
             words += ["--history", os.path.abspath(history)]
@@ -164,14 +165,14 @@ class Program:
     def ctl(self, who: Who, ep: int, act: int, fd: int, mask: int, data: int) -> None:
         self._call("ctl", who, ep=ep, act=act, fd=fd, mask=mask, data=data)
 
-    def wait(self, who: Who, ep: int, max: int, timeout: int) -> Optional[List[Report]]:
+    def wait(self, who: Who, ep: int, max: int, timeout: int) -> Optional[List[Tuple[int, int]]]:
         return self._reports(self._call("wait", who, ep=ep, max=max, timeout=timeout))
 
-    def resume(self, who: Who) -> Optional[List[Report]]:
+    def resume(self, who: Who) -> Optional[List[Tuple[int, int]]]:
         return self._reports(self._call("resume", {"by": who["by"]}))
 
     @staticmethod
-    def _reports(answer: Dict[str, Any]) -> Optional[List[Report]]:
+    def _reports(answer: Dict[str, Any]) -> Optional[List[Tuple[int, int]]]:
         return [(bits, data) for bits, data in answer["events"]] if "events" in answer else None
 
     def read(self, who: Who, fd: int, n: int) -> bytes:

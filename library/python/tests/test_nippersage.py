@@ -24,7 +24,7 @@ sys.path.insert(0, FOLDER)
 
 from nippersage import (
     AUDITOR, ET, EXCLUSIVE, HUP, IN, LIBRARY, MOST_CALLS, ONESHOT, OUT, PROGRAM, Ended, Illegal, Kernel, Limits,
-    __version__, audit, library_version,
+    Mask, __version__, audit, library_version,
 )
 from nippersage._numbers import seconds, units
 
@@ -261,6 +261,58 @@ class Calls:
                 kernel.dup(0, by=1 << 32)
             self.assertEqual(kernel.dup(0), 3)
 
+    def test_what_does_not_fit_is_named(self):
+        with self.make() as kernel:
+            for call, words, name in (
+                (kernel.dup, (1 << 31,), "fd"),
+                (kernel.dup2, (0, "4"), "to"),
+                (kernel.dup, (None,), "fd"),
+                (kernel.add, (3, 4, 1 << 32), "mask"),
+                (kernel.add, (3, 4, IN, -1), "data"),
+                (kernel.wait, (3, 1.5), "max"),
+                (kernel.wait, (3, 8, "1"), "timeout"),
+                (kernel.read, (0, 1 << 32), "n"),
+                (kernel.write, (1, "abc"), "data"),
+                (kernel.write, (1, 5), "data"),
+                (kernel.settime, (3, 1, -1), "interval"),
+                (kernel.task, ("1",), "by"),
+            ):
+                with self.assertRaises((TypeError, ValueError)) as caught:
+                    call(*words)
+                self.assertRegex(str(caught.exception), f"^{name} is ")
+            self.assertEqual(kernel.write(1, bytearray(b"ab")), 2)
+
+    def test_masks(self):
+        with self.make() as kernel:
+            reader, writer = kernel.pipe()
+            instance = kernel.epoll()
+            kernel.add(instance, reader, IN | ET, data=1)
+            kernel.add(instance, writer, 4, data=2)
+            kernel.write(writer, b"a")
+            kernel.close(reader)
+            ((mask, data),) = kernel.wait(instance)
+            self.assertEqual((mask, data), (12, 2))
+            self.assertIsInstance(mask, Mask)
+            self.assertEqual(repr((mask, IN | ET, Mask(0), Mask(1 << 20))), "(OUT|ERR, IN|ET, 0x0, 0x100000)")
+
+    def test_limits_out_of_their_ranges(self):
+        """The ranges are those of docs/script.md."""
+        ranges = (
+            ("descriptors", 3, 65_536), ("files", 1, 1_000_000), ("processes", 1, 10_000),
+            ("watches", 0, 1_000_000), ("pipe_bytes", 4_096, 1_048_576), ("sock_bytes", 1, 1_048_576),
+        )
+        for name, least, most in ranges:
+            for value in (least, most):
+                with self.make(limits=Limits()._replace(**{name: value})) as kernel:
+                    kernel.exit()
+            for value in (least - 1, most + 1, 1 << 32):
+                with self.assertRaises(OSError) as caught:
+                    self.make(limits=Limits()._replace(**{name: value}))
+                self.assertEqual(caught.exception.errno, errno.EINVAL)
+                self.assertIn(f"{name} is {value}, and goes from {least} to {most}", str(caught.exception))
+        with self.assertRaises(ValueError):
+            self.make(limits=(16, 16))
+
     def test_the_end(self):
         with self.make() as kernel:
             kernel.pipe()
@@ -293,9 +345,25 @@ class OverLibrary(Calls, Refusals):
             self.assertEqual(kernel.now(), 3_600.000001)
             kernel.close(timer)
             self.assertIsNone(kernel.next_moment())
-            self.expect_refusal(errno.EDEADLK, kernel.epoll_wait, instance)
+            self.assertIsNone(kernel.wait(timer + 1, max=3, timeout=-1, by=7))
+            with self.assertRaisesRegex(OSError, "caller 7 waits at instance 4 without a timeout, caller 0 waits at instance 4"):
+                kernel.epoll_wait(instance)
             self.assertTrue(kernel.is_parked(0))
+            self.assertEqual(kernel.waiters(), [(7, 1, instance, 3, None), (0, 1, instance, 8, None)])
+            self.assertIsNone(kernel.wait(instance, timeout=0.25, by=8))
+            self.assertEqual(kernel.waiters()[2:], [(8, 1, instance, 8, 0.25)])
             self.assertIsNone(kernel.resume())
+
+    def test_a_deadlock_of_many(self):
+        """Of more callers than eight it tells how many they are."""
+        with Kernel() as kernel:
+            instance = kernel.epoll()
+            for caller in range(1, 10):
+                kernel.wait(instance, timeout=None, by=caller)
+            with self.assertRaises(OSError) as caught:
+                kernel.epoll_wait(instance)
+            self.assertEqual(caught.exception.errno, errno.EDEADLK)
+            self.assertIn("caller 8 waits at instance 3 without a timeout, and 2 more wait", str(caught.exception))
 
     def test_questions(self):
         with Kernel() as kernel:
@@ -364,10 +432,6 @@ class OverLibrary(Calls, Refusals):
         told = run_anew(words)
         self.assertEqual((told.returncode, told.stdout), (0, b"ended\n"))
 
-    def test_limits_that_are_none(self):
-        for limits in ((2, 16, 2, 1, 4_096, 4_096), (-1, 16, 2, 1, 4_096, 4_096), (1 << 32, 1, 1, 1, 4_096, 1)):
-            self.expect_refusal(errno.EINVAL, Kernel, limits=limits)
-
     def test_histories(self):
         with Kernel() as kernel:
             kernel.reserve(10)
@@ -387,7 +451,7 @@ class Readme(unittest.TestCase):
     def test_its_programs(self):
         with open(os.path.join(FOLDER, "README.md")) as page:
             programs = re.findall(r"^```python\n(.*?)^```$", page.read(), re.M | re.S)
-        self.assertEqual(len(programs), 3)
+        self.assertEqual(len(programs), 4)
         for program in programs:
             told = run_anew(program)
             self.assertEqual((told.returncode, told.stderr), (0, b""))
@@ -415,11 +479,11 @@ class OverProgram(Calls, Refusals):
             self.assertEqual(kernel.dup(0), 3)
 
     def test_a_program_that_ended(self):
-        with self.make(limits=(1, 1, 1, 1, 1, 1)) as kernel:
+        with Kernel(program="/bin/false") as kernel:
             with self.assertRaises(Ended):
                 kernel.dup(0)
                 kernel.dup(0)
-            self.assertEqual(kernel.end(), 2)
+            self.assertEqual(kernel.end(), 1)
 
     def test_what_needs_the_library(self):
         with self.make() as kernel:

@@ -1,4 +1,4 @@
-//! Asks both kernels step by step, and again if a step was refused for want of memory. `.ci/sweep` refuses each
+//! Asks both kernels step by step, and again if a step was refused for want of memory. `gate/sweep` refuses each
 //! request of it, one in each run. What a caller can see has to be the same before and after a step that is answered
 //! ENOMEM, and asked again it has to be answered as with ample memory. The words say what is asked of which kernel:
 //!

@@ -1,5 +1,5 @@
 /* Preloaded, it refuses one request for memory of a program: the one of the number REFUSE, counted from 1. If it did, it
-   makes the file REFUSED. Without REFUSE it refuses none. For .ci/sweep. */
+   makes the file REFUSED. Without REFUSE it refuses none. For gate/sweep. */
 #include <dlfcn.h>
 #include <fcntl.h>
 #include <stdatomic.h>

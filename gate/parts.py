@@ -31,7 +31,7 @@ RUNS = 2
 ORACLE_SEEDS = 100
 #: The scripts of the repository that test something, with their words: each counts in its last line.
 SCRIPTS = {
-    "compare": [".ci/compare"],
+    "compare": ["gate/compare"],
     "timeline": ["contrib/timeline/check"],
     "pictures": ["docs/pictures/draw", "--check"],
 }
@@ -244,7 +244,7 @@ class Parts:
         return self.counted("replay", [TOP / "contrib/replay/check", self.built["epsim"], self.built[LIBRARY]])
 
     def streams(self):
-        return self.counted("streams", [TOP / ".ci/streams", self.built["epsim"]])
+        return self.counted("streams", [TOP / "gate/streams", self.built["epsim"]])
 
     def oracle(self):
         """Random scripts with exclusive registrations, of both kinds on both kernels, by rules told once more."""
@@ -261,7 +261,7 @@ class Parts:
         shutil.copytree(self.built[LIBRARY], parts)
         for name in PROGRAMS:
             shutil.copy(self.built[name], parts / name)
-        status, out, said = self.run("release", [TOP / "package", self.room], PARTS=str(parts))
+        status, out, said = self.run("release", [TOP / "scripts/package", self.room], PARTS=str(parts))
         if status:
             return Result(0, ["release"], said + out)
         return self.counted("release", [TOP / "library/test_package", out.split()[-1]])
@@ -279,7 +279,7 @@ class Parts:
         words = ["--library", self.built[LIBRARY] / "libnippersage.a"]
         is_whole = name == "sweep_all"
         words += ["--steps", self.built["ep_sweep"]] if is_whole else ["--each", str(REFUSED_EACH)]
-        return self.counted(name, [TOP / ".ci/sweep", *words, *(self.built[it] for it in PROGRAMS)])
+        return self.counted(name, [TOP / "gate/sweep", *words, *(self.built[it] for it in PROGRAMS)])
 
     def counted(self, name, words, **more):
         """A script of the repository whose last line is `N passed, N failed`, maybe with how many it skipped."""
