@@ -105,12 +105,12 @@ class Task:
         """
         who = self._who(by, pid)
         found = self._backend.wait(who, number("ep", ep), number("max", max), _timeout(timeout))
-        return None if found is None else masked(found)
+        return masked(found) if found else found
 
     def resume(self, *, by: Optional[int] = None) -> Optional[List[Report]]:
         """What the parked wait of the caller reports, or None if it is still parked."""
         found = self._backend.resume(self._who(by, None))
-        return None if found is None else masked(found)
+        return masked(found) if found else found
 
     def epoll_wait(
         self, ep: int, max: int = 8, timeout: Optional[Time] = None,
@@ -133,7 +133,8 @@ class Task:
 
     def write(self, fd: int, data: bytes, *, by: Optional[int] = None, pid: Optional[int] = None) -> int:
         """How many of the bytes were taken. A kernel that is a program takes some 32,000 bytes at once: see `fill`."""
-        return self._backend.write(self._who(by, pid), number("fd", fd), octets("data", data))
+        given = data if type(data) is bytes else octets("data", data)
+        return self._backend.write(self._who(by, pid), number("fd", fd), given)
 
     def fill(self, fd: int, byte: int, count: int, *, by: Optional[int] = None, pid: Optional[int] = None) -> int:
         """Writes a byte so many times, at most 1,048,576."""
@@ -188,8 +189,9 @@ class Task:
 class Kernel(Task):
     """A kernel in its opening state, and of its tasks the one of caller 0 in process 1.
 
-    `limits` are `Limits`, or six numbers. One that is out of its range is an OSError with EINVAL. `history` is the path of a file, made anew, that gets the history, a line
-    for each event: from the library at the end, from a program as it goes.
+    `limits` are `Limits`, or six numbers. One that is out of its range is an OSError with EINVAL. `history` is the path
+    of a file, made anew, that gets the history, a line for each event: from the library at the end, from a program as
+    it goes.
 
     It runs in this process by the library, `LIBRARY`. If there is none, or a `program` is named, it is a program in a
     process of its own, by default `PROGRAM`. Then one thread at a time may use it, and it answers `MOST_CALLS` calls at

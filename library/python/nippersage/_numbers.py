@@ -98,7 +98,8 @@ def limits_of(limits: Optional[Sequence[int]]) -> Limits:
     if limits is None:
         return Limits()
     if len(limits) != len(Limits._fields):
-        raise ValueError(f"limits are {len(Limits._fields)} numbers, {', '.join(Limits._fields)}, and not {len(limits)}")
+        names = ", ".join(Limits._fields)
+        raise ValueError(f"limits are {len(Limits._fields)} numbers, {names}, and not {len(limits)}")
     own = Limits(*limits)
     for name, value, (least, most) in zip(Limits._fields, own, RANGES):  # type: ignore
         if not least <= whole(name, value) <= most:
@@ -137,6 +138,8 @@ def whole(name: str, value: int) -> int:
 
 def within(name: str, value: int, least: int, most: int) -> int:
     """The value, which has to be a whole number of this range."""
+    if type(value) is int and least <= value <= most:
+        return value
     if not least <= whole(name, value) <= most:
         raise ValueError(f"{name} is a number from {least} to {most}, and not {value}")
     return value
