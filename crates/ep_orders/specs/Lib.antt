@@ -1,0 +1,4 @@
+pub mod Place
+pub mod Orders
+pub mod Walk
+pub mod Explorer

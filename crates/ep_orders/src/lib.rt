@@ -1,0 +1,17 @@
+//! Every order of what callers do: each order in which their lines of events can come to a kernel is run once.
+#![tactic(auto)]
+
+mod explorer;
+mod fault;
+mod orders;
+mod scenario;
+mod turn;
+mod visitor;
+mod walk;
+
+pub use crate::explorer::Makes;
+pub use crate::fault::Fault;
+pub use crate::orders::{Explored, explore};
+pub use crate::scenario::{Line, Scenario};
+pub use crate::turn::{ClockTurns, Rules, Turn};
+pub use crate::visitor::Visitor;
