@@ -64,8 +64,8 @@ pub record Goes {A : Type 0} (runs : List (List (Taken A))) (before : List (Take
   pub way_is : taken.0.way ≡ way
   pub ways_is : taken.0.ways ≡ ways
 
--- Every run, each once: wherever one of them had a choice, each way of it was gone. Any two are the same up to a choice,
--- and then go two of its ways.
+-- Every run, each once: wherever one of them had a choice, each way of it was gone. Any two are the same up to a
+-- choice, and then go two of its ways.
 pub record IsEveryRun {A : Type 0} (runs : List (List (Taken A))) : Type 0 where
   pub some : (xs : List (Taken A)) × Contains runs xs
   pub once : AllPairs IsBefore runs
