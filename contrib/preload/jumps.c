@@ -17,6 +17,7 @@ static uintptr_t target_of(const struct __jmp_buf_tag *buffer) {
 
 static void leave_below(uintptr_t target) {
     leave_waits_below(target);
+    leave_timed_below(target);
     leave_stacks_below(target);
 }
 

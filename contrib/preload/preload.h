@@ -10,6 +10,7 @@
 
 #include <errno.h>
 #include <fcntl.h>
+#include <pthread.h>
 #include <signal.h>
 #include <stdatomic.h>
 #include <stdbool.h>
@@ -166,6 +167,7 @@ void tell_what_came_again(void);
 /* ---- signals.c: handlers of signals, and when they run ---- */
 
 struct sleeper;
+struct timed;
 struct seat;
 enum { MOST_DEPTH = 8, MOST_HELD = 16 };
 /* What the shim keeps of a thread. A handler that breaks in may find any state of it but a wrong one. */
@@ -179,6 +181,7 @@ struct thread_state {
     _Atomic unsigned long calls; /* so often it called self */
     uint64_t mask;             /* of the real kernel's signals */
     struct sleeper *innermost; /* the wait in which a handler would run now, or NULL */
+    struct timed *timed;       /* the innermost wait with a time that sleeps in the real kernel, or NULL */
     unsigned long handlers;    /* so many have been run */
     unsigned long breaks;      /* so many of these without SA_RESTART */
     int depth;                 /* in so many waits of this thread handlers may run, or do */
@@ -410,12 +413,11 @@ int64_t timeout_of_real(int fd, int option, int flags);
    over. */
 #define IN_TIME(fd, option, flags, call)                                                                 \
     __extension__({                                                                                      \
-        int64_t longest = 0;                                                                             \
+        int64_t longest = has_timeouts && !is_outside ? timeout_of_real(fd, option, flags) : 0;          \
         struct timed outside;                                                                            \
         __typeof__(call) answer;                                                                         \
-        if (has_timeouts && !is_outside) longest = timeout_of_real(fd, option, flags);                   \
         if (longest > 0) begin_outside(&outside, longest, false);                                        \
-        answer = (call);                                                                                 \
+        answer = longest > 0 ? CANCELLABLE(&outside, call) : (call);                                     \
         if (longest > 0) end_outside(&outside, answer < 0 && (errno == EAGAIN || errno == EINPROGRESS)); \
         answer;                                                                                          \
     })
@@ -543,6 +545,8 @@ struct timed {
     uint64_t began;          /* such a one, by the simulated clock */
     int64_t began_really;
     uint32_t own_word;       /* it sleeps on, once it is over outside */
+    uintptr_t place;         /* where on the program's stack the call was made */
+    struct timed *outer;     /* the one of the same thread in whose handler this one was begun, or NULL */
     struct timed *next;
 };
 /* One until `time` on an object of so many bytes, or on NULL. It then sleeps until `until`, and what error_of_timed makes
@@ -552,6 +556,18 @@ void begin_timed_on(struct timed *timed, const struct timespec *time, const void
                     bool is_condition);
 int error_of_timed(struct timed *timed, int error);
 void end_timed(const struct timed *timed);
+/* A call of the C library in such a wait, in which the thread may be cancelled. It ends the wait then. */
+#define CANCELLABLE(timed, call)                        \
+    __extension__({                                     \
+        __typeof__(call) answered;                      \
+        pthread_cleanup_push(end_cancelled, (timed));   \
+        answered = (call);                              \
+        pthread_cleanup_pop(0);                         \
+        answered;                                       \
+    })
+void end_cancelled(void *timed);
+/* Ends those waits of this thread that a jump to an address of the stack leaves. */
+void leave_timed_below(uintptr_t address);
 /* A wait for something outside that takes at most so many UNITs of real time. Until its end the clock goes no faster
    than real time does. Whether it is over says whether nothing came: then the clock is at its end. One that lasts on is
    over at its end if something comes after it. */

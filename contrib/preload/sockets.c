@@ -70,7 +70,7 @@ static int receive_by(const struct deadline *deadline, int fd, struct mmsghdr *t
     bool is_late;
     int got;
     begin_outside(&outside, deadline->end > now ? (int64_t)(deadline->end - now) : 0, true);
-    got = next_recvmmsg()(fd, to, 1, flags, NULL);
+    got = CANCELLABLE(&outside, next_recvmmsg()(fd, to, 1, flags, NULL));
     is_late = is_over(deadline);
     end_outside(&outside, got > 0 && is_late);
     return got;

@@ -459,6 +459,9 @@ static void link_timed(struct timed *timed) {
     if (has_children() && !is_partly_asleep() && !has_timed_waits()) begin_pace();
     QUIET;
     self();
+    timed->place = place_of_call(timed);
+    timed->outer = this_thread.timed;
+    this_thread.timed = timed;
     pthread_mutex_lock(&timed_lock);
     timed->next = all_timed;
     all_timed = timed;
@@ -516,6 +519,7 @@ void end_timed(const struct timed *timed) {
     if (is_outside) return; /* a handler made a child in the wait */
     QUIET;
     if (timed->end < 0) return;
+    if (this_thread.timed == timed) this_thread.timed = timed->outer;
     pthread_mutex_lock(&timed_lock);
     while (*link && *link != timed) link = &(*link)->next;
     if (*link) {
@@ -524,6 +528,13 @@ void end_timed(const struct timed *timed) {
     }
     pthread_mutex_unlock(&timed_lock);
     errno = saved;
+}
+
+void end_cancelled(void *timed) { end_timed(timed); }
+
+void leave_timed_below(uintptr_t address) {
+    if (is_outside) return;
+    while (this_thread.timed && is_left(this_thread.timed->place, address)) end_timed(this_thread.timed);
 }
 
 /* ---- waits with a time for what is outside ---- */
@@ -579,7 +590,8 @@ void end_outside(struct timed *timed, bool is_over) {
         HAND_ON(next_##name() untimed);                              \
         begin_timed_on(&timed, time, ON(object));                    \
         do {                                                         \
-            error = error_of_timed(&timed, next_##name() arguments); \
+            error = CANCELLABLE(&timed, next_##name() arguments);    \
+            error = error_of_timed(&timed, error);                   \
         } while (error == SLEEP_ON);                                 \
         end_timed(&timed);                                           \
         return error;                                                \
@@ -608,7 +620,7 @@ TIMED(pthread_mutex_clocklock, lock,
         HAND_ON(next_##name() untimed);                                       \
         begin_timed_on(&timed, time, ON(object));                             \
         do {                                                                  \
-            status = next_##name() arguments;                                 \
+            status = CANCELLABLE(&timed, next_##name() arguments);            \
             error = error_of_timed(&timed, status < 0 ? errno : 0);           \
         } while (status < 0 && error == SLEEP_ON);                            \
         end_timed(&timed);                                                    \
@@ -628,7 +640,7 @@ int wait_until(const struct timespec *day, int (*wait)(void *given, const struct
     HAND_ON(wait(given, day));
     begin_timed(&timed, day, NULL);
     do {
-        error = error_of_timed(&timed, wait(given, &timed.until));
+        error = error_of_timed(&timed, CANCELLABLE(&timed, wait(given, &timed.until)));
     } while (error == SLEEP_ON);
     end_timed(&timed);
     return error;
@@ -680,7 +692,7 @@ int sigtimedwait(const sigset_t *restrict set, siginfo_t *restrict info, const s
     begin_timed(&timed, &end, NULL);
     do {
         if (timed.left > 0) slice.tv_nsec = 1000000;
-        signal = next_sigtimedwait()(set, info, &slice);
+        signal = CANCELLABLE(&timed, next_sigtimedwait()(set, info, &slice));
         if (signal < 0) error = errno == EAGAIN ? error_of_timed(&timed, ETIMEDOUT) : errno;
     } while (signal < 0 && error == SLEEP_ON);
     end_timed(&timed);

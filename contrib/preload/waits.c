@@ -306,7 +306,7 @@ static int seek(struct sought *sought, int64_t units, const char *call) {
         int64_t longest = (units);                              \
         int answer;                                             \
         if (longest > 0) begin_outside(&outside, longest, false); \
-        answer = (call);                                        \
+        answer = longest > 0 ? CANCELLABLE(&outside, call) : (call); \
         if (longest > 0) end_outside(&outside, answer == 0);    \
         take_a_while(answer, longest);                          \
         answer;                                                 \
