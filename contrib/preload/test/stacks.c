@@ -5,6 +5,7 @@
 
 #include <limits.h>
 #include <poll.h>
+#include <semaphore.h>
 #include <setjmp.h>
 #include <signal.h>
 #include <stdlib.h>
@@ -17,6 +18,7 @@
 #include <sys/time.h>
 #include <sys/timerfd.h>
 #include <sys/uio.h>
+#include <threads.h>
 #include <ucontext.h>
 #include <unistd.h>
 
@@ -25,6 +27,7 @@ enum { COROUTINE = 8192, LARGER = 32768, ALTERNATE = 8192, GUARD = 65536, PAINT 
 static int ends[2], sides[2], counter, timer, instance;
 static volatile int came;
 static sigjmp_buf out;
+static pthread_t sleeping; /* a thread that waits until all is done */
 
 static void alarm_in(int milliseconds) {
     struct itimerval value = {.it_value = {0, milliseconds * 1000}};
@@ -33,7 +36,50 @@ static void alarm_in(int milliseconds) {
 
 /* ---- every call, twice: the dynamic linker takes some stack at the first one ---- */
 
-static void call_once(int wanted) {
+static sem_t semaphore;
+static pthread_mutex_t held = PTHREAD_MUTEX_INITIALIZER;
+static pthread_rwlock_t read_lock = PTHREAD_RWLOCK_INITIALIZER;
+static pthread_cond_t changed = PTHREAD_COND_INITIALIZER;
+static mtx_t c11_held;
+static cnd_t c11_changed;
+
+static void hold_locks(void) {
+    sem_init(&semaphore, 0, 0);
+    mtx_init(&c11_held, mtx_timed);
+    cnd_init(&c11_changed);
+    pthread_mutex_lock(&held);
+    mtx_lock(&c11_held);
+    pthread_rwlock_rdlock(&read_lock);
+}
+
+/* For a millisecond, which is over then. */
+static int wait_on_lock(int way) {
+    struct timespec time;
+    sigset_t none;
+    clock_gettime(CLOCK_REALTIME, &time);
+    time.tv_sec += time.tv_nsec >= 999000000 ? 1 : 0;
+    time.tv_nsec = (time.tv_nsec + 1000000) % 1000000000;
+    switch (way) {
+    case 0: return sem_timedwait(&semaphore, &time) == -1 && errno == ETIMEDOUT;
+    case 1: return pthread_cond_timedwait(&changed, &held, &time) == ETIMEDOUT;
+    case 2: return pthread_mutex_timedlock(&held, &time) == ETIMEDOUT;
+    case 3: return pthread_rwlock_timedwrlock(&read_lock, &time) == ETIMEDOUT;
+    case 4: return pthread_timedjoin_np(sleeping, NULL, &time) == ETIMEDOUT;
+    case 5: return cnd_timedwait(&c11_changed, &c11_held, &time) == thrd_timedout;
+    case 6: return mtx_timedlock(&c11_held, &time) == thrd_timedout;
+    case 7: time = (struct timespec){0, 1000000}; return thrd_sleep(&time, NULL) == 0;
+    case 8:
+        sigemptyset(&none);
+        time = (struct timespec){0, 1000000};
+        return sigtimedwait(&none, NULL, &time) == -1 && errno == EAGAIN;
+    default: return 0;
+    }
+}
+
+/* The first ones of `wanted` are other calls. */
+enum { LOCKS = 15, WAYS_ON_LOCKS = 9 };
+
+static void call_this(int wanted) {
     struct epoll_event event = {.events = EPOLLIN};
     struct itimerspec value = {.it_value = {100, 0}};
     struct timespec now;
@@ -64,17 +110,17 @@ static void call_once(int wanted) {
     case 12: came += setsockopt(sides[0], SOL_SOCKET, SO_KEEPALIVE, &number, sizeof number) == 0; break;
     case 13: came += getsockopt(sides[0], SOL_SOCKET, SO_KEEPALIVE, &number, &size) == 0; break;
     case 14: came += eventfd_write(counter, 1) == 0 && read(counter, &value, 8) == 8; break;
-    default: break;
+    default: came += wait_on_lock(wanted - LOCKS); break;
     }
 }
-enum { CALLS = 15 };
+enum { CALLS = LOCKS + WAYS_ON_LOCKS };
 
 /* ---- coroutines ---- */
 
 static ucontext_t outside, inside;
 static int wanted;
 
-static void run_wanted(void) { call_once(wanted); }
+static void run_wanted(void) { call_this(wanted); }
 
 static void run_as_coroutine(void (*run)(void), char *stack, size_t size) {
     getcontext(&inside);
@@ -94,16 +140,27 @@ static size_t taken_by(int call, char *stack) {
     return COROUTINE - free_bytes;
 }
 
+static void *sleep_until_done(void *done) {
+    sem_wait(done);
+    return NULL;
+}
+
 static void coroutines(void) {
     char *stack = malloc(COROUTINE);
     size_t most = 0, taken, frame;
+    sem_t done;
     came = 0;
+    hold_locks();
+    sem_init(&done, 0, 0);
+    pthread_create(&sleeping, NULL, sleep_until_done, &done);
     frame = taken_by(CALLS, stack);
     for (int turn = 0; turn < 2; turn++)
         for (int call = 0; call < CALLS; call++) {
             taken = taken_by(call, stack);
             if (turn == 1 && taken > most) most = taken;
         }
+    sem_post(&done);
+    pthread_join(sleeping, NULL);
     trace("coroutines: %d calls, a KB or less each: %d", came, most - frame <= 1024);
     free(stack);
 }
