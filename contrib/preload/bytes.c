@@ -243,19 +243,25 @@ static ssize_t give_vectors(int fd, const struct iovec *vectors, int count, int 
 
 /* ---- files ---- */
 
+static ssize_t read_real(int fd, void *bytes, size_t count) {
+    return answer_unless_lost(IN_TIME(fd, SO_RCVTIMEO, 0, next_read()(fd, bytes, count)), "read", fd);
+}
+
 ssize_t read(int fd, void *bytes, size_t count) {
     ssize_t got;
-    if (!is_simulated(fd))
-        return answer_unless_lost(IN_TIME(fd, SO_RCVTIMEO, 0, next_read()(fd, bytes, count)), "read", fd);
+    if (!is_simulated(fd)) return read_real(fd, bytes, count);
     QUIET;
     got = take(fd, bytes, count, 0, "read");
     return ANSWER(got, "read(%d, %s, %zu)", fd, bytes_text(TEXT, bytes, got), count);
 }
 
+static ssize_t write_real(int fd, const void *bytes, size_t count) {
+    return answer_unless_lost(IN_TIME(fd, SO_SNDTIMEO, 0, next_write()(fd, bytes, count)), "write", fd);
+}
+
 ssize_t write(int fd, const void *bytes, size_t count) {
     ssize_t taken;
-    if (!is_simulated(fd))
-        return answer_unless_lost(IN_TIME(fd, SO_SNDTIMEO, 0, next_write()(fd, bytes, count)), "write", fd);
+    if (!is_simulated(fd)) return write_real(fd, bytes, count);
     QUIET;
     taken = give(fd, bytes, count, 0, "write");
     return ANSWER(taken, "write(%d, %s, %zu)", fd, bytes_text(TEXT, bytes, (ssize_t)count), count);

@@ -103,13 +103,17 @@ int recvmmsg(int fd, struct mmsghdr *to, unsigned int count, int flags, struct t
     return receive_each(fd, to, count < MOST_MESSAGES ? count : MOST_MESSAGES, flags, time);
 }
 
+static int send_one(int fd, struct mmsghdr *from, int flags) {
+    return IN_TIME(fd, SO_SNDTIMEO, flags, next_sendmmsg()(fd, from, 1, flags));
+}
+
 int sendmmsg(int fd, struct mmsghdr *from, unsigned int count, int flags) {
     unsigned int done = 0;
     int sent = 1;
     if (is_simulated(fd)) return refuse_simulated("sendmmsg", fd, EOPNOTSUPP);
     if (is_outside || !has_timeouts || count == 0) return next_sendmmsg()(fd, from, count, flags);
     while (done < count && done < MOST_MESSAGES && sent > 0) {
-        sent = IN_TIME(fd, SO_SNDTIMEO, flags, next_sendmmsg()(fd, &from[done], 1, flags));
+        sent = send_one(fd, &from[done], flags);
         if (sent > 0) done++;
     }
     return done > 0 ? (int)done : sent;
