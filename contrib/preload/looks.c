@@ -26,7 +26,7 @@ struct seat {
     _Atomic uint64_t asked;       /* the moment at which it asked in vain for the last time */
     enum rest seen;               /* what the last look found that it did; looks only */
     uint64_t seen_run;            /* so long it had run until then */
-    uint64_t noted_run;           /* and until note_runs; looks only */
+    uint64_t noted_run[NOTES];    /* and until note_runs; looks only */
     struct seat *next;
 };
 
@@ -375,35 +375,37 @@ struct look look_at_others(const uint64_t *moment) {
 
 /* ---- threads that compute ---- */
 
-bool note_runs(void) {
-    bool fits;
+/* Of those that sleep, too: one that wakes up is to run as long as the others. */
+bool note_runs(enum note note) {
     QUIET;
     if (atomic_flag_test_and_set(&is_looking)) return false;
-    fits = copy_seats(NULL);
-    for (size_t i = 0; i < count && fits; i++) list[i].seat->noted_run = run_of(list[i].seat->thread);
+    pthread_mutex_lock(&lock);
+    for (struct seat *seat = seats; seat; seat = seat->next)
+        if (!seat->has_left) seat->noted_run[note] = run_of(seat->thread);
+    pthread_mutex_unlock(&lock);
     atomic_flag_clear(&is_looking);
-    return fits;
+    return true;
 }
 
-static bool has_run(struct seat *seat, uint64_t least) {
-    return run_of(seat->thread) - seat->noted_run >= least || rest_of(seat) != AWAKE;
+static bool has_run(struct seat *seat, enum note note, uint64_t least) {
+    return run_of(seat->thread) - seat->noted_run[note] >= least || rest_of(seat) != AWAKE;
 }
 
-static bool have_run(uint64_t least) {
+static bool have_run(enum note note, uint64_t least) {
     unsigned long woken;
     size_t not_counted = (size_t)count_awake(&woken);
     if (atomic_load(&lacks_seats)) return true;
     if (!copy_seats(NULL) || awake != not_counted) return false;
     for (size_t i = 0; i < count; i++)
-        if (!list[i].is_counted && !has_run(list[i].seat, least)) return false;
+        if (!list[i].is_counted && !has_run(list[i].seat, note, least)) return false;
     return true;
 }
 
-bool have_others_run(uint64_t units) {
+bool have_others_run(enum note note, uint64_t units) {
     bool so;
     QUIET;
     if (atomic_flag_test_and_set(&is_looking)) return false;
-    so = have_run(units * UNIT);
+    so = have_run(note, units * UNIT);
     atomic_flag_clear(&is_looking);
     return so;
 }

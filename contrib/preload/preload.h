@@ -288,10 +288,11 @@ struct look {
 };
 /* Looks at all that take part but this one. Who asked in vain at the moment, if one is given, counts as one at rest. */
 struct look look_at_others(const uint64_t *moment);
-/* Notes how long each of the others has run; whether it could. Whether each that doesn't sleep has run for so many UNITs
-   since then. */
-bool note_runs(void);
-bool have_others_run(uint64_t units);
+/* Notes how long each of the others has run, for a question of this kind; whether it could. Whether each that doesn't
+   sleep has run for so many UNITs since then. */
+enum note { OF_A_SECOND, OF_A_WAIT, NOTES };
+bool note_runs(enum note note);
+bool have_others_run(enum note note, uint64_t units);
 
 /* ---- log.c: a line for each call, as strace writes it ---- */
 
@@ -530,11 +531,12 @@ void join_threads(void);
    something else than ETIMEDOUT, or the simulated clock is at `day`. */
 int wait_until(const struct timespec *day, int (*wait)(void *given, const struct timespec *until), void *given);
 /* A wait with a time, as pthread_cond_timedwait. It sleeps in the real kernel, and ends once the simulated clock is at
-   its end. Who moves the clock to it wakes it. Where other threads go on for as long as it is to last and some more, it
-   ends, too, and the clock is brought to its end: CPython's threads take turns so. */
+   its end. Who moves the clock to it wakes it. Where other threads go on for as long as it is to last and some more, the
+   watcher moves the clock to its end: CPython's threads take turns so. */
 struct timed {
     int64_t end;             /* by the simulated clock, or below 0 where it is no time */
     int64_t left;            /* UNITs of real time before it ends in any case */
+    int64_t due;             /* in real time: from then on it ends if the others have gone on */
     uint32_t *words;         /* of what it waits for, or NULL: it sleeps on one of them */
     size_t word_count;
     bool is_condition;       /* what it waits for is a condition variable */
@@ -542,7 +544,7 @@ struct timed {
     struct timespec until;   /* the end of its sleep by that clock, which is read again each time that it wakes */
     bool is_outside;         /* it waits for something outside of the program, as a poll of real descriptors */
     bool lasts_on;           /* such a one may last on after its end, and then holds the clock no more */
-    uint64_t began;          /* such a one, by the simulated clock */
+    uint64_t began;          /* by the simulated clock */
     int64_t began_really;
     uint32_t own_word;       /* it sleeps on, once it is over outside */
     uintptr_t place;         /* where on the program's stack the call was made */

@@ -26,6 +26,8 @@ static pthread_once_t once = PTHREAD_ONCE_INIT, once_watched = PTHREAD_ONCE_INIT
 static atomic_bool is_watching;
 
 enum { MORE = 20 * MILLISECOND, SLACK = 50 };
+/* So much longer than it says a wait with a time lasts at most, whether the others can go on or not. */
+#define LAST_RESORT (60 * (int64_t)SECOND)
 /* So many turns of the watcher, each of a millisecond of real time. */
 enum { A_SECOND = 1000 };
 /* So long has a thread to have run that computes, and is not kept from running by a busy machine. */
@@ -172,6 +174,7 @@ struct watch {
     unsigned long before; /* calls until then */
     int quiet, still;     /* so many turns without a call, and so many in which all slept, too */
     bool has_noted;       /* how long each thread had run in the middle of the quiet turns */
+    int64_t noted;        /* when it was noted for waits with a time, in real time */
     uint32_t pokes;
     int64_t pause; /* so long it sleeps next, whatever happens; 0 is until a poke */
 };
@@ -182,9 +185,52 @@ static bool computes(struct watch *watch) {
     if (watch->quiet < A_SECOND / 2) {
         watch->has_noted = false;
     } else if (!watch->has_noted) {
-        watch->has_noted = note_runs();
+        watch->has_noted = note_runs(OF_A_SECOND);
     }
-    return watch->quiet > A_SECOND && watch->has_noted && have_others_run(A_WHILE);
+    return watch->quiet > A_SECOND && watch->has_noted && have_others_run(OF_A_SECOND, A_WHILE);
+}
+
+/* ---- waits with a time beside threads that go on ---- */
+
+/* The wait with a time that is due first, of those that are to end yet: when it began and is due, in real time, and for
+   how long each of the others has to have run in the second half of that time. */
+struct first_due {
+    int64_t began, due;
+    uint64_t least;
+};
+
+static bool find_first_due(struct first_due *first) {
+    int64_t now = (int64_t)moment_now();
+    *first = (struct first_due){.due = INT64_MAX};
+    if (atomic_load(&timed_count) == 0) return false;
+    pthread_mutex_lock(&timed_lock);
+    for (const struct timed *timed = all_timed; timed; timed = timed->next)
+        if (timed->due < first->due && timed->end > now)
+            *first = (struct first_due){timed->began_really, timed->due, (uint64_t)timed->end - timed->began};
+    pthread_mutex_unlock(&timed_lock);
+    first->least = first->least / 2 < A_WHILE ? first->least / 2 : A_WHILE;
+    return first->due != INT64_MAX;
+}
+
+/* Others have gone on for as long as a wait was to last, and some more. One of them that has had no processor, because
+   the machine is busy, is perhaps the one that is to let it: that one has to run first. */
+static bool is_overdue(struct watch *watch) {
+    struct first_due first;
+    int64_t now = real_now();
+    bool is_noted;
+    if (!find_first_due(&first)) return false;
+    is_noted = watch->noted >= first.began;
+    if (!is_noted && now >= first.began + (first.due - first.began) / 2 && note_runs(OF_A_WAIT)) watch->noted = now;
+    return is_noted && now >= first.due && have_others_run(OF_A_WAIT, first.least);
+}
+
+/* What is to happen before its end happens before it, each at its moment. */
+static bool end_overdue(struct watch *watch) {
+    uint64_t moment;
+    QUIET;
+    if (!is_overdue(watch) || !next_moment(&moment)) return false;
+    bring_clock_to(moment);
+    return true;
 }
 
 /* All sleep, and only time or something outside can wake them: so they did a millisecond ago, and made no call in
@@ -197,7 +243,7 @@ static bool take_turn(struct watch *watch, struct look look, int64_t *pause) {
     watch->quiet = calls() == watch->before ? watch->quiet + 1 : 0;
     watch->still = watch->quiet > 0 && rest != AWAKE ? watch->still + 1 : 0;
     end_timed_waits(moment_now());
-    moves = (computes(watch) || watch->still > 1) && move_clock(pause);
+    moves = ((computes(watch) || watch->still > 1) && move_clock(pause)) || end_overdue(watch);
     if (moves) {
         watch->quiet = watch->still = 0;
     } else {
@@ -488,7 +534,10 @@ void begin_timed_on(struct timed *timed, const struct timespec *time, const void
     if (is_a_day(time)) end -= EPOCH;
     if (end < 0) end = 0;
     timed->end = end;
-    timed->left = end <= now || !atomic_load(&is_watching) ? 0 : end - now + MORE;
+    timed->began = (uint64_t)now;
+    timed->began_really = real_now();
+    timed->due = end - now < (int64_t)LAST_MOMENT ? timed->began_really + end - now + MORE : INT64_MAX;
+    timed->left = end <= now || !atomic_load(&is_watching) ? 0 : end - now + LAST_RESORT;
     slice = slice_of(timed);
     link_timed(timed);
     sleep_at_most(timed, timed->left < slice ? timed->left : slice);
@@ -542,6 +591,7 @@ void leave_timed_below(uintptr_t address) {
 void begin_outside(struct timed *timed, int64_t units, bool lasts_on) {
     *timed = (struct timed){.began = moment_now(), .began_really = real_now(), .is_outside = true, .lasts_on = lasts_on};
     timed->clock = CLOCK_MONOTONIC;
+    timed->due = INT64_MAX;
     timed->end = (int64_t)timed->began + units;
     if (!atomic_load(&is_watching)) return;
     link_timed(timed);

@@ -1,8 +1,6 @@
 /* Waits with a time on locks, by so many threads that they end late: together, but by 50 microseconds for each thread
-   that waits so, up to a millisecond. What else happens meanwhile isn't late. On a busy machine a wait may last for
-   20 ms of real time, and then ends by itself, with all that were to end before it: some are later. So nine in ten may
-   be late by a fifth more, the last one by any time, and each is tried again. Simulated only; late.out is what it
-   says. */
+   that waits so at most, up to a millisecond. What else happens meanwhile isn't late at all. It is so on a busy machine,
+   too. Simulated only; late.out is what it says. */
 #include "trace.h"
 
 #include <semaphore.h>
@@ -10,8 +8,7 @@
 #include <stdlib.h>
 #include <unistd.h>
 
-enum { MOST_THREADS = 40, ROUNDS = 50, MOST_MOMENTS = 8 * ROUNDS, BESIDE = 20, SLEEPS = 100, SLEEP = 150,
-       MOST_LATE = SLEEPS * SLEEP / 2, TRIES = 20 };
+enum { MOST_THREADS = 40, ROUNDS = 50, MOST_MOMENTS = 8 * ROUNDS, BESIDE = 20, SLEEPS = 100, SLEEP = 150 };
 
 static atomic_long too_soon;
 static long moments[MOST_THREADS * ROUNDS], late_by[MOST_THREADS * ROUNDS];
@@ -69,14 +66,15 @@ static int compare(const void *a, const void *b) {
     return first < second ? -1 : first > second;
 }
 
-/* How late nine in ten of so many threads' waits were at most, and how late that may be. */
+/* How late so many threads' waits were at most, and how late that may be. */
 static long lateness(int threads) {
-    size_t all = (size_t)(threads * ROUNDS);
-    qsort(late_by, all, sizeof *late_by, compare);
-    return late_by[all * 9 / 10];
+    long most = 0;
+    for (int i = 0; i < threads * ROUNDS; i++)
+        if (late_by[i] > most) most = late_by[i];
+    return most;
 }
 
-static long most_of(int threads) { return (threads * 50 < 1000 ? threads * 50 : 1000) * 6 / 5; }
+static long most_of(int threads) { return threads * 50 < 1000 ? threads * 50 : 1000; }
 
 /* ---- together ---- */
 
@@ -91,16 +89,14 @@ static int count_moments(int threads) {
 static void wait_in_threads(int count) {
     pthread_t threads[MOST_THREADS];
     long late;
-    int found, tries = 0;
-    do {
-        start(count, threads);
-        join(count, threads);
-        found = count_moments(count);
-        late = lateness(count);
-    } while (++tries < TRIES && (found > MOST_MOMENTS || late > most_of(count)));
+    int found;
+    start(count, threads);
+    join(count, threads);
+    found = count_moments(count);
+    late = lateness(count);
     printf("%d threads: ", count);
     if (found > MOST_MOMENTS) printf("%d waits ended at %d moments, ", count * ROUNDS, found);
-    if (late > most_of(count)) printf("one in ten was %ld us late, ", late);
+    if (late > most_of(count)) printf("one was %ld us late, ", late);
     printf("%ld too soon\n", atomic_load(&too_soon));
 }
 
@@ -119,17 +115,14 @@ static void *sleep_often(void *late) {
 static void sleep_beside(void) {
     pthread_t threads[MOST_THREADS], sleeper;
     long late, waits_late;
-    int tries = 0;
-    do {
-        start(BESIDE, threads);
-        pthread_create(&sleeper, NULL, sleep_often, &late);
-        pthread_join(sleeper, NULL);
-        join(BESIDE, threads);
-        waits_late = lateness(BESIDE);
-    } while (++tries < TRIES && (late > MOST_LATE || waits_late > most_of(BESIDE)));
+    start(BESIDE, threads);
+    pthread_create(&sleeper, NULL, sleep_often, &late);
+    pthread_join(sleeper, NULL);
+    join(BESIDE, threads);
+    waits_late = lateness(BESIDE);
     printf("beside %d threads: ", BESIDE);
-    if (late > MOST_LATE) printf("%d sleeps were %ld us late, ", SLEEPS, late);
-    if (waits_late > most_of(BESIDE)) printf("one wait in ten was %ld us late, ", waits_late);
+    if (late > 0) printf("%d sleeps were %ld us late, ", SLEEPS, late);
+    if (waits_late > most_of(BESIDE)) printf("one wait was %ld us late, ", waits_late);
     printf("%ld waits were too soon\n", atomic_load(&too_soon));
 }
 
