@@ -1,10 +1,14 @@
 /* Waits with a time on locks, on the end of a thread, on message queues, and those of C11. Each of them waits for as
-   long as it says, by the clock that it says, and for less if another thread lets it. */
+   long as it says, by the clock that it says, and for less if another thread lets it. That thread waits to be asked, for
+   on the real kernel a busy machine makes each of them as late as it likes. Lines tell so what holds there, too. By the
+   simulated clock each takes as long as it says: locks.out. */
 #include "trace.h"
 
 #include <fcntl.h>
 #include <mqueue.h>
+#include <semaphore.h>
 #include <signal.h>
+#include <stdatomic.h>
 #include <stdlib.h>
 #include <sys/stat.h>
 #include <sys/time.h>
@@ -22,17 +26,13 @@ static struct timespec after(clockid_t clock, long milliseconds) {
     return time;
 }
 
-/* To the nearest 50 ms, for the real kernel is a little late. */
-static long rounded(long milliseconds) { return (milliseconds + 10) / 50 * 50; }
-
 static long began;
 
 static void begin(void) { began = clock_now(); }
 
-/* Those of POSIX answer an error number. */
-static void tell(const char *call, long result) {
-    long took = rounded(clock_now() - began);
-    trace("%s: %ld after %ld ms", call, result, took);
+/* Those of POSIX answer an error number. The real clocks of a wait and of this one may differ by a little. */
+static void tell(const char *call, long result, long least) {
+    trace("%s: %ld, not before %ld ms: %d", call, result, least, clock_now() - began + 1 >= least);
     began = clock_now();
 }
 
@@ -41,64 +41,100 @@ static void sleep_for(long milliseconds) {
     nanosleep(&time, NULL);
 }
 
+/* What a thread holds until it is asked. */
+static sem_t is_held, is_asked;
+
+static void hold_until_asked(void) {
+    sem_post(&is_held);
+    sem_wait(&is_asked);
+    sleep_for(100);
+}
+
+static void ask(void) { sem_post(&is_asked); }
+
+/* Something else happens meanwhile, again and again. */
+static atomic_bool is_ticking;
+
+static void *tick(void *unused) {
+    while (is_ticking) sleep_for(30);
+    return unused;
+}
+
+static pthread_t start_ticking(void) {
+    pthread_t ticking;
+    is_ticking = true;
+    pthread_create(&ticking, NULL, tick, NULL);
+    return ticking;
+}
+
+static void stop_ticking(pthread_t ticking) {
+    is_ticking = false;
+    pthread_join(ticking, NULL);
+}
+
 /* ---- locks for reading and writing ---- */
 
-static void *hold_lock(void *milliseconds) {
+static void *hold_lock(void *unused) {
     pthread_rwlock_wrlock(&lock);
-    sleep_for((long)milliseconds);
+    hold_until_asked();
     pthread_rwlock_unlock(&lock);
-    return NULL;
+    return unused;
 }
 
 static void rwlocks(void) {
     struct timespec time, wrong = {0, 1000000000};
     pthread_t holder;
-    pthread_create(&holder, NULL, hold_lock, (void *)700L);
-    sleep_for(100);
+    pthread_create(&holder, NULL, hold_lock, NULL);
+    sem_wait(&is_held);
     begin();
     time = after(CLOCK_REALTIME, 100);
-    tell("timedrdlock", pthread_rwlock_timedrdlock(&lock, &time));
-    tell("timedwrlock in the past", pthread_rwlock_timedwrlock(&lock, &time));
+    tell("timedrdlock", pthread_rwlock_timedrdlock(&lock, &time), 100);
+    tell("timedwrlock in the past", pthread_rwlock_timedwrlock(&lock, &time), 0);
     time = after(CLOCK_REALTIME, 100);
-    tell("timedwrlock", pthread_rwlock_timedwrlock(&lock, &time));
+    tell("timedwrlock", pthread_rwlock_timedwrlock(&lock, &time), 100);
     time = after(CLOCK_MONOTONIC, 100);
-    tell("clockrdlock", pthread_rwlock_clockrdlock(&lock, CLOCK_MONOTONIC, &time));
+    tell("clockrdlock", pthread_rwlock_clockrdlock(&lock, CLOCK_MONOTONIC, &time), 100);
     time = after(CLOCK_REALTIME, 100);
-    tell("clockwrlock", pthread_rwlock_clockwrlock(&lock, CLOCK_REALTIME, &time));
-    tell("another clock", pthread_rwlock_clockwrlock(&lock, CLOCK_BOOTTIME, &time));
-    tell("no time", pthread_rwlock_timedrdlock(&lock, &wrong));
+    tell("clockwrlock", pthread_rwlock_clockwrlock(&lock, CLOCK_REALTIME, &time), 100);
+    tell("another clock", pthread_rwlock_clockwrlock(&lock, CLOCK_BOOTTIME, &time), 0);
+    tell("no time", pthread_rwlock_timedrdlock(&lock, &wrong), 0);
     time = after(CLOCK_REALTIME, 100000);
-    tell("until it is let go", pthread_rwlock_timedwrlock(&lock, &time));
+    ask();
+    tell("until it is let go", pthread_rwlock_timedwrlock(&lock, &time), 100);
     pthread_rwlock_unlock(&lock);
     pthread_join(holder, NULL);
     begin();
-    tell("it is free", pthread_rwlock_timedrdlock(&lock, &time));
+    tell("it is free", pthread_rwlock_timedrdlock(&lock, &time), 0);
     pthread_rwlock_unlock(&lock);
 }
 
 /* ---- the end of a thread ---- */
 
-static void *sleep_and_end(void *milliseconds) {
-    sleep_for((long)milliseconds);
-    return milliseconds;
+static void *end_when_asked(void *result) {
+    hold_until_asked();
+    return result;
 }
 
 static void joins(void) {
     struct timespec time;
     pthread_t thread;
     void *result = NULL;
+    pthread_create(&thread, NULL, end_when_asked, (void *)300L);
+    sem_wait(&is_held);
     begin();
-    pthread_create(&thread, NULL, sleep_and_end, (void *)300L);
     time = after(CLOCK_REALTIME, 100);
-    tell("timedjoin", pthread_timedjoin_np(thread, &result, &time));
+    tell("timedjoin", pthread_timedjoin_np(thread, &result, &time), 100);
     time = after(CLOCK_MONOTONIC, 100);
-    tell("clockjoin", pthread_clockjoin_np(thread, &result, CLOCK_MONOTONIC, &time));
+    tell("clockjoin", pthread_clockjoin_np(thread, &result, CLOCK_MONOTONIC, &time), 100);
     time = after(CLOCK_REALTIME, 100000);
-    tell("until it ends", pthread_timedjoin_np(thread, &result, &time));
+    ask();
+    tell("until it ends", pthread_timedjoin_np(thread, &result, &time), 100);
     trace("its result: %ld", (long)result);
-    pthread_create(&thread, NULL, sleep_and_end, (void *)100L);
+    pthread_create(&thread, NULL, end_when_asked, (void *)100L);
+    sem_wait(&is_held);
     begin();
-    tell("without a time", pthread_timedjoin_np(thread, &result, NULL));
+    ask();
+    tell("without a time", pthread_timedjoin_np(thread, &result, NULL), 100);
 }
 
 /* ---- message queues ---- */
@@ -116,16 +152,21 @@ static void *receive_later(void *queue) {
 
 static void on_alarm(int signal) { (void)signal; }
 
-/* A handler ends the wait of a queue, unless it is to go on after it. */
-static void broken(mqd_t queue, int flags) {
+/* A handler ends the wait of a queue, unless it is to go on after it. The alarm comes again, for the first one may come
+   before the wait. */
+static void broken(mqd_t queue, int flags, long most, long least) {
     struct sigaction action = {.sa_handler = on_alarm, .sa_flags = flags};
-    struct itimerval soon = {{0, 0}, {0, 100000}};
-    struct timespec time = after(CLOCK_REALTIME, 200);
+    struct itimerval soon = {{0, 100000}, {0, 100000}}, never = {{0, 0}, {0, 0}};
+    struct timespec time;
     char bytes[16];
+    long result;
     sigaction(SIGALRM, &action, NULL);
-    setitimer(ITIMER_REAL, &soon, NULL);
     begin();
-    tell("with an alarm", outcome(mq_timedreceive(queue, bytes, sizeof bytes, NULL, &time)));
+    time = after(CLOCK_REALTIME, most);
+    setitimer(ITIMER_REAL, &soon, NULL);
+    result = outcome(mq_timedreceive(queue, bytes, sizeof bytes, NULL, &time));
+    setitimer(ITIMER_REAL, &never, NULL);
+    tell("with an alarm", result, least);
 }
 
 static void queues(void) {
@@ -138,27 +179,30 @@ static void queues(void) {
     snprintf(name, sizeof name, "/nippersage-%d", getpid());
     queue = mq_open(name, O_RDWR | O_CREAT | O_EXCL, 0600, &like);
     mq_unlink(name);
-    if (queue < 0) return;
+    if (queue < 0) {
+        trace("no message queues");
+        return;
+    }
     begin();
     time = after(CLOCK_REALTIME, 100);
-    tell("timedreceive", outcome(mq_timedreceive(queue, bytes, sizeof bytes, &priority, &time)));
-    tell("in the past", outcome(mq_timedreceive(queue, bytes, sizeof bytes, &priority, &time)));
-    broken(queue, 0);
-    broken(queue, SA_RESTART);
-    pthread_create(&thread, NULL, send_later, &queue);
+    tell("timedreceive", outcome(mq_timedreceive(queue, bytes, sizeof bytes, &priority, &time)), 100);
+    tell("in the past", outcome(mq_timedreceive(queue, bytes, sizeof bytes, &priority, &time)), 0);
+    broken(queue, 0, 100000, 100);
+    broken(queue, SA_RESTART, 250, 250);
     begin();
+    pthread_create(&thread, NULL, send_later, &queue);
     time = after(CLOCK_REALTIME, 100000);
-    tell("until one comes", outcome(mq_timedreceive(queue, bytes, sizeof bytes, &priority, &time)));
+    tell("until one comes", outcome(mq_timedreceive(queue, bytes, sizeof bytes, &priority, &time)), 200);
     trace("%s, %u", bytes, priority);
     pthread_join(thread, NULL);
     begin();
     time = after(CLOCK_REALTIME, 100);
-    tell("timedsend", outcome(mq_timedsend(queue, "first", 6, 0, &time)));
-    tell("to a full one", outcome(mq_timedsend(queue, "second", 7, 0, &time)));
+    tell("timedsend", outcome(mq_timedsend(queue, "first", 6, 0, &time)), 0);
+    time = after(CLOCK_REALTIME, 100);
+    tell("to a full one", outcome(mq_timedsend(queue, "second", 7, 0, &time)), 100);
     pthread_create(&thread, NULL, receive_later, &queue);
-    begin();
     time = after(CLOCK_REALTIME, 100000);
-    tell("until there is room", outcome(mq_timedsend(queue, "third", 6, 0, &time)));
+    tell("until there is room", outcome(mq_timedsend(queue, "third", 6, 0, &time)), 200);
     pthread_join(thread, NULL);
     mq_close(queue);
 }
@@ -178,9 +222,10 @@ static int change(void *milliseconds) {
     return 7;
 }
 
-static int hold_mutex(void *milliseconds) {
+static int hold_mutex(void *unused) {
+    (void)unused;
     mtx_lock(&c11_lock);
-    sleep_for((long)milliseconds);
+    hold_until_asked();
     mtx_unlock(&c11_lock);
     return 8;
 }
@@ -190,36 +235,44 @@ static void of_c11(void) {
     thrd_t thread;
     int result = 0;
     begin();
-    tell("thrd_sleep", thrd_sleep(&time, NULL));
-    tell("no time", thrd_sleep(&none, NULL));
+    tell("thrd_sleep", thrd_sleep(&time, NULL), 100);
+    tell("no time", thrd_sleep(&none, NULL), 0);
     mtx_init(&c11_lock, mtx_timed);
     cnd_init(&c11_changed);
     mtx_lock(&c11_lock);
     time = after(CLOCK_REALTIME, 100);
-    tell("cnd_timedwait", cnd_timedwait(&c11_changed, &c11_lock, &time) == thrd_timedout);
+    tell("cnd_timedwait", cnd_timedwait(&c11_changed, &c11_lock, &time) == thrd_timedout, 100);
     thrd_create(&thread, change, (void *)100L);
     time = after(CLOCK_REALTIME, 100000);
     while (!is_changed && result == 0) result = cnd_timedwait(&c11_changed, &c11_lock, &time);
-    tell("until it is changed", result);
+    tell("until it is changed", result, 100);
     mtx_unlock(&c11_lock);
     thrd_join(thread, &result);
     trace("the thread's result: %d", result);
-    thrd_create(&thread, hold_mutex, (void *)300L);
-    sleep_for(100);
+    thrd_create(&thread, hold_mutex, NULL);
+    sem_wait(&is_held);
     begin();
     time = after(CLOCK_REALTIME, 100);
-    tell("mtx_timedlock", mtx_timedlock(&c11_lock, &time) == thrd_timedout);
+    tell("mtx_timedlock", mtx_timedlock(&c11_lock, &time) == thrd_timedout, 100);
     time = after(CLOCK_REALTIME, 100000);
-    tell("until it is let go", mtx_timedlock(&c11_lock, &time));
+    ask();
+    tell("until it is let go", mtx_timedlock(&c11_lock, &time), 100);
     mtx_unlock(&c11_lock);
     thrd_join(thread, &result);
     trace("the thread's result: %d", result);
 }
 
 int main(void) {
+    pthread_t ticking;
+    sem_init(&is_held, 0, 0);
+    sem_init(&is_asked, 0, 0);
     of_c11();
+    ticking = start_ticking();
     rwlocks();
+    stop_ticking(ticking);
     joins();
+    ticking = start_ticking();
     queues();
+    stop_ticking(ticking);
     return 0;
 }
