@@ -92,14 +92,17 @@ static long real_now(void) {
 /* Polls that find nothing take no more than their real time: at most a millisecond for a real one. */
 static void polls(void) {
     int out[2], count = 0;
-    pid_t child = run("sleep 0.3; echo x", out);
-    long real = real_now(), began = clock_now(), passed;
+    pid_t child = run("exec sleep 1000", out);
+    long real = real_now(), began = clock_now(), passed = 0;
     struct pollfd file = {out[0], POLLIN, 0};
-    while (poll(&file, 1, 0) == 0) count++;
-    passed = clock_now() - began;
+    while ((count <= 100 || passed < 100) && poll(&file, 1, 0) == 0) {
+        count++;
+        passed = clock_now() - began;
+    }
     real = real_now() - real;
-    printf("polls: %s\n", count > 100 && passed > 0 && passed <= real + 20 ? "real milliseconds" : "other ones");
+    printf("polls: %s\n", passed >= 100 && passed <= real + 20 ? "real milliseconds" : "other ones");
     if (passed > real + 20) printf("%ld ms in %ld real ones\n", passed, real);
+    send_to(child, SIGKILL);
     waitpid(child, NULL, 0);
     close(out[0]);
 }
