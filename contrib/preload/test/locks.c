@@ -262,6 +262,44 @@ static void of_c11(void) {
     trace("the thread's result: %d", result);
 }
 
+/* ---- two waits on one condition variable ---- */
+
+static pthread_mutex_t shared_lock = PTHREAD_MUTEX_INITIALIZER;
+static pthread_cond_t shared = PTHREAD_COND_INITIALIZER;
+static bool is_over;
+static int returns;
+
+static void *wait_until_over(void *unused) {
+    pthread_mutex_lock(&shared_lock);
+    while (!is_over) {
+        pthread_cond_wait(&shared, &shared_lock);
+        returns++;
+    }
+    pthread_mutex_unlock(&shared_lock);
+    return unused;
+}
+
+/* One that ends by its time wakes only itself. */
+static void conditions(void) {
+    struct timespec time;
+    pthread_t other;
+    int result;
+    begin();
+    pthread_create(&other, NULL, wait_until_over, NULL);
+    pthread_mutex_lock(&shared_lock);
+    time = after(CLOCK_REALTIME, 100);
+    result = pthread_cond_timedwait(&shared, &shared_lock, &time);
+    pthread_mutex_unlock(&shared_lock);
+    tell("beside another wait", result, 100);
+    sleep_for(100);
+    pthread_mutex_lock(&shared_lock);
+    trace("that one has returned: %d", returns);
+    is_over = true;
+    pthread_cond_signal(&shared);
+    pthread_mutex_unlock(&shared_lock);
+    pthread_join(other, NULL);
+}
+
 int main(void) {
     pthread_t ticking;
     sem_init(&is_held, 0, 0);
@@ -274,5 +312,6 @@ int main(void) {
     ticking = start_ticking();
     queues();
     stop_ticking(ticking);
+    conditions();
     return 0;
 }
