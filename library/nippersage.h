@@ -26,9 +26,9 @@
  * of them. The clock goes up to 1,000,000,000 seconds. A struct timespec is a time if its seconds are 0 or more and
  * its nanoseconds are 0 to 999,999,999; else it is -EINVAL, as the manual pages have it.
  *
- * WHAT IS PROVED. The answers are made by a kernel whose every answer a machine-checked proof shows to be one that
- * an abstract machine allows, and the functions that this library calls of it are proved, too. This header and the
- * C behind it are NOT: that a function here asks for the event that its name says, the lock, the waits that move
+ * WHAT IS PROVED. If nippersage_version() says `proved`, the answers are made by a kernel whose every answer a
+ * machine-checked proof shows to be one that an abstract machine allows, and the functions that this library calls of
+ * it are proved, too. This header and the C behind it are NOT: that a function here asks for the event that its name says, the lock, the waits that move
  * the clock by themselves. They are tested.
  *
  * Errors of every function that takes a task, beside its system call's: -ESRCH where the process isn't there,

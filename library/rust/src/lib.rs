@@ -45,9 +45,9 @@
 //!
 //! **Every order.** [`orders`] tries the orders of what tasks do, and shows the first that fails.
 //!
-//! **What is proved.** Behind the answers is a kernel of which a prover has shown that a reference
-//! model allows every answer. That this crate and the C library below it ask for what their
-//! functions' names say is tested and not proved.
+//! **What is proved.** Behind the answers is a kernel. If [`version`] says `proved`, a prover has
+//! shown that a reference model allows each of them. That this crate and the C library below it ask
+//! for what their functions' names say is tested and not proved.
 //!
 //! **The library.** The crate links `libnippersage.a`, or else the shared library. The folder of it
 //! is the one that the variable `NIPPERSAGE_LIB` names, or else that of the package which this
