@@ -4,7 +4,7 @@ from __future__ import annotations
 
 from datetime import timedelta
 from types import TracebackType
-from typing import Any, List, Optional, Sequence, Tuple, Type, Union
+from typing import Any, Callable, List, Optional, Sequence, Tuple, Type, Union
 
 from . import _library
 from ._library import Library
@@ -15,6 +15,8 @@ _ADD, _DEL, _MOD = 1, 2, 3
 #: The most bytes that `fill` writes at once.
 _MOST_FILLED = 1_048_576
 _NO_TIME = timedelta()
+#: Who is told of each kernel that is made, as a plugin that keeps the histories of failed tests.
+watchers: List[Callable[[Kernel], None]] = []
 
 
 class Task:
@@ -203,6 +205,8 @@ class Kernel(Task):
     ) -> None:
         is_program = program is not None or _library.LIBRARY is None
         super().__init__(Program(limits, program, history) if is_program else Library(limits, history), 0, 1)
+        for watcher in watchers:
+            watcher(self)
 
     def __enter__(self) -> Kernel:
         return self

@@ -348,8 +348,13 @@ class Library:
         self._done(self._f.reserve(self._pointer(), events))
 
     def history(self) -> str:
+        self._pointer()
+        return self.last_history()
+
+    def last_history(self) -> str:
+        """The history, also after the end: the kernel is there as long as this is."""
         with tempfile.TemporaryFile() as file:
-            self._done(self._f.history(self._pointer(), file.fileno()))
+            self._done(self._f.history(self._holder.pointer, file.fileno()))
             file.seek(0)
             return file.read().decode("ascii")
 

@@ -41,7 +41,7 @@ AUDITOR = _find("epaudit", "NIPPERSAGE_EPAUDIT")
 #: What a program can't be asked.
 _OF_THE_LIBRARY = {
     "epoll_wait", "next_moment", "first_marked", "is_parked", "is_marked", "waiters", "tasks", "reserve", "history",
-    "check",
+    "last_history", "check",
 }
 
 Who = Dict[str, int]

@@ -60,6 +60,7 @@ mod ffi;
 mod kernel;
 pub mod orders;
 mod owned;
+pub mod poll;
 mod task;
 mod time;
 
