@@ -28,8 +28,8 @@
  *
  * WHAT IS PROVED. If nippersage_version() says `proved`, the answers are made by a kernel whose every answer a
  * machine-checked proof shows to be one that an abstract machine allows, and the functions that this library calls of
- * it are proved, too. This header and the C behind it are NOT: that a function here asks for the event that its name says, the lock, the waits that move
- * the clock by themselves. They are tested.
+ * it are proved, too. This header and the C behind it are NOT: that a function here asks for the event that its name
+ * says, the lock, the waits that move the clock by themselves. They are tested.
  *
  * Errors of every function that takes a task, beside its system call's: -ESRCH where the process isn't there,
  * -EBUSY while the caller is parked, -EINVAL where the kernel is NULL, -EFAULT for a NULL where something has to
