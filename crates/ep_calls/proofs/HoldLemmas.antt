@@ -5,9 +5,7 @@ use Rattle.std.proofs.lemmas.List.Elements.{All-head, All-tail}
 use Rattle.std.proofs.Math.ListN.{get_or-map, length-map}
 use Rattle.ep_law.specs.Laws.{Member}
 use Rattle.ep_machine.specs.Lists.{is_among}
-use Rattle.ep_machine.specs.Marks.{marked_by}
 use Rattle.ep_machine.specs.State.{Waiter}
-use Rattle.ep_law.proofs.MarkLemmas.{marked_parts}
 use Rattle.ep_view.proofs.WaiterLemmas.{AreApart}
 use Rattle.ep_calls.specs.Stands.{AreHeld}
 use Rattle.ep_calls.specs.Stands.{ArePlaced, IsPlaced, number_at, waiters_at}

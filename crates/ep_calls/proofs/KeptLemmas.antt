@@ -20,7 +20,7 @@ use Rattle.ep_machine.specs.Step.{call_change, change, change_on}
 use Rattle.ep_machine.specs.Waits.{has_parked}
 use Rattle.ep_machine.specs.Watches.{ctl, is_add, is_del}
 use Rattle.ep_calls.specs.Kept.{IsKept, KeepsAsked, KeepsCall, KeepsEvent}
-use Rattle.ep_calls.specs.KeptRecords.{IsInline}
+use Rattle.ep_calls.specs.KeptRecords.{IsInline, spare_in}
 use Rattle.ep_calls.specs.Moves.{Goes, Makes, Refuses}
 use Rattle.ep_calls.specs.Parts.{Parts}
 use Rattle.ep_calls.specs.TableCall.{IsTableCall}
@@ -43,7 +43,7 @@ files_fit : (limits : Limits) (f : Files) (p : ℕ) (busy : Bool) (call : Call) 
 files_fit limits f p busy (PipeCall cloexec) = tt
 files_fit limits f p busy call = tt
 
-module _ (limits : Limits) (s : State) (caller : ℕ) (o : Outcome) (kept : Bool) (asked : kept ≡ true) (none : o.spare ≡ None) where
+module _ (limits : Limits) (s : State) (caller : ℕ) (o : Outcome) (kept : Bool) (asked : kept ≡ true) (none : spare_in o.copies ≡ None) where
   told_asked : (p : ℕ) (call : Call) (on : Option (Fd × ObjectCall)) (made : Change) → plainly o.picked (change_on limits s p call on) ≡ Some made → made.0 ≡ o.answer → KeepsAsked on kept o → IsInline o.answer o.picked
   told_asked p call (Some on) made is same keeps = keeps asked none
   told_asked p call None made is same keeps = told_plainly o.picked _ made o.answer is same (files_fit limits s.files p (has_parked s p) call)

@@ -1,5 +1,5 @@
 -- Calls on the object that a descriptor names.
-use Rattle.std.proofs.Common.{◌≡◌, ℕ, ℤ, Bool, false, true, List, ◌∷◌, Option, Some, None, IsSome, is_none, max, min, slice_index_or, slice_set, unwrap_or, refl, ap, sym, ◌∙◌, arith, subst}
+use Rattle.std.proofs.Common.{◌≡◌, ◌≤◌, ℕ, ℤ, Bool, false, true, List, ◌∷◌, Option, Some, None, IsSome, is_none, max, min, slice_index_or, slice_set, unwrap_or, refl, ap, sym, ◌∙◌, arith, subst}
 use Rattle.std.specs.Prelude.{MatchOption}
 use Rattle.std.specs.declared.alloc.Global.{Global}
 use Rattle.std.proofs.lemmas.Bool.{false≢true}
@@ -7,8 +7,9 @@ use Rattle.std.proofs.lemmas.List.{set-get_or}
 use Rattle.std.proofs.lemmas.Option.{none-some}
 use Rattle.smallvec.specs.SmallVec.{HasRoomFor}
 use Rattle.smallvec.specs.declared.SmallVec.{SmallVec}
+use Rattle.ep_base.specs.Answer.{FitsInline}
 use Rattle.ep_base.specs.declared.answer.Answer.{Answer}
-use Rattle.ep_base.specs.declared.answer.Answer.TheVariants.{Bytes, Done, Num, Refused, Time}
+use Rattle.ep_base.specs.declared.answer.Answer.TheVariants.{Bytes, Done, Events, Num, Refused, Time}
 use Rattle.ep_base.specs.declared.errno.Errno.{Errno}
 use Rattle.ep_base.specs.declared.errno.Errno.TheVariants.{Ebadf}
 use Rattle.ep_base.specs.declared.object.End.{End}
@@ -43,6 +44,21 @@ pub fits : (x : Object) (e : End) (now : ℕ) (asked : ObjectCall) (room : Small
 fits x e now asked room h i =
     unless_fits (first (object_refusals x e now asked)) x (object_effect x e now asked) room
     (λ none. given_fits (object_effect x e now asked).0 (asked_of asked) (object_waiting x e) room (gives_few x e now asked none) h i)
+
+-- a copy of few bytes takes no memory
+given_inline : (answer : Answer) (asked waiting : ℕ) → GivesAtMost (min asked (max 16 waiting)) answer → min asked waiting ≤ 16 → FitsInline answer
+given_inline (Bytes bytes) asked waiting few h = omega (arith, few, h)
+given_inline (Events reports) asked waiting few h = absurd few
+given_inline answer asked waiting few h = tt
+
+unless_inline : (refusal : Option Errno) (x : Object) (f : Effect Object) → (refusal ≡ None → FitsInline f.0) → FitsInline (unless refusal x f).0
+unless_inline (Some e) x f h = tt
+unless_inline None x f h = h refl
+
+pub fits_inline : (x : Object) (e : End) (now : ℕ) (asked : ObjectCall) → min (asked_of asked) (object_waiting x e) ≤ 16 → FitsInline (attempt (object_refusals x e now asked) x (object_effect x e now asked)).0
+fits_inline x e now asked h =
+    unless_inline (first (object_refusals x e now asked)) x (object_effect x e now asked)
+    (λ none. given_inline (object_effect x e now asked).0 (asked_of asked) (object_waiting x e) (gives_few x e now asked none) h)
 
 -- writing back what stands there changes nothing
 set_same : (xs : List (Option Object)) (k : ℕ) (x : Object) → slice_index_or xs k None ≡ Some x → slice_set xs k (Some x) ≡ xs

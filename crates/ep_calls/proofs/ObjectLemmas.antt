@@ -1,5 +1,5 @@
 -- A call on an object over the parts.
-use Rattle.std.proofs.Common.{◌≡◌, ◌∙◌, ◌==◌, ℕ, true, List, [], IsSome, None, Option, Some, false, ap, is_none, refl, subst, sym, unwrap_or}
+use Rattle.std.proofs.Common.{◌≡◌, ◌∙◌, ◌==◌, ℕ, true, List, [], IsSome, None, Option, Some, false, ap, is_none, refl, slice_index_or, subst, sym, unwrap_or}
 use Rattle.std.proofs.lemmas.Bool.{false≢true}
 use Rattle.ep_base.specs.declared.call.Call.{Call}
 use Rattle.ep_base.specs.declared.errno.Errno.{Errno}
@@ -9,7 +9,7 @@ use Rattle.ep_base.specs.declared.object.End.{End}
 use Rattle.ep_law.proofs.EndLemmas.{set_object}
 use Rattle.ep_machine.specs.Bits.{nothing}
 use Rattle.ep_machine.specs.Effect.{Effect, attempt, first, unless}
-use Rattle.ep_machine.specs.Files.{Files, Place, object_at, object_number, object_of, place_of, side_of}
+use Rattle.ep_machine.specs.Files.{Files, Place, object_at, object_number, object_of, place_of, side_of, under}
 use Rattle.ep_machine.specs.Objects.{Object, ObjectCall, instance, is_instance, object_call, object_effect, object_refusals, reads}
 use Rattle.ep_view.specs.AtRest.{kind_of}
 use Rattle.ep_machine.specs.Refusal.{call_refusals}
@@ -18,17 +18,21 @@ use Rattle.ep_machine.specs.Tables.{affected}
 use Rattle.ep_view.proofs.FilesLemmas.{extends_with_object}
 use Rattle.ep_view.proofs.AtRestLemmas.{kind_at, kind_there}
 use Rattle.ep_calls.specs.Does.{DoesCall}
-use Rattle.ep_calls.specs.ObjectCall.{CallsObject}
+use Rattle.ep_calls.specs.ObjectCall.{AppliesAt, CallsObject}
 use Rattle.ep_calls.specs.Parts.{AreCoherent, Parts}
 use Rattle.ep_calls.specs.declared.outcome.Outcome.{Outcome}
 use Rattle.ep_calls.specs.Moves.{Goes}
 use Rattle.ep_calls.specs.Raising.{IsRaising, Raises, RaisesByCall}
 use Rattle.ep_calls.specs.Stands.{KeepsKinds}
-use Rattle.ep_calls.proofs.ObjectRaiseLemmas.{object_raises}
+use Rattle.ep_calls.specs.declared.raising.Raising.{Raising}
+use Rattle.ep_calls.specs.declared.raising.Raising.TheVariants.{Object as AtObject}
+use Rattle.ep_calls.proofs.ObjectCallLemmas.{calls_object}
+use Rattle.ep_calls.proofs.ObjectRaiseLemmas.{object_raises, raises_object}
+use Rattle.ep_calls.proofs.PartsLemmas.{coherent_kept}
 use Rattle.ep_calls.proofs.FilesCallLemmas.{object_called, object_keys, object_limits, on_object_is}
 use Rattle.ep_view.proofs.KindLemmas.{effect_kind, instance_kind}
-use Rattle.ep_table.specs.Value.{Seen, Sound, content_of, effect_at, number_of, number_under, unwrapped}
-use Rattle.ep_calls.proofs.KeyLemmas.{under_key}
+use Rattle.ep_table.specs.Value.{Seen, Sound, content_of, effect_at, effect_under, files_after, holds_of, number_of, number_under, unwrapped}
+use Rattle.ep_calls.proofs.KeyLemmas.{object_there, under_key}
 
 some_not_none : {X : Type 0} (o : Option X) → IsSome o → is_none o ≡ false
 some_not_none None h = absurd (false≢true h)
@@ -102,3 +106,32 @@ object_does p new pid fd asked outcome h calls raises picked is n caller call on
       limits = object_limits p.tables new pid fd p.clock asked outcome.answer calls;
       keys = object_keys p.tables new pid fd p.clock asked outcome.answer calls;
     }
+
+-- what a call on the object of a description that was found comes to
+module _ (p : Parts) (new : Seen) (pid : ℕ) (fd : Fd) (desc : DescId) (asked : ObjectCall) (outcome : Outcome) (sound : Sound p.tables) (found : number_under p.tables desc ≡ under p.tables.files pid fd.0) (live : IsSome (number_under p.tables desc))
+    (applies : AppliesAt desc p.clock asked outcome p.tables new) where
+  pub applied_calls : CallsObject pid fd p.clock asked outcome.answer p.tables new
+  applied_calls = calls_object p.tables new pid fd.0 desc p.clock asked outcome.answer found live (object_there p.tables desc sound live) applies.answer applies.files
+
+  applied_raises : RaisesByCall p.tables new pid fd.0 p.clock asked outcome.raising
+  applied_raises =
+      let v = p.tables in
+      raises_object v desc p.clock asked (effect_under v desc p.clock asked).2 outcome.raising applies.raising new pid fd.0 found live (ap (λ (t : Seen). t.keys) applies.files) (ap (λ (t : Seen). t.files.descriptions) applies.files) refl
+
+  applied_raising : IsRaising outcome.raising new
+  applied_raising =
+      let v = p.tables in
+      let d = number_of v desc in
+      let raised = (effect_under v desc p.clock asked).2 in
+      subst (λ (r : Raising). IsRaising r new) (sym applies.raising)
+      (subst (IsRaising (AtObject desc raised)) (sym applies.files) (live, λ h. instance_raises v.files d p.clock asked h))
+
+  pub applied_does : AreCoherent p → (n caller : ℕ) (call : Call) → object_call call ≡ Some (fd, asked) → DoesCall n caller pid call outcome p (record p { tables = new })
+  applied_does h = object_does p new pid fd asked outcome h applied_calls applied_raises applies.picked applied_raising
+
+-- and the parts stay coherent
+pub applied_coherent : (p : Parts) (new : Seen) (desc : DescId) (asked : ObjectCall) → Sound p.tables → IsSome (number_under p.tables desc) → new ≡ record p.tables { files = files_after p.tables desc p.clock asked } → AreCoherent p → AreCoherent (record p { tables = new })
+applied_coherent p new desc asked sound live same h =
+    coherent_kept p new h (λ key d stood. ap (λ (v : Seen). slice_index_or v.keys key.0 None) same ∙ stood)
+    (subst (λ (v : Seen). KeepsKinds p.tables.files v.files) (sym same) (applied_kinds p.tables desc p.clock asked sound live))
+    (λ d. ap (λ (v : Seen). holds_of v d) same)

@@ -6,12 +6,12 @@ use Rattle.ep_base.specs.declared.call.Event.{Event}
 use Rattle.ep_base.specs.declared.call.Event.TheVariants.{Call as CallOf, Resume, Tick}
 use Rattle.ep_base.specs.declared.ids.Fd.{Fd}
 use Rattle.ep_machine.specs.Objects.{ObjectCall, object_call}
-use Rattle.ep_calls.specs.KeptRecords.{IsInline}
+use Rattle.ep_calls.specs.KeptRecords.{IsInline, spare_in}
 use Rattle.ep_calls.specs.declared.outcome.Outcome.{Outcome}
 
 -- where a second record is asked for, there is a copy, or none is needed
 abbrev pub IsKept : Bool → Outcome → Type 0
-IsKept kept outcome = kept ≡ true → outcome.spare ≡ None → IsInline outcome.answer outcome.picked
+IsKept kept outcome = kept ≡ true → spare_in outcome.copies ≡ None → IsInline outcome.answer outcome.picked
 
 -- the same of the calls that may answer at length: a wait, and one on an object
 abbrev pub KeepsAsked : Option (Fd × ObjectCall) → Bool → Outcome → Type 0

@@ -1,5 +1,5 @@
 -- What a call on an object answers, and the room for a copy of it.
-use Rattle.std.specs.Prelude.{length, ℕ, ℤ, ◌∷◌}
+use Rattle.std.specs.Prelude.{[], length, ℕ, ℤ, ◌∷◌, ◌≡◌}
 use Rattle.ep_base.specs.declared.ids.Fd.{Fd}
 use Rattle.std.specs.declared.alloc.Global.{Global}
 use Rattle.smallvec.specs.SmallVec.{HasRoomFor}
@@ -11,8 +11,10 @@ use Rattle.ep_base.specs.declared.ids.DescId.{DescId}
 use Rattle.ep_machine.specs.Files.{Files, named_by, names_nothing, object_under, side_of, side_under}
 use Rattle.ep_machine.specs.FilesCalls.{FilesCall}
 use Rattle.ep_object.specs.Memory.{object_waiting}
-use Rattle.ep_table.specs.Value.{Does, Seen, content_of, number_of}
+use Rattle.ep_table.specs.Value.{Does, Seen, content_of, effect_under, files_after, number_of}
 use Rattle.ep_base.specs.declared.errno.Errno.TheVariants.{Ebadf}
+use Rattle.ep_calls.specs.declared.outcome.Outcome.{Outcome}
+use Rattle.ep_calls.specs.declared.raising.Raising.TheVariants.{Object as AtObject}
 use Rattle.ep_machine.specs.Objects.{Object, ObjectCall, object_effect, object_refusals}
 use Rattle.ep_machine.specs.Tables.{affected}
 
@@ -46,3 +48,10 @@ FitsRoom answer room = ⊥
 -- how many bytes wait to be read at a description
 abbrev pub waiting_at : Seen → DescId → ℕ
 waiting_at tables desc = object_waiting (content_of tables.files (number_of tables desc)) (side_of tables.files (number_of tables desc))
+
+-- such a call is made of the object of a description, which stays under its key, and reports nothing
+pub record AppliesAt (desc : DescId) (now : ℕ) (asked : ObjectCall) (outcome : Outcome) (old new : Seen) : Type 0 where
+  pub answer : outcome.answer ≡ (effect_under old desc now asked).0
+  pub raising : outcome.raising ≡ AtObject desc (effect_under old desc now asked).2
+  pub files : new ≡ record old { files = files_after old desc now asked }
+  pub picked : outcome.picked ≡ []

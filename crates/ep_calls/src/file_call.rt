@@ -9,8 +9,10 @@ ghost use Rattle.ep_calls.specs.Last.{NothingRefusesCall};
 ghost use Rattle.ep_calls.specs.Spared.{TakesNoMemory};
 ghost use Rattle.ep_calls.specs.TableCall.{MakesTimer};
 
+use crate::object_call::is_long;
+use crate::raising::Raising;
 use crate::{Outcome, Parts};
-use ep_base::{Call, Pid};
+use ep_base::{Call, Errno, Pid};
 use ep_object::ObjectCall;
 use std::alloc::AllocError;
 
@@ -45,9 +47,18 @@ impl Parts {
         ensures last { OnErr result (NothingRefusesCall self.old pid.0 call.now) }
         ensures err { OnErr result (self.new ≡ self.old) }
     {
-        match ObjectCall::of(call) {
-            Some((fd, asked)) => self.object_call(pid, fd, &asked, kept),
-            None => self.table_call(pid, call, has_room),
+        let Some((fd, asked)) = ObjectCall::of(call) else {
+            return self.table_call(pid, call, has_room);
+        };
+        let Some(desc) = self.tables.lookup(pid, fd) else {
+            return Ok(Outcome::refused(self.alloc, Errno::Ebadf));
+        };
+        self.tables.known();
+        if is_long(&self.tables, desc, &asked) {
+            return self.long_call(desc, &asked, kept);
         }
+        let (answer, raised) = self.tables.apply(desc, self.clock, &asked)?;
+        let raising = Raising::Object { desc, raised };
+        Ok(Outcome::settled(self.alloc, answer, raising))
     }
 }

@@ -4,6 +4,7 @@
 mod bury;
 mod clock;
 mod control;
+mod copies;
 mod driver;
 mod file_call;
 mod forget;
@@ -21,6 +22,7 @@ mod table_call;
 mod wait;
 
 pub use crate::control::{Control, Named, Operation, Plan};
+pub use crate::copies::Copies;
 pub use crate::kernel::Kernel;
 pub use crate::outcome::Outcome;
 pub use crate::parts::Parts;

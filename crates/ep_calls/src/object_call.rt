@@ -1,21 +1,16 @@
-//! Calls on the object that a descriptor names.
-ghost use Rattle.std.specs.Prelude.{ℕ, Some, ◌≡◌, ◌≤◌, [], IfOk, IsOk, IsSome, MatchOption, OnErr, false, min, true};
-ghost use Rattle.ep_base.specs.declared.call.Call.{Call};
-ghost use Rattle.ep_machine.specs.Objects.{object_call};
+//! Calls on the object of a description, and the copies of what they answer.
+ghost use Rattle.std.specs.Prelude.{◌≡◌, ◌<◌, ◌≤◌, [], IfOk, IsOk, IsSome, MatchBool, MatchOption, OnErr, false, min, true};
 ghost use Rattle.ep_object.specs.Memory.{asked_of};
-ghost use Rattle.ep_calls.specs.Clock.{ClockStays};
-ghost use Rattle.ep_calls.specs.Does.{DoesCall};
-ghost use Rattle.ep_calls.specs.Kept.{IsKept};
-ghost use Rattle.ep_calls.specs.Last.{NothingRefusesCall};
-ghost use Rattle.ep_calls.specs.ObjectCall.{CallsObject, FitsRoom, waiting_at};
 ghost use Rattle.ep_calls.specs.Acts.{is_no_memory};
-ghost use Rattle.ep_calls.specs.Spared.{waiting_under};
+ghost use Rattle.ep_calls.specs.Kept.{IsKept};
+ghost use Rattle.ep_calls.specs.ObjectCall.{AppliesAt, FitsRoom, waiting_at};
 ghost use Rattle.ep_table.specs.Value.{number_under};
 ghost use Rattle.smallvec.specs.SmallVec.{HasRoomFor};
 
+use crate::copies::Copies;
 use crate::raising::Raising;
 use crate::{Outcome, Parts, Spare};
-use ep_base::{Answer, Bytes, DescId, Errno, Fd, Picked, Pid};
+use ep_base::{Answer, Bytes, DescId, Picked};
 use ep_object::ObjectCall;
 use ep_table::Tables;
 use smallvec::SmallVec;
@@ -73,6 +68,16 @@ fn answer_copy(answer: &Answer, mut room: SmallVec<u8, 16>) -> Answer
     }
 }
 
+/// Whether the bytes that it gives take memory to copy: more than 16 are asked for, and more than 16 wait.
+#[inline(always)]
+pub(crate) fn is_long(tables: &Tables, desc: DescId, asked: &ObjectCall<'_>) -> bool
+    requires { IsSome (number_under tables.now desc) }
+    ensures { MatchBool result (16 < min (asked_of asked.now) (waiting_at tables.now desc))
+        (min (asked_of asked.now) (waiting_at tables.now desc) ≤ 16) }
+{
+    asked.most() > 16 && tables.object(desc).waiting(tables.end(desc)) > 16
+}
+
 /// Copies of an answer for a second record, if one is asked for.
 fn spare_of(alloc: Global, answer: &Answer, room: SmallVec<u8, 16>, kept: bool) -> Option<Spare>
     requires empty { room.items ≡ [] }
@@ -88,68 +93,92 @@ fn spare_of(alloc: Global, answer: &Answer, room: SmallVec<u8, 16>, kept: bool) 
     })
 }
 
-/// What a call came to, with copies of its answer in the rooms that were made for them.
-#[inline(always)]
-fn outcome_of(
-    alloc: Global,
-    answer: Answer,
+/// What is made for the copies of an answer before there is one.
+#[derive(Drop)]
+struct Rooms {
+    /// For the bytes that the history keeps.
     room: SmallVec<u8, 16>,
+    /// For those of a second record.
     more: SmallVec<u8, 16>,
+    /// The place of both.
+    place: Box<Copies>,
+}
+
+/// Room for the copies of what a call answers, before it is made. `kept`: a second record of it is asked for.
+fn rooms_for(
+    alloc: Global,
+    tables: &Tables,
+    desc: DescId,
+    asked: &ObjectCall<'_>,
     kept: bool,
-    raising: Raising,
-) -> Outcome
-    requires empty { room.items ≡ [] }
-    requires fits { FitsRoom answer room }
-    requires more_empty { more.items ≡ [] }
-    requires more_fits { kept ≡ true → FitsRoom answer more }
+) -> Result<Rooms, AllocError>
+    requires { IsSome (number_under tables.now desc) }
+    ensures empty { IfOk result (λ r. r.room.items ≡ []) }
+    ensures inline { IfOk result (λ r. HasRoomFor r.room 16) }
+    ensures room { IfOk result
+        (λ r. HasRoomFor r.room (min (asked_of asked.now) (waiting_at tables.now desc))) }
+    ensures more_empty { IfOk result (λ r. r.more.items ≡ []) }
+    ensures more_inline { IfOk result (λ r. HasRoomFor r.more 16) }
+    ensures more { IfOk result
+        (λ r. kept ≡ true
+        → HasRoomFor r.more (min (asked_of asked.now) (waiting_at tables.now desc))) }
+{
+    let room = room_for_copy(alloc, tables, desc, asked, true)?;
+    let more = room_for_copy(alloc, tables, desc, asked, kept)?;
+    let none = Copies {
+        recorded: Answer::Done,
+        spare: None,
+    };
+    let place = Box::new(alloc, none)?;
+    Ok(Rooms { room, more, place })
+}
+
+/// What a call came to, with copies of its answer in the rooms that were made for them.
+fn outcome_of(alloc: Global, answer: Answer, rooms: Rooms, kept: bool, raising: Raising) -> Outcome
+    requires empty { rooms.room.items ≡ [] }
+    requires fits { FitsRoom answer rooms.room }
+    requires more_empty { rooms.more.items ≡ [] }
+    requires more_fits { kept ≡ true → FitsRoom answer rooms.more }
     requires real { is_no_memory answer ≡ false }
     ensures answer { result.answer ≡ answer }
     ensures picked { result.picked ≡ [] }
     ensures raising { result.raising ≡ raising }
     ensures kept { IsKept kept result }
 {
+    let Rooms {
+        room,
+        more,
+        mut place,
+    } = rooms;
     let recorded = answer_copy(&answer, room);
     let spare = spare_of(alloc, &answer, more, kept);
-    Outcome::copied(alloc, answer, recorded, spare, raising)
+    let _ = Box::replace(&mut place, Copies { recorded, spare });
+    Outcome::new(answer, Picked::empty(alloc), Some(place), raising)
 }
 
 impl Parts {
-    /// What a call asks of the object that its descriptor names, at the end that it names: EBADF if it names nothing,
-    /// else what the object answers. `kept`: a second record of it is asked for.
-    /// An `Err` is want of memory and leaves the parts. It comes only of a read of more than 16 bytes if more wait,
-    /// which nothing refuses.
-    pub(crate) fn object_call(
+    /// A call of which a copy of the bytes that it gives takes memory, on the object of a description. The copies are
+    /// made before it takes the bytes. An `Err` is want of memory and leaves the parts.
+    #[cold]
+    #[inline(never)]
+    pub(crate) fn long_call(
         &mut self,
-        pid: Pid,
-        fd: Fd,
+        desc: DescId,
         asked: &ObjectCall<'_>,
         kept: bool,
     ) -> Result<Outcome, AllocError>
-        ensures interest { self.new.interest ≡ self.old.interest }
-        ensures tables { IfOk result
-            (λ outcome. CallsObject pid.0 fd self.old.clock asked.now outcome.answer self.old.tables
-            self.new.tables) }
-        ensures clock { IfOk result
-            (λ outcome. ClockStays outcome.raising self.old.clock self.new.clock) }
-        ensures picked { IfOk result (λ outcome. outcome.picked ≡ []) }
+        requires live { IsSome (number_under self.old.tables desc) }
         ensures ok { IfOk result
-            (λ outcome. (n caller : ℕ) (call : Call) → object_call call ≡ Some (fd, asked.now)
-            → DoesCall n caller pid.0 call outcome self.old self.new) }
+            (λ outcome. AppliesAt desc self.old.clock asked.now outcome self.old.tables
+            self.new.tables) }
         ensures kept { IfOk result (λ outcome. IsKept kept outcome) }
-        ensures short { min (asked_of asked.now) (waiting_under self.old.tables.files pid.0 fd.0)
-            ≤ 16 → IsOk result }
-        ensures last { OnErr result ((call : Call) → object_call call ≡ Some (fd, asked.now)
-            → NothingRefusesCall self.old pid.0 call) }
+        ensures parts { self.new ≡ record self.old { tables = self.new.tables } }
         ensures err { OnErr result (self.new ≡ self.old) }
     {
-        let Some(desc) = self.tables.lookup(pid, fd) else {
-            return Ok(Outcome::refused(self.alloc, Errno::Ebadf));
-        };
         self.tables.known();
-        let room = room_for_copy(self.alloc, &self.tables, desc, asked, true)?;
-        let more = room_for_copy(self.alloc, &self.tables, desc, asked, kept)?;
+        let rooms = rooms_for(self.alloc, &self.tables, desc, asked, kept)?;
         let (answer, raised) = self.tables.apply(desc, self.clock, asked)?;
         let raising = Raising::Object { desc, raised };
-        Ok(outcome_of(self.alloc, answer, room, more, kept, raising))
+        Ok(outcome_of(self.alloc, answer, rooms, kept, raising))
     }
 }

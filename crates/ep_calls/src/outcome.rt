@@ -1,37 +1,39 @@
 //! What an event came to.
 ghost use Rattle.std.specs.Prelude.{◌≡◌, [], None, false, true};
+ghost use Rattle.std.specs.Option.{ForSome};
 ghost use Rattle.ep_base.specs.Answer.{FitsInline};
 ghost use Rattle.ep_base.specs.declared.answer.Answer.TheVariants.{Refused as refused};
 ghost use Rattle.ep_calls.specs.Acts.{is_no_memory};
-ghost use Rattle.ep_calls.specs.KeptRecords.{HasCopy, IsCopied, IsInline};
+ghost use Rattle.ep_calls.specs.KeptRecords.{AreCopies, HasCopy, IsCopied, IsInline, IsInlineWithout, inline_prop, spare_in};
 ghost use Rattle.ep_calls.specs.declared.raising.Raising.TheVariants.{Nowhere};
 
+use crate::copies::Copies;
 use crate::raising::Raising;
 use crate::spare::Spare;
 use ep_base::{Answer, CallerId, Errno, Event, Picked, Record};
 use std::alloc::Global;
 
-/// What an event came to: its answer, which is never want of memory, once for the caller and once for the history,
-/// the registrations that it reports, and what it raised.
+/// What an event came to: its answer, which is never want of memory, the registrations that it reports, and what it
+/// raised.
 #[derive(Drop)]
 pub struct Outcome {
     /// The answer for the caller.
     pub answer: Answer,
-    /// The same answer for the history.
-    pub recorded: Answer,
     /// The numbers of the registrations that the answer reports, in its order.
     pub picked: Picked,
-    /// Both once more, for a second record, if one was asked for and they take memory to copy.
-    pub spare: Option<Spare>,
+    /// The copies of the answer that take memory. `None` if a copy takes none.
+    pub copies: Option<Box<Copies>>,
     /// What the event raised, at which descriptions.
     pub raising: Raising,
-    ghost same: { recorded ≡ answer },
-    ghost copied: { IsCopied spare answer picked },
+    ghost recorded: { ForSome copies (λ made. made.value.recorded ≡ answer) },
+    ghost copied: { IsCopied (spare_in copies) answer picked },
+    ghost inline: { IsInlineWithout copies answer } by { inline_prop copies answer },
     ghost real: { is_no_memory answer ≡ false },
 }
 
 impl Outcome {
     /// A refusal.
+    #[inline(always)]
     pub fn refused(alloc: Global, errno: Errno) -> Outcome
         requires { is_no_memory (refused errno) ≡ false }
         ensures answer { result.answer ≡ refused errno }
@@ -39,14 +41,7 @@ impl Outcome {
         ensures inline { IsInline result.answer result.picked }
         ensures raising { result.raising ≡ Nowhere }
     {
-        let recorded = Answer::Refused(errno);
-        Outcome::copied(
-            alloc,
-            Answer::Refused(errno),
-            recorded,
-            None,
-            Raising::Nowhere,
-        )
+        Outcome::settled(alloc, Answer::Refused(errno), Raising::Nowhere)
     }
 
     /// An answer that takes no memory to copy, and reports nothing.
@@ -59,57 +54,29 @@ impl Outcome {
         ensures inline { IsInline result.answer result.picked }
         ensures raising { result.raising ≡ raising }
     {
-        let recorded = answer.copy().unwrap();
-        Outcome::copied(alloc, answer, recorded, None, raising)
+        Outcome::new(answer, Picked::empty(alloc), None, raising)
     }
 
-    /// An answer and its copies, which report nothing.
+    /// An answer that reports these registrations, and the copies of it that take memory.
     #[inline(always)]
-    pub fn copied(
-        alloc: Global,
+    pub fn new(
         answer: Answer,
-        recorded: Answer,
-        spare: Option<Spare>,
+        picked: Picked,
+        copies: Option<Box<Copies>>,
         raising: Raising,
     ) -> Outcome
-        requires same { recorded ≡ answer }
-        requires copied { IsCopied spare answer [] }
+        requires copied { AreCopies copies answer picked }
         requires real { is_no_memory answer ≡ false }
         ensures answer { result.answer ≡ answer }
-        ensures picked { result.picked ≡ [] }
-        ensures spare { result.spare ≡ spare }
+        ensures picked { result.picked ≡ picked }
+        ensures copies { result.copies ≡ copies }
         ensures raising { result.raising ≡ raising }
     {
         Outcome {
             answer,
-            recorded,
-            picked: Picked::empty(alloc),
-            spare,
-            raising,
-        }
-    }
-
-    /// A report of these registrations, and its copies.
-    pub fn reported(
-        answer: Answer,
-        recorded: Answer,
-        picked: Picked,
-        spare: Option<Spare>,
-    ) -> Outcome
-        requires same { recorded ≡ answer }
-        requires copied { IsCopied spare answer picked }
-        requires real { is_no_memory answer ≡ false }
-        ensures answer { result.answer ≡ answer }
-        ensures picked { result.picked ≡ picked }
-        ensures spare { result.spare ≡ spare }
-        ensures raising { result.raising ≡ Nowhere }
-    {
-        Outcome {
-            answer,
-            recorded,
             picked,
-            spare,
-            raising: Raising::Nowhere,
+            copies,
+            raising,
         }
     }
 
@@ -121,7 +88,7 @@ impl Outcome {
         event: Event,
         kept: bool,
     ) -> (Answer, Option<Spare>, Record)
-        requires { kept ≡ true → self.spare ≡ None → IsInline self.answer self.picked }
+        requires { kept ≡ true → spare_in self.copies ≡ None → IsInline self.answer self.picked }
         ensures answer { result.0 ≡ self.answer }
         ensures spare { kept ≡ true → HasCopy result.1 self.answer self.picked }
         ensures record { result.2
@@ -134,11 +101,17 @@ impl Outcome {
     {
         let Outcome {
             answer,
-            recorded,
             picked,
-            spare,
+            copies,
             ..
         } = self;
+        let (recorded, spare) = match copies {
+            None => (answer.copy().unwrap(), None),
+            Some(made) => {
+                let Copies { recorded, spare } = Box::into_inner(made);
+                (recorded, spare)
+            }
+        };
         let spare = Spare::of(kept, spare, &answer, &picked);
         let record = Record {
             caller,

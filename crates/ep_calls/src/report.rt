@@ -1,18 +1,24 @@
 //! What a wait reports, and what it leaves of the registrations that it does.
-ghost use Rattle.std.specs.Prelude.{◌≡◌, All, IfOk, MatchOption, OnErr, Some, false, map};
+ghost use Rattle.std.specs.Prelude.{◌≡◌, All, IfOk, None, OnErr, Some, map, true};
 ghost use Rattle.ep_base.specs.declared.answer.Answer.TheVariants.{Events};
 ghost use Rattle.ep_interest.specs.Registrations.{number_under as number_of_entry};
 ghost use Rattle.ep_calls.specs.Kept.{IsKept};
+ghost use Rattle.ep_calls.specs.KeptRecords.{AreCopies, spare_in};
 ghost use Rattle.ep_calls.specs.Reports.{Reports};
 ghost use Rattle.ep_calls.specs.Wait.{with_report, numbers_of, report_of};
 ghost use Rattle.ep_calls.specs.declared.raising.Raising.TheVariants.{Nowhere};
 
+use crate::copies::Copies;
+use crate::raising::Raising;
 use crate::wait::Reportable;
 use crate::{Outcome, Spare};
 use ep_base::{Answer, EventNumber, Picked, Report, Reports as ReportList};
 use ep_interest::Interest;
 use smallvec::SmallVec;
 use std::alloc::{AllocError, Global};
+
+/// As many reports as take no memory.
+const INLINE: usize = 4;
 
 /// What is reported of them.
 #[inline(always)]
@@ -55,19 +61,29 @@ fn note(interest: &mut Interest, step: EventNumber, chosen: &[Reportable])
     }
 }
 
-/// Copies for a second record, if one is asked for.
-#[inline(always)]
-fn spare_of(reports: &ReportList, picked: &Picked, kept: bool) -> Result<Option<Spare>, AllocError>
-    ensures { IfOk result
-        (λ spare. MatchOption spare (kept ≡ false)
-        (λ s. (s.answer ≡ Events reports.now) × (s.picked ≡ picked.now))) }
+/// The copies of such a report that take memory: the reports for the history, and both for a second record if one is
+/// asked for.
+#[cold]
+#[inline(never)]
+fn copies_of(
+    alloc: Global,
+    reports: &ReportList,
+    picked: &Picked,
+    kept: bool,
+) -> Result<Box<Copies>, AllocError>
+    ensures copied { IfOk result
+        (λ copies. AreCopies (Some copies) (Events reports.now) picked.now) }
+    ensures kept { IfOk result (λ copies. kept ≡ true → spare_in (Some copies) ≡ None → ⊥) }
 {
-    if !kept {
-        return Ok(None);
-    }
-    let answer = Answer::Events(reports.copy()?);
-    let picked = picked.copy()?;
-    Ok(Some(Spare { answer, picked }))
+    let recorded = Answer::Events(reports.copy()?);
+    let spare = if kept {
+        let answer = Answer::Events(reports.copy()?);
+        let picked = picked.copy()?;
+        Some(Spare { answer, picked })
+    } else {
+        None
+    };
+    Ok(Box::new(alloc, Copies { recorded, spare })?)
 }
 
 /// Reports them, and notes that it did. `kept`: a second record of it is asked for.
@@ -90,10 +106,13 @@ pub fn report(
     ensures err { OnErr result (interest.new ≡ interest.old) }
 {
     let reports = reports_of(alloc, chosen)?;
-    let recorded = Answer::Events(reports.copy()?);
     let picked = picked_of(alloc, chosen)?;
-    let spare = spare_of(&reports, &picked, kept)?;
+    let copies = if chosen.len() > INLINE {
+        Some(copies_of(alloc, &reports, &picked, kept)?)
+    } else {
+        None
+    };
     note(interest, step, chosen);
     let answer = Answer::Events(reports);
-    Ok(Outcome::reported(answer, recorded, picked, spare))
+    Ok(Outcome::new(answer, picked, copies, Raising::Nowhere))
 }

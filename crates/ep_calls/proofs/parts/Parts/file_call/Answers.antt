@@ -1,49 +1,102 @@
-use Rattle.std.proofs.Common.{◌≡◌, Option, Some, subst, sym}
-use Rattle.std.proofs.lemmas.Result.{IfOk-weaker, on_err_weaker}
+use Rattle.std.proofs.Common.{◌≡◌, ◌∙◌, IsSome, Option, ap, subst, sym, ℕ}
+use Rattle.std.proofs.lemmas.Result.{IfOk-weaker}
+use Rattle.ep_base.specs.Answer.{FitsInline}
+use Rattle.ep_base.specs.declared.ids.DescId.{DescId}
 use Rattle.ep_base.specs.declared.ids.Fd.{Fd}
+use Rattle.ep_base.specs.declared.object.Raised.{Raised}
+use Rattle.ep_calls.specs.Does.{DoesCall}
 use Rattle.ep_calls.specs.FileCall.{CallsAsked}
-use Rattle.ep_calls.specs.TableCall.{IsTableCall}
-use Rattle.ep_calls.proofs.FileCallLemmas.{is_table_call, makes_no_timer}
-use Rattle.ep_calls.proofs.KeptLemmas.{any_call, table_call_kept}
-use Rattle.ep_calls.proofs.SparedLemmas.{takes_none}
+use Rattle.ep_calls.specs.ObjectCall.{AppliesAt, CallsObject}
+use Rattle.ep_calls.specs.Parts.{AreCoherent, Parts}
+use Rattle.ep_calls.specs.declared.outcome.Outcome.{Outcome}
+use Rattle.ep_calls.specs.declared.raising.Raising.TheVariants.{Object as AtObject}
+use Rattle.ep_calls.proofs.ObjectCallLemmas.{fits_inline}
+use Rattle.ep_calls.proofs.ObjectLemmas.{applied_calls, applied_coherent, applied_does}
+use Rattle.ep_machine.specs.Files.{side_of, under}
 use Rattle.ep_machine.specs.Objects.{ObjectCall, object_call}
+use Rattle.ep_table.specs.Value.{Sound, content_of, number_of, number_under}
 use Rattle.ep_calls.proofs.parts.Parts.file_call.Goals as goal
 
--- what the call was taken apart into
-on : (c : goal.After-object_call) → object_call c.args.call.now ≡ Some (c.in-Some.fd, c.in-Some.asked)
-on c = sym c.in-Some.ensures
+pub settled-requires-clause-inline : goal.settled-requires-clause-inline
+settled-requires-clause-inline c =
+    let v = c.self.inside.tables in
+    let d = number_of v c.in-Some-lookup.desc in
+    subst FitsInline (sym c.in_ok-answer.ensures.answer)
+    (fits_inline (content_of v.files d) (side_of v.files d) c.self.inside.clock c.in-Some.asked c.if-is_long.ensures)
 
-off : (c : goal.After-table_call) → IsTableCall c.args.call.now
-off c = is_table_call c.args.call.now c.requires.call (sym c.in-None.ensures)
+pub invariant_of-self-2 : goal.invariant_of-self-2
+invariant_of-self-2 c =
+    let k = c.self.inside in
+    let p : Parts = record { tables = k.tables; interest = k.interest; graph = k.graph; parked = k.waiters; clock = k.clock } in
+    applied_coherent p c.apply.new.self c.in-Some-lookup.desc c.in-Some.asked c.known.ensures c.in-Some-lookup.ensures.live c.in_ok-answer.ensures.files c.self.invariant
 
-pub table_call-requires-clause-call : goal.table_call-requires-clause-call
-table_call-requires-clause-call c = is_table_call c.args.call.now c.requires.call (sym c.in-None.ensures)
+-- what the object did with it
+applies : (c : goal.After-settled) → AppliesAt c.in-Some-lookup.desc c.self.inside.clock c.in-Some.asked c.settled.result c.self.inside.tables c.apply.new.self
+applies c =
+    let e = c.in_ok-answer.ensures in
+    let o = c.settled.ensures in
+    record {
+      answer = o.answer ∙ e.answer;
+      raising = o.raising ∙ ap (λ (r : Raised). AtObject c.in-Some-lookup.desc r) e.raised;
+      files = e.files;
+      picked = o.picked;
+    }
 
-pub returns-in-Some-clause-tables : goal.returns-in-Some-clause-tables
-returns-in-Some-clause-tables c =
-    IfOk-weaker c.object_call.result _ _ (λ outcome did. subst (λ (o : Option (Fd × ObjectCall)). CallsAsked c.args.pid.0 c.args.call.now o outcome.answer c.args.self.now c.object_call.new.self) (sym (on c)) did) c.object_call.ensures.tables
+pub returns-clause-tables : goal.returns-clause-tables
+returns-clause-tables c =
+    let k = c.self.inside in
+    let p : Parts = record { tables = k.tables; interest = k.interest; graph = k.graph; parked = k.waiters; clock = k.clock } in
+    let found = c.in-Some-lookup.ensures in
+    subst (λ (on : Option (Fd × ObjectCall)). CallsAsked c.args.pid.0 c.args.call.now on c.settled.result.answer c.args.self.now (record p { tables = c.apply.new.self })) c.in-Some.ensures
+    (subst (λ (q : Parts). CallsObject c.args.pid.0 c.in-Some.fd q.clock c.in-Some.asked c.settled.result.answer q.tables c.apply.new.self) c.self.view_is
+    (applied_calls p c.apply.new.self c.args.pid.0 c.in-Some.fd c.in-Some-lookup.desc c.in-Some.asked c.settled.result c.known.ensures found.number found.live (applies c)))
 
-pub returns-in-Some-clause-ok : goal.returns-in-Some-clause-ok
-returns-in-Some-clause-ok c = IfOk-weaker c.object_call.result _ _ (λ outcome does. λ n caller. does n caller c.args.call.now (on c)) c.object_call.ensures.ok
+pub returns-clause-ok : goal.returns-clause-ok
+returns-clause-ok c =
+    let k = c.self.inside in
+    let p : Parts = record { tables = k.tables; interest = k.interest; graph = k.graph; parked = k.waiters; clock = k.clock } in
+    let found = c.in-Some-lookup.ensures in
+    rw (← c.self.view_is)
+    (λ n caller. applied_does p c.apply.new.self c.args.pid.0 c.in-Some.fd c.in-Some-lookup.desc c.in-Some.asked c.settled.result c.known.ensures found.number found.live (applies c) c.self.invariant n caller c.args.call.now (sym c.in-Some.ensures))
 
-pub returns-in-Some-clause-kept : goal.returns-in-Some-clause-kept
-returns-in-Some-clause-kept c = IfOk-weaker c.object_call.result _ _ (λ outcome h. any_call c.args.call.now c.args.kept outcome h) c.object_call.ensures.kept
+-- what was found, and the parts as the longer way has them
+module _ (c : goal.After-long_call) where
+  abbrev desc : DescId
+  desc = c.in-Some-lookup.desc
 
-pub returns-in-Some-clause-room : goal.returns-in-Some-clause-room
-returns-in-Some-clause-room c = λ none made. absurd (makes_no_timer c.args.call.now _ (on c) made)
+  abbrev old : Parts
+  old = c.args.self.now
 
-pub returns-in-Some-clause-spared : goal.returns-in-Some-clause-spared
-returns-in-Some-clause-spared c = λ h. c.object_call.ensures.short (takes_none c.args.self.now.tables.files c.args.pid.0 c.args.call.now _ c.requires.call (on c) h)
+  abbrev new : Parts
+  new = c.long_call.new.self
 
-pub returns-in-Some-clause-last : goal.returns-in-Some-clause-last
-returns-in-Some-clause-last c = on_err_weaker c.object_call.result (λ last. last c.args.call.now (on c)) c.object_call.ensures.last
+  sound : Sound old.tables
+  sound = subst (λ (q : Parts). Sound q.tables) c.self.view_is c.known.ensures
 
-pub returns-in-None-clause-tables : goal.returns-in-None-clause-tables
-returns-in-None-clause-tables c =
-    IfOk-weaker c.table_call.result _ _ (λ outcome did. subst (λ (o : Option (Fd × ObjectCall)). CallsAsked c.args.pid.0 c.args.call.now o outcome.answer c.args.self.now c.table_call.new.self) c.in-None.ensures did) c.table_call.ensures.tables
+  found : number_under old.tables desc ≡ under old.tables.files c.args.pid.0 c.in-Some.fd.0
+  found = subst (λ (q : Parts). number_under q.tables desc ≡ under q.tables.files c.args.pid.0 c.in-Some.fd.0) c.self.view_is c.in-Some-lookup.ensures.number
 
-pub returns-in-None-clause-kept : goal.returns-in-None-clause-kept
-returns-in-None-clause-kept c = IfOk-weaker c.table_call.result _ _ (λ outcome h. table_call_kept c.args.call.now c.args.kept outcome (off c)) c.table_call.ensures.ok
+  live : IsSome (number_under old.tables desc)
+  live = subst (λ (q : Parts). IsSome (number_under q.tables desc)) c.self.view_is c.in-Some-lookup.ensures.live
 
-pub returns-in-None-clause-spared : goal.returns-in-None-clause-spared
-returns-in-None-clause-spared c = λ h. c.table_call.ensures.frees (takes_none c.args.self.now.tables.files c.args.pid.0 c.args.call.now _ c.requires.call (sym c.in-None.ensures) h)
+  coherent : AreCoherent old
+  coherent = subst AreCoherent c.self.view_is c.self.invariant
+
+  abbrev Applies : Outcome → Type 0
+  Applies o = AppliesAt desc old.clock c.in-Some.asked o old.tables new.tables
+
+  long_tables : (o : Outcome) → Applies o → CallsAsked c.args.pid.0 c.args.call.now (object_call c.args.call.now) o.answer old new
+  long_tables o did =
+      subst (λ (on : Option (Fd × ObjectCall)). CallsAsked c.args.pid.0 c.args.call.now on o.answer old new) c.in-Some.ensures
+      (applied_calls old new.tables c.args.pid.0 c.in-Some.fd desc c.in-Some.asked o sound found live did)
+
+  long_does : (o : Outcome) → Applies o → (n caller : ℕ) → DoesCall n caller c.args.pid.0 c.args.call.now o old new
+  long_does o did n caller =
+      subst (λ (q : Parts). DoesCall n caller c.args.pid.0 c.args.call.now o old q) (sym c.long_call.ensures.parts)
+      (applied_does old new.tables c.args.pid.0 c.in-Some.fd desc c.in-Some.asked o sound found live did coherent n caller c.args.call.now (sym c.in-Some.ensures))
+
+pub returns-then-is_long-clause-tables : goal.returns-then-is_long-clause-tables
+returns-then-is_long-clause-tables c = IfOk-weaker c.long_call.result _ _ (long_tables c) c.long_call.ensures.ok
+
+pub returns-then-is_long-clause-ok : goal.returns-then-is_long-clause-ok
+returns-then-is_long-clause-ok c = IfOk-weaker c.long_call.result _ _ (long_does c) c.long_call.ensures.ok

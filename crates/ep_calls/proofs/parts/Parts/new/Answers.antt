@@ -1,4 +1,3 @@
-use Rattle.std.proofs.Common.{refl}
 use Rattle.ep_calls.specs.Parts.{AreOpening, Parts}
 use Rattle.ep_calls.proofs.PartsLemmas.{coherent_opening}
 use Rattle.ep_calls.proofs.parts.Parts.new.Goals as goal
