@@ -2,6 +2,7 @@
    for which it needs seconds, and then sleeps: on its processor another process computes all the time, which is this
    program with a word. Another thread waits meanwhile for longer than the first one sleeps. Simulated only; starved.out
    is what it says. */
+#include "processor.h"
 #include "trace.h"
 
 #include <sched.h>
@@ -13,25 +14,6 @@
 enum { COMPUTES = 20000000 }; /* for so many nanoseconds, on a processor */
 
 static sem_t semaphore;
-
-/* The lowest processor that there is. */
-static void take_first_processor(void) {
-    cpu_set_t all, first;
-    CPU_ZERO(&first);
-    if (sched_getaffinity(0, sizeof all, &all) != 0) abort();
-    for (int i = 0; i < CPU_SETSIZE && CPU_COUNT(&first) == 0; i++)
-        if (CPU_ISSET(i, &all)) CPU_SET(i, &first);
-    if (sched_setaffinity(0, sizeof first, &first) != 0) abort();
-}
-
-/* The clocks of processors are real. */
-static void compute(void) {
-    struct timespec began, now;
-    clock_gettime(CLOCK_THREAD_CPUTIME_ID, &began);
-    do {
-        clock_gettime(CLOCK_THREAD_CPUTIME_ID, &now);
-    } while ((now.tv_sec - began.tv_sec) * 1000000000 + now.tv_nsec - began.tv_nsec < COMPUTES);
-}
 
 static void *wait_long(void *began) {
     struct timespec until;
@@ -56,7 +38,7 @@ int main(int count, char **words) {
     pthread_create(&thread, NULL, wait_long, &began);
     take_first_processor();
     if (setpriority(PRIO_PROCESS, 0, 19) != 0) abort(); /* of this thread only */
-    compute();
+    compute(COMPUTES);
     usleep(100000);
     sem_post(&semaphore);
     pthread_join(thread, NULL);

@@ -2,6 +2,7 @@
    processor with processes that compute all the time: so that takes longer than the waits by the real clock. By the
    simulated one each of them is let at the moment at which that thread woke up. Simulated only; unlocks.out is what it
    says. */
+#include "processor.h"
 #include "trace.h"
 
 #include <sched.h>
@@ -19,25 +20,6 @@ static pthread_barrier_t together;
 static int changes;
 static long began;
 static atomic_long let, in_time;
-
-/* The lowest processor that there is. */
-static void take_first_processor(void) {
-    cpu_set_t all, first;
-    CPU_ZERO(&first);
-    if (sched_getaffinity(0, sizeof all, &all) != 0) abort();
-    for (int i = 0; i < CPU_SETSIZE && CPU_COUNT(&first) == 0; i++)
-        if (CPU_ISSET(i, &all)) CPU_SET(i, &first);
-    if (sched_setaffinity(0, sizeof first, &first) != 0) abort();
-}
-
-/* The clocks of processors are real. */
-static void compute(void) {
-    struct timespec start, now;
-    clock_gettime(CLOCK_THREAD_CPUTIME_ID, &start);
-    do {
-        clock_gettime(CLOCK_THREAD_CPUTIME_ID, &now);
-    } while ((now.tv_sec - start.tv_sec) * 1000000000 + now.tv_nsec - start.tv_nsec < COMPUTES);
-}
 
 static struct timespec after(long milliseconds) {
     struct timespec time;
@@ -97,7 +79,7 @@ int main(void) {
         began = clock_now();
         pthread_barrier_wait(&together);
         usleep(MILLISECONDS * 1000);
-        compute();
+        compute(COMPUTES);
         let_all();
         pthread_barrier_wait(&together);
     }
