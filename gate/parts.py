@@ -16,6 +16,8 @@ CRATES, TESTS = TOP / "crates", TOP / "tests"
 DATA = TESTS / "ep_examples" / "data"
 #: The programs that a user runs. The tests of the clients run them too, and a release has them.
 PROGRAMS = ("epsim", "epaudit")
+#: The program of tests/ that docs/embedding.md shows. It has no words, and a file with what it writes.
+EMBEDDING = "ep_embed"
 #: What a build of the library is called among the builds.
 LIBRARY = "library"
 VERSION = (TOP / "VERSION").read_text().strip()
@@ -75,7 +77,7 @@ def measured():
 
 
 def programs():
-    """The programs that are run on one input, and whose output a file has: the proved ones, and those of tests/."""
+    """The programs that ./test doesn't run by itself: on one input, with a file that has what they write then."""
     named = [it for it in names_of(TOP / "crates.txt") if it not in PROGRAMS]
     proved = [it for it in named if (CRATES / it / "stdout").is_file() and (CRATES / it / "src/main.rt").is_file()]
     return [*proved, *measured()]
@@ -171,7 +173,7 @@ class Parts:
 
     def program(self, name):
         """A program, whose output and status have to be as its files stdout and status say."""
-        folder = (TESTS if name in measured() else CRATES) / name
+        folder = next(it / name for it in (CRATES, TESTS) if (it / name).is_dir())
         words, wanted, status = (text_of(folder / it) for it in ("args", "stdout", "status"))
         given = text_of(folder / "stdin").encode()
         ended, out, said = self.run(name, [self.built[name], *words.splitlines()], given)
@@ -305,7 +307,7 @@ class Parts:
             "ep_examples": Part(lambda: self.examples(scripts()), ("ep_examples",)),
             **{it: Part(lambda it=it: self.tests(it), (it,)) for it in tested()},
             "epaudit": Part(self.audits, ("epaudit",)),
-            **{it: Part(lambda it=it: self.program(it), (it,)) for it in programs()},
+            **{it: Part(lambda it=it: self.program(it), (it,)) for it in (EMBEDDING, *programs())},
             **{it: Part(lambda it=it: self.script(it)) for it in SCRIPTS},
         }
 
