@@ -2,7 +2,7 @@
 ghost use Rattle.std.specs.Io.Buffered.{reader_remaining};
 ghost use Rattle.std.specs.Prelude.{◌≡◌, ◌==◌, ◌&&◌, IfOk, None, if◌then◌else◌, is_some};
 ghost use Rattle.ep_text.specs.Event.{reason};
-ghost use Rattle.ep_text.specs.Version.{header};
+ghost use Rattle.ep_text.specs.Header.{header};
 
 use crate::bad_lines::tell_bad_lines;
 use ep_text::{Reason, explain, read_header};

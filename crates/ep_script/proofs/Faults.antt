@@ -7,8 +7,8 @@ use Rattle.ep_script.specs.declared.fault.ScriptFault.{ScriptFault}
 use Rattle.ep_script.specs.declared.fault.ScriptFault.TheVariants as fault
 use Rattle.ep_script.specs.declared.summary.LineKind.{LineKind}
 use Rattle.ep_script.specs.declared.summary.Summary.{Summary}
-use Rattle.ep_text.specs.declared.version.Version.{Version}
-use Rattle.ep_text.specs.declared.version.Version.TheVariants.{V1}
+use Rattle.ep_version.specs.declared.version.Version.{Version}
+use Rattle.ep_version.specs.declared.version.Version.TheVariants.{V1}
 use Rattle.ep_script.specs.Known.{Leads}
 use Rattle.ep_script.specs.Lines.{IsPlain, joined, lines_of, longest_line, most_lines, onto_first}
 use Rattle.ep_script.specs.Outcome.{Broken, Cut, Faulted, GrowsBeyond, IsHeld, Stopped}

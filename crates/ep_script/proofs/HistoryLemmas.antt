@@ -6,7 +6,7 @@ use Rattle.std.proofs.lemmas.List.{length-map}
 use Rattle.ep_base.specs.declared.record.Record.{Record}
 use Rattle.ep_calls.specs.Acts.{is_no_memory}
 use Rattle.ep_history.specs.Records.{record_line}
-use Rattle.ep_text.specs.declared.version.Version.{Version}
+use Rattle.ep_version.specs.declared.version.Version.{Version}
 use Rattle.ep_script.specs.declared.fault.RecordedFault.{RecordedFault}
 use Rattle.ep_script.specs.declared.fault.RecordedFault.TheVariants.{History, Memory, Script}
 use Rattle.ep_script.specs.declared.fault.ScriptFault.{ScriptFault}

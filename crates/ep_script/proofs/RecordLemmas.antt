@@ -9,7 +9,7 @@ use Rattle.ep_machine.specs.State.{State}
 use Rattle.ep_calls.specs.Acts.{Acts, Adds, Stays, is_no_memory}
 use Rattle.ep_script.specs.declared.summary.LineKind.{LineKind}
 use Rattle.ep_script.specs.declared.summary.LineKind.TheVariants as kind
-use Rattle.ep_text.specs.declared.version.Version.{Version}
+use Rattle.ep_version.specs.declared.version.Version.{Version}
 use Rattle.ep_text.specs.Event.{event as command}
 use Rattle.ep_text.specs.Line.{header_line, line_of}
 use Rattle.ep_script.specs.Steps.{MayGain, Tells}

@@ -4,8 +4,8 @@ use Rattle.std.specs.Io.KnownBytes.{Appends, prepend_known}
 use Rattle.ep_base.specs.declared.record.Record.{Record}
 use Rattle.ep_script.specs.declared.summary.LineKind.{LineKind}
 use Rattle.ep_script.specs.declared.summary.Summary.{Summary}
-use Rattle.ep_text.specs.declared.version.Version.{Version}
-use Rattle.ep_text.specs.declared.version.Version.TheVariants.{V1}
+use Rattle.ep_version.specs.declared.version.Version.{Version}
+use Rattle.ep_version.specs.declared.version.Version.TheVariants.{V1}
 use Rattle.ep_script.specs.Known.{Leads}
 use Rattle.ep_script.specs.Lines.{AllFit, joined, last_line, lines_of, longest_line}
 use Rattle.ep_script.specs.Outcome.{Tallies, Whole}

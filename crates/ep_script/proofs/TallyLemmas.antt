@@ -6,8 +6,8 @@ use Rattle.ep_calls.specs.Acts.{is_no_memory}
 use Rattle.ep_script.specs.declared.summary.LineKind.{LineKind}
 use Rattle.ep_script.specs.declared.summary.LineKind.TheVariants as kind
 use Rattle.ep_script.specs.declared.summary.Summary.{Summary}
-use Rattle.ep_text.specs.declared.version.Version.{Version}
-use Rattle.ep_text.specs.declared.version.Version.TheVariants.{V1}
+use Rattle.ep_version.specs.declared.version.Version.{Version}
+use Rattle.ep_version.specs.declared.version.Version.TheVariants.{V1}
 use Rattle.ep_script.specs.Lines.{AllFit, longest_line}
 use Rattle.std.proofs.Common.{◌≤◌}
 use Rattle.ep_script.specs.Outcome.{Gains, Tallies}

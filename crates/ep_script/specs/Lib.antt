@@ -1,6 +1,7 @@
 pub use Rattle.ep_text.specs.Event
 pub use Rattle.ep_text.specs.Line
-pub use Rattle.ep_text.specs.Version
+pub use Rattle.ep_text.specs.Header
+pub use Rattle.ep_version.specs.Version
 pub mod Lines
 pub mod Transcript
 pub mod Known

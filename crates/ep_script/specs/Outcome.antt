@@ -7,7 +7,7 @@ use Rattle.ep_script.specs.declared.fault.ScriptFault.{ScriptFault}
 use Rattle.ep_script.specs.declared.fault.ScriptFault.TheVariants as fault
 use Rattle.ep_script.specs.declared.summary.Summary.{Summary}
 use Rattle.ep_script.specs.Lines.{AllFit, joined, lines_of, longest_line, most_lines, most_read}
-use Rattle.ep_text.specs.declared.version.Version.TheVariants.{V1}
+use Rattle.ep_version.specs.declared.version.Version.TheVariants.{V1}
 use Rattle.ep_script.specs.Transcript.{AreOf, Grows, Outcome, bad_line_count, records, said, told, transcript, version_after}
 
 pub record Tallies (summary : Summary) (outcomes : List Outcome) : Type 0 where

@@ -7,7 +7,7 @@ use Rattle.ep_script.specs.declared.fault.ScriptFault.{ScriptFault}
 use Rattle.ep_script.specs.declared.fault.ScriptFault.TheVariants as fault
 use Rattle.ep_script.specs.declared.summary.LineKind.{LineKind}
 use Rattle.ep_script.specs.declared.summary.LineKind.TheVariants as kind
-use Rattle.ep_text.specs.declared.version.Version.{Version}
+use Rattle.ep_version.specs.declared.version.Version.{Version}
 use Rattle.ep_script.specs.Lines.{IsPlain}
 use Rattle.ep_script.specs.Transcript.{Asked, Grows, Outcome, answered, asked_in, bad, head, said, then_in}
 

@@ -5,11 +5,11 @@ use Rattle.ep_base.specs.declared.call.Event.{Event}
 use Rattle.ep_base.specs.declared.ids.CallerId.{CallerId}
 use Rattle.ep_base.specs.declared.record.Record.{Record}
 use Rattle.ep_calls.specs.Acts.{is_no_memory}
-use Rattle.ep_text.specs.declared.version.Version.{Version}
-use Rattle.ep_text.specs.declared.version.Version.TheVariants.{V1}
+use Rattle.ep_version.specs.declared.version.Version.{Version}
+use Rattle.ep_version.specs.declared.version.Version.TheVariants.{V1}
 use Rattle.ep_text.specs.Event.{Command, event}
 use Rattle.ep_text.specs.Line.{bad_line, header_line, line_of}
-use Rattle.ep_text.specs.Version.{header}
+use Rattle.ep_text.specs.Header.{header}
 
 -- ---- what a line is
 

@@ -20,11 +20,12 @@ use Rattle.ep_text.specs.Calls.{read_call, settime_call, shutdown_call, socketpa
 use Rattle.ep_text.specs.Calls.{wait_call, write_call}
 use Rattle.ep_text.specs.declared.line.Line.{Line}
 use Rattle.ep_text.specs.declared.line.Line.TheVariants.{Bad, Command as LineCommand, Header}
-use Rattle.ep_text.specs.declared.version.Version.{Version}
+use Rattle.ep_version.specs.declared.version.Version.{Version}
 use Rattle.ep_text.specs.Key.{key_name}
 use Rattle.ep_text.specs.Keys.{has_only, meant, optional, required, text, unsigned32, unsigned64, ◌>>=◌}
 use Rattle.ep_text.specs.Reason.{unread}
-use Rattle.ep_text.specs.Version.{event_in, without_op}
+use Rattle.ep_text.specs.Header.{without_op}
+use Rattle.ep_version.specs.Version.{event_in}
 
 -- its name, its keys beside `op` and `by`, and the event that it asks for
 pub record Operation : Type 0 where

@@ -1,7 +1,8 @@
+pub use Rattle.ep_version.specs.Version
 pub mod Key
 pub mod Reason
 pub mod Values
-pub mod Version
+pub mod Header
 pub mod Source
 pub mod Flat
 pub mod Keys

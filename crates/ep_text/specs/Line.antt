@@ -6,9 +6,9 @@ use Rattle.ep_base.specs.declared.answer.Answer.{Answer}
 use Rattle.ep_base.specs.declared.answer.Answer.TheVariants.{Bytes, Done, Events, Num, Parked, Refused, Still, Time, Two}
 use Rattle.ep_base.specs.declared.answer.Report.{Report}
 use Rattle.ep_base.specs.Errno.{errno_name, errno_number}
-use Rattle.ep_text.specs.declared.version.Version.{Version}
-use Rattle.ep_text.specs.declared.version.Version.TheVariants.{V1, V2}
-use Rattle.ep_text.specs.Version.{shown_in}
+use Rattle.ep_version.specs.declared.version.Version.{Version}
+use Rattle.ep_version.specs.declared.version.Version.TheVariants.{V1, V2}
+use Rattle.ep_version.specs.Version.{shown_in}
 
 -- its bits, then its data
 abbrev pub report_text : Report → List ℕ

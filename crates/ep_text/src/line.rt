@@ -1,7 +1,7 @@
 //! What a line of a script is.
 
-use crate::version::Version;
 use ep_base::{CallerId, Event};
+use ep_version::Version;
 
 /// What a line is.
 #[derive(Drop, PartialEq, Eq)]

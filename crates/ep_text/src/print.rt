@@ -5,8 +5,8 @@ ghost use Rattle.hex.specs.Hex.{encode_lower};
 ghost use Rattle.ep_base.specs.Errno.{errno_name, errno_number};
 ghost use Rattle.ep_text.specs.Line.{bad_line, header_line, line_of, reports_text};
 
-use crate::version::{Version, shown_in};
 use ep_base::{Answer, Errno, Report};
+use ep_version::{Version, shown_in};
 use std::alloc::{AllocError, Global};
 
 fn push_reports(text: &mut String, reports: &[Report]) -> Result<(), AllocError>

@@ -5,18 +5,19 @@ ghost use Rattle.ep_text.specs.Event.{asked, by_process, command, event, operati
 ghost use Rattle.ep_text.specs.Keys.{ok_map};
 ghost use Rattle.ep_text.specs.Ops.{call_of, operation_of};
 ghost use Rattle.ep_text.specs.Source.{found_data, source_data};
-ghost use Rattle.ep_text.specs.declared.version.Version.{Version};
+ghost use Rattle.ep_version.specs.declared.version.Version.{Version};
 
 use crate::calls::call_of;
 use crate::fields::{required_u64, u32_or, u64_or};
+use crate::header::without_op;
 use crate::key::Key;
 use crate::keys::first_other;
 use crate::op::{CallOp, Op};
 use crate::reason::{Name, Reason, unfit, unread};
 use crate::source::{Found, Source};
 use crate::value_kind::ValueKind;
-use crate::version::{Version, event_in, without_op};
 use ep_base::{CallerId, Event, Pid, Span};
+use ep_version::{Version, event_in};
 use serde_json::Value;
 use std::alloc::{AllocError, Global};
 

@@ -1,7 +1,7 @@
 use Rattle.std.proofs.Common.{ap, option_map, sym, ◌∙◌}
 use Rattle.serde_json.specs.View.{view}
 use Rattle.ep_text.specs.Event.{command_in}
-use Rattle.ep_text.proofs.VersionLemmas.{no_command_first}
+use Rattle.ep_text.proofs.HeaderLemmas.{no_command_first}
 use Rattle.ep_text.proofs.line_reader.line_in.Goals as goal
 
 pub returns-in-Some-clause-command : goal.returns-in-Some-clause-command

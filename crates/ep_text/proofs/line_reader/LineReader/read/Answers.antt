@@ -1,4 +1,4 @@
-use Rattle.ep_text.proofs.VersionLemmas.{no_header_written}
+use Rattle.ep_text.proofs.HeaderLemmas.{no_header_written}
 use Rattle.ep_text.proofs.line_reader.LineReader.read.Goals as goal
 
 pub returns-in-Some-clause-header : goal.returns-in-Some-clause-header

@@ -4,8 +4,8 @@ use Rattle.ep_text.specs.Values.{u64_value}
 use Rattle.serde_json.proofs.Views.{members_len-members_view}
 use Rattle.serde_json.specs.Events.{members_len}
 use Rattle.serde_json.specs.View.{view}
-use Rattle.ep_text.proofs.VersionLemmas.{no_header, one_header}
-use Rattle.ep_text.proofs.version.header_in.Goals as goal
+use Rattle.ep_text.proofs.HeaderLemmas.{no_header, one_header}
+use Rattle.ep_text.proofs.header.header_in.Goals as goal
 
 pub returns-then-len-ne1 : goal.returns-then-len-ne1
 returns-then-len-ne1 c =

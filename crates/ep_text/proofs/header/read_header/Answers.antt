@@ -1,8 +1,8 @@
 use Rattle.std.proofs.Common.{◌∙◌, ◌≡◌}
 use Rattle.std.proofs.lemmas.Bool.{false≢true}
-use Rattle.ep_text.specs.Version.{header}
-use Rattle.ep_text.proofs.VersionLemmas.{no_event, no_json, read_json}
-use Rattle.ep_text.proofs.version.read_header.Goals as goal
+use Rattle.ep_text.specs.Header.{header}
+use Rattle.ep_text.proofs.HeaderLemmas.{no_event, no_json, read_json}
+use Rattle.ep_text.proofs.header.read_header.Goals as goal
 
 pub returns-else-is_memory-clause-named : goal.returns-else-is_memory-clause-named
 returns-else-is_memory-clause-named c = no_json c.args.line.now (c.in-Err.ensures.err (λ m. false≢true (c.if-is_memory.ensures.1 m)))

@@ -11,12 +11,13 @@ use Rattle.serde_json.specs.Find.{as_object, get, get_member}
 use Rattle.serde_json.specs.Read.{read as json}
 use Rattle.serde_json.proofs.Views.{get_member-put_other}
 use Rattle.ep_text.specs.declared.reason.Reason.{Reason}
-use Rattle.ep_text.specs.declared.version.Version.{Version}
+use Rattle.ep_version.specs.declared.version.Version.{Version}
 use Rattle.ep_text.specs.Event.{Command, as_written, command, command_in, event}
 use Rattle.ep_text.specs.Keys.{◌>>=◌}
 use Rattle.ep_text.specs.Reason.{unread}
 use Rattle.ep_text.specs.Values.{u64_value}
-use Rattle.ep_text.specs.Version.{header, header_data, numbered}
+use Rattle.ep_text.specs.Header.{header, header_data}
+use Rattle.ep_version.specs.Version.{numbered}
 
 other : (b : Bool) (o : Option Version) → (b ≡ true → ⊥) → None ≡ (if b then o else None)
 other true o h = absurd (h refl)
