@@ -1,8 +1,10 @@
 -- What the steps of a run do: words for contracts inside this crate.
 use Rattle.std.specs.Io.KnownBytes.{Appends, Keeps}
-use Rattle.std.specs.Prelude.{List, Option, [], if◌then◌else◌, length, take, ℕ, ◌++◌, ◌<◌, ◌≡◌, ◌≢◌, ◌≤◌, ◌⊎◌, ◌∷◌}
+use Rattle.std.specs.Prelude.{List, Option, [], if◌then◌else◌, length, take, ⊤, ℕ, ◌++◌, ◌<◌, ◌≡◌, ◌≢◌, ◌≤◌, ◌⊎◌, ◌∷◌}
 use Rattle.ep_base.specs.declared.record.Record.{Record}
 use Rattle.ep_calls.specs.Acts.{is_no_memory}
+use Rattle.ep_script.specs.declared.fault.RecordedFault.{RecordedFault}
+use Rattle.ep_script.specs.declared.fault.RecordedFault.TheVariants as recorded
 use Rattle.ep_script.specs.declared.fault.ScriptFault.{ScriptFault}
 use Rattle.ep_script.specs.declared.fault.ScriptFault.TheVariants as fault
 use Rattle.ep_script.specs.declared.summary.LineKind.{LineKind}
@@ -54,3 +56,9 @@ AnswerFault fault.Write asked version number old new before after =
 AnswerFault fault.Read asked version number old new before after = ⊥
 AnswerFault fault.Lines asked version number old new before after = ⊥
 AnswerFault (fault.Line k) asked version number old new before after = ⊥
+
+-- no fault of a history
+abbrev pub IsOfScript : RecordedFault → Type 0
+IsOfScript (recorded.Script fault) = ⊤
+IsOfScript recorded.History = ⊥
+IsOfScript recorded.Memory = ⊥

@@ -1,6 +1,6 @@
-//! Writes a record of the history.
+//! Keeps the records of a run, or keeps none.
 ghost use Rattle.std.specs.Io.KnownBytes.{Appends};
-ghost use Rattle.std.specs.Prelude.{◌≡◌, ◌⊎◌, ℕ, IfErr, IfOk, IsErrOf, OnErr, OnOk, Some, false, take, true};
+ghost use Rattle.std.specs.Prelude.{◌≡◌, ◌⊎◌, ℕ, Bool, IfErr, IfOk, IsErrOf, List, None, OnErr, OnOk, Option, Some, false, take, true};
 ghost use Rattle.ep_script.specs.Recorded.{line_at, line_if};
 
 use crate::emit::emit;
@@ -12,6 +12,62 @@ use ep_plain::Kernel;
 use std::alloc::{AllocError, Global};
 use std::io::Write;
 
+/// What keeps the records of a run: a history's writer, or `Nothing`.
+pub(crate) trait Keeper {
+    /// What its writer holds.
+    ghost contents: { Self → Option (List ℕ) };
+
+    /// Whether its writer failed.
+    ghost failed: { Self → Bool };
+
+    /// Whether its writer was asked for anything after that.
+    ghost asked_after: { Self → Bool };
+
+    /// Whether it can fail at all.
+    ghost may_fail: { Bool };
+
+    /// Keeps the record at this place of the kernel's history, if there is one.
+    fn keep<K: Kernel>(
+        &mut self,
+        alloc: Global,
+        kernel: &K,
+        place: usize,
+    ) -> Result<(), RecordedFault>
+        ensures ok { OnOk result
+            (Appends (contents self.old) (contents self.new) (line_at place (K.past kernel.now))) }
+        ensures flag { OnOk result (failed self.new ≡ failed self.old) }
+        ensures once { failed self.old ≡ false → asked_after self.new ≡ asked_after self.old }
+        ensures part { OnErr result
+            ((n : ℕ) × Appends (contents self.old) (contents self.new)
+            (take n (line_at place (K.past kernel.now)))) }
+        ensures err { IfErr result (λ e. (e ≡ RecordedFault.History) ⊎ (e ≡ RecordedFault.Memory)) }
+        ensures err_flag { IsErrOf result RecordedFault.History → failed self.new ≡ true }
+        ensures may { OnErr result (may_fail ≡ true) };
+}
+
+/// Keeps no record.
+#[derive(Drop)]
+pub(crate) struct Nothing;
+
+impl Keeper for Nothing {
+    ghost contents = { λ _. None };
+
+    ghost failed = { λ _. false };
+
+    ghost asked_after = { λ _. false };
+
+    ghost may_fail = { false };
+
+    fn keep<K: Kernel>(
+        &mut self,
+        _alloc: Global,
+        _kernel: &K,
+        _place: usize,
+    ) -> Result<(), RecordedFault> {
+        Ok(())
+    }
+}
+
 /// The line of a record, with its end.
 fn line_of(alloc: Global, entry: &Record) -> Result<Vec<u8>, AllocError>
     ensures { IfOk result (λ line. line.items ≡ line_if (Some entry.now)) }
@@ -21,33 +77,31 @@ fn line_of(alloc: Global, entry: &Record) -> Result<Vec<u8>, AllocError>
     Ok(line)
 }
 
-/// Writes the line of the record at this place of the kernel's history, if there is one, and
-/// flushes it.
-pub(crate) fn keep_record<K: Kernel, H: Write>(
-    alloc: Global,
-    kernel: &K,
-    history: &mut Watched<H>,
-    place: usize,
-) -> Result<(), RecordedFault>
-    ensures ok { OnOk result
-        (Appends (H.contents history.old.inner) (H.contents history.new.inner)
-        (line_at place (K.past kernel.now))) }
-    ensures flag { OnOk result (history.new.failed ≡ history.old.failed) }
-    ensures once { history.old.failed ≡ false → history.new.asked_after ≡ history.old.asked_after }
-    ensures part { OnErr result
-        ((n : ℕ) × Appends (H.contents history.old.inner) (H.contents history.new.inner)
-        (take n (line_at place (K.past kernel.now)))) }
-    ensures err { IfErr result (λ e. (e ≡ RecordedFault.History) ⊎ (e ≡ RecordedFault.Memory)) }
-    ensures err_flag { IsErrOf result RecordedFault.History → history.new.failed ≡ true }
-{
-    let Some(entry) = kernel.history().get(place) else {
-        return Ok(());
-    };
-    let Ok(line) = line_of(alloc, entry) else {
-        return Err(RecordedFault::Memory);
-    };
-    match emit(history, line.as_slice()) {
-        Ok(()) => Ok(()),
-        Err(_) => Err(RecordedFault::History),
+/// Writes the line of each record, and flushes it.
+impl<H: Write> Keeper for Watched<H> {
+    ghost contents = { λ w. H.contents w.inner };
+
+    ghost failed = { λ w. w.failed };
+
+    ghost asked_after = { λ w. w.asked_after };
+
+    ghost may_fail = { true };
+
+    fn keep<K: Kernel>(
+        &mut self,
+        alloc: Global,
+        kernel: &K,
+        place: usize,
+    ) -> Result<(), RecordedFault> {
+        let Some(entry) = kernel.history().get(place) else {
+            return Ok(());
+        };
+        let Ok(line) = line_of(alloc, entry) else {
+            return Err(RecordedFault::Memory);
+        };
+        match emit(self, line.as_slice()) {
+            Ok(()) => Ok(()),
+            Err(_) => Err(RecordedFault::History),
+        }
     }
 }

@@ -14,14 +14,12 @@ mod past;
 mod run;
 mod summary;
 mod watched;
-mod with_history;
 
 pub use crate::fault::{HistoryFault, RecordedFault, ScriptFault};
 pub use crate::history_reader::HistoryReader;
 pub use crate::law::cuts_into_lines;
 pub use crate::past::read_history;
-pub use crate::run::run_script;
+pub use crate::run::{run_recorded, run_script};
 pub use crate::summary::Summary;
 pub use crate::watched::Watched;
-pub use crate::with_history::run_recorded;
 pub use ep_text::{Version, parse_limits, print_answer, read_header, read_limits, read_line};

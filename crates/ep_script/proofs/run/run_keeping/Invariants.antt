@@ -4,7 +4,7 @@ use Rattle.ep_script.specs.Outcome.{Gains}
 use Rattle.ep_script.specs.Recorded.{Writes}
 use Rattle.ep_script.specs.Unread.{unread}
 use Rattle.ep_script.proofs.RunLemmas.{Ran}
-use Rattle.ep_script.proofs.with_history.run_recorded.Given as goal
+use Rattle.ep_script.proofs.run.run_keeping.Given as goal
 
 abbrev pub invariant-loop-done : goal.invariant-loop-done
 invariant-loop-done g l = record {
@@ -16,10 +16,10 @@ invariant-loop-done g l = record {
   bad : l.summary.bad ≤ l.done;
   reader_flag : l.reader.failed ≡ false;
   writer_flag : l.writer.failed ≡ false;
-  history_flag : l.history.failed ≡ false;
+  history_flag : g.T.Keeper.failed l.keeper ≡ false;
   reader_once : l.reader.asked_after ≡ l.fn.reader.asked_after;
   writer_once : l.writer.asked_after ≡ l.fn.writer.asked_after;
-  history_once : l.history.asked_after ≡ l.fn.history.asked_after;
-  writes : Writes (g.H.Write.contents l.fn.history.inner) (g.H.Write.contents l.history.inner) (g.K.Kernel.past l.fn.kernel) (g.K.Kernel.past l.kernel);
+  history_once : g.T.Keeper.asked_after l.keeper ≡ g.T.Keeper.asked_after l.fn.keeper;
+  writes : Writes (g.T.Keeper.contents l.fn.keeper) (g.T.Keeper.contents l.keeper) (g.K.Kernel.past l.fn.kernel) (g.K.Kernel.past l.kernel);
   limits : g.K.Kernel.bounds l.kernel ≡ g.K.Kernel.bounds l.fn.kernel;
 }
