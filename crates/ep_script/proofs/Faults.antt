@@ -241,8 +241,5 @@ never_read X fault.Read c d n old new h k a q = absurd a
 never_read X (fault.Line x) c d n old new h k a q = absurd a
 never_read X fault.Lines c d n old new h k a q = absurd a
 
-pub err_same : {T : Type 0} (a b : ScriptFault) → ◌≡◌ {A = Result T ScriptFault} (Err a) (Err b) → a ≡ b
-err_same a b q = cc
-
 pub end_fault : (k l w v : Option (List ℕ)) (h0 h : List Record) (u : Version) (s : Summary) (e : ScriptFault) → e ≡ fault.Read → Ran k l w v h0 h u s → IfSome k (λ i. Faulted e i w v h0 h)
 end_fault k l w v h0 h u s e q p = rw q (read_fault k l w v h0 h u s p)
