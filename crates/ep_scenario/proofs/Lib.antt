@@ -1,0 +1,5 @@
+mod CutLemmas
+mod PutLemmas
+mod MoveLemmas
+mod CountLemmas
+mod ScheduleLemmas
