@@ -22,6 +22,12 @@ pub trait Files: Drop {
 
     /// The empty file of this name, in place of one that is there.
     fn create(self, path: &str) -> io::Result<Self::History>;
+
+    /// The empty file of this name. It is an error if one is there.
+    fn create_new(&self, path: &str) -> io::Result<Self::History>;
+
+    /// Makes a folder of this name. It is the error `AlreadyExists` if one is there.
+    fn create_dir(&self, path: &str) -> io::Result<()>;
 }
 
 /// Has no file, and makes none.
@@ -46,6 +52,14 @@ impl Files for NoFiles {
     }
 
     fn create(self, _path: &str) -> io::Result<Sink> {
+        Err(io::Error::from(ErrorKind::Unsupported))
+    }
+
+    fn create_new(&self, _path: &str) -> io::Result<Sink> {
+        Err(io::Error::from(ErrorKind::Unsupported))
+    }
+
+    fn create_dir(&self, _path: &str) -> io::Result<()> {
         Err(io::Error::from(ErrorKind::Unsupported))
     }
 }

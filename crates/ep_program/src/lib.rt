@@ -3,9 +3,12 @@
 
 mod bad_lines;
 mod command_line;
+mod every_order;
 mod explainer;
 mod files;
+mod makers;
 mod program;
+mod search;
 mod streams;
 
 pub use crate::command_line::{Settings, options};

@@ -8,8 +8,10 @@ ghost use Rattle.ep_text.specs.Limits.{IsLimitsText};
 
 use crate::bad_lines::tell_bad_lines;
 use crate::command_line::{Settings, options};
+use crate::every_order::Orders;
 use crate::explainer::Explainer;
 use crate::files::{Files, NoFiles};
+use crate::search::{WordsFault, search_of};
 use crate::streams::Stream;
 use clap::error::ErrorKind;
 use ep_base::Limits;
@@ -44,6 +46,17 @@ struct Plan {
     /// Whether such a line makes the status 1.
     strict: bool,
     limits: Limits,
+}
+
+impl Plan {
+    fn of(settings: &Settings<'_>, limits: Limits) -> Plan {
+        Plan {
+            plain: settings.plain,
+            explain: settings.explain,
+            strict: settings.strict,
+            limits,
+        }
+    }
 }
 
 /// Why the script isn't read, or the history can't be written.
@@ -93,6 +106,14 @@ fn refuse_limits<E: Write>(settings: &Settings<'_>, errors: &mut E) -> u8
         let _ = write!(errors, "epsim: bad limits: {fault}\n");
     }
     BAD_LIMITS
+}
+
+/// Tells why the words ask for nothing. A write that fails changes nothing.
+fn refuse_words<E: Write>(fault: &WordsFault<'_>, errors: &mut E) -> u8
+    ensures { result ≡ 2 }
+{
+    let _ = write!(errors, "epsim: {fault}\n");
+    BAD_WORDS
 }
 
 /// Tells why the script can't be opened, or isn't to be answered. A write that fails changes nothing.
@@ -339,6 +360,22 @@ fn history_file<F: Files>(
     Ok(Some(files.create(path)?))
 }
 
+/// Runs every order of the script: of its file, if one is named.
+fn run_orders<R: Read + Drop, W: Write, E: Write, F: Files>(
+    orders: &Orders<'_, F>,
+    script: Option<F::Script>,
+    reader: R,
+    output: &mut W,
+    errors: &mut E,
+) -> u8
+    ensures { result ≤ 2 }
+{
+    match script {
+        Some(file) => orders.run(file, output, errors),
+        None => orders.run(reader, output, errors),
+    }
+}
+
 /// Runs what the words asked for, and tells how it failed.
 fn run_settings<R: Read + Drop, W: Write, E: Write, F: Files>(
     alloc: Global,
@@ -353,20 +390,23 @@ fn run_settings<R: Read + Drop, W: Write, E: Write, F: Files>(
     let Some(limits) = limits_of(settings.limits) else {
         return refuse_limits(settings, errors);
     };
+    let search = match search_of(settings) {
+        Ok(search) => search,
+        Err(fault) => return refuse_words(&fault, errors),
+    };
     let script = match script_file(settings, &files) {
         Ok(script) => script,
         Err(refusal) => return refuse_script(settings, &refusal, errors),
     };
+    if let Some(search) = search {
+        let orders = Orders::new(alloc, settings, limits, search, files);
+        return run_orders(&orders, script, reader, output, errors);
+    }
     let history = match history_file(settings, files, script.as_ref()) {
         Ok(history) => history,
         Err(refusal) => return refuse_history(settings, &refusal, errors),
     };
-    let plan = Plan {
-        plain: settings.plain,
-        explain: settings.explain,
-        strict: settings.strict,
-        limits,
-    };
+    let plan = Plan::of(settings, limits);
     match script {
         Some(file) => run_told(alloc, plan, file, output, errors, history),
         None => run_told(alloc, plan, reader, output, errors, history),
@@ -377,8 +417,9 @@ fn run_settings<R: Read + Drop, W: Write, E: Write, F: Files>(
 /// status. It is
 /// - 0 at the end of the script, or for `--help` and `--version`,
 /// - 1 if the script was not run to its end, or such a text could not be written, or with
-///   `--strict` a line was no command,
-/// - 2 for a bad command line or limits that are none.
+///   `--strict` a line was no command, or with `--orders` not every order was run,
+/// - 2 for a bad command line or limits that are none, or with `--orders` for a script that has none:
+///   a line of it is no call, or all of it is the setup.
 ///
 /// The words are looked at first, then the limits. Then the script is opened by `files`, if one is
 /// named that isn't `-`, else it is `reader`. If that is a file into which the answers would go, by

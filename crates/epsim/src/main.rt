@@ -109,6 +109,14 @@ impl Files for Disk<'_> {
     fn create(self, path: &str) -> io::Result<File> {
         above_streams(fs::create(self.rt, path)?)
     }
+
+    fn create_new(&self, path: &str) -> io::Result<File> {
+        above_streams(File::create_new(self.rt, path)?)
+    }
+
+    fn create_dir(&self, path: &str) -> io::Result<()> {
+        fs::create_dir(self.rt, path)
+    }
 }
 
 fn main(rt: HostRuntime) -> ExitCode {

@@ -87,6 +87,14 @@ impl<'a> Files for Memory<'a> {
         file.clear();
         Ok(file)
     }
+
+    fn create_new(&self, _path: &str) -> io::Result<&'a mut Vec<u8>> {
+        Err(io::Error::from(ErrorKind::Unsupported))
+    }
+
+    fn create_dir(&self, _path: &str) -> io::Result<()> {
+        Err(io::Error::from(ErrorKind::Unsupported))
+    }
 }
 
 /// A file that can be made and not written.
@@ -112,6 +120,14 @@ impl Files for Unwritable {
 
     fn create(self, _path: &str) -> io::Result<Failing> {
         Ok(Failing)
+    }
+
+    fn create_new(&self, _path: &str) -> io::Result<Failing> {
+        Ok(Failing)
+    }
+
+    fn create_dir(&self, _path: &str) -> io::Result<()> {
+        Ok(())
     }
 }
 
