@@ -5,6 +5,8 @@
 #[cfg(test)]
 mod behind;
 #[cfg(test)]
+mod every_order;
+#[cfg(test)]
 mod gates;
 #[cfg(test)]
 mod history;

@@ -88,7 +88,7 @@ fn reads_the_options(rt: HostRuntime) -> Result<(), Fail> {
     Ok(())
 }
 
-fn expect_run<R: Read + Drop>(
+pub(crate) fn expect_run<R: Read + Drop>(
     rt: &(impl AllocGlobal + Abort),
     given: &[&str],
     reader: R,

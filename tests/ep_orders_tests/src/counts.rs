@@ -1,22 +1,10 @@
 //! How many orders there are.
 
+use crate::outcomes::WORKERS;
 use crate::scenarios::{Plain, Ready, count};
 use ep_orders::{ClockTurns, Rules};
 use std::process::Abort;
 use std::test::Fail;
-
-/// Two workers at one edge-triggered instance over an eventfd, and two writes. It has 76 orders, as an explorer in
-/// Python found.
-const WORKERS: &str = "{\"op\":\"eventfd\",\"init\":0}
-{\"op\":\"epoll\"}
-{\"op\":\"ctl\",\"ep\":4,\"act\":\"add\",\"fd\":3,\"mask\":\"IN|ET\",\"data\":3}
-{\"op\":\"wait\",\"by\":1,\"ep\":4,\"max\":1,\"timeout\":-1}
-{\"op\":\"read\",\"by\":1,\"fd\":3,\"n\":8}
-{\"op\":\"wait\",\"by\":2,\"ep\":4,\"max\":1,\"timeout\":-1}
-{\"op\":\"read\",\"by\":2,\"fd\":3,\"n\":8}
-{\"op\":\"write\",\"by\":3,\"fd\":3,\"hex\":\"0100000000000000\"}
-{\"op\":\"write\",\"by\":3,\"fd\":3,\"hex\":\"0100000000000000\"}
-";
 
 /// A pipe that an edge-triggered instance watches.
 const PIPE: &str = "{\"op\":\"pipe\"}

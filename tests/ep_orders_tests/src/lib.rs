@@ -5,4 +5,6 @@
 #[cfg(test)]
 mod counts;
 #[cfg(test)]
+mod outcomes;
+#[cfg(test)]
 mod scenarios;
