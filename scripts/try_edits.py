@@ -1,6 +1,7 @@
 """How scripts/check-edits tries edits, by the kit's rt, which is loaded as a module: where an edit is, which edits are
 tried in one check, and what each comes to. The head of scripts/check-edits says what counts as refused."""
 import collections
+import functools
 import importlib.machinery
 import importlib.util
 import os
@@ -15,10 +16,14 @@ import older_kit
 FAILED = re.compile(r"(?:note: )?(?:\./)?((?:src|specs|proofs)/\S+?):(\d+):\d+: (?:error|it is not proved)")
 OF_ANOTHER = re.compile(r"has no field|is not in scope|has no `|was not admitted")
 
+# A type that a line declares.
+DECLARED = re.compile(r"^(?:pub(?:\([^)]*\))? )?(?:struct|enum|union) (\w+)")
+
 # How many edits are tried in one check at most: more save little, and leave processors idle.
 MOST = 12
 
-# A function of src/: its file, its first line and those with the braces of its body, counted from 0, and its name.
+# A function of src/: its file, its first line, attributes included, those with the braces of its body, and its name.
+# Lines are counted from 0.
 Function = collections.namedtuple("Function", "file start first last name")
 
 
@@ -49,16 +54,41 @@ def owner_of(line):
     return names[names.index("trait" if "trait" in names else "impl") + 1]
 
 
-def functions(path, lines):
+def module_of(path):
+    """Returns the names of the module that a file of src/ is."""
+    return [it for it in path[len("src/") : -len(".rt")].split("/") if it not in ("lib", "main", "mod")]
+
+
+@functools.cache
+def homes(folder):
+    """Returns the module of each type that a crate declares, by its name."""
+    found = {}
+    for path in (os.path.relpath(f"{at}/{it}", folder) for at, _, names in os.walk(f"{folder}/src") for it in names):
+        if path.endswith(".rt"):
+            found |= {name: module_of(path) for line in lines_of(f"{folder}/{path}") for name in DECLARED.findall(line)}
+    return found
+
+
+def attributes_above(lines, number):
+    """Returns the number of the first of the attributes that stand right above a line, or the line's own."""
+    while number and re.match(r" *#\[", lines[number - 1]):
+        number -= 1
+    return number
+
+
+def functions(folder, path, lines):
     """Gives the functions of a file of src/, which is laid out as rt fmt does it, but those by whose body more than
-    their own goals may change: constant ones, those whose answer has a type that only the body says, and cycles."""
-    module = [it for it in path[len("src/") : -len(".rt")].split("/") if it not in ("lib", "main", "mod")]
-    owner = ""
+    their own goals may change: constant ones, those whose answer has a type that only the body says, and cycles.
+
+    A type's own function is named after the file that declares the type, and one that a trait asks for after its own.
+    """
+    module, owner = module_of(path), []
     for number, line in enumerate(lines):
         if re.match(r"((pub(\([^)]*\))?|unsafe) )*(impl|trait)\b", line):
-            owner = owner_of(line)
+            name = owner_of(line)
+            owner = [*(module if " for " in line else homes(folder).get(name, module)), name]
         elif line == "}":
-            owner = ""
+            owner = []
         found = re.match(r"((?:    )?)(?:(?:pub(?:\([^)]*\))?|unsafe) )*fn (\w+)", line)
         if found and f"{found[1]}}}" in lines[number:]:
             last = lines.index(f"{found[1]}}}", number)
@@ -66,8 +96,8 @@ def functions(path, lines):
             opens += [it for it in range(number, last) if lines[it].endswith("{")]
             has_type = "-> impl" not in "".join(lines[number : opens[0] + 1]) if opens else False
             if has_type and not any("#[cycle" in it for it in lines):
-                name = "::".join([*module, *([owner] if owner else []), found[2]])
-                yield Function(path, number, opens[0], last, name)
+                name = "::".join([*(owner or module), found[2]])
+                yield Function(path, attributes_above(lines, number), opens[0], last, name)
 
 
 def function_of(folder, texts):
@@ -78,7 +108,7 @@ def function_of(folder, texts):
     old, new = lines_of(f"{folder}/{path}"), text.split("\n")
     changed = [number for number, pair in enumerate(zip(old, new)) if pair[0] != pair[1]]
     is_around = lambda it: all(it.first < number < it.last for number in changed)
-    return next(filter(is_around, functions(path, old)), None) if len(old) == len(new) else None
+    return next(filter(is_around, functions(folder, path, old)), None) if len(old) == len(new) else None
 
 
 def load_rt():
