@@ -30,7 +30,7 @@ const APART: &str = "{\"op\":\"eventfd\",\"init\":0}
 ";
 
 /// A wait that gives up after 5 milliseconds, and a peer that writes twice.
-const LATE: &str = "{\"op\":\"pipe\"}
+pub(crate) const LATE: &str = "{\"op\":\"pipe\"}
 {\"op\":\"epoll\"}
 {\"op\":\"ctl\",\"ep\":5,\"act\":\"add\",\"fd\":3,\"mask\":\"IN\"}
 {\"op\":\"wait\",\"by\":1,\"ep\":5,\"max\":1,\"timeout\":5}

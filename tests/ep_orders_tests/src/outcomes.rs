@@ -1,5 +1,6 @@
 //! What the orders of a script come to, and scripts that play them.
 
+use crate::counts::LATE;
 use crate::scenarios::Ready;
 use ep_base::{CallerId, Limits};
 use ep_kernel::ReadyKernel;
@@ -22,16 +23,6 @@ pub(crate) const WORKERS: &str = "{\"op\":\"eventfd\",\"init\":0}
 {\"op\":\"read\",\"by\":2,\"fd\":3,\"n\":8}
 {\"op\":\"write\",\"by\":3,\"fd\":3,\"hex\":\"0100000000000000\"}
 {\"op\":\"write\",\"by\":3,\"fd\":3,\"hex\":\"0100000000000000\"}
-";
-
-/// A wait that gives up after 5 milliseconds, and a peer that writes twice.
-const LATE: &str = "{\"op\":\"pipe\"}
-{\"op\":\"epoll\"}
-{\"op\":\"ctl\",\"ep\":5,\"act\":\"add\",\"fd\":3,\"mask\":\"IN\"}
-{\"op\":\"wait\",\"by\":1,\"ep\":5,\"max\":1,\"timeout\":5}
-{\"op\":\"read\",\"by\":1,\"fd\":3,\"n\":8}
-{\"op\":\"write\",\"by\":2,\"fd\":4,\"hex\":\"61\"}
-{\"op\":\"write\",\"by\":2,\"fd\":4,\"hex\":\"62\"}
 ";
 
 /// Nobody writes.
