@@ -92,6 +92,12 @@ static int64_t ask(struct nippersage_task task, struct exchange *x) {
     return result;
 }
 
+/* A call that comes to no event for want of memory. An order has to know of it, as it sees events only. */
+static int no_memory(struct nippersage_task task) {
+    if (task.kernel && task.kernel->order) order_starves(task.kernel->order);
+    return -ENOMEM;
+}
+
 #define ASK(task, ...) ask(task, &(struct exchange){.request = {__VA_ARGS__}})
 
 static uint32_t cloexec(int set) { return set ? EP_CLOEXEC : 0; }
@@ -318,7 +324,7 @@ ssize_t nippersage_readv(struct nippersage_task task, int fd, const struct iovec
     if (most < 0) return most;
     if ((size_t)most > MOST_READ) most = MOST_READ;
     bytes = malloc(most > 0 ? (size_t)most : 1);
-    if (!bytes) return -ENOMEM;
+    if (!bytes) return no_memory(task);
     got = nippersage_read(task, fd, bytes, (size_t)most);
     for (int i = 0; done < got; i++) {
         size_t part = (size_t)(got - done) < vectors[i].iov_len ? (size_t)(got - done) : vectors[i].iov_len;
@@ -335,7 +341,7 @@ ssize_t nippersage_writev(struct nippersage_task task, int fd, const struct iove
     unsigned char *bytes;
     if (most < 0) return most;
     bytes = malloc(most > 0 ? (size_t)most : 1);
-    if (!bytes) return -ENOMEM;
+    if (!bytes) return no_memory(task);
     for (int i = 0; done < (size_t)most; i++) {
         size_t part = (size_t)most - done < vectors[i].iov_len ? (size_t)most - done : vectors[i].iov_len;
         if (part > 0) memcpy(bytes + done, vectors[i].iov_base, part);
@@ -404,7 +410,7 @@ static int start(struct nippersage_task task, int epfd, struct epoll_event *even
     int64_t result;
     if (!events && maxevents > 0) return -EFAULT;
     x.reports = most > 0 ? (size_t)most : 0;
-    if (!has_room(kernel) || !kernel_has_reports(kernel, x.reports)) return -ENOMEM;
+    if (!has_room(kernel) || !kernel_has_reports(kernel, x.reports)) return no_memory(task);
     result = kernel_make(task, &x);
     if (result == EP_PARKED)
         kernel->parked[kernel->parked_count++] = (struct parked){task.caller, task.pid, epfd, most, timeout};

@@ -304,6 +304,7 @@ struct nippersage_options {
     int (*start)(void *given, int number, const char *name, void *(*run)(void *), void *argument);
     void (*join)(void *given, int number);
     void *given;
+    int outcomes; /* are counted, for the result */
 };
 
 /* Why an order failed, or what is wrong with what was given. */
@@ -322,6 +323,15 @@ enum nippersage_kind {
     NIPPERSAGE_STUCK         /* a thread waits for something that is not the kernel's */
 };
 
+/* What one order came to or several: of each task the answers of its calls, in their order, and whether it came to its
+ * end; and the kind of failure. A wait that parked has one answer, which is what ended it. Of bytes that were read the
+ * first 24 count, and how many there were. */
+struct nippersage_outcome {
+    enum nippersage_kind kind; /* why these orders failed, or NIPPERSAGE_NO_FAILURE */
+    uint64_t runs;             /* how many they are */
+    char *order;               /* the schedule of the first of them */
+};
+
 struct nippersage_result {
     enum nippersage_kind kind;
     char *message; /* the failure, what is wrong, or what was tried; NULL for want of memory */
@@ -333,16 +343,20 @@ struct nippersage_result {
     uint64_t cut; /* orders that were cut, as a task went on and on while another could have gone */
     uint64_t seed;
     double seconds;
+    /* If they are counted: each once, in the order in which they were seen first. Their runs add up to `runs`. */
+    struct nippersage_outcome *outcomes;
+    size_t outcomes_count; /* 0, and `outcomes` is NULL, if they aren't, or if the answer is below 0 */
 };
 
 /* Tries orders of what tasks do, each from `setup` to its end, where nobody can go on, and makes the first small that
  * fails. 0 if none failed, 1 if one did. -EINVAL for what is wrong with the program, an option or a schedule, or if a
  * task doesn't make the same call again; -ETIMEDOUT if a thread is stuck: it is left alone, and so is its kernel.
- * -ENOMEM. In each case result->message tells. A limit that was reached is told there, too. */
+ * -ENOMEM; where outcomes are counted also if a call of the program was, as such an order comes to none. In each case
+ * result->message tells. A limit that was reached is told there, too. */
 int nippersage_explore(const struct nippersage_program *program, void *shared, const struct nippersage_options *options,
                        struct nippersage_result *result);
 
-/* Frees the texts of a result. */
+/* Frees the texts and the outcomes of a result, which then has none. NULL is let be. */
 void nippersage_result_free(struct nippersage_result *result);
 
 /* Says why a task fails, for the message: `return nippersage_fail(task, "a short write");`. It answers an error number,

@@ -132,12 +132,14 @@ struct found {
     struct text parts;
 };
 
-static void count(struct search *search, struct verdict verdict) {
+/* Counts the last order, and what it came to. 0 or -ENOMEM. */
+static int count(struct search *search, struct verdict verdict) {
     struct nippersage_result *result = search->result;
     result->runs++;
     result->turns += search->order.turns.count;
     result->cut += (uint64_t)(search->order.is_cut && search->order.is_unfair);
     result->failures += verdict.kind != 0;
+    return outcomes_add(search, verdict);
 }
 
 static int not_again(struct search *search) {
@@ -234,8 +236,8 @@ static int try_order(struct search *search, struct found *found, const struct pa
     if (status < 0) return status;
     ways_end(&search->ways, search->order.turns.all, search->order.turns.count);
     if (search->ways.lacks) return -ENOMEM;
-    count(search, verdict);
-    if (verdict.kind && !found->verdict.kind) status = keep_first(search, found, part, verdict);
+    status = count(search, verdict);
+    if (status == 0 && verdict.kind && !found->verdict.kind) status = keep_first(search, found, part, verdict);
     if (status == 0 && is_first) status = look_again(search, verdict);
     return status;
 }
@@ -344,8 +346,8 @@ static int run_given(struct search *search, struct found *found, const struct sc
     ways_open(&ways, BY_TURNS, clock_of(search));
     ways_given(&ways, schedule->turns.all, schedule->turns.count, schedule->is_open, 0, 1);
     status = run_order(search, &ways, &verdict);
+    if (status == 0) status = count(search, verdict);
     if (status < 0) return status;
-    count(search, verdict);
     text_add(&found->parts, "one order, as it was given");
     text_add(&search->how, "as it was given");
     found->verdict = verdict;
@@ -409,6 +411,9 @@ int nippersage_explore(const struct nippersage_program *program, void *shared, c
         message.length = 0;
         text_add(&message, "%s", error_name(-(int64_t)status));
     }
+    /* What isn't the count of all that was run is no count. */
+    if (status < 0) outcomes_drop(result);
+    outcomes_free(&search->outcomes);
     result->message = text_take(&message);
     text_clear(&search->fault.text);
     if (!search->is_abandoned) free_search(search);
@@ -423,6 +428,7 @@ void nippersage_result_free(struct nippersage_result *result) {
     free(result->order);
     free(result->found);
     result->message = result->order = result->found = NULL;
+    outcomes_drop(result);
 }
 
 int nippersage_fail(struct nippersage_task task, const char *why) {

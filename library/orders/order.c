@@ -25,17 +25,11 @@ static struct text *fault(struct order *order, int kind) {
 
 /* ---- calls ---- */
 
-static uint64_t hash_of(const uint8_t *bytes, size_t count) {
-    uint64_t hash = UINT64_C(0xcbf29ce484222325); /* FNV-1a */
-    for (size_t i = 0; i < count; i++) hash = (hash ^ bytes[i]) * UINT64_C(0x100000001b3);
-    return hash;
-}
-
 static void step_given(struct step *step, const void *bytes, size_t count) {
     step->given_length = count;
     if (!bytes || count == 0) return;
     step->given_hash = hash_of(bytes, count);
-    memcpy(step->given, bytes, count < SHOWN ? count : SHOWN);
+    memcpy(step->given, bytes, shown_of(count));
 }
 
 /* A call as it is to be made, or was made. */
@@ -146,10 +140,13 @@ static void note_parked(struct order *order, const struct step *step) {
     if (step->request.event == EP_RESUME && step->result >= 0) order->parked &= ~set_of(step->number);
 }
 
+void order_starves(struct order *order) { order->lacks |= order->search->options.outcomes != 0; }
+
 void order_note(struct order *order, struct nippersage_task task, const struct exchange *x, int64_t result) {
     int is_wait = x->request.event == EP_WAIT || x->request.event == EP_RESUME;
     struct step step;
     (void)task;
+    if (result == -ENOMEM) order_starves(order);
     if (order->phase == AT_END) return;
     step = step_of(order->phase == IN_SETUP ? SETUP : order->going, x);
     step.result = result;
@@ -158,7 +155,7 @@ void order_note(struct order *order, struct nippersage_task task, const struct e
         step.second = x->reply.second;
         step.value = x->reply.value;
         step.interval = x->reply.interval;
-        if (x->request.event == EP_READ) memcpy(step.got, x->bytes, (size_t)(result < SHOWN ? result : SHOWN));
+        if (x->request.event == EP_READ) memcpy(step.got, x->bytes, shown_of((uint64_t)result));
     }
     if ((is_wait && result >= 0 && keep_reports(order, &step) < 0) || steps_put(order->now, &step) < 0) {
         order->lacks = 1;

@@ -32,6 +32,7 @@ struct text {
 };
 
 void text_add(struct text *text, const char *format, ...) __attribute__((format(printf, 2, 3)));
+void text_put(struct text *text, const void *bytes, size_t count); /* bytes as they are, also if some are 0 */
 void text_fill(struct text *text, size_t from, size_t columns); /* blanks until there are so many columns from there */
 void text_clear(struct text *text);
 /* The bytes of a text, which is then empty; NULL if memory was wanting. To be freed. */
@@ -42,6 +43,8 @@ void text_count(struct text *text, uint64_t count, const char *word);
 
 /* Makes room for one more in a list of things of this size. 0 for want of memory. */
 int has_place(void **list, size_t count, size_t *room, size_t size);
+
+uint64_t hash_of(const void *bytes, size_t count);
 
 /* Turns: who went, one after another. */
 struct turns_made {
@@ -75,6 +78,13 @@ struct steps {
 int steps_put(struct steps *steps, const struct step *step);
 int is_same_call(const struct step *one, const struct step *other);
 void steps_free(struct steps *steps);
+
+/* What the answer of a call is made of. NOT_YET is that of a wait which goes on. */
+enum answer { NOT_YET, AN_ERROR, NOTHING, A_NUMBER, TWO_NUMBERS, TWO_TIMES, BYTES, REPORTS };
+enum answer answer_of(const struct step *step);
+
+/* So many bytes of a read or write are known: those at its beginning. */
+static inline size_t shown_of(uint64_t count) { return count < SHOWN ? (size_t)count : SHOWN; }
 
 void text_call(struct text *text, const struct step *step);
 void text_answer(struct text *text, const struct steps *steps, const struct step *step);
@@ -254,6 +264,8 @@ struct order {
 int order_may_call(struct order *order, struct nippersage_task task, const struct exchange *x);
 /* Behind a call, or behind a turn without one. */
 void order_note(struct order *order, struct nippersage_task task, const struct exchange *x, int64_t result);
+/* A call found no memory, so its answer isn't the kernel's. Where outcomes are counted, the search comes to -ENOMEM. */
+void order_starves(struct order *order);
 /* A turn without a call, with its name. */
 int order_share(struct order *order, struct nippersage_task task, const char *what);
 /* Before a thread stands at a call: 0, or -EPERM if it isn't the one that goes on, or calls as another task. */
@@ -264,6 +276,24 @@ int order_is_by_turn(const struct order *order);
 int order_next(struct order *order);
 /* Looks whether the order before went on from here, at the end. */
 void order_look_at_end(struct order *order);
+
+/* ---- outcomes ---- */
+
+/* An outcome by its bytes, by which it is found again, and their hash. */
+struct known {
+    uint64_t hash;
+    char *bytes;
+    size_t length;
+};
+
+/* What orders came to, where that is counted. An outcome has the same place in `all` as in the result. */
+struct outcomes {
+    struct text now; /* what the last order came to, as bytes */
+    struct known *all;
+    size_t count, room, told_room;
+    size_t *slots;      /* the places from 1 on, found by the hash; 0 is a free slot */
+    size_t slots_count; /* a power of two; half of them are free at least */
+};
 
 /* ---- a search ---- */
 
@@ -286,6 +316,7 @@ struct search {
     struct text check;           /* what the check found */
     struct fault fault;
     struct text how;             /* how the first failure was found */
+    struct outcomes outcomes;
     int is_abandoned;            /* whether a thread is left that may use all this */
     double began;
 };
@@ -299,6 +330,12 @@ void text_verdict(struct text *text, struct search *search, struct verdict verdi
 /* A line for each task that sleeps at the end of the last order. */
 void text_asleep(struct text *text, struct search *search);
 struct verdict judge(struct search *search);
+
+/* Counts what the last order came to, if that is asked for. 0 or -ENOMEM. */
+int outcomes_add(struct search *search, struct verdict verdict);
+void outcomes_free(struct outcomes *outcomes);
+/* Frees those of a result, which then has none. */
+void outcomes_drop(struct nippersage_result *result);
 
 /* Makes the order of these turns small. How many orders were tried. */
 int shrink(struct search *search, struct turns_made *best, struct verdict verdict, uint64_t *tried);

@@ -37,7 +37,7 @@ static void run_by_turns(struct search *search) {
     int number;
     while ((number = order_next(&search->order)) != NOBODY) {
         int result = search->program->tasks[number].turn(task_of(search, number), search->shared);
-        if (search->fault.kind) return;
+        if (search->fault.kind || search->order.lacks) return;
         if (search->order.calls == 0 && result >= 0) {
             no_call(search, number);
             return;

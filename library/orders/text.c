@@ -35,6 +35,13 @@ void text_add(struct text *text, const char *format, ...) {
     text->length += (size_t)more;
 }
 
+void text_put(struct text *text, const void *bytes, size_t count) {
+    if (!has_bytes(text, count)) return;
+    memcpy(text->bytes + text->length, bytes, count);
+    text->length += count;
+    text->bytes[text->length] = 0;
+}
+
 void text_fill(struct text *text, size_t from, size_t columns) {
     while (!text->lacks && text->length - from < columns) text_add(text, " ");
 }
@@ -73,6 +80,13 @@ int has_place(void **list, size_t count, size_t *room, size_t size) {
     *list = block;
     *room = more;
     return 1;
+}
+
+uint64_t hash_of(const void *bytes, size_t count) {
+    const uint8_t *all = bytes;
+    uint64_t hash = UINT64_C(0xcbf29ce484222325); /* FNV-1a */
+    for (size_t i = 0; i < count; i++) hash = (hash ^ all[i]) * UINT64_C(0x100000001b3);
+    return hash;
 }
 
 int turns_put(struct turns_made *turns, int who) {

@@ -132,7 +132,7 @@ static void text_words(struct text *text, const struct step *step) {
     };
     const struct ep_request *request = &step->request;
     switch (request->event) {
-    case 0: text_add(text, "shared(%.*s", (int)(step->given_length < SHOWN ? step->given_length : SHOWN), step->given); break;
+    case 0: text_add(text, "shared(%.*s", (int)shown_of(step->given_length), step->given); break;
     case EP_EVENTFD: text_add(text, "eventfd(%" PRIu32, request->count); break;
     case EP_CTL: text_ctl(text, request); break;
     case EP_WAIT: text_wait(text, request); break;
@@ -173,26 +173,37 @@ static void text_reports(struct text *text, const struct steps *steps, const str
     text_add(text, "]");
 }
 
+enum answer answer_of(const struct step *step) {
+    if (step->result == EP_PARKED) return NOT_YET;
+    if (step->result < 0) return AN_ERROR;
+    switch (step->request.event) {
+    case EP_PIPE: case EP_SOCKETPAIR: return TWO_NUMBERS;
+    case EP_WAIT: case EP_RESUME: return REPORTS;
+    case EP_READ: return BYTES;
+    case EP_SETTIME: case EP_GETTIME: return TWO_TIMES;
+    case EP_EVENTFD: case EP_TIMERFD: case EP_PLAIN: case EP_CREATE: return A_NUMBER;
+    case EP_WRITE: case EP_DUP: case EP_DUP2: case EP_FORK: return A_NUMBER;
+    default: return NOTHING;
+    }
+}
+
+static void text_times(struct text *text, const struct step *step) {
+    text_add(text, "(");
+    text_time(text, step->value);
+    text_add(text, ", ");
+    text_time(text, step->interval);
+    text_add(text, ")");
+}
+
 void text_answer(struct text *text, const struct steps *steps, const struct step *step) {
-    uint32_t event = step->request.event;
-    if (step->result == EP_PARKED) {
-        text_add(text, event == EP_WAIT ? "sleeps" : "sleeps on");
-    } else if (step->result < 0) {
-        text_add(text, "%s", error_name(-step->result));
-    } else if (event == EP_PIPE || event == EP_SOCKETPAIR) {
-        text_add(text, "(%d, %d)", step->first, step->second);
-    } else if (event == EP_WAIT || event == EP_RESUME) {
-        text_reports(text, steps, step);
-    } else if (event == EP_READ) {
-        text_bytes(text, step->got, (uint64_t)step->result);
-    } else if (event == EP_SETTIME || event == EP_GETTIME) {
-        text_add(text, "(");
-        text_time(text, step->value);
-        text_add(text, ", ");
-        text_time(text, step->interval);
-        text_add(text, ")");
-    } else if (event == EP_EVENTFD || event == EP_TIMERFD || event == EP_PLAIN || event == EP_CREATE ||
-               event == EP_WRITE || event == EP_DUP || event == EP_DUP2 || event == EP_FORK) {
-        text_add(text, "%" PRId64, step->result);
+    switch (answer_of(step)) {
+    case NOT_YET: text_add(text, step->request.event == EP_WAIT ? "sleeps" : "sleeps on"); break;
+    case AN_ERROR: text_add(text, "%s", error_name(-step->result)); break;
+    case NOTHING: break;
+    case A_NUMBER: text_add(text, "%" PRId64, step->result); break;
+    case TWO_NUMBERS: text_add(text, "(%d, %d)", step->first, step->second); break;
+    case TWO_TIMES: text_times(text, step); break;
+    case BYTES: text_bytes(text, step->got, (uint64_t)step->result); break;
+    case REPORTS: text_reports(text, steps, step); break;
     }
 }

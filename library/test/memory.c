@@ -57,25 +57,62 @@ static void calls(struct nippersage_kernel *kernel) {
     close(sink);
 }
 
-/* An exploration answers something, and loses no memory. A call of its tasks may be the one that is refused. */
-static int explores(const struct example *example, const struct nippersage_options *options) {
+/* If outcomes are counted the count is right or there is none, whatever was refused: so many orders come to the first
+   of two, and the others to the second. */
+static void look_at_outcomes(const struct nippersage_result *result, int status, uint64_t first) {
+    if (status < 0) {
+        IS(result->outcomes == NULL && result->outcomes_count == 0, 1);
+        return;
+    }
+    IS(result->outcomes_count, result->runs > first ? 2 : 1);
+    IS(result->outcomes[0].runs, first);
+    if (result->runs > first) IS(result->outcomes[1].runs, result->runs - first);
+}
+
+/* An exploration answers something, and loses no memory. A call of its tasks may be the one that is refused: that is a
+   failure, but where outcomes are counted. */
+static int explores(const struct example *example, const struct nippersage_options *options, int wanted,
+                    uint64_t first) {
     struct shared shared = {.example = example};
     struct nippersage_program program = program_of(example);
     struct nippersage_result result;
     int status = nippersage_explore(&program, &shared, options, &result);
+    if (status >= 0 && options->outcomes) IS(status, wanted);
+    if (options->outcomes) look_at_outcomes(&result, status, first);
     nippersage_result_free(&result);
     return status;
 }
 
-static void explore_without_memory(const struct example *example, const struct nippersage_options *options, int wanted) {
+static void explore_without_memory(const struct example *example, const struct nippersage_options *options, int wanted,
+                                   uint64_t first) {
     for (failed = 1, left = 0; failed > 0; left++) {
         long turn = left;
         failed = 0;
-        IS(explores(example, options) <= 1, 1);
+        IS(explores(example, options, wanted, first) <= 1, 1);
         left = turn;
     }
     left = -1;
-    IS(explores(example, options), wanted);
+    IS(explores(example, options, wanted, first), wanted);
+}
+
+/* A task that goes on whatever its call answers. */
+static int looks(struct nippersage_task task, void *shared) {
+    struct epoll_event event;
+    nippersage_epoll_wait(task, ((const struct shared *)shared)->ep, &event, 1, 0);
+    return 0;
+}
+
+/* Nobody fails for want of memory here, neither a task nor the check: only the count would be wrong. */
+static void count_without_memory(void) {
+    struct nippersage_options every = {.how = NIPPERSAGE_EVERY, .outcomes = 1};
+    struct nippersage_options one = {.order = "peer*3 loop*3", .outcomes = 1};
+    struct example impatient = {GIVES_UP(0)}, unchecked = FAULTS[0];
+    struct example looking = {.setup = watched_pipe, .mask = EPOLLIN, .count = 2,
+                              .tasks = {{.name = "a", .run = looks}, {.name = "b", .run = looks}}};
+    unchecked.check = NULL;
+    explore_without_memory(&impatient, &every, 0, 4);
+    explore_without_memory(&looking, &every, 0, 2);
+    explore_without_memory(&unchecked, &one, 1, 1);
 }
 
 int main(void) {
@@ -90,8 +127,9 @@ int main(void) {
         nippersage_free(kernel);
     } while (failed > 0);
     IS(turn > 20, 1);
-    explore_without_memory(&FAULTS[0], &(struct nippersage_options){.order = "peer*3 loop*3"}, 1);
-    explore_without_memory(&FAULTS[1], &(struct nippersage_options){.how = NIPPERSAGE_RISING, .runs = 2}, 0);
-    explore_without_memory(&FAULTS[1], &(struct nippersage_options){.how = NIPPERSAGE_PCT, .runs = 1}, 0);
+    explore_without_memory(&FAULTS[0], &(struct nippersage_options){.order = "peer*3 loop*3"}, 1, 0);
+    explore_without_memory(&FAULTS[1], &(struct nippersage_options){.how = NIPPERSAGE_RISING, .runs = 2}, 0, 0);
+    explore_without_memory(&FAULTS[1], &(struct nippersage_options){.how = NIPPERSAGE_PCT, .runs = 1}, 0, 0);
+    count_without_memory();
     return 0;
 }

@@ -107,6 +107,8 @@ static void counts_of_lines(void) {
     struct nippersage_result result = explore(&THREE, &every, 0);
     IS(result.runs, 90);
     IS(result.turns, 540);
+    IS(result.outcomes_count, 0);
+    IS(result.outcomes == NULL, 1);
     nippersage_result_free(&result);
     for (int bound = 0; bound < 3; bound++) {
         struct nippersage_options options = {.how = NIPPERSAGE_BOUND, .bound = bound};
@@ -304,6 +306,182 @@ static void by_hand(void) {
     nippersage_result_free(&result);
 }
 
+/* ---- outcomes ---- */
+
+static int waits_once(struct nippersage_task task, void *shared) {
+    struct shared *e = shared;
+    uint64_t value;
+    ssize_t got;
+    if (e->at[task.caller - 1] == 0) return wait_at(task, e, e->ep, 1);
+    got = nippersage_read(task, e->reader, &value, 8);
+    return got == 8 || got == -EAGAIN ? 0 : -EIO;
+}
+
+static int counter(struct nippersage_kernel *kernel, void *shared) {
+    struct shared *e = start(shared);
+    struct nippersage_task task = {kernel, 0, 1};
+    TRY(e->eps[2] = e->reader = nippersage_eventfd(task, 0, 0));
+    TRY(e->ep = nippersage_epoll_create1(task, 0));
+    return add(task, e->ep, e->reader, EPOLLIN | EPOLLET, 3);
+}
+
+/* Each task writes `length` bytes, of which the last is its own; but the last task reads them. */
+static int writes_or_reads(struct nippersage_task task, void *shared) {
+    struct shared *e = shared;
+    size_t length = (size_t)e->example->writes;
+    ssize_t count;
+    char bytes[32];
+    memset(bytes, 'x', sizeof bytes);
+    bytes[length - 1] = (char)('0' + task.caller);
+    if (task.caller < e->example->count)
+        count = nippersage_write(task, e->writer, bytes, length);
+    else
+        count = nippersage_read(task, e->reader, bytes, length);
+    return count < 0 && count != -EAGAIN ? (int)count : 0;
+}
+
+static int fills(struct nippersage_task task, void *shared) {
+    static const char bytes[4096];
+    ssize_t count = nippersage_write(task, ((const struct shared *)shared)->writer, bytes, sizeof bytes);
+    return count < 0 && count != -EAGAIN ? (int)count : 0;
+}
+
+static int signs(struct nippersage_task task, void *shared) {
+    int status = nippersage_shared(task, "taken");
+    ((struct shared *)shared)->taken = (int)task.caller;
+    return status;
+}
+
+static const char *second_signs_last(struct nippersage_kernel *kernel, void *shared) {
+    (void)kernel;
+    return ((const struct shared *)shared)->taken == 2 ? NULL : "the first signed last";
+}
+
+static int dups_twice(struct nippersage_task task, void *shared) {
+    struct shared *e = shared;
+    int fd = nippersage_dup(task, 0);
+    return fd < 0 ? fd : ++e->count[task.caller - 1] < 2;
+}
+
+#define TASK(name_, turn_) {.name = name_, .turn = turn_}
+#define DAEMON(name_, turn_) {.name = name_, .turn = turn_, .is_daemon = 1}
+#define WORKERS                                                                                     \
+    .setup = counter, .tasks = {DAEMON("w1", waits_once), DAEMON("w2", waits_once), TASK("boss", twice)}, .count = 3
+#define READS(length_)                                                                              \
+    .setup = watched_pipe, .mask = EPOLLIN, .writes = length_, .count = 3,                          \
+    .tasks = {TASK("a", writes_or_reads), TASK("b", writes_or_reads), TASK("c", writes_or_reads)}
+#define SIGNS(check_)                                                                               \
+    .setup = lines, .tasks = {TASK("a", signs), TASK("b", signs)}, .count = 2, .check = check_
+
+/* An example, and how many of its orders come to each outcome, the most at the beginning. The tests in Python and in
+   Rust count the same of the same examples, and library/python/tests/test_orders.py says how it is done by hand. */
+struct counted {
+    struct example example;
+    struct nippersage_options options;
+    int status;
+    long runs[7];
+};
+
+static const struct nippersage_limits SMALL = {1024, 4096, 64, 4096, 4096, 65536};
+
+static const struct counted COUNTED[] = {
+    {{WORKERS}, {.not_beside = 1}, 0, {20, 14, 14, 14, 14}},
+    {{PIPE(reads_once, EPOLLIN | EPOLLET, 3, 0)}, {0}, 1, {18, 14, 2}},
+    {{GIVES_UP(0)}, {0}, 0, {4, 2}},
+    {{GIVES_UP(0)}, {.clock_any = 1}, 1, {6, 3, 1, 1, 1}},
+    {{READS(24)}, {0}, 0, {2, 2, 2}},
+    {{READS(25)}, {0}, 0, {4, 2}},
+    {{.setup = watched_pipe, .tasks = {TASK("a", fills), TASK("b", fills)}, .count = 2, .mask = EPOLLIN},
+     {.limits = &SMALL}, 0, {1, 1}},
+    {{.setup = flag, .tasks = {DAEMON("worker", flag_worker), TASK("boss", flag_boss)}, .count = 2}, {0}, 0, {2, 1}},
+    {{SIGNS(NULL)}, {0}, 0, {2}},
+    {{SIGNS(second_signs_last)}, {0}, 1, {1, 1}},
+};
+static const struct counted LARGE = {
+    {PIPE(reads_once, EPOLLIN | EPOLLET, 6, 0)}, {0}, 1, {1026, 828, 486, 310, 50, 2}};
+
+/* The first order of an outcome comes to it again. */
+static void look_at_first(const struct counted *it, const struct example *example,
+                          const struct nippersage_outcome *outcome) {
+    struct nippersage_options options = it->options;
+    struct nippersage_result result;
+    options.order = outcome->order;
+    options.outcomes = 1;
+    result = explore(example, &options, outcome->kind != 0);
+    IS(result.outcomes_count, 1);
+    IS(result.outcomes[0].runs, 1);
+    IS(result.outcomes[0].kind, outcome->kind);
+    is_text(result.outcomes[0].order, outcome->order);
+    nippersage_result_free(&result);
+    IS(result.outcomes == NULL && result.outcomes_count == 0, 1);
+}
+
+static int compare_runs(const void *one, const void *other) {
+    uint64_t a = ((const struct nippersage_outcome *)one)->runs, b = ((const struct nippersage_outcome *)other)->runs;
+    return (a < b) - (a > b);
+}
+
+static void look_at_outcomes(const struct counted *it, const struct example *example, enum nippersage_how how) {
+    struct nippersage_options options = it->options;
+    struct nippersage_result result;
+    uint64_t runs = 0, failures = 0;
+    options.how = how;
+    options.goes_on = options.outcomes = 1;
+    result = explore(example, &options, it->status);
+    IS(result.is_whole, 1);
+    qsort(result.outcomes, result.outcomes_count, sizeof *result.outcomes, compare_runs);
+    for (size_t i = 0; i < result.outcomes_count; i++) {
+        const struct nippersage_outcome *outcome = &result.outcomes[i];
+        IS(outcome->runs, it->runs[i]);
+        runs += outcome->runs;
+        if (outcome->kind) failures += outcome->runs;
+        look_at_first(it, example, outcome);
+    }
+    IS(it->runs[result.outcomes_count], 0);
+    IS(runs, result.runs);
+    IS(failures, result.failures);
+    nippersage_result_free(&result);
+}
+
+/* A dup answers the lowest free number, which tells its place: each of 6!/(2!2!2!) orders comes to something else. A
+   fourth task without an answer has 7 places in each, so that every outcome comes again once all are known. */
+static void many(void) {
+    struct example example = THREE;
+    struct nippersage_result result;
+    for (int i = 0; i < 3; i++) example.tasks[i].turn = dups_twice;
+    example.tasks[example.count++] = (struct nippersage_program_task)TASK("d", signs);
+    result = explore(&example, &(struct nippersage_options){.how = NIPPERSAGE_EVERY, .outcomes = 1}, 0);
+    IS(result.runs, 630);
+    IS(result.outcomes_count, 90);
+    for (size_t i = 0; i < result.outcomes_count; i++) IS(result.outcomes[i].runs, 7);
+    nippersage_result_free(&result);
+}
+
+/* Depth first, the second order is the first one up to its last choice: whether the loop goes on behind one write. */
+static void first_seen(void) {
+    struct example example = {GIVES_UP(0)};
+    struct nippersage_result result =
+        explore(&example, &(struct nippersage_options){.how = NIPPERSAGE_EVERY, .outcomes = 1}, 0);
+    IS(result.outcomes_count, 2);
+    is_text(result.outcomes[0].order, "loop peer*2 loop*2");
+    IS(result.outcomes[0].runs, 4);
+    is_text(result.outcomes[1].order, "loop peer loop*2 peer");
+    IS(result.outcomes[1].runs, 2);
+    nippersage_result_free(&result);
+}
+
+static void outcomes(int is_short) {
+    for (size_t i = 0; i < sizeof COUNTED / sizeof COUNTED[0]; i++) {
+        struct example threads = in_threads(&COUNTED[i].example);
+        look_at_outcomes(&COUNTED[i], &COUNTED[i].example, NIPPERSAGE_EVERY);
+        look_at_outcomes(&COUNTED[i], &COUNTED[i].example, NIPPERSAGE_RISING);
+        look_at_outcomes(&COUNTED[i], &threads, NIPPERSAGE_EVERY);
+    }
+    if (!is_short) look_at_outcomes(&LARGE, &LARGE.example, NIPPERSAGE_EVERY);
+    many();
+    first_seen();
+}
+
 /* ---- what is refused ---- */
 
 static int varies(struct nippersage_task task, void *shared) {
@@ -350,6 +528,15 @@ static void refused(struct example example, const struct nippersage_options *opt
 
 static struct example one_task(int (*turn)(struct nippersage_task task, void *shared)) {
     return (struct example){.setup = watched_pipe, .tasks = {{.name = "t", .turn = turn}}, .count = 1, .mask = EPOLLIN};
+}
+
+/* An exploration that is refused tells no outcomes, though it has counted some. */
+static void no_outcomes(void) {
+    struct example example = one_task(varies);
+    struct nippersage_result result = explore(&example, &(struct nippersage_options){.outcomes = 1}, -EINVAL);
+    IS(result.runs, 1);
+    IS(result.outcomes == NULL && result.outcomes_count == 0, 1);
+    nippersage_result_free(&result);
 }
 
 static void bad_tasks(void) {
@@ -481,6 +668,8 @@ int main(int argc, char **argv) {
     clocks();
     beside();
     by_hand();
+    outcomes(argc > 2);
+    no_outcomes();
     bad_tasks();
     bad_schedules();
     bad_options();

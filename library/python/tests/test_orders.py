@@ -85,6 +85,50 @@ def orders_of_loop(at, unread, is_fresh, left, reads_once):
     return sum(orders_of_loop(*way, reads_once) for way in ways) or 1
 
 
+def loops_by_reports(at, unread, is_fresh, left):
+    """In how many of them a loop that reads once gets so many reports: {reports: orders}."""
+    is_due = at != "read" and is_fresh and unread > 0
+    if not left and at == "asleep" and not is_due:
+        return Counter([0])
+    found = loops_by_reports(at, unread + 1, True, left - 1) if left else Counter()
+    if at == "read":
+        found += loops_by_reports("wait", unread - 1, is_fresh, left)
+    elif is_due:
+        reported = loops_by_reports("read", unread, False, left)
+        found += Counter({reports + 1: orders for reports, orders in reported.items()})
+    elif at == "wait":
+        found += loops_by_reports("asleep", unread, is_fresh, left)
+    return found
+
+
+def workers_by_answers(at, marked, parked, is_fresh, value, left):
+    """In how many orders workers at one edge-triggered instance come to what: {their ends: orders}.
+
+    Each waits once and reads a counter, to which a boss adds so many times. `at` has for each worker "wait", "parked",
+    "read", or what its read came to. docs/calls.md, "Parked waits": at the end of each event, if the instance is ready
+    and nobody is marked, the one is that was parked first. Who is answered "still" keeps its place.
+    """
+    ways = [(at, marked, parked, True, value + 1, left - 1)] if left else []
+    for me, where in enumerate(at):
+        def then(to, marked=marked, parked=parked, is_fresh=is_fresh, value=value):
+            ways.append(((*at[:me], to, *at[me + 1:]), marked, parked, is_fresh, value, left))
+
+        if where == "read":
+            then(value or "EAGAIN", value=0)
+        elif where == "wait" or marked == me:
+            others, mark = tuple(it for it in parked if it != me), None if marked == me else marked
+            if is_fresh and value:
+                then("read", mark, others, False)
+            else:
+                then("parked", mark, parked if me in parked else (*parked, me))
+    found = Counter()
+    for at_then, mark, queue, *rest in ways:
+        if mark is None and queue and rest[0] and rest[1]:
+            mark = queue[0]
+        found += workers_by_answers(at_then, mark, queue, *rest)
+    return found or Counter([at])
+
+
 @unittest.skipUnless(LIBRARY, "there is no library")
 class Counts(unittest.TestCase):
     def count(self, example, expected, **how):
@@ -157,25 +201,7 @@ class Counts(unittest.TestCase):
 
     def test_workers_in_c_and_here(self):
         """Two workers that wait at one edge-triggered instance and read a counter, and two writes: 76 orders."""
-
-        def setup(kernel):
-            e = Env(counter=kernel.eventfd(), instance=kernel.epoll())
-            kernel.add(e.instance, e.counter, IN | ET, data=3)
-            return e
-
-        def worker(t, e):
-            yield t.wait(e.instance, max=1, timeout=None)
-            try:
-                yield t.read(e.counter, 8)
-            except BlockingIOError:
-                pass
-
-        def boss(t, e):
-            for _ in range(2):
-                yield t.write(e.counter, ONE)
-
-        example = Example(setup, {"w1": worker, "w2": worker, "boss": boss}, daemons=["w1", "w2"])
-        result = example.explore(how="every", beside=False, outcomes=True)
+        result = workers_example().explore(how="every", beside=False, outcomes=True)
         self.assertEqual((result.runs, len(result.outcomes)), (76, 5))
 
 
@@ -438,9 +464,140 @@ def random_example(seed):
     return Example(setup, tasks, daemons=tuple(tasks))
 
 
+def workers_example():
+    def setup(kernel):
+        e = Env(counter=kernel.eventfd(), instance=kernel.epoll())
+        kernel.add(e.instance, e.counter, IN | ET, data=3)
+        return e
+
+    def worker(t, e):
+        yield t.wait(e.instance, max=1, timeout=None)
+        try:
+            yield t.read(e.counter, 8)
+        except BlockingIOError:
+            pass
+
+    def boss(t, e):
+        for _ in range(2):
+            yield t.write(e.counter, ONE)
+
+    return Example(setup, {"w1": worker, "w2": worker, "boss": boss}, daemons=["w1", "w2"])
+
+
+def reads_example(length):
+    """Two tasks write so many bytes, of which the last is their own, and a third one reads them."""
+
+    def setup(kernel):
+        e = Env()
+        e.reader, e.writer = kernel.pipe()
+        return e
+
+    def writes(last):
+        def task(t, e):
+            yield t.write(e.writer, b"x" * (length - 1) + last)
+
+        return task
+
+    def reads(t, e):
+        try:
+            yield t.read(e.reader, length)
+        except BlockingIOError:
+            pass
+
+    return Example(setup, {"a": writes(b"a"), "b": writes(b"b"), "c": reads})
+
+
+def fills_example():
+    """Two writes that fill the pipe."""
+
+    def fills(t, e):
+        try:
+            yield t.write(e.writer, bytes(4_096))
+        except BlockingIOError:
+            pass
+
+    return Example(lambda kernel: Env(writer=kernel.pipe()[1]), {"a": fills, "b": fills})
+
+
+def looks_example():
+    """A worker that sleeps for good if it looks at a flag before that is set. It may."""
+
+    def setup(kernel):
+        return Env(stops=False, instance=kernel.epoll())
+
+    def worker(t, e):
+        yield t.shared("stops")
+        if not e.stops:
+            yield t.wait(e.instance, timeout=None)
+
+    def boss(t, e):
+        yield t.shared("stops")
+        e.stops = True
+
+    return Example(setup, {"worker": worker, "boss": boss}, daemons=["worker"])
+
+
+def signs_example(check):
+    def signs(name):
+        def task(t, e):
+            yield t.shared("taken")
+            e.taken = name
+
+        return task
+
+    return Example(lambda kernel: Env(taken=""), {name: signs(name) for name in "ab"}, check)
+
+
+def dups_example():
+    """A dup answers the lowest free number, which tells its place. So each order comes to something else."""
+
+    def twice(t, e):
+        for _ in range(2):
+            yield t.dup(0)
+
+    return Example(lambda kernel: Env(), {name: twice for name in "abc"})
+
+
 @unittest.skipUnless(LIBRARY, "there is no library")
 class Outcomes(unittest.TestCase):
     """Every order, and rising bounds up to all, come to the same, also in threads."""
+
+    #: Examples, and how many of their orders come to each outcome. The tests in C, library/test/orders.c, and in Rust,
+    #: library/rust/tests/orders.rs, count the same of the same examples.
+    #:
+    #: The loop that gives up is in 6 orders, of which 2 have the read between the two writes. If time may pass at any
+    #: point, there are 3 orders more that read, one of them between the writes; and it closes its end before both,
+    #: between them or behind both. A reader of what two write reads nothing in 2 of 6 orders, and in 2 each the bytes
+    #: of either writer: if only the 25th differs, these are one. Of two writes that fill a pipe the second is refused.
+    #: The worker that looks at the flag first has two places for its wait. Its answers are the same in the third order,
+    #: but there it ends. Of two that sign each may be the last, which only a check tells.
+    COUNTED = (
+        (workers_example(), {"beside": False}, [20, 14, 14, 14, 14]),
+        (pipe_example(IN | ET, reads_once, 3), {}, [18, 14, 2]),
+        (pipe_example(IN | ET, reads_once, 6), {}, [1_026, 828, 486, 310, 50, 2]),
+        (gives_up_example(False), {}, [4, 2]),
+        (gives_up_example(False), {"clock": "any"}, [6, 3, 1, 1, 1]),
+        (reads_example(24), {}, [2, 2, 2]),
+        (reads_example(25), {}, [4, 2]),
+        (fills_example(), {"limits": Limits(pipe_bytes=4_096)}, [1, 1]),
+        (looks_example(), {}, [2, 1]),
+        (signs_example(None), {}, [2]),
+        (signs_example(lambda e: e.taken == "b"), {}, [1, 1]),
+        (dups_example(), {}, [1] * interleavings(2, 2, 2)),
+    )
+
+    def test_counts(self):
+        workers = workers_by_answers(("wait", "wait"), None, (), False, 0, 2)
+        self.assertEqual(sorted(workers.values(), reverse=True), self.COUNTED[0][2])
+        for place, writes in ((1, 3), (2, 6)):
+            loops = loops_by_reports("wait", 0, False, writes)
+            self.assertEqual(sum(loops.values()), orders_of_loop("wait", 0, False, writes, True))
+            self.assertEqual(sorted(loops.values(), reverse=True), self.COUNTED[place][2])
+        for example, how, expected in self.COUNTED:
+            ways = [(example, "every"), (example, "rising"), (example.in_threads(), "every")]
+            for it, way in ways if sum(expected) < 1_000 else ways[:1]:
+                found = self.outcomes(it, how=way, **how)
+                self.assertEqual(sorted(found.values(), reverse=True), expected)
 
     def outcomes(self, example, **how):
         result = example.explore(raises=False, stop=False, outcomes=True, **how)

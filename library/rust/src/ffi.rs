@@ -111,9 +111,18 @@ pub struct Options {
     pub start: Option<Start>,
     pub join: Option<extern "C" fn(given: *mut c_void, number: c_int)>,
     pub given: *mut c_void,
+    pub outcomes: c_int,
 }
 
-/// What an exploration came to. Texts are C's own.
+/// What some orders came to.
+#[repr(C)]
+pub struct Outcome {
+    pub kind: c_int,
+    pub runs: u64,
+    pub order: *mut c_char,
+}
+
+/// What an exploration came to. Texts and outcomes are C's own.
 #[repr(C)]
 pub struct Explored {
     pub kind: c_int,
@@ -128,6 +137,8 @@ pub struct Explored {
     pub cut: u64,
     pub seed: u64,
     pub seconds: c_double,
+    pub outcomes: *mut Outcome,
+    pub outcomes_count: usize,
 }
 
 impl Default for Explored {
@@ -145,6 +156,8 @@ impl Default for Explored {
             cut: 0,
             seed: 0,
             seconds: 0.0,
+            outcomes: ptr::null_mut(),
+            outcomes_count: 0,
         }
     }
 }

@@ -29,13 +29,14 @@
 //! ```
 //!
 //! In a test `.explore().unwrap()` panics with the message: who sleeps beside what, the calls of the
-//! order, and a line that plays it again. `docs/orders.md` says what is tried and what isn't.
+//! order, and a line that plays it again. [`Orders::outcomes`] counts what orders come to.
+//! `docs/orders.md` says what is tried and what isn't.
 
 mod result;
 mod run;
 mod unwind;
 
-pub use result::{Failure, Kind, Tried};
+pub use result::{Failure, Kind, Outcome, Tried};
 pub(crate) use unwind::leave;
 
 use crate::{Errno, Events, Fd, Kernel, Limits, Task};
@@ -94,6 +95,7 @@ pub struct Orders<'a, E> {
     order: Option<CString>,
     name: CString,
     goes_on: bool,
+    outcomes: bool,
     patience: Duration,
 }
 
@@ -119,6 +121,7 @@ impl<'a, E: Sync + 'a> Orders<'a, E> {
             order: None,
             name: CString::default(),
             goes_on: false,
+            outcomes: false,
             patience: Duration::from_secs(60),
         }
     }
@@ -237,6 +240,26 @@ impl<'a, E: Sync + 'a> Orders<'a, E> {
     /// Goes on behind a failure, and counts.
     pub fn goes_on(mut self) -> Orders<'a, E> {
         self.goes_on = true;
+        self
+    }
+
+    /// Counts what the orders come to, for [`Tried::outcomes`].
+    ///
+    /// ```
+    /// use nippersage::orders::Orders;
+    /// use nippersage::Fd;
+    ///
+    /// let tried = Orders::new(|_| ())                 // the first to come gets 3, the other one 4
+    ///     .task("a", |t, ()| t.dup(Fd(0)).map(drop))
+    ///     .task("b", |t, ()| t.dup(Fd(0)).map(drop))
+    ///     .outcomes()
+    ///     .explore()
+    ///     .unwrap();
+    /// let told: Vec<_> = tried.outcomes.iter().map(|it| (it.runs, it.order.as_str())).collect();
+    /// assert_eq!(told, [(1, "a b"), (1, "b a")]);
+    /// ```
+    pub fn outcomes(mut self) -> Orders<'a, E> {
+        self.outcomes = true;
         self
     }
 

@@ -1,7 +1,7 @@
 //! Every order of small programs: how many there are, which fail, and what mends them. The faults are those of
 //! `library/python/tests/faults.py`, and the orders that fail the same by the same schedules.
 
-use nippersage::orders::{Failure, Kind, Orders, Tried};
+use nippersage::orders::{Failure, Kind, Orders, Outcome, Tried};
 use nippersage::{Errno, Event, Events, Fd, Flags, Kernel, Limits, Task};
 use std::net::Shutdown;
 use std::sync::atomic::{AtomicBool, AtomicUsize, Ordering::SeqCst};
@@ -343,6 +343,7 @@ fn numbers_of_orders() {
             (tried.runs, tried.failures, tried.is_whole),
             (runs, failures, true)
         );
+        assert!(tried.outcomes.is_empty());
     }
 }
 
@@ -452,34 +453,149 @@ fn which_registrations_count() {
     assert_eq!(failure.kind(), Kind::AsleepBesideData);
 }
 
+/// A loop that gives up after 5 ms and closes its end, while its peer still writes.
+fn gives_up() -> Orders<'static, Pipe> {
+    Orders::new(|kernel| pipe(kernel, Events::IN))
+        .task("loop", |t, e: &Pipe| {
+            let mut events = [Event::default()];
+            match t.epoll_wait(e.instance, &mut events, Some(Duration::from_millis(5)))? {
+                0 => t.close(e.reader),
+                _ => t.read(e.reader, &mut [0; 8]).map(drop),
+            }
+        })
+        .task("peer", |t, e| {
+            t.write(e.writer, b"a")?;
+            t.write(e.writer, b"b").map(drop)
+        })
+        .every()
+        .goes_on()
+}
+
 #[test]
 fn the_clock() {
-    let gives_up = || {
-        Orders::new(|kernel| pipe(kernel, Events::IN))
-            .task("loop", |t, e: &Pipe| {
-                let mut events = [Event::default()];
-                match t.epoll_wait(e.instance, &mut events, Some(Duration::from_millis(5)))? {
-                    0 => t.close(e.reader),
-                    _ => t.read(e.reader, &mut [0; 8]).map(drop),
-                }
-            })
-            .task("peer", |t, e| {
-                t.write(e.writer, b"a")?;
-                t.write(e.writer, b"b").map(drop)
-            })
-            .every()
-            .goes_on()
-    };
     assert_eq!(gives_up().explore().unwrap().runs, 6);
     let failure = gives_up().clock_at_any_point().explore().unwrap_err();
     assert_eq!((failure.tried().runs, failure.tried().failures), (12, 2));
     assert_eq!(failure.order(), "loop + loop*2 peer");
 }
 
+// Outcomes. The tests in C and in Python count the same of the same examples, and
+// `library/python/tests/test_orders.py` says how it is done by hand.
+
+/// Two workers that wait once at one edge-triggered instance, and read a counter that is written twice.
+fn workers() -> Orders<'static, (Fd, Fd)> {
+    let worker = |t: Task<'_>, &(counter, instance): &(Fd, Fd)| {
+        wait(t, instance)?;
+        match t.read(counter, &mut [0; 8]) {
+            Err(Errno::EAGAIN) => Ok(()),
+            result => result.map(drop),
+        }
+    };
+    Orders::new(|kernel| {
+        let task = kernel.task(0);
+        let counter = task.eventfd(0, Flags::NONE).unwrap();
+        let instance = task.epoll_create1(Flags::NONE).unwrap();
+        task.epoll_add(instance, counter, EDGE, 3).unwrap();
+        (counter, instance)
+    })
+    .daemon("w1", worker)
+    .daemon("w2", worker)
+    .task("boss", |t, (counter, _)| {
+        t.write(*counter, &ONE)?;
+        t.write(*counter, &ONE).map(drop)
+    })
+    .beside(|_| false)
+}
+
+/// Two tasks write so many bytes, of which the last is their own, and a third one reads them.
+fn reads(length: usize) -> Orders<'static, Pipe> {
+    let writes = move |last: u8| {
+        move |t: Task<'_>, e: &Pipe| {
+            let mut bytes = vec![b'x'; length];
+            bytes[length - 1] = last;
+            t.write(e.writer, &bytes).map(drop)
+        }
+    };
+    Orders::new(|kernel| pipe(kernel, Events::IN))
+        .task("a", writes(b'a'))
+        .task("b", writes(b'b'))
+        .task("c", move |t, e| {
+            match t.read(e.reader, &mut vec![0; length]) {
+                Err(Errno::EAGAIN) => Ok(()),
+                result => result.map(drop),
+            }
+        })
+}
+
+/// What was tried, whether an order failed or not.
+fn tried_by<E: Sync + 'static>(orders: &Orders<'static, E>) -> Tried {
+    let found = orders.explore();
+    found.unwrap_or_else(|failure| failure.tried().clone())
+}
+
+/// So many orders come to each outcome, the most at the beginning. The first of each comes to it again.
+fn counts<E: Sync + 'static>(orders: impl Fn() -> Orders<'static, E>, wanted: &[u64]) {
+    let ways: [fn(Orders<'static, E>) -> Orders<'static, E>; 2] = [Orders::every, Orders::rising];
+    for way in ways {
+        let tried = tried_by(&way(orders()).goes_on().outcomes());
+        let mut runs: Vec<_> = tried.outcomes.iter().map(|it| it.runs).collect();
+        runs.sort_by(|one, other| other.cmp(one));
+        assert_eq!(runs, wanted);
+        assert_eq!(runs.iter().sum::<u64>(), tried.runs);
+        let failed = tried.outcomes.iter().filter(|it| it.kind.is_some());
+        assert_eq!(failed.map(|it| it.runs).sum::<u64>(), tried.failures);
+        for outcome in &tried.outcomes {
+            let again = tried_by(&orders().order(&outcome.order).outcomes());
+            let once = Outcome {
+                runs: 1,
+                ..outcome.clone()
+            };
+            assert_eq!(again.outcomes, [once]);
+        }
+    }
+}
+
+#[test]
+fn numbers_of_outcomes() {
+    counts(workers, &[20, 14, 14, 14, 14]);
+    counts(|| loop_at_pipe(EDGE, read_once, 3), &[18, 14, 2]);
+    counts(gives_up, &[4, 2]);
+    counts(|| gives_up().clock_at_any_point(), &[6, 3, 1, 1, 1]);
+    counts(|| reads(24), &[2, 2, 2]);
+    counts(|| reads(25), &[4, 2]);
+}
+
+/// Each of the 6!/(2!2!2!) orders comes to something else, as a dup answers the lowest free number.
+#[test]
+fn outcomes_that_all_differ() {
+    let twice = |t: Task<'_>, (): &()| {
+        t.dup(Fd(0))?;
+        t.dup(Fd(0)).map(drop)
+    };
+    let orders = || {
+        let orders = Orders::new(|_| ()).task("a", twice).task("b", twice);
+        orders.task("c", twice)
+    };
+    counts(orders, &[1; 90]);
+}
+
+#[test]
+fn the_first_order_of_an_outcome() {
+    let told = gives_up().outcomes().explore().unwrap().outcomes;
+    let (kind, both, one) = (None, "loop peer*2 loop*2", "loop peer loop*2 peer");
+    let wanted = [(4, both), (2, one)].map(|(runs, order)| Outcome {
+        kind,
+        runs,
+        order: order.to_string(),
+    });
+    assert_eq!(told, wanted);
+}
+
 fn refused<E: Sync>(orders: Orders<'_, E>, kind: Kind, told: &str) {
     let failure = orders.explore().unwrap_err();
     assert_eq!(failure.kind(), kind);
     assert!(failure.to_string().contains(told), "{failure}");
+    assert!(failure.tried().outcomes.is_empty());
 }
 
 #[test]
@@ -532,7 +648,7 @@ fn what_is_refused() {
         t.write(e.writer, &[digit]).map(drop)
     });
     refused(
-        varies,
+        varies.outcomes(),
         Kind::NotTheSame,
         "in turn 1 write(4, \"1\") of t, where it was write(4, \"0\") of t, after the same turns",
     );

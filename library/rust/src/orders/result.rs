@@ -50,6 +50,25 @@ impl Kind {
         Kind::NotTheSame,
         Kind::Stuck,
     ];
+
+    /// The kind of C's number, which is none for 0.
+    fn of(number: c_int) -> Option<Kind> {
+        let place = usize::try_from(number).unwrap_or(0);
+        Kind::ALL.get(place.wrapping_sub(1)).copied()
+    }
+}
+
+/// What one order came to or several: of each task the answers of its calls, in their order, and
+/// whether it came to its end; and the kind of failure. A wait that parked has one answer, which is
+/// what ended it. Of bytes that were read the first 24 count, and how many there were.
+#[derive(Clone, Debug, PartialEq, Eq)]
+pub struct Outcome {
+    /// Why these orders failed, if they did.
+    pub kind: Option<Kind>,
+    /// How many they are.
+    pub runs: u64,
+    /// The schedule of the first of them.
+    pub order: String,
 }
 
 /// What was tried. As text it is a sentence, which tells a limit that was reached.
@@ -67,6 +86,10 @@ pub struct Tried {
     pub cut: u64,
     /// The turns of all orders.
     pub turns: u64,
+    /// What the orders came to, if [`Orders::outcomes`](super::Orders::outcomes) asked for it: each
+    /// once, in the order in which they were seen first. Their `runs` add up to those above. Behind
+    /// a refusal, which is a failure without a schedule, there are none.
+    pub outcomes: Vec<Outcome>,
     message: String,
 }
 
@@ -143,10 +166,22 @@ fn read(bytes: *const c_char) -> String {
         .into_owned()
 }
 
+fn outcomes(explored: &ffi::Explored) -> Vec<Outcome> {
+    let told = (0..explored.outcomes_count).map(|place| {
+        // SAFETY: C tells so many, and they live.
+        let outcome = unsafe { &*explored.outcomes.add(place) };
+        Outcome {
+            kind: Kind::of(outcome.kind),
+            runs: outcome.runs,
+            order: read(outcome.order),
+        }
+    });
+    told.collect()
+}
+
 pub(super) fn told(explored: &ffi::Explored) -> Told {
-    let place = usize::try_from(explored.kind).unwrap_or(0);
     Told {
-        kind: Kind::ALL.get(place.wrapping_sub(1)).copied(),
+        kind: Kind::of(explored.kind),
         order: read(explored.order),
         found: read(explored.found),
         tried: Tried {
@@ -156,6 +191,7 @@ pub(super) fn told(explored: &ffi::Explored) -> Told {
             failures: explored.failures,
             cut: explored.cut,
             turns: explored.turns,
+            outcomes: outcomes(explored),
             message: read(explored.message),
         },
     }

@@ -198,7 +198,7 @@ impl<'o, 'a, E: Sync> Exploration<'o, 'a, E> {
             ffi::nippersage_explore(&program, shared.cast_mut().cast(), &options, &mut explored)
         };
         let told = told(&explored);
-        // SAFETY: the texts were copied.
+        // SAFETY: the texts and the outcomes were copied.
         unsafe { ffi::nippersage_result_free(&mut explored) };
         let result = told.into_result(status);
         if let Err(failure) = &result {
@@ -242,6 +242,7 @@ impl<'o, 'a, E: Sync> Exploration<'o, 'a, E> {
             start: Some(start),
             join: Some(join),
             given: given.cast_mut().cast(),
+            outcomes: c_int::from(orders.outcomes),
         }
     }
 }
