@@ -18,6 +18,10 @@ DATA = TESTS / "ep_examples" / "data"
 PROGRAMS = ("epsim", "epaudit")
 #: The program of tests/ that docs/embedding.md shows. It has no words, and a file with what it writes.
 EMBEDDING = "ep_embed"
+#: The programs that run for seconds only, so that a better code of them would not pay.
+QUICK = ("ep_examples", EMBEDDING)
+#: The parts that wait most of their time, for sleeps on the machine's kernel: others run as if these did not.
+WAITING = ("preload",)
 #: What a build of the library is called among the builds.
 LIBRARY = "library"
 VERSION = (TOP / "VERSION").read_text().strip()
@@ -153,8 +157,9 @@ class Parts:
             status, *said = self.run(name, [TOP / "bench/program", name])
             out = Path(said.pop(0).rstrip("\n"))
         else:
-            words = ["--test"] if name in tested() else []
-            status, *said = self.run(name, [TOP / "scripts/unproved", *words, name, out])
+            how = "--test" if name in tested() else "--quick" if name in QUICK else None
+            words = [how, name, out] if how else [name, out]
+            status, *said = self.run(name, [TOP / "scripts/unproved", *words])
         if status == 0:
             self.built[name] = out
         return "" if status == 0 else "".join(said)
@@ -291,24 +296,25 @@ class Parts:
         return Result(passed, [name] * max(failed, status != 0), said + out)
 
     def by_name(self):
-        """The parts that have a name of their own, but for single scripts and tests: the longest first."""
+        """The parts that have a name of their own, but for single scripts and tests: the longest first, with the builds
+        that only they need."""
         both = (LIBRARY, *PROGRAMS)
         return {
             "preload": Part(lambda: self.checked("preload"), (LIBRARY, "epaudit")),
             "sweep_all": Part(lambda: self.sweep("sweep_all"), (*both, "ep_sweep")),
-            "sweep": Part(lambda: self.sweep("sweep"), both),
             "release": Part(self.release, both),
+            **{it: Part(lambda it=it: self.tests(it), (it,)) for it in tested()},
+            "ep_examples": Part(lambda: self.examples(scripts()), ("ep_examples",)),
+            **{it: Part(lambda it=it: self.program(it), (it,)) for it in (EMBEDDING, *programs())},
             "library": Part(lambda: self.checked("library"), (LIBRARY, "epaudit")),
+            "replay": Part(self.replay, ("epsim", LIBRARY)),
+            "sweep": Part(lambda: self.sweep("sweep"), both),
+            **{it: Part(lambda it=it: self.script(it)) for it in SCRIPTS},
             "oracle": Part(self.oracle, ("epsim",)),
             "clients": Part(self.clients, PROGRAMS),
-            "epsim": Part(lambda: self.cases([it for it in scripts() if is_script(it)]), ("epsim",)),
-            "replay": Part(self.replay, ("epsim", LIBRARY)),
             "streams": Part(self.streams, ("epsim",)),
-            "ep_examples": Part(lambda: self.examples(scripts()), ("ep_examples",)),
-            **{it: Part(lambda it=it: self.tests(it), (it,)) for it in tested()},
+            "epsim": Part(lambda: self.cases([it for it in scripts() if is_script(it)]), ("epsim",)),
             "epaudit": Part(self.audits, ("epaudit",)),
-            **{it: Part(lambda it=it: self.program(it), (it,)) for it in (EMBEDDING, *programs())},
-            **{it: Part(lambda it=it: self.script(it)) for it in SCRIPTS},
         }
 
     def named(self, word):
