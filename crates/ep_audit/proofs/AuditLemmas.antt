@@ -1,5 +1,5 @@
 -- Going on from a run by one record, and the places of records that are illegal.
-use Rattle.std.proofs.Common.{◌≡◌, ◌∙◌, ◌+◌, ◌<◌, ◌≤◌, ◌∷◌, [], ℕ, Bool, List, None, Option, Some, ap, arith, false, get_or, if◌then◌else◌, inl, inr, is_some, length, refl, suc, subst, sym, take, true, zero}
+use Rattle.std.proofs.Common.{◌≡◌, ◌∙◌, ◌++◌, ◌+◌, ◌<◌, ◌≤◌, ◌∷◌, [], ℕ, Bool, List, None, Option, Some, ap, arith, false, get_or, if◌then◌else◌, inl, inr, is_some, length, refl, suc, subst, sym, take, true, zero}
 use Rattle.std.specs.Bool.{one_answer}
 use Rattle.std.specs.Prelude.{◌↔◌, Decides, Err, IfOk, IsErrOf, MatchBool, Ok, Result}
 use Rattle.std.proofs.lemmas.Bool.{cases_lt}
@@ -14,9 +14,9 @@ use Rattle.ep_machine.specs.State.{State, opening}
 use Rattle.ep_machine.specs.Step.{step}
 use Rattle.ep_audit.specs.declared.verdict.AuditFault.{AuditFault}
 use Rattle.ep_audit.specs.declared.verdict.AuditFault.TheVariants.{Illegal}
-use Rattle.ep_audit.specs.Audit.{Follows, IsFirstIllegal}
+use Rattle.ep_audit.specs.Audit.{Follows, HasMade, IsFirstIllegal}
 use Rattle.ep_plain.specs.StepWith.{AddsWith, Lacks, StepsWith}
-use Rattle.ep_calls.specs.Acts.{is_no_memory}
+use Rattle.ep_calls.specs.Acts.{Acts, Adds, Stays, is_no_memory}
 use Rattle.ep_audit.proofs.AnswerLemmas.{same_answer_decides}
 
 -- a step with this report, whose answer is the record's or isn't
@@ -28,24 +28,65 @@ same_or_not limits s t next answer same e decides =
     let tests = one_answer (same_answer answer next.answer) same (same_answer_decides answer next.answer) decides in
     ap (checked next.answer) e ∙ ap (λ (b : Bool). if b then Some t else None) tests
 
-pub answered : {E : Type 0} (limits : Limits) (s t : State) (next : Record) (event : Event) (picks : List ℕ)
-    (answer : Answer) (past now : List Record) (result : Result Bool E)
-    → StepsWith limits next.caller event picks (Some answer) s t past now
+-- the step with a record's report was made
+steps_so : (limits : Limits) (s t : State) (next : Record) (event : Event) (picks : List ℕ) (answer : Answer)
+    → step limits s next.caller.0 event picks ≡ Some (answer, t)
     → event ≡ next.event
     → picks ≡ next.picked
-    → IfOk result (λ _. is_no_memory answer ≡ false)
-    → IfOk result (λ same. Decides same (answer ≡ next.answer))
-    → IfOk result (Follows limits s t next)
-answered limits s t next event picks answer past now (Ok same) steps asked reports real decides =
-    let lacks : Type 0 = Lacks limits next.caller event picks s t past now in
-    let adds : Type 0 = AddsWith limits next.caller event picks answer s t past now in
-    let added : adds = subst (λ (b : Bool). MatchBool b lacks adds) real steps in
-    let asks : step limits s next.caller.0 event next.picked ≡ Some (answer, t) =
-    subst (λ (p : List ℕ). step limits s next.caller.0 event p ≡ Some (answer, t)) reports added.goes in
-    let goes : step limits s next.caller.0 next.event next.picked ≡ Some (answer, t) =
-    subst (λ (e : Event). step limits s next.caller.0 e next.picked ≡ Some (answer, t)) asked asks in
-    same_or_not limits s t next answer same goes decides
-answered limits s t next event picks answer past now (Err e) steps asked reports real decides = tt
+    → step limits s next.caller.0 next.event next.picked ≡ Some (answer, t)
+steps_so limits s t next event picks answer goes asked reports =
+    subst (λ (e : Event). step limits s next.caller.0 e next.picked ≡ Some (answer, t)) asked
+    (subst (λ (p : List ℕ). step limits s next.caller.0 event p ≡ Some (answer, t)) reports goes)
+
+-- a record that a step made
+made_by : (limits : Limits) (s t : State) (next : Record) (event : Event) (answer : Answer) (picks : List ℕ) (past now : List Record)
+    → step limits s next.caller.0 event picks ≡ Some (answer, t)
+    → now ≡ past ++ record { caller = next.caller; event = event; answer = answer; picked = picks } ∷ []
+    → event ≡ next.event
+    → HasMade limits s next now
+made_by limits s t next event answer picks past now goes added asked =
+    let last : Record = record { caller = next.caller; event = event; answer = answer; picked = picks } in
+    record {
+      before = past;
+      last = last;
+      made = added;
+      same = record { caller = refl; event = asked };
+      goes = ap is_some (same_or_not limits s t last answer true goes ((λ _. refl), λ _. refl));
+    }
+
+module _ (limits : Limits) (s t : State) (next : Record) (event : Event) (picks : List ℕ)
+    (answer : Answer) (past now : List Record) (steps : StepsWith limits next.caller event picks (Some answer) s t past now) (asked : event ≡ next.event) where
+  added_with : is_no_memory answer ≡ false → AddsWith limits next.caller event picks answer s t past now
+  added_with real =
+      let lacks : Type 0 = Lacks limits next.caller event picks s t past now in
+      let adds : Type 0 = AddsWith limits next.caller event picks answer s t past now in
+      subst (λ (b : Bool). MatchBool b lacks adds) real steps
+
+  pub answered : {E : Type 0} (result : Result Bool E)
+      → picks ≡ next.picked
+      → IfOk result (λ _. is_no_memory answer ≡ false)
+      → IfOk result (λ same. Decides same (answer ≡ next.answer))
+      → IfOk result (Follows limits s t next)
+  answered (Ok same) reports real decides =
+      same_or_not limits s t next answer same (steps_so limits s t next event picks answer (added_with real).goes asked reports) decides
+  answered (Err e) reports real decides = tt
+
+  pub made_with : {E : Type 0} (result : Result Bool E)
+      → IfOk result (λ _. is_no_memory answer ≡ false)
+      → IfOk result (λ goes. goes ≡ false → HasMade limits s next now)
+  made_with (Ok same) real = λ wrong. let a = added_with real in made_by limits s t next event answer picks past now a.goes a.added asked
+  made_with (Err e) real = tt
+
+-- what a step of its own makes
+pub made_here : (limits : Limits) (s t : State) (next : Record) (event : Event) (answer : Answer) (past now : List Record)
+    → Acts limits next.caller event answer s t past now
+    → event ≡ next.event
+    → is_no_memory answer ≡ false
+    → HasMade limits s next now
+made_here limits s t next event answer past now acts asked real =
+    let added : Adds limits next.caller event answer s t past now =
+    subst (λ (b : Bool). MatchBool b (Stays s t past now) (Adds limits next.caller event answer s t past now)) real acts in
+    made_by limits s t next event answer added.picked past now added.goes added.added asked
 
 -- one record more
 run_more : (limits bounds : Limits) (records : List Record) (place : ℕ) (s t : State) (next : Record) (goes : Bool)

@@ -1,11 +1,11 @@
 //! Whether a list of records is a run of the machine.
-ghost use Rattle.std.specs.Prelude.{◌≡◌, ◌↔◌, ℕ, IfOk, IsErrOf, IsOk, IsTrue, Some, false};
+ghost use Rattle.std.specs.Prelude.{◌≡◌, ◌↔◌, ℕ, IfOk, IsErrOf, IsOk, IsTrue, OnOk, Some, false};
 ghost use Rattle.ep_base.specs.Answer.{is_no_memory};
 ghost use Rattle.ep_base.specs.Limits.{Limits as Bounds};
 ghost use Rattle.ep_machine.specs.Run.{is_run};
 ghost use Rattle.ep_machine.specs.State.{opening};
 ghost use Rattle.ep_calls.specs.Book.{state_of};
-ghost use Rattle.ep_audit.specs.Audit.{Finds, Follows, IfJudged, IsFirstIllegal};
+ghost use Rattle.ep_audit.specs.Audit.{Finds, Follows, HasMade, IfJudged, IsFirstIllegal};
 ghost use Rattle.ep_audit.specs.declared.verdict.AuditFault.TheVariants.{Illegal, Memory};
 
 use ep_base::{Answer, Limits, Record};
@@ -40,17 +40,36 @@ fn is_answered(answer: &Answer, next: &Record) -> Result<bool, AllocError>
     Ok(answer.is_same(&next.answer))
 }
 
-/// Makes the step that a record tells of: whether the machine has it here, with the record's answer.
-/// After false and after an `Err`, which is want of memory, the kernel is in any state.
+/// Makes the step that the machine has here for the event of a record, whatever it reports. An `Err` is want of memory.
+fn make_step(kernel: &mut PlainKernel, next: &Record) -> Result<(), AllocError>
+    ensures limits { kernel.new.limits ≡ kernel.old.limits }
+    ensures made { OnOk result
+        (HasMade kernel.old.limits (state_of kernel.old) next.now kernel.new.past) }
+{
+    let event = next.event.copy()?;
+    if kernel.step(next.caller, event).is_no_memory() {
+        return Err(AllocError);
+    }
+    Ok(())
+}
+
+/// Makes the step that a record tells of: whether the machine has it here, with the record's answer. If not, the kernel
+/// has made a step of the same event that the machine has here: with the record's report, if there is one with that.
+/// After an `Err`, which is want of memory, the kernel is in any state.
 pub(crate) fn follow(kernel: &mut PlainKernel, next: &Record) -> Result<bool, AllocError>
     ensures limits { kernel.new.limits ≡ kernel.old.limits }
     ensures goes { IfOk result
         (Follows kernel.old.limits (state_of kernel.old) (state_of kernel.new) next.now) }
+    ensures made { IfOk result (λ goes. goes ≡ false
+        → HasMade kernel.old.limits (state_of kernel.old) next.now kernel.new.past) }
 {
     let event = next.event.copy()?;
     let step = kernel.step_with(next.caller, event, next.picked.as_slice());
     match step {
-        None => Ok(false),
+        None => {
+            make_step(kernel, next)?;
+            Ok(false)
+        }
         Some(answer) => is_answered(&answer, next),
     }
 }
