@@ -1,5 +1,5 @@
 -- A judge that is told one record more.
-use Rattle.std.proofs.Common.{◌≡◌, ◌∙◌, ◌+◌, ◌++◌, ◌<◌, ◌∷◌, [], ℕ, Bool, List, None, Option, Some, ap, arith, false, is_some, length, length-append, refl, sym, take, true}
+use Rattle.std.proofs.Common.{◌≡◌, ◌∙◌, ◌+◌, ◌++◌, ◌<◌, ◌∷◌, [], ℕ, Bool, List, None, Option, Some, ap, arith, false, is_some, length, length-append, refl, subst, sym, take, true}
 use Rattle.std.specs.List.{slice_get}
 use Rattle.std.proofs.Math.Seq.{get_or-append_seam, take-append-add, take-append_seam}
 use Rattle.std.proofs.lemmas.List.{get_or_append_left, take-append-le}
@@ -7,10 +7,11 @@ use Rattle.std.proofs.lemmas.Option.{get_or_from_slice_get, slice_get_read, slic
 use Rattle.ep_base.specs.Limits.{Limits}
 use Rattle.ep_base.specs.declared.record.Record.{Record}
 use Rattle.ep_machine.specs.Run.{is_run}
-use Rattle.ep_audit.specs.Auditor.{HasAllowed, Judges}
+use Rattle.ep_history.specs.Records.{line_record}
+use Rattle.ep_audit.specs.Auditor.{HasAllowed, HasMadeInstead, IsAllowedFor, Judges}
 use Rattle.ep_audit_program.specs.declared.judge.Illegal.{Illegal as IllegalRecord}
 use Rattle.ep_audit.specs.declared.auditor.Auditor.{Auditor}
-use Rattle.ep_audit.proofs.AuditorLemmas.{is_allowed}
+use Rattle.ep_audit.proofs.AuditorLemmas.{allowed_made, is_allowed}
 use Rattle.ep_audit_program.specs.declared.judge.Judge.{Judge}
 use Rattle.ep_audit_program.specs.Verdict.{Found, IsIllegalAt, WasTold}
 
@@ -49,23 +50,39 @@ found_before limits records lines found r line p = record {
     with_it = ap (is_run limits) (take-append-le (found.place + 1) records (r ∷ []) (omega (arith, p.within))) ∙ p.first.with_it;
   };
   line = got_before lines (line ∷ []) found.place found.line.items p.line;
+  allowed = record {
+    next = p.allowed.next;
+    there = got_before records (r ∷ []) found.place p.allowed.next p.allowed.there;
+    other = p.allowed.other;
+    allowed = subst (λ (rs : List Record). IsAllowedFor limits rs p.allowed.next p.allowed.other) (sym (take-append-le found.place records (r ∷ []) (omega (arith, p.within)))) p.allowed.allowed;
+    reads = p.allowed.reads;
+  };
 }
 
 -- this one is illegal
-pub found_now : (limits : Limits) (records : List Record) (lines : List (List ℕ)) (found : IllegalRecord) (r : Record) (line : List ℕ)
+pub found_now : (limits : Limits) (records : List Record) (lines : List (List ℕ)) (found : IllegalRecord) (r : Record) (line : List ℕ) (other : Record)
     → is_run limits records ≡ true
     → is_run limits (records ++ r ∷ []) ≡ false
+    → IsAllowedFor limits records r other
     → found.place ≡ length records
     → found.place ≡ length lines
     → found.line.items ≡ line
+    → line_record found.allowed.items ≡ Some other
     → IsIllegalAt limits (records ++ r ∷ []) (lines ++ line ∷ []) found
-found_now limits records lines found r line ran none at place same = record {
+found_now limits records lines found r line other ran none allowed at place same told = record {
   within = omega (arith, at, length-append records (r ∷ []));
   first = record {
     before = ap (is_run limits) (all_before records (r ∷ []) found.place at) ∙ ran;
     with_it = ap (is_run limits) (all_with records r found.place at) ∙ none;
   };
   line = got_last lines line found.place place ∙ ap (λ l. Some l) (sym same);
+  allowed = record {
+    next = r;
+    there = got_last records r found.place at;
+    other = other;
+    allowed = subst (λ (rs : List Record). IsAllowedFor limits rs r other) (sym (all_before records (r ∷ []) found.place at)) allowed;
+    reads = told;
+  };
 }
 
 -- ---- what the judge knows, by what it has found
@@ -93,12 +110,14 @@ pub told_illegal : (limits : Limits) (records : List Record) (lines : List (List
     → is_some old.illegal ≡ false
     → ((limits : Limits) (records : List Record) → HasAllowed limits records old.auditor → Judges limits (records ++ r ∷ []) auditor b)
     → b ≡ false
+    → (m : HasMadeInstead old.auditor r auditor)
     → found.line.items ≡ line
+    → line_record found.allowed.items ≡ Some m.last
     → WasTold limits records lines old
     → found.place ≡ length records
     → found.place ≡ length lines
     → IsIllegalAt limits (records ++ r ∷ []) (lines ++ line ∷ []) found
-told_illegal limits records lines old auditor found r line b none judges wrong same told at place =
+told_illegal limits records lines old auditor found r line b none judges wrong m same says told at place =
     let had : HasAllowed limits records old.auditor = had_allowed limits records lines old old.illegal none told in
-    found_now limits records lines found r line (is_allowed limits records old.auditor had)
-    (none_when limits (records ++ r ∷ []) auditor b wrong (judges limits records had)) at place same
+    found_now limits records lines found r line m.last (is_allowed limits records old.auditor had)
+    (none_when limits (records ++ r ∷ []) auditor b wrong (judges limits records had)) (allowed_made limits records old.auditor auditor r had m) at place same says

@@ -1,5 +1,6 @@
 -- What the status of the program says of a history.
-use Rattle.std.specs.Prelude.{◌≡◌, List, None, Option, Some, ℕ}
+use Rattle.std.specs.Prelude.{◌≡◌, List, None, Option, Some, codes, if◌then◌else◌, ℕ}
+use Rattle.std.specs.Str.{bytes_eq}
 use Rattle.ep_base.specs.Limits.{Limits, default_limits}
 use Rattle.ep_text.specs.Limits.{IsLimitsText}
 use Rattle.ep_audit_program.specs.Verdict.{Judged}
@@ -15,6 +16,11 @@ pub record IsStatusOf (limits : Limits) (lines : List (List ℕ)) (status : ℕ)
   pub verdict : Verdict
   pub judged : Judged limits lines verdict
   pub told : status ≡ status_of verdict
+
+-- the bytes that are read: those of standard input for no name and for "-", else those of the file of that name
+abbrev pub input_of : Option (List ℕ) → (List ℕ → Option (List ℕ)) → Option (List ℕ) → Option (List ℕ)
+input_of standard content None = standard
+input_of standard content (Some path) = if bytes_eq path (codes "-") then standard else content path
 
 -- those that the text writes, and those by default if there is none
 abbrev pub AreLimitsOf : Option (List ℕ) → Limits → Type 0

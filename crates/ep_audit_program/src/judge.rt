@@ -6,6 +6,7 @@ ghost use Rattle.ep_audit_program.specs.Verdict.{IsVerdict, WasTold};
 
 use ep_audit::Auditor;
 use ep_base::{Limits, Record};
+use ep_history::print_record;
 use std::alloc::{AllocError, Global};
 
 /// The first record that the machine does not allow.
@@ -15,6 +16,8 @@ pub(crate) struct Illegal {
     pub(crate) place: u64,
     /// The very bytes of its line.
     pub(crate) line: Vec<u8>,
+    /// The line of a record of the same event that the machine allows there, without the byte 10 that ends it.
+    pub(crate) allowed: Vec<u8>,
 }
 
 /// What a history is.
@@ -76,9 +79,17 @@ impl Judge {
         if self.auditor.allows(next)? {
             return Ok(());
         }
+        let Some(other) = self.auditor.last() else {
+            unreachable!();
+        };
         let mut kept = Vec::with_capacity(alloc, line.len())?;
         kept.extend_from_slice(line)?;
-        self.illegal = Some(Illegal { place, line: kept });
+        let allowed = print_record(alloc, other)?;
+        self.illegal = Some(Illegal {
+            place,
+            line: kept,
+            allowed,
+        });
         Ok(())
     }
 }

@@ -3,8 +3,10 @@
 #![tactic(auto)]
 
 mod command_line;
+mod files;
 mod judge;
 mod program;
 mod verdict;
 
+pub use crate::files::Files;
 pub use crate::program::{no_words, run_with};

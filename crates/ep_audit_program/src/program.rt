@@ -1,15 +1,16 @@
 //! The program, over any reader and writers.
-ghost use Rattle.std.specs.Prelude.{◌≡◌, ◌≢◌, ◌<◌, ◌≤◌, IfSome, IsNone, Some, [], map, string_bytes};
+ghost use Rattle.std.specs.Prelude.{◌≡◌, ◌≢◌, ◌<◌, ◌≤◌, IfSome, IsNone, Some, [], map, option_map, string_bytes};
 ghost use Rattle.clap.specs.Kinds.{IsAmong};
 ghost use Rattle.clap.specs.Words.{kind_of};
 ghost use Rattle.ep_base.specs.Limits.{Limits as Numbers, default_limits};
 ghost use Rattle.ep_text.specs.Limits.{IsLimitsText};
 ghost use Rattle.ep_script.specs.Lines.{lines_of};
-ghost use Rattle.ep_audit_program.specs.Options.{faults_in, limits_in};
-ghost use Rattle.ep_audit_program.specs.Status.{IsAuditBy, IsStatusOf, status_of};
+ghost use Rattle.ep_audit_program.specs.Options.{faults_in, history_in, limits_in};
+ghost use Rattle.ep_audit_program.specs.Status.{IsAuditBy, IsStatusOf, input_of, status_of};
 
-use crate::command_line::limits_word;
-use crate::judge::Verdict;
+use crate::command_line::{Settings, settings_in};
+use crate::files::Files;
+use crate::judge::{Illegal, Verdict};
 use crate::verdict::judge_history;
 use clap::error::ErrorKind;
 use ep_base::Limits;
@@ -54,6 +55,17 @@ fn refuse_limits<E: Write>(text: &str, errors: &mut E) -> u8
     NO_VERDICT
 }
 
+/// Tells why the file of the history can't be opened. A write that fails changes nothing.
+fn refuse_history<E: Write>(path: &str, error: &io::Error, errors: &mut E) -> u8
+    ensures { result ≡ 2 }
+{
+    let _ = write!(
+        errors,
+        "epaudit: cannot read the history {path:?}: {error}\n"
+    );
+    NO_VERDICT
+}
+
 fn write_text<W: Write>(text: &clap::Error, writer: &mut W) -> io::Result<()> {
     write!(writer, "{text}")?;
     writer.flush()
@@ -85,12 +97,15 @@ fn write_legal<W: Write>(count: u64, output: &mut W) -> io::Result<()> {
     output.flush()
 }
 
-fn write_illegal<W: Write>(place: u64, line: &[u8], output: &mut W) -> io::Result<()> {
+fn write_illegal<W: Write>(found: &Illegal, output: &mut W) -> io::Result<()> {
     write!(
         output,
-        "illegal at record {place}: the machine does not allow this answer here\n"
+        "illegal at record {}: the machine does not allow this answer here\n",
+        found.place
     )?;
-    output.write_all(line)?;
+    output.write_all(&found.line)?;
+    output.write_all(b"\nit allows ")?;
+    output.write_all(&found.allowed)?;
     output.write_all(b"\n")?;
     output.flush()
 }
@@ -102,7 +117,7 @@ fn tell_verdict<W: Write, E: Write>(found: &Verdict, output: &mut W, errors: &mu
 {
     let (status, written) = match found {
         Verdict::Legal(count) => (LEGAL, write_legal(*count, output)),
-        Verdict::Illegal(at) => (ILLEGAL, write_illegal(at.place, at.line.as_slice(), output)),
+        Verdict::Illegal(at) => (ILLEGAL, write_illegal(at, output)),
     };
     match written {
         Ok(()) => status,
@@ -146,20 +161,51 @@ fn limits_of(text: Option<&str>) -> Option<Limits>
     }
 }
 
+/// Reads the history of the file that is named, or that of the reader, and judges it.
+fn run_settings<R: Read + Drop, W: Write, E: Write, F: Files>(
+    alloc: Global,
+    settings: &Settings<'_>,
+    reader: R,
+    output: &mut W,
+    errors: &mut E,
+    files: &F,
+) -> u8
+    ensures bound { result ≤ 2 }
+    ensures limits { IfSome settings.now.limits (λ text.
+        ((limits : Numbers) → IsLimitsText text.now limits → ⊥) → result ≡ 2) }
+    ensures verdict { result < 2
+        → IfSome (input_of (R.remaining reader) (F.content files.now)
+        (option_map (λ t. t.now) settings.now.history)) (λ input.
+        IsAuditBy (option_map (λ t. t.now) settings.now.limits) (lines_of input) result) }
+{
+    let Some(limits) = limits_of(settings.limits) else {
+        return refuse_limits(settings.limits.unwrap_or(""), errors);
+    };
+    match settings.history {
+        None | Some("-") => read_and_judge(alloc, &limits, reader, output, errors),
+        Some(path) => match files.open(path) {
+            Ok(file) => read_and_judge(alloc, &limits, file, output, errors),
+            Err(error) => refuse_history(path, &error, errors),
+        },
+    }
+}
+
 /// Does what the words of the command line, the program's name first, ask for, and gives the status. It is
-/// - 0 if the history on `reader` is a run of the machine under the limits, or for `--help` and `--version`,
+/// - 0 if the history is a run of the machine under the limits, or for `--help` and `--version`,
 /// - 1 if it is none,
-/// - 2 if there is no verdict: for bad words or limits, a line that is no record, a reader or an output that fails, or
-///   want of memory.
+/// - 2 if there is no verdict: for bad words or limits, a file that can't be opened, a line that is no record, a reader
+///   or an output that fails, or want of memory.
 ///
-/// The words are looked at first, then the limits, and the history is read last. The verdict is written to `output`,
-/// and why there is none to `errors`, in one line. A write there that fails changes no status.
-pub fn run_with<R: Read + Drop, W: Write, E: Write>(
+/// The words are looked at first, then the limits. Then the history is opened by `files`, if one is named that isn't
+/// `-`, else it is `reader`, and it is read last. The verdict is written to `output`, and why there is none to
+/// `errors`, in one line. A write there that fails changes no status.
+pub fn run_with<R: Read + Drop, W: Write, E: Write, F: Files>(
     alloc: Global,
     words: Vec<String>,
     reader: R,
     output: &mut W,
     errors: &mut E,
+    files: &F,
 ) -> u8
     ensures bound { result ≤ 2 }
     ensures asked { faults_in (map string_bytes words.items) ≢ [] → result ≢ 1 }
@@ -171,15 +217,12 @@ pub fn run_with<R: Read + Drop, W: Write, E: Write>(
         → IfSome (limits_in (map string_bytes words.items)) (λ text.
         ((limits : Numbers) → IsLimitsText text limits → ⊥) → result ≡ 2) }
     ensures verdict { faults_in (map string_bytes words.items) ≡ [] → result < 2
-        → IfSome (R.remaining reader) (λ input.
+        → IfSome (input_of (R.remaining reader) (F.content files.now)
+        (history_in (map string_bytes words.items))) (λ input.
         IsAuditBy (limits_in (map string_bytes words.items)) (lines_of input) result) }
 {
-    let text = match limits_word(alloc, words.as_slice()) {
-        Ok(text) => text,
-        Err(found) => return tell(&found, output, errors),
-    };
-    match limits_of(text) {
-        Some(limits) => read_and_judge(alloc, &limits, reader, output, errors),
-        None => refuse_limits(text.unwrap_or(""), errors),
+    match settings_in(alloc, words.as_slice()) {
+        Ok(found) => run_settings(alloc, &found, reader, output, errors, files),
+        Err(found) => tell(&found, output, errors),
     }
 }

@@ -1,8 +1,8 @@
 //! What `epaudit` writes for a history, and its status.
 
 use crate::program::{Failing, words};
-use ep_audit_program::run_with;
-use std::io::Read;
+use ep_audit_program::{Files, run_with};
+use std::io::{self, ErrorKind, Read};
 use std::process::Abort;
 use std::test::Fail;
 
@@ -18,10 +18,12 @@ const WRONG: &str =
 
 const ILLEGAL_AT_1: &str = "illegal at record 1: the machine does not allow this answer here
 {\"answer\":{\"two\":[3,5]},\"caller\":0,\"event\":{\"call\":{\"cloexec\":false,\"op\":\"pipe\"},\"pid\":1},\"picked\":[]}
+it allows {\"answer\":{\"two\":[5,6]},\"caller\":0,\"event\":{\"call\":{\"cloexec\":false,\"op\":\"pipe\"},\"pid\":1},\"picked\":[]}
 ";
 
 const ILLEGAL_AT_0: &str = "illegal at record 0: the machine does not allow this answer here
 {\"answer\":{\"two\":[3,4]},\"caller\":0,\"event\":{\"call\":{\"cloexec\":false,\"op\":\"pipe\"},\"pid\":1},\"picked\":[]}
+it allows {\"answer\":{\"err\":[24,\"EMFILE\"]},\"caller\":0,\"event\":{\"call\":{\"cloexec\":false,\"op\":\"pipe\"},\"pid\":1},\"picked\":[]}
 ";
 
 /// A record that no run begins with, and a line that is none, which is told first.
@@ -39,6 +41,7 @@ const SPELLED: &str =
 
 const ILLEGAL_AS_SPELLED: &str = "illegal at record 1: the machine does not allow this answer here
 {\"picked\": [],\"event\":{\"pid\":1, \"call\":{\"op\":\"write\",\"hex\":\"4aBC\",\"fd\":4}},\"caller\":0,\"caller\":0,\"answer\":{\"num\":3}} \t
+it allows {\"answer\":{\"num\":2},\"caller\":0,\"event\":{\"call\":{\"fd\":4,\"hex\":\"4abc\",\"op\":\"write\"},\"pid\":1},\"picked\":[]}
 ";
 
 /// The last line has no byte 10, and stands behind a blank.
@@ -48,15 +51,81 @@ const UNENDED: &str =
 
 const ILLEGAL_UNENDED: &str = "illegal at record 1: the machine does not allow this answer here
  {\"answer\":{\"num\":9},\"caller\":0,\"event\":{\"call\":{\"cloexec\":false,\"op\":\"epoll\"},\"pid\":1},\"picked\":[]}
+it allows {\"answer\":{\"num\":5},\"caller\":0,\"event\":{\"call\":{\"cloexec\":false,\"op\":\"epoll\"},\"pid\":1},\"picked\":[]}
 ";
 
+/// A wait that reports nothing has no registration that it reports.
+const PICKED: &str =
+    "{\"answer\":{\"num\":3},\"caller\":0,\"event\":{\"call\":{\"cloexec\":false,\"op\":\"epoll\"},\"pid\":1},\"picked\":[]}
+{\"answer\":{\"events\":[]},\"caller\":0,\"event\":{\"call\":{\"ep\":3,\"max\":1,\"op\":\"wait\",\"timeout\":0},\"pid\":1},\"picked\":[7]}
+";
+
+const ILLEGAL_PICK: &str = "illegal at record 1: the machine does not allow this answer here
+{\"answer\":{\"events\":[]},\"caller\":0,\"event\":{\"call\":{\"ep\":3,\"max\":1,\"op\":\"wait\",\"timeout\":0},\"pid\":1},\"picked\":[7]}
+it allows {\"answer\":{\"events\":[]},\"caller\":0,\"event\":{\"call\":{\"ep\":3,\"max\":1,\"op\":\"wait\",\"timeout\":0},\"pid\":1},\"picked\":[]}
+";
+
+/// A folder with three histories, one of which can't be read.
+struct Folder;
+
+/// A history of the folder, or one whose bytes can't be had.
+#[derive(Drop)]
+enum InFolder {
+    Bytes(&'static [u8]),
+    Unreadable(Failing),
+}
+
+impl Read for InFolder {
+    fn read(&mut self, buf: &mut [u8]) -> io::Result<usize> {
+        match self {
+            InFolder::Bytes(bytes) => bytes.read(buf),
+            InFolder::Unreadable(file) => file.read(buf),
+        }
+    }
+}
+
+impl Files for Folder {
+    type History = InFolder;
+
+    fn open(&self, path: &str) -> io::Result<InFolder> {
+        match path {
+            "pipe" => Ok(InFolder::Bytes(PIPE.as_bytes())),
+            "wrong" => Ok(InFolder::Bytes(WRONG.as_bytes())),
+            "unreadable" => Ok(InFolder::Unreadable(Failing)),
+            _ => Err(io::Error::from(ErrorKind::NotFound)),
+        }
+    }
+}
+
+/// What is written of a file that isn't there.
+const NO_FILE: &str = "epaudit: cannot read the history \"-pipe\": entity not found\n";
+
+/// What is written of six numbers the first of which is too low.
+const BAD_LIMITS: &str = "epaudit: bad limits: descriptors is 2, and goes from 3 to 65536\n";
+
+/// Words that name a history, the status, what is written, and what is written of a fault. Standard input has WRONG.
+const NAMED: [(&[&str], u8, &str, &str); 6] = [
+    (&["pipe"], 0, "ok 1 records\n", ""),
+    (
+        &["wrong", "--limits", "4,9,2,8,4096,1"],
+        1,
+        ILLEGAL_AT_0,
+        "",
+    ),
+    (&["-"], 1, ILLEGAL_AT_1, ""),
+    (&["--", "-pipe"], 2, "", NO_FILE),
+    (&["unreadable"], 2, "", "epaudit: cannot read the history\n"),
+    (&["--limits", "2,5,2,8,4096,1", "absent"], 2, "", BAD_LIMITS),
+];
+
 /// Words, a history, the status, what is written, and what is written of a fault.
-const VERDICTS: [(&[&str], &str, u8, &str, &str); 8] = [
+const VERDICTS: [(&[&str], &str, u8, &str, &str); 9] = [
     (&[], "", 0, "ok 0 records\n", ""),
     (&[], PIPE, 0, "ok 1 records\n", ""),
     (&[], WRONG, 1, ILLEGAL_AT_1, ""),
     (&[], SPELLED, 1, ILLEGAL_AS_SPELLED, ""),
     (&[], UNENDED, 1, ILLEGAL_UNENDED, ""),
+    (&[], PICKED, 1, ILLEGAL_PICK, ""),
     (&["--limits", "4,9,2,8,4096,1"], PIPE, 1, ILLEGAL_AT_0, ""),
     (&[], "\n", 2, "", "epaudit: line 1 is no record\n"),
     (&[], CUT, 2, "", "epaudit: line 2 is no record\n"),
@@ -74,7 +143,7 @@ fn expect_verdict<R: Read + Drop>(
     let mut written = Vec::new(alloc);
     let mut errors = Vec::new(alloc);
     let line = words(alloc, "epaudit", given)?;
-    let found = run_with(alloc, line, reader, &mut written, &mut errors);
+    let found = run_with(alloc, line, reader, &mut written, &mut errors, &Folder);
     assert_eq!(rt; found, status);
     assert_eq!(rt; written.as_slice(), output.as_bytes());
     assert_eq!(rt; errors.as_slice(), error.as_bytes());
@@ -90,10 +159,17 @@ fn judges_histories(rt: HostRuntime) -> Result<(), Fail> {
 }
 
 #[test]
+fn judges_named_histories(rt: HostRuntime) -> Result<(), Fail> {
+    for (given, status, output, error) in NAMED {
+        expect_verdict(&rt, given, WRONG.as_bytes(), status, output, error)?;
+    }
+    Ok(())
+}
+
+#[test]
 fn has_no_verdict(rt: HostRuntime) -> Result<(), Fail> {
     let limits = ["--limits", "2,5,2,8,4096,1"];
-    let error = "epaudit: bad limits: descriptors is 2, and goes from 3 to 65536\n";
-    expect_verdict(&rt, &limits, Failing, 2, "", error)?;
+    expect_verdict(&rt, &limits, Failing, 2, "", BAD_LIMITS)?;
     let error = "epaudit: cannot read the history\n";
     expect_verdict(&rt, &[], Failing, 2, "", error)
 }
