@@ -65,6 +65,21 @@ const ILLEGAL_PICK: &str = "illegal at record 1: the machine does not allow this
 it allows {\"answer\":{\"events\":[]},\"caller\":0,\"event\":{\"call\":{\"ep\":3,\"max\":1,\"op\":\"wait\",\"timeout\":0},\"pid\":1},\"picked\":[]}
 ";
 
+/// Of two counters that are ready a wait reports the second, as it may. But its data is 8.
+const REPORTED: &str =
+    "{\"answer\":{\"num\":3},\"caller\":0,\"event\":{\"call\":{\"cloexec\":false,\"op\":\"epoll\"},\"pid\":1},\"picked\":[]}
+{\"answer\":{\"num\":4},\"caller\":0,\"event\":{\"call\":{\"cloexec\":false,\"init\":1,\"op\":\"eventfd\",\"sem\":false},\"pid\":1},\"picked\":[]}
+{\"answer\":{\"num\":5},\"caller\":0,\"event\":{\"call\":{\"cloexec\":false,\"init\":1,\"op\":\"eventfd\",\"sem\":false},\"pid\":1},\"picked\":[]}
+{\"answer\":{\"done\":true},\"caller\":0,\"event\":{\"call\":{\"act\":1,\"data\":7,\"ep\":3,\"fd\":4,\"mask\":1,\"op\":\"ctl\"},\"pid\":1},\"picked\":[]}
+{\"answer\":{\"done\":true},\"caller\":0,\"event\":{\"call\":{\"act\":1,\"data\":8,\"ep\":3,\"fd\":5,\"mask\":1,\"op\":\"ctl\"},\"pid\":1},\"picked\":[]}
+{\"answer\":{\"events\":[[1,9]]},\"caller\":0,\"event\":{\"call\":{\"ep\":3,\"max\":1,\"op\":\"wait\",\"timeout\":0},\"pid\":1},\"picked\":[2]}
+";
+
+const ILLEGAL_REPORT: &str = "illegal at record 5: the machine does not allow this answer here
+{\"answer\":{\"events\":[[1,9]]},\"caller\":0,\"event\":{\"call\":{\"ep\":3,\"max\":1,\"op\":\"wait\",\"timeout\":0},\"pid\":1},\"picked\":[2]}
+it allows {\"answer\":{\"events\":[[1,8]]},\"caller\":0,\"event\":{\"call\":{\"ep\":3,\"max\":1,\"op\":\"wait\",\"timeout\":0},\"pid\":1},\"picked\":[2]}
+";
+
 /// A folder with three histories, one of which can't be read.
 struct Folder;
 
@@ -119,13 +134,14 @@ const NAMED: [(&[&str], u8, &str, &str); 6] = [
 ];
 
 /// Words, a history, the status, what is written, and what is written of a fault.
-const VERDICTS: [(&[&str], &str, u8, &str, &str); 9] = [
+const VERDICTS: [(&[&str], &str, u8, &str, &str); 10] = [
     (&[], "", 0, "ok 0 records\n", ""),
     (&[], PIPE, 0, "ok 1 records\n", ""),
     (&[], WRONG, 1, ILLEGAL_AT_1, ""),
     (&[], SPELLED, 1, ILLEGAL_AS_SPELLED, ""),
     (&[], UNENDED, 1, ILLEGAL_UNENDED, ""),
     (&[], PICKED, 1, ILLEGAL_PICK, ""),
+    (&[], REPORTED, 1, ILLEGAL_REPORT, ""),
     (&["--limits", "4,9,2,8,4096,1"], PIPE, 1, ILLEGAL_AT_0, ""),
     (&[], "\n", 2, "", "epaudit: line 1 is no record\n"),
     (&[], CUT, 2, "", "epaudit: line 2 is no record\n"),
